@@ -1,0 +1,65 @@
+//! The binary operators of the language.
+ghost use Rattle.std.specs.Prelude.{◌≡◌, ◌⊎◌, ◌↔◌, IsNone, pos};
+ghost use Rattle.zpl_nums.specs.Op.{applied, Divides};
+
+/// A binary operator on integers. Comparisons and `And`, `Or` answer a truth value, 0 or 1.
+#[derive(Clone, Copy, Debug, PartialEq, Eq)]
+pub enum Op {
+    /// The sum, wrapped into 64 bits.
+    Add,
+    /// The difference, wrapped into 64 bits.
+    Sub,
+    /// The product, wrapped into 64 bits.
+    Mul,
+    /// The quotient, truncated toward zero; `i64::MIN / -1` is `i64::MIN`.
+    Div,
+    /// The remainder of `Div`, with the dividend's sign; `i64::MIN % -1` is 0.
+    Rem,
+    /// Whether the operands are equal.
+    Eq,
+    /// Whether the operands differ.
+    Ne,
+    /// Whether the first operand is below the second.
+    Lt,
+    /// Whether the first operand is at most the second.
+    Le,
+    /// Whether the first operand is above the second.
+    Gt,
+    /// Whether the first operand is at least the second.
+    Ge,
+    /// Whether both operands are true, which is any number but 0.
+    And,
+    /// Whether one of the operands is true, which is any number but 0.
+    Or,
+    /// The greater operand.
+    Max,
+    /// The lesser operand.
+    Min,
+}
+
+/// The value of `a op b`, or `None` where a divisor is 0.
+pub fn apply(op: Op, a: i64, b: i64) -> Option<i64>
+    ensures value { result ≡ applied op a b }
+    ensures none { IsNone result ↔ (Divides op × (b ≡ pos 0)) }
+{
+    let value = match op {
+        Op::Add => a.wrapping_add(b),
+        Op::Sub => a.wrapping_sub(b),
+        Op::Mul => a.wrapping_mul(b),
+        Op::Div if b == 0 => return None,
+        Op::Div => a.wrapping_div(b),
+        Op::Rem if b == 0 => return None,
+        Op::Rem => a.wrapping_rem(b),
+        Op::Eq => i64::from(a == b),
+        Op::Ne => i64::from(a != b),
+        Op::Lt => i64::from(a < b),
+        Op::Le => i64::from(a <= b),
+        Op::Gt => i64::from(a > b),
+        Op::Ge => i64::from(a >= b),
+        Op::And => i64::from(a != 0 && b != 0),
+        Op::Or => i64::from(a != 0 || b != 0),
+        Op::Max => a.max(b),
+        Op::Min => a.min(b),
+    };
+    Some(value)
+}
