@@ -27,3 +27,21 @@ applied Min a b = Some (int_min a b)
 -- the operator is the division or the remainder
 abbrev pub Divides : Op → Type 0
 Divides op = (op ≡ Div) ⊎ (op ≡ Rem)
+
+-- the operator answers a truth value
+abbrev pub Tests : Op → Type 0
+Tests Add = ⊥
+Tests Sub = ⊥
+Tests Mul = ⊥
+Tests Div = ⊥
+Tests Rem = ⊥
+Tests Eq = Unit {0}
+Tests Ne = Unit {0}
+Tests Lt = Unit {0}
+Tests Le = Unit {0}
+Tests Gt = Unit {0}
+Tests Ge = Unit {0}
+Tests And = Unit {0}
+Tests Or = Unit {0}
+Tests Max = ⊥
+Tests Min = ⊥
