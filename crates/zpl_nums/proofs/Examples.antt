@@ -1,9 +1,9 @@
 -- The definitions, computed at edge values.
-use Rattle.std.proofs.Common.{◌≡◌, Some, None, pos, negsuc, List, [], ◌∷◌, refl}
+use Rattle.std.proofs.Common.{◌≡◌, Some, None, pos, negsuc, [], ◌∷◌, refl}
 use Rattle.std.specs.Int.{int_wrap}
 use Rattle.zpl_nums.specs.declared.operators.Op.TheVariants as op
 use Rattle.zpl_nums.specs.declared.folds.Fold.TheVariants as fold
-use Rattle.zpl_nums.specs.Integer.{least, greatest, wrapped}
+use Rattle.zpl_nums.specs.Integer.{least, greatest}
 use Rattle.zpl_nums.specs.Op.{applied}
 use Rattle.zpl_nums.specs.Fold.{folded}
 

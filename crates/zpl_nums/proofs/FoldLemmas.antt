@@ -1,9 +1,9 @@
 -- Lemmas on joining, and on folds over lists.
-use Rattle.std.proofs.Common.{◌≡◌, ◌≢◌, ℕ, zero, suc, ◌+◌, ◌<◌, Bool, true, false, cond, int_lt, ◌&&◌, ◌||◌, ◌⊎◌, List, [], ◌∷◌, ◌++◌, map, length, get_or, set, length-set, eqb, w64, ℤ, pos, ◌+ℤ◌, ◌*ℤ◌, refl, sym, ◌∙◌, ap, inl, inr, arith}
+use Rattle.std.proofs.Common.{◌≡◌, ◌≢◌, ℕ, zero, suc, ◌<◌, Bool, true, false, ◌&&◌, ◌||◌, List, [], ◌∷◌, ◌++◌, map, length, get_or, set, length-set, eqb, w64, ℤ, pos, ◌+ℤ◌, ◌*ℤ◌, refl, sym, ◌∙◌, ap, inl, inr, arith}
 use Rattle.std.proofs.Math.Bool.{and_assoc, or_assoc, and_comm, or_comm}
 use Rattle.std.proofs.Math.IntN.{+ℤ_comm, *ℤ_comm, +ℤ_idl, *ℤ-one}
-use Rattle.std.proofs.lemmas.Int.{ints, clamps, int_wrap_fits, SFits-int_wrap}
-use Rattle.std.proofs.lemmas.List.{set_comm, set-get_or, get_or-set_same}
+use Rattle.std.proofs.lemmas.Int.{ints, clamps, int_wrap_fits}
+use Rattle.std.proofs.lemmas.List.{set_comm, set-get_or}
 use Rattle.std.proofs.lemmas.List.Edits.{swap_is}
 use Rattle.std.proofs.lemmas.Bool.Decides.{nat_tests}
 use Rattle.std.proofs.lemmas.List.Sums.{fold-append}
@@ -14,7 +14,7 @@ use Rattle.std.specs.List.Sorted.{IsPermutation}
 use Rattle.std.proofs.lemmas.List.Elements.{All-head, All-tail}
 use Rattle.zpl_nums.specs.declared.folds.Fold.{Fold as Operator}
 use Rattle.zpl_nums.specs.declared.folds.Fold.TheVariants.{Sum, Prod, Max, Min, All, Any}
-use Rattle.zpl_nums.specs.Integer.{IsInteger, wrapped, truth, is_true, IsTruth}
+use Rattle.zpl_nums.specs.Integer.{wrapped, truth, is_true}
 use Rattle.zpl_nums.specs.Fold.{joined, unit_of, IsValueOf, folded}
 use Rattle.zpl_nums.proofs.IntegerLemmas.{is_true-truth, IsTruth-truth, int_max_assoc, int_min_assoc, wrapped-add_assoc, wrapped-mul_assoc, wrapped_zero, wrapped_one, IsInteger-wrapped, IsInteger-int_max, IsInteger-int_min}
 

@@ -1,10 +1,10 @@
 -- Lemmas on wrapping, and on truth values as numbers.
-use Rattle.std.proofs.Common.{◌≡◌, ℕ, zero, suc, ◌+◌, ◌-◌, ◌*◌, ◌/◌, ◌%◌, ◌^◌, ◌<◌, ◌≤◌, Bool, true, false, cond, ltb, ◌⊎◌, ℤ, pos, negsuc, ◌+ℤ◌, ◌-ℤ◌, ◌*ℤ◌, neg_ℤ, refl, sym, ◌∙◌, ap, inl, inr, arith, w64}
+use Rattle.std.proofs.Common.{◌≡◌, ℕ, zero, suc, ◌+◌, ◌-◌, ◌*◌, ◌/◌, ◌%◌, ◌^◌, ◌<◌, ◌≤◌, Bool, true, false, cond, ltb, ◌⊎◌, ℤ, pos, negsuc, ◌+ℤ◌, ◌*ℤ◌, neg_ℤ, refl, sym, ◌∙◌, ap, inl, inr, arith, w64}
 use Rattle.std.specs.Int.{int_wrap, int_max, int_min, cast_signed, cast_unsigned}
 use Rattle.std.specs.Int.RustNames.{int_div, int_rem, int_lt}
 use Rattle.std.proofs.lemmas.Int.{ints, clamps, int_wrap_fits, int_wrap-add_left, int_wrap-add_right, int_wrap-mul_left, int_wrap-mul_right, SFits-int_wrap}
-use Rattle.std.proofs.Math.Nat.{mod-eq_of_lt, mod-lt, div-le_self}
-use Rattle.std.proofs.Math.IntN.{+ℤ_assoc, +ℤ_comm, *ℤ_comm, +ℤ_idr, *ℤ-zero}
+use Rattle.std.proofs.Math.Nat.{mod-eq_of_lt, div-le_self}
+use Rattle.std.proofs.Math.IntN.{+ℤ_assoc, +ℤ_idr, *ℤ-zero}
 use borrow.Author.Differences.{up, down, product_is}
 use lib.Signed.{mag, mag_rem}
 use Rattle.zpl_nums.specs.Integer.{IsInteger, wrapped, truth, is_true, IsTruth}

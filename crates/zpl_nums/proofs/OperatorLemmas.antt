@@ -1,10 +1,9 @@
 -- The operators' values are integers of 64 bits.
-use Rattle.std.proofs.Common.{Bool, true, false, cond, not, ◌&&◌, ◌||◌, Option, Some, None, IfSome, ℤ, pos, ◌+ℤ◌, ◌-ℤ◌, ◌*ℤ◌, int_lt, int_le, int_div, int_rem}
-use Rattle.std.specs.Int.{int_max, int_min}
+use Rattle.std.proofs.Common.{Bool, true, false, cond, not, ◌&&◌, ◌||◌, Some, None, IfSome, ℤ, pos, ◌+ℤ◌, ◌-ℤ◌, ◌*ℤ◌, int_lt, int_le, int_div, int_rem}
 use Rattle.std.specs.Ordering.{int_eq}
 use Rattle.zpl_nums.specs.declared.operators.Op.{Op}
 use Rattle.zpl_nums.specs.declared.operators.Op.TheVariants.{Add, Sub, Mul, Div, Rem, Eq, Ne, Lt, Le, Gt, Ge, And, Or, Max, Min}
-use Rattle.zpl_nums.specs.Integer.{IsInteger, wrapped, truth, is_true, negated, absolute}
+use Rattle.zpl_nums.specs.Integer.{IsInteger, wrapped, is_true, negated, absolute}
 use Rattle.zpl_nums.specs.Op.{applied}
 use Rattle.zpl_nums.proofs.IntegerLemmas.{IsInteger-truth, IsInteger-wrapped, IsInteger-int_rem, IsInteger-int_max, IsInteger-int_min}
 

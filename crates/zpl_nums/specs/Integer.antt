@@ -1,5 +1,5 @@
 -- The integers of the language, as mathematical integers: their range, wrapping, and truth values.
-use Rattle.std.specs.Prelude.{◌≡◌, ℕ, ◌-◌, ◌^◌, Bool, true, false, not, ◌⊎◌, ℤ, pos, negsuc, ◌-ℤ◌, FitsSigned}
+use Rattle.std.specs.Prelude.{◌≡◌, ◌-◌, ◌^◌, Bool, true, false, not, ◌⊎◌, ℤ, pos, negsuc, ◌-ℤ◌, FitsSigned}
 use Rattle.std.specs.Int.{int_wrap, int_max}
 use Rattle.std.specs.Ordering.{int_eq}
 use mir.Syntax.{w64}

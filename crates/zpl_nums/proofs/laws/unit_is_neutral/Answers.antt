@@ -1,4 +1,3 @@
-use Rattle.std.proofs.Common.{◌∙◌}
 use Rattle.zpl_nums.proofs.FoldLemmas.{settled_value, settled_right}
 use Rattle.zpl_nums.proofs.laws.unit_is_neutral.Goals as goal
 
