@@ -134,15 +134,37 @@ impl MemFiles {
         self.named.iter().find(|named| named.is_called(name)).map(|named| named.text())
     }
 
+    /// Answers the next fetch, without counting it.
+    fn answer(&self, name: &str, limit: u64, into: &mut Vec<u8>) -> Fetched
+        requires { limit < 2 ^ 32 }
+        ensures whole { result ≡ Fetched.Whole →
+            GainsWhole (HasText self.now name.now) limit into.old.items into.new.items }
+        ensures too_long { result ≡ Fetched.TooLong →
+            GainsTooMuch (HasText self.now name.now) limit into.old.items into.new.items }
+        ensures failed { result ≡ Fetched.Failed → into.new.items ≡ into.old.items }
+        ensures no_memory { result ≡ Fetched.NoMemory → into.new.items ≡ into.old.items }
+        ensures too_long_exactly { (result ≡ Fetched.TooLong) ↔
+            (length into.new.items ≡ length into.old.items + limit + 1) }
+        ensures fails_exactly { (result ≡ Fetched.Failed) ↔ FailsNext self.now name.now }
+    {
+        match self.find(name) {
+            Some(text) if !self.failing.contains(&self.calls) => append_text(text, limit, into),
+            _ => Fetched::Failed,
+        }
+    }
+
     /// Counts a fetch with this answer.
     fn count(&mut self, fetched: Fetched)
-        ensures { self.new ≡ files_after self.old fetched }
+        ensures after { self.new ≡ files_after self.old fetched }
+        ensures never_falls { self.old.faults ≤ self.new.faults }
+        ensures bounded { self.new.faults ≤ last_count }
     {
+        let faults = self.faults;
         match fetched {
             Fetched::Whole | Fetched::TooLong => self.calls = self.calls.saturating_add(1),
             Fetched::Failed => {
                 self.calls = self.calls.saturating_add(1);
-                self.faults = self.faults.saturating_add(1);
+                self.faults = faults.saturating_add(1);
             }
             Fetched::NoMemory => {}
         }
@@ -165,13 +187,11 @@ impl Files for MemFiles {
         ensures too_long_exactly { (result ≡ Fetched.TooLong) ↔
             (length into.new.items ≡ length into.old.items + limit + 1) }
         ensures fails_exactly { (result ≡ Fetched.Failed) ↔ FailsNext self.old name.now }
-        ensures bounded { self.new.faults ≤ last_count }
         ensures after { self.new ≡ files_after self.old result }
+        ensures never_falls { self.old.faults ≤ self.new.faults }
+        ensures bounded { self.new.faults ≤ last_count }
     {
-        let fetched = match self.find(name) {
-            Some(text) if !self.failing.contains(&self.calls) => append_text(text, limit, into),
-            _ => Fetched::Failed,
-        };
+        let fetched = self.answer(name, limit, into);
         self.count(fetched);
         fetched
     }

@@ -74,6 +74,7 @@ impl Sink for MemSink {
 
     fn put(&mut self, bytes: &[u8]) -> Put
         ensures fails_exactly { (result ≡ Put.Failed) ↔ FailsToPut self.old bytes.now }
+        ensures never_falls { self.old.faults ≤ self.new.faults }
         ensures bounded { self.new.faults ≤ last_count }
         ensures after { self.new ≡ sink_after self.old bytes.now result }
     {
