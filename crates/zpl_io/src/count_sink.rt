@@ -58,9 +58,10 @@ impl Sink for CountSink {
         ensures never_fails { result ≡ Put.Done }
     {
         self.total = self.total.wrapping_add(bytes.len() as u64);
-        self.hash = bytes
-            .iter()
-            .fold(self.hash, |hash, byte| hash.wrapping_mul(31).wrapping_add(u64::from(*byte)));
+        self.hash = bytes.iter().fold(
+            self.hash,
+            |hash, byte| hash.wrapping_mul(31).wrapping_add(u64::from(*byte)),
+        );
         Put::Done
     }
 }

@@ -15,6 +15,8 @@ mod numbers;
 mod outside;
 mod std_sink;
 mod sure_files;
+#[cfg(test)]
+mod tests;
 
 pub use byte_list::Bytes;
 pub use count_sink::CountSink;

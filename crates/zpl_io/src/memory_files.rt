@@ -131,7 +131,10 @@ impl MemFiles {
     fn find(&self, name: &str) -> Option<&[u8]>
         ensures { option_copied result ≡ text_under name.now self.now.named }
     {
-        self.named.iter().find(|named| named.is_called(name)).map(|named| named.text())
+        self.named
+            .iter()
+            .find(|named| named.is_called(name))
+            .map(|named| named.text())
     }
 
     /// Answers the next fetch, without counting it.

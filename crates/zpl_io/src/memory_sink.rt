@@ -29,7 +29,12 @@ impl Model for MemSink {
     ghost Value = { KeptBytes };
 
     ghost view = { λ a. record {
-        taken = a.taken.items; room = a.room; failing = a.failing.items; calls = a.calls; faults = a.faults } };
+      taken = a.taken.items;
+      room = a.room;
+      failing = a.failing.items;
+      calls = a.calls;
+      faults = a.faults;
+    } };
 
     ghost invariant = { λ a. (vec_len a.taken ≤ a.room) × (a.room ≤ vec_capacity a.taken) };
 }
