@@ -1,6 +1,6 @@
 -- Rows of the definitions, computed.
-use Rattle.std.proofs.Common.{◌≡◌, ℕ, List, [], ◌∷◌, Some, None, refl, inr}
-use Rattle.zpl_io.specs.Faults.{last_count, count_after, Rose}
+use Rattle.std.proofs.Common.{◌≡◌, [], ◌∷◌, Some, None, refl, inr}
+use Rattle.zpl_io.specs.Faults.{count_after, Rose}
 use Rattle.zpl_io.specs.MemFiles.{text_under}
 use Rattle.zpl_io.specs.CountSink.{hash_after, hash_of}
 

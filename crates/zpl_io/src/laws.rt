@@ -18,14 +18,19 @@ use crate::sure_files::SureFiles;
 use std::io::Stdout;
 
 /// A front of a front is a front, and so is a front behind the same list.
-pub fn fronts_join()
-    ensures own { (a : List ℕ) → IsFrontOf a a }
-    ensures through { (a b c : List ℕ) → IsFrontOf a b → IsFrontOf b c → IsFrontOf a c }
-    ensures behind { (a b c : List ℕ) → IsFrontOf b c → IsFrontOf (a ++ b) (a ++ c) }
+pub fn fronts_join<T>()
+    ensures empty { (a : List T) → IsFrontOf [] a }
+    ensures whole { (a : List T) → IsFrontOf a a }
+    ensures through { (a b c : List T) → IsFrontOf a b → IsFrontOf b c → IsFrontOf a c }
+    ensures behind { (a b c : List T) → IsFrontOf b c → IsFrontOf (a ++ b) (a ++ c) }
 {}
 
-/// Two pieces that a sink takes one after another act as their concatenation.
+/// Two pieces that a sink takes one after another act as their concatenation, and an empty piece
+/// changes nothing.
 pub fn puts_join<S: Sink>()
+    ensures none { (sink : S) → Takes (S.tells sink) [] (S.tells sink) }
+    ensures whole { (before after : S) (x : List ℕ) →
+        Takes (S.tells before) x (S.tells after) → TakesFront (S.tells before) x (S.tells after) }
     ensures both { (before between after : S) (x y : List ℕ) →
         Takes (S.tells before) x (S.tells between) → Takes (S.tells between) y (S.tells after) →
         Takes (S.tells before) (x ++ y) (S.tells after) }

@@ -75,8 +75,9 @@ impl Named {
 /// Texts by name, and the numbers of the fetches that fail.
 ///
 /// A fetch fails exactly where its number is in the list or its name isn't there; a failed fetch
-/// appends nothing. Of two texts under one name the first is fetched. Fetches are numbered from 0;
-/// the last number is `u64::MAX`, which every later fetch has too.
+/// appends nothing. Of two texts under one name the first is fetched. Fetches are numbered from 0,
+/// those left out that memory was wanting for; the last number is `u64::MAX`, which every later
+/// fetch has too.
 #[derive(Debug, Drop)]
 pub struct MemFiles {
     named: Vec<Named>,

@@ -1,4 +1,4 @@
-use Rattle.std.proofs.Common.{◌≡◌, ◌+◌, ◌≤◌, length}
+use Rattle.std.proofs.Common.{◌≡◌, ◌+◌, length}
 use Rattle.zpl_io.specs.DiskFiles.{GainsRead}
 use Rattle.zpl_io.proofs.disk_files.read_text.Given as goal
 

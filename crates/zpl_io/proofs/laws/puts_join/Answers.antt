@@ -1,5 +1,12 @@
-use Rattle.std.proofs.Common.{◌++◌, sym, append_assoc}
+use Rattle.std.proofs.Common.{[], ◌++◌, sym, append_assoc, append-nil}
 use Rattle.zpl_io.proofs.laws.puts_join.Goals as goal
+
+pub returns-clause-whole : goal.returns-clause-whole
+returns-clause-whole g c = λ before after x takes. record {
+  front = x;
+  is_front = record { rest = []; joins = sym (append-nil x) };
+  takes = takes;
+}
 
 pub returns-clause-front : goal.returns-clause-front
 returns-clause-front g c = λ before between after x y first second. record {
