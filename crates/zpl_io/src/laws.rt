@@ -67,6 +67,6 @@ pub fn sinks_tell()
     ensures counting { (tally : Tally) (bytes : List ℕ) →
         ⟦<CountSink as Sink>⟧.tells tally bytes ↔ (tally ≡ tally_of bytes) }
     ensures counting_faults { (tally : Tally) → ⟦<CountSink as Sink>⟧.faults tally ≡ 0 }
-    ensures stream { (count : ℕ) (bytes : List ℕ) → ⟦<StdSink<Stdout> as Sink>⟧.tells count bytes }
-    ensures stream_faults { (count : ℕ) → ⟦<StdSink<Stdout> as Sink>⟧.faults count ≡ count }
+    ensures stream { (sink : _) (bytes : List ℕ) → ⟦<StdSink<Stdout> as Sink>⟧.tells sink bytes }
+    ensures stream_faults { (sink : _) → ⟦<StdSink<Stdout> as Sink>⟧.faults sink ≡ sink.faults }
 {}

@@ -1,6 +1,7 @@
 //! A standard stream as a sink.
-ghost use Rattle.std.specs.Prelude.{◌≡◌, ⊤};
+ghost use Rattle.std.specs.Prelude.{◌≡◌, ◌≤◌, ⊤};
 ghost use Rattle.std.specs.Io.KnownBytes.{Appends};
+ghost use Rattle.zpl_io.specs.Faults.{last_count, Rose};
 ghost use Rattle.zpl_io.specs.StdSink.{WritesFront};
 
 use crate::outside::{Put, Sink};
@@ -28,7 +29,8 @@ fn write_piece<W: Write>(stream: &mut W, piece: &[u8]) -> Put
     }
 }
 
-/// A stream, as standard output or standard error. Of what it took nothing is told.
+/// A stream, as standard output or standard error. Of what it took nothing is told, but a writer
+/// whose bytes are known gains each piece, or a front of it where a put fails.
 #[derive(Drop)]
 pub struct StdSink<W> {
     stream: W,
@@ -36,17 +38,17 @@ pub struct StdSink<W> {
 }
 
 impl<W> Model for StdSink<W> {
-    ghost use Rattle.std.specs.Prelude.{ℕ};
+    ghost use Rattle.zpl_io.specs.StdSink.{Stream};
 
-    ghost Value = { ℕ };
+    ghost Value = { Stream W };
 
-    ghost view = { λ a. a.faults };
+    ghost view = { λ a. record { writer = a.stream; faults = a.faults } };
 }
 
 impl<W: Write> StdSink<W> {
     /// A sink that writes to the stream.
     pub fn new(stream: W) -> StdSink<W>
-        ensures { result ≡ 0 }
+        ensures { result ≡ record { writer = stream; faults = 0 } }
     {
         StdSink { stream, faults: 0 }
     }
@@ -55,9 +57,17 @@ impl<W: Write> StdSink<W> {
 impl<W: Write> Sink for StdSink<W> {
     ghost tells = { λ _ _. ⊤ };
 
-    ghost faults = { λ count. count };
+    ghost faults = { λ sink. sink.faults };
 
-    fn put(&mut self, bytes: &[u8]) -> Put {
+    fn put(&mut self, bytes: &[u8]) -> Put
+        ensures done { result ≡ Put.Done →
+            Appends (W.contents self.old.writer) (W.contents self.new.writer) bytes.now }
+        ensures failed { result ≡ Put.Failed →
+            WritesFront (W.contents self.old.writer) (W.contents self.new.writer) bytes.now }
+        ensures cause { result ≡ Put.Failed → Rose self.old.faults self.new.faults }
+        ensures never_falls { self.old.faults ≤ self.new.faults }
+        ensures bounded { self.new.faults ≤ last_count }
+    {
         let faults = self.faults;
         let put = write_piece(&mut self.stream, bytes);
         if put == Put::Failed {

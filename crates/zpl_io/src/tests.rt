@@ -170,12 +170,13 @@ fn puts_onto_streams(rt: HostRuntime) {
 }
 
 // A writer that takes at most two bytes at once and has room for so many, past which it takes none
-// or fails.
+// or fails. Its flushes work or fail.
 #[derive(Drop)]
 struct Narrow {
     taken: Vec<u8>,
     room: usize,
     fails: bool,
+    flushes: bool,
 }
 
 impl Write for Narrow {
@@ -190,24 +191,30 @@ impl Write for Narrow {
     }
 
     fn flush(&mut self) -> io::Result<()> {
-        Ok(())
+        if self.flushes {
+            Ok(())
+        } else {
+            Err(io::Error::from(ErrorKind::StorageFull))
+        }
     }
 }
 
 #[test]
 fn puts_by_short_writes(rt: HostRuntime) -> Result<(), Fail> {
     let alloc = rt.alloc();
-    let rows: [(usize, bool, Put, &[u8]); 4] = [
-        (10, true, Put::Done, b"abcde"),
-        (5, false, Put::Done, b"abcde"),
-        (3, true, Put::Failed, b"abc"),
-        (3, false, Put::Failed, b"abc"),
+    let rows: [(usize, bool, bool, Put, &[u8]); 5] = [
+        (10, true, true, Put::Done, b"abcde"),
+        (5, false, true, Put::Done, b"abcde"),
+        (3, true, true, Put::Failed, b"abc"),
+        (3, false, true, Put::Failed, b"abc"),
+        (10, false, false, Put::Failed, b"abcde"),
     ];
-    for (room, fails, want, taken) in rows {
+    for (room, fails, flushes, want, taken) in rows {
         let mut stream = Narrow {
             taken: Vec::new(alloc),
             room,
             fails,
+            flushes,
         };
         let got = StdSink::new(&mut stream).put(b"abcde");
         assert_eq!(rt; got, want, "room {room}");
