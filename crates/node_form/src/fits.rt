@@ -1,0 +1,1 @@
+//! Whether tables fit.
