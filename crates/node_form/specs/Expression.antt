@@ -26,3 +26,12 @@ words_of (Magnitude operand) = words_of operand ++ Abs ∷ []
 pub record IsExpression (words : List ExprOp) : Type 0 where
   pub tree : Expression
   pub spelled : words_of tree ≡ words
+
+-- how many values a word takes from the stack; each word leaves one
+abbrev pub operands_of : ExprOp → ℕ
+operands_of (Const value) = 0
+operands_of (Scalar scalar) = 0
+operands_of (Pair op) = 2
+operands_of Neg = 1
+operands_of Not = 1
+operands_of Abs = 1

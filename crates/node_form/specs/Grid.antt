@@ -1,10 +1,11 @@
 -- Grids of processors, as lists of their factors with 0 for each absent one.
-use Rattle.std.specs.Prelude.{◌≡◌, ℕ, ◌≤◌, ◌*◌, ◌==◌, List, drop, length, fold, All}
-use Rattle.std.specs.List.{before_first}
+use Rattle.std.specs.Prelude.{◌≡◌, ℕ, zero, suc, ◌≤◌, ◌*◌, List, [], ◌∷◌, drop, length, fold, All}
 
 -- the factors: what stands before the first 0
 abbrev pub factors_of : List ℕ → List ℕ
-factors_of grid = before_first (λ factor. factor == 0) grid
+factors_of [] = []
+factors_of (zero ∷ grid) = []
+factors_of (suc n ∷ grid) = suc n ∷ factors_of grid
 
 -- how many processors the grid has
 abbrev pub processors_of : List ℕ → ℕ

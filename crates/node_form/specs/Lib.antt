@@ -1,3 +1,4 @@
 pub mod Expression
 pub mod Fits
 pub mod Grid
+pub mod Value
