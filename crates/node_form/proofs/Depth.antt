@@ -7,7 +7,7 @@ use Rattle.std.specs.Prelude.{Option, Some, None, if◌then◌else◌}
 use Rattle.zpl_nums.specs.declared.operators.Op.{Op}
 use Rattle.node_form.specs.declared.words.ExprOp.{ExprOp}
 use Rattle.node_form.specs.declared.words.ExprOp.TheVariants.{Const, Scalar, Pair, Neg, Not, Abs}
-use Rattle.node_form.specs.Expression.{Expression, Constant, Variable, Operation, Negation, Denial, Magnitude, words_of, IsExpression, operands_of}
+use Rattle.node_form.specs.Expression.{Expression, Constant, Variable, Operation, Negation, Denial, Absolute, words_of, IsExpression, operands_of}
 
 -- the depth that words leave, from this one; nothing where an operand is missing
 abbrev pub depth_from : ℕ → List ExprOp → Option ℕ
@@ -35,7 +35,7 @@ depth_from-words_of (Denial operand) depth rest =
     rw
     append_assoc
     (depth_from-words_of operand depth (Not ∷ rest) ∙ depth_from-cons Not rest (suc depth) (suc depth) (omega arith) (omega arith))
-depth_from-words_of (Magnitude operand) depth rest =
+depth_from-words_of (Absolute operand) depth rest =
     rw
     append_assoc
     (depth_from-words_of operand depth (Abs ∷ rest) ∙ depth_from-cons Abs rest (suc depth) (suc depth) (omega arith) (omega arith))
@@ -77,7 +77,7 @@ IsExpression-from-depth (Not ∷ words) (tree ∷ trees) h =
     with_word Not words (spelled trees) (words_of tree) (IsExpression-from-depth words (Denial tree ∷ trees) (sym (depth_from-cons Not words (suc (length trees)) (suc (length trees)) (omega arith) (omega arith)) ∙ h))
 IsExpression-from-depth (Abs ∷ words) [] h = cc
 IsExpression-from-depth (Abs ∷ words) (tree ∷ trees) h =
-    with_word Abs words (spelled trees) (words_of tree) (IsExpression-from-depth words (Magnitude tree ∷ trees) (sym (depth_from-cons Abs words (suc (length trees)) (suc (length trees)) (omega arith) (omega arith)) ∙ h))
+    with_word Abs words (spelled trees) (words_of tree) (IsExpression-from-depth words (Absolute tree ∷ trees) (sym (depth_from-cons Abs words (suc (length trees)) (suc (length trees)) (omega arith) (omega arith)) ∙ h))
 
 -- words are those of an expression exactly where they leave one value on an empty stack
 pub IsExpression-depth : (words : List ExprOp) → IsExpression words ↔ (depth_from 0 words ≡ Some 1)

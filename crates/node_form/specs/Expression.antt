@@ -11,7 +11,7 @@ pub data Expression : Type 0 where
   Operation : (op : Op) (left right : Expression) → Expression
   Negation : (operand : Expression) → Expression
   Denial : (operand : Expression) → Expression
-  Magnitude : (operand : Expression) → Expression
+  Absolute : (operand : Expression) → Expression
 
 -- the words of an expression in postfix: each operator behind its operands
 abbrev pub words_of : Expression → List ExprOp
@@ -20,7 +20,7 @@ words_of (Variable scalar) = Scalar scalar ∷ []
 words_of (Operation op left right) = words_of left ++ (words_of right ++ Pair op ∷ [])
 words_of (Negation operand) = words_of operand ++ Neg ∷ []
 words_of (Denial operand) = words_of operand ++ Not ∷ []
-words_of (Magnitude operand) = words_of operand ++ Abs ∷ []
+words_of (Absolute operand) = words_of operand ++ Abs ∷ []
 
 -- the words are those of an expression: each operator finds its operands on the stack, and one value is left
 pub record IsExpression (words : List ExprOp) : Type 0 where

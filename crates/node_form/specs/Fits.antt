@@ -36,3 +36,10 @@ pub record Fits (tables : Tables) : Type 0 where
   pub grid : IsGrid tables.grid
   pub exprs : All (FitsExpr tables) tables.exprs
   pub code : All (FitsInstr tables) tables.code
+
+-- what was a number of the old tables is one of the new tables
+pub record Grows (old new : Tables) : Type 0 where
+  pub scalars : old.scalars ≤ new.scalars
+  pub texts : length old.texts ≤ length new.texts
+  pub exprs : length old.exprs ≤ length new.exprs
+  pub code : length old.code ≤ length new.code

@@ -1,29 +1,16 @@
 -- The value of an expression.
-use Rattle.std.specs.Prelude.{◌≡◌, ℕ, not, ℤ, pos, ◌-ℤ◌, Option, Some, None, List, [], ◌∷◌, ◌++◌, slice_get, option_and_then, All}
+use Rattle.std.specs.Prelude.{◌≡◌, ℤ, pos, Option, Some, None, List, [], ◌∷◌, ◌++◌, slice_get, option_and_then}
 use Rattle.std.specs.Option.{option_map}
-use Rattle.std.specs.Int.{int_max}
 use Rattle.zpl_nums.specs.declared.operators.Op.{Op}
-use Rattle.zpl_nums.specs.Integer.{wrapped, truth, is_true, IsInteger}
+use Rattle.zpl_nums.specs.Integer.{negated, absolute, denied, IsInteger}
 use Rattle.zpl_nums.specs.Op.{applied, Divides}
 use Rattle.node_form.specs.declared.words.ExprOp.{ExprOp}
 use Rattle.node_form.specs.declared.words.ExprOp.TheVariants.{Const, Scalar, Pair, Neg, Not, Abs}
-use Rattle.node_form.specs.Expression.{Expression, Constant, Variable, Operation, Negation, Denial, Magnitude}
+use Rattle.node_form.specs.Expression.{Expression, Constant, Variable, Operation, Negation, Denial, Absolute}
 
 -- what the words of an expression read
 pub record Operands : Type 0 where
   pub scalars : List ℤ
-
--- the negation of a value, wrapped
-abbrev pub negated : ℤ → ℤ
-negated value = wrapped (pos 0 -ℤ value)
-
--- 1 of 0, and 0 of any other value
-abbrev pub denied : ℤ → ℤ
-denied value = truth (not (is_true value))
-
--- the greater of a value and its wrapped negation
-abbrev pub magnitude : ℤ → ℤ
-magnitude value = int_max value (negated value)
 
 -- the stack with a value on top, where there is a value. The top of a stack comes first
 abbrev pub pushed : List ℤ → Option ℤ → Option (List ℤ)
@@ -36,7 +23,7 @@ stepped operands (Scalar scalar) stack = pushed stack (slice_get operands.scalar
 stepped operands (Pair op) (right ∷ left ∷ stack) = pushed stack (applied op left right)
 stepped operands Neg (value ∷ stack) = pushed stack (Some (negated value))
 stepped operands Not (value ∷ stack) = pushed stack (Some (denied value))
-stepped operands Abs (value ∷ stack) = pushed stack (Some (magnitude value))
+stepped operands Abs (value ∷ stack) = pushed stack (Some (absolute value))
 stepped operands word stack = None
 
 -- what words make of the stack, one after another
@@ -61,7 +48,7 @@ tree_value operands (Operation op left right) =
     option_and_then (λ a. option_and_then (applied op a) (tree_value operands right)) (tree_value operands left)
 tree_value operands (Negation operand) = option_map negated (tree_value operands operand)
 tree_value operands (Denial operand) = option_map denied (tree_value operands operand)
-tree_value operands (Magnitude operand) = option_map magnitude (tree_value operands operand)
+tree_value operands (Absolute operand) = option_map absolute (tree_value operands operand)
 
 -- from this stack, the words come to a quotient or a remainder whose divisor is 0
 pub record DividesByZero (operands : Operands) (words : List ExprOp) (stack : List ℤ) : Type 0 where

@@ -5,11 +5,16 @@
 #![tactic(auto)]
 
 mod fits;
+mod laws;
 mod program;
 mod rows;
 mod tables;
 mod words;
 
+pub use laws::{
+    growth_keeps_fit, growth_keeps_numbers, only_division_lacks_a_value, values_stay_in_range,
+    words_evaluate_in_turn, words_push_their_value,
+};
 pub use program::NodeProgram;
 pub use rows::{Row, Rows};
 pub use tables::{Code, Exprs, Grid3, Tables, Texts};

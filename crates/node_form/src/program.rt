@@ -2,9 +2,8 @@
 ghost use Rattle.std.specs.Prelude.{◌≡◌};
 ghost use Rattle.node_form.specs.Fits.{Fits};
 
-use std::marker::Model;
-
 use crate::tables::Tables;
+use std::marker::Model;
 
 /// A program for every processor of a grid: tables that fit.
 #[derive(Debug, Drop)]

@@ -2,11 +2,10 @@
 ghost use Rattle.std.specs.Prelude.{◌≡◌, ◌↔◌, [], IsTrue};
 ghost use Rattle.node_form.specs.Fits.{Fits};
 
-use std::alloc::Global;
-
 use crate::fits;
 use crate::rows::Rows;
 use crate::words::{ExprRow, Instr, TextRow};
+use std::alloc::Global;
 
 /// The factors of a processor grid, one to three of them, in front; 0 for each absent one.
 pub type Grid3 = [u32; 3];

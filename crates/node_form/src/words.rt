@@ -1,7 +1,6 @@
 //! The rows of the tables: texts, expressions and instructions.
-use zpl_nums::Op;
-
 use crate::rows::Row;
+use zpl_nums::Op;
 
 /// The bytes of a text that a program prints.
 pub type TextRow = Row<u8>;
