@@ -1,6 +1,7 @@
--- What fits keeps fitting where tables grow.
-use Rattle.std.proofs.Common.{◌≡◌, ℕ, ◌≤◌, List, [], ◌∷◌, ◌++◌, length, refl, sym, subst, arith, length-append, append-nil}
-use Rattle.std.specs.Prelude.{All}
+-- What fits in tables that fit, and keeps fitting where tables grow.
+use Rattle.std.proofs.Common.{◌≡◌, ℕ, ◌≤◌, List, [], ◌∷◌, ◌++◌, refl, sym, subst, arith, length-append, append-nil}
+use Rattle.std.specs.Prelude.{Some, slice_get, All}
+use Rattle.std.proofs.lemmas.Option.{get_or_from_slice_get, slice_get_within}
 use Rattle.std.proofs.lemmas.List.Elements.{All-append, All-cons, All-nil}
 use Rattle.node_form.specs.declared.words.ExprOp.{ExprOp}
 use Rattle.node_form.specs.declared.words.ExprOp.TheVariants.{Const, Scalar, Pair, Neg, Not, Abs}
@@ -62,3 +63,13 @@ Fits-scalars t scalars fits more =
     let new : Tables = record t { scalars = scalars } in
     let grows : Grows t new = record { scalars = more; texts = omega arith; exprs = omega arith; code = omega arith } in
     Fits-grows t new [] [] fits grows refl (sym (append-nil t.exprs)) (All-nil (FitsExpr new)) (sym (append-nil t.code)) (All-nil (FitsInstr new))
+
+All-slice_get : {X : Type 0} (P : X → Type 0) (xs : List X) (i : ℕ) (x : X) → All P xs → slice_get xs i ≡ Some x → P x
+All-slice_get P xs i x all found = subst P (get_or_from_slice_get xs i x x found) (all i x (slice_get_within xs i x found))
+
+-- a row of tables that fit
+pub Fits-expr-row : (t : Tables) (i : ℕ) (words : List ExprOp) → Fits t → slice_get t.exprs i ≡ Some words → FitsExpr t words
+Fits-expr-row t i words fits found = All-slice_get (FitsExpr t) t.exprs i words fits.exprs found
+
+pub Fits-instr-row : (t : Tables) (i : ℕ) (row : Instr) → Fits t → slice_get t.code i ≡ Some row → FitsInstr t row
+Fits-instr-row t i row fits found = All-slice_get (FitsInstr t) t.code i row fits.code found

@@ -1,5 +1,6 @@
+mod Examples
 pub mod Depth
 pub mod GridLemmas
-pub mod ValueLemmas
-pub mod RangeLemmas
 pub mod GrowthLemmas
+pub mod RangeLemmas
+pub mod ValueLemmas

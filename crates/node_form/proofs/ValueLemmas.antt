@@ -1,5 +1,5 @@
 -- How words evaluate.
-use Rattle.std.proofs.Common.{◌≡◌, ℕ, suc, ◌+◌, ◌-◌, ◌<◌, ◌≤◌, ◌↔◌, ◌⊎◌, inl, inr, Bool, true, false, cond, List, [], ◌∷◌, ◌++◌, length, get_or, refl, sym, ap, ◌∙◌, arith, ℤ, pos}
+use Rattle.std.proofs.Common.{◌≡◌, ℕ, suc, ◌+◌, ◌<◌, ◌≤◌, ◌↔◌, ◌⊎◌, inl, inr, Bool, true, false, cond, List, [], ◌∷◌, ◌++◌, length, get_or, refl, sym, ap, ◌∙◌, arith, ℤ, pos}
 use Rattle.std.specs.Prelude.{Option, Some, None, is_some, IsNone, option_and_then, slice_get, All}
 use Rattle.std.specs.Option.{option_map}
 use Rattle.std.specs.Ordering.{int_eq}
@@ -13,7 +13,7 @@ use Rattle.zpl_nums.specs.Op.{applied, Divides}
 use Rattle.node_form.specs.declared.words.ExprOp.{ExprOp}
 use Rattle.node_form.specs.declared.words.ExprOp.TheVariants.{Const, Scalar, Pair, Neg, Not, Abs}
 use Rattle.node_form.specs.declared.tables.Tables.{Tables}
-use Rattle.node_form.specs.Expression.{Expression, Constant, Variable, Operation, Negation, Denial, Absolute, words_of, IsExpression}
+use Rattle.node_form.specs.Expression.{Expression, Constant, Variable, Operation, Negation, Denial, Absolute, words_of}
 use Rattle.node_form.specs.Fits.{FitsWord, FitsExpr}
 use Rattle.node_form.specs.Value.{Operands, pushed, stepped, evaluated, only_value, value_of, tree_value, DividesByZero}
 use Rattle.node_form.proofs.Depth.{depth_from, depth_from-cons, IsExpression-depth}

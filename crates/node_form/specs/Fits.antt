@@ -1,5 +1,5 @@
 -- When the tables of a program fit.
-use Rattle.std.specs.Prelude.{ℕ, ◌<◌, ◌≤◌, List, length, All}
+use Rattle.std.specs.Prelude.{◌<◌, ◌≤◌, List, length, All}
 use Rattle.node_form.specs.declared.words.ExprOp.{ExprOp}
 use Rattle.node_form.specs.declared.words.ExprOp.TheVariants.{Const, Scalar, Pair, Neg, Not, Abs}
 use Rattle.node_form.specs.declared.words.Instr.{Instr}

@@ -1,7 +1,7 @@
 //! The laws of expressions and of tables that fit.
 //!
 //! Each law is the contract of a function that does nothing: a call brings the law into a proof.
-ghost use Rattle.std.specs.Prelude.{◌≡◌, ℕ, ◌+◌, ◌≤◌, ◌↔◌, ℤ, Option, IsNone, IsSome, List, [], ◌∷◌, ◌++◌, length, option_and_then, All};
+ghost use Rattle.std.specs.Prelude.{◌≡◌, ℕ, ◌+◌, ◌≤◌, ◌↔◌, ℤ, Option, IsNone, IsSome, List, [], ◌∷◌, ◌++◌, length, option_and_then, slice_get, All};
 ghost use Rattle.zpl_nums.specs.Integer.{IsInteger};
 ghost use Rattle.node_form.specs.declared.tables.Tables.{Tables as Parts};
 ghost use Rattle.node_form.specs.declared.words.ExprOp.{ExprOp as Word};
@@ -35,6 +35,12 @@ pub fn values_stay_in_range()
 {
     operators_stay_in_range();
 }
+
+/// A row of tables that fit fits them.
+pub fn rows_fit()
+    ensures expr { (t : Parts) (i : ℕ) (words : List Word) → Fits t → slice_get t.exprs i ≡ Some words → FitsExpr t words }
+    ensures instr { (t : Parts) (i : ℕ) (row : Instruction) → Fits t → slice_get t.code i ≡ Some row → FitsInstr t row }
+{}
 
 /// Numbers that are in their tables stay so where the tables grow.
 pub fn growth_keeps_numbers()
