@@ -1,18 +1,12 @@
 -- The depth of the stack that words leave, and that words which leave one value are those of an expression.
-use Rattle.std.proofs.Common.{◌≡◌, ℕ, suc, ◌+◌, ◌-◌, ◌<◌, ◌≤◌, ◌↔◌, nat_lt, List, [], ◌∷◌, ◌++◌, length, drop, get_or, refl, sym, ap, ◌∙◌, subst, arith, append_assoc, append-nil}
+use Rattle.std.proofs.Common.{◌≡◌, ℕ, suc, ◌+◌, ◌-◌, ◌<◌, ◌≤◌, ◌↔◌, List, [], ◌∷◌, ◌++◌, length, drop, get_or, refl, sym, ap, ◌∙◌, subst, arith, append_assoc, append-nil}
 use Rattle.std.proofs.Math.Seq.{drop-cons}
 use Rattle.std.proofs.lemmas.Bool.{le-ltb, lt-ltb}
 use Rattle.std.proofs.lemmas.List.{drop_all}
-use Rattle.std.specs.Prelude.{Option, Some, None, if◌then◌else◌}
+use Rattle.std.specs.Prelude.{Some, None}
 use Rattle.node_form.specs.declared.words.ExprOp.{ExprOp}
 use Rattle.node_form.specs.declared.words.ExprOp.TheVariants.{Const, Scalar, Pair, Neg, Not, Abs}
-use Rattle.node_form.specs.Expression.{Expression, Constant, Variable, Operation, Negation, Denial, Absolute, words_of, IsExpression, operands_of}
-
--- the depth that words leave, from this one; nothing where an operand is missing
-abbrev pub depth_from : ℕ → List ExprOp → Option ℕ
-depth_from depth [] = Some depth
-depth_from depth (word ∷ words) =
-    if nat_lt depth (operands_of word) then None else depth_from (depth - operands_of word + 1) words
+use Rattle.node_form.specs.Expression.{Expression, Constant, Variable, Operation, Negation, Denial, Absolute, words_of, IsExpression, operands_of, depth_from}
 
 -- a word that finds its operands
 pub depth_from-cons : (word : ExprOp) (words : List ExprOp) (depth after : ℕ) → operands_of word ≤ depth → depth - operands_of word + 1 ≡ after → depth_from depth (word ∷ words) ≡ depth_from after words

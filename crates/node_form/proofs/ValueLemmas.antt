@@ -13,10 +13,10 @@ use Rattle.zpl_nums.specs.Op.{applied, Divides}
 use Rattle.node_form.specs.declared.words.ExprOp.{ExprOp}
 use Rattle.node_form.specs.declared.words.ExprOp.TheVariants.{Const, Scalar, Pair, Neg, Not, Abs}
 use Rattle.node_form.specs.declared.tables.Tables.{Tables}
-use Rattle.node_form.specs.Expression.{Expression, Constant, Variable, Operation, Negation, Denial, Absolute, words_of}
+use Rattle.node_form.specs.Expression.{Expression, Constant, Variable, Operation, Negation, Denial, Absolute, words_of, depth_from}
 use Rattle.node_form.specs.Fits.{FitsWord, FitsExpr}
 use Rattle.node_form.specs.Value.{Operands, pushed, stepped, evaluated, only_value, value_of, tree_value, DividesByZero}
-use Rattle.node_form.proofs.Depth.{depth_from, depth_from-cons, IsExpression-depth}
+use Rattle.node_form.proofs.Depth.{depth_from-cons, IsExpression-depth}
 
 -- words evaluate one after another
 pub evaluated-append : (operands : Operands) (front rest : List ExprOp) (stack : List ℤ) → evaluated operands (front ++ rest) stack ≡ option_and_then (evaluated operands rest) (evaluated operands front stack)

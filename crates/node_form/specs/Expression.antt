@@ -1,5 +1,5 @@
 -- Expressions in postfix.
-use Rattle.std.specs.Prelude.{◌≡◌, ℕ, ℤ, List, [], ◌∷◌, ◌++◌}
+use Rattle.std.specs.Prelude.{◌≡◌, ℕ, ◌+◌, ◌-◌, nat_lt, if◌then◌else◌, ℤ, Option, Some, None, List, [], ◌∷◌, ◌++◌}
 use Rattle.zpl_nums.specs.declared.operators.Op.{Op}
 use Rattle.node_form.specs.declared.words.ExprOp.{ExprOp}
 use Rattle.node_form.specs.declared.words.ExprOp.TheVariants.{Const, Scalar, Pair, Neg, Not, Abs}
@@ -22,7 +22,7 @@ words_of (Negation operand) = words_of operand ++ Neg ∷ []
 words_of (Denial operand) = words_of operand ++ Not ∷ []
 words_of (Absolute operand) = words_of operand ++ Abs ∷ []
 
--- the words are those of an expression: each operator finds its operands on the stack, and one value is left
+-- the words are those of an expression
 pub record IsExpression (words : List ExprOp) : Type 0 where
   pub tree : Expression
   pub spelled : words_of tree ≡ words
@@ -35,3 +35,9 @@ operands_of (Pair op) = 2
 operands_of Neg = 1
 operands_of Not = 1
 operands_of Abs = 1
+
+-- how many values are on the stack after the words, where this many were on it; nothing where an operand is missing
+abbrev pub depth_from : ℕ → List ExprOp → Option ℕ
+depth_from depth [] = Some depth
+depth_from depth (word ∷ words) =
+    if nat_lt depth (operands_of word) then None else depth_from (depth - operands_of word + 1) words

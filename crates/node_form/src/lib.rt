@@ -14,8 +14,9 @@ mod tests;
 mod words;
 
 pub use laws::{
-    growth_keeps_fit, growth_keeps_numbers, only_division_lacks_a_value, rows_fit,
-    values_stay_in_range, words_evaluate_in_turn, words_push_their_value,
+    expressions_leave_one_value, growth_keeps_fit, growth_keeps_numbers,
+    only_division_lacks_a_value, rows_fit, values_stay_in_range, words_evaluate_in_turn,
+    words_push_their_value,
 };
 pub use program::NodeProgram;
 pub use rows::{Row, Rows};

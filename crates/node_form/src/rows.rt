@@ -5,7 +5,7 @@ ghost use Rattle.std.specs.Option.{option_copied};
 use std::alloc::{AllocError, Global};
 use std::marker::Model;
 
-/// A list of a program's tables, which grows at its end.
+/// A list of a program's tables, which grows at its end. Contracts see it as the list of its rows.
 #[derive(Debug, Drop)]
 pub struct Rows<T> {
     rows: Vec<T>,
@@ -47,7 +47,7 @@ impl<T> Rows<T> {
         self.rows.len() as u64
     }
 
-    /// The row of that number, counted from 0.
+    /// The row of that number, counted from 0; `None` from the length on.
     pub fn get(&self, i: u64) -> Option<&T>
         ensures row { option_copied result ≡ slice_get self.now i }
         ensures none { IsNone result ↔ (length self.now ≤ i) }
@@ -63,7 +63,7 @@ impl<T> Rows<T> {
     }
 }
 
-/// A row that is a list itself, complete when it is made.
+/// A row that is a list itself, complete when it is made. Contracts see it as that list.
 #[derive(Debug, Drop)]
 pub struct Row<T> {
     items: Vec<T>,

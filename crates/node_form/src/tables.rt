@@ -26,7 +26,7 @@ pub struct Tables {
     pub grid: Grid3,
     /// How many scalars each processor has; they start as 0.
     pub scalars: u32,
-    /// How many cells a loop of a processor has.
+    /// How many cells its loops share; each is one value of the index at hand.
     pub cells: u32,
     pub texts: Texts,
     pub exprs: Exprs,

@@ -1,5 +1,5 @@
 use Rattle.std.proofs.Common.{◌≡◌, ◌≤◌, drop}
-use Rattle.node_form.proofs.Depth.{depth_from}
+use Rattle.node_form.specs.Expression.{depth_from}
 use Rattle.node_form.proofs.fits.is_expression.Given as goal
 
 -- the depth so far, and the words that are left, give what all words give
