@@ -1,7 +1,7 @@
 -- What a fetch does to the list that it fills, from `old` to `new`. `Told` holds of the texts that
 -- are told under the fetched name.
 use Rattle.std.specs.Prelude.{◌≡◌, ◌⊎◌, ◌↔◌, ℕ, ◌+◌, ◌<◌, ◌≤◌, List, [], ◌++◌, length, take}
-use Rattle.zpl_io.specs.Front.{IsFrontOf}
+use Rattle.zpl_lists.specs.Front.{IsFrontOf}
 
 -- the list gained a whole text, of at most limit bytes
 pub record GainsWhole (Told : List ℕ → Type 0) (limit : ℕ) (old new : List ℕ) : Type 0 where

@@ -2,7 +2,6 @@ pub mod CountSink
 pub mod DiskFiles
 pub mod Faults
 pub mod Files
-pub mod Front
 pub mod MemFiles
 pub mod MemSink
 pub mod Sink

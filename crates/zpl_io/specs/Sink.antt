@@ -1,6 +1,6 @@
 -- What a put does to the lists of bytes that a sink tells that it took.
 use Rattle.std.specs.Prelude.{ℕ, List, ◌++◌}
-use Rattle.zpl_io.specs.Front.{IsFrontOf}
+use Rattle.zpl_lists.specs.Front.{IsFrontOf}
 
 -- whatever list was told before, that list and the piece behind it is told after
 abbrev pub Takes : (List ℕ → Type 0) → List ℕ → (List ℕ → Type 0) → Type 0

@@ -1,7 +1,7 @@
 -- What writing does to the bytes that a writer holds, where these are known.
 use Rattle.std.specs.Prelude.{List, ℕ, Option}
 use Rattle.std.specs.Io.KnownBytes.{Appends}
-use Rattle.zpl_io.specs.Front.{IsFrontOf}
+use Rattle.zpl_lists.specs.Front.{IsFrontOf}
 
 -- a writer, and how many puts failed
 pub record Stream (W : Type 0) : Type 0 where

@@ -1,7 +1,7 @@
 //! The files of the disk.
 ghost use Rattle.std.specs.Prelude.{◌≡◌, ◌≢◌, ◌↔◌, ◌+◌, ◌^◌, ◌<◌, ◌≤◌, length, ⊤};
 ghost use Rattle.std.specs.Io.KnownBytes.{IsAtEnd};
-ghost use Rattle.zpl_io.specs.Front.{IsFrontOf};
+ghost use Rattle.zpl_lists.specs.Front.{IsFrontOf};
 ghost use Rattle.zpl_io.specs.DiskFiles.{GainsRead};
 
 use crate::outside::{Fetched, Files};

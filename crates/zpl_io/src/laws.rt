@@ -1,8 +1,8 @@
-//! Laws of fronts, of what sinks tell, and of counting.
+//! Laws of what files and sinks tell, and of counting.
 //!
 //! Each law is the contract of a function that does nothing: a call brings the law into a proof.
 ghost use Rattle.std.specs.Prelude.{◌≡◌, ◌↔◌, ℕ, List, [], ◌++◌};
-ghost use Rattle.zpl_io.specs.Front.{IsFrontOf};
+ghost use Rattle.zpl_lists.specs.Front.{IsFrontOf};
 ghost use Rattle.zpl_io.specs.Sink.{Takes, TakesFront};
 ghost use Rattle.zpl_io.specs.MemFiles.{KeptFiles, HasText};
 ghost use Rattle.zpl_io.specs.MemSink.{KeptBytes};
@@ -16,14 +16,6 @@ use crate::outside::{Files, Sink};
 use crate::std_sink::StdSink;
 use crate::sure_files::SureFiles;
 use std::io::Stdout;
-
-/// A front of a front is a front, and so is a front behind the same list.
-pub fn fronts_join<T>()
-    ensures empty { (a : List T) → IsFrontOf [] a }
-    ensures whole { (a : List T) → IsFrontOf a a }
-    ensures through { (a b c : List T) → IsFrontOf a b → IsFrontOf b c → IsFrontOf a c }
-    ensures behind { (a b c : List T) → IsFrontOf b c → IsFrontOf (a ++ b) (a ++ c) }
-{}
 
 /// Two pieces that a sink takes one after another act as their concatenation, and an empty piece
 /// changes nothing.

@@ -21,7 +21,7 @@ mod tests;
 pub use byte_list::Bytes;
 pub use count_sink::CountSink;
 pub use disk_files::DiskFiles;
-pub use laws::{counting_goes_on, files_tell, fronts_join, puts_join, sinks_tell};
+pub use laws::{counting_goes_on, files_tell, puts_join, sinks_tell};
 pub use memory_files::MemFiles;
 pub use memory_sink::MemSink;
 pub use numbers::write_number;
