@@ -1,0 +1,4 @@
+pub mod Grid
+pub mod Local
+pub mod Order
+pub mod Turn
