@@ -1,0 +1,5 @@
+pub mod Bytes
+pub mod Kinds
+pub mod Gaps
+pub mod Cutting
+pub mod Tokens

@@ -1,0 +1,76 @@
+//! Names and keywords.
+
+use zpl_tokens::{Key, Kind};
+
+/// The word at the front, a name or a keyword, and what is left behind it.
+pub fn word_at(bytes: &[u8]) -> (Kind, &[u8]) {
+    let (word, after) = bytes.split_at(word_len(bytes));
+    let kind = match keyword_of(word) {
+        Some(key) => Kind::Word(key),
+        None => Kind::Name,
+    };
+    (kind, after)
+}
+
+/// Whether a word may begin with the byte.
+pub fn is_word_start(byte: u8) -> bool {
+    byte.is_ascii_alphabetic() || byte == b'_'
+}
+
+/// How many bytes at the front can stand in a word.
+fn word_len(bytes: &[u8]) -> usize {
+    for (i, byte) in bytes.iter().enumerate() {
+        if !(is_word_start(*byte) || byte.is_ascii_digit()) {
+            return i;
+        }
+    }
+    bytes.len()
+}
+
+/// The keyword that is written so.
+fn keyword_of(word: &[u8]) -> Option<Key> {
+    match word {
+        b"program" => Some(Key::Program),
+        b"config" => Some(Key::Config),
+        b"var" => Some(Key::Var),
+        b"constant" => Some(Key::Constant),
+        b"region" => Some(Key::Region),
+        b"direction" => Some(Key::Direction),
+        b"procedure" => Some(Key::Procedure),
+        b"begin" => Some(Key::Begin),
+        b"end" => Some(Key::End),
+        b"if" => Some(Key::If),
+        b"then" => Some(Key::Then),
+        b"elsif" => Some(Key::Elsif),
+        b"else" => Some(Key::Else),
+        b"while" => Some(Key::While),
+        b"do" => Some(Key::Do),
+        b"repeat" => Some(Key::Repeat),
+        b"until" => Some(Key::Until),
+        b"for" => Some(Key::For),
+        b"to" => Some(Key::To),
+        b"downto" => Some(Key::Downto),
+        b"by" => Some(Key::By),
+        b"of" => Some(Key::Of),
+        b"in" => Some(Key::In),
+        b"at" => Some(Key::At),
+        b"with" => Some(Key::With),
+        b"without" => Some(Key::Without),
+        b"wrap" => Some(Key::Wrap),
+        b"reflect" => Some(Key::Reflect),
+        b"return" => Some(Key::Return),
+        b"integer" => Some(Key::Integer),
+        b"boolean" => Some(Key::Boolean),
+        b"true" => Some(Key::True),
+        b"false" => Some(Key::False),
+        b"max" => Some(Key::Max),
+        b"min" => Some(Key::Min),
+        b"abs" => Some(Key::Abs),
+        b"write" => Some(Key::Write),
+        b"writeln" => Some(Key::Writeln),
+        b"Index1" => Some(Key::Index1),
+        b"Index2" => Some(Key::Index2),
+        b"Index3" => Some(Key::Index3),
+        _ => None,
+    }
+}
