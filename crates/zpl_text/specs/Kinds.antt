@@ -8,7 +8,7 @@ use Rattle.zpl_tokens.specs.declared.Kind.TheVariants.{Name, Number, Str, Ditto,
 use Rattle.zpl_tokens.specs.declared.keywords.Key.{Key}
 use Rattle.zpl_tokens.specs.Key.{keyword_text}
 use Rattle.zpl_tokens.specs.Sym.{symbol_text}
-use Rattle.zpl_text.specs.Bytes.{newline, quote, backslash, is_word_start, is_word_byte, is_escape}
+use Rattle.zpl_text.specs.Bytes.{newline, quote, backslash, is_word_start, is_word_byte, is_escape, FirstPasses}
 
 -- a letter or `_`, and then letters, digits and `_`
 abbrev pub IsWord : List ℕ → Type 0
@@ -25,6 +25,23 @@ pub data IsBody : List ℕ → Type 0 where
   nothing : IsBody []
   plain : {b : ℕ} {after : List ℕ} → b ≢ quote → b ≢ newline → b ≢ backslash → IsBody after → IsBody (b ∷ after)
   escape : {b : ℕ} {after : List ℕ} → IsTrue (is_escape b) → IsBody after → IsBody (backslash ∷ b ∷ after)
+
+-- a body may begin with an escape, or with a byte that stands for itself
+abbrev pub BeginsEscape : List ℕ → Type 0
+BeginsEscape [] = ⊥
+BeginsEscape (b ∷ after) = (b ≡ backslash) × FirstPasses is_escape after
+
+abbrev pub BeginsPlain : List ℕ → Type 0
+BeginsPlain [] = ⊥
+BeginsPlain (b ∷ after) = (b ≢ quote) × (b ≢ newline) × (b ≢ backslash)
+
+-- Bytes begin with the body of a string, which can't go on at `after`, what follows.
+pub record IsWholeBody (bytes after : List ℕ) : Type 0 where
+  pub body : List ℕ
+  pub split : bytes ≡ body ++ after
+  pub within : IsBody body
+  pub no_escape : BeginsEscape after → ⊥
+  pub no_plain : BeginsPlain after → ⊥
 
 -- A number may have any size here: that one over the greatest integer is a fault is said where tokens are cut.
 abbrev pub IsToken : List ℕ → Kind → Type 0

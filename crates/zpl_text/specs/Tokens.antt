@@ -49,13 +49,17 @@ pub record IsTokens (text : List ℕ) (tokens : List Token) : Type 0 where
   pub only_gap : Skips last.rest []
   pub all : tokens ≡ found ++ end_of text ∷ []
 
--- The text has a fault: behind the tokens found and a gap something is wrong.
+-- Nothing can be cut off at a place: behind a gap something is wrong.
+pub record IsFaultAt (text : List ℕ) (here : Place) (fault : LexFault) : Type 0 where
+  pub begin : List ℕ
+  pub skips : Skips here.rest begin
+  pub wrong : IsWrong text here.ditto begin fault
+
+-- The text has a fault behind the tokens found.
 pub record HasFault (text : List ℕ) (found : List Token) (fault : LexFault) : Type 0 where
   pub last : Place
   pub cuts : Cuts text (start text) found last
-  pub begin : List ℕ
-  pub skips : Skips last.rest begin
-  pub wrong : IsWrong text last.ditto begin fault
+  pub fault_at : IsFaultAt text last fault
 
 -- new is old with a list behind it of which the fact holds
 pub record Appends (old new : List Token) (fact : List Token → Type 0) : Type 0 where

@@ -1,22 +1,38 @@
 //! Symbols.
+ghost use Rattle.std.specs.Prelude.{◌≡◌, ◌≢◌, ◌<◌, [], ◌∷◌, Bool, length, MatchOption, IfSome};
+ghost use Rattle.zpl_tokens.specs.declared.Kind.TheVariants.{Symbol};
+ghost use Rattle.zpl_tokens.specs.declared.symbols.Sym.{Sym as Sign};
+ghost use Rattle.zpl_tokens.specs.Sym.{symbol_text};
+ghost use Rattle.zpl_text.specs.Bytes.{is_word_byte, quote, BeginsWith, FirstPasses};
+ghost use Rattle.zpl_text.specs.Cutting.{IsCut, BeginsNoToken};
 
 use zpl_tokens::Sym;
 
 /// The symbol at the front, and what is left behind it.
-pub fn symbol_at(bytes: &[u8]) -> Option<(Sym, &[u8])> {
-    match bytes {
-        [b'|', b'|', b'|', ..] => Some((Sym::Or, &bytes[1..])),
-        [first, second, after @ ..] => match pair_of(*first, *second) {
-            Some(symbol) => Some((symbol, after)),
-            None => Some((single_of(*first)?, &bytes[1..])),
-        },
-        [first] => Some((single_of(*first)?, &bytes[1..])),
-        [] => None,
+pub fn symbol_at(bytes: &[u8]) -> Option<(Sym, &[u8])>
+    requires some { 0 < length bytes.now }
+    requires no_word { FirstPasses is_word_byte bytes.now → ⊥ }
+    requires no_quote { BeginsWith (quote ∷ []) bytes.now → ⊥ }
+    ensures cut { MatchOption result
+        (BeginsNoToken bytes.now)
+        (λ found. (ditto : Bool) → IsCut ditto bytes.now (Symbol found.0) found.1.now) }
+    ensures shorter { IfSome result (λ found. length found.1.now < length bytes.now) }
+{
+    if bytes.len() >= 2 && !bytes.starts_with(b"|||") {
+        if let Some(symbol) = pair_of(bytes[0], bytes[1]) {
+            return Some((symbol, &bytes[2..]));
+        }
     }
+    let symbol = single_of(bytes[0])?;
+    Some((symbol, &bytes[1..]))
 }
 
 /// The symbol of one byte.
-fn single_of(byte: u8) -> Option<Sym> {
+fn single_of(byte: u8) -> Option<Sym>
+    ensures { MatchOption result
+        ((symbol : Sign) → symbol_text symbol ≢ byte ∷ [])
+        (λ symbol. symbol_text symbol ≡ byte ∷ []) }
+{
     match byte {
         b'=' => Some(Sym::Equal),
         b'<' => Some(Sym::Less),
@@ -44,7 +60,11 @@ fn single_of(byte: u8) -> Option<Sym> {
 }
 
 /// The symbol of two bytes.
-fn pair_of(first: u8, second: u8) -> Option<Sym> {
+fn pair_of(first: u8, second: u8) -> Option<Sym>
+    ensures { MatchOption result
+        ((symbol : Sign) → symbol_text symbol ≢ first ∷ second ∷ [])
+        (λ symbol. symbol_text symbol ≡ first ∷ second ∷ []) }
+{
     match (first, second) {
         (b':', b'=') => Some(Sym::Assign),
         (b'+', b'=') => Some(Sym::AddAssign),

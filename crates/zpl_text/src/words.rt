@@ -1,9 +1,20 @@
 //! Names and keywords.
+ghost use Rattle.std.specs.Prelude.{◌≡◌, ◌≢◌, ◌<◌, Bool, length, MatchOption};
+ghost use Rattle.std.specs.List.{prefix_len};
+ghost use Rattle.zpl_tokens.specs.declared.keywords.Key.{Key as Keyword};
+ghost use Rattle.zpl_tokens.specs.Key.{keyword_text};
+ghost use Rattle.zpl_text.specs.Bytes.{is_word_start, is_word_byte, FirstPasses};
+ghost use Rattle.zpl_text.specs.Cutting.{IsCut, IsSound};
 
 use zpl_tokens::{Key, Kind};
 
 /// The word at the front, a name or a keyword, and what is left behind it.
-pub fn word_at(bytes: &[u8]) -> (Kind, &[u8]) {
+pub fn word_at(bytes: &[u8]) -> (Kind, &[u8])
+    requires { FirstPasses is_word_start bytes.now }
+    ensures cut { (ditto : Bool) → IsCut ditto bytes.now result.0 result.1.now }
+    ensures sound { IsSound result.0 result.1.now }
+    ensures shorter { length result.1.now < length bytes.now }
+{
     let (word, after) = bytes.split_at(word_len(bytes));
     let kind = match keyword_of(word) {
         Some(key) => Kind::Word(key),
@@ -13,12 +24,16 @@ pub fn word_at(bytes: &[u8]) -> (Kind, &[u8]) {
 }
 
 /// Whether a word may begin with the byte.
-pub fn is_word_start(byte: u8) -> bool {
+pub fn is_word_start(byte: u8) -> bool
+    ensures { result ≡ is_word_start byte }
+{
     byte.is_ascii_alphabetic() || byte == b'_'
 }
 
 /// How many bytes at the front can stand in a word.
-fn word_len(bytes: &[u8]) -> usize {
+fn word_len(bytes: &[u8]) -> usize
+    ensures { result ≡ prefix_len is_word_byte bytes.now }
+{
     for (i, byte) in bytes.iter().enumerate() {
         if !(is_word_start(*byte) || byte.is_ascii_digit()) {
             return i;
@@ -28,7 +43,11 @@ fn word_len(bytes: &[u8]) -> usize {
 }
 
 /// The keyword that is written so.
-fn keyword_of(word: &[u8]) -> Option<Key> {
+fn keyword_of(word: &[u8]) -> Option<Key>
+    ensures { MatchOption result
+        ((key : Keyword) → word.now ≢ keyword_text key)
+        (λ key. word.now ≡ keyword_text key) }
+{
     match word {
         b"program" => Some(Key::Program),
         b"config" => Some(Key::Config),
