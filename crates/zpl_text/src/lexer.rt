@@ -5,7 +5,7 @@ ghost use Rattle.zpl_text.specs.declared.faults.LexFault.{LexFault as Fault};
 ghost use Rattle.zpl_text.specs.declared.faults.LexFault.TheVariants.{NoMemory};
 ghost use Rattle.zpl_text.specs.Gaps.{Skips, IsPastGap};
 ghost use Rattle.zpl_text.specs.Cutting.{opens_ditto, IsCut, IsSound, IsWrong};
-ghost use Rattle.zpl_text.specs.Tokens.{Takes, IsFaultAt, IsTokens, HasFault, Appends, Refuses};
+ghost use Rattle.zpl_text.specs.Tokens.{Place, Takes, IsFaultAt, IsTokens, HasFault, Appends, Refuses};
 
 use crate::faults::LexFault;
 use crate::gaps::past_gap;
@@ -58,7 +58,7 @@ fn next_token<'a>(
 ) -> Result<Option<(Token, &'a [u8])>, LexFault>
     requires within { length rest.now ≤ length text.now }
     requires limit { length text.now ≤ 1048576 }
-    ensures step { let here = record { rest = rest.now; ditto = ditto } in MatchResult result
+    ensures step { let here : Place = record { rest = rest.now; ditto = ditto } in MatchResult result
         (λ found. MatchOption found
         (Skips rest.now [])
         (λ next. Takes text.now here next.0 (record { rest = next.1.now; ditto = opens_ditto next.0.kind })))

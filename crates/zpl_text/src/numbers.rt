@@ -35,12 +35,10 @@ pub fn number_at<'a>(text: &[u8], rest: &'a [u8]) -> Result<(Kind, &'a [u8]), Le
 fn digit_count(bytes: &[u8]) -> usize
     ensures { result ≡ prefix_len is_ascii_digit bytes.now }
 {
-    for (i, byte) in bytes.iter().enumerate() {
-        if !byte.is_ascii_digit() {
-            return i;
-        }
-    }
-    bytes.len()
+    bytes
+        .iter()
+        .take_while(|byte| byte.is_ascii_digit())
+        .count()
 }
 
 /// Whether digits with this behind them are a float's: a `.` that no second one follows, or an exponent.

@@ -34,12 +34,10 @@ pub fn is_word_start(byte: u8) -> bool
 fn word_len(bytes: &[u8]) -> usize
     ensures { result ≡ prefix_len is_word_byte bytes.now }
 {
-    for (i, byte) in bytes.iter().enumerate() {
-        if !(is_word_start(*byte) || byte.is_ascii_digit()) {
-            return i;
-        }
-    }
-    bytes.len()
+    bytes
+        .iter()
+        .take_while(|byte| is_word_start(**byte) || byte.is_ascii_digit())
+        .count()
 }
 
 /// The keyword that is written so.
