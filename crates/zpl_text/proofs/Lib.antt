@@ -1,2 +1,4 @@
+pub mod Bodies
 pub mod Comments
 pub mod Numerals
+pub mod Skipping
