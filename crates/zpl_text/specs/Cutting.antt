@@ -3,8 +3,10 @@ use Rattle.std.specs.Prelude.{◌≡◌, ℕ, ◌-◌, ◌<◌, ◌≤◌, ◌^�
 use Rattle.std.specs.Char.{is_ascii_digit}
 use Rattle.zpl_tokens.specs.declared.Kind.{Kind}
 use Rattle.zpl_tokens.specs.declared.Kind.TheVariants.{Name, Number, Str, Ditto, Symbol, Word, End}
+use Rattle.zpl_tokens.specs.declared.symbols.Sym.{Sym}
 use Rattle.zpl_tokens.specs.declared.symbols.Sym.TheVariants.{OpenBracket}
 use Rattle.zpl_tokens.specs.declared.keywords.Key.TheVariants.{Of, In}
+use Rattle.zpl_tokens.specs.Sym.{symbol_text}
 use Rattle.zpl_text.specs.declared.faults.LexFault.{LexFault}
 use Rattle.zpl_text.specs.declared.faults.LexFault.TheVariants.{BadByte, OpenComment, OpenString, NumberTooLarge, FloatText}
 use Rattle.zpl_text.specs.Bytes.{quote, backslash, is_escape, BeginsWith, FirstPasses, EndsLine}
@@ -65,6 +67,16 @@ IsSound _ after = Unit {0}
 pub record BeginsNoToken (bytes : List ℕ) : Type 0 where
   pub some : 0 < length bytes
   pub none : (front after : List ℕ) (kind : Kind) → bytes ≡ front ++ after → IsToken front kind → front ≡ []
+
+-- where no three bars stand together, no symbol at the front has two bytes
+abbrev pub AllAreSingle : List ℕ → Type 0
+AllAreSingle bytes = (BeginsWith (codes "|||") bytes → ⊥) → (symbol : Sym) → BeginsWith (symbol_text symbol) bytes → length (symbol_text symbol) ≤ 1
+
+-- no three bars stand together, and at the front is this symbol of two bytes
+pub record IsDoubleAt (bytes : List ℕ) (symbol : Sym) : Type 0 where
+  pub no_bars : BeginsWith (codes "|||") bytes → ⊥
+  pub at_front : BeginsWith (symbol_text symbol) bytes
+  pub two : length (symbol_text symbol) ≡ 2
 
 -- a string begins here, and its line ends before it does
 pub record IsOpenString (bytes : List ℕ) : Type 0 where

@@ -1,6 +1,6 @@
 //! Strings.
 ghost use Rattle.std.specs.Prelude.{◌≡◌, ◌≤◌, ◌<◌, ◌↔◌, [], ◌∷◌, Bool, false, length, IsTrue, MatchResult, IfOk};
-ghost use Rattle.zpl_text.specs.Bytes.{quote, BeginsWith};
+ghost use Rattle.zpl_text.specs.Bytes.{quote, BeginsWith, EndsLine};
 ghost use Rattle.zpl_text.specs.Kinds.{BeginsEscape, BeginsPlain, IsWholeBody};
 ghost use Rattle.zpl_text.specs.Cutting.{IsCut, IsSound, IsWrong};
 
@@ -19,11 +19,20 @@ pub fn string_at<'a>(text: &[u8], rest: &'a [u8]) -> Result<(Kind, &'a [u8]), Le
     ensures shorter { IfOk result (λ found. length found.1.now < length rest.now) }
 {
     let tail = past_body(&rest[1..]);
-    match tail {
-        [b'"', after @ ..] => Ok((Kind::Str, after)),
-        [b'\\', ..] => Err(LexFault::BadByte(offset_of(text, tail))),
-        _ => Err(LexFault::OpenString(offset_of(text, rest))),
+    if tail.starts_with(b"\"") {
+        Ok((Kind::Str, &tail[1..]))
+    } else if ends_line(tail) {
+        Err(LexFault::OpenString(offset_of(text, rest)))
+    } else {
+        Err(LexFault::BadByte(offset_of(text, tail)))
     }
+}
+
+/// Whether the line ends here.
+fn ends_line(bytes: &[u8]) -> bool
+    ensures { IsTrue result ↔ EndsLine bytes.now }
+{
+    bytes.is_empty() || bytes[0] == b'\n'
 }
 
 /// What is left from the first byte on that doesn't belong to a string's body: a quote, the end of the

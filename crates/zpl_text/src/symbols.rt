@@ -4,7 +4,7 @@ ghost use Rattle.zpl_tokens.specs.declared.Kind.TheVariants.{Symbol};
 ghost use Rattle.zpl_tokens.specs.declared.symbols.Sym.{Sym as Sign};
 ghost use Rattle.zpl_tokens.specs.Sym.{symbol_text};
 ghost use Rattle.zpl_text.specs.Bytes.{is_word_byte, quote, BeginsWith, FirstPasses};
-ghost use Rattle.zpl_text.specs.Cutting.{IsCut, BeginsNoToken};
+ghost use Rattle.zpl_text.specs.Cutting.{IsCut, BeginsNoToken, AllAreSingle, IsDoubleAt};
 
 use zpl_tokens::Sym;
 
@@ -18,13 +18,21 @@ pub fn symbol_at(bytes: &[u8]) -> Option<(Sym, &[u8])>
         (λ found. (ditto : Bool) → IsCut ditto bytes.now (Symbol found.0) found.1.now) }
     ensures shorter { IfSome result (λ found. length found.1.now < length bytes.now) }
 {
-    if bytes.len() >= 2 && !bytes.starts_with(b"|||") {
-        if let Some(symbol) = pair_of(bytes[0], bytes[1]) {
-            return Some((symbol, &bytes[2..]));
-        }
+    if let Some(symbol) = double_at(bytes) {
+        return Some((symbol, &bytes[2..]));
     }
     let symbol = single_of(bytes[0])?;
     Some((symbol, &bytes[1..]))
+}
+
+/// The symbol of two bytes at the front, unless three bars stand together there.
+fn double_at(bytes: &[u8]) -> Option<Sym>
+    ensures { MatchOption result (AllAreSingle bytes.now) (IsDoubleAt bytes.now) }
+{
+    if bytes.len() < 2 || bytes.starts_with(b"|||") {
+        return None;
+    }
+    pair_of(bytes[0], bytes[1])
 }
 
 /// The symbol of one byte.

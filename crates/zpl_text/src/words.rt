@@ -1,10 +1,11 @@
 //! Names and keywords.
-ghost use Rattle.std.specs.Prelude.{◌≡◌, ◌≢◌, ◌<◌, Bool, length, MatchOption};
+ghost use Rattle.std.specs.Prelude.{◌≡◌, ◌≢◌, ◌<◌, ℕ, Bool, List, length, MatchOption};
 ghost use Rattle.std.specs.List.{prefix_len};
 ghost use Rattle.zpl_tokens.specs.declared.keywords.Key.{Key as Keyword};
 ghost use Rattle.zpl_tokens.specs.Key.{keyword_text};
 ghost use Rattle.zpl_text.specs.Bytes.{is_word_start, is_word_byte, FirstPasses};
-ghost use Rattle.zpl_text.specs.Cutting.{IsCut, IsSound};
+ghost use Rattle.zpl_text.specs.Kinds.{IsWord, IsToken};
+ghost use Rattle.zpl_text.specs.Cutting.{MayStand, IsCut, IsSound};
 
 use zpl_tokens::{Key, Kind};
 
@@ -16,11 +17,20 @@ pub fn word_at(bytes: &[u8]) -> (Kind, &[u8])
     ensures shorter { length result.1.now < length bytes.now }
 {
     let (word, after) = bytes.split_at(word_len(bytes));
-    let kind = match keyword_of(word) {
+    (kind_of(word), after)
+}
+
+/// Whether the word is a name or which keyword it is.
+fn kind_of(word: &[u8]) -> Kind
+    requires { IsWord word.now }
+    ensures token { IsToken word.now result }
+    ensures place { (ditto : Bool) → MayStand ditto result }
+    ensures sound { (after : List ℕ) → IsSound result after }
+{
+    match keyword_of(word) {
         Some(key) => Kind::Word(key),
         None => Kind::Name,
-    };
-    (kind, after)
+    }
 }
 
 /// Whether a word may begin with the byte.
