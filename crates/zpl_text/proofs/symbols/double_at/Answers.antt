@@ -1,11 +1,7 @@
-use Rattle.std.proofs.Common.{rules, ◌≡◌, ◌≢◌, ◌<◌, [], ◌∷◌, Bool, length, MatchOption, IfSome, ℕ, ◌+◌, ◌-◌, ◌*◌, ◌≤◌, ◌/◌, ◌%◌, true, false, nat_eq, nat_lt, List, ◌++◌, slice_index_or, slice_set, bit_and, bit_or, Fits, w8, w32, w64, Bor, MutBor}
-use Rattle.zpl_tokens.specs.declared.Kind.TheVariants.{Symbol}
-use Rattle.zpl_tokens.specs.declared.symbols.Sym.{Sym as Sign}
-use Rattle.zpl_tokens.specs.Sym.{symbol_text}
-use Rattle.zpl_text.specs.Bytes.{is_word_byte, quote, BeginsWith, FirstPasses}
-use Rattle.zpl_text.specs.Cutting.{IsCut, BeginsNoToken, AllAreSingle, IsDoubleAt}
+use Rattle.std.proofs.Common.{sym, ◌∙◌}
+use Rattle.zpl_text.proofs.Marks.{double_from}
 use Rattle.zpl_text.proofs.symbols.double_at.Goals as goal
 
--- src/symbols.rt:29:1
 pub returns : goal.returns
-returns c = ?
+returns c =
+    double_from c.args.bytes.now c.pair_of.result c.if-bytes-lt2.false (sym c.if-starts_with.false ∙ c.starts_with.ensures.value) c.pair_of.ensures
