@@ -89,15 +89,19 @@ fn cut<'a>(text: &[u8], rest: &'a [u8], ditto: bool) -> Result<(Kind, &'a [u8]),
         (λ fault. IsWrong text.now ditto rest.now fault) }
     ensures shorter { IfOk result (λ found. length found.1.now < length rest.now) }
 {
-    match rest[0] {
-        b'"' if ditto => Ok((Kind::Ditto, &rest[1..])),
-        b'"' => string_at(text, rest),
-        b'0'..=b'9' => number_at(text, rest),
-        first if is_word_start(first) => Ok(word_at(rest)),
-        _ => match symbol_at(rest) {
-            Some((symbol, after)) => Ok((Kind::Symbol(symbol), after)),
-            None => Err(LexFault::BadByte(offset_of(text, rest))),
-        },
+    let first = rest[0];
+    if first == b'"' && ditto {
+        Ok((Kind::Ditto, &rest[1..]))
+    } else if first == b'"' {
+        string_at(text, rest)
+    } else if first.is_ascii_digit() {
+        number_at(text, rest)
+    } else if is_word_start(first) {
+        Ok(word_at(rest))
+    } else if let Some((symbol, after)) = symbol_at(rest) {
+        Ok((Kind::Symbol(symbol), after))
+    } else {
+        Err(LexFault::BadByte(offset_of(text, rest)))
     }
 }
 
