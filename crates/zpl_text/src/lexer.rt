@@ -67,7 +67,7 @@ fn next_token<'a>(
 {
     let begin = match past_gap(rest) {
         Ok(begin) => begin,
-        Err(open) => return Err(LexFault::OpenComment(offset_of(text, open))),
+        Err(comment) => return Err(LexFault::OpenComment(offset_of(text, comment))),
     };
     if begin.is_empty() {
         return Ok(None);
