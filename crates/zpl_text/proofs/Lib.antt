@@ -3,7 +3,10 @@ pub mod Comments
 pub mod Cuts
 pub mod Marks
 pub mod Numerals
+pub mod OneGap
+pub mod OneStep
 pub mod Quoted
 pub mod Runs
 pub mod Shapes
 pub mod Skipping
+pub mod Written

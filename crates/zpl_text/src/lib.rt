@@ -8,6 +8,7 @@
 
 mod faults;
 mod gaps;
+mod laws;
 mod lexer;
 mod numbers;
 mod strings;
@@ -16,6 +17,7 @@ mod tokens;
 mod words;
 
 pub use faults::LexFault;
+pub use laws::text_is_cut_one_way;
 pub use lexer::lex;
 pub use tokens::Token;
 pub use zpl_tokens::{Key, Kind, Sym};
