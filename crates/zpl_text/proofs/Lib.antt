@@ -3,6 +3,7 @@ pub mod Comments
 pub mod Cuts
 pub mod Marks
 pub mod Numerals
+pub mod OneFault
 pub mod OneGap
 pub mod OneStep
 pub mod Quoted

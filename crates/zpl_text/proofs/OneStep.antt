@@ -26,7 +26,7 @@ use Rattle.zpl_text.proofs.Shapes.{HasShape, is_mark, shape_of, apart_word_digit
 use Rattle.zpl_text.proofs.Written.{keyword_text_injective, symbol_text_injective}
 
 -- what a first byte begins: 1 a word, 2 a number, 3 a string or ditto, 4 a symbol
-abbrev class_of : Kind → ℕ
+abbrev pub class_of : Kind → ℕ
 class_of Name = 1
 class_of (Word k) = 1
 class_of (Number n) = 2
@@ -35,7 +35,7 @@ class_of Ditto = 3
 class_of (Symbol s) = 4
 class_of End = 0
 
-abbrev byte_class : ℕ → ℕ
+abbrev pub byte_class : ℕ → ℕ
 byte_class b = if is_mark b then 4 else (if b == quote then 3 else (if is_ascii_digit b then 2 else 1))
 
 class_word : (b : ℕ) → is_word_start b ≡ true → 1 ≡ byte_class b
@@ -136,14 +136,18 @@ first_shape ditto b bytes [] after kind same shape may = absurd (shape_some ditt
 first_shape ditto b bytes (c ∷ front) after kind same shape may =
     (front, subst (λ (n : ℕ). HasShape kind (n ∷ front)) (sym (heads same)) shape)
 
-cut_shape : (ditto : Bool) (bytes : List ℕ) (kind : Kind) (after : List ℕ) (b : ℕ) (rest : List ℕ) → IsCut ditto bytes kind after → bytes ≡ b ∷ rest → (front : List ℕ) × HasShape kind (b ∷ front)
+pub cut_shape : (ditto : Bool) (bytes : List ℕ) (kind : Kind) (after : List ℕ) (b : ℕ) (rest : List ℕ) → IsCut ditto bytes kind after → bytes ≡ b ∷ rest → (front : List ℕ) × HasShape kind (b ∷ front)
 cut_shape ditto bytes kind after b rest cut starts =
     first_shape ditto b rest cut.front after kind (sym starts ∙ cut.split) (shape_of kind cut.front cut.token) cut.place
 
-cut_class : (ditto : Bool) (bytes : List ℕ) (kind : Kind) (after : List ℕ) (b : ℕ) (rest : List ℕ) → IsCut ditto bytes kind after → bytes ≡ b ∷ rest → class_of kind ≡ byte_class b
+pub cut_class : (ditto : Bool) (bytes : List ℕ) (kind : Kind) (after : List ℕ) (b : ℕ) (rest : List ℕ) → IsCut ditto bytes kind after → bytes ≡ b ∷ rest → class_of kind ≡ byte_class b
 cut_class ditto bytes kind after b rest cut starts =
     let shape = cut_shape ditto bytes kind after b rest cut starts in
     class_of-shape kind b shape.0 shape.1
+
+pub cut_front_some : (ditto : Bool) (bytes : List ℕ) (kind : Kind) (after : List ℕ) (cut : IsCut ditto bytes kind after) → cut.front ≡ [] → ⊥
+cut_front_some ditto bytes kind after cut empty =
+    shape_some ditto kind (subst (HasShape kind) empty (shape_of kind cut.front cut.token)) cut.place
 
 pub cut_some : (ditto : Bool) (bytes : List ℕ) (kind : Kind) (after : List ℕ) → IsCut ditto bytes kind after → bytes ≡ [] → ⊥
 cut_some ditto bytes kind after cut empty = no_front ditto cut.front after kind (sym empty ∙ cut.split) (shape_of kind cut.front cut.token) cut.place
