@@ -6,6 +6,7 @@ pub mod Numerals
 pub mod OneFault
 pub mod OneGap
 pub mod OneStep
+pub mod OneWay
 pub mod Quoted
 pub mod Runs
 pub mod Shapes
