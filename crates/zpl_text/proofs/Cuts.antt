@@ -81,8 +81,8 @@ word_cut ditto bytes kind starts token place =
       split = sym (take-append-drop n bytes);
       token = token;
       place = place;
-      longest = λ _ longer rest other same is may. word_longest (take n bytes) (drop n bytes) longer rest other (word_run bytes starts) (run_stops is_word_byte bytes) (take-append-drop n bytes ∙ same) (shape_of other longer is);
-      bars = λ bars. absurd (no_bars is_word_start bytes starts refl bars);
+      longest = λ _ other k at. word_longest (take n bytes) (drop n bytes) other at.at_front.0 k (word_run bytes starts) (run_stops is_word_byte bytes) (take-append-drop n bytes ∙ at.at_front.1) (shape_of k other at.token);
+      first_bar = λ bars. absurd (no_bars is_word_start bytes starts refl bars);
     }
 
 -- the longest run of digits
@@ -100,6 +100,6 @@ numeral_cut ditto bytes starts =
       split = sym (take-append-drop n bytes);
       token = (numeral, refl);
       place = tt;
-      longest = λ _ longer rest other same is may. numeral_longest (take n bytes) (drop n bytes) longer rest other numeral (run_stops is_ascii_digit bytes) (take-append-drop n bytes ∙ same) (shape_of other longer is);
-      bars = λ bars. absurd (no_bars is_ascii_digit bytes starts refl bars);
+      longest = λ _ other k at. numeral_longest (take n bytes) (drop n bytes) other at.at_front.0 k numeral (run_stops is_ascii_digit bytes) (take-append-drop n bytes ∙ at.at_front.1) (shape_of k other at.token);
+      first_bar = λ bars. absurd (no_bars is_ascii_digit bytes starts refl bars);
     }

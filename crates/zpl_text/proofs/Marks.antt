@@ -42,9 +42,9 @@ mark_token (b ∷ front) (Symbol s) mark token = (s, token)
 mark_token (b ∷ front) End mark token = absurd (nil≢cons token)
 
 -- so a front is empty or a symbol
-pub mark_front : (bytes front after : List ℕ) (kind : Kind) → FirstPasses is_mark bytes → bytes ≡ front ++ after → IsToken front kind → (front ≡ []) ⊎ ((s : Sym) × (front ≡ symbol_text s))
-mark_front bytes [] after kind mark same token = inl refl
-mark_front bytes (b ∷ front) after kind mark same token = inr (mark_token (b ∷ front) kind (subst (FirstPasses is_mark) same mark) token)
+pub mark_front : (bytes front : List ℕ) (kind : Kind) → FirstPasses is_mark bytes → BeginsWith front bytes → IsToken front kind → (front ≡ []) ⊎ ((s : Sym) × (front ≡ symbol_text s))
+mark_front bytes [] kind mark at_front token = inl refl
+mark_front bytes (b ∷ front) kind mark at_front token = inr (mark_token (b ∷ front) kind (subst (FirstPasses is_mark) at_front.1 mark) token)
 
 -- two bytes at the front are a symbol or none
 pub double_from_pair : (bytes : List ℕ) (s : Sym) → 2 ≤ length bytes → (BeginsWith (codes "|||") bytes → ⊥) → symbol_text s ≡ get_or bytes 0 0 ∷ get_or bytes 1 0 ∷ [] → IsDoubleAt bytes s
@@ -83,10 +83,10 @@ double_cut ditto bytes s mark double =
       split = double.at_front.1 ∙ ap (λ (xs : List ℕ). symbol_text s ++ xs) (sym rest);
       token = refl;
       place = tt;
-      longest = λ _ longer other kind same token may.
+      longest = λ _ other k at.
           ⊎_elim (λ empty. omega (arith, ap length empty)) (λ symbol. omega (arith, ap length symbol.1, (symbol_marked symbol.0).short, double.two))
-          (mark_front bytes longer other kind mark same token);
-      bars = λ bars. absurd (double.no_bars bars);
+          (mark_front bytes other k mark at.at_front at.token);
+      first_bar = λ bars. absurd (double.no_bars bars);
     }
 
 -- a symbol of one byte is where none of two is
@@ -96,11 +96,11 @@ single_cut ditto bytes s mark some single is = record {
   split = first_and_rest bytes (get_or bytes 0 0) some refl;
   token = sym is;
   place = tt;
-  longest = λ no_bars longer rest kind same token may.
+  longest = λ no_bars other k at.
       ⊎_elim (λ empty. omega (arith, ap length empty))
-      (λ symbol. omega (arith, ap length symbol.1, single no_bars symbol.0 (rest, same ∙ ap (λ (xs : List ℕ). xs ++ rest) symbol.1)))
-      (mark_front bytes longer rest kind mark same token);
-  bars = λ bars. ap (λ (xs : List ℕ). get_or xs 0 0 ∷ []) bars.1;
+      (λ symbol. omega (arith, ap length symbol.1, single no_bars symbol.0 (subst (λ (xs : List ℕ). BeginsWith xs bytes) symbol.1 at.at_front)))
+      (mark_front bytes other k mark at.at_front at.token);
+  first_bar = λ bars. ap (λ (xs : List ℕ). get_or xs 0 0 ∷ []) bars.1;
 }
 
 -- a text of one byte is the first
@@ -113,13 +113,13 @@ single_is bytes (b ∷ c ∷ text) (after, same) mark short = absurd (omega arit
 pub no_symbol : (bytes : List ℕ) → FirstPasses is_mark bytes → 0 < length bytes → AllAreSingle bytes → ((s : Sym) → symbol_text s ≡ get_or bytes 0 0 ∷ [] → ⊥) → BeginsNoToken bytes
 no_symbol bytes mark some single none = record {
   some = some;
-  none = λ front after kind same token.
+  none = λ front kind at_front token.
       let no_bars = λ (bars : BeginsWith (codes "|||") bytes). none Or (ap (λ (xs : List ℕ). get_or xs 0 0 ∷ []) (sym bars.1)) in
       ⊎_elim (λ empty. empty)
       (λ symbol.
-      let at_front : BeginsWith (symbol_text symbol.0) bytes = (after, same ∙ ap (λ (xs : List ℕ). xs ++ after) symbol.1) in
-      absurd (none symbol.0 (single_is bytes (symbol_text symbol.0) at_front (symbol_marked symbol.0).first (single no_bars symbol.0 at_front))))
-      (mark_front bytes front after kind mark same token);
+      let symbol_at = subst (λ (xs : List ℕ). BeginsWith xs bytes) symbol.1 at_front in
+      absurd (none symbol.0 (single_is bytes (symbol_text symbol.0) symbol_at (symbol_marked symbol.0).first (single no_bars symbol.0 symbol_at))))
+      (mark_front bytes front kind mark at_front token);
 }
 
 -- what a look-up of the first two bytes tells

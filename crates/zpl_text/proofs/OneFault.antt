@@ -23,10 +23,10 @@ use Rattle.zpl_text.proofs.Shapes.{HasShape, shape_of}
 -- where no token begins, none is cut off, and no string begins
 none_no_cut : (ditto : Bool) (bytes : List ℕ) (kind : Kind) (after : List ℕ) → BeginsNoToken bytes → IsCut ditto bytes kind after → ⊥
 none_no_cut ditto bytes kind after none cut =
-    cut_front_some ditto bytes kind after cut (none.none cut.front after kind cut.split cut.token)
+    cut_front_some ditto bytes kind after cut (none.none cut.front kind (after, cut.split) cut.token)
 
 none_no_quote : (bytes after : List ℕ) → BeginsNoToken bytes → bytes ≡ quote ∷ after → ⊥
-none_no_quote bytes after none starts = nil≢cons (none.none (quote ∷ []) after Ditto starts refl)
+none_no_quote bytes after none starts = nil≢cons (none.none (quote ∷ []) Ditto (after, starts) refl)
 
 -- what stands behind a body in a string
 quoted_unique : (bytes tail rest : List ℕ) → IsQuoted bytes tail → IsQuoted bytes rest → tail ≡ rest

@@ -110,13 +110,13 @@ module _ (ditto : Bool) (bytes : List ℕ) where
   cut_front kind other after rest one two =
       ⊎_elim
       (λ test.
-          let bars : BeginsWith (codes "|||") bytes = (drop 3 bytes, (starts_is Decides-eqb bytes (codes "|||") true (sym test)).0 refl) in
-          one.bars bars ∙ sym (two.bars bars))
+      let bars : BeginsWith (codes "|||") bytes = (drop 3 bytes, (starts_is Decides-eqb bytes (codes "|||") true (sym test)).0 refl) in
+      one.first_bar bars ∙ sym (two.first_bar bars))
       (λ test.
-          let no_bars : BeginsWith (codes "|||") bytes → ⊥ = λ bars. false≢true ((starts_is Decides-eqb bytes (codes "|||") false (sym test)).1 bars.0 bars.1) in
-          let short = one.longest no_bars two.front rest other two.split two.token two.place in
-          let long = two.longest no_bars one.front after kind one.split one.token one.place in
-          front_unique one.front two.front after rest (omega arith) (sym one.split ∙ two.split))
+      let no_bars : BeginsWith (codes "|||") bytes → ⊥ = λ bars. false≢true ((starts_is Decides-eqb bytes (codes "|||") false (sym test)).1 bars.0 bars.1) in
+      let short = one.longest no_bars two.front other (record { at_front = (rest, two.split); token = two.token; place = two.place }) in
+      let long = two.longest no_bars one.front kind (record { at_front = (after, one.split); token = one.token; place = one.place }) in
+      front_unique one.front two.front after rest (omega arith) (sym one.split ∙ two.split))
       (cases_Bool (starts_with nat_eq bytes (codes "|||")))
 
   -- one token at most is cut off

@@ -120,8 +120,8 @@ ditto_cut bytes some is =
       split = split;
       token = refl;
       place = refl;
-      longest = λ _ longer rest kind same token may. ditto_longest after longer rest kind (sym same ∙ split) token may;
-      bars = λ bars. absurd (no_bars_quoted bytes after split bars);
+      longest = λ _ other k at. ditto_longest after other at.at_front.0 k (sym at.at_front.1 ∙ split) at.token at.place;
+      first_bar = λ bars. absurd (no_bars_quoted bytes after split bars);
     }
 
 pub string_cut : (bytes tail : List ℕ) → IsQuoted bytes tail → true ≡ starts_with nat_eq tail (quote ∷ []) → IsCut false bytes Str (take (length tail - 1) (drop 1 tail))
@@ -134,8 +134,8 @@ string_cut bytes tail quoted ends =
       split = split ∙ ap (λ (xs : List ℕ). quote ∷ xs) (sym (append_assoc quoted.body (quote ∷ []) after));
       token = (quoted.body, quoted.within, refl);
       place = refl;
-      longest = λ _ longer rest kind same token may. string_longest quoted.body after longer rest kind quoted.within (sym same ∙ split) token may;
-      bars = λ bars. absurd (no_bars_quoted bytes (quoted.body ++ tail) quoted.split bars);
+      longest = λ _ other k at. string_longest quoted.body after other at.at_front.0 k quoted.within (sym at.at_front.1 ∙ split) at.token at.place;
+      first_bar = λ bars. absurd (no_bars_quoted bytes (quoted.body ++ tail) quoted.split bars);
     }
 
 pub string_open : (bytes tail : List ℕ) → IsQuoted bytes tail → EndsLine tail → IsOpenString bytes

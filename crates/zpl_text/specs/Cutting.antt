@@ -27,15 +27,25 @@ MayStand ditto Str = ditto ≡ false
 MayStand ditto End = ⊥
 MayStand ditto _ = Unit {0}
 
--- The front of the bytes that is cut off as a token: the longest one that is a token, or, where three
--- bars stand together, the first bar.
+-- three bars stand together here
+abbrev pub BeginsWithBars : List ℕ → Type 0
+BeginsWithBars bytes = BeginsWith (codes "|||") bytes
+
+-- a front of the bytes is a token, of a kind that may stand here
+pub record IsTokenAt (ditto : Bool) (bytes front : List ℕ) (kind : Kind) : Type 0 where
+  pub at_front : BeginsWith front bytes
+  pub token : IsToken front kind
+  pub place : MayStand ditto kind
+
+-- A token of the kind is cut off, and after is what follows: of the fronts that are tokens the longest,
+-- but of three bars the first by itself.
 pub record IsCut (ditto : Bool) (bytes : List ℕ) (kind : Kind) (after : List ℕ) : Type 0 where
   pub front : List ℕ
   pub split : bytes ≡ front ++ after
   pub token : IsToken front kind
   pub place : MayStand ditto kind
-  pub longest : (BeginsWith (codes "|||") bytes → ⊥) → (longer rest : List ℕ) (other : Kind) → bytes ≡ longer ++ rest → IsToken longer other → MayStand ditto other → length longer ≤ length front
-  pub bars : BeginsWith (codes "|||") bytes → front ≡ codes "|"
+  pub longest : ¬ BeginsWithBars bytes → (other : List ℕ) (k : Kind) → IsTokenAt ditto bytes other k → length other ≤ length front
+  pub first_bar : BeginsWithBars bytes → front ≡ codes "|"
 
 -- the greatest integer
 abbrev pub greatest : ℤ
@@ -56,25 +66,26 @@ begins_exponent b = is_ascii_digit b || b == 43 || b == 45
 -- an exponent and how an exponent goes on.
 abbrev pub IsFloatTail : List ℕ → Type 0
 IsFloatTail [] = ⊥
-IsFloatTail (b ∷ after) = (IsTrue (is_dot b) × (FirstPasses is_dot after → ⊥)) ⊎ (IsTrue (is_exponent_mark b) × FirstPasses begins_exponent after)
+IsFloatTail (b ∷ after) =
+    (IsTrue (is_dot b) × ¬ FirstPasses is_dot after) ⊎ (IsTrue (is_exponent_mark b) × FirstPasses begins_exponent after)
 
 -- a number is no float's beginning, and at most the greatest integer
 abbrev pub IsSound : Kind → List ℕ → Type 0
-IsSound (Number n) after = (IsFloatTail after → ⊥) × (n ≤ℤ greatest)
+IsSound (Number n) after = ¬ IsFloatTail after × (n ≤ℤ greatest)
 IsSound _ after = Unit {0}
 
--- there are bytes, and no front of them is a token
+-- there are bytes, and no front of them is a token, but the empty one, the end
 pub record BeginsNoToken (bytes : List ℕ) : Type 0 where
   pub some : 0 < length bytes
-  pub none : (front after : List ℕ) (kind : Kind) → bytes ≡ front ++ after → IsToken front kind → front ≡ []
+  pub none : (front : List ℕ) (kind : Kind) → BeginsWith front bytes → IsToken front kind → front ≡ []
 
 -- where no three bars stand together, no symbol at the front has two bytes
 abbrev pub AllAreSingle : List ℕ → Type 0
-AllAreSingle bytes = (BeginsWith (codes "|||") bytes → ⊥) → (symbol : Sym) → BeginsWith (symbol_text symbol) bytes → length (symbol_text symbol) ≤ 1
+AllAreSingle bytes = ¬ BeginsWithBars bytes → (symbol : Sym) → BeginsWith (symbol_text symbol) bytes → length (symbol_text symbol) ≤ 1
 
 -- no three bars stand together, and at the front is this symbol of two bytes
 pub record IsDoubleAt (bytes : List ℕ) (symbol : Sym) : Type 0 where
-  pub no_bars : BeginsWith (codes "|||") bytes → ⊥
+  pub no_bars : ¬ BeginsWithBars bytes
   pub at_front : BeginsWith (symbol_text symbol) bytes
   pub two : length (symbol_text symbol) ≡ 2
 
@@ -86,12 +97,12 @@ pub record IsOpenString (bytes : List ℕ) : Type 0 where
   pub within : IsBody body
   pub ends : EndsLine rest
 
--- a string begins here, and a backslash in it with `after` behind it is no escape
+-- a string begins here, and in it a backslash, which with after behind it is no escape
 pub record IsBadEscape (bytes after : List ℕ) : Type 0 where
   pub body : List ℕ
   pub split : bytes ≡ quote ∷ (body ++ backslash ∷ after)
   pub within : IsBody body
-  pub unknown : FirstPasses is_escape after → ⊥
+  pub unknown : ¬ FirstPasses is_escape after
 
 -- how many bytes of the text stand before its rest
 abbrev pub offset_of : List ℕ → List ℕ → ℕ
@@ -103,5 +114,5 @@ pub data IsWrong (text : List ℕ) (ditto : Bool) (rest : List ℕ) : LexFault �
   bad_escape : {after : List ℕ} → ditto ≡ false → IsBadEscape rest after → IsWrong text ditto rest (BadByte (offset_of text (backslash ∷ after)))
   open_comment : IsOpenComment rest → IsWrong text ditto rest (OpenComment (offset_of text rest))
   open_string : ditto ≡ false → IsOpenString rest → IsWrong text ditto rest (OpenString (offset_of text rest))
-  too_large : {n : ℤ} {after : List ℕ} → IsCut ditto rest (Number n) after → (IsFloatTail after → ⊥) → greatest <ℤ n → IsWrong text ditto rest (NumberTooLarge (offset_of text rest))
+  too_large : {n : ℤ} {after : List ℕ} → IsCut ditto rest (Number n) after → ¬ IsFloatTail after → greatest <ℤ n → IsWrong text ditto rest (NumberTooLarge (offset_of text rest))
   float_text : {n : ℤ} {after : List ℕ} → IsCut ditto rest (Number n) after → IsFloatTail after → IsWrong text ditto rest (FloatText (offset_of text rest))

@@ -35,15 +35,16 @@ abbrev pub BeginsPlain : List ℕ → Type 0
 BeginsPlain [] = ⊥
 BeginsPlain (b ∷ after) = (b ≢ quote) × (b ≢ newline) × (b ≢ backslash)
 
--- Bytes begin with the body of a string, which can't go on at `after`, what follows.
+-- Bytes begin with the body of a string, and it can't go on with after, which is what follows.
 pub record IsWholeBody (bytes after : List ℕ) : Type 0 where
   pub body : List ℕ
   pub split : bytes ≡ body ++ after
   pub within : IsBody body
-  pub no_escape : BeginsEscape after → ⊥
-  pub no_plain : BeginsPlain after → ⊥
+  pub no_escape : ¬ BeginsEscape after
+  pub no_plain : ¬ BeginsPlain after
 
--- A number may have any size here: that one over the greatest integer is a fault is said where tokens are cut.
+-- The bytes, all of them, are a token of the kind. A number may have any size here: where tokens are cut
+-- off, one over the greatest integer is a fault. The end is no bytes.
 abbrev pub IsToken : List ℕ → Kind → Type 0
 IsToken bytes Name = IsWord bytes × ((k : Key) → bytes ≢ keyword_text k)
 IsToken bytes (Number n) = IsNumeral bytes × (n ≡ pos (digits_value 10 bytes))

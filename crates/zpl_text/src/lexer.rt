@@ -1,5 +1,6 @@
 //! The whole text.
-ghost use Rattle.std.specs.Prelude.{◌≡◌, ◌≤◌, ◌<◌, ◌⊎◌, [], Bool, List, Ok, Err, length, MatchResult, MatchOption, IfOk, IfSome, OnOk, IfErr, IsOkUnless};
+ghost use Rattle.std.specs.Prelude.{◌≡◌, ◌≤◌, ◌<◌, ◌⊎◌, [], Bool, List, Ok, Err, length, MatchResult, MatchOption, IfOk, IfSome, OnOk, IfErr, IsOkUnless, vec_len};
+ghost use Rattle.std.specs.Vec.{vec_capacity};
 ghost use Rattle.zpl_text.specs.declared.tokens.Token.{Token as Cutting};
 ghost use Rattle.zpl_text.specs.declared.faults.LexFault.{LexFault as Fault};
 ghost use Rattle.zpl_text.specs.declared.faults.LexFault.TheVariants.{NoMemory};
@@ -27,6 +28,9 @@ pub fn lex(alloc: Global, bytes: &[u8], into: &mut Vec<Token>) -> Result<(), Lex
     ensures ok { OnOk result (Appends into.old.items into.new.items (IsTokens bytes.now)) }
     ensures err { IfErr result
         (λ fault. Appends into.old.items into.new.items (Refuses bytes.now fault)) }
+
+    // Memory runs out only where the tokens have filled the room that there was.
+    ensures full { result ≡ Err NoMemory → vec_capacity into.old ≤ vec_len into.new }
 
     // When each answer comes: as the text has tokens or a fault, unless memory runs out.
     ensures accepts { (tokens : List Cutting) → IsTokens bytes.now tokens → IsOkUnless result NoMemory }
