@@ -1,6 +1,7 @@
 pub mod Bodies
 pub mod Comments
 pub mod Cuts
+pub mod InOrder
 pub mod Lexing
 pub mod Marks
 pub mod Numerals

@@ -50,7 +50,7 @@ IsStop-nil : IsStop []
 IsStop-nil = record { no_white = λ is. is; no_line = λ after comment. nil≢cons (sym comment.split); no_block = λ after comment. nil≢cons (sym comment.split) }
 
 -- where a cutting ends no token is cut off
-ends_no_step : {text : List ℕ} {here next : Place} {t : Token} {end : Option LexFault} → Ends text here end → Takes text here t next → ⊥
+pub ends_no_step : {text : List ℕ} {here next : Place} {t : Token} {end : Option LexFault} → Ends text here end → Takes text here t next → ⊥
 ends_no_step {here = here} {next = next} {t = t} (whole gap) step =
     cut_some here.ditto step.begin t.kind next.rest step.cut (Skips-unique step.skips gap (IsStop-past_gap step.begin step.past_gap) IsStop-nil)
 ends_no_step {text = text} {here = here} (faulty {fault = fault} at) step =

@@ -2,4 +2,5 @@ pub mod Bytes
 pub mod Kinds
 pub mod Gaps
 pub mod Cutting
+pub mod Spans
 pub mod Tokens
