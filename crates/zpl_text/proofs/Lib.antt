@@ -1,6 +1,7 @@
 pub mod Bodies
 pub mod Comments
 pub mod Cuts
+pub mod Examples
 pub mod InOrder
 pub mod Lexing
 pub mod Marks
