@@ -1,8 +1,7 @@
 -- Bodies of strings, part by part.
-use Rattle.std.proofs.Common.{◌≡◌, ℕ, ◌-◌, List, [], ◌∷◌, ◌++◌, length, take, drop, IsTrue, append_assoc, refl, sym, ap, ◌∙◌}
+use Rattle.std.proofs.Common.{◌≡◌, ℕ, ◌-◌, List, [], ◌∷◌, ◌++◌, length, take, drop, append_assoc, refl, sym, ◌∙◌}
 use Rattle.std.proofs.lemmas.List.{take_rest}
-use Rattle.zpl_text.specs.Bytes.{backslash, is_escape}
-use Rattle.zpl_text.specs.Kinds.{IsBody, nothing, plain, escape, BeginsEscape, BeginsPlain, IsWholeBody}
+use Rattle.zpl_text.specs.Kinds.{IsBody, nothing, plain, escape, BeginsEscape, BeginsPlain}
 
 -- bytes are a body and this rest
 pub record IsBodyUpTo (bytes rest : List ℕ) : Type 0 where

@@ -1,17 +1,17 @@
 -- Fronts of bytes that are cut off as tokens.
-use Rattle.std.proofs.Common.{◌≡◌, ℕ, zero, suc, ◌+◌, ◌<◌, ◌≤◌, pos, Bool, true, false, List, [], ◌∷◌, ◌++◌, length, take, drop, codes, refl, sym, ap, subst, ◌∙◌, arith}
+use Rattle.std.proofs.Common.{◌≡◌, ℕ, zero, suc, ◌<◌, ◌≤◌, pos, Bool, true, false, List, [], ◌∷◌, ◌++◌, length, take, drop, codes, refl, sym, subst, ◌∙◌, arith}
 use Rattle.std.specs.List.{list_all, prefix_len}
 use Rattle.std.specs.Str.Parse.{digits_value}
 use Rattle.std.proofs.lemmas.List.{take-append-drop}
 use Rattle.std.specs.Char.{is_ascii_digit}
-use Rattle.std.proofs.lemmas.Bool.{false≢true, true≢false, both_ways, or_left, and_from, and_parts}
+use Rattle.std.proofs.lemmas.Bool.{both_ways, or_left, and_from, and_parts}
 use Rattle.zpl_tokens.specs.declared.Kind.{Kind}
 use Rattle.zpl_tokens.specs.declared.Kind.TheVariants.{Name, Number, Str, Ditto, Symbol, Word, End}
-use Rattle.zpl_text.specs.Bytes.{quote, is_word_start, is_word_byte, BeginsWith, FirstPasses}
-use Rattle.zpl_text.specs.Kinds.{IsWord, IsNumeral, IsBody, IsToken}
+use Rattle.zpl_text.specs.Bytes.{is_word_start, is_word_byte, BeginsWith, FirstPasses}
+use Rattle.zpl_text.specs.Kinds.{IsWord, IsNumeral, IsToken}
 use Rattle.zpl_text.specs.Cutting.{MayStand, IsCut}
 use Rattle.zpl_text.proofs.Runs.{run_longest, run_passes, run_stops, run_some, FirstPasses-weaker}
-use Rattle.zpl_text.proofs.Shapes.{HasShape, IsMarked, is_mark, shape_of, apart_word_digit, apart_word_quote, apart_digit_quote, apart_mark_word, apart_mark_digit, apart_mark_quote}
+use Rattle.zpl_text.proofs.Shapes.{HasShape, is_mark, shape_of, apart_word_digit, apart_word_quote, apart_digit_quote, apart_mark_word, apart_mark_digit}
 
 -- two lists that begin alike have one first element
 pub heads : {b c : ℕ} {xs ys : List ℕ} → b ∷ xs ≡ c ∷ ys → b ≡ c

@@ -1,15 +1,13 @@
 -- A few rows of the rules, worked by hand.
-use Rattle.std.proofs.Common.{◌≡◌, ℕ, ◌≤◌, Bool, true, false, List, [], ◌∷◌, ◌++◌, length, codes, pos, refl, arith, inl, inr}
-use Rattle.zpl_tokens.specs.declared.Kind.{Kind}
-use Rattle.zpl_tokens.specs.declared.Kind.TheVariants.{Name, Number, Str, Ditto, Symbol, Word, End}
+use Rattle.std.proofs.Common.{◌≡◌, ℕ, true, false, List, [], ◌∷◌, ◌++◌, codes, pos, refl, arith, inl}
+use Rattle.zpl_tokens.specs.declared.Kind.TheVariants.{Number, Str, Ditto, Symbol, Word, End}
 use Rattle.zpl_tokens.specs.declared.keywords.Key.TheVariants.{Of}
-use Rattle.zpl_tokens.specs.declared.symbols.Sym.TheVariants.{OpenBracket, DotDot, Scan, Or}
-use Rattle.zpl_text.specs.declared.tokens.Token.{Token}
-use Rattle.zpl_text.specs.declared.faults.LexFault.TheVariants.{FloatText, OpenComment, BadByte}
+use Rattle.zpl_tokens.specs.declared.symbols.Sym.TheVariants.{OpenBracket, Or}
+use Rattle.zpl_text.specs.declared.faults.LexFault.TheVariants.{FloatText}
 use Rattle.zpl_text.specs.Kinds.{IsToken, nothing, plain, escape}
 use Rattle.zpl_text.specs.Gaps.{IsLineComment, IsBlockComment, IsPastGap, Skips, white, line}
 use Rattle.zpl_text.specs.Gaps as gaps
-use Rattle.zpl_text.specs.Cutting.{opens_ditto, IsCut, float_text, open_comment}
+use Rattle.zpl_text.specs.Cutting.{opens_ditto, float_text}
 use Rattle.zpl_text.specs.Tokens.{Place, Takes, token, start, end_of, IsTokens, HasFault}
 use Rattle.zpl_text.specs.Tokens as cutting
 use Rattle.std.proofs.lemmas.Bool.{both_ways}

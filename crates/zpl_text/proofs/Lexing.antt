@@ -1,11 +1,11 @@
 -- The lexer's loop.
-use Rattle.std.proofs.Common.{◌≡◌, ℕ, ◌≤◌, Bool, List, [], ◌∷◌, ◌++◌, length, refl, sym, ap, subst, ◌∙◌, append_assoc}
+use Rattle.std.proofs.Common.{◌≡◌, ℕ, ◌≤◌, List, [], ◌∷◌, ◌++◌, length, refl, sym, ap, ◌∙◌, append_assoc}
 use Rattle.std.proofs.lemmas.List.{append-nil}
 use Rattle.zpl_text.specs.declared.tokens.Token.{Token}
 use Rattle.zpl_text.specs.declared.faults.LexFault.{LexFault}
-use Rattle.zpl_text.specs.declared.faults.LexFault.TheVariants.{BadByte, OpenComment, OpenString, NumberTooLarge, FloatText, NoMemory}
+use Rattle.zpl_text.specs.declared.faults.LexFault.TheVariants.{NoMemory}
 use Rattle.zpl_text.specs.Gaps.{Skips}
-use Rattle.zpl_text.specs.Tokens.{Place, Takes, Cuts, nothing, token, start, end_of, IsFound, IsTokens, IsFaultAt, HasFault, Appends, Refuses}
+use Rattle.zpl_text.specs.Tokens.{Place, Takes, Cuts, nothing, token, start, end_of, IsTokens, IsFaultAt, HasFault, Appends, Refuses}
 
 -- now is before with the tokens up to a place behind it
 pub record IsCutUpTo (text : List ℕ) (before now : List Token) (here : Place) : Type 0 where

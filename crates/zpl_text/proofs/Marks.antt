@@ -1,5 +1,5 @@
 -- Symbols at the front of bytes.
-use Rattle.std.proofs.Common.{◌≡◌, ℕ, zero, suc, ◌+◌, ◌-◌, ◌<◌, ◌≤◌, Bool, true, false, not, ◌&&◌, List, [], ◌∷◌, ◌++◌, length, get_or, take, drop, codes, refl, sym, ap, subst, ◌∙◌, arith, ◌⊎◌, inl, inr, ⊎_elim, nat_eq, Option, Some, None, MatchOption}
+use Rattle.std.proofs.Common.{◌≡◌, ℕ, ◌-◌, ◌<◌, ◌≤◌, Bool, true, false, not, List, [], ◌∷◌, ◌++◌, length, get_or, take, drop, codes, refl, sym, ap, subst, ◌∙◌, arith, ◌⊎◌, inl, inr, ⊎_elim, nat_eq, Option, Some, None, MatchOption}
 use Rattle.std.specs.Prelude.{◌==◌}
 use Rattle.std.specs.Char.{is_ascii_digit}
 use Rattle.std.specs.List.{list_all, starts_with}
@@ -14,7 +14,7 @@ use Rattle.zpl_tokens.specs.declared.symbols.Sym.TheVariants.{Or}
 use Rattle.zpl_tokens.specs.Sym.{symbol_text}
 use Rattle.zpl_text.specs.Bytes.{quote, is_word_byte, BeginsWith, FirstPasses}
 use Rattle.zpl_text.specs.Kinds.{IsToken}
-use Rattle.zpl_text.specs.Cutting.{MayStand, IsCut, AllAreSingle, IsDoubleAt, BeginsNoToken}
+use Rattle.zpl_text.specs.Cutting.{IsCut, AllAreSingle, IsDoubleAt, BeginsNoToken}
 use Rattle.zpl_text.proofs.Cuts.{heads, nil≢cons}
 use Rattle.zpl_text.proofs.Quoted.{first_and_rest}
 use Rattle.zpl_text.proofs.Shapes.{HasShape, is_mark, shape_of, symbol_marked, apart_mark_word, apart_mark_digit, apart_mark_quote}

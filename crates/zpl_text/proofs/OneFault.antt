@@ -1,24 +1,23 @@
 -- At a place there is one fault at most, and none where a token is cut off.
-use Rattle.std.proofs.Common.{◌≡◌, ℕ, ℤ, ◌+◌, ◌-◌, ◌<◌, ◌≤◌, Bool, true, false, List, [], ◌∷◌, ◌++◌, length, codes, pos, ◌<ℤ◌, ◌≤ℤ◌, refl, sym, ap, subst, ◌∙◌, arith, append_assoc, length-append}
+use Rattle.std.proofs.Common.{◌≡◌, ℕ, ℤ, Bool, true, false, List, [], ◌∷◌, ◌++◌, length, codes, refl, sym, ap, subst, ◌∙◌, arith, append_assoc}
 use Rattle.std.specs.List.{list_all}
 use Rattle.std.specs.Char.{is_ascii_digit}
-use Rattle.std.proofs.lemmas.Bool.{false≢true, true≢false, both_ways, and_parts}
+use Rattle.std.proofs.lemmas.Bool.{false≢true, both_ways, and_parts}
 use Rattle.std.proofs.lemmas.Bool.Decides.{nat_tests}
 use Rattle.std.proofs.lemmas.Int.{ints}
 use Rattle.std.proofs.lemmas.List.{append_cancel_left}
 use Rattle.zpl_tokens.specs.declared.Kind.{Kind}
-use Rattle.zpl_tokens.specs.declared.Kind.TheVariants.{Name, Number, Str, Ditto, Symbol, Word, End}
+use Rattle.zpl_tokens.specs.declared.Kind.TheVariants.{Number, Str, Ditto}
 use Rattle.zpl_text.specs.declared.faults.LexFault.{LexFault}
-use Rattle.zpl_text.specs.declared.faults.LexFault.TheVariants.{BadByte, OpenComment, OpenString, NumberTooLarge, FloatText}
-use Rattle.zpl_text.specs.Bytes.{quote, newline, backslash, is_white, is_escape, BeginsWith, FirstPasses, StandsIn, EndsLine}
-use Rattle.zpl_text.specs.Kinds.{IsBody, BeginsEscape, BeginsPlain, IsToken}
-use Rattle.zpl_text.specs.Gaps.{IsLineComment, IsBlockComment, IsOpenComment, IsPastGap}
-use Rattle.zpl_text.specs.Cutting.{MayStand, IsCut, IsSound, IsFloatTail, greatest, BeginsNoToken, IsOpenString, IsBadEscape, offset_of, IsWrong, no_token, bad_escape, open_comment, open_string, too_large, float_text}
+use Rattle.zpl_text.specs.declared.faults.LexFault.TheVariants.{BadByte}
+use Rattle.zpl_text.specs.Bytes.{quote, newline, backslash, is_white, is_escape, FirstPasses, StandsIn, EndsLine}
+use Rattle.zpl_text.specs.Kinds.{IsToken}
+use Rattle.zpl_text.specs.Gaps.{IsOpenComment, IsPastGap}
+use Rattle.zpl_text.specs.Cutting.{MayStand, IsCut, IsSound, IsFloatTail, BeginsNoToken, IsOpenString, IsBadEscape, offset_of, IsWrong, no_token, bad_escape, open_comment, open_string, too_large, float_text}
 use Rattle.zpl_text.proofs.Cuts.{heads, nil≢cons}
 use Rattle.zpl_text.proofs.OneGap.{IsStop, IsStop-past_gap}
 use Rattle.zpl_text.proofs.OneStep.{class_of, byte_class, cut_kind, cut_after, cut_shape, cut_class, cut_front_some, cut_some}
 use Rattle.zpl_text.proofs.Quoted.{StopsBody, StopsBody-quote, body_unique, IsQuoted}
-use Rattle.zpl_text.proofs.Shapes.{HasShape, shape_of}
 
 -- where no token begins, none is cut off, and no string begins
 none_no_cut : (ditto : Bool) (bytes : List ℕ) (kind : Kind) (after : List ℕ) → BeginsNoToken bytes → IsCut ditto bytes kind after → ⊥

@@ -1,10 +1,10 @@
 -- A gap ends at one place.
-use Rattle.std.proofs.Common.{◌≡◌, ℕ, ◌+◌, ◌≤◌, Bool, true, false, IsTrue, List, [], ◌∷◌, ◌++◌, codes, refl, sym, ap, subst, ◌∙◌, arith, length}
+use Rattle.std.proofs.Common.{◌≡◌, ℕ, true, false, IsTrue, List, [], ◌∷◌, ◌++◌, codes, refl, sym, ap, subst, ◌∙◌, arith}
 use Rattle.std.specs.Prelude.{◌≢◌}
 use Rattle.std.specs.List.{AllByRecursion}
 use Rattle.std.proofs.lemmas.Bool.{both_ways}
-use Rattle.zpl_text.specs.Bytes.{newline, is_white, BeginsWith, FirstPasses, StandsIn, EndsLine}
-use Rattle.zpl_text.specs.Gaps.{IsLineComment, IsBlockComment, IsOpenComment, Skips, nothing, white, line, block, IsPastGap}
+use Rattle.zpl_text.specs.Bytes.{newline, is_white, FirstPasses, StandsIn, EndsLine}
+use Rattle.zpl_text.specs.Gaps.{IsLineComment, IsBlockComment, Skips, nothing, white, line, block, IsPastGap}
 use Rattle.zpl_text.proofs.Cuts.{heads}
 
 -- no white space and no comment can be skipped here

@@ -1,28 +1,19 @@
 -- At a place there is one step or one fault, and not both.
-use Rattle.std.proofs.Common.{◌≡◌, ℕ, ℤ, zero, suc, ◌+◌, ◌-◌, ◌<◌, ◌≤◌, Bool, true, false, IsTrue, List, [], ◌∷◌, ◌++◌, length, take, drop, codes, pos, ◌<ℤ◌, ◌≤ℤ◌, refl, sym, ap, subst, ◌∙◌, arith, ◌⊎◌, inl, inr, ⊎_elim, nat_eq, if◌then◌else◌}
+use Rattle.std.proofs.Common.{◌≡◌, ℕ, Bool, true, false, List, [], ◌∷◌, ◌++◌, length, take, drop, codes, refl, sym, ap, subst, ◌∙◌, arith, ⊎_elim, nat_eq, if◌then◌else◌}
 use Rattle.std.specs.Prelude.{◌==◌}
 use Rattle.std.specs.List.{list_all, starts_with}
 use Rattle.std.specs.Char.{is_ascii_digit}
-use Rattle.std.specs.Str.Parse.{digits_value}
-use Rattle.std.proofs.lemmas.Bool.{false≢true, true≢false, both_ways, cases_Bool, and_parts, eqb-true, cond-true, cond-false, false_from_ne_true}
+use Rattle.std.proofs.lemmas.Bool.{false≢true, both_ways, cases_Bool, and_parts, eqb-true, cond-true, cond-false, false_from_ne_true}
 use Rattle.std.proofs.lemmas.Bool.Decides.{Decides-eqb}
-use Rattle.std.proofs.lemmas.Int.{ints}
 use Rattle.std.proofs.lemmas.List.{append_cancel_left, take_at}
 use Rattle.std.proofs.lemmas.Slice.Eq.{starts_is}
 use Rattle.zpl_tokens.specs.declared.Kind.{Kind}
 use Rattle.zpl_tokens.specs.declared.Kind.TheVariants.{Name, Number, Str, Ditto, Symbol, Word, End}
-use Rattle.zpl_tokens.specs.Key.{keyword_text}
-use Rattle.zpl_tokens.specs.Sym.{symbol_text}
-use Rattle.zpl_text.specs.declared.faults.LexFault.{LexFault}
-use Rattle.zpl_text.specs.declared.faults.LexFault.TheVariants.{BadByte, OpenComment, OpenString, NumberTooLarge, FloatText}
-use Rattle.zpl_text.specs.Bytes.{quote, newline, backslash, is_white, is_word_start, is_escape, BeginsWith, FirstPasses, EndsLine}
-use Rattle.zpl_text.specs.Kinds.{IsBody, IsToken}
-use Rattle.zpl_text.specs.Gaps.{IsOpenComment, IsPastGap}
-use Rattle.zpl_text.specs.Cutting.{MayStand, IsCut, IsSound, IsFloatTail, greatest, BeginsNoToken, IsOpenString, IsBadEscape, offset_of, IsWrong, no_token, bad_escape, open_comment, open_string, too_large, float_text}
+use Rattle.zpl_text.specs.Bytes.{quote, is_word_start, BeginsWith}
+use Rattle.zpl_text.specs.Kinds.{IsToken}
+use Rattle.zpl_text.specs.Cutting.{MayStand, IsCut}
 use Rattle.zpl_text.proofs.Cuts.{heads, nil≢cons}
-use Rattle.zpl_text.proofs.OneGap.{IsStop, IsStop-past_gap}
-use Rattle.zpl_text.proofs.Quoted.{StopsBody, StopsBody-quote, body_unique}
-use Rattle.zpl_text.proofs.Shapes.{HasShape, is_mark, shape_of, apart_word_digit, apart_word_quote, apart_digit_quote, apart_mark_word, apart_mark_digit, apart_mark_quote}
+use Rattle.zpl_text.proofs.Shapes.{HasShape, is_mark, shape_of, apart_word_digit, apart_word_quote, apart_digit_quote, apart_mark_word, apart_mark_digit}
 use Rattle.zpl_text.proofs.Written.{keyword_text_injective, symbol_text_injective}
 
 -- what a first byte begins: 1 a word, 2 a number, 3 a string or ditto, 4 a symbol

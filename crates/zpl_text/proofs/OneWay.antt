@@ -1,12 +1,11 @@
 -- A text is cut one way.
-use Rattle.std.proofs.Common.{◌≡◌, ℕ, Bool, List, [], ◌∷◌, ◌++◌, length, Option, Some, None, refl, sym, ap, subst, ◌∙◌}
+use Rattle.std.proofs.Common.{◌≡◌, ℕ, List, [], ◌∷◌, ◌++◌, Option, Some, None, refl, sym, ap, subst, ◌∙◌}
 use Rattle.std.proofs.lemmas.Option.{none-some, same_Some}
-use Rattle.zpl_tokens.specs.declared.Kind.{Kind}
 use Rattle.zpl_text.specs.declared.tokens.Token.{Token}
 use Rattle.zpl_text.specs.declared.faults.LexFault.{LexFault}
-use Rattle.zpl_text.specs.Gaps.{IsLineComment, IsBlockComment, Skips, IsPastGap}
-use Rattle.zpl_text.specs.Cutting.{opens_ditto, IsCut, IsSound, offset_of, IsWrong}
-use Rattle.zpl_text.specs.Tokens.{Place, Takes, Cuts, nothing, token, start, end_of, IsTokens, IsFaultAt, HasFault}
+use Rattle.zpl_text.specs.Gaps.{Skips}
+use Rattle.zpl_text.specs.Cutting.{opens_ditto, IsCut, offset_of, IsWrong}
+use Rattle.zpl_text.specs.Tokens.{Place, Takes, Cuts, nothing, token, end_of, IsTokens, IsFaultAt, HasFault}
 use Rattle.zpl_text.proofs.Cuts.{nil≢cons}
 use Rattle.zpl_text.proofs.OneGap.{IsStop, IsStop-past_gap, Skips-unique}
 use Rattle.zpl_text.proofs.OneStep.{cut_kind, cut_after, cut_some}

@@ -1,5 +1,5 @@
 -- Strings and dittos at the front of bytes.
-use Rattle.std.proofs.Common.{◌≡◌, ℕ, zero, suc, ◌+◌, ◌-◌, ◌<◌, ◌≤◌, Bool, true, false, List, [], ◌∷◌, ◌++◌, length, get_or, take, drop, codes, refl, sym, ap, subst, ◌∙◌, arith, append_assoc, length-append, ◌⊎◌, inl, inr, ⊎_elim, nat_eq}
+use Rattle.std.proofs.Common.{◌≡◌, ℕ, ◌-◌, ◌<◌, ◌≤◌, true, false, List, [], ◌∷◌, ◌++◌, length, get_or, take, drop, codes, refl, sym, ap, subst, ◌∙◌, arith, append_assoc, length-append, ◌⊎◌, inl, inr, ⊎_elim, nat_eq}
 use Rattle.std.specs.Char.{is_ascii_digit}
 use Rattle.std.specs.List.{list_all, starts_with}
 use Rattle.std.proofs.lemmas.Bool.Decides.{Decides-eqb}
@@ -9,7 +9,7 @@ use Rattle.std.proofs.lemmas.List.{take_rest}
 use Rattle.zpl_tokens.specs.declared.Kind.{Kind}
 use Rattle.zpl_tokens.specs.declared.Kind.TheVariants.{Name, Number, Str, Ditto, Symbol, Word, End}
 use Rattle.zpl_text.specs.declared.faults.LexFault.TheVariants.{BadByte}
-use Rattle.zpl_text.specs.Bytes.{quote, newline, backslash, is_escape, BeginsWith, FirstPasses, EndsLine}
+use Rattle.zpl_text.specs.Bytes.{quote, backslash, is_escape, BeginsWith, FirstPasses, EndsLine}
 use Rattle.zpl_text.specs.Kinds.{IsBody, nothing, plain, escape, BeginsEscape, BeginsPlain, IsWholeBody, IsToken}
 use Rattle.zpl_text.specs.Cutting.{MayStand, IsCut, IsOpenString, IsBadEscape, offset_of, IsWrong, bad_escape}
 use Rattle.zpl_text.proofs.Cuts.{heads, nil≢cons}

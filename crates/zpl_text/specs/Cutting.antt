@@ -2,7 +2,7 @@
 use Rattle.std.specs.Prelude.{◌≡◌, ℕ, ◌-◌, ◌<◌, ◌≤◌, ◌^◌, ℤ, pos, ◌<ℤ◌, ◌≤ℤ◌, Bool, true, false, ◌==◌, ◌||◌, ◌⊎◌, List, [], ◌∷◌, ◌++◌, length, codes, IsTrue}
 use Rattle.std.specs.Char.{is_ascii_digit}
 use Rattle.zpl_tokens.specs.declared.Kind.{Kind}
-use Rattle.zpl_tokens.specs.declared.Kind.TheVariants.{Name, Number, Str, Ditto, Symbol, Word, End}
+use Rattle.zpl_tokens.specs.declared.Kind.TheVariants.{Number, Str, Ditto, Symbol, Word, End}
 use Rattle.zpl_tokens.specs.declared.symbols.Sym.{Sym}
 use Rattle.zpl_tokens.specs.declared.symbols.Sym.TheVariants.{OpenBracket}
 use Rattle.zpl_tokens.specs.declared.keywords.Key.TheVariants.{Of, In}

@@ -1,5 +1,5 @@
 -- What may stand between two tokens: white space and comments.
-use Rattle.std.specs.Prelude.{◌≡◌, ◌≢◌, ℕ, List, [], ◌∷◌, ◌++◌, IsTrue, codes}
+use Rattle.std.specs.Prelude.{◌≡◌, ◌≢◌, ℕ, List, ◌∷◌, ◌++◌, IsTrue, codes}
 use Rattle.std.specs.List.{AllByRecursion}
 use Rattle.zpl_text.specs.Bytes.{newline, is_white, BeginsWith, FirstPasses, StandsIn, EndsLine}
 

@@ -5,7 +5,7 @@ use Rattle.zpl_text.specs.declared.faults.LexFault.{LexFault}
 use Rattle.zpl_text.specs.Cutting.{opens_ditto}
 use Rattle.zpl_text.specs.Tokens.{Place, HasFault}
 use Rattle.zpl_text.proofs.OneWay.{not_both, fault_unique}
-use Rattle.zpl_text.proofs.Lexing.{IsCutUpTo-none, IsCutUpTo-more, appends_tokens, appends_found, appends_refused, has_fault}
+use Rattle.zpl_text.proofs.Lexing.{IsCutUpTo-none, IsCutUpTo-more, appends_tokens, has_fault}
 use Rattle.zpl_text.proofs.lexer.lex.Goals as goal
 use Rattle.zpl_text.proofs.lexer.lex.Goals.{In_err-token}
 

@@ -1,4 +1,4 @@
-use Rattle.std.proofs.Common.{◌≡◌, ℕ, ℤ, Bool, w64, take, drop, pos, refl, sym, ap, subst, ◌∙◌, arith}
+use Rattle.std.proofs.Common.{◌≡◌, ℕ, ℤ, Bool, w64, take, pos, sym, ap, subst, ◌∙◌, arith}
 use mir.Val.{SFits}
 use Rattle.std.specs.List.{prefix_len}
 use Rattle.std.specs.Char.{is_ascii_digit}
@@ -7,7 +7,7 @@ use Rattle.std.proofs.lemmas.Bool.{false≢true}
 use Rattle.std.proofs.lemmas.Int.{ints, to_z-of_z}
 use Rattle.std.proofs.lemmas.List.Sums.{prefix_len-le-length}
 use Rattle.zpl_tokens.specs.declared.Kind.TheVariants.{Number}
-use Rattle.zpl_text.specs.Cutting.{IsCut, IsFloatTail, greatest, too_large, float_text}
+use Rattle.zpl_text.specs.Cutting.{IsCut, too_large, float_text}
 use Rattle.zpl_text.proofs.Cuts.{numeral_cut}
 use Rattle.zpl_text.proofs.Runs.{run_passes}
 use Rattle.zpl_text.proofs.numbers.number_at.Goals as goal

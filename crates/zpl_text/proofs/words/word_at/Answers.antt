@@ -1,9 +1,6 @@
-use Rattle.std.proofs.Common.{take, drop, sym, subst, arith}
-use Rattle.std.specs.List.{prefix_len}
+use Rattle.std.proofs.Common.{arith}
 use Rattle.std.proofs.lemmas.List.Sums.{prefix_len-le-length}
 use Rattle.zpl_text.specs.Bytes.{is_word_byte}
-use Rattle.zpl_text.specs.Kinds.{IsWord, IsToken}
-use Rattle.zpl_text.specs.Cutting.{IsCut}
 use Rattle.zpl_text.proofs.Cuts.{word_run, word_cut}
 use Rattle.zpl_text.proofs.words.word_at.Goals as goal
 
