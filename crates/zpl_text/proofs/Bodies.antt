@@ -1,7 +1,8 @@
 -- Bodies of strings, part by part.
 use Rattle.std.proofs.Common.{◌≡◌, ℕ, ◌-◌, List, [], ◌∷◌, ◌++◌, length, take, drop, append_assoc, refl, sym, ◌∙◌}
 use Rattle.std.proofs.lemmas.List.{take_rest}
-use Rattle.zpl_text.specs.Kinds.{IsBody, nothing, plain, escape, BeginsEscape, BeginsPlain}
+use Rattle.zpl_text.specs.Scanning.{BeginsEscape, BeginsPlain}
+use Rattle.zpl_text.specs.Kinds.{IsBody, nothing, plain, escape}
 
 -- bytes are a body and this rest
 pub record IsBodyUpTo (bytes rest : List ℕ) : Type 0 where

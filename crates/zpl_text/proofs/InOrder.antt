@@ -1,16 +1,19 @@
 -- Tokens stand in order, and where they say.
-use Rattle.std.proofs.Common.{◌≡◌, ℕ, ◌+◌, ◌-◌, ◌≤◌, List, Option, [], ◌∷◌, ◌++◌, length, take, drop, codes, refl, sym, ap, subst, ◌∙◌, arith, append_assoc, length-append}
+use Rattle.std.proofs.Common.{◌≡◌, ℕ, Bool, ◌+◌, ◌-◌, ◌<◌, ◌≤◌, List, Option, [], ◌∷◌, ◌++◌, length, take, drop, codes, refl, sym, ap, subst, ◌∙◌, arith, append_assoc, length-append}
 use Rattle.std.proofs.lemmas.List.{drop_at, take_at, append-nil}
 use Rattle.zpl_tokens.specs.declared.Kind.{Kind}
 use Rattle.zpl_tokens.specs.declared.Kind.TheVariants.{Name, Number}
 use Rattle.zpl_text.specs.declared.tokens.Token.{Token}
 use Rattle.zpl_text.specs.declared.faults.LexFault.{LexFault}
+use Rattle.zpl_text.specs.Bytes.{quote, backslash}
 use Rattle.zpl_text.specs.Kinds.{IsToken}
 use Rattle.zpl_text.specs.Gaps.{Skips, nothing, white, line, block}
-use Rattle.zpl_text.specs.Cutting.{IsSound, offset_of}
+use Rattle.zpl_text.specs.Cutting.{IsSound, offset_of, IsWrong, no_token, bad_escape, open_comment, open_string, too_large, float_text}
 use Rattle.zpl_text.specs.Tokens.{Place, Takes, Cuts, start, end_of, IsTokens, IsFound, HasFault}
 use Rattle.zpl_text.specs.Tokens as cutting
-use Rattle.zpl_text.specs.Spans.{IsWithinLimit, IsSpan, AreSpans, BeginWith}
+use Rattle.zpl_text.specs.Spans.{IsWithinLimit, IsSpan, AreSpans, IsPlaceBelow, BeginWith}
+use Rattle.zpl_text.proofs.Cuts.{nil≢cons}
+use Rattle.zpl_text.proofs.OneStep.{cut_some}
 use Rattle.zpl_text.proofs.Skipping.{Skips-length}
 use Rattle.zpl_text.proofs.OneWay.{Ends, whole, faulty, ends_no_step, takes_token, takes_next}
 
@@ -72,6 +75,12 @@ module _ (text : List ℕ) (here next : Place) (t : Token) (step : Takes text he
         limit = limit_from_sound t.kind next.rest step.sound;
       }
 
+-- a place of a text has a tail of it
+cuts_tail : {text : List ℕ} {here last : Place} {tokens : List Token} → Cuts text here tokens last → IsTail text here.rest → IsTail text last.rest
+cuts_tail cutting.nothing tail = tail
+cuts_tail {text = text} {here = here} (cutting.token {next = next} {t = t} step steps) tail =
+    cuts_tail steps (step_next text here next t step tail)
+
 -- the tokens up to a place, and those behind it
 spans_then : {text : List ℕ} {here last : Place} {tokens : List Token} (more : List Token) → Cuts text here tokens last → IsTail text here.rest → ((at : ℕ) → at ≤ length text → AreSpans text at more) → AreSpans text (offset_of text here.rest) (tokens ++ more)
 spans_then {text = text} {here = here} more cutting.nothing tail rest = rest (offset_of text here.rest) (omega arith)
@@ -124,3 +133,23 @@ found_front text found tokens is all =
 
 pub found_front_of_fault : (text : List ℕ) (found others : List Token) (fault : LexFault) → IsFound text found → HasFault text others fault → BeginWith found others
 found_front_of_fault text found others fault is has = cuts_front is.cuts has.cuts (faulty has.fault_at)
+
+-- the offset of a byte of the text
+offset_below : (text rest : List ℕ) → IsTail text rest → (rest ≡ [] → ⊥) → offset_of text rest < length text
+offset_below text [] tail some = absurd (some refl)
+offset_below text (b ∷ rest) (front, split) some = omega (arith, ap length split, length-append front (b ∷ rest))
+
+wrong_below : {text : List ℕ} {ditto : Bool} {rest : List ℕ} {fault : LexFault} → IsTail text rest → IsWrong text ditto rest fault → IsPlaceBelow (length text) fault
+wrong_below {text = text} {rest = rest} tail (no_token past none) = offset_below text rest tail (λ empty. omega (arith, none.some, ap length empty))
+wrong_below {text = text} {rest = rest} tail (bad_escape {after = after} strings bad) =
+    offset_below text (backslash ∷ after) (IsTail-trans text rest (quote ∷ bad.body) (backslash ∷ after) tail bad.split) nil≢cons
+wrong_below {text = text} {rest = rest} tail (open_comment comment) = offset_below text rest tail (λ empty. nil≢cons (sym comment.split ∙ empty))
+wrong_below {text = text} {rest = rest} tail (open_string strings string) = offset_below text rest tail (λ empty. nil≢cons (sym string.split ∙ empty))
+wrong_below {text = text} {ditto = ditto} {rest = rest} tail (too_large {n = n} {after = after} cut sound over) =
+    offset_below text rest tail (cut_some ditto rest (Number n) after cut)
+wrong_below {text = text} {ditto = ditto} {rest = rest} tail (float_text {n = n} {after = after} cut floats) =
+    offset_below text rest tail (cut_some ditto rest (Number n) after cut)
+
+pub fault_below : (text : List ℕ) (found : List Token) (fault : LexFault) → HasFault text found fault → IsPlaceBelow (length text) fault
+fault_below text found fault is =
+    wrong_below (IsTail-skips text (cuts_tail is.cuts ([], refl)) is.fault_at.skips) is.fault_at.wrong

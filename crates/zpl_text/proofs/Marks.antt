@@ -12,9 +12,10 @@ use Rattle.zpl_tokens.specs.declared.Kind.TheVariants.{Name, Number, Str, Ditto,
 use Rattle.zpl_tokens.specs.declared.symbols.Sym.{Sym}
 use Rattle.zpl_tokens.specs.declared.symbols.Sym.TheVariants.{Or}
 use Rattle.zpl_tokens.specs.Sym.{symbol_text}
+use Rattle.zpl_text.specs.Scanning.{AllAreSingle, IsDoubleAt}
 use Rattle.zpl_text.specs.Bytes.{quote, is_word_byte, BeginsWith, FirstPasses}
 use Rattle.zpl_text.specs.Kinds.{IsToken}
-use Rattle.zpl_text.specs.Cutting.{IsCut, AllAreSingle, IsDoubleAt, BeginsNoToken}
+use Rattle.zpl_text.specs.Cutting.{IsCut, BeginsNoToken}
 use Rattle.zpl_text.proofs.Cuts.{heads, nil≢cons}
 use Rattle.zpl_text.proofs.Quoted.{first_and_rest}
 use Rattle.zpl_text.proofs.Shapes.{HasShape, is_mark, shape_of, symbol_marked, apart_mark_word, apart_mark_digit, apart_mark_quote}

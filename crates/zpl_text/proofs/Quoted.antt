@@ -8,9 +8,10 @@ use Rattle.std.proofs.lemmas.Bool.{false≢true, true≢false, cases_eq, and_par
 use Rattle.std.proofs.lemmas.List.{take_rest}
 use Rattle.zpl_tokens.specs.declared.Kind.{Kind}
 use Rattle.zpl_tokens.specs.declared.Kind.TheVariants.{Name, Number, Str, Ditto, Symbol, Word, End}
+use Rattle.zpl_text.specs.Scanning.{BeginsEscape, BeginsPlain, IsWholeBody}
 use Rattle.zpl_text.specs.declared.faults.LexFault.TheVariants.{BadByte}
 use Rattle.zpl_text.specs.Bytes.{quote, backslash, is_escape, BeginsWith, FirstPasses, EndsLine}
-use Rattle.zpl_text.specs.Kinds.{IsBody, nothing, plain, escape, BeginsEscape, BeginsPlain, IsWholeBody, IsToken}
+use Rattle.zpl_text.specs.Kinds.{IsBody, nothing, plain, escape, IsToken}
 use Rattle.zpl_text.specs.Cutting.{MayStand, IsCut, IsOpenString, IsBadEscape, offset_of, IsWrong, bad_escape}
 use Rattle.zpl_text.proofs.Cuts.{heads, nil≢cons}
 use Rattle.zpl_text.proofs.Shapes.{HasShape, shape_of, apart_word_quote, apart_digit_quote, apart_mark_quote}

@@ -3,10 +3,8 @@ use Rattle.std.specs.Prelude.{◌≡◌, ℕ, ◌-◌, ◌<◌, ◌≤◌, ◌^�
 use Rattle.std.specs.Char.{is_ascii_digit}
 use Rattle.zpl_tokens.specs.declared.Kind.{Kind}
 use Rattle.zpl_tokens.specs.declared.Kind.TheVariants.{Number, Str, Ditto, Symbol, Word, End}
-use Rattle.zpl_tokens.specs.declared.symbols.Sym.{Sym}
 use Rattle.zpl_tokens.specs.declared.symbols.Sym.TheVariants.{OpenBracket}
 use Rattle.zpl_tokens.specs.declared.keywords.Key.TheVariants.{Of, In}
-use Rattle.zpl_tokens.specs.Sym.{symbol_text}
 use Rattle.zpl_text.specs.declared.faults.LexFault.{LexFault}
 use Rattle.zpl_text.specs.declared.faults.LexFault.TheVariants.{BadByte, OpenComment, OpenString, NumberTooLarge, FloatText}
 use Rattle.zpl_text.specs.Bytes.{quote, backslash, is_escape, BeginsWith, FirstPasses, EndsLine}
@@ -79,16 +77,6 @@ pub record BeginsNoToken (bytes : List ℕ) : Type 0 where
   pub some : 0 < length bytes
   pub none : (front : List ℕ) (kind : Kind) → BeginsWith front bytes → IsToken front kind → front ≡ []
 
--- where no three bars stand together, no symbol at the front has two bytes
-abbrev pub AllAreSingle : List ℕ → Type 0
-AllAreSingle bytes = ¬ BeginsWithBars bytes → (symbol : Sym) → BeginsWith (symbol_text symbol) bytes → length (symbol_text symbol) ≤ 1
-
--- no three bars stand together, and at the front is this symbol of two bytes
-pub record IsDoubleAt (bytes : List ℕ) (symbol : Sym) : Type 0 where
-  pub no_bars : ¬ BeginsWithBars bytes
-  pub at_front : BeginsWith (symbol_text symbol) bytes
-  pub two : length (symbol_text symbol) ≡ 2
-
 -- a string begins here, and its line ends before it does
 pub record IsOpenString (bytes : List ℕ) : Type 0 where
   pub body : List ℕ
@@ -108,11 +96,18 @@ pub record IsBadEscape (bytes after : List ℕ) : Type 0 where
 abbrev pub offset_of : List ℕ → List ℕ → ℕ
 offset_of text rest = length text - length rest
 
--- what is wrong where the rest of a text begins
+-- What is wrong where the rest of a text begins. Each fault has the offset of its place: where the rest
+-- begins, or for an unknown escape the backslash.
 pub data IsWrong (text : List ℕ) (ditto : Bool) (rest : List ℕ) : LexFault → Type 0 where
-  no_token : IsPastGap rest → BeginsNoToken rest → IsWrong text ditto rest (BadByte (offset_of text rest))
-  bad_escape : {after : List ℕ} → ditto ≡ false → IsBadEscape rest after → IsWrong text ditto rest (BadByte (offset_of text (backslash ∷ after)))
-  open_comment : IsOpenComment rest → IsWrong text ditto rest (OpenComment (offset_of text rest))
-  open_string : ditto ≡ false → IsOpenString rest → IsWrong text ditto rest (OpenString (offset_of text rest))
-  too_large : {n : ℤ} {after : List ℕ} → IsCut ditto rest (Number n) after → ¬ IsFloatTail after → greatest <ℤ n → IsWrong text ditto rest (NumberTooLarge (offset_of text rest))
-  float_text : {n : ℤ} {after : List ℕ} → IsCut ditto rest (Number n) after → IsFloatTail after → IsWrong text ditto rest (FloatText (offset_of text rest))
+  no_token :
+      IsPastGap rest → BeginsNoToken rest → IsWrong text ditto rest (BadByte (offset_of text rest))
+  bad_escape : {after : List ℕ} →
+      ditto ≡ false → IsBadEscape rest after → IsWrong text ditto rest (BadByte (offset_of text (backslash ∷ after)))
+  open_comment :
+      IsOpenComment rest → IsWrong text ditto rest (OpenComment (offset_of text rest))
+  open_string :
+      ditto ≡ false → IsOpenString rest → IsWrong text ditto rest (OpenString (offset_of text rest))
+  too_large : {n : ℤ} {after : List ℕ} →
+      IsCut ditto rest (Number n) after → ¬ IsFloatTail after → greatest <ℤ n → IsWrong text ditto rest (NumberTooLarge (offset_of text rest))
+  float_text : {n : ℤ} {after : List ℕ} →
+      IsCut ditto rest (Number n) after → IsFloatTail after → IsWrong text ditto rest (FloatText (offset_of text rest))

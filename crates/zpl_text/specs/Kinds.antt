@@ -8,9 +8,9 @@ use Rattle.zpl_tokens.specs.declared.Kind.TheVariants.{Name, Number, Str, Ditto,
 use Rattle.zpl_tokens.specs.declared.keywords.Key.{Key}
 use Rattle.zpl_tokens.specs.Key.{keyword_text}
 use Rattle.zpl_tokens.specs.Sym.{symbol_text}
-use Rattle.zpl_text.specs.Bytes.{newline, quote, backslash, is_word_start, is_word_byte, is_escape, FirstPasses}
+use Rattle.zpl_text.specs.Bytes.{newline, quote, backslash, is_word_start, is_word_byte, is_escape}
 
--- a letter or `_`, and then letters, digits and `_`
+-- a letter or `_`, and then letters, digits and `_`: a name or a keyword
 abbrev pub IsWord : List ℕ → Type 0
 IsWord [] = ⊥
 IsWord (b ∷ after) = IsTrue (is_word_start b) × IsTrue (list_all is_word_byte after)
@@ -25,23 +25,6 @@ pub data IsBody : List ℕ → Type 0 where
   nothing : IsBody []
   plain : {b : ℕ} {after : List ℕ} → b ≢ quote → b ≢ newline → b ≢ backslash → IsBody after → IsBody (b ∷ after)
   escape : {b : ℕ} {after : List ℕ} → IsTrue (is_escape b) → IsBody after → IsBody (backslash ∷ b ∷ after)
-
--- a body may begin with an escape, or with a byte that stands for itself
-abbrev pub BeginsEscape : List ℕ → Type 0
-BeginsEscape [] = ⊥
-BeginsEscape (b ∷ after) = (b ≡ backslash) × FirstPasses is_escape after
-
-abbrev pub BeginsPlain : List ℕ → Type 0
-BeginsPlain [] = ⊥
-BeginsPlain (b ∷ after) = (b ≢ quote) × (b ≢ newline) × (b ≢ backslash)
-
--- Bytes begin with the body of a string, and it can't go on with after, which is what follows.
-pub record IsWholeBody (bytes after : List ℕ) : Type 0 where
-  pub body : List ℕ
-  pub split : bytes ≡ body ++ after
-  pub within : IsBody body
-  pub no_escape : ¬ BeginsEscape after
-  pub no_plain : ¬ BeginsPlain after
 
 -- The bytes, all of them, are a token of the kind. A number may have any size here: where tokens are cut
 -- off, one over the greatest integer is a fault. The end is no bytes.

@@ -1,10 +1,10 @@
 //! The laws of tokens and faults.
 //!
 //! Each law is the contract of a function that does nothing: a call brings the law into a proof.
-ghost use Rattle.std.specs.Prelude.{◌≡◌, ℕ, List};
+ghost use Rattle.std.specs.Prelude.{◌≡◌, ℕ, List, length};
 ghost use Rattle.zpl_text.specs.declared.tokens.Token.{Token as Cutting};
 ghost use Rattle.zpl_text.specs.declared.faults.LexFault.{LexFault as Fault};
-ghost use Rattle.zpl_text.specs.Spans.{AreSpans, BeginWith};
+ghost use Rattle.zpl_text.specs.Spans.{AreSpans, BeginWith, IsPlaceBelow};
 ghost use Rattle.zpl_text.specs.Tokens.{IsFound, IsTokens, HasFault};
 
 /// A text has at most one list of tokens, or at most one fault, and not both.
@@ -30,4 +30,10 @@ pub fn found_is_a_front()
         → IsFound text found → IsTokens text tokens → BeginWith found tokens }
     ensures fault { (text : List ℕ) (found others : List Cutting) (fault : Fault)
         → IsFound text found → HasFault text others fault → BeginWith found others }
+{}
+
+/// The place of a fault is a byte of the text.
+pub fn faults_are_in_the_text()
+    ensures { (text : List ℕ) (found : List Cutting) (fault : Fault)
+        → HasFault text found fault → IsPlaceBelow (length text) fault }
 {}

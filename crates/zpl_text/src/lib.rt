@@ -17,7 +17,9 @@ mod tokens;
 mod words;
 
 pub use faults::LexFault;
-pub use laws::{found_is_a_front, text_is_cut_one_way, tokens_are_in_order};
+pub use laws::{
+    faults_are_in_the_text, found_is_a_front, text_is_cut_one_way, tokens_are_in_order,
+};
 pub use lexer::lex;
 pub use tokens::Token;
 pub use zpl_tokens::{Key, Kind, Sym};

@@ -1,7 +1,7 @@
 //! Strings.
 ghost use Rattle.std.specs.Prelude.{◌≡◌, ◌≤◌, ◌<◌, ◌↔◌, [], ◌∷◌, Bool, false, length, IsTrue, MatchResult, IfOk};
+ghost use Rattle.zpl_text.specs.Scanning.{BeginsEscape, BeginsPlain, IsWholeBody};
 ghost use Rattle.zpl_text.specs.Bytes.{quote, BeginsWith, EndsLine};
-ghost use Rattle.zpl_text.specs.Kinds.{BeginsEscape, BeginsPlain, IsWholeBody};
 ghost use Rattle.zpl_text.specs.Cutting.{IsCut, IsSound, IsWrong};
 
 use crate::faults::LexFault;

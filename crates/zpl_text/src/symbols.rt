@@ -3,8 +3,9 @@ ghost use Rattle.std.specs.Prelude.{◌≡◌, ◌≢◌, ◌<◌, [], ◌∷◌
 ghost use Rattle.zpl_tokens.specs.declared.Kind.TheVariants.{Symbol};
 ghost use Rattle.zpl_tokens.specs.declared.symbols.Sym.{Sym as Sign};
 ghost use Rattle.zpl_tokens.specs.Sym.{symbol_text};
+ghost use Rattle.zpl_text.specs.Scanning.{AllAreSingle, IsDoubleAt};
 ghost use Rattle.zpl_text.specs.Bytes.{is_word_byte, quote, BeginsWith, FirstPasses};
-ghost use Rattle.zpl_text.specs.Cutting.{IsCut, BeginsNoToken, AllAreSingle, IsDoubleAt};
+ghost use Rattle.zpl_text.specs.Cutting.{IsCut, BeginsNoToken};
 
 use zpl_tokens::Sym;
 
