@@ -1,0 +1,17 @@
+pub mod Bodies
+pub mod Comments
+pub mod Cuts
+pub mod Examples
+pub mod InOrder
+pub mod Lexing
+pub mod Marks
+pub mod Numerals
+pub mod OneFault
+pub mod OneGap
+pub mod OneStep
+pub mod OneWay
+pub mod Quoted
+pub mod Runs
+pub mod Shapes
+pub mod Skipping
+pub mod Written

@@ -1,0 +1,6 @@
+use Rattle.std.proofs.Common.{◌≡◌, ℕ, ◌<◌, get_or}
+use Rattle.zpl_text.specs.Bytes.{newline}
+use Rattle.zpl_text.proofs.gaps.past_line.Given as goal
+
+abbrev pub invariant-loop-i : goal.invariant-loop-i
+invariant-loop-i l = (k : ℕ) → k < l.i → get_or l.bytes k 0 ≡ newline → ⊥

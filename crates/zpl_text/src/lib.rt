@@ -1,0 +1,28 @@
+//! Cuts the text of a program into tokens.
+//!
+//! White space and comments stand between tokens: `--` and the rest of the line, or `/*` up to the next
+//! `*/`. Of the fronts of the text that are a token, the longest is cut off. Two rules stand beside that:
+//! where three bars stand together, the first is a token by itself, and a `"` directly behind the token
+//! `[`, `of` or `in` is a ditto, and never begins a string.
+#![tactic(auto)]
+
+mod faults;
+mod gaps;
+mod laws;
+mod lexer;
+mod numbers;
+mod strings;
+mod symbols;
+mod tokens;
+mod words;
+
+pub use faults::LexFault;
+pub use laws::{
+    faults_are_in_the_text, found_is_a_front, text_is_cut_one_way, tokens_are_in_order,
+};
+pub use lexer::lex;
+pub use tokens::Token;
+pub use zpl_tokens::{Key, Kind, Sym};
+
+#[cfg(test)]
+mod tests;
