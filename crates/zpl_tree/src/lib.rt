@@ -5,6 +5,7 @@ mod declarations;
 mod expressions;
 mod names;
 mod placing;
+mod printing;
 mod regions;
 mod statements;
 

@@ -1,0 +1,3 @@
+//! Printing a tree.
+mod expressions;
+mod words;
