@@ -1,6 +1,6 @@
 -- How a tree's slices are seen as plain lists.
-use Rattle.std.proofs.Common.{◌≡◌, ℕ, List, [], ◌∷◌, map, Bor, refl, sym, ap, ◌∙◌}
-use Rattle.zpl_tree.specs.View.{name_of, inner_of, rexpr_of, pre_of, base_of, row_of_exprs, exprs_of, form_of, row_of_posts, posts_of, dir_of, row_of_dims, dims_of, dim_of, row_of_stmts, stmts_of, statement_of, prefix_of, row_of_arms, arms_of, arm_before}
+use Rattle.std.proofs.Common.{◌≡◌, ℕ, List, [], ◌∷◌, Some, None, map, Bor, refl, sym, ap, ◌∙◌}
+use Rattle.zpl_tree.specs.View.{name_of, inner_of, rexpr_of, pre_of, base_of, row_of_exprs, exprs_of, form_of, row_of_posts, posts_of, dir_of, row_of_dims, dims_of, dim_of, row_of_stmts, stmts_of, statement_of, prefix_of, row_of_arms, arms_of, arm_of, expr_of, otherwise_of, head_of}
 use Rattle.zpl_tree.specs.Syntax as plain
 use Rattle.zpl_tree.specs.declared.names.Name.{Name}
 use Rattle.zpl_tree.specs.declared.expressions.Expr.{Expr}
@@ -12,8 +12,10 @@ use Rattle.zpl_tree.specs.declared.expressions.ExprForm.TheBlock.{Row_of-Expr, e
 use Rattle.zpl_tree.specs.declared.regions.DimText.{DimText}
 use Rattle.zpl_tree.specs.declared.regions.Post.{Post}
 use Rattle.zpl_tree.specs.declared.statements.Stmt.{Stmt}
-use Rattle.zpl_tree.specs.declared.statements.Arm.{Arm}
-use Rattle.zpl_tree.specs.declared.statements.Form.TheBlock.{Row_of-Stmt, end_of-Stmt, more_of-Stmt, items-the_row-Stmt, items_hidden-the_row-Stmt-0, hidden-the_row-Stmt-0, Row_of-Arm, end_of-Arm, more_of-Arm, items-the_row-Arm, items_hidden-the_row-Arm-1, hidden-the_row-Arm-1}
+use Rattle.zpl_tree.specs.declared.statements.Arm.{Arm, Arm', out-Arm}
+use Rattle.zpl_tree.specs.declared.statements.ForHead.{ForHead}
+use Rattle.zpl_tree.specs.declared.statements.Form.TheVariants.{Block, If, While, Repeat, For}
+use Rattle.zpl_tree.specs.declared.statements.Form.TheBlock.{Row_of-Stmt, end_of-Stmt, more_of-Stmt, items-the_row-Stmt, items_hidden-the_row-Stmt-0, hidden-the_row-Stmt-0, items_shown-the_row-Stmt-0, shown-the_row-Stmt-0, Row_of-Arm, end_of-Arm, more_of-Arm, items-the_row-Arm, items_hidden-the_row-Arm-1, hidden-the_row-Arm-1}
 
 exprs_of_row : (n : _) (row : Row_of-Expr n) → row_of_exprs row ≡ exprs_of (items-the_row-Expr n row)
 exprs_of_row n end_of-Expr = refl
@@ -34,7 +36,7 @@ stmts_of_row n (more_of-Stmt at prefixes form rest) =
 
 arms_of_row : (n : _) (row : Row_of-Arm n) → row_of_arms row ≡ arms_of (items-the_row-Arm n row)
 arms_of_row n end_of-Arm = refl
-arms_of_row n (more_of-Arm first rest) = ap (arm_before first) (arms_of_row _ rest)
+arms_of_row n (more_of-Arm first rest) = ap (plain.ThenArm (arm_of first)) (arms_of_row _ rest)
 
 -- a slice in a node, as the list that it is
 pub exprs_of_slice : (exprs : List Expr) → row_of_exprs (hidden-the_row-Expr-0 exprs) ≡ exprs_of exprs
@@ -72,3 +74,34 @@ pub rexpr_of-parts : (rexpr : Rexpr) →
 unfolding out-Rexpr shown-the_row-Post-2 denote.Hole.Carrier.out
 rexpr_of-parts (Rexpr' pre base p n post) =
     ap (plain.Rexpr (map pre_of pre.now) (base_of base)) (posts_of_row _ post ∙ ap posts_of (sym (items_shown-the_row-Post-2 n post)))
+
+pub arm_of-parts : (arm : Arm) →
+    arm_of arm ≡ plain.Tested (out-Arm arm).at (expr_of (out-Arm arm).test.now) (stmts_of (out-Arm arm).body.now)
+unfolding out-Arm shown-the_row-Stmt-0 denote.Hole.Carrier.out
+arm_of-parts (Arm' at test p n body) =
+    ap (plain.Tested at (expr_of test.now)) (stmts_of_row _ body ∙ ap stmts_of (sym (items_shown-the_row-Stmt-0 n body)))
+
+pub statement_of-Block : (body : Bor (List Stmt)) → statement_of (Block body) ≡ plain.Block (stmts_of body.now)
+statement_of-Block body = ap plain.Block (stmts_of_slice body.now)
+
+pub statement_of-While : (test : Bor Expr) (body : Bor (List Stmt)) →
+    statement_of (While test body) ≡ plain.While (expr_of test.now) (stmts_of body.now)
+statement_of-While test body = ap (plain.While (expr_of test.now)) (stmts_of_slice body.now)
+
+pub statement_of-Repeat : (body : Bor (List Stmt)) (until : ℕ) (test : Bor Expr) →
+    statement_of (Repeat body until test) ≡ plain.Repeat (stmts_of body.now) until (expr_of test.now)
+statement_of-Repeat body until test =
+    ap (λ stmts. plain.Repeat stmts until (expr_of test.now)) (stmts_of_slice body.now)
+
+pub statement_of-For : (head : Bor ForHead) (body : Bor (List Stmt)) →
+    statement_of (For head body) ≡ plain.For (head_of head.now) (stmts_of body.now)
+statement_of-For head body = ap (plain.For (head_of head.now)) (stmts_of_slice body.now)
+
+pub statement_of-If : (arms : Bor (List Arm)) → statement_of (If arms None) ≡ plain.If (arms_of arms.now) plain.NoElse
+statement_of-If arms = ap (λ seen. plain.If seen plain.NoElse) (arms_of_slice arms.now)
+
+pub statement_of-If_else : (arms : Bor (List Arm)) (body : Bor (List Stmt)) →
+    statement_of (If arms (Some body)) ≡ plain.If (arms_of arms.now) (plain.Else (stmts_of body.now))
+statement_of-If_else arms body =
+    ap (λ seen. plain.If seen (plain.Else (row_of_stmts (hidden-the_row-Stmt-0 body.now)))) (arms_of_slice arms.now)
+    ∙ ap (λ stmts. plain.If (arms_of arms.now) (plain.Else stmts)) (stmts_of_slice body.now)

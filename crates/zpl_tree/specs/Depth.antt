@@ -1,6 +1,6 @@
 -- How deep a tree is: a leaf has depth 1, and a node one more than its deepest part.
 use Rattle.std.specs.Prelude.{ℕ, ◌+◌, List, [], ◌∷◌, Option, Some, None, max}
-use Rattle.zpl_tree.specs.Syntax.{Expr, Number, Truth, Coord, Named, Shifted, Call, Paren, Neg, Not, Abs, Pair, Reduce, Scan, Flood, Exprs, NoExpr, ThenExpr, Dir, NamedDir, Vector, Inner, Rexpr, Dims, Bracket, NoBracket, Bracketed, Posts, NoPost, ThenPost, DimText, Blank, Star, One, Span, DimTexts, NoDim, ThenDim, Prefix, ForHead, Item, Str, Value, Stmt, Prefixed, Stmts, NoStmt, ThenStmt, Form, Assign, Invoke, Block, If, While, Repeat, For, Border, Write, Return, Arms, NoArm, ThenArm, Otherwise, NoElse, Else, Define, RegionDef, DirDef, VarDef, Param, Procedure, Decl, Config, Constant, Regions, Directions, Vars, Defined, Program}
+use Rattle.zpl_tree.specs.Syntax.{Expr, Number, Truth, Coord, Named, Shifted, Call, Paren, Neg, Not, Abs, Pair, Reduce, Scan, Flood, Exprs, NoExpr, ThenExpr, Dir, NamedDir, Vector, Inner, Rexpr, Dims, Bracket, NoBracket, Bracketed, Posts, NoPost, ThenPost, DimText, Blank, Star, One, Span, DimTexts, NoDim, ThenDim, Prefix, ForHead, Item, Str, Value, Stmt, Prefixed, Stmts, NoStmt, ThenStmt, Form, Assign, Invoke, Block, If, While, Repeat, For, Border, Write, Return, Arm, Tested, Arms, NoArm, ThenArm, Otherwise, NoElse, Else, Define, RegionDef, DirDef, VarDef, Param, Procedure, Decl, Config, Constant, Regions, Directions, Vars, Defined, Program}
 
 -- The actuals of a call, the components of a vector and the bounds in a bracket are parts of the expression that has
 -- them; the vector and the bracket themselves are no nodes.
@@ -94,7 +94,10 @@ abbrev mutual
 
   pub arms_depth : Arms → ℕ
   arms_depth NoArm = 0
-  arms_depth (ThenArm at test body rest) = max (max (expr_depth test) (stmts_depth body)) (arms_depth rest)
+  arms_depth (ThenArm first rest) = max (arm_depth first) (arms_depth rest)
+
+  pub arm_depth : Arm → ℕ
+  arm_depth (Tested at test body) = max (expr_depth test) (stmts_depth body)
 
   pub otherwise_depth : Otherwise → ℕ
   otherwise_depth NoElse = 0
@@ -124,7 +127,10 @@ abbrev mutual
 
   pub arms_nest : Arms → ℕ
   arms_nest NoArm = 0
-  arms_nest (ThenArm at test body rest) = max (stmts_nest body) (arms_nest rest)
+  arms_nest (ThenArm first rest) = max (arm_nest first) (arms_nest rest)
+
+  pub arm_nest : Arm → ℕ
+  arm_nest (Tested at test body) = stmts_nest body
 
   pub otherwise_nest : Otherwise → ℕ
   otherwise_nest NoElse = 0

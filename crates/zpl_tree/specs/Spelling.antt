@@ -14,7 +14,7 @@ use Rattle.zpl_tokens.specs.declared.keywords.Key.{Key}
 use Rattle.zpl_tokens.specs.declared.keywords.Key.TheVariants as key
 use Rattle.zpl_tokens.specs.declared.symbols.Sym.{Sym}
 use Rattle.zpl_tokens.specs.declared.symbols.Sym.TheVariants as sym
-use Rattle.zpl_tree.specs.Syntax.{Name, Pre, RegionBase, NamedRegion, Ditto, Expr, Number, Truth, Coord, Named, Shifted, Call, Paren, Neg, Not, Abs, Pair, Reduce, Scan, Flood, Exprs, NoExpr, ThenExpr, Dir, NamedDir, Vector, Inner, Rexpr, Dims, Bracket, NoBracket, Bracketed, Posts, NoPost, ThenPost, DimText, Blank, Star, One, Span, DimTexts, NoDim, ThenDim, Mask, Prefix, ForHead, Item, Str, Value, Stmt, Prefixed, Stmts, NoStmt, ThenStmt, Form, Assign, Invoke, Block, If, While, Repeat, For, Border, Write, Return, Arms, NoArm, ThenArm, Otherwise, NoElse, Else, Base, Integer, Boolean, Other, Define, RegionDef, DirDef, VarDef, Param, Procedure, Decl, Config, Constant, Regions, Directions, Vars, Defined, Program}
+use Rattle.zpl_tree.specs.Syntax.{Name, Pre, RegionBase, NamedRegion, Ditto, Expr, Number, Truth, Coord, Named, Shifted, Call, Paren, Neg, Not, Abs, Pair, Reduce, Scan, Flood, Exprs, NoExpr, ThenExpr, Dir, NamedDir, Vector, Inner, Rexpr, Dims, Bracket, NoBracket, Bracketed, Posts, NoPost, ThenPost, DimText, Blank, Star, One, Span, DimTexts, NoDim, ThenDim, Mask, Prefix, ForHead, Item, Str, Value, Stmt, Prefixed, Stmts, NoStmt, ThenStmt, Form, Assign, Invoke, Block, If, While, Repeat, For, Border, Write, Return, Arm, Tested, Arms, NoArm, ThenArm, Otherwise, NoElse, Else, Base, Integer, Boolean, Other, Define, RegionDef, DirDef, VarDef, Param, Procedure, Decl, Config, Constant, Regions, Directions, Vars, Defined, Program}
 use Rattle.zpl_tree.specs.Word.{Word}
 use Rattle.zpl_tree.specs.Word as word
 
@@ -165,10 +165,15 @@ abbrev mutual
   more_dims NoDim = []
   more_dims (ThenDim first rest) = symbol sym.Comma ++ dim_words first ++ more_dims rest
 
+-- { separator x }
+abbrev pub each_after : {A : Type 0} → List Word → (A → List Word) → List A → List Word
+each_after separator words [] = []
+each_after separator words (x ∷ xs) = separator ++ words x ++ each_after separator words xs
+
 -- x { separator x }, or nothing where there is no x
 abbrev pub separated : {A : Type 0} → List Word → (A → List Word) → List A → List Word
 separated separator words [] = []
-separated separator words (x ∷ xs) = words x ++ flat_map (λ y. separator ++ words y) xs
+separated separator words (x ∷ xs) = words x ++ each_after separator words xs
 
 -- NAME { "," NAME }
 abbrev pub names_words : List Name → List Word
@@ -209,6 +214,10 @@ head_words head =
 abbrev pub item_words : Item → List Word
 item_words (Str bytes) = word.Str bytes ∷ []
 item_words (Value value) = expr_words value
+
+-- [ item { "," item } ]
+abbrev pub items_words : List Item → List Word
+items_words items = separated (symbol sym.Comma) item_words items
 
 -- "wrap" | "reflect"
 abbrev pub border_words : BorderKind → List Word
@@ -252,21 +261,23 @@ abbrev mutual
   -- ( "write" | "writeln" ) "(" [ item { "," item } ] ")" ";"
   form_words (Write line items) =
       (if line then keyword key.Writeln else keyword key.Write) ++
-      in_round (separated (symbol sym.Comma) item_words items) ++ symbol sym.Semicolon
+      in_round (items_words items) ++ symbol sym.Semicolon
   -- "return" expr ";"
   form_words (Return value) = keyword key.Return ++ expr_words value ++ symbol sym.Semicolon
 
   -- "if" expr "then" { stmt } { "elsif" expr "then" { stmt } }
   pub arms_words : Arms → List Word
   arms_words NoArm = []
-  arms_words (ThenArm at test body rest) =
-      keyword key.If ++ expr_words test ++ keyword key.Then ++ stmts_words body ++ more_arms rest
+  arms_words (ThenArm first rest) = keyword key.If ++ arm_words first ++ more_arms rest
+
+  -- expr "then" { stmt }
+  pub arm_words : Arm → List Word
+  arm_words (Tested at test body) = expr_words test ++ keyword key.Then ++ stmts_words body
 
   -- { "elsif" expr "then" { stmt } }
   pub more_arms : Arms → List Word
   more_arms NoArm = []
-  more_arms (ThenArm at test body rest) =
-      keyword key.Elsif ++ expr_words test ++ keyword key.Then ++ stmts_words body ++ more_arms rest
+  more_arms (ThenArm first rest) = keyword key.Elsif ++ arm_words first ++ more_arms rest
 
   -- [ "else" { stmt } ]
   pub otherwise_words : Otherwise → List Word
@@ -318,11 +329,15 @@ abbrev pub locals_words : List VarDef → List Word
 locals_words [] = []
 locals_words (first ∷ rest) = keyword key.Var ++ flat_map var_words (first ∷ rest)
 
+-- [ param { ";" param } ]
+abbrev pub params_words : List Param → List Word
+params_words params = separated (symbol sym.Semicolon) param_words params
+
 -- "procedure" NAME "(" [ param { ";" param } ] ")" [ ":" base ] ";"
 abbrev pub heading_words : Procedure → List Word
 heading_words procedure =
     keyword key.Procedure ++ name_words procedure.name ++
-    in_round (separated (symbol sym.Semicolon) param_words procedure.params) ++ result_words procedure.result ++
+    in_round (params_words procedure.params) ++ result_words procedure.result ++
     symbol sym.Semicolon
 
 -- procedure = heading { "var" vardef { vardef } } { prefix } block
@@ -340,8 +355,11 @@ decl_words (Directions directions) = keyword key.Direction ++ flat_map direction
 decl_words (Vars vars) = keyword key.Var ++ flat_map var_words vars
 decl_words (Defined procedure) = procedure_words procedure
 
+-- "program" NAME ";" { decl }
+abbrev pub before_end : Program → List Word
+before_end program =
+    keyword key.Program ++ name_words program.name ++ symbol sym.Semicolon ++ flat_map decl_words program.decls
+
 -- program = "program" NAME ";" { decl } END
 abbrev pub program_words : Program → List Word
-program_words program =
-    keyword key.Program ++ name_words program.name ++ symbol sym.Semicolon ++ flat_map decl_words program.decls ++
-    word.End ∷ []
+program_words program = before_end program ++ word.End ∷ []

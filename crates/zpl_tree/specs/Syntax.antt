@@ -109,10 +109,13 @@ mutual
     Write : (line : Bool) (items : List Item) → Form
     Return : (value : Expr) → Form
 
-  -- each the test and the body of an `if` or an `elsif`
+  -- the test and the body of an `if` or an `elsif`
+  pub data Arm : Type 0 where
+    Tested : (at : ℕ) (test : Expr) (body : Stmts) → Arm
+
   pub data Arms : Type 0 where
     NoArm : Arms
-    ThenArm : (at : ℕ) (test : Expr) (body : Stmts) (rest : Arms) → Arms
+    ThenArm : (first : Arm) (rest : Arms) → Arms
 
   pub data Otherwise : Type 0 where
     NoElse : Otherwise

@@ -160,10 +160,10 @@ abbrev mutual
 
   pub row_of_arms : {n : _} → Row_of-Arm n → plain.Arms
   row_of_arms end_of-Arm = plain.NoArm
-  row_of_arms (more_of-Arm first rest) = arm_before first (row_of_arms rest)
+  row_of_arms (more_of-Arm first rest) = plain.ThenArm (arm_of first) (row_of_arms rest)
 
-  pub arm_before : Arm → plain.Arms → plain.Arms
-  arm_before (Arm' at test p n body) rest = plain.ThenArm at (expr_of test.now) (row_of_stmts body) rest
+  pub arm_of : Arm → plain.Arm
+  arm_of (Arm' at test p n body) = plain.Tested at (expr_of test.now) (row_of_stmts body)
 
   pub otherwise_of : Held-Form-If-1 → plain.Otherwise
   otherwise_of NoElse' = plain.NoElse
@@ -178,7 +178,7 @@ stmts_of (first ∷ rest) = plain.ThenStmt (stmt_of first) (stmts_of rest)
 
 abbrev pub arms_of : List Arm → plain.Arms
 arms_of [] = plain.NoArm
-arms_of (first ∷ rest) = arm_before first (arms_of rest)
+arms_of (first ∷ rest) = plain.ThenArm (arm_of first) (arms_of rest)
 
 abbrev pub base_type_of : Base → plain.Base
 base_type_of Integer = plain.Integer

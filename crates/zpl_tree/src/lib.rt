@@ -13,5 +13,6 @@ pub use declarations::{Base, Decl, Define, DirDef, Param, Procedure, Program, Re
 pub use expressions::{Expr, ExprForm};
 pub use names::Name;
 pub use placing::{place_expr, place_list, place_procedure, place_program};
+pub use printing::print_tree;
 pub use regions::{DimText, Dir, Inner, Post, Pre, RegionBase, Rexpr};
 pub use statements::{Arm, ForHead, Form, Item, Mask, Prefix, Stmt};
