@@ -1,5 +1,5 @@
 -- What each binary operator gives.
-use Rattle.std.specs.Prelude.{◌≡◌, Bool, true, false, not, ◌&&◌, ◌||◌, ◌⊎◌, Option, Some, None, ℤ, pos, ◌+ℤ◌, ◌-ℤ◌, ◌*ℤ◌, int_lt, int_le, int_div, int_rem, if◌then◌else◌}
+use Rattle.std.specs.Prelude.{◌≡◌, not, ◌&&◌, ◌||◌, ◌⊎◌, Option, Some, None, ℤ, pos, ◌+ℤ◌, ◌-ℤ◌, ◌*ℤ◌, int_lt, int_le, int_div, int_rem, if◌then◌else◌}
 use Rattle.std.specs.Int.{int_max, int_min}
 use Rattle.std.specs.Ordering.{int_eq}
 use Rattle.zpl_nums.specs.declared.operators.Op.{Op}
@@ -27,3 +27,21 @@ applied Min a b = Some (int_min a b)
 -- the operator is the division or the remainder
 abbrev pub Divides : Op → Type 0
 Divides op = (op ≡ Div) ⊎ (op ≡ Rem)
+
+-- the operator answers a truth value
+abbrev pub Tests : Op → Type 0
+Tests Add = ⊥
+Tests Sub = ⊥
+Tests Mul = ⊥
+Tests Div = ⊥
+Tests Rem = ⊥
+Tests Eq = Unit {0}
+Tests Ne = Unit {0}
+Tests Lt = Unit {0}
+Tests Le = Unit {0}
+Tests Gt = Unit {0}
+Tests Ge = Unit {0}
+Tests And = Unit {0}
+Tests Or = Unit {0}
+Tests Max = ⊥
+Tests Min = ⊥

@@ -44,3 +44,25 @@ pub fn unit(fold: Fold) -> i64
         Fold::Min => i64::MAX,
     }
 }
+
+#[cfg(test)]
+mod tests {
+    use super::{Fold, join, unit};
+
+    #[test]
+    fn folds_at_their_edges(rt: HostRuntime) {
+        for (fold, a, b, want, over_nothing) in [
+            (Fold::Sum, i64::MAX, 2, i64::MIN + 1, 0),
+            (Fold::Prod, i64::MIN, 3, i64::MIN, 1),
+            (Fold::Max, -4, -5, -4, i64::MIN),
+            (Fold::Min, -4, -5, -5, i64::MAX),
+            (Fold::All, 2, 4, 1, 1),
+            (Fold::All, 0, 1, 0, 1),
+            (Fold::Any, 0, -2, 1, 0),
+            (Fold::Any, 0, 0, 0, 0),
+        ] {
+            assert_eq!(rt; join(fold, a, b), want, "{fold:?} of {a} and {b}");
+            assert_eq!(rt; unit(fold), over_nothing, "{fold:?} over nothing");
+        }
+    }
+}

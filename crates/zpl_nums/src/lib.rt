@@ -11,5 +11,9 @@ mod operators;
 
 pub use ends::{Border, End, TrapKind};
 pub use folds::{Fold, join, unit};
-pub use laws::{join_is_associative, join_is_commutative, unit_is_neutral, wrapping_is_modular};
+pub use laws::{
+    fold_of_concatenation, fold_of_first_and_rest, fold_of_parts, fold_of_permutation,
+    folds_stay_values, join_is_associative, join_is_commutative, operators_stay_in_range,
+    unit_is_neutral, wrapping_is_modular,
+};
 pub use operators::{Op, apply};

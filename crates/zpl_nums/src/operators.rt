@@ -63,3 +63,52 @@ pub fn apply(op: Op, a: i64, b: i64) -> Option<i64>
     };
     Some(value)
 }
+
+#[cfg(test)]
+mod tests {
+    use super::{Op, apply};
+
+    const LEAST: i64 = i64::MIN;
+
+    const GREATEST: i64 = i64::MAX;
+
+    #[test]
+    fn operators_at_their_edges(rt: HostRuntime) {
+        for (op, a, b, want) in [
+            (Op::Add, GREATEST, 1, Some(LEAST)),
+            (Op::Add, -3, 5, Some(2)),
+            (Op::Sub, LEAST, 1, Some(GREATEST)),
+            (Op::Sub, 0, LEAST, Some(LEAST)),
+            (Op::Mul, LEAST, -1, Some(LEAST)),
+            (Op::Mul, 4_294_967_296, 4_294_967_296, Some(0)),
+            (Op::Div, 7, -2, Some(-3)),
+            (Op::Div, -7, 2, Some(-3)),
+            (Op::Div, LEAST, -1, Some(LEAST)),
+            (Op::Div, LEAST, 0, None),
+            (Op::Rem, 7, -2, Some(1)),
+            (Op::Rem, -7, 2, Some(-1)),
+            (Op::Rem, LEAST, -1, Some(0)),
+            (Op::Rem, 0, 0, None),
+            (Op::Eq, LEAST, LEAST, Some(1)),
+            (Op::Eq, 1, -1, Some(0)),
+            (Op::Ne, 1, -1, Some(1)),
+            (Op::Ne, 0, 0, Some(0)),
+            (Op::Lt, LEAST, GREATEST, Some(1)),
+            (Op::Lt, 4, 4, Some(0)),
+            (Op::Le, 4, 4, Some(1)),
+            (Op::Le, 0, -1, Some(0)),
+            (Op::Gt, GREATEST, LEAST, Some(1)),
+            (Op::Gt, 4, 4, Some(0)),
+            (Op::Ge, 4, 4, Some(1)),
+            (Op::Ge, LEAST, 0, Some(0)),
+            (Op::And, 2, 4, Some(1)),
+            (Op::And, LEAST, 0, Some(0)),
+            (Op::Or, 0, -8, Some(1)),
+            (Op::Or, 0, 0, Some(0)),
+            (Op::Max, LEAST, -1, Some(-1)),
+            (Op::Min, GREATEST, 1, Some(1)),
+        ] {
+            assert_eq!(rt; apply(op, a, b), want, "{op:?} of {a} and {b}");
+        }
+    }
+}

@@ -1,0 +1,4 @@
+pub mod Expression
+pub mod Fits
+pub mod Grid
+pub mod Value

@@ -1,0 +1,8 @@
+pub mod CountSink
+pub mod DiskFiles
+pub mod Faults
+pub mod Files
+pub mod MemFiles
+pub mod MemSink
+pub mod Sink
+pub mod StdSink

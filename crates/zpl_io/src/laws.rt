@@ -1,0 +1,64 @@
+//! Laws of what files and sinks tell, and of counting.
+//!
+//! Each law is the contract of a function that does nothing: a call brings the law into a proof.
+ghost use Rattle.std.specs.Prelude.{◌≡◌, ◌↔◌, ℕ, List, [], ◌++◌};
+ghost use Rattle.zpl_lists.specs.Front.{IsFrontOf};
+ghost use Rattle.zpl_io.specs.Sink.{Takes, TakesFront};
+ghost use Rattle.zpl_io.specs.MemFiles.{KeptFiles, HasText};
+ghost use Rattle.zpl_io.specs.MemSink.{KeptBytes};
+ghost use Rattle.zpl_io.specs.CountSink.{Tally, tally_of, tally_after};
+
+use crate::count_sink::CountSink;
+use crate::disk_files::DiskFiles;
+use crate::memory_files::MemFiles;
+use crate::memory_sink::MemSink;
+use crate::outside::{Files, Sink};
+use crate::std_sink::StdSink;
+use crate::sure_files::SureFiles;
+use std::io::Stdout;
+
+/// Two pieces that a sink takes one after another act as their concatenation, and an empty piece
+/// changes nothing.
+pub fn puts_join<S: Sink>()
+    ensures none { (sink : S) → Takes (S.tells sink) [] (S.tells sink) }
+    ensures whole { (before after : S) (x : List ℕ) →
+        Takes (S.tells before) x (S.tells after) → TakesFront (S.tells before) x (S.tells after) }
+    ensures both { (before between after : S) (x y : List ℕ) →
+        Takes (S.tells before) x (S.tells between) → Takes (S.tells between) y (S.tells after) →
+        Takes (S.tells before) (x ++ y) (S.tells after) }
+    ensures front { (before between after : S) (x y : List ℕ) →
+        Takes (S.tells before) x (S.tells between) → TakesFront (S.tells between) y (S.tells after) →
+        TakesFront (S.tells before) (x ++ y) (S.tells after) }
+{}
+
+/// Counting goes on where it stopped: a list counts as its parts do one after another.
+pub fn counting_goes_on()
+    ensures begins { (x : List ℕ) → tally_after (tally_of []) x ≡ tally_of x }
+    ensures lists { (x y : List ℕ) → tally_of (x ++ y) ≡ tally_after (tally_of x) y }
+    ensures pieces { (t : Tally) (x y : List ℕ) → tally_after t (x ++ y) ≡ tally_after (tally_after t x) y }
+{}
+
+/// What each kind of files tells: in memory its own texts and no others, on a disk every text.
+pub fn files_tell()
+    ensures memory { (files : KeptFiles) (name text : List ℕ) →
+        ⟦<MemFiles as Files>⟧.tells files name text ↔ HasText files name text }
+    ensures memory_faults { (files : KeptFiles) → ⟦<MemFiles as Files>⟧.faults files ≡ files.faults }
+    ensures sure { (kept name text : List ℕ) → ⟦<SureFiles as Files>⟧.tells kept name text ↔ (text ≡ kept) }
+    ensures sure_faults { (kept : List ℕ) → ⟦<SureFiles as Files>⟧.faults kept ≡ 0 }
+    ensures disk { (count : ℕ) (name text : List ℕ) →
+        ⟦<DiskFiles<HostRuntime> as Files>⟧.tells count name text }
+    ensures disk_faults { (count : ℕ) → ⟦<DiskFiles<HostRuntime> as Files>⟧.faults count ≡ count }
+{}
+
+/// What each kind of sink tells: in memory its own bytes and no others, counting each list of its
+/// number and hash, and a stream every list.
+pub fn sinks_tell()
+    ensures memory { (sink : KeptBytes) (bytes : List ℕ) →
+        ⟦<MemSink as Sink>⟧.tells sink bytes ↔ (bytes ≡ sink.taken) }
+    ensures memory_faults { (sink : KeptBytes) → ⟦<MemSink as Sink>⟧.faults sink ≡ sink.faults }
+    ensures counting { (tally : Tally) (bytes : List ℕ) →
+        ⟦<CountSink as Sink>⟧.tells tally bytes ↔ (tally ≡ tally_of bytes) }
+    ensures counting_faults { (tally : Tally) → ⟦<CountSink as Sink>⟧.faults tally ≡ 0 }
+    ensures stream { (sink : _) (bytes : List ℕ) → ⟦<StdSink<Stdout> as Sink>⟧.tells sink bytes }
+    ensures stream_faults { (sink : _) → ⟦<StdSink<Stdout> as Sink>⟧.faults sink ≡ sink.faults }
+{}

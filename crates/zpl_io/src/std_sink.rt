@@ -1,0 +1,78 @@
+//! A standard stream as a sink.
+ghost use Rattle.std.specs.Prelude.{◌≡◌, ◌≤◌, ⊤};
+ghost use Rattle.std.specs.Io.KnownBytes.{Appends};
+ghost use Rattle.zpl_io.specs.Faults.{last_count, Rose};
+ghost use Rattle.zpl_io.specs.StdSink.{WritesFront};
+
+use crate::outside::{Put, Sink};
+use std::io::Write;
+use std::marker::Model;
+
+/// Writes a piece, by as many writes as it takes, and flushes. An error ends it, and so does a write
+/// that takes nothing.
+fn write_piece<W: Write>(stream: &mut W, piece: &[u8]) -> Put
+    ensures done { result ≡ Put.Done →
+        Appends (W.contents stream.old) (W.contents stream.new) piece.now }
+    ensures failed { result ≡ Put.Failed →
+        WritesFront (W.contents stream.old) (W.contents stream.new) piece.now }
+{
+    let mut rest = piece;
+    while !rest.is_empty() {
+        match stream.write(rest) {
+            Ok(count) if count > 0 => rest = &rest[count..],
+            _ => return Put::Failed,
+        }
+    }
+    match stream.flush() {
+        Ok(()) => Put::Done,
+        Err(_) => Put::Failed,
+    }
+}
+
+/// A stream, as standard output or standard error. Of what it took nothing is told, but a writer
+/// whose bytes are known gains each piece, or a front of it where a put fails.
+#[derive(Drop)]
+pub struct StdSink<W> {
+    stream: W,
+    faults: u64,
+}
+
+impl<W> Model for StdSink<W> {
+    ghost use Rattle.zpl_io.specs.StdSink.{Stream};
+
+    ghost Value = { Stream W };
+
+    ghost view = { λ a. record { writer = a.stream; faults = a.faults } };
+}
+
+impl<W: Write> StdSink<W> {
+    /// A sink that writes to the stream.
+    pub fn new(stream: W) -> StdSink<W>
+        ensures { result ≡ record { writer = stream; faults = 0 } }
+    {
+        StdSink { stream, faults: 0 }
+    }
+}
+
+impl<W: Write> Sink for StdSink<W> {
+    ghost tells = { λ _ _. ⊤ };
+
+    ghost faults = { λ sink. sink.faults };
+
+    fn put(&mut self, bytes: &[u8]) -> Put
+        ensures done { result ≡ Put.Done →
+            Appends (W.contents self.old.writer) (W.contents self.new.writer) bytes.now }
+        ensures failed { result ≡ Put.Failed →
+            WritesFront (W.contents self.old.writer) (W.contents self.new.writer) bytes.now }
+        ensures cause { result ≡ Put.Failed → Rose self.old.faults self.new.faults }
+        ensures never_falls { self.old.faults ≤ self.new.faults }
+        ensures bounded { self.new.faults ≤ last_count }
+    {
+        let faults = self.faults;
+        let put = write_piece(&mut self.stream, bytes);
+        if put == Put::Failed {
+            self.faults = faults.saturating_add(1);
+        }
+        put
+    }
+}

@@ -1,0 +1,4 @@
+mod Examples
+pub mod FoldLemmas
+pub mod IntegerLemmas
+pub mod OperatorLemmas
