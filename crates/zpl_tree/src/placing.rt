@@ -43,10 +43,7 @@ pub fn place_program<'a>(
 }
 
 /// Places a copy of a list.
-pub fn place_list<'a, T: Copy>(
-    arena: &'a Bump<Global>,
-    items: &[T],
-) -> Result<&'a [T], AllocError>
+pub fn place_list<'a, T: Copy>(arena: &'a Bump<Global>, items: &[T]) -> Result<&'a [T], AllocError>
     ensures { IfOk result (λ placed. placed.now ≡ items.now) }
 {
     let placed = arena.try_alloc_slice_copy(items)?;

@@ -51,3 +51,6 @@ fn print_decls(text: &mut Vec<u8>, decls: &[Decl<'_>]) -> Result<(), AllocError>
     }
     Ok(())
 }
+
+#[cfg(test)]
+mod tests;

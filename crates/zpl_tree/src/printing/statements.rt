@@ -152,7 +152,14 @@ fn print_mask(text: &mut Vec<u8>, mask: &Option<Mask<'_>>) -> Result<(), AllocEr
     let Some(mask) = mask else {
         return Ok(());
     };
-    put_keyword(text, if mask.without { Key::Without } else { Key::With })?;
+    put_keyword(
+        text,
+        if mask.without {
+            Key::Without
+        } else {
+            Key::With
+        },
+    )?;
     put_name(text, &mask.name)
 }
 

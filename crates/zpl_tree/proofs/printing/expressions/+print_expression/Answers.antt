@@ -16,7 +16,7 @@ print_dir-returns-in_ok-print_exprs-in-Vector t c =
 pub print_expr-returns-in_ok-print_exprs-in-Call : goal.print_expr-returns-in_ok-print_exprs-in-Call
 print_expr-returns-in_ok-print_exprs-in-Call t c =
     let is : expr_of c.args.expr.now ≡ plain.Call c.args.expr.now.at (name_of c.in-Call.name) (exprs_of c.in-Call.actuals.now) =
-        ap (form_of c.args.expr.now.at) c.in-Call.is ∙ form_of-Call c.args.expr.now.at c.in-Call.name c.in-Call.actuals in
+    ap (form_of c.args.expr.now.at) c.in-Call.is ∙ form_of-Call c.args.expr.now.at c.in-Call.name c.in-Call.actuals in
     grind (arith, common_steps)
 
 pub print_expr-returns-in_ok-print_expr-in-Max-2 : goal.print_expr-returns-in_ok-print_expr-in-Max-2
@@ -28,7 +28,7 @@ pub print_inner-returns-in_ok-print_base-in-Rexpr : goal.print_inner-returns-in_
 print_inner-returns-in_ok-print_base-in-Rexpr t c =
     let parts = out-Rexpr c.in-Rexpr.rexpr in
     let is : inner_of c.args.inner.now ≡ plain.Rexpr (map pre_of parts.pre.now) (base_of parts.base) (posts_of parts.post.now) =
-        ap inner_of c.in-Rexpr.is ∙ rexpr_of-parts c.in-Rexpr.rexpr in
+    ap inner_of c.in-Rexpr.is ∙ rexpr_of-parts c.in-Rexpr.rexpr in
     grind (arith, common_steps)
 
 pub print_inner-returns-in-Dims : goal.print_inner-returns-in-Dims
