@@ -1,0 +1,6 @@
+pub mod Depth
+pub mod Shape
+pub mod Spelling
+pub mod Syntax
+pub mod View
+pub mod Word

@@ -1,0 +1,470 @@
+use super::print_tree;
+use crate::declarations::{
+    Base, Decl, Define, DirDef, Param, Procedure, Program, RegionDef, VarDef,
+};
+use crate::expressions::{Expr, ExprForm};
+use crate::names::Name;
+use crate::regions::{DimText, Dir, Inner, Post, Pre, RegionBase, Rexpr};
+use crate::statements::{Arm, ForHead, Form, Item, Mask, Prefix, Stmt};
+use std::alloc::{AllocError, Global};
+use std::test::Fail;
+use zpl_nums::{Border, Fold, Op};
+
+macro_rules! name {
+    ($text:literal) => {
+        Name { text: $text, at: 0 }
+    };
+}
+
+macro_rules! expr {
+    ($form:expr) => {
+        Expr { at: 0, form: $form }
+    };
+}
+
+macro_rules! value {
+    ($form:expr) => {
+        Item::Value(&Expr { at: 0, form: $form })
+    };
+}
+
+macro_rules! stmt {
+    ($form:expr) => {
+        Stmt {
+            at: 0,
+            prefixes: &[],
+            form: $form,
+        }
+    };
+}
+
+macro_rules! region {
+    ($text:literal) => {
+        Inner::Rexpr(Rexpr {
+            pre: &[],
+            base: RegionBase::Named(name!($text)),
+            post: &[],
+        })
+    };
+}
+
+macro_rules! program {
+    ($decls:expr) => {
+        Program {
+            name: name!(b"t"),
+            decls: $decls,
+            source: b"",
+        }
+    };
+}
+
+macro_rules! procedure {
+    ($body:expr) => {
+        Decl::Procedure(&Procedure {
+            name: name!(b"t"),
+            params: &[],
+            result: None,
+            locals: &[],
+            body: stmt!(Form::Block($body)),
+        })
+    };
+}
+
+const ONE: Expr<'static> = expr!(ExprForm::Number(1));
+
+const X: Expr<'static> = expr!(ExprForm::Named(name!(b"x")));
+
+const SUM: Program<'static> = program!(&[
+    Decl::Vars(&[VarDef {
+        names: &[name!(b"x")],
+        shape: None,
+        base: Base::Integer,
+    }]),
+    procedure!(&[stmt!(Form::Assign(
+        name!(b"x"),
+        None,
+        &expr!(ExprForm::Pair(
+            Op::Add,
+            &ONE,
+            &expr!(ExprForm::Neg(&expr!(ExprForm::Number(2))))
+        )),
+    ))]),
+]);
+
+const OPERATORS: Program<'static> = program!(&[procedure!(&[stmt!(Form::Write(
+    false,
+    &[
+        value!(ExprForm::Pair(Op::Add, &X, &ONE)),
+        value!(ExprForm::Pair(Op::Sub, &X, &ONE)),
+        value!(ExprForm::Pair(Op::Mul, &X, &ONE)),
+        value!(ExprForm::Pair(Op::Div, &X, &ONE)),
+        value!(ExprForm::Pair(Op::Rem, &X, &ONE)),
+        value!(ExprForm::Pair(Op::Eq, &X, &ONE)),
+        value!(ExprForm::Pair(Op::Ne, &X, &ONE)),
+        value!(ExprForm::Pair(Op::Lt, &X, &ONE)),
+        value!(ExprForm::Pair(Op::Le, &X, &ONE)),
+        value!(ExprForm::Pair(Op::Gt, &X, &ONE)),
+        value!(ExprForm::Pair(Op::Ge, &X, &ONE)),
+        value!(ExprForm::Pair(Op::And, &X, &ONE)),
+        value!(ExprForm::Pair(Op::Or, &X, &ONE)),
+        value!(ExprForm::Pair(Op::Max, &X, &ONE)),
+        value!(ExprForm::Pair(Op::Min, &X, &ONE)),
+    ],
+))])]);
+
+const EXPRESSIONS: Program<'static> = program!(&[procedure!(&[stmt!(Form::Write(
+    true,
+    &[
+        Item::Str(b"a\\n"),
+        value!(ExprForm::Number(i64::MAX)),
+        value!(ExprForm::Truth(true)),
+        value!(ExprForm::Truth(false)),
+        value!(ExprForm::Coord(1)),
+        value!(ExprForm::Coord(2)),
+        value!(ExprForm::Coord(3)),
+        value!(ExprForm::Shifted(name!(b"A"), Dir::Named(name!(b"d")))),
+        value!(ExprForm::Shifted(name!(b"A"), Dir::Vector(&[ONE, X]))),
+        value!(ExprForm::Call(name!(b"p"), &[])),
+        value!(ExprForm::Call(name!(b"p"), &[ONE, X])),
+        value!(ExprForm::Paren(&X)),
+        value!(ExprForm::Not(&X)),
+        value!(ExprForm::Abs(&X)),
+        value!(ExprForm::Reduce(Fold::Sum, None, &X)),
+        value!(ExprForm::Reduce(Fold::Prod, Some(region!(b"R")), &X)),
+        value!(ExprForm::Reduce(Fold::All, None, &X)),
+        value!(ExprForm::Scan(Fold::Max, None, &X)),
+        value!(ExprForm::Scan(Fold::Min, Some(2), &X)),
+        value!(ExprForm::Scan(Fold::Any, None, &X)),
+        value!(ExprForm::Flood(
+            Inner::Dims(&[
+                DimText::Span(&ONE, &X),
+                DimText::Star(0),
+                DimText::Blank(0),
+                DimText::One(&X)
+            ]),
+            &X
+        )),
+    ],
+))])]);
+
+const CALL: Stmt<'static> = stmt!(Form::Call(name!(b"p"), &[]));
+
+const SIMPLE: Program<'static> = program!(&[procedure!(&[
+    stmt!(Form::Assign(name!(b"x"), Some(Op::Add), &ONE)),
+    stmt!(Form::Assign(name!(b"x"), Some(Op::Sub), &ONE)),
+    stmt!(Form::Assign(name!(b"x"), Some(Op::Mul), &ONE)),
+    stmt!(Form::Assign(name!(b"x"), Some(Op::Div), &ONE)),
+    stmt!(Form::Assign(name!(b"x"), Some(Op::Rem), &ONE)),
+    stmt!(Form::Assign(name!(b"x"), Some(Op::And), &ONE)),
+    stmt!(Form::Assign(name!(b"x"), Some(Op::Or), &ONE)),
+    CALL,
+    stmt!(Form::Call(name!(b"p"), &[ONE, X])),
+    stmt!(Form::Border(Border::Wrap, &[name!(b"A"), name!(b"B")])),
+    stmt!(Form::Border(Border::Reflect, &[name!(b"A")])),
+    stmt!(Form::Write(false, &[])),
+    stmt!(Form::Return(&X)),
+])]);
+
+const COMPOUND: Program<'static> = program!(&[procedure!(&[
+    Stmt {
+        at: 0,
+        prefixes: &[
+            Prefix {
+                at: 0,
+                region: region!(b"R"),
+                mask: None
+            },
+            Prefix {
+                at: 0,
+                region: region!(b"R"),
+                mask: Some(Mask {
+                    name: name!(b"M"),
+                    without: false
+                })
+            },
+            Prefix {
+                at: 0,
+                region: Inner::Dims(&[DimText::Blank(0)]),
+                mask: Some(Mask {
+                    name: name!(b"M"),
+                    without: true
+                })
+            },
+        ],
+        form: Form::Block(&[CALL]),
+    },
+    stmt!(Form::If(
+        &[Arm {
+            at: 0,
+            test: &X,
+            body: &[]
+        }],
+        None
+    )),
+    stmt!(Form::If(
+        &[
+            Arm {
+                at: 0,
+                test: &X,
+                body: &[]
+            },
+            Arm {
+                at: 0,
+                test: &ONE,
+                body: &[CALL, CALL]
+            },
+        ],
+        Some(&[CALL]),
+    )),
+    stmt!(Form::While(&X, &[CALL])),
+    stmt!(Form::Repeat(&[CALL], 0, &X)),
+    stmt!(Form::For(
+        &ForHead {
+            name: name!(b"x"),
+            first: &ONE,
+            down: false,
+            last: &X,
+            step: None
+        },
+        &[CALL]
+    )),
+    stmt!(Form::For(
+        &ForHead {
+            name: name!(b"x"),
+            first: &X,
+            down: true,
+            last: &ONE,
+            step: Some(&X)
+        },
+        &[]
+    )),
+])]);
+
+const DECLARATIONS: Program<'static> = program!(&[
+    Decl::Config(&[Define {
+        name: name!(b"n"),
+        base: Base::Integer,
+        value: &ONE
+    }]),
+    Decl::Constant(&[
+        Define {
+            name: name!(b"c"),
+            base: Base::Boolean,
+            value: &X
+        },
+        Define {
+            name: name!(b"e"),
+            base: Base::Other(name!(b"real")),
+            value: &ONE
+        },
+    ]),
+    Decl::Regions(&[
+        RegionDef {
+            name: name!(b"R"),
+            body: Inner::Dims(&[DimText::Span(&ONE, &X)]),
+            posts: &[Post {
+                stride: true,
+                dir: Dir::Vector(&[ONE])
+            }]
+        },
+        RegionDef {
+            name: name!(b"S"),
+            body: Inner::Rexpr(Rexpr {
+                pre: &[
+                    Pre {
+                        dir: name!(b"d"),
+                        outside: true
+                    },
+                    Pre {
+                        dir: name!(b"d"),
+                        outside: false
+                    },
+                ],
+                base: RegionBase::Ditto(0),
+                post: &[Post {
+                    stride: false,
+                    dir: Dir::Named(name!(b"d"))
+                }]
+            }),
+            posts: &[]
+        },
+    ]),
+    Decl::Directions(&[DirDef {
+        name: name!(b"d"),
+        parts: &[ONE, X]
+    }]),
+    Decl::Vars(&[
+        VarDef {
+            names: &[name!(b"A"), name!(b"B")],
+            shape: Some(region!(b"R")),
+            base: Base::Integer
+        },
+        VarDef {
+            names: &[name!(b"x")],
+            shape: None,
+            base: Base::Boolean
+        },
+    ]),
+    Decl::Procedure(&Procedure {
+        name: name!(b"p"),
+        params: &[
+            Param {
+                by_ref: true,
+                names: &[name!(b"A"), name!(b"B")],
+                shape: Some(region!(b"R")),
+                base: Base::Integer
+            },
+            Param {
+                by_ref: false,
+                names: &[name!(b"x")],
+                shape: None,
+                base: Base::Boolean
+            },
+        ],
+        result: Some(Base::Integer),
+        locals: &[
+            VarDef {
+                names: &[name!(b"y")],
+                shape: None,
+                base: Base::Integer
+            },
+            VarDef {
+                names: &[name!(b"z")],
+                shape: Some(region!(b"R")),
+                base: Base::Boolean
+            },
+        ],
+        body: stmt!(Form::Block(&[])),
+    }),
+]);
+
+fn printed(alloc: Global, program: &Program<'_>) -> Result<Vec<u8>, AllocError> {
+    let mut text = Vec::new(alloc);
+    print_tree(alloc, program, &mut text)?;
+    Ok(text)
+}
+
+#[test]
+fn prints_a_sum(rt: HostRuntime) -> Result<(), Fail> {
+    let text = printed(rt.alloc(), &SUM)?;
+    let expected =
+        "program t ;\nvar x : integer ;\nprocedure t ( ) ;\nbegin x := 1 + - 2 ;\nend ;\n";
+    assert_eq!(rt; text.as_slice(), expected.as_bytes());
+    Ok(())
+}
+
+#[test]
+fn prints_each_operator(rt: HostRuntime) -> Result<(), Fail> {
+    let text = printed(rt.alloc(), &OPERATORS)?;
+    let expected =
+        "program t ;\nprocedure t ( ) ;\nbegin write ( x + 1 , x - 1 , x * 1 , x / 1 , x % 1 , x = 1 , x != 1 , x < 1 , x <= 1 , x > 1 , x >= 1 , x & 1 , x | 1 , max ( x , 1 ) , min ( x , 1 ) ) ;\nend ;\n";
+    assert_eq!(rt; text.as_slice(), expected.as_bytes());
+    Ok(())
+}
+
+#[test]
+fn prints_each_expression(rt: HostRuntime) -> Result<(), Fail> {
+    let text = printed(rt.alloc(), &EXPRESSIONS)?;
+    let lines = [
+        "program t ;",
+        "procedure t ( ) ;",
+        "begin writeln ( \"a\\n\" , 9223372036854775807 , true , false , Index1 , Index2 , Index3 , A @ d , A @ [ 1 , x ] , p ( ) , p ( 1 , x ) , ( x ) , ! x , abs ( x ) , + << x , * << [ R ] x , & << x , max || x , min || [ 2 ] x , | || x , >> [ 1 .. x , * , , x ] x ) ;",
+        "end ;",
+    ];
+    let mut expected = String::new(rt.alloc());
+    for line in lines {
+        expected.push_str(line)?;
+        expected.push('\n')?;
+    }
+    assert_eq!(rt; text.as_slice(), expected.as_bytes());
+    Ok(())
+}
+
+#[test]
+fn prints_each_simple_statement(rt: HostRuntime) -> Result<(), Fail> {
+    let text = printed(rt.alloc(), &SIMPLE)?;
+    let lines = [
+        "program t ;",
+        "procedure t ( ) ;",
+        "begin x += 1 ;",
+        "x -= 1 ;",
+        "x *= 1 ;",
+        "x /= 1 ;",
+        "x %= 1 ;",
+        "x &= 1 ;",
+        "x |= 1 ;",
+        "p ( ) ;",
+        "p ( 1 , x ) ;",
+        "wrap A , B ;",
+        "reflect A ;",
+        "write ( ) ;",
+        "return x ;",
+        "end ;",
+    ];
+    let mut expected = String::new(rt.alloc());
+    for line in lines {
+        expected.push_str(line)?;
+        expected.push('\n')?;
+    }
+    assert_eq!(rt; text.as_slice(), expected.as_bytes());
+    Ok(())
+}
+
+#[test]
+fn prints_each_compound_statement(rt: HostRuntime) -> Result<(), Fail> {
+    let text = printed(rt.alloc(), &COMPOUND)?;
+    let lines = [
+        "program t ;",
+        "procedure t ( ) ;",
+        "begin [ R ] [ R with M ] [ without M ] begin p ( ) ;",
+        "end ;",
+        "if x then end ;",
+        "if x then elsif 1 then p ( ) ;",
+        "p ( ) ;",
+        "else p ( ) ;",
+        "end ;",
+        "while x do p ( ) ;",
+        "end ;",
+        "repeat p ( ) ;",
+        "until x ;",
+        "for x := 1 to x do p ( ) ;",
+        "end ;",
+        "for x := x downto 1 by x do end ;",
+        "end ;",
+    ];
+    let mut expected = String::new(rt.alloc());
+    for line in lines {
+        expected.push_str(line)?;
+        expected.push('\n')?;
+    }
+    assert_eq!(rt; text.as_slice(), expected.as_bytes());
+    Ok(())
+}
+
+#[test]
+fn prints_each_declaration(rt: HostRuntime) -> Result<(), Fail> {
+    let text = printed(rt.alloc(), &DECLARATIONS)?;
+    let lines = [
+        "program t ;",
+        "config var n : integer = 1 ;",
+        "constant c : boolean = x ;",
+        "e : real = 1 ;",
+        "region R = [ 1 .. x ] by [ 1 ] ;",
+        "S = [ d of d in \" at d ] ;",
+        "direction d = [ 1 , x ] ;",
+        "var A , B : [ R ] integer ;",
+        "x : boolean ;",
+        "procedure p ( var A , B : [ R ] integer ;",
+        "x : boolean ) : integer ;",
+        "var y : integer ;",
+        "z : [ R ] boolean ;",
+        "begin end ;",
+    ];
+    let mut expected = String::new(rt.alloc());
+    for line in lines {
+        expected.push_str(line)?;
+        expected.push('\n')?;
+    }
+    assert_eq!(rt; text.as_slice(), expected.as_bytes());
+    Ok(())
+}
