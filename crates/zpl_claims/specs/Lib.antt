@@ -1,0 +1,9 @@
+pub mod Answer
+pub mod Bound
+pub mod Command
+pub mod Compiled
+pub mod Good
+pub mod LockStep
+pub mod Run
+pub mod Small
+pub mod Tidy

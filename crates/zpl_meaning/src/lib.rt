@@ -1,0 +1,9 @@
+//! What a program means: the bytes that it prints and how it ends, for a bound on the turns of each loop.
+//!
+//! The definitions stand in `specs/`; what runs is elsewhere. The functions here do nothing: each has a
+//! law of the definitions as its contract, and a call brings the law into a proof.
+#![tactic(auto)]
+
+mod laws;
+
+pub use laws::{endings_stay, meaning_grows};
