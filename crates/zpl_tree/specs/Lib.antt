@@ -1,5 +1,4 @@
 pub mod Depth
-pub mod Grammar
 pub mod Shape
 pub mod Spelling
 pub mod Syntax

@@ -3,7 +3,6 @@
 
 mod declarations;
 mod expressions;
-mod laws;
 mod names;
 mod placing;
 mod printing;
@@ -12,7 +11,6 @@ mod statements;
 
 pub use declarations::{Base, Decl, Define, DirDef, Param, Procedure, Program, RegionDef, VarDef};
 pub use expressions::{Expr, ExprForm};
-pub use laws::printing_spells;
 pub use names::Name;
 pub use placing::{place_expr, place_list, place_procedure, place_program};
 pub use printing::print_tree;
