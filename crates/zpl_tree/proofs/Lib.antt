@@ -1,2 +1,4 @@
+mod Examples
+pub mod Grammars
 pub mod Spellings
 pub mod Views

@@ -1,4 +1,5 @@
 pub mod Depth
+pub mod Grammar
 pub mod Shape
 pub mod Spelling
 pub mod Syntax

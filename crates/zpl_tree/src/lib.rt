@@ -3,6 +3,7 @@
 
 mod declarations;
 mod expressions;
+mod laws;
 mod names;
 mod placing;
 mod printing;
@@ -11,6 +12,7 @@ mod statements;
 
 pub use declarations::{Base, Decl, Define, DirDef, Param, Procedure, Program, RegionDef, VarDef};
 pub use expressions::{Expr, ExprForm};
+pub use laws::printed_words_are_a_spelling;
 pub use names::Name;
 pub use placing::{place_expr, place_list, place_procedure, place_program};
 pub use printing::print_tree;
