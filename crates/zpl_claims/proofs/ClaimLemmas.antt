@@ -1,8 +1,8 @@
 -- A list of words gives one command, and a run has one number of turns.
-use Rattle.std.proofs.Common.{◌≡◌, ℕ, ◌+◌, ◌<◌, ◌≤◌, ◌⊎◌, List, [], ◌∷◌, ◌++◌, drop, codes, refl, sym, ◌∙◌, ap, subst, inl, inr, arith}
+use Rattle.std.proofs.Common.{◌≡◌, ℕ, ◌<◌, List, [], ◌∷◌, drop, codes, sym, ◌∙◌, ap, subst, inl, inr, arith}
 use Rattle.node_form.specs.declared.tables.Tables.{Tables}
-use Rattle.zpl_claims.specs.Command.{RunWords, IsNumber, IsTurnsWord, AreRunWords, IsRunCommand, Command, Run, IsCommand, most_turns}
-use Rattle.zpl_claims.specs.Run.{IsRun, Stops, grid_at}
+use Rattle.zpl_claims.specs.Command.{RunWords, IsNumber, IsTurnsWord, AreRunWords, Command, Run, IsCommand}
+use Rattle.zpl_claims.specs.Run.{IsRun}
 
 number_is_one : (text : List ℕ) (n m : ℕ) → IsNumber text n → IsNumber text m → n ≡ m
 number_is_one text n m f g = f.value ∙ sym g.value

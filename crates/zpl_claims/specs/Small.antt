@@ -1,6 +1,6 @@
 -- Small programs: integers, assignments of sums, loops over comparisons, and lines of print. They are the
 -- programs that have code so far.
-use Rattle.std.specs.Prelude.{◌≡◌, ℕ, ℤ, pos, ◌≤ℤ◌, ◌+◌, ◌≤◌, max, ◌⊎◌, List, [], ◌∷◌, length, map, Option, Some, None, Contains, IsTrue}
+use Rattle.std.specs.Prelude.{◌≡◌, ℕ, ℤ, pos, ◌≤ℤ◌, ◌+◌, ◌≤◌, max, List, [], ◌∷◌, length, map, Some, None, Contains, IsTrue}
 use Rattle.std.specs.List.{AllByRecursion}
 use Rattle.zpl_nums.specs.declared.operators.Op.{Op}
 use Rattle.zpl_nums.specs.declared.operators.Op.TheVariants as op
@@ -9,7 +9,7 @@ use Rattle.zpl_text.specs.declared.tokens.Token.{Token}
 use Rattle.zpl_text.specs.Tokens.{IsTokens}
 use Rattle.zpl_tree.specs.Spelling.{program_words}
 use Rattle.zpl_grammar.specs.Written.{AreWords}
-use Rattle.zpl_tree.specs.Syntax.{Name, Expr, Number, Truth, Coord, Named, Shifted, Call, Paren, Neg, Not, Abs, Pair, Reduce, Scan, Flood, NoBracket, Item, Str, Value, Stmt, Prefixed, Stmts, NoStmt, ThenStmt, Form, Assign, Invoke, Block, If, While, Repeat, For, Border, Write, Return, Arms, Otherwise, Integer, VarDef, Procedure, Decl, Vars, Defined, Program}
+use Rattle.zpl_tree.specs.Syntax.{Name, Expr, Number, Named, Pair, NoBracket, Item, Str, Value, Stmt, Prefixed, Stmts, NoStmt, ThenStmt, Form, Assign, Invoke, Block, If, While, Repeat, For, Border, Write, Return, Integer, VarDef, Procedure, Decl, Vars, Defined, Program}
 
 -- ---- expressions over variables with these names
 -- a number as it is written: without a sign, and at most the greatest integer

@@ -1,7 +1,7 @@
 -- Code that is tidy: for the grid that was handed in, of a size that the source bounds, and with no more
 -- instructions than its statements need.
-use Rattle.std.specs.Prelude.{◌≡◌, ℕ, ◌+◌, ◌-◌, ◌*◌, ◌≤◌, List, length, sum_by, map, Option, Some, None}
-use Rattle.zpl_tree.specs.Syntax.{Procedure, Decl, Program}
+use Rattle.std.specs.Prelude.{◌≡◌, ℕ, ◌+◌, ◌-◌, ◌*◌, ◌≤◌, List, length, sum_by, Option, Some, None}
+use Rattle.zpl_tree.specs.Syntax.{Procedure, Program}
 use Rattle.zpl_tree.specs.Spelling.{stmt_words}
 use Rattle.node_form.specs.declared.tables.Tables.{Tables}
 use Rattle.zpl_meaning.specs.Program.{procedures, entry_of}

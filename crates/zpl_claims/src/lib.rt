@@ -6,4 +6,4 @@
 
 mod laws;
 
-pub use laws::{commands_are_one, runs_are_one};
+pub use laws::{commands_are_one, runs_are_one, smallness_is_of_the_shape};
