@@ -10,10 +10,7 @@ use std::alloc::{AllocError, Global};
 pub fn place_expr<'a>(arena: &'a Bump<Global>, node: Expr<'a>) -> Result<&'a Expr<'a>, Expr<'a>>
     ensures { MatchResult result (λ r. r.now ≡ node.entry) (λ e. e ≡ node.entry) }
 {
-    match arena.try_alloc(node) {
-        Ok(placed) => Ok(placed),
-        Err(failed) => Err(failed.value),
-    }
+    place(arena, node)
 }
 
 /// Places a procedure. Where memory runs out the node comes back.
@@ -23,10 +20,7 @@ pub fn place_procedure<'a>(
 ) -> Result<&'a Procedure<'a>, Procedure<'a>>
     ensures { MatchResult result (λ r. r.now ≡ node.entry) (λ e. e ≡ node.entry) }
 {
-    match arena.try_alloc(node) {
-        Ok(placed) => Ok(placed),
-        Err(failed) => Err(failed.value),
-    }
+    place(arena, node)
 }
 
 /// Places a program. Where memory runs out the node comes back.
@@ -36,7 +30,14 @@ pub fn place_program<'a>(
 ) -> Result<&'a Program<'a>, Program<'a>>
     ensures { MatchResult result (λ r. r.now ≡ node.entry) (λ e. e ≡ node.entry) }
 {
-    match arena.try_alloc(node) {
+    place(arena, node)
+}
+
+// Places a value. Where memory runs out the value comes back.
+fn place<T: Drop>(arena: &Bump<Global>, value: T) -> Result<&T, T>
+    ensures { MatchResult result (λ placed. placed.now ≡ value) (λ back. back ≡ value) }
+{
+    match arena.try_alloc(value) {
         Ok(placed) => Ok(placed),
         Err(failed) => Err(failed.value),
     }
