@@ -97,7 +97,7 @@ no_name_as_index h = h.0
 -- `1 .. A , * , , 1`
 dimension_words : inner_words (Dims (ThenDim (Span one array) (ThenDim (Star 0) (ThenDim (Blank 0) (ThenDim (One one) NoDim)))))
     ≡ word.Number (pos 1) ∷ word.Symbol sym.DotDot ∷ word.Name (codes "A") ∷ word.Symbol sym.Comma ∷ word.Symbol sym.Star ∷
-      word.Symbol sym.Comma ∷ word.Symbol sym.Comma ∷ word.Number (pos 1) ∷ []
+    word.Symbol sym.Comma ∷ word.Symbol sym.Comma ∷ word.Number (pos 1) ∷ []
 dimension_words = refl
 
 -- `R = S at d ;`, printed as `R = [ S at d ] ;`
