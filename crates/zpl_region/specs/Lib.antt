@@ -1,0 +1,3 @@
+pub mod Dim
+pub mod Progression
+pub mod Region
