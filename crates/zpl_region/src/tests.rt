@@ -71,8 +71,11 @@ fn walk(rt: &impl Abort, rank: u8, a: Dim, b: Dim, c: Dim) {
     let mut last: Vec3 = [-5, -5, -5];
     for x in -4..=9 {
         for y in -4..=9 {
+            if !has(a, x) || !has(b, y) {
+                continue;
+            }
             for z in -4..=9 {
-                if has(a, x) && has(b, y) && has(c, z) {
+                if has(c, z) {
                     assert_eq!(rt; region.nth(seen), Some([x, y, z]));
                     assert_eq!(rt; region.next_after(last), Some([x, y, z]));
                     seen = seen.saturating_add(1);
@@ -86,15 +89,43 @@ fn walk(rt: &impl Abort, rank: u8, a: Dim, b: Dim, c: Dim) {
     assert_eq!(rt; region.next_after(last), None);
 }
 
+/// Moves a line by each distance up to 7, and looks for each number that it had.
+fn moves(rt: &impl Abort, dim: Dim) {
+    let line = region(rt, 1, dim, PADDING, PADDING);
+    for d in -7..=7 {
+        let moved = line.at([d, 0, 0]).expect(rt, "a small region");
+        for x in -4..=9 {
+            let to = d.wrapping_add(x);
+            let found = moved.next_after([to.wrapping_sub(1), 0, 0]) == Some([to, 0, 0]);
+            assert_eq!(rt; found, has(dim, x), "{x} of {dim:?}, moved by {d}");
+        }
+    }
+}
+
+/// Walks over the lines with these bounds and this step, and moves those that begin at -4.
+fn lines(rt: &impl Abort, lo: i64, hi: i64, step: i64) {
+    for align in -3..=7 {
+        let dim = range((lo, hi, step, align));
+        walk(rt, 1, dim, PADDING, PADDING);
+        if lo == -4 {
+            moves(rt, dim);
+        }
+    }
+}
+
 #[test]
-fn tuples_of_a_plain_search(rt: HostRuntime) {
+fn lines_of_a_plain_search(rt: HostRuntime) {
     for lo in -4..=9 {
         for hi in -4..=9 {
-            for (step, align) in [(1, 0), (2, -3), (3, 7), (4, 1), (5, -2)] {
-                walk(&rt, 1, range((lo, hi, step, align)), PADDING, PADDING);
+            for step in 1..=5 {
+                lines(&rt, lo, hi, step);
             }
         }
     }
+}
+
+#[test]
+fn planes_and_spaces_of_a_plain_search(rt: HostRuntime) {
     let evens = range((-4, 9, 2, 0));
     let few = range((1, 3, 1, 1));
     let none = range((3, 1, 1, 3));
