@@ -1,6 +1,9 @@
 -- The answers of the top call: the cause of each status, and what is told on the stream for errors.
 use Rattle.std.specs.Prelude.{◌≡◌, ℕ, ◌<◌, ◌≤◌, List, [], ◌∷◌, ◌++◌, length, Option, Some, None, codes}
-use Rattle.zpl_nums.specs.declared.ends.End.TheVariants.{Done}
+use Rattle.std.specs.Fmt.{decimal}
+use Rattle.zpl_nums.specs.declared.ends.End.TheVariants.{Done, Trap}
+use Rattle.zpl_nums.specs.declared.ends.TrapKind.{TrapKind}
+use Rattle.zpl_nums.specs.declared.ends.TrapKind.TheVariants.{DivideByZero, OutsideStorage, RegionLimit, RegionMismatch}
 use Rattle.zpl_tree.specs.Syntax.{Program}
 use Rattle.node_form.specs.declared.tables.Tables.{Tables}
 use Rattle.grid_meaning.specs.Grid.{IsOver, EndsAs}
@@ -32,6 +35,16 @@ turn_limit_text = codes "turn limit\n"
 abbrev pub no_memory_text : List ℕ
 no_memory_text = codes "no memory\n"
 
+-- what is told of a trap
+abbrev pub trap_name : TrapKind → List ℕ
+trap_name DivideByZero = codes "division by zero"
+trap_name OutsideStorage = codes "reference outside storage"
+trap_name RegionLimit = codes "region limit"
+trap_name RegionMismatch = codes "regions do not conform"
+
+abbrev pub trap_text : TrapKind → ℕ → List ℕ
+trap_text kind line = codes "trap: " ++ (trap_name kind ++ (codes ", line " ++ (decimal line ++ codes "\n")))
+
 -- the grid of a run without the word for another: one processor
 abbrev pub one_processor : List ℕ
 one_processor = 1 ∷ 0 ∷ 0 ∷ []
@@ -55,5 +68,6 @@ pub data Cause (Told : List ℕ → List ℕ → Type 0) (words : List (List ℕ
   too_long : (file : List ℕ) (rest : RunWords) (text : List ℕ) → IsCommand words (Run file rest) → Told file text → most_source < length text → HasNoRun code turns → Cause Told words code turns 3 (too_long_text file)
   refused : (file : List ℕ) (rest : RunWords) (text : List ℕ) → IsCommand words (Run file rest) → Told file text → length text ≤ most_source → ((program : Program) → IsSmallText text program → ⊥) → HasNoRun code turns → Cause Told words code turns 4 not_built_text
   done : (file : List ℕ) (rest : RunWords) (text : List ℕ) (made : Tables) → IsCommand words (Run file rest) → Told file text → code ≡ Some made → IsCodeOf text made → IsRun made [] rest.turns turns → EndsAs (grid_at made [] turns) Done → Cause Told words code turns 0 []
+  trap : (file : List ℕ) (rest : RunWords) (text : List ℕ) (made : Tables) (kind : TrapKind) (line : ℕ) → IsCommand words (Run file rest) → Told file text → code ≡ Some made → IsCodeOf text made → IsRun made [] rest.turns turns → EndsAs (grid_at made [] turns) (Trap kind line) → Cause Told words code turns 7 (trap_text kind line)
   turn_limit : (file : List ℕ) (rest : RunWords) (text : List ℕ) (made : Tables) → IsCommand words (Run file rest) → Told file text → code ≡ Some made → IsCodeOf text made → turns ≡ rest.turns → IsRun made [] rest.turns turns → (IsOver (grid_at made [] turns) → ⊥) → Cause Told words code turns 8 turn_limit_text
   no_memory : Cause Told words code turns 10 no_memory_text

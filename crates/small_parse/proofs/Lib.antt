@@ -1,0 +1,7 @@
+mod Reading
+mod Sums
+mod Shapes
+mod Lists
+mod Forms
+mod Wholes
+mod Examples

@@ -1,0 +1,3 @@
+pub mod SmallShape
+pub mod Reading
+pub mod Operators

@@ -1,0 +1,5 @@
+mod Examples
+mod QuietLemmas
+mod RunLemmas
+mod StackLemmas
+mod TurnLemmas

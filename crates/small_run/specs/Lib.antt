@@ -1,0 +1,5 @@
+pub mod Counts
+pub mod Machine
+pub mod Processor
+pub mod Run
+pub mod Words
