@@ -1,0 +1,17 @@
+pub mod DraftLemmas
+pub mod EmitLemmas
+pub mod FitLemmas
+pub mod Good
+pub mod LineLemmas
+pub mod LoopLemmas
+pub mod NameLemmas
+pub mod PartLemmas
+pub mod ProgramLemmas
+pub mod Runs
+pub mod ScopeLemmas
+pub mod Simulation
+pub mod SizeLemmas
+pub mod SumLemmas
+pub mod TidyLemmas
+pub mod Views
+pub mod Whole

@@ -1,0 +1,120 @@
+-- The size of a small program's code.
+use Rattle.std.proofs.Common.{◌≡◌, ℕ, zero, suc, ◌+◌, ◌-◌, ◌*◌, ◌<◌, ◌≤◌, true, cond, List, [], ◌∷◌, ◌++◌, length, Option, Some, None, refl, sym, ap, ◌∙◌, subst, arith, length-append}
+use Rattle.std.specs.Prelude.{sum_by, find}
+use Rattle.std.specs.List.{flat_map}
+use Rattle.std.specs.Str.{bytes_eq}
+use Rattle.std.proofs.lemmas.List.Sums.{sum_by-append, sum_by-cons}
+use Rattle.zpl_tokens.specs.declared.keywords.Key.TheVariants as key
+use Rattle.zpl_tokens.specs.declared.symbols.Sym.TheVariants as sym
+use Rattle.zpl_tree.specs.Syntax.{Name, NoBracket, Integer, Stmts, Prefixed, Block, Procedure, Decl, Vars, Defined, Program}
+use Rattle.zpl_tree.specs.Word.{Word, word_text}
+use Rattle.zpl_tree.specs.Word as word
+use Rattle.zpl_tree.specs.Spelling.{symbol, keyword, name_words, names_words, separated, type_words, bracket_words, var_words, heading_words, locals_words, procedure_words, decl_words, program_words, stmt_words, stmts_words, end_words}
+use Rattle.node_form.specs.declared.tables.Tables.{Tables}
+use Rattle.node_form.specs.declared.words.Instr.TheVariants as instr
+use Rattle.zpl_meaning.specs.Program.{procedures, entry_of}
+use Rattle.zpl_claims.specs.Small.{integers, plain_procedure, small_decls}
+use Rattle.zpl_claims.specs.Tidy.{code_size, body_tokens, entry_tokens, executed_tokens, other_tokens, source_size, other_size, IsTidy}
+use Rattle.small_code.specs.Claims.{HoldsItsWords}
+use Rattle.small_code.specs.Draft.{first_tables}
+use Rattle.small_code.specs.Size.{GrowsBy, weight}
+use Rattle.small_code.proofs.EmitLemmas.{with_row, size_row}
+use Rattle.small_code.proofs.Whole.{small_entry}
+
+-- the bytes of words
+abbrev bytes_of : Word → ℕ
+bytes_of word = length (word_text word)
+
+abbrev weight_of : Word → ℕ
+weight_of word = 1 + length (word_text word)
+
+abbrev bytes : List Word → ℕ
+bytes words = sum_by bytes_of words
+
+bytes-append : (a b : List Word) → bytes (a ++ b) ≡ bytes a + bytes b
+bytes-append a b = sum_by-append bytes_of a b
+
+weight-bytes : (words : List Word) → weight words ≡ length words + bytes words
+weight-bytes [] = refl
+weight-bytes (word ∷ words) =
+    let rest = weight-bytes words in
+    omega (arith, rest, sum_by-cons weight_of word words, sum_by-cons bytes_of word words)
+
+-- commas between names
+names_bytes : (names : List Name) → length names ≤ bytes (names_words names) + 1
+names_bytes [] = omega arith
+names_bytes (x ∷ names) = from x names
+  where
+    from : (x : Name) (names : List Name) → length (x ∷ names) ≤ bytes (names_words (x ∷ names)) + 1
+    from x [] = omega arith
+    from x (y ∷ names) = let rest = from y names in omega (arith, bytes-append, rest)
+
+-- ---- the words of a small program
+module _ (program : Program) (names : List Name) (entry : Name) (at : ℕ) (body : Stmts)
+    (decls : program.decls ≡ small_decls names entry at body) (is_entry : entry.text ≡ program.name.text) where
+  abbrev plain : Procedure
+  plain = plain_procedure entry at body
+
+  block : length (stmt_words plain.body) ≡ length (stmts_words body) + 3
+  block = omega (arith, length-append (stmts_words body) end_words)
+
+  -- the words of the statements that are executed are those of the body
+  executed : executed_tokens program ≡ length (stmts_words body) + 3
+  executed =
+      ap (λ decls. entry_tokens (find (λ (procedure : Procedure). bytes_eq procedure.name.text program.name.text) (procedures decls))) decls
+      ∙ ap entry_tokens (small_entry program.source program.name.text names entry at body is_entry)
+      ∙ block
+
+  block_bytes : bytes (stmts_words body) ≤ bytes (stmt_words plain.body)
+  block_bytes =
+      let all = bytes-append (keyword key.Begin) (stmts_words body ++ end_words) in
+      omega (arith, all, bytes-append (stmts_words body) end_words)
+
+  procedure_bytes : bytes (stmts_words body) ≤ bytes (decl_words (Defined plain))
+  procedure_bytes =
+      omega (arith, block_bytes, bytes-append (heading_words plain ++ locals_words []) (stmt_words plain.body))
+
+  var_bytes : (list : List Name) → length list ≤ bytes (decl_words (Vars (integers list ∷ [])))
+  var_bytes list =
+      let names = names_words list in
+      let front = (names ++ symbol sym.Colon) ++ bracket_words NoBracket in
+      let spelled = (front ++ type_words Integer) ++ symbol sym.Semicolon in
+      omega (
+        arith,
+        names_bytes list,
+        bytes-append (keyword key.Var) (spelled ++ []),
+        bytes-append spelled [],
+        bytes-append (front ++ type_words Integer) (symbol sym.Semicolon),
+        bytes-append front (type_words Integer),
+        bytes-append (names ++ symbol sym.Colon) (bracket_words NoBracket),
+        bytes-append names (symbol sym.Colon),
+      )
+
+  decls_bytes : (list : List Name) → length list + bytes (stmts_words body) ≤ bytes (flat_map decl_words (small_decls list entry at body))
+  decls_bytes [] = omega (arith, procedure_bytes, bytes-append (decl_words (Defined plain)) [])
+  decls_bytes (x ∷ list) =
+      omega (
+        arith,
+        var_bytes (x ∷ list),
+        procedure_bytes,
+        bytes-append (decl_words (Vars (integers (x ∷ list) ∷ []))) (decl_words (Defined plain) ++ []),
+        bytes-append (decl_words (Defined plain)) [],
+      )
+
+  program_bytes : length names + bytes (stmts_words body) ≤ bytes (program_words program)
+  program_bytes =
+      let front = (keyword key.Program ++ name_words program.name) ++ symbol sym.Semicolon in
+      let inner = flat_map decl_words program.decls in
+      let same : bytes inner ≡ bytes (flat_map decl_words (small_decls names entry at body)) = ap (λ decls. bytes (flat_map decl_words decls)) decls in
+      omega (arith, decls_bytes names, same, bytes-append (front ++ inner) (word.End ∷ []), bytes-append front inner)
+
+  -- ---- the code
+  pub small_is_tidy : (drafted : Tables) → GrowsBy (stmts_words body) (first_tables (length names)) drafted → drafted.grid ≡ 1 ∷ 0 ∷ 0 ∷ [] → HoldsItsWords program → IsTidy (1 ∷ 0 ∷ 0 ∷ []) program (length (program_words program)) (with_row drafted instr.End)
+  small_is_tidy drafted g grid holds =
+      let last = size_row drafted instr.End in
+      let rows = length-append drafted.code (instr.End ∷ []) in
+      record {
+        for_grid = grid;
+        small = omega (arith, last, g.size, weight-bytes (stmts_words body), program_bytes, holds, executed);
+        few = omega (arith, rows, g.rows, executed);
+      }

@@ -1,0 +1,13 @@
+use Rattle.std.proofs.Common.{◌++◌, sym, ap, ◌∙◌, subst}
+use Rattle.zpl_tree.specs.View.{expr_of}
+use Rattle.node_form.specs.Expression.{words_of}
+use Rattle.node_form.specs.Fits.{FitsExpr}
+use Rattle.small_code.specs.Names.{tree_of}
+use Rattle.small_code.proofs.FitLemmas.{sum_fits}
+use Rattle.small_code.proofs.sums.emit_sum.Goals as goal
+
+pub add_expr-requires : goal.add_expr-requires
+add_expr-requires c =
+    let words = words_of (tree_of c.args.scope.now (expr_of c.args.sum.now)) in
+    let is = c.of.ensures ∙ c.in_ok-put_sum.ensures.words ∙ ap (λ l. l ++ words) c.new-words.ensures.items in
+    subst (FitsExpr c.args.draft.now) (sym is) (sum_fits c.args.draft.now c.args.scope.now c.requires (expr_of c.args.sum.now) c.in_ok-put_sum.ensures.sum)

@@ -1,0 +1,11 @@
+pub mod Bare
+pub mod Claims
+pub mod Draft
+pub mod Emits
+pub mod Fault
+pub mod Loop
+pub mod Made
+pub mod Names
+pub mod Parts
+pub mod Rows
+pub mod Size

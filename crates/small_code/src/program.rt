@@ -1,0 +1,76 @@
+//! The code of a program.
+ghost use Rattle.std.specs.Prelude.{◌∷◌, [], OnOk, IfOk, IfErr, length, map};
+ghost use Rattle.zpl_tree.specs.Spelling.{program_words};
+ghost use Rattle.zpl_tree.specs.View.{name_of, stmts_of, syntax_of};
+ghost use Rattle.zpl_meaning.specs.Program.{mean_of};
+ghost use Rattle.zpl_claims.specs.Bound.{EndsInBound};
+ghost use Rattle.zpl_claims.specs.Good.{IsGood};
+ghost use Rattle.zpl_claims.specs.LockStep.{HasLockSteps};
+ghost use Rattle.zpl_claims.specs.Small.{IsSmall};
+ghost use Rattle.zpl_claims.specs.Tidy.{IsTidy};
+ghost use Rattle.small_code.specs.Claims.{HoldsItsWords};
+ghost use Rattle.small_code.specs.Fault.{Refutes};
+ghost use Rattle.small_code.specs.Made.{CanBeMade, IsMade};
+
+use crate::draft::Draft;
+use crate::fault::CodeFault;
+use crate::lines::Lines;
+use crate::parts::{body_of, parts_of};
+use crate::scope::Scope;
+use crate::statements::emit_stmts;
+use grid_meaning::given_turns_are_orders;
+use node_form::{Instr, NodeProgram, words_push_their_value};
+use std::alloc::Global;
+use zpl_tree::{Name, Program, Stmt};
+
+/// How deep loops may stand in one another.
+const MOST_LOOPS: u32 = 100;
+
+/// The code of a small program, for a grid of one processor.
+pub fn code_of_small(alloc: Global, program: &Program<'_>) -> Result<NodeProgram, CodeFault>
+    // There is code for small programs and no others, unless memory runs out.
+    ensures built { OnOk result (IsSmall (syntax_of program.now)) }
+    ensures refused { IfErr result (λ fault. Refutes fault (IsSmall (syntax_of program.now))) }
+
+    // It is right after every order of turns, some order brings it to each bound of the meaning, and where
+    // the meaning ends it comes to its end in time.
+    ensures good { IfOk result (λ code. IsGood code (mean_of (syntax_of program.now))) }
+    ensures in_step { IfOk result (λ code. HasLockSteps code (mean_of (syntax_of program.now))) }
+    ensures bound { IfOk result (λ code. EndsInBound code (syntax_of program.now)) }
+
+    // It is for one processor, and no larger than the source.
+    ensures tidy { IfOk result (λ code. HoldsItsWords (syntax_of program.now) → IsTidy (1 ∷ 0 ∷ 0 ∷ []) (syntax_of program.now) (length (program_words (syntax_of program.now))) code) }
+{
+    given_turns_are_orders();
+    words_push_their_value();
+    let Some((names, entry)) = parts_of(program.decls) else {
+        return Err(CodeFault::NotBuilt);
+    };
+    if entry.name.text != program.name.text {
+        return Err(CodeFault::NotBuilt);
+    }
+    let Some(body) = body_of(entry) else {
+        return Err(CodeFault::NotBuilt);
+    };
+    code_of_body(alloc, program.source, program.name.text, names, body)
+}
+
+// The code of statements over these variables of a program.
+fn code_of_body(
+    alloc: Global,
+    source: &[u8],
+    program: &[u8],
+    names: &[Name<'_>],
+    body: &[Stmt<'_>],
+) -> Result<NodeProgram, CodeFault>
+    ensures made { IfOk result (IsMade source.now program.now (map name_of names.now) (stmts_of body.now)) }
+    ensures refused { IfErr result (λ fault. Refutes fault (CanBeMade program.now (map name_of names.now) (stmts_of body.now))) }
+{
+    let scope = Scope::of(alloc, program, names)?;
+    let mut draft = Draft::new(alloc, scope.count())?;
+    let mut lines = Lines::of(source);
+    emit_stmts(&mut draft, &scope, &mut lines, body, MOST_LOOPS)?;
+    draft.add(Instr::End)?;
+    let code = draft.into_program()?;
+    Ok(code)
+}
