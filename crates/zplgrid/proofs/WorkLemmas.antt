@@ -98,6 +98,7 @@ cut_off code alone k before after takes =
     let now = ap (λ (g : Grid). g.printed) (grid_is code alone k) in
     let next = ap (λ (g : Grid). g.printed) (grid_is code alone (k + 1)) in
     record {
+      made = refl;
       front = takes.front;
       is_front = subst (λ x. IsFrontOf (x ++ takes.front) (printed_of (Some code) (k + 1))) now (subst (λ y. IsFrontOf ((after_turns code k).printed ++ takes.front) y) next takes.is_front);
       takes = subst (λ x. Takes before (x ++ takes.front) after) now takes.takes;

@@ -1,5 +1,5 @@
 -- What the work on a text comes to.
-use Rattle.std.specs.Prelude.{◌≡◌, ◌≢◌, ℕ, ◌+◌, ◌<◌, List, [], ◌++◌, Option, Some, None}
+use Rattle.std.specs.Prelude.{◌≡◌, ◌≢◌, ℕ, ◌+◌, ◌<◌, List, [], ◌++◌, Option, Some, None, IsSome}
 use Rattle.zpl_lists.specs.Front.{IsFrontOf}
 use Rattle.zpl_nums.specs.declared.ends.End.{End}
 use Rattle.zpl_nums.specs.declared.ends.End.TheVariants.{Done, Trap, More}
@@ -70,8 +70,9 @@ abbrev pub printed_of : Option Tables → ℕ → List ℕ
 printed_of None turns = []
 printed_of (Some code) turns = (grid_at code [] turns).printed
 
--- A sink took what is printed in the first turns, and a front of what the next turn prints.
+-- Code was made, and a sink took what is printed in the first turns, and a front of what the next turn prints.
 pub record IsCutOff (code : Option Tables) (turns : ℕ) (before after : List ℕ → Type 0) : Type 0 where
+  pub made : IsSome code
   pub front : List ℕ
   pub is_front : IsFrontOf (printed_of code turns ++ front) (printed_of code (turns + 1))
   pub takes : Takes before (printed_of code turns ++ front) after
