@@ -1,0 +1,5 @@
+pub mod CodeLemmas
+pub mod CommandLemmas
+pub mod NumberLemmas
+pub mod TopLemmas
+pub mod WorkLemmas

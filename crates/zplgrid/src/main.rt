@@ -1,0 +1,39 @@
+//! `zplgrid` compiles a ZPL program to the one program that every processor of a grid runs, and simulates the grid.
+#![tactic(auto)]
+
+mod answers;
+mod commands;
+mod compiling;
+mod numbers;
+#[cfg(test)]
+mod tests;
+mod top;
+mod work;
+
+use std::process::ExitCode;
+use std::rt::Env;
+use std::{env, io};
+use zpl_io::{DiskFiles, StdSink};
+
+/// The words behind the program's name.
+fn words_of(rt: &(impl Env + AllocGlobal)) -> io::Result<Vec<String>> {
+    let mut words = Vec::new(rt.alloc());
+    for word in env::args(rt)?.skip(1) {
+        words.push(word)?;
+    }
+    Ok(words)
+}
+
+fn main(rt: HostRuntime) -> io::Result<ExitCode> {
+    // Words that aren't text are no command.
+    let words = match words_of(&rt) {
+        Err(error) if error.kind() == io::ErrorKind::InvalidData => Vec::new(rt.alloc()),
+        words => words?,
+    };
+    let mut out = StdSink::new(rt.stdout());
+    let mut errs = StdSink::new(rt.stderr());
+    let alloc = rt.alloc();
+    let mut files = DiskFiles::new(rt);
+    let ran = top::zplgrid(alloc, words.as_slice(), &mut files, &mut out, &mut errs);
+    Ok(ExitCode::from(ran.status))
+}
