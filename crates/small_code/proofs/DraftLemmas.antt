@@ -1,19 +1,17 @@
 -- Tables that grow keep what stands in them.
-use Rattle.std.proofs.Common.{◌≡◌, ℕ, zero, suc, ◌+◌, ◌*◌, ◌<◌, ◌≤◌, List, [], ◌∷◌, ◌++◌, length, get_or, Option, Some, None, refl, sym, ap, ◌∙◌, subst, arith, length-append, append_assoc, append-nil}
-use Rattle.std.specs.Prelude.{slice_get, slice_set, sum_by}
+use Rattle.std.proofs.Common.{◌≡◌, ℕ, ◌+◌, ◌<◌, ◌≤◌, List, [], ◌∷◌, ◌++◌, length, Some, refl, sym, ap, ◌∙◌, arith, length-append, append_assoc, append-nil}
+use Rattle.std.specs.Prelude.{slice_get}
 use Rattle.std.proofs.lemmas.Option.{slice_get-get_or, slice_get_within, get_or_from_slice_get}
 use Rattle.std.proofs.lemmas.List.{get_or_append_left}
-use Rattle.std.proofs.lemmas.List.Sums.{sum_by-append}
-use Rattle.std.proofs.Math.Seq.{get_or-append_seam, set-append_seam}
+use Rattle.std.proofs.Math.Seq.{get_or-append_seam}
 use Rattle.zpl_lists.specs.Front.{IsFrontOf}
 use Rattle.zpl_tree.specs.Word.{Word}
-use Rattle.zpl_tree.specs.Syntax.{Name, Expr, Item, Str, Value, Stmt, Prefixed, Stmts, NoStmt, ThenStmt, Form, Assign, Invoke, Block, If, While, Repeat, For, Border, Write, Return}
+use Rattle.zpl_tree.specs.Syntax.{Item, Str, Value, Stmt, Prefixed, Stmts, NoStmt, ThenStmt, Form, Assign, While, Write}
 use Rattle.node_form.specs.declared.tables.Tables.{Tables}
 use Rattle.node_form.specs.declared.words.Instr.{Instr}
-use Rattle.zpl_claims.specs.Tidy.{code_size}
 use Rattle.small_code.specs.Draft.{Extends}
-use Rattle.small_code.specs.Rows.{HasExpr, HasText, IsAssignment, IsLoop, IsText, IsNumber, IsItemRow, AreItems, IsLine, IsStmtCode, IsFormCode, AreStmtsCode}
-use Rattle.small_code.specs.Size.{GrowsBy, weight}
+use Rattle.small_code.specs.Rows.{IsText, IsItemRow, AreItems, IsStmtCode, IsFormCode, AreStmtsCode}
+use Rattle.small_code.specs.Size.{GrowsBy}
 use Rattle.small_code.proofs.SizeLemmas.{weight-append}
 
 -- ---- fronts

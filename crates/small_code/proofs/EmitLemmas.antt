@@ -1,7 +1,7 @@
 -- What the steps of emission amount to.
-use Rattle.std.proofs.Common.{◌≡◌, ◌≢◌, ℕ, zero, suc, ◌+◌, ◌-◌, ◌*◌, ◌<◌, ◌≤◌, true, List, [], ◌∷◌, ◌++◌, length, get_or, drop, map, Option, Some, None, refl, sym, ap, ◌∙◌, subst, arith, length-append, length-set, append_assoc, append-nil}
-use Rattle.std.specs.Prelude.{slice_get, slice_set, sum_by, unwrap_or, Contains, max}
-use Rattle.std.specs.List.{AllByRecursion, flat_map}
+use Rattle.std.proofs.Common.{◌≡◌, ◌≢◌, ℕ, ◌+◌, ◌-◌, ◌<◌, ◌≤◌, true, List, [], ◌∷◌, ◌++◌, length, Some, None, refl, sym, ap, ◌∙◌, subst, arith, length-append, length-set, append_assoc}
+use Rattle.std.specs.Prelude.{slice_get, slice_set, sum_by}
+use Rattle.std.specs.List.{flat_map}
 use Rattle.std.proofs.lemmas.Option.{slice_get-get_or, slice_get_within, get_or_from_slice_get}
 use Rattle.std.proofs.lemmas.List.{get_or-set_other}
 use Rattle.std.proofs.lemmas.List.Sums.{sum_by-append, sum_by-cons}
@@ -9,8 +9,7 @@ use Rattle.std.proofs.Math.Seq.{set-append_seam}
 use Rattle.zpl_lists.specs.Front.{IsFrontOf}
 use Rattle.zpl_tokens.specs.declared.keywords.Key.TheVariants as key
 use Rattle.zpl_tokens.specs.declared.symbols.Sym.TheVariants as sym
-use Rattle.zpl_tree.specs.Word.{Word}
-use Rattle.zpl_tree.specs.Syntax.{Name, Expr, Item, Str, Value, Stmt, Prefixed, Stmts, NoStmt, ThenStmt, Form, Assign, While, Write}
+use Rattle.zpl_tree.specs.Syntax.{Name, Expr, Item, Str, Value, Stmt, Prefixed, Stmts, NoStmt, ThenStmt, Assign, While, Write}
 use Rattle.zpl_tree.specs.Spelling.{symbol, keyword, expr_words, item_words, form_words, stmt_words, stmts_words, end_words, separated}
 use Rattle.zpl_meaning.specs.Text.{line_at, unescaped}
 use Rattle.node_form.specs.declared.tables.Tables.{Tables}
@@ -19,15 +18,15 @@ use Rattle.node_form.specs.declared.words.Instr.{Instr}
 use Rattle.node_form.specs.declared.words.Instr.TheVariants as instr
 use Rattle.node_form.specs.Expression.{words_of}
 use Rattle.zpl_claims.specs.Tidy.{code_size}
-use Rattle.zpl_claims.specs.Small.{IsSum, IsTest, IsItem, IsSmallStmt, AreSmall, stmt_loops, loops}
+use Rattle.zpl_claims.specs.Small.{IsSum, IsTest, IsItem}
 use Rattle.small_code.specs.Draft.{Extends, newline}
-use Rattle.small_code.specs.Emits.{Emitted, AreFine, AreFineItems, IsFine, IsFineLoop, Emits, EmitsAll, EmitsAssignment, EmitsItem, EmitsItems, EmitsLine, EmitsLoop}
+use Rattle.small_code.specs.Emits.{AreFine, AreFineItems, IsFine, Emits, EmitsAll, EmitsAssignment, EmitsItem, EmitsItems, EmitsLine, EmitsLoop}
 use Rattle.small_code.specs.Names.{place_of, tree_of}
 use Rattle.small_code.specs.Rows.{IsAssignment, IsLoop, AreItems, AreStmtsCode}
-use Rattle.small_code.specs.Size.{GrowsBy, weight}
+use Rattle.small_code.specs.Size.{weight}
 use Rattle.small_code.proofs.NameLemmas.{place_found}
 use Rattle.small_code.proofs.SizeLemmas.{weight-append, length-le-weight, sum_length, sum_some, test_length, unescaped_length, items_length, items_weight}
-use Rattle.small_code.proofs.DraftLemmas.{Keeps, front_all, front_push, front_through, last_row, front_row, extends_all, extends_through, extends_keeps, item_kept, items_kept, stmt_kept, stmts_kept, grows_none, grows_through}
+use Rattle.small_code.proofs.DraftLemmas.{Keeps, front_all, front_push, last_row, front_row, extends_all, extends_through, extends_keeps, item_kept, items_kept, stmt_kept, stmts_kept, grows_none, grows_through}
 
 -- ---- one row more
 abbrev pub with_expr : Tables → List ExprOp → Tables

@@ -1,6 +1,5 @@
 -- Code of one processor that follows a meaning is good for it after every order.
-use Rattle.std.proofs.Common.{◌≡◌, ◌≢◌, ◌⊎◌, inl, inr, ℕ, zero, suc, ◌+◌, ◌*◌, ◌^◌, ◌<◌, ◌≤◌, ◌==◌, Bool, true, false, List, [], ◌∷◌, ◌++◌, length, Option, Some, None, IsSome, refl, sym, ap, ◌∙◌, subst, ⊎_elim, arith, append-nil, replicate}
-use Rattle.std.specs.Prelude.{slice_get, All}
+use Rattle.std.proofs.Common.{◌≡◌, ◌≢◌, ◌⊎◌, inl, inr, ℕ, zero, suc, ◌+◌, ◌*◌, ◌<◌, ◌≤◌, true, List, [], length, Option, Some, None, IsSome, refl, sym, ap, ◌∙◌, subst, ⊎_elim, arith, append-nil, replicate}
 use Rattle.std.proofs.lemmas.Bool.{cases_lt}
 use Rattle.std.proofs.lemmas.List.Elements.{All-cons, All-head, All-nil, All-replicate}
 use Rattle.std.proofs.Math.ListN.{length-replicate}
@@ -10,13 +9,13 @@ use Rattle.zpl_nums.specs.declared.ends.End.TheVariants.{Done, Trap, More}
 use Rattle.node_form.specs.declared.tables.Tables.{Tables}
 use Rattle.grid_meaning.specs.Local.{Local}
 use Rattle.grid_meaning.specs.Turn.{Turn, Moves, Waiting, Over, Stuck}
-use Rattle.grid_meaning.specs.Grid.{Grid, processors, start_grid, next_turn, given_turn, after, IsOver, EndsAs, IsStuck, IsIdle, HasEmptyLinks}
+use Rattle.grid_meaning.specs.Grid.{Grid, processors, next_turn, given_turn, after, IsOver, IsStuck, IsIdle, HasEmptyLinks}
 use Rattle.grid_meaning.specs.Order.{IsOrder}
 use Rattle.zpl_meaning.specs.Program.{Meaning}
 use Rattle.zpl_meaning.specs.Outcome.{Outcome}
 use Rattle.zpl_claims.specs.Good.{Finishes, IsRight, IsGood}
 use Rattle.zpl_claims.specs.LockStep.{move_of, moves_from, moves_of, Rests, IsLockStep, HasLockSteps}
-use Rattle.small_code.proofs.Runs.{Solo, IsPlain, IsPlainMove, IsSolo, IsEnded, no_heads, turn_of, turn_plain, turn_moves, turn_ended, moved, step, run, start, grid_of, next_solo, given_solo, one_processor, start_solo, after_solo, run_ended, one_end, ends_later, printing_grows}
+use Rattle.small_code.proofs.Runs.{Solo, IsPlain, IsPlainMove, IsSolo, IsEnded, no_heads, turn_of, turn_plain, turn_moves, turn_ended, step, run, start, grid_of, next_solo, given_solo, one_processor, start_solo, after_solo, run_ended, one_end, ends_later, printing_grows}
 use Rattle.small_code.proofs.Simulation.{GoesOn, each}
 
 -- the run comes to its normal end within so many turns, and has printed just this

@@ -1,7 +1,7 @@
 -- The environment of a small program's statements: each variable at its number.
-use Rattle.std.proofs.Common.{◌≡◌, ℕ, zero, suc, ◌+◌, ◌<◌, ◌≤◌, Bool, true, false, cond, List, [], ◌∷◌, ◌++◌, length, get_or, map, Option, Some, None, refl, sym, ap, ◌∙◌, subst, ⊎_elim, arith, length-append}
-use Rattle.std.specs.Prelude.{find, position, Contains, unwrap_or, slice_index_or}
-use Rattle.std.specs.List.{position_from, position_or_len}
+use Rattle.std.proofs.Common.{◌≡◌, ℕ, ◌+◌, ◌<◌, Bool, true, false, cond, List, [], ◌∷◌, ◌++◌, length, get_or, Option, Some, None, refl, sym, ap, ◌∙◌, subst, ⊎_elim, arith, length-append}
+use Rattle.std.specs.Prelude.{find, Contains, unwrap_or, slice_index_or}
+use Rattle.std.specs.List.{position_from}
 use Rattle.std.specs.Option.{option_map}
 use Rattle.std.specs.Str.{bytes_eq}
 use Rattle.std.proofs.lemmas.Iterator.Adapters.{position_from-zero}
@@ -10,7 +10,7 @@ use Rattle.std.proofs.lemmas.List.Quantifiers.{position-Some}
 use Rattle.std.proofs.lemmas.List.Elements.{Contains-append_cases}
 use Rattle.std.proofs.lemmas.Slice.Eq.{bytes_eq-Decides}
 use Rattle.zpl_tree.specs.Syntax.{Name}
-use Rattle.zpl_meaning.specs.Store.{Thing, Scalar, Environment, thing_of}
+use Rattle.zpl_meaning.specs.Store.{Thing, Scalar}
 use Rattle.zpl_meaning.specs.Program.{Names, with_names}
 use Rattle.zpl_claims.specs.Small.{texts_of}
 use Rattle.small_code.specs.Names.{place_of}

@@ -1,19 +1,19 @@
 -- From the parts of a program to the claims on its code.
-use Rattle.std.proofs.Common.{◌≡◌, ◌≢◌, ℕ, ◌+◌, ◌≤◌, List, [], ◌∷◌, ◌++◌, length, refl, sym, ap, ◌∙◌, subst, arith}
+use Rattle.std.proofs.Common.{◌≡◌, ℕ, List, [], ◌∷◌, length, refl, sym, ap, ◌∙◌, subst, arith}
 use Rattle.std.specs.Prelude.{Result, Ok, Err, IfErr, IsErrAnd}
 use Rattle.std.proofs.lemmas.List.{length-map}
 use Rattle.zpl_tree.specs.Syntax.{Name, Stmts, Prefixed, Block, Procedure, Decl, Vars, Defined, Program}
 use Rattle.zpl_tree.specs.Spelling.{program_words}
 use Rattle.node_form.specs.declared.tables.Tables.{Tables}
 use Rattle.node_form.specs.declared.words.Instr.TheVariants as instr
-use Rattle.zpl_claims.specs.Small.{IsSmall, AreSmall, AreDistinct, texts_of, loops, integers, plain_procedure, small_decls}
+use Rattle.zpl_claims.specs.Small.{IsSmall, AreDistinct, texts_of, integers, plain_procedure, small_decls}
 use Rattle.zpl_claims.specs.Tidy.{IsTidy}
 use Rattle.small_code.specs.Claims.{HoldsItsWords}
 use Rattle.small_code.specs.Draft.{first_tables}
 use Rattle.small_code.specs.Emits.{AreFine, EmitsAll}
 use Rattle.small_code.specs.Fault.{Refutes}
 use Rattle.small_code.specs.Made.{CanBeMade, IsMade}
-use Rattle.small_code.specs.Parts.{HasParts, IsPlain, declared}
+use Rattle.small_code.specs.Parts.{IsPlain, declared}
 use Rattle.small_code.specs.declared.fault.CodeFault.{CodeFault}
 use Rattle.small_code.specs.declared.fault.CodeFault.TheVariants.{NotBuilt, NoMemory}
 use Rattle.small_code.proofs.DraftLemmas.{last_row, extends_keeps, stmts_kept}

@@ -1,6 +1,6 @@
 -- The code of statements does what the statements mean.
-use Rattle.std.proofs.Common.{◌≡◌, ℕ, zero, suc, ◌+◌, ◌*◌, ◌<◌, ◌≤◌, Bool, true, false, ℤ, List, [], ◌∷◌, ◌++◌, length, Option, Some, None, refl, sym, ap, ◌∙◌, subst, arith, append_assoc, append-nil}
-use Rattle.std.specs.Prelude.{slice_get, slice_set, sum_by, IsTrue, Contains, unwrap_or}
+use Rattle.std.proofs.Common.{◌≡◌, ℕ, zero, suc, ◌+◌, ◌*◌, ◌<◌, ◌≤◌, Bool, true, false, List, [], ◌∷◌, ◌++◌, length, Some, None, refl, sym, ap, ◌∙◌, subst, arith, append_assoc, append-nil}
+use Rattle.std.specs.Prelude.{slice_get, slice_set, sum_by, Contains, unwrap_or}
 use Rattle.std.specs.List.{AllByRecursion}
 use Rattle.std.specs.Option.{option_and_then}
 use Rattle.std.specs.Fmt.{signed_decimal}
@@ -10,7 +10,7 @@ use Rattle.std.proofs.Math.Nat.{mul-le-mul_left}
 use Rattle.zpl_nums.specs.Integer.{is_true}
 use Rattle.zpl_nums.specs.declared.ends.End.{End}
 use Rattle.zpl_nums.specs.declared.ends.End.TheVariants.{Done, Trap, More}
-use Rattle.zpl_tree.specs.Syntax.{Name, Expr, Item, Str, Value, Stmt, Prefixed, Stmts, NoStmt, ThenStmt, Form, Assign, Invoke, Block, If, While, Repeat, For, Border, Write, Return}
+use Rattle.zpl_tree.specs.Syntax.{Name, Expr, Item, Str, Value, Stmt, Prefixed, Stmts, NoStmt, ThenStmt, Form, Assign, While, Write}
 use Rattle.node_form.specs.Expression.{Expression, words_of}
 use Rattle.node_form.specs.Value.{Operands, value_of, tree_value}
 use Rattle.node_form.specs.declared.tables.Tables.{Tables}
@@ -18,14 +18,14 @@ use Rattle.node_form.specs.declared.words.Instr.{Instr}
 use Rattle.node_form.specs.declared.words.Instr.TheVariants as instr
 use Rattle.grid_meaning.specs.Local.{start_local}
 use Rattle.grid_meaning.specs.Turn.{act, branch, expression_value, prints as printing, with_text, with_value as on_value, goes_on as next_one, moves}
-use Rattle.zpl_meaning.specs.Store.{Thing, Scalar, Environment, Store, thing_of, scalar_at, with_scalar}
-use Rattle.zpl_meaning.specs.Value.{Computed, Gives, computed_then, both_then, value_of as meant_value, is_boolean, expr_nodes}
-use Rattle.zpl_meaning.specs.Text.{line_at, unescaped, value_text, item_text, items_text, print_text}
+use Rattle.zpl_meaning.specs.Store.{Scalar, Environment, Store, thing_of, scalar_at, with_scalar}
+use Rattle.zpl_meaning.specs.Value.{Gives, computed_then, both_then, value_of as meant_value, is_boolean, expr_nodes}
+use Rattle.zpl_meaning.specs.Text.{line_at, unescaped, value_text, item_text, items_text}
 use Rattle.zpl_meaning.specs.Outcome.{Outcome, goes_on, prints, counting, behind, then_at, then_do, with_value, choose, wants_more, Test, tested, while_turns}
-use Rattle.zpl_meaning.specs.Statement.{Context, assigned, assign_to, item_nodes, own_nodes, test_of, exec, exec_all, exec_form}
+use Rattle.zpl_meaning.specs.Statement.{Context, assigned, assign_to, item_nodes, exec, exec_all, exec_form}
 use Rattle.zpl_claims.specs.Small.{IsItem, IsSum, IsTest, IsSmallStmt, IsSmallForm, AreSmall}
 use Rattle.small_code.specs.Names.{place_of, tree_of}
-use Rattle.small_code.specs.Rows.{HasExpr, HasText, IsAssignment, IsLoop, IsText, IsNumber, IsItemRow, AreItems, IsLine, IsStmtCode, IsFormCode, AreStmtsCode}
+use Rattle.small_code.specs.Rows.{HasExpr, IsAssignment, IsLoop, IsText, IsItemRow, AreItems, IsLine, IsStmtCode, IsFormCode, AreStmtsCode}
 use Rattle.small_code.proofs.Runs.{Solo, no_heads, moved, step, run, run-add}
 use Rattle.small_code.proofs.SumLemmas.{Knows, Agrees, sum_agrees, test_agrees, test_nodes, sum_prints_number}
 

@@ -1,12 +1,11 @@
 -- How words and tables add up.
-use Rattle.std.proofs.Common.{◌≡◌, ℕ, zero, suc, ◌+◌, ◌*◌, ◌<◌, ◌≤◌, ◌==◌, true, false, if◌then◌else◌, List, [], ◌∷◌, ◌++◌, length, refl, sym, ap, ◌∙◌, subst, arith, length-append}
-use Rattle.std.specs.Prelude.{sum_by, map}
+use Rattle.std.proofs.Common.{◌≡◌, ℕ, ◌+◌, ◌≤◌, ◌==◌, true, false, if◌then◌else◌, List, [], ◌∷◌, ◌++◌, length, refl, ap, arith, length-append}
 use Rattle.std.specs.List.{flat_map}
 use Rattle.std.proofs.lemmas.List.Sums.{sum_by-append, sum_by-cons}
 use Rattle.zpl_nums.specs.declared.operators.Op.{Op}
 use Rattle.zpl_nums.specs.declared.operators.Op.TheVariants as op
 use Rattle.zpl_tokens.specs.declared.symbols.Sym.TheVariants as sym
-use Rattle.zpl_tree.specs.Syntax.{Name, Expr, Number, Named, Pair, Item, Str, Value}
+use Rattle.zpl_tree.specs.Syntax.{Expr, Number, Named, Pair, Item}
 use Rattle.zpl_tree.specs.Word.{Word, word_text}
 use Rattle.zpl_tree.specs.Spelling.{symbol, pair_words, operator_words, expr_words, item_words, separated}
 use Rattle.zpl_meaning.specs.Text.{unescaped, behind_backslash}

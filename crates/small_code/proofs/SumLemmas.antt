@@ -1,15 +1,15 @@
 -- The machine's value of a sum or a test is the meaning's.
-use Rattle.std.proofs.Common.{◌≡◌, ℕ, ◌+◌, ◌<◌, ◌≤◌, Bool, true, false, ℤ, pos, List, [], ◌∷◌, length, Option, Some, None, refl, sym, ap, ◌∙◌, subst, arith}
-use Rattle.std.specs.Prelude.{slice_get, slice_index_or, unwrap_or, Contains}
+use Rattle.std.proofs.Common.{◌≡◌, ℕ, ◌<◌, ◌≤◌, false, ℤ, pos, List, length, Some, refl, ap, ◌∙◌, arith}
+use Rattle.std.specs.Prelude.{unwrap_or, Contains}
 use Rattle.std.specs.Option.{option_and_then}
 use Rattle.std.proofs.lemmas.Option.{slice_get-get_or}
 use Rattle.zpl_nums.specs.declared.operators.Op.{Op}
 use Rattle.zpl_nums.specs.declared.operators.Op.TheVariants as op
 use Rattle.zpl_nums.specs.Op.{applied}
-use Rattle.zpl_tree.specs.Syntax.{Name, Expr, Number, Truth, Coord, Named, Shifted, Call, Paren, Neg, Not, Abs, Pair, Reduce, Scan, Flood}
-use Rattle.zpl_meaning.specs.Store.{Thing, Scalar, Environment, Store, thing_of, scalar_at}
-use Rattle.zpl_meaning.specs.Value.{Computed, Gives, both_then, given, thing_value, value_of, thing_is_boolean, is_boolean, op_is_boolean, expr_nodes}
-use Rattle.node_form.specs.Value.{Operands, tree_value}
+use Rattle.zpl_tree.specs.Syntax.{Name, Expr, Number, Named, Pair}
+use Rattle.zpl_meaning.specs.Store.{Scalar, Environment, Store, thing_of, scalar_at}
+use Rattle.zpl_meaning.specs.Value.{Gives, both_then, given, thing_value, value_of, thing_is_boolean, is_boolean, op_is_boolean, expr_nodes}
+use Rattle.node_form.specs.Value.{tree_value}
 use Rattle.zpl_claims.specs.Small.{IsPrim, IsSum, IsTest, IsSumOp, IsComparison}
 use Rattle.small_code.specs.Names.{place_of, tree_of}
 

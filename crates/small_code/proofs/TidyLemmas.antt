@@ -1,20 +1,20 @@
 -- The size of a small program's code.
-use Rattle.std.proofs.Common.{◌≡◌, ℕ, zero, suc, ◌+◌, ◌-◌, ◌*◌, ◌<◌, ◌≤◌, true, cond, List, [], ◌∷◌, ◌++◌, length, Option, Some, None, refl, sym, ap, ◌∙◌, subst, arith, length-append}
+use Rattle.std.proofs.Common.{◌≡◌, ℕ, ◌+◌, ◌≤◌, List, [], ◌∷◌, ◌++◌, length, refl, ap, ◌∙◌, arith, length-append}
 use Rattle.std.specs.Prelude.{sum_by, find}
 use Rattle.std.specs.List.{flat_map}
 use Rattle.std.specs.Str.{bytes_eq}
 use Rattle.std.proofs.lemmas.List.Sums.{sum_by-append, sum_by-cons}
 use Rattle.zpl_tokens.specs.declared.keywords.Key.TheVariants as key
 use Rattle.zpl_tokens.specs.declared.symbols.Sym.TheVariants as sym
-use Rattle.zpl_tree.specs.Syntax.{Name, NoBracket, Integer, Stmts, Prefixed, Block, Procedure, Decl, Vars, Defined, Program}
+use Rattle.zpl_tree.specs.Syntax.{Name, NoBracket, Integer, Stmts, Procedure, Vars, Defined, Program}
 use Rattle.zpl_tree.specs.Word.{Word, word_text}
 use Rattle.zpl_tree.specs.Word as word
-use Rattle.zpl_tree.specs.Spelling.{symbol, keyword, name_words, names_words, separated, type_words, bracket_words, var_words, heading_words, locals_words, procedure_words, decl_words, program_words, stmt_words, stmts_words, end_words}
+use Rattle.zpl_tree.specs.Spelling.{symbol, keyword, name_words, names_words, type_words, bracket_words, heading_words, locals_words, decl_words, program_words, stmt_words, stmts_words, end_words}
 use Rattle.node_form.specs.declared.tables.Tables.{Tables}
 use Rattle.node_form.specs.declared.words.Instr.TheVariants as instr
-use Rattle.zpl_meaning.specs.Program.{procedures, entry_of}
+use Rattle.zpl_meaning.specs.Program.{procedures}
 use Rattle.zpl_claims.specs.Small.{integers, plain_procedure, small_decls}
-use Rattle.zpl_claims.specs.Tidy.{code_size, body_tokens, entry_tokens, executed_tokens, other_tokens, source_size, other_size, IsTidy}
+use Rattle.zpl_claims.specs.Tidy.{entry_tokens, executed_tokens, IsTidy}
 use Rattle.small_code.specs.Claims.{HoldsItsWords}
 use Rattle.small_code.specs.Draft.{first_tables}
 use Rattle.small_code.specs.Size.{GrowsBy, weight}

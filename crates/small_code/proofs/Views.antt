@@ -1,5 +1,5 @@
 -- How a tree's slices are seen as plain lists.
-use Rattle.std.proofs.Common.{◌≡◌, List, [], ◌∷◌, map, Bor, refl, ap, ◌∙◌}
+use Rattle.std.proofs.Common.{◌≡◌, List, map, Bor, refl, ap, ◌∙◌}
 use Rattle.zpl_tree.specs.Syntax as plain
 use Rattle.zpl_tree.specs.View.{expr_of, prefix_of, row_of_stmts, stmts_of, statement_of}
 use Rattle.zpl_tree.specs.declared.expressions.Expr.{Expr}

@@ -1,5 +1,5 @@
 -- What the code of a whole small program does.
-use Rattle.std.proofs.Common.{◌≡◌, ◌≢◌, ℕ, zero, suc, ◌+◌, ◌*◌, ◌^◌, ◌<◌, ◌≤◌, Bool, true, false, cond, pos, List, [], ◌∷◌, ◌++◌, length, map, Option, Some, None, refl, sym, ap, ◌∙◌, subst, arith, append_assoc, append-nil, replicate}
+use Rattle.std.proofs.Common.{◌≡◌, ℕ, ◌+◌, ◌*◌, ◌^◌, ◌<◌, ◌≤◌, true, false, cond, pos, List, [], ◌∷◌, ◌++◌, length, Some, None, refl, sym, ap, ◌∙◌, subst, arith, append-nil}
 use Rattle.std.specs.Prelude.{slice_get, find}
 use Rattle.std.specs.Str.{bytes_eq}
 use Rattle.std.proofs.Math.ListN.{length-replicate}
@@ -7,27 +7,26 @@ use Rattle.std.proofs.Math.Nat.{pow-zero}
 use Rattle.std.proofs.lemmas.List.{length-map}
 use Rattle.zpl_nums.specs.declared.ends.End.{End}
 use Rattle.zpl_nums.specs.declared.ends.End.TheVariants.{Done, Trap, More}
-use Rattle.zpl_tree.specs.Syntax.{Name, Stmts, Stmt, Prefixed, Block, Procedure, Decl, Program}
+use Rattle.zpl_tree.specs.Syntax.{Name, Stmts, Procedure, Program}
 use Rattle.node_form.specs.Expression.{Expression, words_of}
 use Rattle.node_form.specs.Value.{Operands, value_of, tree_value}
 use Rattle.node_form.specs.declared.tables.Tables.{Tables}
 use Rattle.node_form.specs.declared.words.Instr.TheVariants as instr
-use Rattle.grid_meaning.specs.Local.{start_local}
 use Rattle.grid_meaning.specs.Turn.{act}
-use Rattle.grid_meaning.specs.Grid.{processors, after, IsOver}
+use Rattle.grid_meaning.specs.Grid.{processors}
 use Rattle.grid_meaning.specs.Order.{IsOrder, given}
-use Rattle.zpl_meaning.specs.Store.{Environment, Store, empty_store}
+use Rattle.zpl_meaning.specs.Store.{empty_store}
 use Rattle.zpl_meaning.specs.Outcome.{Outcome, counting}
-use Rattle.zpl_meaning.specs.Statement.{Context, exec, exec_all}
-use Rattle.zpl_meaning.specs.Program.{Names, Meaning, with_names, with_declarations, procedures, entry_of, context_of, run_entry, outcome_of, mean_of, steps_of}
+use Rattle.zpl_meaning.specs.Statement.{exec_all}
+use Rattle.zpl_meaning.specs.Program.{Names, with_names, with_declarations, procedures, context_of, run_entry, outcome_of, mean_of, steps_of}
 use Rattle.zpl_claims.specs.Bound.{turn_bound, EndsInBound}
 use Rattle.zpl_claims.specs.Good.{IsGood}
 use Rattle.zpl_claims.specs.LockStep.{HasLockSteps}
-use Rattle.zpl_claims.specs.Small.{IsSmall, AreSmall, texts_of, plain_procedure, small_decls}
+use Rattle.zpl_claims.specs.Small.{IsSmall, texts_of, plain_procedure, small_decls}
 use Rattle.small_code.specs.Rows.{AreStmtsCode}
 use Rattle.small_code.proofs.NameLemmas.{eq_same, knows_names, length-with_names}
-use Rattle.small_code.proofs.Runs.{Solo, IsSolo, no_heads, moved, step, run, run-add, start, one_processor}
-use Rattle.small_code.proofs.Simulation.{Reaches, GoesOn, Follows, at, each, row_step, counting_follows, stmts_run}
+use Rattle.small_code.proofs.Runs.{Solo, IsSolo, no_heads, moved, run, run-add, start, one_processor}
+use Rattle.small_code.proofs.Simulation.{GoesOn, Follows, at, each, row_step, counting_follows, stmts_run}
 use Rattle.small_code.proofs.Good.{ComesToEnd, Does, good, in_step, over_in_time}
 
 -- ---- from the statements to the whole code

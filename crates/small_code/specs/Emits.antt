@@ -1,5 +1,5 @@
 -- What is emitted.
-use Rattle.std.specs.Prelude.{◌≡◌, ℕ, ◌+◌, ◌≤◌, Bool, true, List, length, Contains, Option, None}
+use Rattle.std.specs.Prelude.{◌≡◌, ℕ, ◌+◌, ◌≤◌, true, List, length, Contains, None}
 use Rattle.std.specs.List.{AllByRecursion, flat_map}
 use Rattle.zpl_tree.specs.Syntax.{Name, Expr, Item, Stmt, Stmts, Assign, While, Write}
 use Rattle.zpl_tree.specs.Spelling.{item_words, form_words, stmt_words, stmts_words}

@@ -1,4 +1,4 @@
-use Rattle.std.proofs.Common.{◌∷◌, [], None, map, get_or, ap, arith}
+use Rattle.std.proofs.Common.{[], None, map, get_or, ap, arith}
 use Rattle.zpl_tree.specs.View.{var_of}
 use Rattle.zpl_tree.specs.declared.declarations.VarDef.{VarDef}
 use Rattle.zpl_tree.specs.declared.declarations.Base.TheVariants.{Integer}

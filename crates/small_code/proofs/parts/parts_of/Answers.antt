@@ -1,4 +1,4 @@
-use Rattle.std.proofs.Common.{◌≡◌, Bor, List, Option, ◌∷◌, [], map, length, ap, sym, ◌∙◌, subst, arith}
+use Rattle.std.proofs.Common.{◌≡◌, Bor, List, Option, ◌∷◌, [], map, ap, sym, ◌∙◌, subst, arith}
 use Rattle.std.specs.Prelude.{MatchOption}
 use Rattle.zpl_tree.specs.View.{decl_of, name_of, procedure_of}
 use Rattle.zpl_tree.specs.declared.names.Name.{Name}

@@ -1,4 +1,4 @@
-use Rattle.std.proofs.Common.{◌≡◌, map}
+use Rattle.std.proofs.Common.{map}
 use Rattle.zpl_tree.specs.View.{name_of, procedure_of, stmts_of, syntax_of}
 use Rattle.small_code.proofs.PartLemmas.{on_value, same_text}
 use Rattle.small_code.proofs.ProgramLemmas.{small_is_plain, made_is_code, made_is_tidy}

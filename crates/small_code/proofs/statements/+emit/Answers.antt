@@ -1,10 +1,10 @@
-use Rattle.std.proofs.Common.{◌≡◌, ◌+◌, ◌-◌, ◌∷◌, [], None, get_or, drop, map, sym, ap, ◌∙◌, subst, arith}
+use Rattle.std.proofs.Common.{◌+◌, ◌-◌, [], get_or, drop, sym, ap, ◌∙◌, subst}
 use Rattle.std.proofs.lemmas.List.{drop_all}
 use Rattle.zpl_tree.specs.Syntax as plain
 use Rattle.zpl_tree.specs.View.{expr_of, name_of, stmt_of, stmts_of, statement_of}
 use Rattle.zpl_tree.specs.declared.statements.Form.TheVariants.{Assign, Call}
 use Rattle.zpl_tree.specs.declared.statements.Stmt.{Stmt, roll-Stmt}
-use Rattle.small_code.specs.Emits.{Emits, EmitsAll, EmitsAssignment, IsFine}
+use Rattle.small_code.specs.Emits.{Emits, EmitsAll, IsFine}
 use Rattle.small_code.proofs.EmitLemmas.{assignment_stmt, loop_stmt, next_stmt, no_stmts_emitted}
 use Rattle.small_code.proofs.LoopLemmas.{loop_between, fine_body}
 use Rattle.small_code.proofs.PartLemmas.{plain_stmt, dropped_at, nothing_there, on_ok}

@@ -1,4 +1,4 @@
-use Rattle.std.proofs.Common.{◌++◌, ◌∷◌, [], sym, ap, ◌∙◌, subst}
+use Rattle.std.proofs.Common.{sym, ap, ◌∙◌, subst}
 use Rattle.zpl_tree.specs.View.{expr_of, item_of}
 use Rattle.small_code.specs.Emits.{EmitsItem}
 use Rattle.small_code.proofs.EmitLemmas.{number_emits, text_emits, with_text}

@@ -1,6 +1,5 @@
 use Rattle.std.proofs.Common.{◌≡◌, ◌==◌, ℕ, ◌+◌, ◌≤◌, take, length, refl, sym, ap, ◌∙◌, subst, arith}
 use Rattle.std.specs.Prelude.{count_by, IfOk}
-use Rattle.zpl_meaning.specs.Text.{line_at}
 use Rattle.small_code.specs.declared.lines.Lines.TheInside.{Inside}
 use Rattle.small_code.proofs.LineLemmas.{counted, at_end}
 use Rattle.small_code.proofs.lines.Lines.line_at.Goals as goal
