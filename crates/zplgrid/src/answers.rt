@@ -1,7 +1,7 @@
 //! The answers of the program, their statuses and what is told of them.
-ghost use Rattle.std.specs.Prelude.{◌≡◌, ◌++◌, codes, IfOk, OnOk, OnErr, MatchResult};
+ghost use Rattle.std.specs.Prelude.{◌≡◌, ◌++◌, codes, IfOk, OnOk, OnErr};
 ghost use Rattle.zpl_io.specs.Sink.{Takes, TakesFront};
-ghost use Rattle.zpl_io.specs.Faults.{last_count, Rose};
+ghost use Rattle.zpl_io.specs.Faults.{Rose};
 ghost use Rattle.zplgrid.specs.declared.answers.Untold.TheVariants.{NoMemory};
 ghost use Rattle.zpl_claims.specs.Answer.{trap_name, trap_text};
 ghost use Rattle.zplgrid.specs.Answers.{text_of, status_of};

@@ -1,5 +1,5 @@
 //! The commands that words give.
-ghost use Rattle.std.specs.Prelude.{◌≡◌, ℕ, ◌∷◌, map, MatchOption, string_bytes};
+ghost use Rattle.std.specs.Prelude.{ℕ, ◌∷◌, map, MatchOption, string_bytes};
 ghost use Rattle.zpl_claims.specs.Command.{Command, Run, IsCommand, IsTurnsWord, AreRunWords};
 
 use crate::numbers::number_of;

@@ -1,5 +1,5 @@
 //! From the bytes of a text to its node code.
-ghost use Rattle.std.specs.Prelude.{◌≡◌, ◌≢◌, ◌≤◌, ℕ, Err, length, IfOk};
+ghost use Rattle.std.specs.Prelude.{◌≡◌, ◌≢◌, ◌≤◌, Err, length, IfOk};
 ghost use Rattle.zpl_text.specs.Tokens.{IsTokens};
 ghost use Rattle.zpl_tree.specs.Syntax.{Program as Tree};
 ghost use Rattle.grid_meaning.specs.Grid.{processors};

@@ -16,11 +16,14 @@ use std::alloc::Global;
 use zpl_io::Sink;
 use zpl_nums::End;
 
-/// What came of the work: the answer, the code that was made, and the turns that it was given.
+/// What came of the work.
 #[derive(Drop)]
 pub struct Work<'a> {
+    /// The answer, which isn't told yet.
     pub answer: Answer<'a>,
+    /// The code that was made, where some was.
     pub code: Option<NodeProgram>,
+    /// The turns that the code was given.
     pub turns: u64,
 }
 
