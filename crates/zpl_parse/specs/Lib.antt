@@ -1,0 +1,9 @@
+pub mod Lexeme
+pub mod Outcome
+pub mod Classes
+pub mod Same
+pub mod Tokens
+pub mod Expressions
+pub mod Statements
+pub mod Declarations
+pub mod Claims
