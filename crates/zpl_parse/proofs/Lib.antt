@@ -1,1 +1,3 @@
 mod Examples
+pub mod Local
+pub mod LocalTokens
