@@ -137,7 +137,7 @@ pub local_wrong : {Exact Sure A : Type 0} → IsLocal Exact Sure {A = A} (λ l. 
 local_wrong = record { at = λ l. ([], refl, λ exact others same. tt) }
 
 -- what takes a lexeme that is there
-taken_at : (Exact Sure : Type 0) {A : Type 0} (p : Reader A) (x : Lexeme) (lexemes : List Lexeme) (o : Outcome A) →
+pub taken_at : (Exact Sure : Type 0) {A : Type 0} (p : Reader A) (x : Lexeme) (lexemes : List Lexeme) (o : Outcome A) →
     LocalAt Exact Sure (λ l. p (x ∷ l)) lexemes o → LocalAt Exact Sure p (x ∷ lexemes) o
 taken_at Exact Sure p x lexemes (Done tree rest) h = (x ∷ h.0, ap (λ l. x ∷ l) h.1, h.2)
 taken_at Exact Sure p x lexemes (Wrong rest) h = (x ∷ h.0, ap (λ l. x ∷ l) h.1, h.2)
@@ -179,7 +179,7 @@ local_behind {Exact} {Sure} {p = p} {p' = p'} h = record { at = behind_at Exact 
 pub record IsOfHead {B : Type 0} (test : List Lexeme → B) : Type 0 where
   pub same : (lexemes others : List Lexeme) → SameHead lexemes others → test others ≡ test lexemes
 
-by_head_at : (Exact Sure : Type 0) {A B : Type 0} (test : List Lexeme → B) (p : B → Reader A) (b : B) (lexemes : List Lexeme) (o : Outcome A) →
+pub by_head_at : (Exact Sure : Type 0) {A B : Type 0} (test : List Lexeme → B) (p : B → Reader A) (b : B) (lexemes : List Lexeme) (o : Outcome A) →
     IsOfHead test → test lexemes ≡ b → LocalAt Exact Sure (p b) lexemes o → LocalAt Exact Sure (λ l. p (test l) l) lexemes o
 by_head_at Exact Sure test p b lexemes (Done tree rest) told is h =
     (h.0, h.1, λ others same. subst (λ c. p c (h.0 ++ others) ≡ Done tree others)

@@ -17,7 +17,7 @@ use Rattle.zpl_parse.specs.Tokens.{next_is, taken, expect, symbol, keyword, name
 use Rattle.zpl_parse.proofs.Local.{IsLocal, LocalAt, SameHead, IsWrong, IsOfHead, local_then, local_made, local_done, local_wrong, local_cons, local_behind, local_by, local_if}
 
 -- what is told by the first lexeme
-told_cons : {B : Type 0} (test : List Lexeme → B) → ((x : Lexeme) (rest others : List Lexeme) → test (x ∷ others) ≡ test (x ∷ rest)) → IsOfHead test
+pub told_cons : {B : Type 0} (test : List Lexeme → B) → ((x : Lexeme) (rest others : List Lexeme) → test (x ∷ others) ≡ test (x ∷ rest)) → IsOfHead test
 told_cons test h = record { same = go }
   where
     go : (lexemes others : List Lexeme) → SameHead lexemes others → test others ≡ test lexemes
@@ -104,18 +104,23 @@ pub record Turns (Exact : Type 0) (most most' : ℕ) : Type 0 where
   pub equal : Exact → most ≡ most'
 
 -- a loop whose turns are local is local
-turn : {Exact : Type 0} {m m' : ℕ} → Turns Exact (suc m) (suc m') → Turns Exact m m'
+pub turn : {Exact : Type 0} {m m' : ℕ} → Turns Exact (suc m) (suc m') → Turns Exact m m'
 turn {Exact} {m} {m'} turns = record { within = omega (arith, turns.within); equal = λ exact. let e = turns.equal exact in omega arith }
 
-no_turn : {Exact : Type 0} {m : ℕ} → Turns Exact (suc m) zero → ⊥
+pub no_turn : {Exact : Type 0} {m : ℕ} → Turns Exact (suc m) zero → ⊥
 no_turn turns = omega (arith, turns.within)
+
+-- with no turn left
+pub out_local : {Exact Sure A : Type 0} (p : Reader A) (p' : ℕ → Reader A) {m' : ℕ} → Turns Exact zero m' → ((l : List Lexeme) → p l ≡ Wrong l) → ((l : List Lexeme) → IsWrong (p' zero l)) →
+    IsLocal Exact Sure p (p' m')
+out_local {Exact} {Sure} p p' {m'} turns none none' =
+    record { at = λ l. subst (LocalAt Exact Sure (p' m') l) (sym (none l))
+      ([], refl, λ exact others head. subst (λ n. IsWrong (p' n others)) (turns.equal exact) (none' others)) }
 
 loop_at : {Exact Sure X A : Type 0} (p p' : ℕ → X → Reader A) → ((x : X) (l : List Lexeme) → p zero x l ≡ Wrong l) → ((x : X) (l : List Lexeme) → IsWrong (p' zero x l)) →
     ((m m' : ℕ) → Turns Exact m m' → ((x : X) → IsLocal Exact Sure (p m x) (p' m' x)) → (x : X) → IsLocal Exact Sure (p (suc m) x) (p' (suc m') x)) →
     (m m' : ℕ) → Turns Exact m m' → (x : X) → IsLocal Exact Sure (p m x) (p' m' x)
-loop_at {Exact} {Sure} p p' none none' step zero m' turns x =
-    record { at = λ l. subst (LocalAt Exact Sure (p' m' x) l) (sym (none x l))
-      ([], refl, λ exact others head. subst (λ n. IsWrong (p' n x others)) (turns.equal exact) (none' x others)) }
+loop_at p p' none none' step zero m' turns x = out_local (p zero x) (λ m. p' m x) turns (none x) (none' x)
 loop_at p p' none none' step (suc m) zero turns x = absurd (no_turn turns)
 loop_at p p' none none' step (suc m) (suc m') turns x = step m m' (turn turns) (loop_at p p' none none' step m m' (turn turns)) x
 
