@@ -1,1 +1,2 @@
 pub mod SoundBase
+pub mod SoundTokens

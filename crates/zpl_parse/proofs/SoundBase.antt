@@ -1,5 +1,6 @@
 -- What a reader took: how one reader's soundness follows from those that it is made of.
 use Rattle.std.proofs.Common.{◌≡◌, ℕ, ◌==◌, Bool, true, false, List, [], ◌∷◌, ◌++◌, Option, Some, None, refl, sym, ap, subst, ◌∙◌, arith, append_assoc, append-nil, get_or}
+use Rattle.std.proofs.lemmas.Bool.{eqb-true}
 use Rattle.zpl_tokens.specs.declared.Kind.{Kind}
 use Rattle.zpl_tokens.specs.declared.Kind.TheVariants as kind
 use Rattle.zpl_tokens.specs.declared.keywords.Key.{Key}
@@ -35,7 +36,7 @@ pub data Takes : List Lexeme → List Word → List Lexeme → Type 0 where
 -- some lexemes are left behind others, none of which is the end
 pub data Past : List Lexeme → List Lexeme → Type 0 where
   here : {rest : List Lexeme} → Past rest rest
-  next : {first : Lexeme} {more rest : List Lexeme} → (first.kind ≡ kind.End → ⊥) → Past more rest → Past (first ∷ more) rest
+  further : {first : Lexeme} {more rest : List Lexeme} → (first.kind ≡ kind.End → ⊥) → Past more rest → Past (first ∷ more) rest
 
 pub takes_then : {a b c : List Lexeme} {v w : List Word} → Takes a v b → Takes b w c → Takes a (v ++ w) c
 takes_then nothing after = after
@@ -52,74 +53,93 @@ no_end k word.End e inner end = inner
 
 pub past_then : {a b c : List Lexeme} {w : List Word} → Takes a w b → Past b c → Past a c
 past_then nothing after = after
-past_then (one {first = first} {w = w} reads inner more) after = next (no_end first.kind w reads.kind inner) (past_then more after)
+past_then (one {first = first} {w = w} reads inner more) after = further (no_end first.kind w reads.kind inner) (past_then more after)
 
--- What an outcome of these lexemes says: of a tree, with its words and the lexemes that it begins with.
-abbrev pub IsSound : {A : Type 0} → (A → List Word → Type 0) → List Lexeme → Outcome A → Type 0
-IsSound Says lexemes (Done tree rest) = (words : List Word) × Takes lexemes words rest × Says tree words
-IsSound Says lexemes (Wrong rest) = Past lexemes rest
-IsSound Says lexemes (Deep rest) = Past lexemes rest
+-- What an outcome of these lexemes says: of a tree, with its words.
+abbrev pub Tells : {A : Type 0} → (A → List Word → Type 0) → List Lexeme → Outcome A → Type 0
+Tells Says lexemes (Done tree rest) = (words : List Word) × Takes lexemes words rest × Says tree words
+Tells Says lexemes (Wrong rest) = Past lexemes rest
+Tells Says lexemes (Deep rest) = Past lexemes rest
+
+pub record IsSound {A : Type 0} (Says : A → List Word → Type 0) (lexemes : List Lexeme) (outcome : Outcome A) : Type 0 where
+  pub tells : Tells Says lexemes outcome
 
 -- the words are those of the tree, of which a fact holds
 abbrev pub Spelled : {A : Type 0} → (A → List Word) → (A → Type 0) → A → List Word → Type 0
 Spelled spelling Is tree words = (words ≡ spelling tree) × Is tree
 
-pub done : {A : Type 0} (Says : A → List Word → Type 0) {lexemes : List Lexeme} {tree : A} → Says tree [] → IsSound Says lexemes (Done tree lexemes)
-done Says says = ([], nothing, says)
+pub done : {A : Type 0} {Says : A → List Word → Type 0} {lexemes : List Lexeme} {tree : A} → Says tree [] → IsSound Says lexemes (Done tree lexemes)
+done says = record { tells = ([], nothing, says) }
+
+pub wrong : {A : Type 0} {Says : A → List Word → Type 0} {lexemes : List Lexeme} → IsSound Says lexemes (Wrong lexemes)
+wrong = record { tells = here }
 
 -- words that were taken before
-pub behind_words : {A : Type 0} (Says : A → List Word → Type 0) {lexemes rest : List Lexeme} {words : List Word} (outcome : Outcome A) → Takes lexemes words rest →
+pub behind_words : {A : Type 0} {Says : A → List Word → Type 0} {lexemes rest : List Lexeme} {words : List Word} (outcome : Outcome A) → Takes lexemes words rest →
     IsSound (λ tree more. Says tree (words ++ more)) rest outcome → IsSound Says lexemes outcome
-behind_words Says {words = words} (Done tree rest) takes sound = (words ++ sound.0, takes_then takes sound.1, sound.2)
-behind_words Says (Wrong rest) takes sound = past_then takes sound
-behind_words Says (Deep rest) takes sound = past_then takes sound
+behind_words {words = words} (Done tree rest) takes sound = record { tells = (words ++ sound.tells.0, takes_then takes sound.tells.1, sound.tells.2) }
+behind_words (Wrong rest) takes sound = record { tells = past_then takes sound.tells }
+behind_words (Deep rest) takes sound = record { tells = past_then takes sound.tells }
 
-pub weaken : {A : Type 0} (Says Tells : A → List Word → Type 0) {lexemes : List Lexeme} (outcome : Outcome A) → IsSound Says lexemes outcome →
-    ((tree : A) (words : List Word) → Says tree words → Tells tree words) → IsSound Tells lexemes outcome
-weaken Says Tells (Done tree rest) sound so = (sound.0, sound.1, so tree sound.0 sound.2)
-weaken Says Tells (Wrong rest) sound so = sound
-weaken Says Tells (Deep rest) sound so = sound
+pub weaken : {A : Type 0} {Says Other : A → List Word → Type 0} {lexemes : List Lexeme} {outcome : Outcome A} → IsSound Says lexemes outcome →
+    ((tree : A) (words : List Word) → Says tree words → Other tree words) → IsSound Other lexemes outcome
+weaken {outcome = Done tree rest} sound so = record { tells = (sound.tells.0, sound.tells.1, so tree sound.tells.0 sound.tells.2) }
+weaken {outcome = Wrong rest} sound so = record { tells = sound.tells }
+weaken {outcome = Deep rest} sound so = record { tells = sound.tells }
 
 -- one rule and then another
-pub then_says : {A B : Type 0} (Tells : A → List Word → Type 0) (Says : B → List Word → Type 0) {lexemes : List Lexeme} (outcome : Outcome A) (next : A → Reader B) →
-    IsSound Tells lexemes outcome →
-    ((tree : A) (rest : List Lexeme) (words : List Word) → Tells tree words → IsSound (λ made more. Says made (words ++ more)) rest (next tree rest)) →
+then_says : {A B : Type 0} (Other : A → List Word → Type 0) (Says : B → List Word → Type 0) (lexemes : List Lexeme) (outcome : Outcome A) (next : A → Reader B) →
+    IsSound Other lexemes outcome →
+    ((tree : A) (rest : List Lexeme) (words : List Word) → Other tree words → IsSound (λ made more. Says made (words ++ more)) rest (next tree rest)) →
     IsSound Says lexemes (and_then outcome next)
-then_says Tells Says (Done tree rest) next sound so = behind_words Says (next tree rest) sound.1 (so tree rest sound.0 sound.2)
-then_says Tells Says (Wrong rest) next sound so = sound
-then_says Tells Says (Deep rest) next sound so = sound
+then_says Other Says lexemes (Done tree rest) next sound so = behind_words (next tree rest) sound.tells.1 (so tree rest sound.tells.0 sound.tells.2)
+then_says Other Says lexemes (Wrong rest) next sound so = record { tells = sound.tells }
+then_says Other Says lexemes (Deep rest) next sound so = record { tells = sound.tells }
 
-pub step : {A B : Type 0} (spelling : A → List Word) (Is : A → Type 0) (Says : B → List Word → Type 0) {lexemes : List Lexeme} (outcome : Outcome A) (next : A → Reader B) →
+pub step_says : {A B : Type 0} {Other : A → List Word → Type 0} {Says : B → List Word → Type 0} {lexemes : List Lexeme} {outcome : Outcome A} {next : A → Reader B} →
+    IsSound Other lexemes outcome →
+    ((tree : A) (rest : List Lexeme) (words : List Word) → Other tree words → IsSound (λ made more. Says made (words ++ more)) rest (next tree rest)) →
+    IsSound Says lexemes (and_then outcome next)
+step_says {Other = Other} {Says = Says} {lexemes = lexemes} {outcome = outcome} {next = next} sound so = then_says Other Says lexemes outcome next sound so
+
+pub step : {A B : Type 0} {spelling : A → List Word} {Is : A → Type 0} {Says : B → List Word → Type 0} {lexemes : List Lexeme} {outcome : Outcome A} {next : A → Reader B} →
     IsSound (Spelled spelling Is) lexemes outcome →
     ((tree : A) (rest : List Lexeme) → Is tree → IsSound (λ made more. Says made (spelling tree ++ more)) rest (next tree rest)) →
     IsSound Says lexemes (and_then outcome next)
-step spelling Is Says outcome next sound so =
-    then_says (Spelled spelling Is) Says outcome next sound (λ tree rest words says.
+step {spelling = spelling} {Is = Is} {Says = Says} {lexemes = lexemes} {outcome = outcome} {next = next} sound so =
+    then_says (Spelled spelling Is) Says lexemes outcome next sound (λ tree rest words says.
       subst (λ (w : List Word). IsSound (λ made more. Says made (w ++ more)) rest (next tree rest)) (sym says.0) (so tree rest says.1))
 
 -- the same words for another tree
-pub made_says : {A B : Type 0} (Says : B → List Word → Type 0) {lexemes : List Lexeme} (f : A → B) (outcome : Outcome A) →
+pub made_says : {A B : Type 0} {Says : B → List Word → Type 0} {lexemes : List Lexeme} (f : A → B) {outcome : Outcome A} →
     IsSound (λ tree words. Says (f tree) words) lexemes outcome → IsSound Says lexemes (made f outcome)
-made_says Says f (Done tree rest) sound = sound
-made_says Says f (Wrong rest) sound = sound
-made_says Says f (Deep rest) sound = sound
+made_says f {outcome = Done tree rest} sound = record { tells = sound.tells }
+made_says f {outcome = Wrong rest} sound = record { tells = sound.tells }
+made_says f {outcome = Deep rest} sound = record { tells = sound.tells }
 
-pub finish : {A B : Type 0} (spelling : A → List Word) (Is : A → Type 0) (Says : B → List Word → Type 0) {lexemes : List Lexeme} (f : A → B) (outcome : Outcome A) →
+pub finish : {A B : Type 0} {spelling : A → List Word} {Is : A → Type 0} {Says : B → List Word → Type 0} {lexemes : List Lexeme} (f : A → B) {outcome : Outcome A} →
     IsSound (Spelled spelling Is) lexemes outcome → ((tree : A) → Is tree → Says (f tree) (spelling tree)) → IsSound Says lexemes (made f outcome)
-finish spelling Is Says f outcome sound so =
-    made_says Says f outcome (weaken (Spelled spelling Is) (λ tree words. Says (f tree) words) outcome sound
-      (λ tree words says. subst (λ (w : List Word). Says (f tree) w) (sym says.0) (so tree says.1)))
+finish {spelling = spelling} {Says = Says} f sound so =
+    made_says f (weaken sound (λ tree words says. subst (λ (w : List Word). Says (f tree) w) (sym says.0) (so tree says.1)))
 
 -- choices
-pub choose : {A : Type 0} (Says : A → List Word → Type 0) (lexemes : List Lexeme) (test : Bool) (x y : Outcome A) →
+choose_by : {A : Type 0} (Says : A → List Word → Type 0) (lexemes : List Lexeme) (test : Bool) (x y : Outcome A) →
     (test ≡ true → IsSound Says lexemes x) → (test ≡ false → IsSound Says lexemes y) → IsSound Says lexemes (elim test [ true ↦ x | false ↦ y ])
-choose Says lexemes true x y so other = so refl
-choose Says lexemes false x y so other = other refl
+choose_by Says lexemes true x y so other = so refl
+choose_by Says lexemes false x y so other = other refl
 
-pub choose_some : {A B : Type 0} (Says : A → List Word → Type 0) (lexemes : List Lexeme) (option : Option B) (x : Outcome A) (y : B → Outcome A) →
+pub choose : {A : Type 0} {Says : A → List Word → Type 0} {lexemes : List Lexeme} (test : Bool) {x y : Outcome A} →
+    (test ≡ true → IsSound Says lexemes x) → (test ≡ false → IsSound Says lexemes y) → IsSound Says lexemes (elim test [ true ↦ x | false ↦ y ])
+choose {Says = Says} {lexemes = lexemes} test {x = x} {y = y} so other = choose_by Says lexemes test x y so other
+
+choose_some_by : {A B : Type 0} (Says : A → List Word → Type 0) (lexemes : List Lexeme) (option : Option B) (x : Outcome A) (y : B → Outcome A) →
     (option ≡ None → IsSound Says lexemes x) → ((b : B) → option ≡ Some b → IsSound Says lexemes (y b)) → IsSound Says lexemes (elim option [ None ↦ x | Some b ↦ y b ])
-choose_some Says lexemes None x y so other = so refl
-choose_some Says lexemes (Some b) x y so other = other b refl
+choose_some_by Says lexemes None x y so other = so refl
+choose_some_by Says lexemes (Some b) x y so other = other b refl
+
+pub choose_some : {A B : Type 0} {Says : A → List Word → Type 0} {lexemes : List Lexeme} (option : Option B) {x : Outcome A} {y : B → Outcome A} →
+    (option ≡ None → IsSound Says lexemes x) → ((b : B) → option ≡ Some b → IsSound Says lexemes (y b)) → IsSound Says lexemes (elim option [ None ↦ x | Some b ↦ y b ])
+choose_some {Says = Says} {lexemes = lexemes} option {x = x} {y = y} so other = choose_some_by Says lexemes option x y so other
 
 -- the numbers of symbols and keywords tell them apart
 symbols : List Sym
@@ -212,7 +232,11 @@ keyword_back key.Index2 = refl
 keyword_back key.Index3 = refl
 
 pub same_symbol : (a b : Sym) → (symbol_number a == symbol_number b) ≡ true → a ≡ b
-same_symbol a b e = ?
+same_symbol a b e =
+    let numbers : symbol_number a ≡ symbol_number b = eqb-true (symbol_number a) (symbol_number b) e in
+    sym (symbol_back a) ∙ (ap (λ (n : ℕ). get_or symbols n sym.Caret) numbers ∙ symbol_back b)
 
 pub same_keyword : (a b : Key) → (key_number a == key_number b) ≡ true → a ≡ b
-same_keyword a b e = ?
+same_keyword a b e =
+    let numbers : key_number a ≡ key_number b = eqb-true (key_number a) (key_number b) e in
+    sym (keyword_back a) ∙ (ap (λ (n : ℕ). get_or keywords n key.Index3) numbers ∙ keyword_back b)
