@@ -1,2 +1,4 @@
 pub mod SoundBase
 pub mod SoundTokens
+pub mod SoundClasses
+pub mod SoundExprs

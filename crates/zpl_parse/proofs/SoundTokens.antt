@@ -128,3 +128,21 @@ closing_sound lexemes = sign (word.Keyword key.End) tt (λ at rest. weaken (expe
 string_at : (lexemes : List Lexeme) → next_is kind.Str lexemes ≡ true → IsSound (Spelled (λ bytes. word.Str bytes ∷ []) (λ (bytes : List ℕ). Unit {0})) lexemes (string_of lexemes)
 string_at [] e = wrong
 string_at (first ∷ rest) e = record { tells = (word.Str (in_quotes first.bytes) ∷ [], one (record { kind = same_is_string first.kind e; bytes = refl }) tt nothing, (refl, tt)) }
+
+-- a first lexeme that is a sign
+no_sign_end : (w : Word) → IsSign w → kind.End ≡ kind_of w → ⊥
+no_sign_end (word.Symbol s) is e = cc
+no_sign_end (word.Keyword k) is e = cc
+no_sign_end word.Ditto is e = cc
+no_sign_end (word.Name text) is e = is
+no_sign_end (word.Number value) is e = is
+no_sign_end (word.Str bytes) is e = is
+no_sign_end word.End is e = is
+
+pub takes_head : (w : Word) → IsSign w → (lexemes : List Lexeme) → head_kind lexemes ≡ kind_of w → Takes lexemes (w ∷ []) (behind lexemes)
+takes_head w is [] e = absurd (no_sign_end w is e)
+takes_head w is (first ∷ rest) e = takes_sign w is e
+
+pub takes_next : (w : Word) → IsSign w → (lexemes : List Lexeme) → next_is (kind_of w) lexemes ≡ true → Takes lexemes (w ∷ []) (behind lexemes)
+takes_next w is [] e = absurd (false≢true e)
+takes_next w is (first ∷ rest) e = takes_sign w is (same_is_sign w is first.kind e)
