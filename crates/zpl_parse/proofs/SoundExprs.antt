@@ -1,6 +1,6 @@
 -- Soundness of the rules of expressions, directions and regions.
 use Rattle.std.proofs.Common.{◌≡◌, ℕ, zero, suc, ◌+◌, ◌≤◌, max, ℤ, pos, int_le, if◌then◌else◌, nat_le, IsTrue, Bool, true, false, List, [], ◌∷◌, ◌++◌, Option, Some, None, refl, sym, ap, subst, ◌∙◌, arith, append_assoc, append-nil}
-use Rattle.std.proofs.lemmas.Bool.{false≢true, leb-true}
+use Rattle.std.proofs.lemmas.Bool.{false≢true, leb-true, le-leb}
 use Rattle.std.proofs.lemmas.Bool.Decides.{nat_tests}
 use Rattle.std.specs.List.{flat_map}
 use Rattle.zpl_nums.specs.declared.operators.Op.{Op}
@@ -25,7 +25,7 @@ use Rattle.zpl_parse.specs.Outcome.{Outcome, Done, Wrong, Deep, Reader, and_then
 use Rattle.zpl_parse.specs.Classes.{or_op, and_op, comp_op, sum_op, term_op, opening_of, begins_expr, folding_of, outside_of, stride_of, closes_region, closes_dim, follows_region}
 use Rattle.zpl_parse.specs.Tokens.{next_is, expect, name, natural, natural_of}
 use Rattle.zpl_parse.specs.Expressions.{at_of, exprs, actuals, components, dir, posts, region_base, rexpr, bounds, dim_text, dim_texts, begins_region, inner, in_bracket, bracket, along, Levels, behind_name, inside, both, folded, unary_by, unary_over, chain, once, levels_over, no_expr, no_levels, levels}
-use Rattle.zpl_parse.proofs.SoundBase.{Reads, Takes, nothing, one, Past, here, further, past_then, IsSound, Spelled, done, wrong, behind_words, weaken, step, finish, choose, choose_some}
+use Rattle.zpl_parse.proofs.SoundBase.{Reads, Takes, nothing, one, Past, here, further, past_then, IsSound, Spelled, done, wrong, behind_words, weaken, step, step_says, finish, choose, choose_some}
 use Rattle.zpl_parse.proofs.SoundTokens.{takes_one, at_sign, expect_sound, sign, last_sign, name_sound, takes_head, takes_next}
 use Rattle.zpl_parse.proofs.SoundClasses.{IsOneSign, IsOperator, or_op_is, and_op_is, comp_op_is, sum_op_is, term_op_is, IsOpening, opening_is, IsFolding, folding_is, outside_is, stride_is}
 
@@ -263,3 +263,149 @@ module _ (most deep : ℕ) (deeper : Levels) (are : AreSound deep deeper) where
   pub unary_over_sound : (lexemes : List Lexeme) → IsSound (SaysExpr 5 (suc deep)) lexemes (unary_over most deeper lexemes)
   unary_over_sound [] = wrong
   unary_over_sound (first ∷ rest) = unary_by_sound first rest (opening_of first.kind) refl
+
+-- an expression may stand where a weaker one is wanted
+expr_lower : (wanted own : ℕ) → ((n : ℕ) → StandsAt own n → StandsAt wanted n) → (tree : Expr) → IsExpr own tree → IsExpr wanted tree
+expr_lower wanted own so (Neg at operand) is = (so _ is.0, is.1)
+expr_lower wanted own so (Not at operand) is = (so _ is.0, is.1)
+expr_lower wanted own so (Pair at o left right) is = (so _ is.0, is.1, is.2)
+expr_lower wanted own so (Reduce at operator over operand) is = (so _ is.0, is.1, is.2)
+expr_lower wanted own so (Scan at operator dimension operand) is = (so _ is.0, is.1, is.2)
+expr_lower wanted own so (Flood at source operand) is = (so _ is.0, is.1, is.2)
+expr_lower wanted own so (Number at value) is = is
+expr_lower wanted own so (Truth at value) is = is
+expr_lower wanted own so (Coord at dimension) is = is
+expr_lower wanted own so (Named at called) is = is
+expr_lower wanted own so (Shifted at called shift) is = is
+expr_lower wanted own so (Call at called those) is = is
+expr_lower wanted own so (Paren at inside) is = is
+expr_lower wanted own so (Abs at operand) is = is
+
+le_through : (a b c : ℕ) → a ≤ b → b ≤ c → a ≤ c
+le_through a b c p q = omega arith
+
+weaker : (wanted own : ℕ) → wanted ≤ own → (n : ℕ) → StandsAt own n → StandsAt wanted n
+weaker wanted own below n stands = le-leb wanted n (le_through wanted own n below (leb-true own n stands))
+
+lower : (wanted own d : ℕ) → wanted ≤ own → (tree : Expr) → IsGood (IsExpr own) expr_depth d tree → IsGood (IsExpr wanted) expr_depth d tree
+lower wanted own d below tree good = record { is = expr_lower wanted own (weaker wanted own below) tree good.is; depth = good.depth }
+
+-- what a chain makes: an expression that begins with what stood there before
+abbrev SaysOn : ℕ → ℕ → Expr → Expr → List Word → Type 0
+SaysOn level d before tree words = (expr_words before ++ words ≡ expr_words tree) × IsGood (IsExpr level) expr_depth d tree
+
+pair_good : (own left_own right_own deep at : ℕ) (k : Kind) (o : Op) → IsOperator own left_own right_own k o → (left right : Expr) →
+    IsExpr left_own left → expr_depth left ≤ deep → IsGood (IsExpr right_own) expr_depth deep right → IsGood (IsExpr own) expr_depth (suc deep) (Pair at o left right)
+pair_good own left_own right_own deep at k o is left right left_is fits good = record {
+  is = (subst (λ (n : ℕ). StandsAt own n) (sym is.own_is) (le-leb own own (omega arith)), subst (λ (n : ℕ). IsExpr n left) (sym is.left_is) left_is, subst (λ (n : ℕ). IsExpr n right) (sym is.right_is) good.is);
+  depth = omega arith;
+}
+
+between_regroup : (left right : Expr) (o : Op) → ((a b : List Word) → pair_words o a b ≡ a ++ operator_words o ++ b) →
+    expr_words left ++ (operator_words o ++ expr_words right) ≡ pair_words o (expr_words left) (expr_words right)
+between_regroup left right o between = sym (append_assoc (expr_words left) (operator_words o) (expr_words right)) ∙ sym (between (expr_words left) (expr_words right))
+
+regroup : (a o b w : List Word) → a ++ (o ++ (b ++ w)) ≡ (a ++ o ++ b) ++ w
+regroup a o b w = simp append_assoc
+
+module _ (own right_own deep : ℕ) (op_of : Kind → Option Op) (operand : Reader Expr)
+  (sound : (lexemes : List Lexeme) → IsSound (SaysExpr right_own deep) lexemes (operand lexemes)) where
+  chain_sound : ((k : Kind) (o : Op) → op_of k ≡ Some o → IsOperator own own right_own k o) → (most : ℕ) (left : Expr) → IsGood (IsExpr own) expr_depth (suc deep) left → (lexemes : List Lexeme) →
+      IsSound (SaysOn own (suc deep) left) lexemes (chain most deep op_of operand left lexemes)
+  chain_sound is zero left good lexemes = wrong
+  chain_sound is (suc most) left good lexemes = choose_some (op_of (head_kind lexemes))
+    (λ e. done (append-nil (expr_words left), good))
+    (λ o e. choose (nat_le (expr_depth left) deep)
+      (λ fits. behind_words _ (takes_signed (is (head_kind lexemes) o e).sign)
+        (step (sound (behind lexemes)) (λ right rest more.
+          weaken (chain_sound is most (Pair (at_of left) o left right)
+            (pair_good own own right_own deep (at_of left) (head_kind lexemes) o (is (head_kind lexemes) o e) left right good.is (leb-true (expr_depth left) deep fits) more) rest)
+            (λ tree words says.
+              (regroup (expr_words left) (operator_words o) (expr_words right) words ∙ (ap (λ w. w ++ words) (sym ((is (head_kind lexemes) o e).between (expr_words left) (expr_words right))) ∙ says.0), says.1)))))
+      (λ deep_. record { tells = past_then (takes_signed (is (head_kind lexemes) o e).sign) here }))
+
+module _ (own operand_own deep : ℕ) (op_of : Kind → Option Op) (operand : Reader Expr)
+  (sound : (lexemes : List Lexeme) → IsSound (SaysExpr operand_own deep) lexemes (operand lexemes)) where
+  once_sound : ((k : Kind) (o : Op) → op_of k ≡ Some o → IsOperator own operand_own operand_own k o) → own ≤ operand_own → (left : Expr) →
+      IsGood (IsExpr operand_own) expr_depth (suc deep) left → (lexemes : List Lexeme) →
+      IsSound (SaysOn own (suc deep) left) lexemes (once deep op_of operand left lexemes)
+  once_sound is below left good lexemes = choose_some (op_of (head_kind lexemes))
+    (λ e. done (append-nil (expr_words left), lower own operand_own (suc deep) below left good))
+    (λ o e. choose (nat_le (expr_depth left) deep)
+      (λ fits. behind_words _ (takes_signed (is (head_kind lexemes) o e).sign)
+        (finish (Pair (at_of left) o left) (sound (behind lexemes)) (λ right more.
+          (between_regroup left right o (is (head_kind lexemes) o e).between,
+            pair_good own operand_own operand_own deep (at_of left) (head_kind lexemes) o (is (head_kind lexemes) o e) left right good.is (leb-true (expr_depth left) deep fits) more))))
+      (λ deep_. record { tells = past_then (takes_signed (is (head_kind lexemes) o e).sign) here }))
+
+-- a rule that goes on from a tighter one
+over : (wanted own d : ℕ) → wanted ≤ own → {outcome : Outcome Expr} {next : Expr → Reader Expr} {lexemes : List Lexeme} → IsSound (SaysExpr own d) lexemes outcome →
+    ((left : Expr) → IsGood (IsExpr own) expr_depth d left → (rest : List Lexeme) → IsSound (SaysOn wanted d left) rest (next left rest)) →
+    IsSound (SaysExpr wanted d) lexemes (and_then outcome next)
+over wanted own d below sound so = step sound (λ left rest good. weaken (so left good rest) (λ tree words says. (says.0, says.1)))
+
+module _ (most deep : ℕ) (unary : Reader Expr) (deeper : Levels) (sound : (lexemes : List Lexeme) → IsSound (SaysExpr 5 (suc deep)) lexemes (unary lexemes)) (are : AreSound deep deeper) where
+  own : Levels
+  own = levels_over most deep unary deeper
+
+  term_sound : (lexemes : List Lexeme) → IsSound (SaysExpr 4 (suc deep)) lexemes (own.term lexemes)
+  unfolding own
+  term_sound lexemes = over 4 5 (suc deep) (omega arith) (sound lexemes) (λ left good rest.
+    chain_sound 4 5 deep term_op deeper.unary are.unary term_op_is most left (lower 4 5 (suc deep) (omega arith) left good) rest)
+
+  sum_sound : (lexemes : List Lexeme) → IsSound (SaysExpr 3 (suc deep)) lexemes (own.sum lexemes)
+  unfolding own
+  sum_sound lexemes = over 3 4 (suc deep) (omega arith) (term_sound lexemes) (λ left good rest.
+    chain_sound 3 4 deep sum_op deeper.term are.term sum_op_is most left (lower 3 4 (suc deep) (omega arith) left good) rest)
+
+  comp_sound : (lexemes : List Lexeme) → IsSound (SaysExpr 2 (suc deep)) lexemes (own.comp lexemes)
+  unfolding own
+  comp_sound lexemes = over 2 3 (suc deep) (omega arith) (sum_sound lexemes) (λ left good rest.
+    once_sound 2 3 deep comp_op deeper.sum are.sum comp_op_is (omega arith) left good rest)
+
+  conj_sound : (lexemes : List Lexeme) → IsSound (SaysExpr 1 (suc deep)) lexemes (own.conj lexemes)
+  unfolding own
+  conj_sound lexemes = over 1 2 (suc deep) (omega arith) (comp_sound lexemes) (λ left good rest.
+    chain_sound 1 2 deep and_op deeper.comp are.comp and_op_is most left (lower 1 2 (suc deep) (omega arith) left good) rest)
+
+  expr_sound : (lexemes : List Lexeme) → IsSound (SaysExpr 0 (suc deep)) lexemes (own.expr lexemes)
+  unfolding own
+  expr_sound lexemes = over 0 1 (suc deep) (omega arith) (conj_sound lexemes) (λ left good rest.
+    chain_sound 0 1 deep or_op deeper.conj are.conj or_op_is most left (lower 0 1 (suc deep) (omega arith) left good) rest)
+
+  levels_over_sound : AreSound (suc deep) (levels_over most deep unary deeper)
+  unfolding own
+  levels_over_sound = record { unary = sound; term = term_sound; sum = sum_sound; comp = comp_sound; conj = conj_sound; expr = expr_sound }
+
+-- where nothing is read
+abbrev Nothing : {A : Type 0} → A → List Word → Type 0
+Nothing tree words = ⊥
+
+begins_inner : (k : Kind) → begins_expr k ≡ true → k ≡ kind.End → ⊥
+begins_inner k e end = false≢true (subst (λ (k : Kind). begins_expr k ≡ true) end e)
+
+pub too_deep_sound : {A : Type 0} {Says : A → List Word → Type 0} (test : Bool) (lexemes : List Lexeme) → (test ≡ true → head_kind lexemes ≡ kind.End → ⊥) → IsSound Says lexemes (too_deep test lexemes)
+too_deep_sound true [] so = record { tells = here }
+too_deep_sound true (first ∷ rest) so = record { tells = further (so refl) here }
+too_deep_sound false lexemes so = wrong
+
+no_expr_sound : (lexemes : List Lexeme) → IsSound Nothing lexemes (no_expr lexemes)
+no_expr_sound lexemes = too_deep_sound (begins_expr (head_kind lexemes)) lexemes (begins_inner (head_kind lexemes))
+
+none_then : (next : Expr → Reader Expr) {lexemes : List Lexeme} {outcome : Outcome Expr} → IsSound Nothing lexemes outcome → IsSound Nothing lexemes (and_then outcome next)
+none_then next sound = step_says sound (λ tree rest words says. absurd says)
+
+anything : {Says : Expr → List Word → Type 0} {lexemes : List Lexeme} {outcome : Outcome Expr} → IsSound Nothing lexemes outcome → IsSound Says lexemes outcome
+anything sound = weaken sound (λ tree words says. absurd says)
+
+pub levels_sound : (most d : ℕ) → AreSound d (levels most d)
+levels_sound most zero = record {
+  unary = λ lexemes. anything (no_expr_sound lexemes);
+  term = λ lexemes. anything (none_then _ (no_expr_sound lexemes));
+  sum = λ lexemes. anything (none_then _ (none_then _ (no_expr_sound lexemes)));
+  comp = λ lexemes. anything (none_then _ (none_then _ (none_then _ (no_expr_sound lexemes))));
+  conj = λ lexemes. anything (none_then _ (none_then _ (none_then _ (none_then _ (no_expr_sound lexemes)))));
+  expr = λ lexemes. anything (none_then _ (none_then _ (none_then _ (none_then _ (none_then _ (no_expr_sound lexemes))))));
+}
+levels_sound most (suc deep) = levels_over_sound most deep (unary_over most (levels most deep)) (levels most deep)
+    (unary_over_sound most deep (levels most deep) (levels_sound most deep)) (levels_sound most deep)
