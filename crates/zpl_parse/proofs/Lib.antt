@@ -2,3 +2,4 @@ pub mod SoundBase
 pub mod SoundTokens
 pub mod SoundClasses
 pub mod SoundExprs
+pub mod SoundStmts

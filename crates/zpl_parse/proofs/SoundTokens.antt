@@ -125,7 +125,7 @@ names_sound (suc most) lexemes = step (name_sound lexemes) (λ first rest fact.
 pub closing_sound : (lexemes : List Lexeme) → IsSound (Spelled (λ at. end_words) (λ (at : ℕ). Unit {0})) lexemes (closing lexemes)
 closing_sound lexemes = sign (word.Keyword key.End) tt (λ at rest. weaken (expect_sound (word.Symbol sym.Semicolon) tt rest) (λ at words says. (ap (λ w. word.Keyword key.End ∷ w) says.0, tt)))
 
-string_at : (lexemes : List Lexeme) → next_is kind.Str lexemes ≡ true → IsSound (Spelled (λ bytes. word.Str bytes ∷ []) (λ (bytes : List ℕ). Unit {0})) lexemes (string_of lexemes)
+pub string_at : (lexemes : List Lexeme) → next_is kind.Str lexemes ≡ true → IsSound (Spelled (λ bytes. word.Str bytes ∷ []) (λ (bytes : List ℕ). Unit {0})) lexemes (string_of lexemes)
 string_at [] e = wrong
 string_at (first ∷ rest) e = record { tells = (word.Str (in_quotes first.bytes) ∷ [], one (record { kind = same_is_string first.kind e; bytes = refl }) tt nothing, (refl, tt)) }
 
