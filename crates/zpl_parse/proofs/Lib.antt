@@ -1,4 +1,9 @@
 mod Examples
+pub mod SoundBase
+pub mod SoundTokens
+pub mod SoundClasses
+pub mod SoundExprs
+pub mod SoundStmts
 pub mod Local
 pub mod LocalTokens
 pub mod LocalExpressions
