@@ -9,3 +9,5 @@ pub mod LocalTokens
 pub mod LocalExpressions
 pub mod LocalStatements
 pub mod LocalDeclarations
+pub mod ViableBase
+pub mod ViableExprs
