@@ -301,11 +301,11 @@ pair_good own left_own right_own deep at k o is left right left_is fits good = r
   depth = omega arith;
 }
 
-between_regroup : (left right : Expr) (o : Op) → ((a b : List Word) → pair_words o a b ≡ a ++ operator_words o ++ b) →
+pub between_regroup : (left right : Expr) (o : Op) → ((a b : List Word) → pair_words o a b ≡ a ++ operator_words o ++ b) →
     expr_words left ++ (operator_words o ++ expr_words right) ≡ pair_words o (expr_words left) (expr_words right)
 between_regroup left right o between = sym (append_assoc (expr_words left) (operator_words o) (expr_words right)) ∙ sym (between (expr_words left) (expr_words right))
 
-regroup : (a o b w : List Word) → a ++ (o ++ (b ++ w)) ≡ (a ++ o ++ b) ++ w
+pub regroup : (a o b w : List Word) → a ++ (o ++ (b ++ w)) ≡ (a ++ o ++ b) ++ w
 regroup a o b w = simp append_assoc
 
 module _ (own right_own deep : ℕ) (op_of : Kind → Option Op) (operand : Reader Expr)
