@@ -3,3 +3,4 @@ pub mod SoundTokens
 pub mod SoundClasses
 pub mod SoundExprs
 pub mod SoundStmts
+pub mod SoundDecls
