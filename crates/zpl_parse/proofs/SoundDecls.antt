@@ -257,3 +257,18 @@ program_over source most expr deep lexemes = and_then (expect (kind.Word key.Pro
     and_then (name rest) (λ called after.
     and_then (expect (kind.Symbol sym.Semicolon) after) (λ semicolon last.
     made (λ those. record { name = called; decls = those; source = source }) (decls most expr deep last))))
+
+program_over_sound : (d : ℕ) (expr : Reader Expr) → ((lexemes : List Lexeme) → IsSound (SaysExpr 0 d) lexemes (expr lexemes)) → (deep : ℕ) → suc deep ≤ d →
+    (source : List ℕ) (most : ℕ) (lexemes : List Lexeme) →
+    IsWhole (λ tree words. Spells tree (words ++ word.End ∷ []) × (depth tree ≤ d) × (tree.source ≡ source)) lexemes (program_over source most expr deep lexemes)
+unfolding program_over SaysDecls
+program_over_sound d expr sound deep below source most lexemes =
+    whole_sign _ (word.Keyword key.Program) tt lexemes _ (λ at rest.
+    whole_then (Spelled name_words (λ name. Unit {0})) _ rest (name rest) _ (name_sound rest) (λ called after words says.
+    whole_sign _ (word.Symbol sym.Semicolon) tt after _ (λ semicolon last.
+    made_whole (SaysDecls d expr sound deep below) _ last _ (decls most expr deep last) (decls_sound d expr sound deep below most last) (λ those more tells.
+      ((more, tells.1.is, tells.0, ap (λ w. word.Keyword key.Program ∷ ((w ++ word.Symbol sym.Semicolon ∷ more) ++ word.End ∷ [])) says.0), tells.1.depth, refl)))))
+
+pub program_whole : (source : List ℕ) (most : ℕ) (lexemes : List Lexeme) → IsWhole (SaysProgram source) lexemes (program source most lexemes)
+unfolding program_over
+program_whole source most lexemes = program_over_sound 200 (levels most 200).expr (levels_sound most 200).expr 199 (omega arith) source most lexemes
