@@ -4,3 +4,4 @@ pub mod SoundClasses
 pub mod SoundExprs
 pub mod SoundStmts
 pub mod SoundDecls
+pub mod SoundProgram
