@@ -56,22 +56,22 @@ more_dims_are : (others : DimTexts) → HasDim others → word.Symbol sym.Comma 
 more_dims_are NoDim has = absurd has
 more_dims_are (ThenDim first rest) has = refl
 
-natural_by : (lexemes : List Lexeme) (o : Option Opening) → opening_of (head_kind lexemes) ≡ o → IsSound (Spelled number IsNatural) lexemes (natural_of o lexemes)
+pub natural_by : (lexemes : List Lexeme) (o : Option Opening) → opening_of (head_kind lexemes) ≡ o → IsSound (Spelled number IsNatural) lexemes (natural_of o lexemes)
 natural_by [] o e = subst (λ (o : Option Opening). IsSound (Spelled number IsNatural) [] (natural_of o [])) e wrong
 natural_by (first ∷ rest) (Some (opening.Number value)) e =
     let is = opening_is first.kind (opening.Number value) e in
     record { tells = (number value, takes_one (word.Number value) (record { kind = is.0; bytes = tt }) tt, (refl, is.1)) }
 natural_by (first ∷ rest) _ e = wrong
 
-natural_sound : (lexemes : List Lexeme) → IsSound (Spelled number IsNatural) lexemes (natural lexemes)
+pub natural_sound : (lexemes : List Lexeme) → IsSound (Spelled number IsNatural) lexemes (natural lexemes)
 natural_sound lexemes = natural_by lexemes (opening_of (head_kind lexemes)) refl
 
-along_sound : (lexemes : List Lexeme) → IsSound (Spelled along_words IsAlong) lexemes (along lexemes)
+pub along_sound : (lexemes : List Lexeme) → IsSound (Spelled along_words IsAlong) lexemes (along lexemes)
 along_sound lexemes = at_sign (word.Symbol sym.OpenBracket) tt lexemes
     (step (natural_sound (behind lexemes)) (λ dimension rest natural. last_sign (word.Symbol sym.CloseBracket) tt (Some dimension) (refl, natural)))
     (done (refl, tt))
 
-region_base_sound : (most : ℕ) (lexemes : List Lexeme) →
+pub region_base_sound : (most : ℕ) (lexemes : List Lexeme) →
     IsSound (Spelled (λ those. flat_map pre_words those.0 ++ base_words those.1) (λ (those : List Pre × RegionBase). Unit {0})) lexemes (region_base most lexemes)
 region_base_sound zero lexemes = wrong
 region_base_sound (suc most) lexemes = at_sign word.Ditto tt lexemes
@@ -208,17 +208,17 @@ pub record AreSound (d : ℕ) (rules : Levels) : Type 0 where
 
 -- unary
 module _ (most deep : ℕ) (deeper : Levels) (are : AreSound deep deeper) where
-  behind_name_sound : (first : Name) (lexemes : List Lexeme) → IsSound (λ tree more. SaysExpr 5 (suc deep) tree (word.Name first.text ∷ more)) lexemes (behind_name most deeper first lexemes)
+  pub behind_name_sound : (first : Name) (lexemes : List Lexeme) → IsSound (λ tree more. SaysExpr 5 (suc deep) tree (word.Name first.text ∷ more)) lexemes (behind_name most deeper first lexemes)
   behind_name_sound first lexemes = at_sign (word.Symbol sym.At) tt lexemes
     (finish (Shifted first.at first) (dir_sound deep deeper.expr are.expr most (behind lexemes)) (λ shift good. (refl, record { is = good.is; depth = omega arith })))
     (at_sign (word.Symbol sym.OpenParen) tt lexemes
       (finish (Call first.at first) (actuals_sound deep deeper.expr are.expr most (behind lexemes)) (λ those good. (refl, record { is = good.is; depth = omega arith })))
       (done (refl, record { is = tt; depth = omega arith })))
 
-  inside_sound : (lexemes : List Lexeme) → IsSound (Spelled (λ value. expr_words value ++ symbol sym.CloseParen) (IsGood (IsExpr 0) expr_depth deep)) lexemes (inside deeper lexemes)
+  pub inside_sound : (lexemes : List Lexeme) → IsSound (Spelled (λ value. expr_words value ++ symbol sym.CloseParen) (IsGood (IsExpr 0) expr_depth deep)) lexemes (inside deeper lexemes)
   inside_sound lexemes = step (are.expr lexemes) (λ value rest good. last_sign (word.Symbol sym.CloseParen) tt value (refl, good))
 
-  folded_sound : (at : ℕ) (operator : Fold) (lexemes : List Lexeme) (f : Option Folding) → folding_of operator (head_kind lexemes) ≡ f →
+  pub folded_sound : (at : ℕ) (operator : Fold) (lexemes : List Lexeme) (f : Option Folding) → folding_of operator (head_kind lexemes) ≡ f →
     IsSound (λ tree more. SaysExpr 5 (suc deep) tree (fold_words operator ++ more)) lexemes (folded most at operator deeper f lexemes)
   folded_sound at operator lexemes (Some folding.Reduce) e = behind_words _ (takes_head (word.Symbol sym.Reduce) tt lexemes (folding_is operator (head_kind lexemes) folding.Reduce e))
     (step (bracket_sound deep deeper.expr are.expr most (behind lexemes)) (λ over rest good.
@@ -237,7 +237,7 @@ module _ (most deep : ℕ) (deeper : Levels) (are : AreSound deep deeper) where
           })))))
   folded_sound at operator lexemes None e = wrong
 
-  opened_sound : (first : Lexeme) (rest : List Lexeme) (o : Opening) → IsOpening first.kind o → IsSound (SaysExpr 5 (suc deep)) (first ∷ rest) (unary_by most deeper (Some o) first rest)
+  pub opened_sound : (first : Lexeme) (rest : List Lexeme) (o : Opening) → IsOpening first.kind o → IsSound (SaysExpr 5 (suc deep)) (first ∷ rest) (unary_by most deeper (Some o) first rest)
   opened_sound first rest (opening.Number value) is = behind_words _ (takes_one (word.Number value) (record { kind = is.0; bytes = tt }) tt) (done (refl, record { is = is.1; depth = omega arith }))
   opened_sound first rest (opening.Truth value) is = behind_words _ (takes_signed is) (done (append-nil _, record { is = tt; depth = omega arith }))
   opened_sound first rest (opening.Coord dimension) is = behind_words _ (takes_signed is.0) (done (append-nil _, record { is = (is.1, is.2); depth = omega arith }))
@@ -256,7 +256,7 @@ module _ (most deep : ℕ) (deeper : Levels) (are : AreSound deep deeper) where
     (step (in_bracket_sound deep deeper.expr are.expr most rest) (λ source after good.
       finish (Flood first.at source) (are.unary after) (λ operand more. (simp append_assoc, record { is = (refl, good.is, more.is); depth = omega arith }))))
 
-  unary_by_sound : (first : Lexeme) (rest : List Lexeme) (o : Option Opening) → opening_of first.kind ≡ o → IsSound (SaysExpr 5 (suc deep)) (first ∷ rest) (unary_by most deeper o first rest)
+  pub unary_by_sound : (first : Lexeme) (rest : List Lexeme) (o : Option Opening) → opening_of first.kind ≡ o → IsSound (SaysExpr 5 (suc deep)) (first ∷ rest) (unary_by most deeper o first rest)
   unary_by_sound first rest None e = wrong
   unary_by_sound first rest (Some o) e = opened_sound first rest o (opening_is first.kind o e)
 
@@ -291,7 +291,7 @@ lower : (wanted own d : ℕ) → wanted ≤ own → (tree : Expr) → IsGood (Is
 lower wanted own d below tree good = record { is = expr_lower wanted own (weaker wanted own below) tree good.is; depth = good.depth }
 
 -- what a chain makes: an expression that begins with what stood there before
-abbrev SaysOn : ℕ → ℕ → Expr → Expr → List Word → Type 0
+abbrev pub SaysOn : ℕ → ℕ → Expr → Expr → List Word → Type 0
 SaysOn level d before tree words = (expr_words before ++ words ≡ expr_words tree) × IsGood (IsExpr level) expr_depth d tree
 
 pair_good : (own left_own right_own deep at : ℕ) (k : Kind) (o : Op) → IsOperator own left_own right_own k o → (left right : Expr) →
@@ -310,7 +310,7 @@ regroup a o b w = simp append_assoc
 
 module _ (own right_own deep : ℕ) (op_of : Kind → Option Op) (operand : Reader Expr)
   (sound : (lexemes : List Lexeme) → IsSound (SaysExpr right_own deep) lexemes (operand lexemes)) where
-  chain_sound : ((k : Kind) (o : Op) → op_of k ≡ Some o → IsOperator own own right_own k o) → (most : ℕ) (left : Expr) → IsGood (IsExpr own) expr_depth (suc deep) left → (lexemes : List Lexeme) →
+  pub chain_sound : ((k : Kind) (o : Op) → op_of k ≡ Some o → IsOperator own own right_own k o) → (most : ℕ) (left : Expr) → IsGood (IsExpr own) expr_depth (suc deep) left → (lexemes : List Lexeme) →
       IsSound (SaysOn own (suc deep) left) lexemes (chain most deep op_of operand left lexemes)
   chain_sound is zero left good lexemes = wrong
   chain_sound is (suc most) left good lexemes = choose_some (op_of (head_kind lexemes))
@@ -326,7 +326,7 @@ module _ (own right_own deep : ℕ) (op_of : Kind → Option Op) (operand : Read
 
 module _ (own operand_own deep : ℕ) (op_of : Kind → Option Op) (operand : Reader Expr)
   (sound : (lexemes : List Lexeme) → IsSound (SaysExpr operand_own deep) lexemes (operand lexemes)) where
-  once_sound : ((k : Kind) (o : Op) → op_of k ≡ Some o → IsOperator own operand_own operand_own k o) → own ≤ operand_own → (left : Expr) →
+  pub once_sound : ((k : Kind) (o : Op) → op_of k ≡ Some o → IsOperator own operand_own operand_own k o) → own ≤ operand_own → (left : Expr) →
       IsGood (IsExpr operand_own) expr_depth (suc deep) left → (lexemes : List Lexeme) →
       IsSound (SaysOn own (suc deep) left) lexemes (once deep op_of operand left lexemes)
   once_sound is below left good lexemes = choose_some (op_of (head_kind lexemes))
@@ -389,7 +389,7 @@ too_deep_sound true [] so = record { tells = here }
 too_deep_sound true (first ∷ rest) so = record { tells = further (so refl) here }
 too_deep_sound false lexemes so = wrong
 
-no_expr_sound : (lexemes : List Lexeme) → IsSound Nothing lexemes (no_expr lexemes)
+pub no_expr_sound : (lexemes : List Lexeme) → IsSound Nothing lexemes (no_expr lexemes)
 no_expr_sound lexemes = too_deep_sound (begins_expr (head_kind lexemes)) lexemes (begins_inner (head_kind lexemes))
 
 none_then : (next : Expr → Reader Expr) {lexemes : List Lexeme} {outcome : Outcome Expr} → IsSound Nothing lexemes outcome → IsSound Nothing lexemes (and_then outcome next)

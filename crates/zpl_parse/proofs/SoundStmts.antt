@@ -38,22 +38,22 @@ SaysStmt d n = Spelled stmt_words (IsNest IsStmt stmt_depth d nest_depth n)
 abbrev pub SaysStmts : ℕ → ℕ → Stmts → List Word → Type 0
 SaysStmts d n = Spelled stmts_words (IsNest AreStmts stmts_depth d stmts_nest n)
 
-abbrev SaysForm : ℕ → ℕ → Form → List Word → Type 0
+abbrev pub SaysForm : ℕ → ℕ → Form → List Word → Type 0
 SaysForm d n = Spelled form_words (IsNest IsForm form_depth d form_nest n)
 
-mask_sound : (lexemes : List Lexeme) → IsSound (Spelled mask_words (λ mask. Unit {0})) lexemes (mask lexemes)
+pub mask_sound : (lexemes : List Lexeme) → IsSound (Spelled mask_words (λ mask. Unit {0})) lexemes (mask lexemes)
 mask_sound lexemes = choose_some (without_of (head_kind lexemes))
     (λ e. done (refl, tt))
     (λ without e. behind_words _ (takes_signed (without_is (head_kind lexemes) without e))
       (finish (λ name. Some (record { name = name; without = without })) (name_sound (behind lexemes)) (λ name fact. (refl, tt))))
 
-way_down_sound : (lexemes : List Lexeme) → IsSound (Spelled (λ down. if down then keyword key.Downto else keyword key.To) (λ (down : Bool). Unit {0})) lexemes (way_down lexemes)
+pub way_down_sound : (lexemes : List Lexeme) → IsSound (Spelled (λ down. if down then keyword key.Downto else keyword key.To) (λ (down : Bool). Unit {0})) lexemes (way_down lexemes)
 way_down_sound lexemes = choose_some (down_of (head_kind lexemes))
     (λ e. wrong)
     (λ down e. behind_words _ (takes_signed (down_is (head_kind lexemes) down e)) (done (append-nil _, tt)))
 
 -- the arms behind an `if`
-behind_if : Arms → List Word
+pub behind_if : Arms → List Word
 behind_if NoArm = []
 behind_if (ThenArm first rest) = arm_words first ++ more_arms rest
 
@@ -75,7 +75,7 @@ begins_no_end k e end = false≢true (subst (λ (k : Kind). begins_stmt k ≡ tr
 
 -- the rules over one of expressions
 module _ (d : ℕ) (expr : Reader Expr) (sound : (lexemes : List Lexeme) → IsSound (SaysExpr 0 d) lexemes (expr lexemes)) where
-  prefix_sound : (most : ℕ) (lexemes : List Lexeme) → IsSound (Spelled prefix_words (IsGood IsPrefix prefix_depth d)) lexemes (prefix most expr lexemes)
+  pub prefix_sound : (most : ℕ) (lexemes : List Lexeme) → IsSound (Spelled prefix_words (IsGood IsPrefix prefix_depth d)) lexemes (prefix most expr lexemes)
   prefix_sound most lexemes = sign (word.Symbol sym.OpenBracket) tt (λ at rest.
     step (inner_sound d expr sound most rest) (λ region after good.
     step (mask_sound after) (λ masked last fact.
@@ -89,12 +89,12 @@ module _ (d : ℕ) (expr : Reader Expr) (sound : (lexemes : List Lexeme) → IsS
       finish (λ others. first ∷ others) (prefixes_sound most rest) (λ others more. (refl, record { is = (good.is, more.is); depth = omega arith }))))
     (λ other. done (refl, record { is = tt; depth = omega arith }))
 
-  item_sound : (lexemes : List Lexeme) → IsSound (Spelled item_words (IsGood IsItem item_depth d)) lexemes (item expr lexemes)
+  pub item_sound : (lexemes : List Lexeme) → IsSound (Spelled item_words (IsGood IsItem item_depth d)) lexemes (item expr lexemes)
   item_sound lexemes = choose (next_is kind.Str lexemes)
     (λ begins. finish Str (string_at lexemes begins) (λ bytes fact. (refl, record { is = tt; depth = omega arith })))
     (λ other. finish Value (sound lexemes) (λ value good. (refl, record { is = good.is; depth = good.depth })))
 
-  some_items_sound : (most : ℕ) (lexemes : List Lexeme) →
+  pub some_items_sound : (most : ℕ) (lexemes : List Lexeme) →
     IsSound (Spelled items_words (IsGood (λ those. HasAny those × AllByRecursion IsItem those) (greatest_of item_depth) d)) lexemes (some_items most expr lexemes)
   some_items_sound zero lexemes = wrong
   some_items_sound (suc most) lexemes = step (item_sound lexemes) (λ first rest good.
@@ -103,13 +103,13 @@ module _ (d : ℕ) (expr : Reader Expr) (sound : (lexemes : List Lexeme) → IsS
       (ap (λ w. item_words first ++ w) (one_more (word.Symbol sym.Comma ∷ []) item_words others more.is.0), record { is = (tt, (good.is, more.is.1)); depth = omega arith })))
     (done (refl, record { is = (tt, (good.is, tt)); depth = omega arith })))
 
-  items_sound : (most : ℕ) (lexemes : List Lexeme) →
+  pub items_sound : (most : ℕ) (lexemes : List Lexeme) →
     IsSound (Spelled (λ those. items_words those ++ symbol sym.CloseParen) (IsGood (AllByRecursion IsItem) (greatest_of item_depth) d)) lexemes (items most expr lexemes)
   items_sound most lexemes = at_sign (word.Symbol sym.CloseParen) tt lexemes
     (done (refl, record { is = tt; depth = omega arith }))
     (step (some_items_sound most lexemes) (λ those rest good. last_sign (word.Symbol sym.CloseParen) tt those (refl, record { is = good.is.1; depth = good.depth })))
 
-  assign_or_call_sound : (n most : ℕ) (target : Name) (lexemes : List Lexeme) →
+  pub assign_or_call_sound : (n most : ℕ) (target : Name) (lexemes : List Lexeme) →
     IsSound (λ form more. SaysForm d (suc n) form (word.Name target.text ∷ more)) lexemes (assign_or_call most expr target lexemes)
   assign_or_call_sound n most target lexemes = choose_some (assigning (head_kind lexemes))
     (λ e. sign (word.Symbol sym.OpenParen) tt (λ at rest. step (actuals_sound d expr sound most rest) (λ those after good.
@@ -118,12 +118,12 @@ module _ (d : ℕ) (expr : Reader Expr) (sound : (lexemes : List Lexeme) → IsS
       (step (sound (behind lexemes)) (λ value rest good. last_sign (word.Symbol sym.Semicolon) tt _
         (simp append_assoc, record { is = ((assigning_is (head_kind lexemes) o e).is, good.is); depth = good.depth; nest = omega arith }))))
 
-  step_sound : (lexemes : List Lexeme) → IsSound (Spelled step_words (IsGood IsStep step_depth d)) lexemes (by_step expr lexemes)
+  pub step_sound : (lexemes : List Lexeme) → IsSound (Spelled step_words (IsGood IsStep step_depth d)) lexemes (by_step expr lexemes)
   step_sound lexemes = at_sign (word.Keyword key.By) tt lexemes
     (finish Some (sound (behind lexemes)) (λ stride good. (refl, record { is = good.is; depth = good.depth })))
     (done (refl, record { is = tt; depth = omega arith }))
 
-  for_head_sound : (lexemes : List Lexeme) → IsSound (Spelled head_words (IsGood IsHead head_depth d)) lexemes (for_head expr lexemes)
+  pub for_head_sound : (lexemes : List Lexeme) → IsSound (Spelled head_words (IsGood IsHead head_depth d)) lexemes (for_head expr lexemes)
   for_head_sound lexemes = step (name_sound lexemes) (λ counter rest fact.
     sign (word.Symbol sym.Assign) tt (λ at after.
     step (sound after) (λ first to good_first.
@@ -145,11 +145,11 @@ module _ (d : ℕ) (expr : Reader Expr) (sound : (lexemes : List Lexeme) → IsS
   body_end_sound n body body_is lexemes = step (body_is lexemes) (λ those rest good. finish (λ at. those) (closing_sound rest) (λ at fact. (refl, good)))
 
   module _ (n : ℕ) (body : Reader Stmts) (body_is : (lexemes : List Lexeme) → IsSound (SaysStmts d n) lexemes (body lexemes)) where
-    arm_sound : (at : ℕ) (lexemes : List Lexeme) → IsSound (Spelled arm_words (IsNest IsArm arm_depth d arm_nest n)) lexemes (arm expr body at lexemes)
+    pub arm_sound : (at : ℕ) (lexemes : List Lexeme) → IsSound (Spelled arm_words (IsNest IsArm arm_depth d arm_nest n)) lexemes (arm expr body at lexemes)
     arm_sound at lexemes = step (sound lexemes) (λ test rest good. sign (word.Keyword key.Then) tt (λ then_at after.
       finish (Tested at test) (body_is after) (λ those more. (simp append_assoc, record { is = (good.is, more.is); depth = omega arith; nest = more.nest }))))
 
-    arms_sound : (most at : ℕ) (lexemes : List Lexeme) →
+    pub arms_sound : (most at : ℕ) (lexemes : List Lexeme) →
       IsSound (Spelled behind_if (IsNest (λ those. HasArm those × AreArms those) arms_depth d arms_nest n)) lexemes (arms most expr body at lexemes)
     unfolding behind_if
     arms_sound zero at lexemes = wrong
@@ -159,29 +159,29 @@ module _ (d : ℕ) (expr : Reader Expr) (sound : (lexemes : List Lexeme) → IsS
         (ap (λ w. arm_words first ++ w) (elsif_arms others more.is.0), record { is = (tt, (good.is, more.is.1)); depth = omega arith; nest = omega arith })))
       (done (refl, record { is = (tt, (good.is, tt)); depth = omega arith; nest = omega arith })))
 
-    otherwise_sound : (lexemes : List Lexeme) → IsSound (Spelled otherwise_words (IsNest IsOtherwise otherwise_depth d otherwise_nest n)) lexemes (otherwise body lexemes)
+    pub otherwise_sound : (lexemes : List Lexeme) → IsSound (Spelled otherwise_words (IsNest IsOtherwise otherwise_depth d otherwise_nest n)) lexemes (otherwise body lexemes)
     otherwise_sound lexemes = at_sign (word.Keyword key.Else) tt lexemes
       (finish Else (body_is (behind lexemes)) (λ those good. (refl, record { is = good.is; depth = good.depth; nest = good.nest })))
       (done (refl, record { is = tt; depth = omega arith; nest = omega arith }))
 
-    choice_sound : (most at : ℕ) (lexemes : List Lexeme) → IsSound (λ form more. SaysForm d (suc n) form (word.Keyword key.If ∷ more)) lexemes (choice most expr body at lexemes)
+    pub choice_sound : (most at : ℕ) (lexemes : List Lexeme) → IsSound (λ form more. SaysForm d (suc n) form (word.Keyword key.If ∷ more)) lexemes (choice most expr body at lexemes)
     choice_sound most at lexemes = step (arms_sound most at lexemes) (λ tested rest good.
       step (otherwise_sound rest) (λ other after more.
       finish (λ end. If tested other) (closing_sound after) (λ end fact.
         (ap (λ w. w ++ (otherwise_words other ++ end_words)) (if_arms tested good.is.0) ∙ sym (append_assoc (arms_words tested) (otherwise_words other) end_words),
           record { is = (good.is.0, good.is.1, more.is); depth = omega arith; nest = omega arith }))))
 
-    while_sound : (lexemes : List Lexeme) → IsSound (λ form more. SaysForm d (suc n) form (word.Keyword key.While ∷ more)) lexemes (while_loop expr body lexemes)
+    pub while_sound : (lexemes : List Lexeme) → IsSound (λ form more. SaysForm d (suc n) form (word.Keyword key.While ∷ more)) lexemes (while_loop expr body lexemes)
     while_sound lexemes = step (sound lexemes) (λ test rest good. sign (word.Keyword key.Do) tt (λ at after.
       finish (While test) (body_end_sound n body body_is after) (λ those more. (simp append_assoc, record { is = (good.is, more.is); depth = omega arith; nest = omega arith }))))
 
-    repeat_sound : (lexemes : List Lexeme) → IsSound (λ form more. SaysForm d (suc n) form (word.Keyword key.Repeat ∷ more)) lexemes (repeat_loop expr body lexemes)
+    pub repeat_sound : (lexemes : List Lexeme) → IsSound (λ form more. SaysForm d (suc n) form (word.Keyword key.Repeat ∷ more)) lexemes (repeat_loop expr body lexemes)
     repeat_sound lexemes = step (body_is lexemes) (λ those rest good.
       step (expect_sound (word.Keyword key.Until) tt rest) (λ until after fact.
       step (sound after) (λ test last more.
       last_sign (word.Symbol sym.Semicolon) tt _ (simp append_assoc, record { is = (good.is, more.is); depth = omega arith; nest = omega arith }))))
 
-    for_sound : (lexemes : List Lexeme) → IsSound (λ form more. SaysForm d (suc n) form (word.Keyword key.For ∷ more)) lexemes (for_loop expr body lexemes)
+    pub for_sound : (lexemes : List Lexeme) → IsSound (λ form more. SaysForm d (suc n) form (word.Keyword key.For ∷ more)) lexemes (for_loop expr body lexemes)
     for_sound lexemes = step (for_head_sound lexemes) (λ head rest good. sign (word.Keyword key.Do) tt (λ at after.
       finish (For head) (body_end_sound n body body_is after) (λ those more. (for_regroup (head_words head) (stmts_words those), record { is = (good.is, more.is); depth = omega arith; nest = omega arith }))))
 
@@ -201,11 +201,11 @@ module _ (d : ℕ) (expr : Reader Expr) (sound : (lexemes : List Lexeme) → IsS
     started most start.Return lexemes is = behind_words _ (takes_head (word.Keyword key.Return) tt lexemes is)
       (step (sound (behind lexemes)) (λ value rest good. last_sign (word.Symbol sym.Semicolon) tt _ (refl, record { is = good.is; depth = good.depth; nest = omega arith })))
 
-    form_by_sound : (most : ℕ) (s : Option Start) (lexemes : List Lexeme) → start_of (head_kind lexemes) ≡ s → IsSound (SaysForm d (suc n)) lexemes (form_by most expr body s lexemes)
+    pub form_by_sound : (most : ℕ) (s : Option Start) (lexemes : List Lexeme) → start_of (head_kind lexemes) ≡ s → IsSound (SaysForm d (suc n)) lexemes (form_by most expr body s lexemes)
     form_by_sound most None lexemes e = wrong
     form_by_sound most (Some s) lexemes e = started most s lexemes (start_is (head_kind lexemes) s e)
 
-    stmt_over_sound : (most : ℕ) (lexemes : List Lexeme) → IsSound (SaysStmt d (suc n)) lexemes (stmt_over most expr body lexemes)
+    pub stmt_over_sound : (most : ℕ) (lexemes : List Lexeme) → IsSound (SaysStmt d (suc n)) lexemes (stmt_over most expr body lexemes)
     stmt_over_sound most lexemes = step (prefixes_sound most lexemes) (λ before rest good.
       finish (Prefixed (head_at rest) before) (form_by_sound most (start_of (head_kind rest)) rest refl) (λ form more.
         (refl, record { is = (good.is, more.is); depth = omega arith; nest = more.nest })))
