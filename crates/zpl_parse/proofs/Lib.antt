@@ -4,6 +4,8 @@ pub mod SoundTokens
 pub mod SoundClasses
 pub mod SoundExprs
 pub mod SoundStmts
+pub mod SoundDecls
+pub mod SoundProgram
 pub mod Local
 pub mod LocalTokens
 pub mod LocalExpressions

@@ -42,7 +42,7 @@ pub takes_then : {a b c : List Lexeme} {v w : List Word} → Takes a v b → Tak
 takes_then nothing after = after
 takes_then (one reads inner more) after = one reads inner (takes_then more after)
 
-no_end : (k : Kind) (w : Word) → k ≡ kind_of w → IsNoEnd w → k ≡ kind.End → ⊥
+pub no_end : (k : Kind) (w : Word) → k ≡ kind_of w → IsNoEnd w → k ≡ kind.End → ⊥
 no_end k (word.Name text) e inner end = absurd (cc)
 no_end k (word.Number value) e inner end = absurd (cc)
 no_end k (word.Str bytes) e inner end = absurd (cc)

@@ -56,7 +56,7 @@ pub more_dims_are : (others : DimTexts) → HasDim others → word.Symbol sym.Co
 more_dims_are NoDim has = absurd has
 more_dims_are (ThenDim first rest) has = refl
 
-natural_by : (lexemes : List Lexeme) (o : Option Opening) → opening_of (head_kind lexemes) ≡ o → IsSound (Spelled number IsNatural) lexemes (natural_of o lexemes)
+pub natural_by : (lexemes : List Lexeme) (o : Option Opening) → opening_of (head_kind lexemes) ≡ o → IsSound (Spelled number IsNatural) lexemes (natural_of o lexemes)
 natural_by [] o e = subst (λ (o : Option Opening). IsSound (Spelled number IsNatural) [] (natural_of o [])) e wrong
 natural_by (first ∷ rest) (Some (opening.Number value)) e =
     let is = opening_is first.kind (opening.Number value) e in
@@ -291,7 +291,7 @@ pub lower : (wanted own d : ℕ) → wanted ≤ own → (tree : Expr) → IsGood
 lower wanted own d below tree good = record { is = expr_lower wanted own (weaker wanted own below) tree good.is; depth = good.depth }
 
 -- what a chain makes: an expression that begins with what stood there before
-abbrev SaysOn : ℕ → ℕ → Expr → Expr → List Word → Type 0
+abbrev pub SaysOn : ℕ → ℕ → Expr → Expr → List Word → Type 0
 SaysOn level d before tree words = (expr_words before ++ words ≡ expr_words tree) × IsGood (IsExpr level) expr_depth d tree
 
 pair_good : (own left_own right_own deep at : ℕ) (k : Kind) (o : Op) → IsOperator own left_own right_own k o → (left right : Expr) →

@@ -38,7 +38,7 @@ SaysStmt d n = Spelled stmt_words (IsNest IsStmt stmt_depth d nest_depth n)
 abbrev pub SaysStmts : ℕ → ℕ → Stmts → List Word → Type 0
 SaysStmts d n = Spelled stmts_words (IsNest AreStmts stmts_depth d stmts_nest n)
 
-abbrev SaysForm : ℕ → ℕ → Form → List Word → Type 0
+abbrev pub SaysForm : ℕ → ℕ → Form → List Word → Type 0
 SaysForm d n = Spelled form_words (IsNest IsForm form_depth d form_nest n)
 
 pub mask_sound : (lexemes : List Lexeme) → IsSound (Spelled mask_words (λ mask. Unit {0})) lexemes (mask lexemes)
