@@ -13,3 +13,4 @@ pub mod LocalStatements
 pub mod LocalDeclarations
 pub mod ViableBase
 pub mod ViableExprs
+pub mod ViableStmts
