@@ -14,3 +14,4 @@ pub mod LocalDeclarations
 pub mod ViableBase
 pub mod ViableExprs
 pub mod ViableStmts
+pub mod ViableDecls
