@@ -15,3 +15,4 @@ pub mod ViableBase
 pub mod ViableExprs
 pub mod ViableStmts
 pub mod ViableDecls
+pub mod Whole

@@ -39,7 +39,7 @@ without_last_is (b ∷ []) q = refl
 without_last_is (b ∷ c ∷ body) q = ap (λ xs. b ∷ xs) (without_last_is (c ∷ body) q)
 
 -- the bytes of a lexeme of a text are its word's
-word_bytes : (bytes : List ℕ) (w : Word) → IsToken bytes (kind_of w) → ReadsBytes w bytes → HasBytes w bytes
+pub word_bytes : (bytes : List ℕ) (w : Word) → IsToken bytes (kind_of w) → ReadsBytes w bytes → HasBytes w bytes
 word_bytes bytes (word.Name text) token reads = reads
 word_bytes bytes (word.Str string) (body, within, e) reads =
     let inside : in_quotes bytes ≡ body = ap in_quotes e ∙ without_last_is body quote in
@@ -59,10 +59,10 @@ none_left (one reads inner more) e = cc
 no_end_read : {first : Lexeme} {w : Word} → Reads first w → IsNoEnd w → first.kind ≡ kind.End → ⊥
 no_end_read {first = first} {w = w} reads inner end = no_end first.kind w reads.kind inner end
 
-heads : {x y : Lexeme} {xs ys : List Lexeme} → x ∷ xs ≡ y ∷ ys → x ≡ y
+pub heads : {x y : Lexeme} {xs ys : List Lexeme} → x ∷ xs ≡ y ∷ ys → x ≡ y
 heads e = cc
 
-tails : {x y : Lexeme} {xs ys : List Lexeme} → x ∷ xs ≡ y ∷ ys → xs ≡ ys
+pub tails : {x y : Lexeme} {xs ys : List Lexeme} → x ∷ xs ≡ y ∷ ys → xs ≡ ys
 tails e = cc
 
 first_tokens : {x y : Token} {xs ys : List Token} → x ∷ xs ≡ y ∷ ys → x ≡ y
@@ -83,7 +83,7 @@ no_tokens : (text : List ℕ) (tokens : List Token) → lexemes_of text tokens �
 no_tokens text [] e = tt
 no_tokens text (t ∷ tokens) e = absurd (cc)
 
-word_of_token : (text : List ℕ) (t : Token) (at : ℕ) (w : Word) → IsSpan text at t → Reads (lexeme_of text t) w → IsWord text t w
+pub word_of_token : (text : List ℕ) (t : Token) (at : ℕ) (w : Word) → IsSpan text at t → Reads (lexeme_of text t) w → IsWord text t w
 word_of_token text t at w span reads = record {
   kind = reads.kind;
   bytes = word_bytes (token_text text t) w (subst (IsToken (token_text text t)) reads.kind span.text_of) reads.bytes;
