@@ -5,3 +5,5 @@ pub mod SoundExprs
 pub mod SoundStmts
 pub mod SoundDecls
 pub mod SoundProgram
+pub mod AtBase
+pub mod AtExprs
