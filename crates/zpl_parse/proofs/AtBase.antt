@@ -77,7 +77,7 @@ pub finish_at : {A B : Type 0} {Other : A → List Lexeme → Type 0} {Says : B 
 finish_at {Other = Other} {Says = Says} f {outcome = outcome} at so = finish_at_by Other Says f outcome at so
 
 -- a rule of which nothing but what it makes counts
-anywhere : {A : Type 0} (outcome : Outcome A) → IsAt (λ tree rest. Unit {0}) outcome
+pub anywhere : {A : Type 0} (outcome : Outcome A) → IsAt (λ tree rest. Unit {0}) outcome
 anywhere (Done tree rest) = record { holds = tt }
 anywhere (Wrong rest) = record { holds = tt }
 anywhere (Deep rest) = record { holds = tt }
