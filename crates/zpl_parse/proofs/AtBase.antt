@@ -66,6 +66,22 @@ pub step_at : {A B : Type 0} {spelling : A → List Word} {Is : A → Type 0} {O
 step_at {spelling = spelling} {Is = Is} {Other = Other} {Says = Says} {lexemes = lexemes} {outcome = outcome} next sound at so =
     step_at_by spelling Is Other Says lexemes outcome next sound at so
 
+-- the same with what is known of the tree
+step_is_at_by : {A B : Type 0} (spelling : A → List Word) (Is : A → Type 0) (Other : A → List Lexeme → Type 0) (Says : B → List Lexeme → Type 0) (lexemes : List Lexeme) (outcome : Outcome A) (next : A → Reader B) →
+    IsSound (Spelled spelling Is) lexemes outcome → IsAt Other outcome →
+    ((tree : A) → Is tree → Other tree (past (spelling tree) lexemes) → IsAt Says (next tree (past (spelling tree) lexemes))) → IsAt Says (and_then outcome next)
+step_is_at_by spelling Is Other Says lexemes (Done tree rest) next sound at so =
+    let lands : rest ≡ past (spelling tree) lexemes = takes_past sound.tells.1 ∙ ap (λ (w : List Word). past w lexemes) sound.tells.2.0 in
+    subst (λ (l : List Lexeme). IsAt Says (next tree l)) (sym lands) (so tree sound.tells.2.1 (subst (Other tree) lands at.holds))
+step_is_at_by spelling Is Other Says lexemes (Wrong rest) next sound at so = record { holds = tt }
+step_is_at_by spelling Is Other Says lexemes (Deep rest) next sound at so = record { holds = tt }
+
+pub step_is_at : {A B : Type 0} {spelling : A → List Word} {Is : A → Type 0} {Other : A → List Lexeme → Type 0} {Says : B → List Lexeme → Type 0} {lexemes : List Lexeme} {outcome : Outcome A} (next : A → Reader B) →
+    IsSound (Spelled spelling Is) lexemes outcome → IsAt Other outcome →
+    ((tree : A) → Is tree → Other tree (past (spelling tree) lexemes) → IsAt Says (next tree (past (spelling tree) lexemes))) → IsAt Says (and_then outcome next)
+step_is_at {spelling = spelling} {Is = Is} {Other = Other} {Says = Says} {lexemes = lexemes} {outcome = outcome} next sound at so =
+    step_is_at_by spelling Is Other Says lexemes outcome next sound at so
+
 finish_at_by : {A B : Type 0} (Other : A → List Lexeme → Type 0) (Says : B → List Lexeme → Type 0) (f : A → B) (outcome : Outcome A) → IsAt Other outcome →
     ((tree : A) (rest : List Lexeme) → Other tree rest → Says (f tree) rest) → IsAt Says (made f outcome)
 finish_at_by Other Says f (Done tree rest) at so = record { holds = so tree rest at.holds }

@@ -271,7 +271,7 @@ module _ (most deep : ℕ) (unary : Reader Expr) (deeper : Levels) (sound : (lex
   levels_over_at : AreAt (levels_over most deep unary deeper)
   levels_over_at = record { unary = at; term = term_at; sum = sum_at; comp = comp_at; conj = conj_at; expr = expr_at }
 
-too_deep_at : {A : Type 0} {Says : A → List Lexeme → Type 0} (test : Bool) (lexemes : List Lexeme) → IsAt Says (too_deep test lexemes)
+pub too_deep_at : {A : Type 0} {Says : A → List Lexeme → Type 0} (test : Bool) (lexemes : List Lexeme) → IsAt Says (too_deep test lexemes)
 too_deep_at true lexemes = deep_at
 too_deep_at false lexemes = wrong_at
 

@@ -7,3 +7,4 @@ pub mod SoundDecls
 pub mod SoundProgram
 pub mod AtBase
 pub mod AtExprs
+pub mod AtStmts

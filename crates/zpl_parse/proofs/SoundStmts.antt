@@ -57,7 +57,7 @@ pub behind_if : Arms → List Word
 behind_if NoArm = []
 behind_if (ThenArm first rest) = arm_words first ++ more_arms rest
 
-if_arms : (those : Arms) → HasArm those → word.Keyword key.If ∷ behind_if those ≡ arms_words those
+pub if_arms : (those : Arms) → HasArm those → word.Keyword key.If ∷ behind_if those ≡ arms_words those
 unfolding behind_if
 if_arms NoArm has = absurd has
 if_arms (ThenArm first rest) has = refl
