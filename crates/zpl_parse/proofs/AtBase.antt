@@ -144,3 +144,24 @@ names_at zero lexemes = wrong_at
 names_at (suc most) lexemes = step_at _ (name_sound lexemes) (name_at lexemes) (λ first here. choose_at (at_comma (behind lexemes))
     (λ comma. finish_at (λ others. first ∷ others) (names_at most _) (λ others rest there. (here, there)))
     (λ other. done_at (here, tt)))
+
+-- a rule, with where it leaves off
+lands_at_by : {A : Type 0} (spelling : A → List Word) (Is : A → Type 0) (Other : A → List Lexeme → Type 0) (lexemes : List Lexeme) (outcome : Outcome A) →
+    IsSound (Spelled spelling Is) lexemes outcome → IsAt Other outcome → IsAt (λ tree rest. Other tree rest × (rest ≡ past (spelling tree) lexemes)) outcome
+lands_at_by spelling Is Other lexemes (Done tree rest) sound at =
+    record { holds = (at.holds, takes_past sound.tells.1 ∙ ap (λ (w : List Word). past w lexemes) sound.tells.2.0) }
+lands_at_by spelling Is Other lexemes (Wrong rest) sound at = record { holds = tt }
+lands_at_by spelling Is Other lexemes (Deep rest) sound at = record { holds = tt }
+
+pub lands_at : {A : Type 0} {spelling : A → List Word} {Is : A → Type 0} {Other : A → List Lexeme → Type 0} {lexemes : List Lexeme} {outcome : Outcome A} →
+    IsSound (Spelled spelling Is) lexemes outcome → IsAt Other outcome → IsAt (λ tree rest. Other tree rest × (rest ≡ past (spelling tree) lexemes)) outcome
+lands_at {spelling = spelling} {Is = Is} {Other = Other} {lexemes = lexemes} {outcome = outcome} sound at = lands_at_by spelling Is Other lexemes outcome sound at
+
+-- one lexeme of a kind, which is the last
+end_at_by : {A : Type 0} (Says : A → List Lexeme → Type 0) (test : Bool) (first : Lexeme) (rest : List Lexeme) (tree : A) → Says tree rest → IsAt Says (made (λ at. tree) (taken test first rest))
+end_at_by Says true first rest tree says = record { holds = says }
+end_at_by Says false first rest tree says = record { holds = tt }
+
+pub end_at : {A : Type 0} {Says : A → List Lexeme → Type 0} (wanted : Kind) (lexemes : List Lexeme) (tree : A) → Says tree (behind lexemes) → IsAt Says (made (λ at. tree) (expect wanted lexemes))
+end_at wanted [] tree says = record { holds = tt }
+end_at {Says = Says} wanted (first ∷ rest) tree says = end_at_by Says (same first.kind wanted) first rest tree says

@@ -8,3 +8,4 @@ pub mod SoundProgram
 pub mod AtBase
 pub mod AtExprs
 pub mod AtStmts
+pub mod AtDecls
