@@ -16,3 +16,7 @@ pub mod ViableExprs
 pub mod ViableStmts
 pub mod ViableDecls
 pub mod Whole
+pub mod AtBase
+pub mod AtExprs
+pub mod AtStmts
+pub mod AtDecls

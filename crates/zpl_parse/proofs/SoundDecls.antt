@@ -252,7 +252,7 @@ pub whole_sign : {A : Type 0} (Says : A → List Word → Type 0) (w : Word) →
 whole_sign Says w is lexemes next so = whole_then (Spelled (λ at. w ∷ []) (λ (at : ℕ). Unit {0})) Says lexemes (expect (kind_of w) lexemes) next (expect_sound w is lexemes)
     (λ at rest words says. subst (λ (v : List Word). IsWhole (λ made more. Says made (v ++ more)) rest (next at rest)) (sym says.0) (so at rest))
 
-pub program_over : List ℕ → ℕ → Reader Expr → ℕ → Reader Program
+unfoldable pub program_over : List ℕ → ℕ → Reader Expr → ℕ → Reader Program
 program_over source most expr deep lexemes = and_then (expect (kind.Word key.Program) lexemes) (λ at rest.
     and_then (name rest) (λ called after.
     and_then (expect (kind.Symbol sym.Semicolon) after) (λ semicolon last.

@@ -345,35 +345,35 @@ over : (wanted own d : ℕ) → wanted ≤ own → {outcome : Outcome Expr} {nex
 over wanted own d below sound so = step sound (λ left rest good. weaken (so left good rest) (λ tree words says. (says.0, says.1)))
 
 module _ (most deep : ℕ) (unary : Reader Expr) (deeper : Levels) (sound : (lexemes : List Lexeme) → IsSound (SaysExpr 5 (suc deep)) lexemes (unary lexemes)) (are : AreSound deep deeper) where
-  own : Levels
+  pub own : Levels
   own = levels_over most deep unary deeper
 
-  term_sound : (lexemes : List Lexeme) → IsSound (SaysExpr 4 (suc deep)) lexemes (own.term lexemes)
+  pub term_sound : (lexemes : List Lexeme) → IsSound (SaysExpr 4 (suc deep)) lexemes (own.term lexemes)
   unfolding own
   term_sound lexemes = over 4 5 (suc deep) (omega arith) (sound lexemes) (λ left good rest.
     chain_sound 4 5 deep term_op deeper.unary are.unary term_op_is most left (lower 4 5 (suc deep) (omega arith) left good) rest)
 
-  sum_sound : (lexemes : List Lexeme) → IsSound (SaysExpr 3 (suc deep)) lexemes (own.sum lexemes)
+  pub sum_sound : (lexemes : List Lexeme) → IsSound (SaysExpr 3 (suc deep)) lexemes (own.sum lexemes)
   unfolding own
   sum_sound lexemes = over 3 4 (suc deep) (omega arith) (term_sound lexemes) (λ left good rest.
     chain_sound 3 4 deep sum_op deeper.term are.term sum_op_is most left (lower 3 4 (suc deep) (omega arith) left good) rest)
 
-  comp_sound : (lexemes : List Lexeme) → IsSound (SaysExpr 2 (suc deep)) lexemes (own.comp lexemes)
+  pub comp_sound : (lexemes : List Lexeme) → IsSound (SaysExpr 2 (suc deep)) lexemes (own.comp lexemes)
   unfolding own
   comp_sound lexemes = over 2 3 (suc deep) (omega arith) (sum_sound lexemes) (λ left good rest.
     once_sound 2 3 deep comp_op deeper.sum are.sum comp_op_is (omega arith) left good rest)
 
-  conj_sound : (lexemes : List Lexeme) → IsSound (SaysExpr 1 (suc deep)) lexemes (own.conj lexemes)
+  pub conj_sound : (lexemes : List Lexeme) → IsSound (SaysExpr 1 (suc deep)) lexemes (own.conj lexemes)
   unfolding own
   conj_sound lexemes = over 1 2 (suc deep) (omega arith) (comp_sound lexemes) (λ left good rest.
     chain_sound 1 2 deep and_op deeper.comp are.comp and_op_is most left (lower 1 2 (suc deep) (omega arith) left good) rest)
 
-  expr_sound : (lexemes : List Lexeme) → IsSound (SaysExpr 0 (suc deep)) lexemes (own.expr lexemes)
+  pub expr_sound : (lexemes : List Lexeme) → IsSound (SaysExpr 0 (suc deep)) lexemes (own.expr lexemes)
   unfolding own
   expr_sound lexemes = over 0 1 (suc deep) (omega arith) (conj_sound lexemes) (λ left good rest.
     chain_sound 0 1 deep or_op deeper.conj are.conj or_op_is most left (lower 0 1 (suc deep) (omega arith) left good) rest)
 
-  levels_over_sound : AreSound (suc deep) (levels_over most deep unary deeper)
+  pub levels_over_sound : AreSound (suc deep) (levels_over most deep unary deeper)
   unfolding own
   levels_over_sound = record { unary = sound; term = term_sound; sum = sum_sound; comp = comp_sound; conj = conj_sound; expr = expr_sound }
 
