@@ -1,13 +1,13 @@
 -- Rules of the grammar, computed on the words of small programs.
-use Rattle.std.proofs.Common.{◌≡◌, ◌∷◌, ◌++◌, ℕ, suc, zero, List, [], codes, refl, pos, None, Some, length}
+use Rattle.std.proofs.Common.{◌≡◌, ◌∷◌, ℕ, suc, List, [], codes, refl, pos, None}
 use Rattle.zpl_nums.specs.declared.operators.Op.TheVariants as op
 use Rattle.zpl_tokens.specs.declared.keywords.Key.TheVariants as key
 use Rattle.zpl_tokens.specs.declared.symbols.Sym.TheVariants as sym
-use Rattle.zpl_tree.specs.Syntax.{Name, Expr, Number, Named, Neg, Paren, Pair, NoBracket, Stmt, Prefixed, NoStmt, ThenStmt, Assign, Block, While, Integer, Vars, VarDef, Defined, Program}
+use Rattle.zpl_tree.specs.Syntax.{Name, Expr, Number, Named, Neg, Paren, Pair, NoBracket, Prefixed, NoStmt, ThenStmt, Assign, Block, While, Integer, Vars, Defined, Program}
 use Rattle.zpl_tree.specs.Word.{Word}
 use Rattle.zpl_tree.specs.Word as word
 use Rattle.zpl_parse.specs.Lexeme.{Lexeme, lexeme_at}
-use Rattle.zpl_parse.specs.Outcome.{Outcome, Done, Wrong, Deep}
+use Rattle.zpl_parse.specs.Outcome.{Done, Wrong, Deep}
 use Rattle.zpl_parse.specs.Expressions.{levels}
 use Rattle.zpl_parse.specs.Statements.{stmt}
 use Rattle.zpl_parse.specs.Declarations.{program}

@@ -1,5 +1,5 @@
 -- A reader's outcome rests on the lexemes that it took and on the first one that it left.
-use Rattle.std.proofs.Common.{◌≡◌, ℕ, suc, zero, ◌≤◌, Bool, true, false, List, [], ◌∷◌, ◌++◌, Option, Some, None, refl, sym, ◌∙◌, ap, subst, arith, append_assoc}
+use Rattle.std.proofs.Common.{◌≡◌, Bool, true, false, List, [], ◌∷◌, ◌++◌, Option, Some, None, refl, sym, ◌∙◌, ap, subst, append_assoc}
 use Rattle.zpl_parse.specs.Lexeme.{Lexeme, behind}
 use Rattle.zpl_parse.specs.Outcome.{Outcome, Done, Wrong, Deep, Reader, and_then, made}
 
@@ -48,35 +48,49 @@ and_then_goes : {A B : Type 0} (p : Reader A) (q : A → Reader B) (tree : A) (o
     first ≡ two ++ others → p (one ++ first) ≡ Done tree first → and_then (p ((one ++ two) ++ others)) q ≡ q tree (two ++ others)
 and_then_goes p q tree one two others first e h =
     let same : p ((one ++ two) ++ others) ≡ Done tree (two ++ others) =
-        rw (append_assoc one two others) (subst (λ l. p (one ++ l) ≡ Done tree l) e h) in
+    rw (append_assoc one two others) (subst (λ l. p (one ++ l) ≡ Done tree l) e h) in
     ap (λ o. and_then o q) same
 
 and_then_deep : (Exact Sure : Type 0) {A B : Type 0} (p : Reader A) (q : A → Reader B) (tree : A) (lexemes rest left one : List Lexeme) →
     lexemes ≡ one ++ rest → ((others : List Lexeme) → SameHead rest others → p (one ++ others) ≡ Done tree others) →
     LocalAt Exact Sure (q tree) rest (Deep left) → LocalAt Exact Sure (λ l. and_then (p l) q) lexemes (Deep left)
-and_then_deep Exact Sure p q tree lexemes rest left [] e h g =
-    (g.0, g.1, e ∙ g.2, λ sure others.
+and_then_deep Exact Sure p q tree lexemes rest left [] e h g = (
+  g.0,
+  g.1,
+  e ∙ g.2,
+  λ sure others.
       subst IsNotDone (sym (ap (λ o. and_then o q) (h (g.0 ∷ (g.1 ++ others)) (subst (λ l. SameHead l (g.0 ∷ (g.1 ++ others))) (sym g.2) refl))))
-      (g.3 sure others))
-and_then_deep Exact Sure p q tree lexemes rest left (y ∷ one) e h g =
-    (y, one ++ g.0 ∷ g.1, join lexemes (y ∷ one) (g.0 ∷ g.1) rest left e g.2, λ sure others.
+      (g.3 sure others),
+)
+and_then_deep Exact Sure p q tree lexemes rest left (y ∷ one) e h g = (
+  y,
+  one ++ g.0 ∷ g.1,
+  join lexemes (y ∷ one) (g.0 ∷ g.1) rest left e g.2,
+  λ sure others.
       subst IsNotDone (sym (and_then_goes p q tree (y ∷ one) (g.0 ∷ g.1) others (g.0 ∷ (g.1 ++ others)) refl
-        (h (g.0 ∷ (g.1 ++ others)) (subst (λ l. SameHead l (g.0 ∷ (g.1 ++ others))) (sym g.2) refl))))
-      (g.3 sure others))
+      (h (g.0 ∷ (g.1 ++ others)) (subst (λ l. SameHead l (g.0 ∷ (g.1 ++ others))) (sym g.2) refl))))
+      (g.3 sure others),
+)
 
 and_then_second : (Exact Sure : Type 0) {A B : Type 0} (p : Reader A) (q : A → Reader B) (tree : A) (lexemes rest : List Lexeme) (second : Outcome B) →
     LocalAt Exact Sure p lexemes (Done tree rest) → LocalAt Exact Sure (q tree) rest second →
     LocalAt Exact Sure (λ l. and_then (p l) q) lexemes second
-and_then_second Exact Sure p q tree lexemes rest (Done last left) h g =
-    (h.0 ++ g.0, join lexemes h.0 g.0 rest left h.1 g.1, λ others same.
+and_then_second Exact Sure p q tree lexemes rest (Done last left) h g = (
+  h.0 ++ g.0,
+  join lexemes h.0 g.0 rest left h.1 g.1,
+  λ others same.
       and_then_goes p q tree h.0 g.0 others (g.0 ++ others) refl
-        (h.2 (g.0 ++ others) (subst (λ l. SameHead l (g.0 ++ others)) (sym g.1) (same_behind g.0 left others same)))
-      ∙ g.2 others same)
-and_then_second Exact Sure p q tree lexemes rest (Wrong left) h g =
-    (h.0 ++ g.0, join lexemes h.0 g.0 rest left h.1 g.1, λ exact others same.
+      (h.2 (g.0 ++ others) (subst (λ l. SameHead l (g.0 ++ others)) (sym g.1) (same_behind g.0 left others same)))
+      ∙ g.2 others same,
+)
+and_then_second Exact Sure p q tree lexemes rest (Wrong left) h g = (
+  h.0 ++ g.0,
+  join lexemes h.0 g.0 rest left h.1 g.1,
+  λ exact others same.
       subst IsWrong (sym (and_then_goes p q tree h.0 g.0 others (g.0 ++ others) refl
-        (h.2 (g.0 ++ others) (subst (λ l. SameHead l (g.0 ++ others)) (sym g.1) (same_behind g.0 left others same)))))
-      (g.2 exact others same))
+      (h.2 (g.0 ++ others) (subst (λ l. SameHead l (g.0 ++ others)) (sym g.1) (same_behind g.0 left others same)))))
+      (g.2 exact others same),
+)
 and_then_second Exact Sure p q tree lexemes rest (Deep left) h g =
     and_then_deep Exact Sure p q tree lexemes rest left h.0 h.1 h.2 g
 
@@ -181,18 +195,28 @@ pub record IsOfHead {B : Type 0} (test : List Lexeme → B) : Type 0 where
 
 pub by_head_at : (Exact Sure : Type 0) {A B : Type 0} (test : List Lexeme → B) (p : B → Reader A) (b : B) (lexemes : List Lexeme) (o : Outcome A) →
     IsOfHead test → test lexemes ≡ b → LocalAt Exact Sure (p b) lexemes o → LocalAt Exact Sure (λ l. p (test l) l) lexemes o
-by_head_at Exact Sure test p b lexemes (Done tree rest) told is h =
-    (h.0, h.1, λ others same. subst (λ c. p c (h.0 ++ others) ≡ Done tree others)
+by_head_at Exact Sure test p b lexemes (Done tree rest) told is h = (
+  h.0,
+  h.1,
+  λ others same. subst (λ c. p c (h.0 ++ others) ≡ Done tree others)
       (sym (told.same lexemes (h.0 ++ others) (subst (λ l. SameHead l (h.0 ++ others)) (sym h.1) (same_behind h.0 rest others same)) ∙ is))
-      (h.2 others same))
-by_head_at Exact Sure test p b lexemes (Wrong rest) told is h =
-    (h.0, h.1, λ exact others same. subst (λ c. IsWrong (p c (h.0 ++ others)))
+      (h.2 others same),
+)
+by_head_at Exact Sure test p b lexemes (Wrong rest) told is h = (
+  h.0,
+  h.1,
+  λ exact others same. subst (λ c. IsWrong (p c (h.0 ++ others)))
       (sym (told.same lexemes (h.0 ++ others) (subst (λ l. SameHead l (h.0 ++ others)) (sym h.1) (same_behind h.0 rest others same)) ∙ is))
-      (h.2 exact others same))
-by_head_at Exact Sure test p b lexemes (Deep rest) told is h =
-    (h.0, h.1, h.2, λ sure others. subst (λ c. IsNotDone (p c (h.0 ∷ (h.1 ++ others))))
+      (h.2 exact others same),
+)
+by_head_at Exact Sure test p b lexemes (Deep rest) told is h = (
+  h.0,
+  h.1,
+  h.2,
+  λ sure others. subst (λ c. IsNotDone (p c (h.0 ∷ (h.1 ++ others))))
       (sym (told.same lexemes (h.0 ∷ (h.1 ++ others)) (subst (λ l. SameHead l (h.0 ∷ (h.1 ++ others))) (sym h.2) refl) ∙ is))
-      (h.3 sure others))
+      (h.3 sure others),
+)
 
 pub local_by_where : {Exact Sure A B : Type 0} {test : List Lexeme → B} (p p' : B → Reader A) → IsOfHead test →
     ((b : B) (l : List Lexeme) → test l ≡ b → LocalAt Exact Sure (p' b) l (p b l)) → IsLocal Exact Sure (λ l. p (test l) l) (λ l. p' (test l) l)

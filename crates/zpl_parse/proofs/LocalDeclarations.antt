@@ -1,16 +1,13 @@
 -- The rules of declarations and of whole programs are local.
-use Rattle.std.proofs.Common.{◌≡◌, ℕ, suc, zero, Bool, true, false, List, [], ◌∷◌, ◌++◌, Option, Some, None, refl}
+use Rattle.std.proofs.Common.{ℕ, Bool, true, false, List, ◌∷◌, ◌++◌, Option, Some, None, refl}
 use Rattle.zpl_tokens.specs.declared.Kind.TheVariants as kind
 use Rattle.zpl_tokens.specs.declared.keywords.Key.TheVariants as key
 use Rattle.zpl_tokens.specs.declared.symbols.Sym.TheVariants as sym
-use Rattle.zpl_tree.specs.Syntax.{Name, Expr, NoPost, Stmt, Prefixed, Block, Base, Integer, Boolean, Other, Define, RegionDef, DirDef, VarDef, Param, Procedure, Decl, Config, Constant, Regions, Directions, Vars, Defined, Program}
+use Rattle.zpl_tree.specs.Syntax.{Name, Expr, NoPost, Prefixed, Block, Other, Config, Constant, Regions, Directions, Vars, Defined}
 use Rattle.zpl_parse.specs.declared.classes.Part.{Part}
 use Rattle.zpl_parse.specs.declared.classes.Part.TheVariants as part
 use Rattle.zpl_parse.specs.Classes.{part_of}
-use Rattle.zpl_parse.specs.Lexeme.{Lexeme, head_kind, behind}
-use Rattle.zpl_parse.specs.Outcome.{Outcome, Done, Wrong, Deep, Reader, and_then, made}
-use Rattle.zpl_parse.specs.Tokens.{next_is}
-use Rattle.zpl_parse.specs.Expressions.{levels}
+use Rattle.zpl_parse.specs.Outcome.{Reader}
 use Rattle.zpl_parse.specs.Declarations.{base, group, define, region_body, region, direction, variables, formals, param, some_params, params, result, locals, body, procedure, decl_by, decls, program}
 use Rattle.zpl_parse.proofs.Local.{IsLocal, local_then, local_made, local_done, local_wrong, local_behind, local_by, local_if}
 use Rattle.zpl_parse.proofs.LocalTokens.{next_told, kind_told, symbol_local, keyword_local, name_local, names_local, Turns, local_turns}
@@ -105,8 +102,8 @@ decls_local : {Exact Sure : Type 0} {expr expr' : Reader Expr} → IsReady Exact
     IsLocal Exact Sure (decls m expr deep) (decls m' expr' deep)
 decls_local {expr = expr} {expr' = expr'} ready deep = local_turns (λ m. decls m expr deep) (λ m. decls m expr' deep) (λ l. refl) (λ l. tt) (λ m m' turns before.
     local_if (next_told kind.End) local_taken
-      (local_then (local_by (λ o. decl_by m expr deep o) (λ o. decl_by m' expr' deep o) (kind_told part_of) (decl_by_local ready turns deep))
-        (λ first. local_made (λ others. first ∷ others) before)))
+    (local_then (local_by (λ o. decl_by m expr deep o) (λ o. decl_by m' expr' deep o) (kind_told part_of) (decl_by_local ready turns deep))
+    (λ first. local_made (λ others. first ∷ others) before)))
 
 pub program_local : {Exact Sure : Type 0} (source : List ℕ) {m m' : ℕ} → Turns Exact m m' → IsLocal Exact Sure (program source m) (program source m')
 program_local source turns = local_then (keyword_local key.Program) (λ at. local_then name_local (λ called. local_then (symbol_local sym.Semicolon) (λ semicolon.

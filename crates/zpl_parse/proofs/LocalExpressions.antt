@@ -1,5 +1,5 @@
 -- The rules of expressions, directions and regions are local.
-use Rattle.std.proofs.Common.{◌≡◌, ℕ, suc, zero, ◌≤◌, nat_le, ℤ, Bool, true, false, List, [], ◌∷◌, ◌++◌, Option, Some, None, refl, sym, ◌∙◌, ap, subst, arith}
+use Rattle.std.proofs.Common.{◌≡◌, ℕ, suc, zero, nat_le, Bool, true, false, List, [], ◌∷◌, ◌++◌, Option, Some, None, refl, sym, ◌∙◌, ap, subst}
 use Rattle.std.proofs.lemmas.Bool.{false≢true}
 use Rattle.zpl_nums.specs.declared.operators.Op.{Op}
 use Rattle.zpl_nums.specs.declared.folds.Fold.{Fold}
@@ -8,7 +8,7 @@ use Rattle.zpl_tokens.specs.declared.Kind.TheVariants as kind
 use Rattle.zpl_tokens.specs.declared.symbols.Sym.{Sym}
 use Rattle.zpl_tokens.specs.declared.symbols.Sym.TheVariants as sym
 use Rattle.zpl_tree.specs.Depth.{expr_depth}
-use Rattle.zpl_tree.specs.Syntax.{Name, Pre, RegionBase, NamedRegion, Ditto, Expr, Number, Truth, Coord, Named, Shifted, Call, Paren, Neg, Not, Abs, Pair, Reduce, Scan, Flood, Exprs, NoExpr, ThenExpr, Dir, NamedDir, Vector, Inner, Rexpr, Dims, Bracket, NoBracket, Bracketed, Posts, NoPost, ThenPost, DimText, Blank, Star, One, Span, DimTexts, NoDim, ThenDim}
+use Rattle.zpl_tree.specs.Syntax.{Name, Pre, RegionBase, NamedRegion, Ditto, Expr, Shifted, Call, Paren, Neg, Not, Abs, Pair, Reduce, Scan, Flood, ThenExpr, NamedDir, Vector, Inner, Rexpr, Dims, Bracket, Bracketed, ThenPost, DimText, Blank, Star, One, Span, NoDim, ThenDim}
 use Rattle.zpl_parse.specs.declared.classes.Opening.{Opening}
 use Rattle.zpl_parse.specs.declared.classes.Opening.TheVariants as opening
 use Rattle.zpl_parse.specs.declared.classes.Folding.{Folding}
@@ -16,11 +16,11 @@ use Rattle.zpl_parse.specs.declared.classes.Folding.TheVariants as folding
 use Rattle.zpl_parse.specs.Classes.{or_op, and_op, comp_op, sum_op, term_op, opening_of, begins_expr, is_some, folding_of, outside_of, stride_of, closes_region, closes_dim, follows_region}
 use Rattle.zpl_parse.specs.Lexeme.{Lexeme, head_kind, second_kind, head_at, behind}
 use Rattle.zpl_parse.specs.Outcome.{Outcome, Done, Wrong, Deep, Reader, and_then, made, too_deep}
-use Rattle.zpl_parse.specs.Same.{symbol_number, same}
-use Rattle.zpl_parse.specs.Tokens.{next_is, symbol, name, natural}
+use Rattle.zpl_parse.specs.Same.{same}
+use Rattle.zpl_parse.specs.Tokens.{next_is}
 use Rattle.zpl_parse.specs.Expressions.{at_of, exprs, actuals, components, dir, posts, region_base, rexpr, bounds, dim_text, dim_texts, begins_region, inner, in_bracket, bracket, along, Levels, behind_name, inside, both, folded, unary_by, unary_over, chain, once, levels_over, no_expr, no_levels, levels}
-use Rattle.zpl_parse.proofs.Local.{IsLocal, LocalAt, SameHead, IsWrong, IsNotDone, IsOfHead, local_then, local_made, local_done, local_wrong, local_cons, local_behind, local_by_where, local_by, local_if, local_option, taken_at, none_at, by_head_at, not_done_passed}
-use Rattle.zpl_parse.proofs.LocalTokens.{next_told, kind_told, at_told, same_told, symbol_local, name_local, natural_local, Turns, turn, no_turn, out_local, local_turns, local_loop}
+use Rattle.zpl_parse.proofs.Local.{IsLocal, LocalAt, SameHead, IsWrong, IsNotDone, local_then, local_made, local_done, local_wrong, local_cons, local_behind, local_by_where, local_by, local_if, local_option, taken_at, by_head_at, not_done_passed}
+use Rattle.zpl_parse.proofs.LocalTokens.{next_told, kind_told, at_told, symbol_local, name_local, natural_local, Turns, turn, no_turn, out_local, local_turns, local_loop}
 
 pub local_taken : {Exact Sure A : Type 0} {tree : A} → IsLocal Exact Sure (λ l. Done tree (behind l)) (λ l. Done tree (behind l))
 local_taken {Exact} {Sure} {tree = tree} = local_behind (local_done {tree = tree})
@@ -48,7 +48,7 @@ pub posts_local : {Exact Sure : Type 0} {expr expr' : Reader Expr} → IsLocal E
     IsLocal Exact Sure (posts m expr) (posts m' expr')
 posts_local {expr = expr} {expr' = expr'} h = local_turns (λ m. posts m expr) (λ m. posts m expr') (λ l. refl) (λ l. tt) (λ m m' turns before.
     local_option (kind_told stride_of) local_done (λ stride.
-      local_then (local_behind (dir_local h turns)) (λ way. local_made (ThenPost stride way) before)))
+    local_then (local_behind (dir_local h turns)) (λ way. local_made (ThenPost stride way) before)))
 
 -- what stands behind a name that begins a region expression
 abbrev behind_first : ℕ → Name → Reader (List Pre × RegionBase)
@@ -62,12 +62,12 @@ behind_first_local : {Exact Sure : Type 0} (m m' : ℕ) (first : Name) → IsLoc
     IsLocal Exact Sure (behind_first m first) (behind_first m' first)
 behind_first_local m m' first before =
     local_option (kind_told outside_of) local_done
-      (λ outside. local_made (λ others. (record { dir = first; outside = outside } ∷ others.0, others.1)) (local_behind before))
+    (λ outside. local_made (λ others. (record { dir = first; outside = outside } ∷ others.0, others.1)) (local_behind before))
 
 region_base_local : {Exact Sure : Type 0} {m m' : ℕ} → Turns Exact m m' → IsLocal Exact Sure (region_base m) (region_base m')
 region_base_local = local_turns region_base region_base (λ l. refl) (λ l. tt) (λ m m' turns before.
     local_if (next_told kind.Ditto) (local_by (λ at l. Done ([], Ditto at) (behind l)) (λ at l. Done ([], Ditto at) (behind l)) at_told (λ at. local_taken))
-      (local_then name_local (λ first. behind_first_local m m' first before)))
+    (local_then name_local (λ first. behind_first_local m m' first before)))
 
 pub rexpr_local : {Exact Sure : Type 0} {expr expr' : Reader Expr} → IsLocal Exact Sure expr expr' → {m m' : ℕ} → Turns Exact m m' →
     IsLocal Exact Sure (rexpr m expr) (rexpr m' expr')
@@ -81,6 +81,7 @@ rexpr_behind {Exact} {Sure} {expr} {expr'} h {m} {m'} turns x is =
   where
     with_kind : Kind → Lexeme
     with_kind k = record { kind = k; bytes = x.bytes; at = x.at }
+
     go : IsLocal Exact Sure (λ rest. rexpr (suc m) expr (with_kind kind.Name ∷ rest)) (λ rest. rexpr (suc m') expr' (with_kind kind.Name ∷ rest))
     go = local_then (behind_first_local m m' (record { text = x.bytes; at = x.at }) (region_base_local (turn turns)))
         (λ base. local_made (Rexpr base.0 base.1) (posts_local h turns))
@@ -165,6 +166,7 @@ whole_behind {Exact} {Sure} {expr} {expr'} h {m} {m'} turns x is =
   where
     with_kind : Kind → Lexeme
     with_kind k = record { kind = k; bytes = x.bytes; at = x.at }
+
     go : IsLocal Exact Sure (λ rest. whole_dims (suc m) expr (with_kind kind.Name ∷ rest)) (λ rest. whole_dims (suc m') expr' (with_kind kind.Name ∷ rest))
     go = local_then (local_then (bounds_behind h (with_kind kind.Name) refl) (λ first. dims_go m m' expr expr' first (dim_texts_local expr expr' (dim_text_local h) (turn turns))))
         (λ dims. local_if (kind_told closes_region) local_done local_wrong)
@@ -235,6 +237,7 @@ starred_none Exact expr expr' h (x ∷ rest) is = go (closes_dim (head_kind rest
   where
     choose : Bool → Reader DimText
     choose b l = elim b [ true ↦ Done (Star x.at) l | false ↦ bounds expr' (x ∷ l) ]
+
     go : (b : Bool) → closes_dim (head_kind rest) ≡ b → LocalAt Exact ⊥ (starred expr') (x ∷ rest) (elim b [ true ↦ Done (Star x.at) rest | false ↦ bounds expr (x ∷ rest) ])
     go true closes = (x ∷ [], refl, λ others head. ap (λ b. choose b others) ((kind_told closes_dim).same rest others head ∙ closes))
     go false closes = subst (LocalAt Exact ⊥ (starred expr') (x ∷ rest))
@@ -256,10 +259,11 @@ name_too_deep m expr none x rest is = subst (λ k. whole_dims (suc m) expr (with
   where
     with_kind : Kind → Lexeme
     with_kind k = record { kind = k; bytes = x.bytes; at = x.at }
+
     go : whole_dims (suc m) expr (with_kind kind.Name ∷ rest) ≡ Deep rest
     go = ap (λ o. and_then (and_then (and_then o (λ low rest. elim (next_is (kind.Symbol sym.DotDot) rest) [ true ↦ made (Span low) (expr (behind rest)) | false ↦ Done (One low) rest ]))
-           (λ first rest. elim (next_is (kind.Symbol sym.Comma) rest) [ true ↦ made (ThenDim first) (dim_texts m expr (behind rest)) | false ↦ Done (ThenDim first NoDim) rest ]))
-           (λ dims rest. elim (closes_region (head_kind rest)) [ true ↦ Done (Dims dims) rest | false ↦ Wrong rest ])) (none.begun (with_kind kind.Name) rest refl)
+        (λ first rest. elim (next_is (kind.Symbol sym.Comma) rest) [ true ↦ made (ThenDim first) (dim_texts m expr (behind rest)) | false ↦ Done (ThenDim first NoDim) rest ]))
+        (λ dims rest. elim (closes_region (head_kind rest)) [ true ↦ Done (Dims dims) rest | false ↦ Wrong rest ])) (none.begun (with_kind kind.Name) rest refl)
 
 inner_named_none : {Exact : Type 0} (expr expr' : Reader Expr) → IsNone expr → IsLocal Exact ⊥ expr expr' → {m m' : ℕ} → Turns Exact (suc m) (suc m') →
     (l : List Lexeme) → head_kind l ≡ kind.Name → LocalAt Exact ⊥ (inner_by (suc m') expr' kind.Name) l (inner_by (suc m) expr kind.Name l)
@@ -268,6 +272,7 @@ inner_named_none {Exact} expr expr' none h {m} {m'} turns (x ∷ rest) is = go (
   where
     choose : Bool → Reader Inner
     choose b l = elim b [ true ↦ rexpr (suc m') expr' (x ∷ l) | false ↦ whole_dims (suc m') expr' (x ∷ l) ]
+
     go : (b : Bool) → follows_region (head_kind rest) ≡ b →
         LocalAt Exact ⊥ (inner_by (suc m') expr' kind.Name) (x ∷ rest) (elim b [ true ↦ rexpr (suc m) expr (x ∷ rest) | false ↦ whole_dims (suc m) expr (x ∷ rest) ])
     go true follows = taken_at Exact ⊥ (inner_by (suc m') expr' kind.Name) x rest (rexpr (suc m) expr (x ∷ rest))
@@ -349,7 +354,7 @@ chain_local : {Exact Sure : Type 0} (deep : ℕ) (op_of : Kind → Option Op) {o
     {m m' : ℕ} → Turns Exact m m' → (left : Expr) → IsLocal Exact Sure (chain m deep op_of operand left) (chain m' deep op_of operand' left)
 chain_local deep op_of {operand} {operand'} none h =
     local_loop (λ m left. chain m deep op_of operand left) (λ m left. chain m deep op_of operand' left) (λ left l. refl) (λ left l. tt)
-      (λ m m' turns before left. local_by_where (links m deep op_of operand left) (links m' deep op_of operand' left) (kind_told op_of) (links_at m m' deep op_of none h before left))
+    (λ m m' turns before left. local_by_where (links m deep op_of operand left) (links m' deep op_of operand' left) (kind_told op_of) (links_at m m' deep op_of none h before left))
 
 once_local : {Exact Sure : Type 0} (deep : ℕ) (op_of : Kind → Option Op) {operand operand' : Reader Expr} → op_of kind.End ≡ None → IsLocal Exact Sure operand operand' →
     (left : Expr) → IsLocal Exact Sure (once deep op_of operand left) (once deep op_of operand' left)
@@ -424,7 +429,7 @@ unary_at : (Exact Sure : Type 0) (m m' : ℕ) (deeper deeper' : Levels) → Turn
     (o : Option Opening) → opening_of x.kind ≡ o → LocalAt Exact Sure (unary_over m' deeper') (x ∷ rest) (unary_by m deeper o x rest)
 unary_at Exact Sure m m' deeper deeper' turns below x rest (Some o) is =
     taken_at Exact Sure (unary_over m' deeper') x rest (unary_by m deeper (Some o) x rest)
-      (subst (λ c. LocalAt Exact Sure (λ l. unary_by m' deeper' c x l) rest (unary_by m deeper (Some o) x rest)) (sym is) ((unary_by_local turns below o x).at rest))
+    (subst (λ c. LocalAt Exact Sure (λ l. unary_by m' deeper' c x l) rest (unary_by m deeper (Some o) x rest)) (sym is) ((unary_by_local turns below o x).at rest))
 unary_at Exact Sure m m' deeper deeper' turns below x rest None is = ([], refl, λ exact others head. wrong others head)
   where
     wrong : (others : List Lexeme) → SameHead (x ∷ rest) others → IsWrong (unary_over m' deeper' others)
@@ -479,8 +484,10 @@ levels_none m = record { begun = begun; never = never }
   where
     chained : Expr → Reader Expr
     chained = chain m 0 term_op no_levels.unary
+
     begun : (x : Lexeme) (rest : List Lexeme) → begins_expr x.kind ≡ true → (levels m zero).expr (x ∷ rest) ≡ Deep rest
     begun x rest is = ap (λ o. and_then (and_then (and_then (and_then (and_then o (chain m 0 term_op no_expr)) (chain m 0 sum_op no_expr)) (once 0 comp_op no_expr)) (chain m 0 and_op no_expr)) (chain m 0 or_op no_expr)) (no_expr_begun x rest is)
+
     never : (l : List Lexeme) → IsNotDone ((levels m zero).expr l)
     never l = not_done_passed (chain m 0 or_op no_expr) ((levels m zero).conj l)
         (not_done_passed (chain m 0 and_op no_expr) ((levels m zero).comp l)

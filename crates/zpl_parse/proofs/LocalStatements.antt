@@ -1,19 +1,17 @@
 -- The rules of statements are local.
-use Rattle.std.proofs.Common.{◌≡◌, ℕ, suc, zero, Bool, true, false, List, [], ◌∷◌, ◌++◌, Option, Some, None, refl, sym, ◌∙◌, ap, subst}
+use Rattle.std.proofs.Common.{◌≡◌, ℕ, suc, zero, Bool, true, false, List, [], ◌∷◌, Option, Some, None, refl}
 use Rattle.std.proofs.lemmas.Bool.{false≢true}
-use Rattle.zpl_tokens.specs.declared.Kind.{Kind}
 use Rattle.zpl_tokens.specs.declared.Kind.TheVariants as kind
 use Rattle.zpl_tokens.specs.declared.keywords.Key.TheVariants as key
 use Rattle.zpl_tokens.specs.declared.symbols.Sym.TheVariants as sym
-use Rattle.zpl_tree.specs.Syntax.{Name, Expr, Mask, Prefix, ForHead, Item, Str, Value, Stmt, Prefixed, Stmts, NoStmt, ThenStmt, Form, Assign, Invoke, Block, If, While, Repeat, For, Border, Write, Return, Arm, Tested, Arms, NoArm, ThenArm, Otherwise, NoElse, Else}
+use Rattle.zpl_tree.specs.Syntax.{Name, Expr, Str, Value, Stmt, Prefixed, Stmts, ThenStmt, Assign, Invoke, Block, If, While, Repeat, For, Border, Write, Return, Tested, ThenArm, Else}
 use Rattle.zpl_parse.specs.declared.classes.Start.{Start}
 use Rattle.zpl_parse.specs.declared.classes.Start.TheVariants as start
 use Rattle.zpl_parse.specs.Classes.{assigning, start_of, begins_stmt, without_of, down_of}
-use Rattle.zpl_parse.specs.Lexeme.{Lexeme, head_kind, head_at, behind}
-use Rattle.zpl_parse.specs.Outcome.{Outcome, Done, Wrong, Deep, Reader, and_then, made, too_deep}
-use Rattle.zpl_parse.specs.Tokens.{next_is}
+use Rattle.zpl_parse.specs.Lexeme.{Lexeme, head_kind, behind}
+use Rattle.zpl_parse.specs.Outcome.{Reader, made, too_deep}
 use Rattle.zpl_parse.specs.Statements.{mask, prefix, prefixes, stmts, item, some_items, items, assign_or_call, body_end, arm, arms, otherwise, choice, while_loop, repeat_loop, step, way_down, for_head, for_loop, form_by, stmt_over, stmt}
-use Rattle.zpl_parse.proofs.Local.{IsLocal, LocalAt, SameHead, IsWrong, IsOfHead, local_then, local_made, local_done, local_wrong, local_behind, local_by_where, local_by, local_if, local_option}
+use Rattle.zpl_parse.proofs.Local.{IsLocal, LocalAt, local_then, local_made, local_done, local_wrong, local_behind, local_by_where, local_by, local_if, local_option}
 use Rattle.zpl_parse.proofs.LocalTokens.{next_told, kind_told, at_told, symbol_local, keyword_local, name_local, string_local, names_local, closing_local, Turns, local_turns, local_loop}
 use Rattle.zpl_parse.proofs.LocalExpressions.{IsReady, local_taken, actuals_local, inner_local}
 
@@ -65,10 +63,10 @@ arms_local : {Exact Sure : Type 0} {expr expr' : Reader Expr} {body body' : Read
     (at : ℕ) → IsLocal Exact Sure (arms m expr body at) (arms m' expr' body' at)
 arms_local {expr = expr} {expr' = expr'} {body = body} {body' = body'} h g =
     local_loop (λ m at. arms m expr body at) (λ m at. arms m expr' body' at) (λ at l. refl) (λ at l. tt) (λ m m' turns before at.
-      local_then (arm_local h g at) (λ first. local_if (next_told (kind.Word key.Elsif))
-        (local_by (λ place l. made (ThenArm first) (arms m expr body place (behind l))) (λ place l. made (ThenArm first) (arms m' expr' body' place (behind l))) at_told
-          (λ place. local_made (ThenArm first) (local_behind (before place))))
-        local_done))
+    local_then (arm_local h g at) (λ first. local_if (next_told (kind.Word key.Elsif))
+    (local_by (λ place l. made (ThenArm first) (arms m expr body place (behind l))) (λ place l. made (ThenArm first) (arms m' expr' body' place (behind l))) at_told
+    (λ place. local_made (ThenArm first) (local_behind (before place))))
+    local_done))
 
 otherwise_local : {Exact Sure : Type 0} {body body' : Reader Stmts} → IsLocal Exact Sure body body' → IsLocal Exact Sure (otherwise body) (otherwise body')
 otherwise_local g = local_if (next_told (kind.Word key.Else)) (local_made Else (local_behind g)) local_done
@@ -118,7 +116,7 @@ stmt_over_local : {Exact Sure : Type 0} {expr expr' : Reader Expr} {body body' :
     IsLocal Exact Sure (stmt_over m expr body) (stmt_over m' expr' body')
 stmt_over_local {expr = expr} {expr' = expr'} {body = body} {body' = body'} ready g {m} {m'} turns = local_then (prefixes_local ready turns) (λ before.
     local_by (λ at rest. made (Prefixed at before) (form_by m expr body (start_of (head_kind rest)) rest)) (λ at rest. made (Prefixed at before) (form_by m' expr' body' (start_of (head_kind rest)) rest)) at_told
-      (λ at. local_made (Prefixed at before) (local_by (λ o. form_by m expr body o) (λ o. form_by m' expr' body' o) (kind_told start_of) (form_by_local ready.whole g turns))))
+    (λ at. local_made (Prefixed at before) (local_by (λ o. form_by m expr body o) (λ o. form_by m' expr' body' o) (kind_told start_of) (form_by_local ready.whole g turns))))
 
 no_stmt_local : {Exact Sure : Type 0} → IsLocal Exact Sure {A = Stmt} (λ l. too_deep (begins_stmt (head_kind l)) l) (λ l. too_deep (begins_stmt (head_kind l)) l)
 no_stmt_local {Exact} {Sure} = local_by_where too_deep too_deep (kind_told begins_stmt) go

@@ -1,5 +1,5 @@
 -- The rules of single tokens are local.
-use Rattle.std.proofs.Common.{◌≡◌, ℕ, suc, zero, ◌≤◌, ℤ, Bool, true, false, List, [], ◌∷◌, ◌++◌, Option, Some, None, refl, sym, ◌∙◌, ap, subst, arith}
+use Rattle.std.proofs.Common.{◌≡◌, ℕ, suc, zero, ◌≤◌, ℤ, Bool, true, false, List, [], ◌∷◌, Option, Some, None, refl, sym, ◌∙◌, ap, subst, arith}
 use Rattle.zpl_tokens.specs.declared.Kind.{Kind}
 use Rattle.zpl_tokens.specs.declared.Kind.TheVariants as kind
 use Rattle.zpl_tokens.specs.declared.keywords.Key.{Key}
@@ -10,11 +10,11 @@ use Rattle.zpl_tree.specs.Syntax.{Name}
 use Rattle.zpl_parse.specs.declared.classes.Opening.{Opening}
 use Rattle.zpl_parse.specs.declared.classes.Opening.TheVariants as opening
 use Rattle.zpl_parse.specs.Classes.{opening_of}
-use Rattle.zpl_parse.specs.Lexeme.{Lexeme, head_kind, head_at, behind}
-use Rattle.zpl_parse.specs.Outcome.{Outcome, Done, Wrong, Deep, Reader, and_then, made}
+use Rattle.zpl_parse.specs.Lexeme.{Lexeme, head_kind, head_at}
+use Rattle.zpl_parse.specs.Outcome.{Outcome, Done, Wrong, Reader}
 use Rattle.zpl_parse.specs.Same.{same}
 use Rattle.zpl_parse.specs.Tokens.{next_is, taken, expect, symbol, keyword, name_of_kind, name, natural_of, natural, names, closing, in_quotes, string_of}
-use Rattle.zpl_parse.proofs.Local.{IsLocal, LocalAt, SameHead, IsWrong, IsOfHead, local_then, local_made, local_done, local_wrong, local_cons, local_behind, local_by, local_if}
+use Rattle.zpl_parse.proofs.Local.{IsLocal, LocalAt, SameHead, IsWrong, IsOfHead, local_then, local_made, local_done, local_cons, local_behind, local_if}
 
 -- what is told by the first lexeme
 pub told_cons : {B : Type 0} (test : List Lexeme → B) → ((x : Lexeme) (rest others : List Lexeme) → test (x ∷ others) ≡ test (x ∷ rest)) → IsOfHead test
@@ -62,6 +62,7 @@ expect_local wanted = local_one (expect wanted) (λ x. place (same x.kind wanted
     place : Bool → Lexeme → Option ℕ
     place true x = Some x.at
     place false x = None
+
     go : (b : Bool) (x : Lexeme) (rest : List Lexeme) → taken b x rest ≡ one (place b x) x rest
     go true x rest = refl
     go false x rest = refl
@@ -78,6 +79,7 @@ name_local = local_one name (λ x. called x.kind x) refl (λ x rest. go x.kind x
     called : Kind → Lexeme → Option Name
     called kind.Name x = Some (record { text = x.bytes; at = x.at })
     called _ x = None
+
     go : (k : Kind) (x : Lexeme) (rest : List Lexeme) → name_of_kind k x rest ≡ one (called k x) x rest
     go kind.Name x rest = refl
     go _ x rest = refl
@@ -88,6 +90,7 @@ natural_local = local_one natural (λ x. value (opening_of x.kind)) refl (λ x r
     value : Option Opening → Option ℤ
     value (Some (opening.Number n)) = Some n
     value _ = None
+
     go : (o : Option Opening) (x : Lexeme) (rest : List Lexeme) → natural_of o (x ∷ rest) ≡ one (value o) x rest
     go (Some (opening.Number n)) x rest = refl
     go _ x rest = refl
@@ -114,8 +117,10 @@ no_turn turns = omega (arith, turns.within)
 pub out_local : {Exact Sure A : Type 0} (p : Reader A) (p' : ℕ → Reader A) {m' : ℕ} → Turns Exact zero m' → ((l : List Lexeme) → p l ≡ Wrong l) → ((l : List Lexeme) → IsWrong (p' zero l)) →
     IsLocal Exact Sure p (p' m')
 out_local {Exact} {Sure} p p' {m'} turns none none' =
-    record { at = λ l. subst (LocalAt Exact Sure (p' m') l) (sym (none l))
-      ([], refl, λ exact others head. subst (λ n. IsWrong (p' n others)) (turns.equal exact) (none' others)) }
+    record {
+      at = λ l. subst (LocalAt Exact Sure (p' m') l) (sym (none l))
+          ([], refl, λ exact others head. subst (λ n. IsWrong (p' n others)) (turns.equal exact) (none' others));
+    }
 
 loop_at : {Exact Sure X A : Type 0} (p p' : ℕ → X → Reader A) → ((x : X) (l : List Lexeme) → p zero x l ≡ Wrong l) → ((x : X) (l : List Lexeme) → IsWrong (p' zero x l)) →
     ((m m' : ℕ) → Turns Exact m m' → ((x : X) → IsLocal Exact Sure (p m x) (p' m' x)) → (x : X) → IsLocal Exact Sure (p (suc m) x) (p' (suc m') x)) →

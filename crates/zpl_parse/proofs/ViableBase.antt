@@ -1,13 +1,12 @@
 -- What a reader took before a tree got too deep begins some tree: how it follows for one reader from those that it is made of.
-use Rattle.std.proofs.Common.{◌≡◌, ℕ, Bool, true, false, List, [], ◌∷◌, ◌++◌, Option, Some, None, refl, sym, ap, subst, ◌∙◌, append_assoc, append-nil, zero, suc}
+use Rattle.std.proofs.Common.{◌≡◌, ℕ, Bool, true, false, List, [], ◌∷◌, ◌++◌, Option, Some, None, refl, sym, subst, append_assoc, append-nil, zero, suc}
 use Rattle.zpl_tokens.specs.declared.Kind.{Kind}
 use Rattle.zpl_tokens.specs.declared.Kind.TheVariants as kind
 use Rattle.zpl_tokens.specs.declared.keywords.Key.TheVariants as key
 use Rattle.zpl_tokens.specs.declared.symbols.Sym.TheVariants as sym
 use Rattle.zpl_tree.specs.Word.{Word, kind_of}
-use Rattle.zpl_tree.specs.Word as word
 use Rattle.zpl_parse.specs.Lexeme.{Lexeme, head_kind, behind}
-use Rattle.zpl_parse.specs.Outcome.{Outcome, Done, Wrong, Deep, Reader, and_then, made, too_deep}
+use Rattle.zpl_parse.specs.Outcome.{Outcome, Done, Wrong, Deep, Reader, and_then, made}
 use Rattle.zpl_parse.specs.Same.{same}
 use Rattle.zpl_parse.specs.Classes.{opening_of}
 use Rattle.zpl_parse.specs.declared.classes.Opening.{Opening}
@@ -98,8 +97,8 @@ pub viable_step : {A B : Type 0} {spelling : A → List Word} {Is Other : A → 
     IsViable Says lexemes (and_then outcome next)
 viable_step {spelling = spelling} {Is = Is} {Other = Other} {Says = Says} {lexemes = lexemes} {outcome = outcome} {next = next} sound h fill so =
     then_viable (Spelled spelling Is) (Spelled spelling Other) Says lexemes outcome next sound h
-      (λ tree words says. subst (Goes Says) (sym says.0) (fill tree says.1))
-      (λ tree rest words says. subst (λ (w : List Word). IsViable (λ made more. Says made (w ++ more)) rest (next tree rest)) (sym says.0) (so tree rest says.1))
+    (λ tree words says. subst (Goes Says) (sym says.0) (fill tree says.1))
+    (λ tree rest words says. subst (λ (w : List Word). IsViable (λ made more. Says made (w ++ more)) rest (next tree rest)) (sym says.0) (so tree rest says.1))
 
 -- where the first one is never too deep
 pub viable_over : {A B : Type 0} {spelling : A → List Word} {Is : A → Type 0} {Says : B → List Word → Type 0} {lexemes : List Lexeme} {outcome : Outcome A} {next : A → Reader B} →
@@ -108,7 +107,7 @@ pub viable_over : {A B : Type 0} {spelling : A → List Word} {Is : A → Type 0
     IsViable Says lexemes (and_then outcome next)
 viable_over {spelling = spelling} {Is = Is} {Says = Says} {lexemes = lexemes} {outcome = outcome} {next = next} sound h so =
     then_viable (Spelled spelling Is) Nothing Says lexemes outcome next sound h (λ tree words says. absurd says)
-      (λ tree rest words says. subst (λ (w : List Word). IsViable (λ made more. Says made (w ++ more)) rest (next tree rest)) (sym says.0) (so tree rest says.1))
+    (λ tree rest words says. subst (λ (w : List Word). IsViable (λ made more. Says made (w ++ more)) rest (next tree rest)) (sym says.0) (so tree rest says.1))
 
 pub viable_made : {A B : Type 0} {Other : A → List Word → Type 0} {Says : B → List Word → Type 0} {lexemes : List Lexeme} (f : A → B) {outcome : Outcome A} →
     IsViable Other lexemes outcome → ((tree : A) (words : List Word) → Other tree words → Goes Says words) → IsViable Says lexemes (made f outcome)
@@ -207,6 +206,7 @@ then_none {outcome = outcome} next {lexemes = lexemes} h so = go outcome lexemes
     shift (Done tree left) lexemes rest h = record { begun = tt }
     shift (Wrong left) lexemes rest h = record { begun = tt }
     shift (Deep left) lexemes rest h = absurd h.begun.2.says
+
     go : (o : Outcome _) (lexemes : List Lexeme) → IsViable Nothing lexemes o → IsViable Nothing lexemes (and_then o next)
     go (Done tree rest) lexemes h = shift (next tree rest) lexemes rest (so tree rest)
     go (Wrong rest) lexemes h = record { begun = tt }

@@ -1,35 +1,32 @@
 -- What was taken before an expression got too deep begins some expression.
-use Rattle.std.proofs.Common.{◌≡◌, ℕ, zero, suc, ◌+◌, ◌≤◌, max, ℤ, pos, int_le, if◌then◌else◌, nat_le, IsTrue, Bool, true, false, List, [], ◌∷◌, ◌++◌, Option, Some, None, refl, sym, ap, subst, ◌∙◌, arith, append_assoc, append-nil}
-use Rattle.std.proofs.lemmas.Bool.{false≢true, leb-true, le-leb}
-use Rattle.std.proofs.lemmas.Bool.Decides.{nat_tests}
-use Rattle.std.specs.List.{flat_map}
+use Rattle.std.proofs.Common.{◌≡◌, ℕ, zero, suc, ◌≤◌, pos, nat_le, true, false, List, [], ◌∷◌, ◌++◌, Option, Some, None, refl, sym, ap, subst, ◌∙◌, arith, append_assoc, append-nil}
+use Rattle.std.proofs.lemmas.Bool.{le-leb}
 use Rattle.zpl_nums.specs.declared.operators.Op.{Op}
-use Rattle.zpl_nums.specs.declared.operators.Op.TheVariants as op
 use Rattle.zpl_nums.specs.declared.folds.Fold.{Fold}
 use Rattle.zpl_tokens.specs.declared.Kind.{Kind}
 use Rattle.zpl_tokens.specs.declared.Kind.TheVariants as kind
 use Rattle.zpl_tokens.specs.declared.keywords.Key.TheVariants as key
 use Rattle.zpl_tokens.specs.declared.symbols.Sym.TheVariants as sym
-use Rattle.zpl_tree.specs.Syntax.{Name, Pre, RegionBase, NamedRegion, Ditto, Expr, Number, Truth, Coord, Named, Shifted, Call, Paren, Neg, Not, Abs, Pair, Reduce, Scan, Flood, Exprs, NoExpr, ThenExpr, Dir, NamedDir, Vector, Inner, Rexpr, Dims, Bracket, NoBracket, Bracketed, Posts, NoPost, ThenPost, DimText, Blank, Star, One, Span, DimTexts, NoDim, ThenDim}
-use Rattle.zpl_tree.specs.Spelling.{symbol, keyword, number, name_words, pre_words, base_words, along_words, operator_words, pair_words, fold_words, expr_words, exprs_words, more_exprs, dir_words, inner_words, bracket_words, posts_words, dim_words, dims_words, more_dims, in_square}
-use Rattle.zpl_tree.specs.Grammar.{StandsAt, own_level, left_level, right_level, IsNatural, IsAlong, IsExpr, HasExpr, AreExprs, IsDir, IsInner, IsBracket, ArePosts, IsRexpr, IsDim, AreDims, HasDims}
-use Rattle.zpl_tree.specs.Depth.{expr_depth, exprs_depth, dir_depth, inner_depth, bracket_depth, posts_depth, dim_depth, dims_depth}
+use Rattle.zpl_tree.specs.Syntax.{Name, Expr, Number, Truth, Coord, Named, Shifted, Call, Paren, Neg, Not, Abs, Pair, Reduce, Scan, Flood, NoExpr, ThenExpr, NamedDir, Vector, Rexpr, Dims, NoBracket, Bracketed, NoPost, ThenPost, DimText, Blank, One, Span, DimTexts, NoDim, ThenDim}
+use Rattle.zpl_tree.specs.Spelling.{symbol, number, operator_words, fold_words, expr_words, exprs_words, dir_words, inner_words, bracket_words, posts_words, dim_words, dims_words, in_square}
+use Rattle.zpl_tree.specs.Grammar.{StandsAt, own_level, left_level, right_level, IsExpr, AreExprs, IsDir, IsInner, IsBracket, ArePosts, IsRexpr, IsDim, AreDims, HasDims}
+use Rattle.zpl_tree.specs.Depth.{expr_depth}
 use Rattle.zpl_tree.specs.Word.{Word, kind_of}
 use Rattle.zpl_tree.specs.Word as word
 use Rattle.zpl_parse.specs.declared.classes.Opening.{Opening}
 use Rattle.zpl_parse.specs.declared.classes.Opening.TheVariants as opening
 use Rattle.zpl_parse.specs.declared.classes.Folding.{Folding}
 use Rattle.zpl_parse.specs.declared.classes.Folding.TheVariants as folding
-use Rattle.zpl_parse.specs.Lexeme.{Lexeme, head_kind, second_kind, head_at, behind}
-use Rattle.zpl_parse.specs.Outcome.{Outcome, Done, Wrong, Deep, Reader, and_then, made, too_deep}
-use Rattle.zpl_parse.specs.Classes.{or_op, and_op, comp_op, sum_op, term_op, opening_of, begins_expr, is_some, folding_of, outside_of, stride_of, closes_region, closes_dim, follows_region}
-use Rattle.zpl_parse.specs.Tokens.{next_is, expect, name, natural, natural_of}
-use Rattle.zpl_parse.specs.Expressions.{at_of, exprs, actuals, components, dir, posts, region_base, rexpr, bounds, dim_text, dim_texts, begins_region, inner, in_bracket, bracket, along, Levels, behind_name, inside, both, folded, unary_by, unary_over, chain, once, levels_over, no_expr, no_levels, levels}
-use Rattle.zpl_parse.proofs.SoundBase.{Takes, IsSound, Spelled, weaken}
-use Rattle.zpl_parse.proofs.SoundTokens.{takes_one, name_sound, takes_head, takes_next}
-use Rattle.zpl_parse.proofs.SoundClasses.{IsOneSign, IsOperator, or_op_is, and_op_is, comp_op_is, sum_op_is, term_op_is, IsOpening, opening_is, IsFolding, folding_is, outside_is, stride_is}
-use Rattle.zpl_parse.proofs.SoundExprs.{IsGood, SaysExpr, AreSomeExprs, HasDim, takes_signed, more_exprs_are, more_dims_are, natural_sound, along_sound, region_base_sound, exprs_sound, dir_sound, dim_text_sound, inner_sound, in_bracket_sound, bracket_sound, AreSound, expr_lower, weaker, levels_sound, no_expr_sound, regroup, between_regroup}
-use Rattle.zpl_parse.proofs.ViableBase.{Goes, IsViable, Nothing, exactly, viable_done, viable_wrong, viable_behind, viable_then, viable_step, viable_over, viable_made, viable_finish, viable_weaken, viable_none, made_none, then_none, none_behind, viable_choose, viable_some, viable_at_sign, viable_sign, viable_last, expect_none, name_none, natural_none}
+use Rattle.zpl_parse.specs.Lexeme.{Lexeme, head_kind, second_kind, behind}
+use Rattle.zpl_parse.specs.Outcome.{Outcome, Done, Wrong, Deep, Reader, and_then, too_deep}
+use Rattle.zpl_parse.specs.Classes.{or_op, and_op, comp_op, sum_op, term_op, opening_of, is_some, folding_of, outside_of, stride_of, closes_region, closes_dim}
+use Rattle.zpl_parse.specs.Tokens.{next_is}
+use Rattle.zpl_parse.specs.Expressions.{at_of, exprs, actuals, components, dir, posts, region_base, rexpr, bounds, dim_text, dim_texts, begins_region, inner, in_bracket, bracket, along, Levels, behind_name, inside, folded, unary_by, unary_over, chain, once, levels_over, no_expr, no_levels, levels}
+use Rattle.zpl_parse.proofs.SoundBase.{IsSound, Spelled, weaken}
+use Rattle.zpl_parse.proofs.SoundTokens.{takes_one, takes_head}
+use Rattle.zpl_parse.proofs.SoundClasses.{IsOperator, or_op_is, and_op_is, comp_op_is, sum_op_is, term_op_is, IsOpening, opening_is, folding_is, stride_is}
+use Rattle.zpl_parse.proofs.SoundExprs.{SaysExpr, AreSomeExprs, HasDim, takes_signed, more_exprs_are, more_dims_are, along_sound, region_base_sound, exprs_sound, dir_sound, dim_text_sound, inner_sound, in_bracket_sound, bracket_sound, AreSound, expr_lower, weaker, levels_sound, no_expr_sound, regroup, between_regroup}
+use Rattle.zpl_parse.proofs.ViableBase.{Goes, IsViable, Nothing, exactly, viable_done, viable_wrong, viable_behind, viable_step, viable_over, viable_made, viable_finish, viable_weaken, viable_none, made_none, then_none, none_behind, viable_choose, viable_some, viable_at_sign, viable_sign, viable_last, name_none, natural_none}
 
 abbrev pub Tree : ℕ → Expr → List Word → Type 0
 Tree level = Spelled expr_words (IsExpr level)
@@ -51,8 +48,8 @@ region_base_none zero lexemes = viable_wrong
 region_base_none (suc most) lexemes = viable_choose (next_is kind.Ditto lexemes)
     (λ e. viable_done)
     (λ e. then_none _ (name_none lexemes) (λ first rest. viable_some (outside_of (head_kind rest))
-      (λ e. viable_done)
-      (λ outside e. none_behind rest (behind rest) (made_none _ (region_base_none most (behind rest))))))
+    (λ e. viable_done)
+    (λ outside e. none_behind rest (behind rest) (made_none _ (region_base_none most (behind rest))))))
 
 two_dims : (first : DimText) (others : DimTexts) → HasDim others → HasDims (ThenDim first others)
 two_dims first NoDim has = absurd has
@@ -64,92 +61,92 @@ AreDimsOf dims = HasDims dims × AreDims dims × HasDim dims
 
 -- the rules over one of expressions
 module _ (d : ℕ) (expr : Reader Expr) (sound : (lexemes : List Lexeme) → IsSound (SaysExpr 0 d) lexemes (expr lexemes))
-  (viable : (lexemes : List Lexeme) → IsViable (Tree 0) lexemes (expr lexemes)) where
+    (viable : (lexemes : List Lexeme) → IsViable (Tree 0) lexemes (expr lexemes)) where
   pub exprs_viable : (most : ℕ) (lexemes : List Lexeme) → IsViable (Spelled exprs_words AreSomeExprs) lexemes (exprs most expr lexemes)
   exprs_viable zero lexemes = viable_wrong
   exprs_viable (suc most) lexemes = viable_step (sound lexemes) (viable lexemes)
-    (λ first is. record { tree = ThenExpr first NoExpr; more = []; says = (refl, (tt, (is, tt))) })
-    (λ first rest good. viable_at_sign (word.Symbol sym.Comma) tt rest
+      (λ first is. record { tree = ThenExpr first NoExpr; more = []; says = (refl, (tt, (is, tt))) })
+      (λ first rest good. viable_at_sign (word.Symbol sym.Comma) tt rest
       (viable_finish (ThenExpr first) (exprs_viable most (behind rest)) (λ others more.
-        exactly (ThenExpr first others) (ap (λ w. expr_words first ++ w) (more_exprs_are others more.0), (tt, (good.is, more.1)))))
+      exactly (ThenExpr first others) (ap (λ w. expr_words first ++ w) (more_exprs_are others more.0), (tt, (good.is, more.1)))))
       viable_done)
 
   pub actuals_viable : (most : ℕ) (lexemes : List Lexeme) → IsViable (Spelled (λ those. exprs_words those ++ symbol sym.CloseParen) AreExprs) lexemes (actuals most expr lexemes)
   actuals_viable most lexemes = viable_at_sign (word.Symbol sym.CloseParen) tt lexemes viable_done
-    (viable_step (exprs_sound d expr sound most lexemes) (exprs_viable most lexemes)
+      (viable_step (exprs_sound d expr sound most lexemes) (exprs_viable most lexemes)
       (λ those is. record { tree = those; more = symbol sym.CloseParen; says = (refl, is.1) })
       (λ those rest good. viable_last _ _))
 
   pub components_viable : (most : ℕ) (lexemes : List Lexeme) → IsViable (Spelled (λ those. exprs_words those ++ symbol sym.CloseBracket) AreSomeExprs) lexemes (components most expr lexemes)
   components_viable most lexemes = viable_step (exprs_sound d expr sound most lexemes) (exprs_viable most lexemes)
-    (λ parts is. record { tree = parts; more = symbol sym.CloseBracket; says = (refl, is) })
-    (λ parts rest good. viable_last _ _)
+      (λ parts is. record { tree = parts; more = symbol sym.CloseBracket; says = (refl, is) })
+      (λ parts rest good. viable_last _ _)
 
   pub dir_viable : (most : ℕ) (lexemes : List Lexeme) → IsViable (Spelled dir_words IsDir) lexemes (dir most expr lexemes)
   dir_viable most lexemes = viable_at_sign (word.Symbol sym.OpenBracket) tt lexemes
-    (viable_finish Vector (components_viable most (behind lexemes)) (λ parts is. exactly (Vector parts) (refl, is)))
-    (viable_none (made_none NamedDir (name_none lexemes)))
+      (viable_finish Vector (components_viable most (behind lexemes)) (λ parts is. exactly (Vector parts) (refl, is)))
+      (viable_none (made_none NamedDir (name_none lexemes)))
 
   pub posts_viable : (most : ℕ) (lexemes : List Lexeme) → IsViable (Spelled posts_words ArePosts) lexemes (posts most expr lexemes)
   posts_viable zero lexemes = viable_wrong
   posts_viable (suc most) lexemes = viable_some (stride_of (head_kind lexemes))
-    (λ e. viable_done)
-    (λ stride e. viable_behind (takes_signed (stride_is (head_kind lexemes) stride e))
+      (λ e. viable_done)
+      (λ stride e. viable_behind (takes_signed (stride_is (head_kind lexemes) stride e))
       (viable_step (dir_sound d expr sound most (behind lexemes)) (dir_viable most (behind lexemes))
-        (λ way is. exactly (ThenPost stride way NoPost) (sym (append-nil _), (is, tt)))
-        (λ way rest good. viable_finish (ThenPost stride way) (posts_viable most rest) (λ others more.
-          exactly (ThenPost stride way others) (simp append_assoc, (good.is, more))))))
+      (λ way is. exactly (ThenPost stride way NoPost) (sym (append-nil _), (is, tt)))
+      (λ way rest good. viable_finish (ThenPost stride way) (posts_viable most rest) (λ others more.
+      exactly (ThenPost stride way others) (simp append_assoc, (good.is, more))))))
 
   pub bounds_viable : (lexemes : List Lexeme) → IsViable (Spelled dim_words IsDim) lexemes (bounds expr lexemes)
   bounds_viable lexemes = viable_step (sound lexemes) (viable lexemes)
-    (λ low is. exactly (One low) (refl, is))
-    (λ low rest good. viable_at_sign (word.Symbol sym.DotDot) tt rest
+      (λ low is. exactly (One low) (refl, is))
+      (λ low rest good. viable_at_sign (word.Symbol sym.DotDot) tt rest
       (viable_finish (Span low) (viable (behind rest)) (λ high more. exactly (Span low high) (simp append_assoc, (good.is, more))))
       viable_done)
 
   pub dim_text_viable : (lexemes : List Lexeme) → IsViable (Spelled dim_words IsDim) lexemes (dim_text expr lexemes)
   dim_text_viable lexemes = viable_choose (closes_dim (head_kind lexemes))
-    (λ closes. viable_done)
-    (λ goes. viable_choose (next_is (kind.Symbol sym.Star) lexemes)
+      (λ closes. viable_done)
+      (λ goes. viable_choose (next_is (kind.Symbol sym.Star) lexemes)
       (λ star. viable_choose (closes_dim (second_kind lexemes))
-        (λ closes. viable_done)
-        (λ other. bounds_viable lexemes))
+      (λ closes. viable_done)
+      (λ other. bounds_viable lexemes))
       (λ other. bounds_viable lexemes))
 
   dim_texts_viable : (most : ℕ) (lexemes : List Lexeme) → IsViable (Spelled dims_words AreDimsOf) lexemes (dim_texts most expr lexemes)
   dim_texts_viable zero lexemes = viable_wrong
   dim_texts_viable (suc most) lexemes = viable_step (dim_text_sound d expr sound lexemes) (dim_text_viable lexemes)
-    (λ first is. record { tree = ThenDim first (ThenDim blank NoDim); more = symbol sym.Comma; says = (refl, (tt, (is, (tt, tt)), tt)) })
-    (λ first rest good. viable_at_sign (word.Symbol sym.Comma) tt rest
+      (λ first is. record { tree = ThenDim first (ThenDim blank NoDim); more = symbol sym.Comma; says = (refl, (tt, (is, (tt, tt)), tt)) })
+      (λ first rest good. viable_at_sign (word.Symbol sym.Comma) tt rest
       (viable_finish (ThenDim first) (dim_texts_viable most (behind rest)) (λ others more.
-        exactly (ThenDim first others) (ap (λ w. dim_words first ++ w) (more_dims_are others more.2), (two_dims first others more.2, (good.is, more.1), tt))))
+      exactly (ThenDim first others) (ap (λ w. dim_words first ++ w) (more_dims_are others more.2), (two_dims first others more.2, (good.is, more.1), tt))))
       viable_done)
 
   pub rexpr_viable : (most : ℕ) (lexemes : List Lexeme) → IsViable (Spelled inner_words (λ inner. IsInner inner × IsRexpr inner)) lexemes (rexpr most expr lexemes)
   rexpr_viable most lexemes = viable_over (region_base_sound most lexemes) (region_base_none most lexemes) (λ base rest fact.
-    viable_finish (Rexpr base.0 base.1) (posts_viable most rest) (λ those is. exactly (Rexpr base.0 base.1 those) (refl, (is, tt))))
+      viable_finish (Rexpr base.0 base.1) (posts_viable most rest) (λ those is. exactly (Rexpr base.0 base.1 those) (refl, (is, tt))))
 
   closed_viable : (lexemes : List Lexeme) (outcome : Outcome DimTexts) → IsViable (Spelled dims_words AreDimsOf) lexemes outcome →
-    IsViable (Spelled inner_words IsInner) lexemes (and_then outcome (λ dims rest. elim (closes_region (head_kind rest)) [ true ↦ Done (Dims dims) rest | false ↦ Wrong rest ]))
+      IsViable (Spelled inner_words IsInner) lexemes (and_then outcome (λ dims rest. elim (closes_region (head_kind rest)) [ true ↦ Done (Dims dims) rest | false ↦ Wrong rest ]))
   closed_viable lexemes (Done dims rest) h = viable_choose (closes_region (head_kind rest)) (λ e. viable_done) (λ e. viable_wrong)
   closed_viable lexemes (Wrong rest) h = viable_wrong
   closed_viable lexemes (Deep rest) h = viable_made Dims {outcome = Deep rest} h (λ dims words says. exactly (Dims dims) (says.0, (says.1.0, says.1.1)))
 
   pub inner_viable : (most : ℕ) (lexemes : List Lexeme) → IsViable (Spelled inner_words IsInner) lexemes (inner most expr lexemes)
   inner_viable most lexemes = viable_choose (begins_region (head_kind lexemes) (second_kind lexemes))
-    (λ begins. viable_weaken (rexpr_viable most lexemes) (λ tree words says. exactly tree (says.0, says.1.0)))
-    (λ other. closed_viable lexemes (dim_texts most expr lexemes) (dim_texts_viable most lexemes))
+      (λ begins. viable_weaken (rexpr_viable most lexemes) (λ tree words says. exactly tree (says.0, says.1.0)))
+      (λ other. closed_viable lexemes (dim_texts most expr lexemes) (dim_texts_viable most lexemes))
 
   pub in_bracket_viable : (most : ℕ) (lexemes : List Lexeme) → IsViable (Spelled (λ inner. in_square (inner_words inner)) IsInner) lexemes (in_bracket most expr lexemes)
   in_bracket_viable most lexemes = viable_sign (word.Symbol sym.OpenBracket) tt (λ at rest.
-    viable_step (inner_sound d expr sound most rest) (inner_viable most rest)
+      viable_step (inner_sound d expr sound most rest) (inner_viable most rest)
       (λ region is. record { tree = region; more = symbol sym.CloseBracket; says = (refl, is) })
       (λ region after good. viable_last _ _))
 
   pub bracket_viable : (most : ℕ) (lexemes : List Lexeme) → IsViable (Spelled bracket_words IsBracket) lexemes (bracket most expr lexemes)
   bracket_viable most lexemes = viable_choose (next_is (kind.Symbol sym.OpenBracket) lexemes)
-    (λ begins. viable_finish Bracketed (in_bracket_viable most lexemes) (λ inner is. exactly (Bracketed inner) (refl, is)))
-    (λ other. viable_done)
+      (λ begins. viable_finish Bracketed (in_bracket_viable most lexemes) (λ inner is. exactly (Bracketed inner) (refl, is)))
+      (λ other. viable_done)
 
 -- the rules of expressions of one depth
 pub record AreViable (rules : Levels) : Type 0 where
@@ -167,33 +164,33 @@ two_of o left right = Pair 0 o left right
 module _ (most deep : ℕ) (deeper : Levels) (are : AreSound deep deeper) (can : AreViable deeper) where
   behind_name_viable : (first : Name) (lexemes : List Lexeme) → IsViable (λ tree more. Tree 5 tree (word.Name first.text ∷ more)) lexemes (behind_name most deeper first lexemes)
   behind_name_viable first lexemes = viable_at_sign (word.Symbol sym.At) tt lexemes
-    (viable_finish (Shifted first.at first) (dir_viable deep deeper.expr are.expr can.expr most (behind lexemes)) (λ shift is. exactly (Shifted first.at first shift) (refl, is)))
-    (viable_at_sign (word.Symbol sym.OpenParen) tt lexemes
+      (viable_finish (Shifted first.at first) (dir_viable deep deeper.expr are.expr can.expr most (behind lexemes)) (λ shift is. exactly (Shifted first.at first shift) (refl, is)))
+      (viable_at_sign (word.Symbol sym.OpenParen) tt lexemes
       (viable_finish (Call first.at first) (actuals_viable deep deeper.expr are.expr can.expr most (behind lexemes)) (λ those is. exactly (Call first.at first those) (refl, is)))
       viable_done)
 
   inside_viable : (lexemes : List Lexeme) → IsViable (Spelled (λ value. expr_words value ++ symbol sym.CloseParen) (IsExpr 0)) lexemes (inside deeper lexemes)
   inside_viable lexemes = viable_step (are.expr lexemes) (can.expr lexemes)
-    (λ value is. record { tree = value; more = symbol sym.CloseParen; says = (refl, is) })
-    (λ value rest good. viable_last _ _)
+      (λ value is. record { tree = value; more = symbol sym.CloseParen; says = (refl, is) })
+      (λ value rest good. viable_last _ _)
 
   folded_viable : (at : ℕ) (operator : Fold) (lexemes : List Lexeme) (f : Option Folding) → folding_of operator (head_kind lexemes) ≡ f →
-    IsViable (λ tree more. Tree 5 tree (fold_words operator ++ more)) lexemes (folded most at operator deeper f lexemes)
+      IsViable (λ tree more. Tree 5 tree (fold_words operator ++ more)) lexemes (folded most at operator deeper f lexemes)
   folded_viable at operator lexemes (Some folding.Reduce) e = viable_behind (takes_head (word.Symbol sym.Reduce) tt lexemes (folding_is operator (head_kind lexemes) folding.Reduce e))
-    (viable_step (bracket_sound deep deeper.expr are.expr most (behind lexemes)) (bracket_viable deep deeper.expr are.expr can.expr most (behind lexemes))
+      (viable_step (bracket_sound deep deeper.expr are.expr most (behind lexemes)) (bracket_viable deep deeper.expr are.expr can.expr most (behind lexemes))
       (λ over is. record { tree = Reduce at operator over nought; more = expr_words nought; says = (simp append_assoc, (refl, is, refl)) })
       (λ over rest good. viable_finish (Reduce at operator over) (can.unary rest) (λ operand more. exactly (Reduce at operator over operand) (simp append_assoc, (refl, good.is, more)))))
   folded_viable at operator lexemes (Some folding.Scan) e = viable_behind (takes_head (word.Symbol sym.Scan) tt lexemes (folding_is operator (head_kind lexemes) folding.Scan e))
-    (viable_over (along_sound (behind lexemes)) (along_none (behind lexemes)) (λ dimension rest is.
+      (viable_over (along_sound (behind lexemes)) (along_none (behind lexemes)) (λ dimension rest is.
       viable_finish (Scan at operator dimension) (can.unary rest) (λ operand more. exactly (Scan at operator dimension operand) (simp append_assoc, (refl, is, more)))))
   folded_viable at operator lexemes (Some (folding.Pair o)) e =
       let is = folding_is operator (head_kind lexemes) (folding.Pair o) e in
       viable_behind (takes_head (word.Symbol sym.OpenParen) tt lexemes is.0)
       (viable_step (are.expr (behind lexemes)) (can.expr (behind lexemes))
-        (λ left good. record { tree = Pair at o left nought; more = word.Symbol sym.Comma ∷ (expr_words nought ++ symbol sym.CloseParen); says = (sym (is.4 (expr_words left) (expr_words nought)), pair_is o left nought is.1 is.2 is.3 good refl) })
-        (λ left rest good. viable_sign (word.Symbol sym.Comma) tt (λ comma after.
-          viable_finish (Pair at o left) (inside_viable after) (λ right more. exactly (Pair at o left right)
-            (sym (is.4 (expr_words left) (expr_words right)), pair_is o left right is.1 is.2 is.3 good.is more)))))
+      (λ left good. record { tree = Pair at o left nought; more = word.Symbol sym.Comma ∷ (expr_words nought ++ symbol sym.CloseParen); says = (sym (is.4 (expr_words left) (expr_words nought)), pair_is o left nought is.1 is.2 is.3 good refl) })
+      (λ left rest good. viable_sign (word.Symbol sym.Comma) tt (λ comma after.
+      viable_finish (Pair at o left) (inside_viable after) (λ right more. exactly (Pair at o left right)
+      (sym (is.4 (expr_words left) (expr_words right)), pair_is o left right is.1 is.2 is.3 good.is more)))))
     where
       pair_is : (o : Op) (left right : Expr) → own_level o ≡ 6 → left_level o ≡ 0 → right_level o ≡ 0 → IsExpr 0 left → IsExpr 0 right → IsExpr 5 (Pair at o left right)
       pair_is o left right own_is left_is right_is a b =
@@ -205,18 +202,18 @@ module _ (most deep : ℕ) (deeper : Levels) (are : AreSound deep deeper) (can :
   opened_viable first rest (opening.Truth value) is = viable_done
   opened_viable first rest (opening.Coord dimension) is = viable_done
   opened_viable first rest opening.Name is = viable_behind (takes_one (word.Name first.bytes) (record { kind = is; bytes = refl }) tt)
-    (behind_name_viable (record { text = first.bytes; at = first.at }) rest)
+      (behind_name_viable (record { text = first.bytes; at = first.at }) rest)
   opened_viable first rest opening.Paren is = viable_behind (takes_head (word.Symbol sym.OpenParen) tt (first ∷ rest) is)
-    (viable_finish (Paren first.at) (inside_viable rest) (λ value good. exactly (Paren first.at value) (refl, good)))
+      (viable_finish (Paren first.at) (inside_viable rest) (λ value good. exactly (Paren first.at value) (refl, good)))
   opened_viable first rest opening.Minus is = viable_behind (takes_head (word.Symbol sym.Minus) tt (first ∷ rest) is)
-    (viable_finish (Neg first.at) (can.unary rest) (λ value good. exactly (Neg first.at value) (refl, (refl, good))))
+      (viable_finish (Neg first.at) (can.unary rest) (λ value good. exactly (Neg first.at value) (refl, (refl, good))))
   opened_viable first rest opening.Not is = viable_behind (takes_head (word.Symbol sym.Not) tt (first ∷ rest) is)
-    (viable_finish (Not first.at) (can.unary rest) (λ value good. exactly (Not first.at value) (refl, (refl, good))))
+      (viable_finish (Not first.at) (can.unary rest) (λ value good. exactly (Not first.at value) (refl, (refl, good))))
   opened_viable first rest opening.Abs is = viable_behind (takes_head (word.Keyword key.Abs) tt (first ∷ rest) is)
-    (viable_sign (word.Symbol sym.OpenParen) tt (λ at after. viable_finish (Abs first.at) (inside_viable after) (λ value good. exactly (Abs first.at value) (refl, good))))
+      (viable_sign (word.Symbol sym.OpenParen) tt (λ at after. viable_finish (Abs first.at) (inside_viable after) (λ value good. exactly (Abs first.at value) (refl, good))))
   opened_viable first rest (opening.Fold operator) is = viable_behind (takes_signed is) (folded_viable first.at operator rest (folding_of operator (head_kind rest)) refl)
   opened_viable first rest opening.Flood is = viable_behind (takes_head (word.Symbol sym.Flood) tt (first ∷ rest) is)
-    (viable_step (in_bracket_sound deep deeper.expr are.expr most rest) (in_bracket_viable deep deeper.expr are.expr can.expr most rest)
+      (viable_step (in_bracket_sound deep deeper.expr are.expr most rest) (in_bracket_viable deep deeper.expr are.expr can.expr most rest)
       (λ source good. record { tree = Flood first.at source nought; more = expr_words nought; says = (simp append_assoc, (refl, good, refl)) })
       (λ source after good. viable_finish (Flood first.at source) (can.unary after) (λ operand more. exactly (Flood first.at source operand) (simp append_assoc, (refl, good.is, more)))))
 
@@ -245,37 +242,47 @@ pair_begins own left_own right_own at k o is small left a = record {
 }
 
 module _ (own right_own d deep : ℕ) (op_of : Kind → Option Op) (operand : Reader Expr)
-  (sound : (lexemes : List Lexeme) → IsSound (SaysExpr right_own d) lexemes (operand lexemes)) (can : (lexemes : List Lexeme) → IsViable (Tree right_own) lexemes (operand lexemes)) where
+    (sound : (lexemes : List Lexeme) → IsSound (SaysExpr right_own d) lexemes (operand lexemes)) (can : (lexemes : List Lexeme) → IsViable (Tree right_own) lexemes (operand lexemes)) where
   chain_viable : ((k : Kind) (o : Op) → op_of k ≡ Some o → IsOperator own own right_own k o) → (most : ℕ) (left : Expr) → IsExpr own left → (lexemes : List Lexeme) →
       IsViable (On own left) lexemes (chain most deep op_of operand left lexemes)
   chain_viable is zero left good lexemes = viable_wrong
   chain_viable is (suc most) left good lexemes = viable_some (op_of (head_kind lexemes))
-    (λ e. viable_done)
-    (λ o e. viable_choose (nat_le (expr_depth left) deep)
+      (λ e. viable_done)
+      (λ o e. viable_choose (nat_le (expr_depth left) deep)
       (λ fits. viable_behind (takes_signed (is (head_kind lexemes) o e).sign)
-        (viable_step (sound (behind lexemes)) (can (behind lexemes))
-          (λ right more. exactly (Pair (at_of left) o left right)
-            (between_regroup left right o (is (head_kind lexemes) o e).between, between_is own own right_own (at_of left) (head_kind lexemes) o (is (head_kind lexemes) o e) left right good more))
-          (λ right rest more.
-            viable_weaken (chain_viable is most (Pair (at_of left) o left right)
-              (between_is own own right_own (at_of left) (head_kind lexemes) o (is (head_kind lexemes) o e) left right good more.is) rest)
-            (λ tree words says. exactly tree
-              (regroup (expr_words left) (operator_words o) (expr_words right) words ∙ (ap (λ w. w ++ words) (sym ((is (head_kind lexemes) o e).between (expr_words left) (expr_words right))) ∙ says.0), says.1)))))
-      (λ deep_. record { begun = (operator_words o, takes_signed (is (head_kind lexemes) o e).sign,
-        pair_begins own own right_own (at_of left) (head_kind lexemes) o (is (head_kind lexemes) o e) refl left good) }))
+      (viable_step (sound (behind lexemes)) (can (behind lexemes))
+      (λ right more. exactly (Pair (at_of left) o left right)
+      (between_regroup left right o (is (head_kind lexemes) o e).between, between_is own own right_own (at_of left) (head_kind lexemes) o (is (head_kind lexemes) o e) left right good more))
+      (λ right rest more.
+      viable_weaken (chain_viable is most (Pair (at_of left) o left right)
+      (between_is own own right_own (at_of left) (head_kind lexemes) o (is (head_kind lexemes) o e) left right good more.is) rest)
+      (λ tree words says. exactly tree
+      (regroup (expr_words left) (operator_words o) (expr_words right) words ∙ (ap (λ w. w ++ words) (sym ((is (head_kind lexemes) o e).between (expr_words left) (expr_words right))) ∙ says.0), says.1)))))
+      (λ deep_. record {
+        begun = (
+          operator_words o,
+          takes_signed (is (head_kind lexemes) o e).sign,
+          pair_begins own own right_own (at_of left) (head_kind lexemes) o (is (head_kind lexemes) o e) refl left good,
+        );
+      }))
 
 module _ (own operand_own d deep : ℕ) (op_of : Kind → Option Op) (operand : Reader Expr)
-  (can : (lexemes : List Lexeme) → IsViable (Tree operand_own) lexemes (operand lexemes)) where
+    (can : (lexemes : List Lexeme) → IsViable (Tree operand_own) lexemes (operand lexemes)) where
   once_viable : ((k : Kind) (o : Op) → op_of k ≡ Some o → IsOperator own operand_own operand_own k o) → (left : Expr) → IsExpr operand_own left → (lexemes : List Lexeme) →
       IsViable (On own left) lexemes (once deep op_of operand left lexemes)
   once_viable is left good lexemes = viable_some (op_of (head_kind lexemes))
-    (λ e. viable_done)
-    (λ o e. viable_choose (nat_le (expr_depth left) deep)
+      (λ e. viable_done)
+      (λ o e. viable_choose (nat_le (expr_depth left) deep)
       (λ fits. viable_behind (takes_signed (is (head_kind lexemes) o e).sign)
-        (viable_finish (Pair (at_of left) o left) (can (behind lexemes)) (λ right more. exactly (Pair (at_of left) o left right)
-          (between_regroup left right o (is (head_kind lexemes) o e).between, between_is own operand_own operand_own (at_of left) (head_kind lexemes) o (is (head_kind lexemes) o e) left right good more))))
-      (λ deep_. record { begun = (operator_words o, takes_signed (is (head_kind lexemes) o e).sign,
-        pair_begins own operand_own operand_own (at_of left) (head_kind lexemes) o (is (head_kind lexemes) o e) refl left good) }))
+      (viable_finish (Pair (at_of left) o left) (can (behind lexemes)) (λ right more. exactly (Pair (at_of left) o left right)
+      (between_regroup left right o (is (head_kind lexemes) o e).between, between_is own operand_own operand_own (at_of left) (head_kind lexemes) o (is (head_kind lexemes) o e) left right good more))))
+      (λ deep_. record {
+        begun = (
+          operator_words o,
+          takes_signed (is (head_kind lexemes) o e).sign,
+          pair_begins own operand_own operand_own (at_of left) (head_kind lexemes) o (is (head_kind lexemes) o e) refl left good,
+        );
+      }))
 
 -- a rule that goes on from a tighter one
 goes_over : (wanted own d : ℕ) → wanted ≤ own → {outcome : Outcome Expr} {next : Expr → Reader Expr} {lexemes : List Lexeme} → IsSound (SaysExpr own d) lexemes outcome →
@@ -293,15 +300,15 @@ levels_over_viable : (most deep d e : ℕ) (unary : Reader Expr) (deeper : Level
 levels_over_viable most deep d e unary deeper own are can unary_can =
     let these : Levels = levels_over most deep unary deeper in
     let term : (lexemes : List Lexeme) → IsViable (Tree 4) lexemes (these.term lexemes) = λ lexemes. goes_over 4 5 d (omega arith) (own.unary lexemes) (unary_can lexemes)
-        (λ left is rest. chain_viable 4 5 e deep term_op deeper.unary are.unary can.unary term_op_is most left (lowered 4 5 (omega arith) left is) rest) in
+    (λ left is rest. chain_viable 4 5 e deep term_op deeper.unary are.unary can.unary term_op_is most left (lowered 4 5 (omega arith) left is) rest) in
     let sum : (lexemes : List Lexeme) → IsViable (Tree 3) lexemes (these.sum lexemes) = λ lexemes. goes_over 3 4 d (omega arith) (own.term lexemes) (term lexemes)
-        (λ left is rest. chain_viable 3 4 e deep sum_op deeper.term are.term can.term sum_op_is most left (lowered 3 4 (omega arith) left is) rest) in
+    (λ left is rest. chain_viable 3 4 e deep sum_op deeper.term are.term can.term sum_op_is most left (lowered 3 4 (omega arith) left is) rest) in
     let comp : (lexemes : List Lexeme) → IsViable (Tree 2) lexemes (these.comp lexemes) = λ lexemes. goes_over 2 3 d (omega arith) (own.sum lexemes) (sum lexemes)
-        (λ left is rest. once_viable 2 3 e deep comp_op deeper.sum can.sum comp_op_is left is rest) in
+    (λ left is rest. once_viable 2 3 e deep comp_op deeper.sum can.sum comp_op_is left is rest) in
     let conj : (lexemes : List Lexeme) → IsViable (Tree 1) lexemes (these.conj lexemes) = λ lexemes. goes_over 1 2 d (omega arith) (own.comp lexemes) (comp lexemes)
-        (λ left is rest. chain_viable 1 2 e deep and_op deeper.comp are.comp can.comp and_op_is most left (lowered 1 2 (omega arith) left is) rest) in
+    (λ left is rest. chain_viable 1 2 e deep and_op deeper.comp are.comp can.comp and_op_is most left (lowered 1 2 (omega arith) left is) rest) in
     let expr : (lexemes : List Lexeme) → IsViable (Tree 0) lexemes (these.expr lexemes) = λ lexemes. goes_over 0 1 d (omega arith) (own.conj lexemes) (conj lexemes)
-        (λ left is rest. chain_viable 0 1 e deep or_op deeper.conj are.conj can.conj or_op_is most left (lowered 0 1 (omega arith) left is) rest) in
+    (λ left is rest. chain_viable 0 1 e deep or_op deeper.conj are.conj can.conj or_op_is most left (lowered 0 1 (omega arith) left is) rest) in
     record { unary = unary_can; term = term; sum = sum; comp = comp; conj = conj; expr = expr }
 
 -- what may begin an expression begins one
@@ -315,8 +322,13 @@ expr_begins first rest opening.Minus is = record { begun = (_, takes_head (word.
 expr_begins first rest opening.Not is = record { begun = (_, takes_head (word.Symbol sym.Not) tt (first ∷ rest) is, record { tree = Not 0 nought; more = expr_words nought; says = (refl, (refl, refl)) }) }
 expr_begins first rest opening.Abs is = record { begun = (_, takes_head (word.Keyword key.Abs) tt (first ∷ rest) is, record { tree = Abs 0 nought; more = symbol sym.OpenParen ++ expr_words nought ++ symbol sym.CloseParen; says = (refl, refl) }) }
 expr_begins first rest (opening.Fold operator) is = record { begun = (_, takes_signed is, record { tree = Reduce 0 operator NoBracket nought; more = symbol sym.Reduce ++ expr_words nought; says = (simp append_assoc, (refl, tt, refl)) }) }
-expr_begins first rest opening.Flood is = record { begun = (_, takes_head (word.Symbol sym.Flood) tt (first ∷ rest) is,
-    record { tree = Flood 0 (Dims (ThenDim blank NoDim)) nought; more = symbol sym.OpenBracket ++ symbol sym.CloseBracket ++ expr_words nought; says = (refl, (refl, (tt, (tt, tt)), refl)) }) }
+expr_begins first rest opening.Flood is = record {
+  begun = (
+    _,
+    takes_head (word.Symbol sym.Flood) tt (first ∷ rest) is,
+    record { tree = Flood 0 (Dims (ThenDim blank NoDim)) nought; more = symbol sym.OpenBracket ++ symbol sym.CloseBracket ++ expr_words nought; says = (refl, (refl, (tt, (tt, tt)), refl)) },
+  );
+}
 
 none_begins : (first : Lexeme) (rest : List Lexeme) (o : Option Opening) → opening_of first.kind ≡ o → IsViable {A = Expr} (Tree 5) (first ∷ rest) (too_deep (is_some o) (first ∷ rest))
 none_begins first rest None e = viable_wrong

@@ -1,7 +1,7 @@
 -- What is claimed of a text, of what the rule of programs makes of its tokens.
-use Rattle.std.proofs.Common.{◌≡◌, ◌-◌, ◌⊎◌, inl, inr, ℕ, zero, suc, ◌+◌, ◌<◌, ◌≤◌, Bool, true, false, List, [], ◌∷◌, ◌++◌, length, map, refl, sym, ap, subst, ◌∙◌, arith, append_assoc, append-nil, length-append}
+use Rattle.std.proofs.Common.{◌≡◌, ◌-◌, ◌⊎◌, inl, inr, ℕ, suc, ◌+◌, ◌<◌, ◌≤◌, List, [], ◌∷◌, ◌++◌, length, map, refl, sym, ap, subst, ◌∙◌, arith, append_assoc, length-append}
 use Rattle.std.proofs.lemmas.List.{append_cancel_right, length-take, length-drop}
-use Rattle.std.specs.List.{AllByRecursion, slice_range}
+use Rattle.std.specs.List.{slice_range}
 use Rattle.zpl_tokens.specs.declared.Kind.{Kind}
 use Rattle.zpl_tokens.specs.declared.Kind.TheVariants as kind
 use Rattle.zpl_tokens.specs.declared.keywords.Key.{Key}
@@ -20,18 +20,18 @@ use Rattle.zpl_tree.specs.Shape.{shape_of, SameShape}
 use Rattle.zpl_tree.specs.Grammar.{Spells}
 use Rattle.zpl_tree.specs.Word.{Word, kind_of, word_text}
 use Rattle.zpl_tree.specs.Word as word
-use Rattle.zpl_grammar.specs.Written.{token_text, HasBytes, IsWord, AreWords}
+use Rattle.zpl_grammar.specs.Written.{AreWords}
 use Rattle.zpl_parse.specs.Lexeme.{Lexeme, lexeme_of, lexemes_of, lexeme_at, head_at}
 use Rattle.zpl_parse.specs.Written.{IsLexeme, AreLexemes}
 use Rattle.zpl_parse.specs.Outcome.{Outcome, Done, Wrong, Deep}
 use Rattle.zpl_parse.specs.Declarations.{most_deep, program}
 use Rattle.zpl_parse.specs.Claims.{AreFirstWords, BeginsText, IsTree, IsSyntaxFault, IsTooDeep}
 use Rattle.zpl_parse.proofs.SoundBase.{Reads, Takes, nothing, one}
-use Rattle.zpl_parse.proofs.SoundProgram.{heads, tails, HaveNoEnd, found_no_end, word_of_token, program_is_sound, IsLeft, wrong_is_left, token_is_left}
-use Rattle.zpl_parse.proofs.Local.{LocalAt, IsLocal, SameHead, IsWrong, IsNotDone}
+use Rattle.zpl_parse.proofs.SoundProgram.{heads, tails, HaveNoEnd, found_no_end, word_of_token, wrong_is_left, token_is_left}
+use Rattle.zpl_parse.proofs.Local.{LocalAt, SameHead, IsWrong, IsNotDone}
 use Rattle.zpl_parse.proofs.LocalTokens.{Turns}
 use Rattle.zpl_parse.proofs.LocalDeclarations.{program_local}
-use Rattle.zpl_parse.proofs.ViableBase.{Goes, Begun, IsViable}
+use Rattle.zpl_parse.proofs.ViableBase.{Begun}
 use Rattle.zpl_parse.proofs.ViableDecls.{program_viable}
 
 -- offsets that rise from one token to the next
@@ -184,14 +184,14 @@ wrong_anyhow : (source text : List ℕ) (most : ℕ) (front back : List Token) (
 wrong_anyhow source text most front back t rest others wrong left =
     let lexemes = lexemes_of text (front ++ t ∷ back) in
     let here : LocalAt (Unit {0}) ⊥ (program source most) lexemes (Wrong rest) =
-        subst (LocalAt (Unit {0}) ⊥ (program source most) lexemes) wrong ((program_local {Exact = Unit {0}} {Sure = ⊥} source (as_many most)).at lexemes) in
+    subst (LocalAt (Unit {0}) ⊥ (program source most) lexemes) wrong ((program_local {Exact = Unit {0}} {Sure = ⊥} source (as_many most)).at lexemes) in
     let same : here.0 ≡ lexemes_of text front =
-        append_cancel_right here.0 (lexemes_of text front) (lexemes_of text (t ∷ back))
-          (ap (λ l. here.0 ++ l) (sym left) ∙ (sym here.1 ∙ lexemes_of-append text front (t ∷ back))) in
+    append_cancel_right here.0 (lexemes_of text front) (lexemes_of text (t ∷ back))
+    (ap (λ l. here.0 ++ l) (sym left) ∙ (sym here.1 ∙ lexemes_of-append text front (t ∷ back))) in
     let joined : lexemes_of text (front ++ t ∷ []) ++ others ≡ here.0 ++ lexeme_of text t ∷ others =
-        ap (λ l. l ++ others) (lexemes_of-append text front (t ∷ [])) ∙ (append_assoc (lexemes_of text front) (lexeme_of text t ∷ []) others ∙ ap (λ l. l ++ lexeme_of text t ∷ others) (sym same)) in
+    ap (λ l. l ++ others) (lexemes_of-append text front (t ∷ [])) ∙ (append_assoc (lexemes_of text front) (lexeme_of text t ∷ []) others ∙ ap (λ l. l ++ lexeme_of text t ∷ others) (sym same)) in
     subst (λ l. IsWrong (program source most l)) (sym joined)
-      (here.2 tt (lexeme_of text t ∷ others) (subst (λ l. SameHead l (lexeme_of text t ∷ others)) (sym left) refl))
+    (here.2 tt (lexeme_of text t ∷ others) (subst (λ l. SameHead l (lexeme_of text t ∷ others)) (sym left) refl))
 
 -- Too deep behind tokens: whatever stands behind them, the program is not done.
 deep_anyhow : (source text : List ℕ) (most wide : ℕ) → most ≤ wide → (front back : List Token) (rest others : List Lexeme) →
@@ -199,10 +199,10 @@ deep_anyhow : (source text : List ℕ) (most wide : ℕ) → most ≤ wide → (
 deep_anyhow source text most wide below front back rest others deep left =
     let lexemes = lexemes_of text (front ++ back) in
     let here : LocalAt ⊥ (Unit {0}) (program source wide) lexemes (Deep rest) =
-        subst (LocalAt ⊥ (Unit {0}) (program source wide) lexemes) deep ((program_local {Exact = ⊥} {Sure = Unit {0}} source (more_turns most wide below)).at lexemes) in
+    subst (LocalAt ⊥ (Unit {0}) (program source wide) lexemes) deep ((program_local {Exact = ⊥} {Sure = Unit {0}} source (more_turns most wide below)).at lexemes) in
     let same : here.0 ∷ here.1 ≡ lexemes_of text front =
-        append_cancel_right (here.0 ∷ here.1) (lexemes_of text front) (lexemes_of text back)
-          (ap (λ l. here.0 ∷ (here.1 ++ l)) (sym left) ∙ (sym here.2 ∙ lexemes_of-append text front back)) in
+    append_cancel_right (here.0 ∷ here.1) (lexemes_of text front) (lexemes_of text back)
+    (ap (λ l. here.0 ∷ (here.1 ++ l)) (sym left) ∙ (sym here.2 ∙ lexemes_of-append text front back)) in
     subst (λ l. IsNotDone (program source wide (l ++ others))) same (here.3 tt others)
 
 -- what the rule of programs answers, whatever bounds its lists, if that is more than there are tokens
@@ -259,8 +259,8 @@ module _ (complete : IsComplete) where
       let rise : Rise 0 (front ++ t ∷ back) = subst (Rise 0) split (tokens_rise text tokens are spans) in
       let same = same_place 0 front left.front t found.0 back found.1 rise (sym split ∙ there) same_from in
       let is_wrong : IsWrong (program source most lexemes) =
-          subst (λ f. IsWrong (program source most (lexemes_of text f ++ on.more))) (sym (ap (λ f. f ++ t ∷ []) same.0 ∙ ap (λ u. left.front ++ u ∷ []) same.1))
-            (wrong_anyhow source text most left.front found.1 found.0 here.0 on.more (ap (λ l. program source most (lexemes_of text l)) (sym there) ∙ here.1) begun) in
+      subst (λ f. IsWrong (program source most (lexemes_of text f ++ on.more))) (sym (ap (λ f. f ++ t ∷ []) same.0 ∙ ap (λ u. left.front ++ u ∷ []) same.1))
+      (wrong_anyhow source text most left.front found.1 found.0 here.0 on.more (ap (λ l. program source most (lexemes_of text l)) (sym there) ∙ here.1) begun) in
       go most lexemes begins.program is_wrong (complete source most begins.program begins.words lexemes begins.spells on.are (let e = long_enough text (front ++ t ∷ []) on.more in omega arith))
     where
       go : (most : ℕ) (lexemes : List Lexeme) (tree : Program) → IsWrong (program source most lexemes) →
