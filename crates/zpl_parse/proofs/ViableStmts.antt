@@ -1,5 +1,5 @@
 -- What was taken before a statement got too deep begins some statement.
-use Rattle.std.proofs.Common.{◌≡◌, ◌⊎◌, inl, inr, ℕ, zero, suc, if◌then◌else◌, Bool, true, false, List, [], ◌∷◌, ◌++◌, Option, Some, None, refl, sym, ap, ◌∙◌, append_assoc, append-nil}
+use Rattle.std.proofs.Common.{codes, ◌≡◌, ◌⊎◌, inl, inr, ℕ, zero, suc, if◌then◌else◌, Bool, true, false, List, [], ◌∷◌, ◌++◌, Option, Some, None, refl, sym, ap, ◌∙◌, append_assoc, append-nil}
 use Rattle.std.proofs.lemmas.Bool.{false≢true}
 use Rattle.std.specs.List.{flat_map, AllByRecursion}
 use Rattle.zpl_tokens.specs.declared.Kind.{Kind}
@@ -46,7 +46,7 @@ for_last counter first w last = simp (append_assoc, append-nil)
 
 -- the smallest statement
 abbrev pub some_name : Name
-some_name = record { text = []; at = 0 }
+some_name = record { text = codes "x"; at = 0 }
 
 abbrev pub call : Form
 call = Invoke some_name NoExpr
