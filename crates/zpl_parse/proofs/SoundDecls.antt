@@ -197,7 +197,7 @@ module _ (d : ℕ) (expr : Reader Expr) (sound : (lexemes : List Lexeme) → IsS
       finish _ (body_sound most deep last) (λ what good.
         ((words, says.0, simp append_assoc), record { is = (good_params.is, says.1.is, good.is); depth = omega arith }))))))))
 
-    pub SaysDecl : Decl → List Word → Type 0
+    unfoldable pub SaysDecl : Decl → List Word → Type 0
     SaysDecl decl words = SpellsDecl decl words × IsGood IsDecl decl_depth d decl
 
     pub part_sound : (most : ℕ) (p : Part) (lexemes : List Lexeme) → IsPart (head_kind lexemes) p → IsSound SaysDecl lexemes (decl_by most expr deep (Some p) lexemes)
@@ -220,7 +220,7 @@ module _ (d : ℕ) (expr : Reader Expr) (sound : (lexemes : List Lexeme) → IsS
     decl_by_sound most None lexemes e = wrong
     decl_by_sound most (Some p) lexemes e = part_sound most p lexemes (part_is (head_kind lexemes) p e)
 
-    pub SaysDecls : List Decl → List Word → Type 0
+    unfoldable pub SaysDecls : List Decl → List Word → Type 0
     SaysDecls those words = SpellsEach SpellsDecl those words × IsGood (AllByRecursion IsDecl) (greatest_of decl_depth) d those
 
     pub ends : (lexemes : List Lexeme) → next_is kind.End lexemes ≡ true → IsWhole SaysDecls lexemes (Done [] (behind lexemes))

@@ -48,11 +48,11 @@ HasDim (ThenDim first rest) = Unit {0}
 pub takes_signed : {lexemes : List Lexeme} {words : List Word} → IsOneSign (head_kind lexemes) words → Takes lexemes words (behind lexemes)
 takes_signed {lexemes = lexemes} {words = words} is = subst (λ (w : List Word). Takes lexemes w (behind lexemes)) (sym is.are) (takes_head is.word is.sign lexemes is.kind)
 
-more_exprs_are : (others : Exprs) → HasExpr others → word.Symbol sym.Comma ∷ exprs_words others ≡ more_exprs others
+pub more_exprs_are : (others : Exprs) → HasExpr others → word.Symbol sym.Comma ∷ exprs_words others ≡ more_exprs others
 more_exprs_are NoExpr has = absurd has
 more_exprs_are (ThenExpr first rest) has = refl
 
-more_dims_are : (others : DimTexts) → HasDim others → word.Symbol sym.Comma ∷ dims_words others ≡ more_dims others
+pub more_dims_are : (others : DimTexts) → HasDim others → word.Symbol sym.Comma ∷ dims_words others ≡ more_dims others
 more_dims_are NoDim has = absurd has
 more_dims_are (ThenDim first rest) has = refl
 
@@ -265,7 +265,7 @@ module _ (most deep : ℕ) (deeper : Levels) (are : AreSound deep deeper) where
   unary_over_sound (first ∷ rest) = unary_by_sound first rest (opening_of first.kind) refl
 
 -- an expression may stand where a weaker one is wanted
-expr_lower : (wanted own : ℕ) → ((n : ℕ) → StandsAt own n → StandsAt wanted n) → (tree : Expr) → IsExpr own tree → IsExpr wanted tree
+pub expr_lower : (wanted own : ℕ) → ((n : ℕ) → StandsAt own n → StandsAt wanted n) → (tree : Expr) → IsExpr own tree → IsExpr wanted tree
 expr_lower wanted own so (Neg at operand) is = (so _ is.0, is.1)
 expr_lower wanted own so (Not at operand) is = (so _ is.0, is.1)
 expr_lower wanted own so (Pair at o left right) is = (so _ is.0, is.1, is.2)
@@ -281,13 +281,13 @@ expr_lower wanted own so (Call at called those) is = is
 expr_lower wanted own so (Paren at inside) is = is
 expr_lower wanted own so (Abs at operand) is = is
 
-le_through : (a b c : ℕ) → a ≤ b → b ≤ c → a ≤ c
+pub le_through : (a b c : ℕ) → a ≤ b → b ≤ c → a ≤ c
 le_through a b c p q = omega arith
 
-weaker : (wanted own : ℕ) → wanted ≤ own → (n : ℕ) → StandsAt own n → StandsAt wanted n
+pub weaker : (wanted own : ℕ) → wanted ≤ own → (n : ℕ) → StandsAt own n → StandsAt wanted n
 weaker wanted own below n stands = le-leb wanted n (le_through wanted own n below (leb-true own n stands))
 
-lower : (wanted own d : ℕ) → wanted ≤ own → (tree : Expr) → IsGood (IsExpr own) expr_depth d tree → IsGood (IsExpr wanted) expr_depth d tree
+pub lower : (wanted own d : ℕ) → wanted ≤ own → (tree : Expr) → IsGood (IsExpr own) expr_depth d tree → IsGood (IsExpr wanted) expr_depth d tree
 lower wanted own d below tree good = record { is = expr_lower wanted own (weaker wanted own below) tree good.is; depth = good.depth }
 
 -- what a chain makes: an expression that begins with what stood there before
@@ -301,11 +301,11 @@ pair_good own left_own right_own deep at k o is left right left_is fits good = r
   depth = omega arith;
 }
 
-between_regroup : (left right : Expr) (o : Op) → ((a b : List Word) → pair_words o a b ≡ a ++ operator_words o ++ b) →
+pub between_regroup : (left right : Expr) (o : Op) → ((a b : List Word) → pair_words o a b ≡ a ++ operator_words o ++ b) →
     expr_words left ++ (operator_words o ++ expr_words right) ≡ pair_words o (expr_words left) (expr_words right)
 between_regroup left right o between = sym (append_assoc (expr_words left) (operator_words o) (expr_words right)) ∙ sym (between (expr_words left) (expr_words right))
 
-regroup : (a o b w : List Word) → a ++ (o ++ (b ++ w)) ≡ (a ++ o ++ b) ++ w
+pub regroup : (a o b w : List Word) → a ++ (o ++ (b ++ w)) ≡ (a ++ o ++ b) ++ w
 regroup a o b w = simp append_assoc
 
 module _ (own right_own deep : ℕ) (op_of : Kind → Option Op) (operand : Reader Expr)
@@ -345,30 +345,30 @@ over : (wanted own d : ℕ) → wanted ≤ own → {outcome : Outcome Expr} {nex
 over wanted own d below sound so = step sound (λ left rest good. weaken (so left good rest) (λ tree words says. (says.0, says.1)))
 
 module _ (most deep : ℕ) (unary : Reader Expr) (deeper : Levels) (sound : (lexemes : List Lexeme) → IsSound (SaysExpr 5 (suc deep)) lexemes (unary lexemes)) (are : AreSound deep deeper) where
-  pub own : Levels
+  own : Levels
   own = levels_over most deep unary deeper
 
-  pub term_sound : (lexemes : List Lexeme) → IsSound (SaysExpr 4 (suc deep)) lexemes (own.term lexemes)
+  term_sound : (lexemes : List Lexeme) → IsSound (SaysExpr 4 (suc deep)) lexemes (own.term lexemes)
   unfolding own
   term_sound lexemes = over 4 5 (suc deep) (omega arith) (sound lexemes) (λ left good rest.
     chain_sound 4 5 deep term_op deeper.unary are.unary term_op_is most left (lower 4 5 (suc deep) (omega arith) left good) rest)
 
-  pub sum_sound : (lexemes : List Lexeme) → IsSound (SaysExpr 3 (suc deep)) lexemes (own.sum lexemes)
+  sum_sound : (lexemes : List Lexeme) → IsSound (SaysExpr 3 (suc deep)) lexemes (own.sum lexemes)
   unfolding own
   sum_sound lexemes = over 3 4 (suc deep) (omega arith) (term_sound lexemes) (λ left good rest.
     chain_sound 3 4 deep sum_op deeper.term are.term sum_op_is most left (lower 3 4 (suc deep) (omega arith) left good) rest)
 
-  pub comp_sound : (lexemes : List Lexeme) → IsSound (SaysExpr 2 (suc deep)) lexemes (own.comp lexemes)
+  comp_sound : (lexemes : List Lexeme) → IsSound (SaysExpr 2 (suc deep)) lexemes (own.comp lexemes)
   unfolding own
   comp_sound lexemes = over 2 3 (suc deep) (omega arith) (sum_sound lexemes) (λ left good rest.
     once_sound 2 3 deep comp_op deeper.sum are.sum comp_op_is (omega arith) left good rest)
 
-  pub conj_sound : (lexemes : List Lexeme) → IsSound (SaysExpr 1 (suc deep)) lexemes (own.conj lexemes)
+  conj_sound : (lexemes : List Lexeme) → IsSound (SaysExpr 1 (suc deep)) lexemes (own.conj lexemes)
   unfolding own
   conj_sound lexemes = over 1 2 (suc deep) (omega arith) (comp_sound lexemes) (λ left good rest.
     chain_sound 1 2 deep and_op deeper.comp are.comp and_op_is most left (lower 1 2 (suc deep) (omega arith) left good) rest)
 
-  pub expr_sound : (lexemes : List Lexeme) → IsSound (SaysExpr 0 (suc deep)) lexemes (own.expr lexemes)
+  expr_sound : (lexemes : List Lexeme) → IsSound (SaysExpr 0 (suc deep)) lexemes (own.expr lexemes)
   unfolding own
   expr_sound lexemes = over 0 1 (suc deep) (omega arith) (conj_sound lexemes) (λ left good rest.
     chain_sound 0 1 deep or_op deeper.conj are.conj or_op_is most left (lower 0 1 (suc deep) (omega arith) left good) rest)

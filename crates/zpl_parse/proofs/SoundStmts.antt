@@ -53,7 +53,7 @@ way_down_sound lexemes = choose_some (down_of (head_kind lexemes))
     (λ down e. behind_words _ (takes_signed (down_is (head_kind lexemes) down e)) (done (append-nil _, tt)))
 
 -- the arms behind an `if`
-pub behind_if : Arms → List Word
+unfoldable pub behind_if : Arms → List Word
 behind_if NoArm = []
 behind_if (ThenArm first rest) = arm_words first ++ more_arms rest
 
@@ -62,7 +62,7 @@ unfolding behind_if
 if_arms NoArm has = absurd has
 if_arms (ThenArm first rest) has = refl
 
-elsif_arms : (those : Arms) → HasArm those → word.Keyword key.Elsif ∷ behind_if those ≡ more_arms those
+pub elsif_arms : (those : Arms) → HasArm those → word.Keyword key.Elsif ∷ behind_if those ≡ more_arms those
 unfolding behind_if
 elsif_arms NoArm has = absurd has
 elsif_arms (ThenArm first rest) has = refl
