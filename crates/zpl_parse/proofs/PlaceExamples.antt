@@ -1,5 +1,5 @@
 -- Offsets in small trees, and what is no offset.
-use Rattle.std.proofs.Common.{◌≡◌, ℕ, true, false, List, [], ◌∷◌, Option, Some, None, refl, arith}
+use Rattle.std.proofs.Common.{◌≡◌, ℕ, List, [], ◌∷◌, None, refl, arith}
 use Rattle.std.specs.Prelude.{codes}
 use Rattle.zpl_nums.specs.declared.operators.Op.TheVariants as op
 use Rattle.zpl_nums.specs.declared.folds.Fold.TheVariants as fold
@@ -7,7 +7,7 @@ use Rattle.zpl_tokens.specs.declared.keywords.Key.{Key}
 use Rattle.zpl_tokens.specs.declared.symbols.Sym.{Sym}
 use Rattle.zpl_tokens.specs.declared.keywords.Key.TheVariants as key
 use Rattle.zpl_tokens.specs.declared.symbols.Sym.TheVariants as sym
-use Rattle.zpl_tree.specs.Syntax.{Name, Expr, Number, Named, Shifted, Call, Paren, Neg, Pair, Reduce, NoExpr, ThenExpr, NamedDir, Vector, NamedRegion, Rexpr, Dims, NoBracket, Bracketed, NoPost, ThenPost, Blank, Star, One, Span, NoDim, ThenDim, Prefixed, NoStmt, ThenStmt, Return, If, Repeat, Tested, NoArm, ThenArm, NoElse, Integer, RegionDef, VarDef}
+use Rattle.zpl_tree.specs.Syntax.{Name, Named, Shifted, Paren, Pair, Reduce, NoExpr, ThenExpr, Vector, NamedRegion, Rexpr, Dims, NoBracket, Bracketed, NoPost, Blank, One, NoDim, ThenDim, Prefixed, NoStmt, Return, If, Repeat, Tested, NoArm, ThenArm, NoElse, Integer}
 use Rattle.zpl_tree.specs.Word as word
 use Rattle.zpl_parse.specs.Lexeme.{Lexeme, lexeme_at}
 use Rattle.zpl_parse.specs.Places.{ExprAt, InnerAt, StmtAt, RegionsAt, LocalsAt}
