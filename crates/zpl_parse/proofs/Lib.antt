@@ -20,3 +20,4 @@ pub mod AtBase
 pub mod AtExprs
 pub mod AtStmts
 pub mod AtDecls
+mod PlaceExamples

@@ -1,5 +1,5 @@
 -- What a reader took: how one reader's soundness follows from those that it is made of.
-use Rattle.std.proofs.Common.{◌≡◌, ℕ, ◌==◌, Bool, true, false, List, [], ◌∷◌, ◌++◌, Option, Some, None, refl, sym, ap, subst, ◌∙◌, arith, append_assoc, append-nil, get_or}
+use Rattle.std.proofs.Common.{◌≡◌, ℕ, ◌==◌, Bool, true, false, List, [], ◌∷◌, ◌++◌, Option, Some, None, refl, sym, ap, subst, ◌∙◌, get_or}
 use Rattle.std.proofs.lemmas.Bool.{eqb-true}
 use Rattle.zpl_tokens.specs.declared.Kind.{Kind}
 use Rattle.zpl_tokens.specs.declared.Kind.TheVariants as kind
@@ -9,10 +9,10 @@ use Rattle.zpl_tokens.specs.declared.symbols.Sym.{Sym}
 use Rattle.zpl_tokens.specs.declared.symbols.Sym.TheVariants as sym
 use Rattle.zpl_tree.specs.Word.{Word, kind_of}
 use Rattle.zpl_tree.specs.Word as word
-use Rattle.zpl_parse.specs.Lexeme.{Lexeme, head_kind, behind}
-use Rattle.zpl_parse.specs.Outcome.{Outcome, Done, Wrong, Deep, Reader, and_then, made, too_deep}
-use Rattle.zpl_parse.specs.Same.{same, symbol_number, key_number}
-use Rattle.zpl_parse.specs.Tokens.{next_is, taken, expect, symbol, keyword, in_quotes}
+use Rattle.zpl_parse.specs.Lexeme.{Lexeme}
+use Rattle.zpl_parse.specs.Outcome.{Outcome, Done, Wrong, Deep, Reader, and_then, made}
+use Rattle.zpl_parse.specs.Same.{symbol_number, key_number}
+use Rattle.zpl_parse.specs.Tokens.{in_quotes}
 
 -- the word says what a rule keeps of the lexeme's bytes
 abbrev pub ReadsBytes : Word → List ℕ → Type 0
@@ -108,7 +108,7 @@ pub step : {A B : Type 0} {spelling : A → List Word} {Is : A → Type 0} {Says
     IsSound Says lexemes (and_then outcome next)
 step {spelling = spelling} {Is = Is} {Says = Says} {lexemes = lexemes} {outcome = outcome} {next = next} sound so =
     then_says (Spelled spelling Is) Says lexemes outcome next sound (λ tree rest words says.
-      subst (λ (w : List Word). IsSound (λ made more. Says made (w ++ more)) rest (next tree rest)) (sym says.0) (so tree rest says.1))
+    subst (λ (w : List Word). IsSound (λ made more. Says made (w ++ more)) rest (next tree rest)) (sym says.0) (so tree rest says.1))
 
 -- the same words for another tree
 pub made_says : {A B : Type 0} {Says : B → List Word → Type 0} {lexemes : List Lexeme} (f : A → B) {outcome : Outcome A} →

@@ -1,5 +1,5 @@
 -- What the classes of tokens say of the words that stand there.
-use Rattle.std.proofs.Common.{◌≡◌, ℕ, zero, suc, ℤ, pos, int_le, if◌then◌else◌, nat_le, IsTrue, Bool, true, false, List, [], ◌∷◌, ◌++◌, Option, Some, None, refl, sym, ap, subst, ◌∙◌, arith, append_assoc, append-nil}
+use Rattle.std.proofs.Common.{◌≡◌, ℕ, ℤ, pos, int_le, if◌then◌else◌, nat_le, IsTrue, Bool, true, false, List, [], ◌∷◌, ◌++◌, Option, Some, None, refl, subst, append_assoc}
 use Rattle.zpl_nums.specs.declared.operators.Op.{Op}
 use Rattle.zpl_nums.specs.declared.operators.Op.TheVariants as op
 use Rattle.zpl_nums.specs.declared.folds.Fold.{Fold}
@@ -11,7 +11,7 @@ use Rattle.zpl_tokens.specs.declared.keywords.Key.{Key}
 use Rattle.zpl_tokens.specs.declared.keywords.Key.TheVariants as key
 use Rattle.zpl_tokens.specs.declared.symbols.Sym.{Sym}
 use Rattle.zpl_tokens.specs.declared.symbols.Sym.TheVariants as sym
-use Rattle.zpl_tree.specs.Spelling.{symbol, keyword, number, fold_words, index_words, operator_words, pair_words, assign_words, border_words}
+use Rattle.zpl_tree.specs.Spelling.{symbol, keyword, fold_words, index_words, operator_words, pair_words, assign_words, border_words}
 use Rattle.zpl_tree.specs.Grammar.{IsNatural, IsAssigning, own_level, left_level, right_level}
 use Rattle.zpl_tree.specs.Word.{Word, kind_of}
 use Rattle.zpl_tree.specs.Word as word

@@ -1,18 +1,16 @@
 -- Soundness of the rules of expressions, directions and regions.
-use Rattle.std.proofs.Common.{◌≡◌, ℕ, zero, suc, ◌+◌, ◌≤◌, max, ℤ, pos, int_le, if◌then◌else◌, nat_le, IsTrue, Bool, true, false, List, [], ◌∷◌, ◌++◌, Option, Some, None, refl, sym, ap, subst, ◌∙◌, arith, append_assoc, append-nil}
+use Rattle.std.proofs.Common.{◌≡◌, ℕ, zero, suc, ◌≤◌, nat_le, Bool, true, false, List, [], ◌∷◌, ◌++◌, Option, Some, None, refl, sym, ap, subst, ◌∙◌, arith, append_assoc, append-nil}
 use Rattle.std.proofs.lemmas.Bool.{false≢true, leb-true, le-leb}
-use Rattle.std.proofs.lemmas.Bool.Decides.{nat_tests}
 use Rattle.std.specs.List.{flat_map}
 use Rattle.zpl_nums.specs.declared.operators.Op.{Op}
-use Rattle.zpl_nums.specs.declared.operators.Op.TheVariants as op
 use Rattle.zpl_nums.specs.declared.folds.Fold.{Fold}
 use Rattle.zpl_tokens.specs.declared.Kind.{Kind}
 use Rattle.zpl_tokens.specs.declared.Kind.TheVariants as kind
 use Rattle.zpl_tokens.specs.declared.keywords.Key.TheVariants as key
 use Rattle.zpl_tokens.specs.declared.symbols.Sym.TheVariants as sym
-use Rattle.zpl_tree.specs.Syntax.{Name, Pre, RegionBase, NamedRegion, Ditto, Expr, Number, Truth, Coord, Named, Shifted, Call, Paren, Neg, Not, Abs, Pair, Reduce, Scan, Flood, Exprs, NoExpr, ThenExpr, Dir, NamedDir, Vector, Inner, Rexpr, Dims, Bracket, NoBracket, Bracketed, Posts, NoPost, ThenPost, DimText, Blank, Star, One, Span, DimTexts, NoDim, ThenDim}
-use Rattle.zpl_tree.specs.Spelling.{symbol, keyword, number, name_words, pre_words, base_words, along_words, operator_words, pair_words, fold_words, expr_words, exprs_words, more_exprs, dir_words, inner_words, bracket_words, posts_words, dim_words, dims_words, more_dims, in_square}
-use Rattle.zpl_tree.specs.Grammar.{StandsAt, own_level, left_level, right_level, IsNatural, IsAlong, IsExpr, HasExpr, AreExprs, IsDir, IsInner, IsBracket, ArePosts, IsRexpr, IsDim, AreDims, HasDims}
+use Rattle.zpl_tree.specs.Syntax.{Name, Pre, RegionBase, Expr, Number, Truth, Coord, Named, Shifted, Call, Paren, Neg, Not, Abs, Pair, Reduce, Scan, Flood, Exprs, NoExpr, ThenExpr, NamedDir, Vector, Dims, Bracketed, ThenPost, One, Span, DimTexts, NoDim, ThenDim}
+use Rattle.zpl_tree.specs.Spelling.{symbol, number, pre_words, base_words, along_words, operator_words, pair_words, fold_words, expr_words, exprs_words, more_exprs, dir_words, inner_words, bracket_words, posts_words, dim_words, dims_words, more_dims, in_square}
+use Rattle.zpl_tree.specs.Grammar.{StandsAt, IsNatural, IsAlong, IsExpr, HasExpr, AreExprs, IsDir, IsInner, IsBracket, ArePosts, IsRexpr, IsDim, AreDims, HasDims}
 use Rattle.zpl_tree.specs.Depth.{expr_depth, exprs_depth, dir_depth, inner_depth, bracket_depth, posts_depth, dim_depth, dims_depth}
 use Rattle.zpl_tree.specs.Word.{Word, kind_of}
 use Rattle.zpl_tree.specs.Word as word
@@ -20,14 +18,14 @@ use Rattle.zpl_parse.specs.declared.classes.Opening.{Opening}
 use Rattle.zpl_parse.specs.declared.classes.Opening.TheVariants as opening
 use Rattle.zpl_parse.specs.declared.classes.Folding.{Folding}
 use Rattle.zpl_parse.specs.declared.classes.Folding.TheVariants as folding
-use Rattle.zpl_parse.specs.Lexeme.{Lexeme, head_kind, second_kind, head_at, behind}
-use Rattle.zpl_parse.specs.Outcome.{Outcome, Done, Wrong, Deep, Reader, and_then, made, too_deep}
+use Rattle.zpl_parse.specs.Lexeme.{Lexeme, head_kind, second_kind, behind}
+use Rattle.zpl_parse.specs.Outcome.{Outcome, Done, Wrong, Deep, Reader, and_then, too_deep}
 use Rattle.zpl_parse.specs.Classes.{or_op, and_op, comp_op, sum_op, term_op, opening_of, begins_expr, folding_of, outside_of, stride_of, closes_region, closes_dim, follows_region}
-use Rattle.zpl_parse.specs.Tokens.{next_is, expect, name, natural, natural_of}
-use Rattle.zpl_parse.specs.Expressions.{at_of, exprs, actuals, components, dir, posts, region_base, rexpr, bounds, dim_text, dim_texts, begins_region, inner, in_bracket, bracket, along, Levels, behind_name, inside, both, folded, unary_by, unary_over, chain, once, levels_over, no_expr, no_levels, levels}
-use Rattle.zpl_parse.proofs.SoundBase.{Reads, Takes, nothing, one, Past, here, further, past_then, IsSound, Spelled, done, wrong, behind_words, weaken, step, step_says, finish, choose, choose_some}
-use Rattle.zpl_parse.proofs.SoundTokens.{takes_one, at_sign, expect_sound, sign, last_sign, name_sound, takes_head, takes_next}
-use Rattle.zpl_parse.proofs.SoundClasses.{IsOneSign, IsOperator, or_op_is, and_op_is, comp_op_is, sum_op_is, term_op_is, IsOpening, opening_is, IsFolding, folding_is, outside_is, stride_is}
+use Rattle.zpl_parse.specs.Tokens.{next_is, natural, natural_of}
+use Rattle.zpl_parse.specs.Expressions.{at_of, exprs, actuals, components, dir, posts, region_base, rexpr, bounds, dim_text, dim_texts, begins_region, inner, in_bracket, bracket, along, Levels, behind_name, inside, folded, unary_by, unary_over, chain, once, levels_over, no_expr, levels}
+use Rattle.zpl_parse.proofs.SoundBase.{Takes, nothing, one, here, further, past_then, IsSound, Spelled, done, wrong, behind_words, weaken, step, step_says, finish, choose, choose_some}
+use Rattle.zpl_parse.proofs.SoundTokens.{takes_one, at_sign, sign, last_sign, name_sound, takes_head, takes_next}
+use Rattle.zpl_parse.proofs.SoundClasses.{IsOneSign, IsOperator, or_op_is, and_op_is, comp_op_is, sum_op_is, term_op_is, IsOpening, opening_is, folding_is, outside_is, stride_is}
 
 -- a tree of the grammar that is no deeper than a number
 pub record IsGood {A : Type 0} (Is : A → Type 0) (depth_of : A → ℕ) (d : ℕ) (tree : A) : Type 0 where
@@ -77,9 +75,9 @@ region_base_sound zero lexemes = wrong
 region_base_sound (suc most) lexemes = at_sign word.Ditto tt lexemes
     (done (refl, tt))
     (step (name_sound lexemes) (λ first rest fact. choose_some (outside_of (head_kind rest))
-      (λ e. done (refl, tt))
-      (λ outside e. behind_words _ (takes_signed (outside_is (head_kind rest) outside e))
-        (finish _ (region_base_sound most (behind rest)) (λ others fact. (simp append_assoc, tt))))))
+    (λ e. done (refl, tt))
+    (λ outside e. behind_words _ (takes_signed (outside_is (head_kind rest) outside e))
+    (finish _ (region_base_sound most (behind rest)) (λ others fact. (simp append_assoc, tt))))))
 
 -- a lone name closes as a region expression does
 takes_name : {lexemes rest : List Lexeme} {words : List Word} (text : List ℕ) → Takes lexemes words rest → words ≡ word.Name text ∷ [] →
@@ -116,8 +114,16 @@ closed_dims : (d : ℕ) (lexemes : List Lexeme) (outcome : Outcome DimTexts) →
     begins_region (head_kind lexemes) (second_kind lexemes) ≡ false →
     IsSound (Spelled inner_words (IsGood IsInner inner_depth d)) lexemes (and_then outcome (λ dims rest. elim (closes_region (head_kind rest)) [ true ↦ Done (Dims dims) rest | false ↦ Wrong rest ]))
 closed_dims d lexemes (Done dims rest) sound other = choose (closes_region (head_kind rest))
-    (λ closes. record { tells = (sound.tells.0, sound.tells.1, (sound.tells.2.0,
-      record { is = (has_dims dims sound.tells.2.1.is.0 sound.tells.1 sound.tells.2.0 closes other, sound.tells.2.1.is.1); depth = sound.tells.2.1.depth })) })
+    (λ closes. record {
+      tells = (
+        sound.tells.0,
+        sound.tells.1,
+        (
+          sound.tells.2.0,
+          record { is = (has_dims dims sound.tells.2.1.is.0 sound.tells.1 sound.tells.2.0 closes other, sound.tells.2.1.is.1); depth = sound.tells.2.1.depth },
+        ),
+      );
+    })
     (λ open_. record { tells = past_then sound.tells.1 here })
 closed_dims d lexemes (Wrong rest) sound other = record { tells = sound.tells }
 closed_dims d lexemes (Deep rest) sound other = record { tells = sound.tells }
@@ -127,75 +133,75 @@ module _ (d : ℕ) (expr : Reader Expr) (sound : (lexemes : List Lexeme) → IsS
   pub exprs_sound : (most : ℕ) (lexemes : List Lexeme) → IsSound (Spelled exprs_words (IsGood AreSomeExprs exprs_depth d)) lexemes (exprs most expr lexemes)
   exprs_sound zero lexemes = wrong
   exprs_sound (suc most) lexemes = step (sound lexemes) (λ first rest good.
-    at_sign (word.Symbol sym.Comma) tt rest
-    (finish (ThenExpr first) (exprs_sound most (behind rest)) (λ others more.
+      at_sign (word.Symbol sym.Comma) tt rest
+      (finish (ThenExpr first) (exprs_sound most (behind rest)) (λ others more.
       (ap (λ w. expr_words first ++ w) (more_exprs_are others more.is.0), record { is = (tt, (good.is, more.is.1)); depth = omega arith })))
-    (done (refl, record { is = (tt, (good.is, tt)); depth = omega arith })))
+      (done (refl, record { is = (tt, (good.is, tt)); depth = omega arith })))
 
   pub actuals_sound : (most : ℕ) (lexemes : List Lexeme) →
-    IsSound (Spelled (λ those. exprs_words those ++ symbol sym.CloseParen) (IsGood AreExprs exprs_depth d)) lexemes (actuals most expr lexemes)
+      IsSound (Spelled (λ those. exprs_words those ++ symbol sym.CloseParen) (IsGood AreExprs exprs_depth d)) lexemes (actuals most expr lexemes)
   actuals_sound most lexemes = at_sign (word.Symbol sym.CloseParen) tt lexemes
-    (done (refl, record { is = tt; depth = omega arith }))
-    (step (exprs_sound most lexemes) (λ those rest good. last_sign (word.Symbol sym.CloseParen) tt those (refl, record { is = good.is.1; depth = good.depth })))
+      (done (refl, record { is = tt; depth = omega arith }))
+      (step (exprs_sound most lexemes) (λ those rest good. last_sign (word.Symbol sym.CloseParen) tt those (refl, record { is = good.is.1; depth = good.depth })))
 
   pub components_sound : (most : ℕ) (lexemes : List Lexeme) →
-    IsSound (Spelled (λ those. exprs_words those ++ symbol sym.CloseBracket) (IsGood AreSomeExprs exprs_depth d)) lexemes (components most expr lexemes)
+      IsSound (Spelled (λ those. exprs_words those ++ symbol sym.CloseBracket) (IsGood AreSomeExprs exprs_depth d)) lexemes (components most expr lexemes)
   components_sound most lexemes = step (exprs_sound most lexemes) (λ those rest good. last_sign (word.Symbol sym.CloseBracket) tt those (refl, good))
 
   pub dir_sound : (most : ℕ) (lexemes : List Lexeme) → IsSound (Spelled dir_words (IsGood IsDir dir_depth d)) lexemes (dir most expr lexemes)
   dir_sound most lexemes = at_sign (word.Symbol sym.OpenBracket) tt lexemes
-    (finish Vector (components_sound most (behind lexemes)) (λ parts good. (refl, record { is = good.is; depth = good.depth })))
-    (finish NamedDir (name_sound lexemes) (λ called fact. (refl, record { is = tt; depth = omega arith })))
+      (finish Vector (components_sound most (behind lexemes)) (λ parts good. (refl, record { is = good.is; depth = good.depth })))
+      (finish NamedDir (name_sound lexemes) (λ called fact. (refl, record { is = tt; depth = omega arith })))
 
   pub posts_sound : (most : ℕ) (lexemes : List Lexeme) → IsSound (Spelled posts_words (IsGood ArePosts posts_depth d)) lexemes (posts most expr lexemes)
   posts_sound zero lexemes = wrong
   posts_sound (suc most) lexemes = choose_some (stride_of (head_kind lexemes))
-    (λ e. done (refl, record { is = tt; depth = omega arith }))
-    (λ stride e. behind_words _ (takes_signed (stride_is (head_kind lexemes) stride e))
+      (λ e. done (refl, record { is = tt; depth = omega arith }))
+      (λ stride e. behind_words _ (takes_signed (stride_is (head_kind lexemes) stride e))
       (step (dir_sound most (behind lexemes)) (λ way rest good.
-        finish (ThenPost stride way) (posts_sound most rest) (λ others more. (simp append_assoc, record { is = (good.is, more.is); depth = omega arith })))))
+      finish (ThenPost stride way) (posts_sound most rest) (λ others more. (simp append_assoc, record { is = (good.is, more.is); depth = omega arith })))))
 
   pub bounds_sound : (lexemes : List Lexeme) → IsSound (Spelled dim_words (IsGood IsDim dim_depth d)) lexemes (bounds expr lexemes)
   bounds_sound lexemes = step (sound lexemes) (λ low rest good.
-    at_sign (word.Symbol sym.DotDot) tt rest
-    (finish (Span low) (sound (behind rest)) (λ high more. (simp append_assoc, record { is = (good.is, more.is); depth = omega arith })))
-    (done (append-nil (expr_words low), record { is = good.is; depth = good.depth })))
+      at_sign (word.Symbol sym.DotDot) tt rest
+      (finish (Span low) (sound (behind rest)) (λ high more. (simp append_assoc, record { is = (good.is, more.is); depth = omega arith })))
+      (done (append-nil (expr_words low), record { is = good.is; depth = good.depth })))
 
   pub dim_text_sound : (lexemes : List Lexeme) → IsSound (Spelled dim_words (IsGood IsDim dim_depth d)) lexemes (dim_text expr lexemes)
   dim_text_sound lexemes = choose (closes_dim (head_kind lexemes))
-    (λ closes. done (refl, record { is = tt; depth = omega arith }))
-    (λ goes. choose (next_is (kind.Symbol sym.Star) lexemes)
+      (λ closes. done (refl, record { is = tt; depth = omega arith }))
+      (λ goes. choose (next_is (kind.Symbol sym.Star) lexemes)
       (λ star. choose (closes_dim (second_kind lexemes))
-        (λ closes. behind_words _ (takes_next (word.Symbol sym.Star) tt lexemes star) (done (refl, record { is = tt; depth = omega arith })))
-        (λ other. bounds_sound lexemes))
+      (λ closes. behind_words _ (takes_next (word.Symbol sym.Star) tt lexemes star) (done (refl, record { is = tt; depth = omega arith })))
+      (λ other. bounds_sound lexemes))
       (λ other. bounds_sound lexemes))
 
   pub dim_texts_sound : (most : ℕ) (lexemes : List Lexeme) → IsSound (Spelled dims_words (IsGood (λ dims. HasDim dims × AreDims dims) dims_depth d)) lexemes (dim_texts most expr lexemes)
   dim_texts_sound zero lexemes = wrong
   dim_texts_sound (suc most) lexemes = step (dim_text_sound lexemes) (λ first rest good.
-    at_sign (word.Symbol sym.Comma) tt rest
-    (finish (ThenDim first) (dim_texts_sound most (behind rest)) (λ others more.
+      at_sign (word.Symbol sym.Comma) tt rest
+      (finish (ThenDim first) (dim_texts_sound most (behind rest)) (λ others more.
       (ap (λ w. dim_words first ++ w) (more_dims_are others more.is.0), record { is = (tt, (good.is, more.is.1)); depth = omega arith })))
-    (done (refl, record { is = (tt, (good.is, tt)); depth = omega arith })))
+      (done (refl, record { is = (tt, (good.is, tt)); depth = omega arith })))
 
   pub rexpr_sound : (most : ℕ) (lexemes : List Lexeme) → IsSound (Spelled inner_words (IsGood (λ inner. IsInner inner × IsRexpr inner) inner_depth d)) lexemes (rexpr most expr lexemes)
   rexpr_sound most lexemes = step (region_base_sound most lexemes) (λ base rest fact.
-    finish _ (posts_sound most rest) (λ those good. (refl, record { is = (good.is, tt); depth = good.depth })))
+      finish _ (posts_sound most rest) (λ those good. (refl, record { is = (good.is, tt); depth = good.depth })))
 
   pub inner_sound : (most : ℕ) (lexemes : List Lexeme) → IsSound (Spelled inner_words (IsGood IsInner inner_depth d)) lexemes (inner most expr lexemes)
   inner_sound most lexemes = choose (begins_region (head_kind lexemes) (second_kind lexemes))
-    (λ begins. weaken (rexpr_sound most lexemes) (λ tree words says. (says.0, record { is = says.1.is.0; depth = says.1.depth })))
-    (λ other. closed_dims d lexemes (dim_texts most expr lexemes) (dim_texts_sound most lexemes) other)
+      (λ begins. weaken (rexpr_sound most lexemes) (λ tree words says. (says.0, record { is = says.1.is.0; depth = says.1.depth })))
+      (λ other. closed_dims d lexemes (dim_texts most expr lexemes) (dim_texts_sound most lexemes) other)
 
   pub in_bracket_sound : (most : ℕ) (lexemes : List Lexeme) →
-    IsSound (Spelled (λ inner. in_square (inner_words inner)) (IsGood IsInner inner_depth d)) lexemes (in_bracket most expr lexemes)
+      IsSound (Spelled (λ inner. in_square (inner_words inner)) (IsGood IsInner inner_depth d)) lexemes (in_bracket most expr lexemes)
   in_bracket_sound most lexemes = sign (word.Symbol sym.OpenBracket) tt (λ at rest.
-    step (inner_sound most rest) (λ region after good. last_sign (word.Symbol sym.CloseBracket) tt region (refl, good)))
+      step (inner_sound most rest) (λ region after good. last_sign (word.Symbol sym.CloseBracket) tt region (refl, good)))
 
   pub bracket_sound : (most : ℕ) (lexemes : List Lexeme) → IsSound (Spelled bracket_words (IsGood IsBracket bracket_depth d)) lexemes (bracket most expr lexemes)
   bracket_sound most lexemes = choose (next_is (kind.Symbol sym.OpenBracket) lexemes)
-    (λ begins. finish Bracketed (in_bracket_sound most lexemes) (λ inner good. (refl, record { is = good.is; depth = good.depth })))
-    (λ other. done (refl, record { is = tt; depth = omega arith }))
+      (λ begins. finish Bracketed (in_bracket_sound most lexemes) (λ inner good. (refl, record { is = good.is; depth = good.depth })))
+      (λ other. done (refl, record { is = tt; depth = omega arith }))
 
 -- the rules of expressions that are no deeper than a number
 pub record AreSound (d : ℕ) (rules : Levels) : Type 0 where
@@ -210,8 +216,8 @@ pub record AreSound (d : ℕ) (rules : Levels) : Type 0 where
 module _ (most deep : ℕ) (deeper : Levels) (are : AreSound deep deeper) where
   pub behind_name_sound : (first : Name) (lexemes : List Lexeme) → IsSound (λ tree more. SaysExpr 5 (suc deep) tree (word.Name first.text ∷ more)) lexemes (behind_name most deeper first lexemes)
   behind_name_sound first lexemes = at_sign (word.Symbol sym.At) tt lexemes
-    (finish (Shifted first.at first) (dir_sound deep deeper.expr are.expr most (behind lexemes)) (λ shift good. (refl, record { is = good.is; depth = omega arith })))
-    (at_sign (word.Symbol sym.OpenParen) tt lexemes
+      (finish (Shifted first.at first) (dir_sound deep deeper.expr are.expr most (behind lexemes)) (λ shift good. (refl, record { is = good.is; depth = omega arith })))
+      (at_sign (word.Symbol sym.OpenParen) tt lexemes
       (finish (Call first.at first) (actuals_sound deep deeper.expr are.expr most (behind lexemes)) (λ those good. (refl, record { is = good.is; depth = omega arith })))
       (done (refl, record { is = tt; depth = omega arith })))
 
@@ -219,22 +225,24 @@ module _ (most deep : ℕ) (deeper : Levels) (are : AreSound deep deeper) where
   inside_sound lexemes = step (are.expr lexemes) (λ value rest good. last_sign (word.Symbol sym.CloseParen) tt value (refl, good))
 
   pub folded_sound : (at : ℕ) (operator : Fold) (lexemes : List Lexeme) (f : Option Folding) → folding_of operator (head_kind lexemes) ≡ f →
-    IsSound (λ tree more. SaysExpr 5 (suc deep) tree (fold_words operator ++ more)) lexemes (folded most at operator deeper f lexemes)
+      IsSound (λ tree more. SaysExpr 5 (suc deep) tree (fold_words operator ++ more)) lexemes (folded most at operator deeper f lexemes)
   folded_sound at operator lexemes (Some folding.Reduce) e = behind_words _ (takes_head (word.Symbol sym.Reduce) tt lexemes (folding_is operator (head_kind lexemes) folding.Reduce e))
-    (step (bracket_sound deep deeper.expr are.expr most (behind lexemes)) (λ over rest good.
+      (step (bracket_sound deep deeper.expr are.expr most (behind lexemes)) (λ over rest good.
       finish (Reduce at operator over) (are.unary rest) (λ operand more. (simp append_assoc, record { is = (refl, good.is, more.is); depth = omega arith }))))
   folded_sound at operator lexemes (Some folding.Scan) e = behind_words _ (takes_head (word.Symbol sym.Scan) tt lexemes (folding_is operator (head_kind lexemes) folding.Scan e))
-    (step (along_sound (behind lexemes)) (λ dimension rest is.
+      (step (along_sound (behind lexemes)) (λ dimension rest is.
       finish (Scan at operator dimension) (are.unary rest) (λ operand more. (simp append_assoc, record { is = (refl, is, more.is); depth = omega arith }))))
   folded_sound at operator lexemes (Some (folding.Pair o)) e =
       let is = folding_is operator (head_kind lexemes) (folding.Pair o) e in
       behind_words _ (takes_head (word.Symbol sym.OpenParen) tt lexemes is.0)
       (step (are.expr (behind lexemes)) (λ left rest good. sign (word.Symbol sym.Comma) tt (λ comma after.
-        finish (Pair at o left) (inside_sound after) (λ right more.
-          (sym (is.4 (expr_words left) (expr_words right)), record {
-            is = (subst (λ (n : ℕ). StandsAt 5 n) (sym is.1) refl, subst (λ (n : ℕ). IsExpr n left) (sym is.2) good.is, subst (λ (n : ℕ). IsExpr n right) (sym is.3) more.is);
-            depth = omega arith;
-          })))))
+      finish (Pair at o left) (inside_sound after) (λ right more. (
+        sym (is.4 (expr_words left) (expr_words right)),
+        record {
+          is = (subst (λ (n : ℕ). StandsAt 5 n) (sym is.1) refl, subst (λ (n : ℕ). IsExpr n left) (sym is.2) good.is, subst (λ (n : ℕ). IsExpr n right) (sym is.3) more.is);
+          depth = omega arith;
+        },
+      )))))
   folded_sound at operator lexemes None e = wrong
 
   pub opened_sound : (first : Lexeme) (rest : List Lexeme) (o : Opening) → IsOpening first.kind o → IsSound (SaysExpr 5 (suc deep)) (first ∷ rest) (unary_by most deeper (Some o) first rest)
@@ -242,18 +250,18 @@ module _ (most deep : ℕ) (deeper : Levels) (are : AreSound deep deeper) where
   opened_sound first rest (opening.Truth value) is = behind_words _ (takes_signed is) (done (append-nil _, record { is = tt; depth = omega arith }))
   opened_sound first rest (opening.Coord dimension) is = behind_words _ (takes_signed is.0) (done (append-nil _, record { is = (is.1, is.2); depth = omega arith }))
   opened_sound first rest opening.Name is = behind_words _ (takes_one (word.Name first.bytes) (record { kind = is; bytes = refl }) tt)
-    (behind_name_sound (record { text = first.bytes; at = first.at }) rest)
+      (behind_name_sound (record { text = first.bytes; at = first.at }) rest)
   opened_sound first rest opening.Paren is = behind_words _ (takes_head (word.Symbol sym.OpenParen) tt (first ∷ rest) is)
-    (finish (Paren first.at) (inside_sound rest) (λ value good. (refl, record { is = good.is; depth = omega arith })))
+      (finish (Paren first.at) (inside_sound rest) (λ value good. (refl, record { is = good.is; depth = omega arith })))
   opened_sound first rest opening.Minus is = behind_words _ (takes_head (word.Symbol sym.Minus) tt (first ∷ rest) is)
-    (finish (Neg first.at) (are.unary rest) (λ value good. (refl, record { is = (refl, good.is); depth = omega arith })))
+      (finish (Neg first.at) (are.unary rest) (λ value good. (refl, record { is = (refl, good.is); depth = omega arith })))
   opened_sound first rest opening.Not is = behind_words _ (takes_head (word.Symbol sym.Not) tt (first ∷ rest) is)
-    (finish (Not first.at) (are.unary rest) (λ value good. (refl, record { is = (refl, good.is); depth = omega arith })))
+      (finish (Not first.at) (are.unary rest) (λ value good. (refl, record { is = (refl, good.is); depth = omega arith })))
   opened_sound first rest opening.Abs is = behind_words _ (takes_head (word.Keyword key.Abs) tt (first ∷ rest) is)
-    (sign (word.Symbol sym.OpenParen) tt (λ at after. finish (Abs first.at) (inside_sound after) (λ value good. (refl, record { is = good.is; depth = omega arith }))))
+      (sign (word.Symbol sym.OpenParen) tt (λ at after. finish (Abs first.at) (inside_sound after) (λ value good. (refl, record { is = good.is; depth = omega arith }))))
   opened_sound first rest (opening.Fold operator) is = behind_words _ (takes_signed is) (folded_sound first.at operator rest (folding_of operator (head_kind rest)) refl)
   opened_sound first rest opening.Flood is = behind_words _ (takes_head (word.Symbol sym.Flood) tt (first ∷ rest) is)
-    (step (in_bracket_sound deep deeper.expr are.expr most rest) (λ source after good.
+      (step (in_bracket_sound deep deeper.expr are.expr most rest) (λ source after good.
       finish (Flood first.at source) (are.unary after) (λ operand more. (simp append_assoc, record { is = (refl, good.is, more.is); depth = omega arith }))))
 
   pub unary_by_sound : (first : Lexeme) (rest : List Lexeme) (o : Option Opening) → opening_of first.kind ≡ o → IsSound (SaysExpr 5 (suc deep)) (first ∷ rest) (unary_by most deeper o first rest)
@@ -309,33 +317,34 @@ pub regroup : (a o b w : List Word) → a ++ (o ++ (b ++ w)) ≡ (a ++ o ++ b) +
 regroup a o b w = simp append_assoc
 
 module _ (own right_own deep : ℕ) (op_of : Kind → Option Op) (operand : Reader Expr)
-  (sound : (lexemes : List Lexeme) → IsSound (SaysExpr right_own deep) lexemes (operand lexemes)) where
+    (sound : (lexemes : List Lexeme) → IsSound (SaysExpr right_own deep) lexemes (operand lexemes)) where
   pub chain_sound : ((k : Kind) (o : Op) → op_of k ≡ Some o → IsOperator own own right_own k o) → (most : ℕ) (left : Expr) → IsGood (IsExpr own) expr_depth (suc deep) left → (lexemes : List Lexeme) →
       IsSound (SaysOn own (suc deep) left) lexemes (chain most deep op_of operand left lexemes)
   chain_sound is zero left good lexemes = wrong
   chain_sound is (suc most) left good lexemes = choose_some (op_of (head_kind lexemes))
-    (λ e. done (append-nil (expr_words left), good))
-    (λ o e. choose (nat_le (expr_depth left) deep)
+      (λ e. done (append-nil (expr_words left), good))
+      (λ o e. choose (nat_le (expr_depth left) deep)
       (λ fits. behind_words _ (takes_signed (is (head_kind lexemes) o e).sign)
-        (step (sound (behind lexemes)) (λ right rest more.
-          weaken (chain_sound is most (Pair (at_of left) o left right)
-            (pair_good own own right_own deep (at_of left) (head_kind lexemes) o (is (head_kind lexemes) o e) left right good.is (leb-true (expr_depth left) deep fits) more) rest)
-            (λ tree words says.
-              (regroup (expr_words left) (operator_words o) (expr_words right) words ∙ (ap (λ w. w ++ words) (sym ((is (head_kind lexemes) o e).between (expr_words left) (expr_words right))) ∙ says.0), says.1)))))
+      (step (sound (behind lexemes)) (λ right rest more.
+      weaken (chain_sound is most (Pair (at_of left) o left right)
+      (pair_good own own right_own deep (at_of left) (head_kind lexemes) o (is (head_kind lexemes) o e) left right good.is (leb-true (expr_depth left) deep fits) more) rest)
+      (λ tree words says.
+      (regroup (expr_words left) (operator_words o) (expr_words right) words ∙ (ap (λ w. w ++ words) (sym ((is (head_kind lexemes) o e).between (expr_words left) (expr_words right))) ∙ says.0), says.1)))))
       (λ deep_. record { tells = past_then (takes_signed (is (head_kind lexemes) o e).sign) here }))
 
 module _ (own operand_own deep : ℕ) (op_of : Kind → Option Op) (operand : Reader Expr)
-  (sound : (lexemes : List Lexeme) → IsSound (SaysExpr operand_own deep) lexemes (operand lexemes)) where
+    (sound : (lexemes : List Lexeme) → IsSound (SaysExpr operand_own deep) lexemes (operand lexemes)) where
   pub once_sound : ((k : Kind) (o : Op) → op_of k ≡ Some o → IsOperator own operand_own operand_own k o) → own ≤ operand_own → (left : Expr) →
       IsGood (IsExpr operand_own) expr_depth (suc deep) left → (lexemes : List Lexeme) →
       IsSound (SaysOn own (suc deep) left) lexemes (once deep op_of operand left lexemes)
   once_sound is below left good lexemes = choose_some (op_of (head_kind lexemes))
-    (λ e. done (append-nil (expr_words left), lower own operand_own (suc deep) below left good))
-    (λ o e. choose (nat_le (expr_depth left) deep)
+      (λ e. done (append-nil (expr_words left), lower own operand_own (suc deep) below left good))
+      (λ o e. choose (nat_le (expr_depth left) deep)
       (λ fits. behind_words _ (takes_signed (is (head_kind lexemes) o e).sign)
-        (finish (Pair (at_of left) o left) (sound (behind lexemes)) (λ right more.
-          (between_regroup left right o (is (head_kind lexemes) o e).between,
-            pair_good own operand_own operand_own deep (at_of left) (head_kind lexemes) o (is (head_kind lexemes) o e) left right good.is (leb-true (expr_depth left) deep fits) more))))
+      (finish (Pair (at_of left) o left) (sound (behind lexemes)) (λ right more. (
+        between_regroup left right o (is (head_kind lexemes) o e).between,
+        pair_good own operand_own operand_own deep (at_of left) (head_kind lexemes) o (is (head_kind lexemes) o e) left right good.is (leb-true (expr_depth left) deep fits) more,
+      ))))
       (λ deep_. record { tells = past_then (takes_signed (is (head_kind lexemes) o e).sign) here }))
 
 -- a rule that goes on from a tighter one
@@ -345,33 +354,33 @@ over : (wanted own d : ℕ) → wanted ≤ own → {outcome : Outcome Expr} {nex
 over wanted own d below sound so = step sound (λ left rest good. weaken (so left good rest) (λ tree words says. (says.0, says.1)))
 
 module _ (most deep : ℕ) (unary : Reader Expr) (deeper : Levels) (sound : (lexemes : List Lexeme) → IsSound (SaysExpr 5 (suc deep)) lexemes (unary lexemes)) (are : AreSound deep deeper) where
-  pub own : Levels
+  own : Levels
   own = levels_over most deep unary deeper
 
-  pub term_sound : (lexemes : List Lexeme) → IsSound (SaysExpr 4 (suc deep)) lexemes (own.term lexemes)
+  term_sound : (lexemes : List Lexeme) → IsSound (SaysExpr 4 (suc deep)) lexemes (own.term lexemes)
   unfolding own
   term_sound lexemes = over 4 5 (suc deep) (omega arith) (sound lexemes) (λ left good rest.
-    chain_sound 4 5 deep term_op deeper.unary are.unary term_op_is most left (lower 4 5 (suc deep) (omega arith) left good) rest)
+      chain_sound 4 5 deep term_op deeper.unary are.unary term_op_is most left (lower 4 5 (suc deep) (omega arith) left good) rest)
 
-  pub sum_sound : (lexemes : List Lexeme) → IsSound (SaysExpr 3 (suc deep)) lexemes (own.sum lexemes)
+  sum_sound : (lexemes : List Lexeme) → IsSound (SaysExpr 3 (suc deep)) lexemes (own.sum lexemes)
   unfolding own
   sum_sound lexemes = over 3 4 (suc deep) (omega arith) (term_sound lexemes) (λ left good rest.
-    chain_sound 3 4 deep sum_op deeper.term are.term sum_op_is most left (lower 3 4 (suc deep) (omega arith) left good) rest)
+      chain_sound 3 4 deep sum_op deeper.term are.term sum_op_is most left (lower 3 4 (suc deep) (omega arith) left good) rest)
 
-  pub comp_sound : (lexemes : List Lexeme) → IsSound (SaysExpr 2 (suc deep)) lexemes (own.comp lexemes)
+  comp_sound : (lexemes : List Lexeme) → IsSound (SaysExpr 2 (suc deep)) lexemes (own.comp lexemes)
   unfolding own
   comp_sound lexemes = over 2 3 (suc deep) (omega arith) (sum_sound lexemes) (λ left good rest.
-    once_sound 2 3 deep comp_op deeper.sum are.sum comp_op_is (omega arith) left good rest)
+      once_sound 2 3 deep comp_op deeper.sum are.sum comp_op_is (omega arith) left good rest)
 
-  pub conj_sound : (lexemes : List Lexeme) → IsSound (SaysExpr 1 (suc deep)) lexemes (own.conj lexemes)
+  conj_sound : (lexemes : List Lexeme) → IsSound (SaysExpr 1 (suc deep)) lexemes (own.conj lexemes)
   unfolding own
   conj_sound lexemes = over 1 2 (suc deep) (omega arith) (comp_sound lexemes) (λ left good rest.
-    chain_sound 1 2 deep and_op deeper.comp are.comp and_op_is most left (lower 1 2 (suc deep) (omega arith) left good) rest)
+      chain_sound 1 2 deep and_op deeper.comp are.comp and_op_is most left (lower 1 2 (suc deep) (omega arith) left good) rest)
 
-  pub expr_sound : (lexemes : List Lexeme) → IsSound (SaysExpr 0 (suc deep)) lexemes (own.expr lexemes)
+  expr_sound : (lexemes : List Lexeme) → IsSound (SaysExpr 0 (suc deep)) lexemes (own.expr lexemes)
   unfolding own
   expr_sound lexemes = over 0 1 (suc deep) (omega arith) (conj_sound lexemes) (λ left good rest.
-    chain_sound 0 1 deep or_op deeper.conj are.conj or_op_is most left (lower 0 1 (suc deep) (omega arith) left good) rest)
+      chain_sound 0 1 deep or_op deeper.conj are.conj or_op_is most left (lower 0 1 (suc deep) (omega arith) left good) rest)
 
   pub levels_over_sound : AreSound (suc deep) (levels_over most deep unary deeper)
   unfolding own

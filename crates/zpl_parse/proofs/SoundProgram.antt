@@ -1,5 +1,5 @@
 -- What a whole program's rule makes of the tokens of a text is a tree of the text.
-use Rattle.std.proofs.Common.{◌≡◌, ℕ, zero, suc, ◌≤◌, List, [], ◌∷◌, ◌++◌, length, map, refl, sym, ap, subst, ◌∙◌, arith, append_assoc, append-nil}
+use Rattle.std.proofs.Common.{◌≡◌, ℕ, List, [], ◌∷◌, ◌++◌, refl, sym, ap, subst, ◌∙◌, append-nil}
 use Rattle.std.specs.List.{AllByRecursion}
 use Rattle.zpl_tokens.specs.declared.Kind.{Kind}
 use Rattle.zpl_tokens.specs.declared.Kind.TheVariants as kind
@@ -8,14 +8,13 @@ use Rattle.zpl_text.specs.Bytes.{quote}
 use Rattle.zpl_text.specs.Kinds.{IsToken}
 use Rattle.zpl_text.specs.Cutting.{MayStand}
 use Rattle.zpl_text.specs.Spans.{AreSpans, IsSpan}
-use Rattle.zpl_text.specs.Tokens.{Place, Takes as CutsOff, Cuts, nothing as no_cut, token as one_cut, end_of, IsTokens}
+use Rattle.zpl_text.specs.Tokens.{Place, Cuts, nothing as no_cut, token as one_cut, end_of, IsTokens}
 use Rattle.zpl_tree.specs.Syntax.{Program}
 use Rattle.zpl_tree.specs.Word.{Word, kind_of, word_text}
 use Rattle.zpl_tree.specs.Word as word
 use Rattle.zpl_grammar.specs.Written.{token_text, HasBytes, IsWord, AreWords}
 use Rattle.zpl_parse.specs.Lexeme.{Lexeme, lexeme_of, lexemes_of}
-use Rattle.zpl_parse.specs.Written.{IsLexeme, AreLexemes}
-use Rattle.zpl_parse.specs.Outcome.{Outcome, Done, Wrong, Deep}
+use Rattle.zpl_parse.specs.Outcome.{Done, Wrong, Deep}
 use Rattle.zpl_parse.specs.Tokens.{without_last, in_quotes}
 use Rattle.zpl_parse.specs.Declarations.{program}
 use Rattle.zpl_parse.specs.Claims.{IsTree}

@@ -1,5 +1,5 @@
 -- Soundness of the rules of single tokens.
-use Rattle.std.proofs.Common.{◌≡◌, ℕ, zero, suc, ℤ, ◌==◌, Bool, true, false, List, [], ◌∷◌, ◌++◌, Option, Some, None, refl, sym, ap, subst, ◌∙◌, arith, append_assoc, append-nil}
+use Rattle.std.proofs.Common.{◌≡◌, ℕ, zero, suc, Bool, true, false, List, [], ◌∷◌, ◌++◌, refl, sym, ap, append_assoc}
 use Rattle.std.proofs.lemmas.Bool.{false≢true}
 use Rattle.zpl_tokens.specs.declared.Kind.{Kind}
 use Rattle.zpl_tokens.specs.declared.Kind.TheVariants as kind
@@ -7,16 +7,15 @@ use Rattle.zpl_tokens.specs.declared.keywords.Key.{Key}
 use Rattle.zpl_tokens.specs.declared.keywords.Key.TheVariants as key
 use Rattle.zpl_tokens.specs.declared.symbols.Sym.{Sym}
 use Rattle.zpl_tokens.specs.declared.symbols.Sym.TheVariants as sym
-use Rattle.zpl_tree.specs.Syntax.{Name}
 use Rattle.zpl_tree.specs.Spelling.{name_words, names_words, end_words, each_after, separated}
 use Rattle.zpl_tree.specs.Grammar.{HasAny}
 use Rattle.zpl_tree.specs.Word.{Word, kind_of}
 use Rattle.zpl_tree.specs.Word as word
 use Rattle.zpl_parse.specs.Lexeme.{Lexeme, head_kind, behind}
-use Rattle.zpl_parse.specs.Outcome.{Outcome, Done, Wrong, Deep, Reader, and_then, made, too_deep}
-use Rattle.zpl_parse.specs.Same.{same, symbol_number, key_number}
+use Rattle.zpl_parse.specs.Outcome.{Outcome, Reader, and_then, made}
+use Rattle.zpl_parse.specs.Same.{same}
 use Rattle.zpl_parse.specs.Tokens.{next_is, taken, expect, name, name_of_kind, names, closing, string_of, in_quotes}
-use Rattle.zpl_parse.proofs.SoundBase.{Reads, IsNoEnd, Takes, nothing, one, Past, here, further, IsSound, Spelled, done, wrong, behind_words, weaken, step, finish, choose, same_symbol, same_keyword}
+use Rattle.zpl_parse.proofs.SoundBase.{Reads, IsNoEnd, Takes, nothing, one, here, IsSound, Spelled, done, wrong, behind_words, weaken, step, finish, choose, same_symbol, same_keyword}
 
 -- words that are told by their kinds alone
 abbrev pub IsSign : Word → Type 0
