@@ -1,14 +1,15 @@
 -- Rules of the grammar, computed on the words of small programs.
-use Rattle.std.proofs.Common.{◌≡◌, ◌∷◌, ℕ, suc, List, [], codes, refl, pos, None}
+use Rattle.std.proofs.Common.{◌++◌, ◌≡◌, ◌∷◌, ℕ, suc, List, [], codes, refl, pos, None}
 use Rattle.zpl_nums.specs.declared.operators.Op.TheVariants as op
+use Rattle.zpl_nums.specs.declared.folds.Fold.TheVariants as fold
 use Rattle.zpl_tokens.specs.declared.keywords.Key.TheVariants as key
 use Rattle.zpl_tokens.specs.declared.symbols.Sym.TheVariants as sym
-use Rattle.zpl_tree.specs.Syntax.{Name, Expr, Number, Named, Neg, Paren, Pair, NoBracket, Prefixed, NoStmt, ThenStmt, Assign, Block, While, Integer, Vars, Defined, Program}
+use Rattle.zpl_tree.specs.Syntax.{Rexpr, NamedRegion, NoPost, Dims, ThenDim, NoDim, One, Blank, Star, Reduce, Name, Expr, Number, Named, Neg, Paren, Pair, NoBracket, Prefixed, NoStmt, ThenStmt, Assign, Block, While, Integer, Vars, Defined, Program}
 use Rattle.zpl_tree.specs.Word.{Word}
 use Rattle.zpl_tree.specs.Word as word
 use Rattle.zpl_parse.specs.Lexeme.{Lexeme, lexeme_at}
 use Rattle.zpl_parse.specs.Outcome.{Done, Wrong, Deep}
-use Rattle.zpl_parse.specs.Expressions.{levels}
+use Rattle.zpl_parse.specs.Expressions.{in_bracket, levels}
 use Rattle.zpl_parse.specs.Statements.{stmt}
 use Rattle.zpl_parse.specs.Declarations.{program}
 
@@ -86,3 +87,27 @@ half_sum = word.Name (codes "x") ∷ word.Symbol sym.Assign ∷ word.Name (codes
 
 wrong : stmt 5 (levels 5 2).expr 1 (at 0 half_sum) ≡ Wrong (at 4 (word.Symbol sym.Semicolon ∷ []))
 wrong = refl
+
+-- [ A ] is a region of that name, [ A , ] has two dimensions, and [ ] has one
+abbrev bracketed : List Word → List Word
+bracketed words = word.Symbol sym.OpenBracket ∷ (words ++ word.Symbol sym.CloseBracket ∷ [])
+
+named : in_bracket 5 (levels 5 2).expr (at 0 (bracketed (word.Name (codes "A") ∷ []))) ≡ Done (Rexpr [] (NamedRegion (name_at (codes "A") 1)) NoPost) []
+named = refl
+
+two_dims : in_bracket 5 (levels 5 2).expr (at 0 (bracketed (word.Name (codes "A") ∷ word.Symbol sym.Comma ∷ []))) ≡
+    Done (Dims (ThenDim (One (Named 1 (name_at (codes "A") 1))) (ThenDim (Blank 3) NoDim))) []
+two_dims = refl
+
+one_blank : in_bracket 5 (levels 5 2).expr (at 0 (bracketed [])) ≡ Done (Dims (ThenDim (Blank 1) NoDim)) []
+one_blank = refl
+
+-- [ * , * << x ]: a star by itself, and one that folds
+stars : in_bracket 5 (levels 5 2).expr (at 0 (bracketed (word.Symbol sym.Star ∷ word.Symbol sym.Comma ∷ word.Symbol sym.Star ∷ word.Symbol sym.Reduce ∷ word.Name (codes "x") ∷ []))) ≡
+    Done (Dims (ThenDim (Star 1) (ThenDim (One (Reduce 3 fold.Prod NoBracket (x 5))) NoDim))) []
+stars = refl
+
+-- x < x < x : comparisons don't follow one another
+no_chain : (levels 5 3).expr (at 0 (word.Name (codes "x") ∷ word.Symbol sym.Less ∷ word.Name (codes "x") ∷ word.Symbol sym.Less ∷ word.Name (codes "x") ∷ [])) ≡
+    Done (Pair 0 op.Lt (x 0) (x 2)) (at 3 (word.Symbol sym.Less ∷ word.Name (codes "x") ∷ []))
+no_chain = refl
