@@ -1,4 +1,5 @@
 pub mod Lexeme
+pub mod Written
 pub mod Outcome
 pub mod Classes
 pub mod Same

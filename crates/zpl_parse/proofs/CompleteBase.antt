@@ -1,0 +1,98 @@
+-- What a reader makes of words that stand before others: how one reader's completeness follows from those that it is made of.
+use Rattle.std.proofs.Common.{◌≡◌, ℕ, suc, ◌+◌, ◌<◌, ◌≤◌, ◌==◌, max, Bool, true, false, List, [], ◌∷◌, ◌++◌, length, codes, refl, sym, ap, subst, ◌∙◌, arith, rules}
+use Rattle.zpl_tokens.specs.declared.Kind.{Kind}
+use Rattle.zpl_tokens.specs.declared.Kind.TheVariants as kind
+use Rattle.zpl_tokens.specs.declared.keywords.Key.{Key}
+use Rattle.zpl_tokens.specs.declared.symbols.Sym.{Sym}
+use Rattle.zpl_tree.specs.Word.{Word, kind_of, word_text}
+use Rattle.zpl_tree.specs.Word as word
+use Rattle.zpl_grammar.specs.Written.{HasBytes}
+use Rattle.zpl_parse.specs.Lexeme.{Lexeme, head_kind, behind}
+use Rattle.zpl_parse.specs.Written.{IsLexeme, AreLexemes}
+use Rattle.zpl_parse.specs.Outcome.{Outcome, Done, Wrong, Deep, Reader, and_then, made, too_deep}
+use Rattle.zpl_parse.specs.Same.{same, symbol_number, key_number}
+use Rattle.zpl_parse.specs.Tokens.{next_is, taken, expect, symbol, keyword, in_quotes, without_last}
+
+-- the bytes of a word, which only a name and a string say
+abbrev pub bytes_of : Word → List ℕ → List ℕ
+bytes_of (word.Name text) bytes = text
+bytes_of (word.Str string) bytes = word_text (word.Str string)
+bytes_of _ bytes = bytes
+
+-- a lexeme that is the word
+abbrev pub lexeme : Word → List ℕ → ℕ → Lexeme
+lexeme w bytes at = record { kind = kind_of w; bytes = bytes_of w bytes; at = at }
+
+-- The lexemes begin with these words, and the rest stands behind them; there are fewer than `most` of them.
+pub data Begins (most : ℕ) : List Word → List Lexeme → List Lexeme → Type 0 where
+  none : {rest : List Lexeme} → length rest < most → Begins most [] rest rest
+  more : {words : List Word} {lexemes rest : List Lexeme} (w : Word) (bytes : List ℕ) (at : ℕ) → suc (length lexemes) < most → Begins most words lexemes rest → Begins most (w ∷ words) (lexeme w bytes at ∷ lexemes) rest
+
+-- where the one part of the words ends and the other begins
+pub record Split (most : ℕ) (front back : List Word) (lexemes rest : List Lexeme) : Type 0 where
+  pub middle : List Lexeme
+  pub first : Begins most front lexemes middle
+  pub then : Begins most back middle rest
+
+pub bound_of : {most : ℕ} {words : List Word} {lexemes rest : List Lexeme} → Begins most words lexemes rest → length lexemes < most
+bound_of (none bound) = bound
+bound_of (more w bytes at bound b) = bound
+
+pub bound_behind : {most : ℕ} {words : List Word} {lexemes rest : List Lexeme} → Begins most words lexemes rest → length rest < most
+bound_behind (none bound) = bound
+bound_behind (more w bytes at bound b) = bound_behind b
+
+pub shorter : {most : ℕ} {words : List Word} {lexemes rest : List Lexeme} → Begins most words lexemes rest → length rest ≤ length lexemes
+shorter (none bound) = omega arith
+shorter (more w bytes at bound b) = let h = shorter b in omega arith
+
+pub split : {most : ℕ} (front back : List Word) {lexemes rest : List Lexeme} → Begins most (front ++ back) lexemes rest → Split most front back lexemes rest
+split [] back b = record { middle = _; first = none (bound_of b); then = b }
+split (w ∷ front) back (more v bytes at bound b) =
+    let parts = split front back b in
+    record { middle = parts.middle; first = more w bytes at bound parts.first; then = parts.then }
+
+-- a tree is read that is as wanted, and the rest is left, where it isn't too deep; and else it is too deep
+pub data Reads {A : Type 0} (Same : A → Type 0) (rest : List Lexeme) (need budget : ℕ) : Outcome A → Type 0 where
+  read : (tree : A) → need ≤ budget → Same tree → Reads Same rest need budget (Done tree rest)
+  deep : (left : List Lexeme) → budget < need → Reads Same rest need budget (Deep left)
+
+abbrev pub Anything : {A : Type 0} → A → Type 0
+Anything x = Unit {0}
+
+-- the depth and the budget in other words
+pub weigh : {A : Type 0} {Same : A → Type 0} {rest : List Lexeme} {n d m e : ℕ} {outcome : Outcome A} →
+    (n ≤ d → m ≤ e) → (d < n → e < m) → Reads Same rest n d outcome → Reads Same rest m e outcome
+weigh fits sinks (read tree h same) = read tree (fits h) same
+weigh fits sinks (deep left h) = deep left (sinks h)
+
+pub made_reads : {A B : Type 0} {Same : A → Type 0} {Alike : B → Type 0} {rest : List Lexeme} {n d : ℕ} {outcome : Outcome A} (f : A → B) →
+    ((tree : A) → Same tree → Alike (f tree)) → Reads Same rest n d outcome → Reads Alike rest n d (made f outcome)
+made_reads f alike (read tree h same) = read (f tree) h (alike tree same)
+made_reads f alike (deep left h) = deep left h
+
+pub then_reads : {A B : Type 0} {Same : A → Type 0} {Alike : B → Type 0} {middle rest : List Lexeme} {n m d : ℕ} {outcome : Outcome A} (next : A → Reader B) →
+    Reads Same middle n d outcome → ((tree : A) → Same tree → Reads Alike rest m d (next tree middle)) → Reads Alike rest (max n m) d (and_then outcome next)
+then_reads next (read tree h alike) others = weigh (λ k. omega arith) (λ k. omega arith) (others tree alike)
+then_reads next (deep left h) others = deep left (omega arith)
+
+equal_self : (n : ℕ) → n == n ≡ true
+equal_self n = search rules
+
+pub same_symbol : (s : Sym) → same (kind.Symbol s) (kind.Symbol s) ≡ true
+same_symbol s = equal_self (symbol_number s)
+
+pub same_keyword : (k : Key) → same (kind.Word k) (kind.Word k) ≡ true
+same_keyword k = equal_self (key_number k)
+
+-- one symbol or keyword, and then others
+pub symbol_reads : {most : ℕ} {lexemes rest : List Lexeme} (s : Sym) {d : ℕ} → Begins most (word.Symbol s ∷ []) lexemes rest → Reads Anything rest 0 d (symbol s lexemes)
+symbol_reads s (more w bytes at bound (none b)) = rw (same_symbol s) (read at (omega arith) tt)
+
+pub keyword_reads : {most : ℕ} {lexemes rest : List Lexeme} (k : Key) {d : ℕ} → Begins most (word.Keyword k ∷ []) lexemes rest → Reads Anything rest 0 d (keyword k lexemes)
+keyword_reads k (more w bytes at bound (none b)) = rw (same_keyword k) (read at (omega arith) tt)
+
+-- what holds of each list of lexemes that begins with the word
+pub at_head : {most : ℕ} {w : Word} {words : List Word} {lexemes rest : List Lexeme} (P : List Lexeme → Type 0) →
+    ((bytes : List ℕ) (at : ℕ) (others : List Lexeme) → P (lexeme w bytes at ∷ others)) → Begins most (w ∷ words) lexemes rest → P lexemes
+at_head P holds (more w bytes at bound b) = holds bytes at _

@@ -1,0 +1,178 @@
+-- How the rules of the levels of expressions are complete, given that each is for what stands within.
+use Rattle.std.proofs.Common.{◌≡◌, ℕ, suc, zero, ◌+◌, ◌<◌, ◌≤◌, ◌==◌, nat_le, max, Bool, true, false, IsTrue, List, [], ◌∷◌, ◌++◌, length, Option, Some, None, refl, sym, ap, subst, ◌∙◌, arith, rules}
+use Rattle.std.proofs.lemmas.Bool.Decides.{nat_tests}
+use Rattle.zpl_nums.specs.declared.operators.Op.{Op}
+use Rattle.zpl_tokens.specs.declared.Kind.{Kind}
+use Rattle.zpl_tokens.specs.declared.Kind.TheVariants as kind
+use Rattle.zpl_tokens.specs.declared.symbols.Sym.TheVariants as sym
+use Rattle.zpl_tree.specs.Word.{Word, kind_of, word_text}
+use Rattle.zpl_tree.specs.Word as word
+use Rattle.zpl_tree.specs.Syntax.{Name, Pre, RegionBase, NamedRegion, Ditto, Expr, Number, Truth, Coord, Named, Shifted, Call, Paren, Neg, Not, Abs, Pair, Reduce, Scan, Flood, Exprs, NoExpr, ThenExpr, Dir, NamedDir, Vector, Inner, Rexpr, Dims, Bracket, NoBracket, Bracketed, Posts, NoPost, ThenPost, DimText, Blank, Star, One, Span, DimTexts, NoDim, ThenDim}
+use Rattle.zpl_tree.specs.Depth.{expr_depth, exprs_depth, dir_depth, inner_depth, bracket_depth, posts_depth, dim_depth, dims_depth}
+use Rattle.zpl_tree.specs.Shape.{expr_shape, exprs_shape, dir_shape, inner_shape, bracket_shape, posts_shape, dim_shape, dims_shape}
+use Rattle.zpl_tree.specs.Spelling.{expr_words}
+use Rattle.zpl_parse.specs.Lexeme.{Lexeme, head_kind, second_kind, behind}
+use Rattle.zpl_parse.specs.Outcome.{Outcome, Done, Wrong, Deep, Reader, and_then, made, too_deep}
+use Rattle.zpl_parse.specs.Classes.{or_op, and_op, comp_op, sum_op, term_op, begins_expr, closes_dim, follows_region}
+use Rattle.zpl_parse.specs.Tokens.{next_is}
+use Rattle.zpl_parse.specs.Expressions.{at_of, Levels, levels_over, levels, no_expr, no_levels, chain, once, unary_over, begins_region}
+use Rattle.zpl_parse.proofs.CompleteBase.{lexeme, Begins, none, more, Split, split, bound_of, bound_behind, shorter, Reads, read, deep, Anything, weigh, made_reads, then_reads, symbol_reads, keyword_reads, at_head}
+
+-- a tree's depth is that of its shape
+mutual
+  pub expr_depth_of : (t : Expr) → expr_depth (expr_shape t) ≡ expr_depth t
+  expr_depth_of (Number at value) = refl
+  expr_depth_of (Truth at value) = refl
+  expr_depth_of (Coord at dimension) = refl
+  expr_depth_of (Named at name) = refl
+  expr_depth_of (Shifted at name shift) = ap (λ n. 1 + n) (dir_depth_of shift)
+  expr_depth_of (Call at name actuals) = ap (λ n. 1 + n) (exprs_depth_of actuals)
+  expr_depth_of (Paren at inside) = ap (λ n. 1 + n) (expr_depth_of inside)
+  expr_depth_of (Neg at operand) = ap (λ n. 1 + n) (expr_depth_of operand)
+  expr_depth_of (Not at operand) = ap (λ n. 1 + n) (expr_depth_of operand)
+  expr_depth_of (Abs at operand) = ap (λ n. 1 + n) (expr_depth_of operand)
+  expr_depth_of (Pair at op left right) = rw (expr_depth_of left, expr_depth_of right)
+  expr_depth_of (Reduce at operator over operand) = rw (bracket_depth_of over, expr_depth_of operand)
+  expr_depth_of (Scan at operator along operand) = ap (λ n. 1 + n) (expr_depth_of operand)
+  expr_depth_of (Flood at source operand) = rw (inner_depth_of source, expr_depth_of operand)
+
+  pub exprs_depth_of : (t : Exprs) → exprs_depth (exprs_shape t) ≡ exprs_depth t
+  exprs_depth_of NoExpr = refl
+  exprs_depth_of (ThenExpr first rest) = rw (expr_depth_of first, exprs_depth_of rest)
+
+  pub dir_depth_of : (t : Dir) → dir_depth (dir_shape t) ≡ dir_depth t
+  dir_depth_of (NamedDir name) = refl
+  dir_depth_of (Vector parts) = exprs_depth_of parts
+
+  pub inner_depth_of : (t : Inner) → inner_depth (inner_shape t) ≡ inner_depth t
+  inner_depth_of (Rexpr pre base post) = posts_depth_of post
+  inner_depth_of (Dims dims) = dims_depth_of dims
+
+  pub bracket_depth_of : (t : Bracket) → bracket_depth (bracket_shape t) ≡ bracket_depth t
+  bracket_depth_of NoBracket = refl
+  bracket_depth_of (Bracketed inner) = inner_depth_of inner
+
+  pub posts_depth_of : (t : Posts) → posts_depth (posts_shape t) ≡ posts_depth t
+  posts_depth_of NoPost = refl
+  posts_depth_of (ThenPost stride dir rest) = rw (dir_depth_of dir, posts_depth_of rest)
+
+  pub dim_depth_of : (t : DimText) → dim_depth (dim_shape t) ≡ dim_depth t
+  dim_depth_of (Blank at) = refl
+  dim_depth_of (Star at) = refl
+  dim_depth_of (One index) = expr_depth_of index
+  dim_depth_of (Span low high) = rw (expr_depth_of low, expr_depth_of high)
+
+  pub dims_depth_of : (t : DimTexts) → dims_depth (dims_shape t) ≡ dims_depth t
+  dims_depth_of NoDim = refl
+  dims_depth_of (ThenDim first rest) = rw (dim_depth_of first, dims_depth_of rest)
+
+abbrev pub SameExpr : Expr → Expr → Type 0
+SameExpr t made = expr_shape made ≡ expr_shape t
+
+same_depth : (t made : Expr) → SameExpr t made → expr_depth made ≡ expr_depth t
+same_depth t made same = sym (expr_depth_of made) ∙ ap expr_depth same ∙ expr_depth_of t
+
+-- the six rules of expressions
+pub data Level : Type 0 where
+  Unary Term Sum Comp Conj Whole : Level
+
+-- the number that the grammar has for a level
+abbrev pub number : Level → ℕ
+number Whole = 0
+number Conj = 1
+number Comp = 2
+number Sum = 3
+number Term = 4
+number Unary = 5
+
+abbrev pub reader : Level → Levels → Reader Expr
+reader Whole rules_of = rules_of.expr
+reader Conj rules_of = rules_of.conj
+reader Comp rules_of = rules_of.comp
+reader Sum rules_of = rules_of.sum
+reader Term rules_of = rules_of.term
+reader Unary rules_of = rules_of.unary
+
+-- lexemes with which an expression of the level doesn't go on
+abbrev pub StopsUnary : List Lexeme → Type 0
+StopsUnary rest = (next_is (kind.Symbol sym.At) rest ≡ false) × (next_is (kind.Symbol sym.OpenParen) rest ≡ false)
+
+abbrev pub StopsTerm : List Lexeme → Type 0
+StopsTerm rest = StopsUnary rest × (term_op (head_kind rest) ≡ None)
+
+abbrev pub StopsSum : List Lexeme → Type 0
+StopsSum rest = StopsTerm rest × (sum_op (head_kind rest) ≡ None)
+
+abbrev pub StopsComp : List Lexeme → Type 0
+StopsComp rest = StopsSum rest × (comp_op (head_kind rest) ≡ None)
+
+abbrev pub StopsConj : List Lexeme → Type 0
+StopsConj rest = StopsComp rest × (and_op (head_kind rest) ≡ None)
+
+abbrev pub StopsWhole : List Lexeme → Type 0
+StopsWhole rest = StopsConj rest × (or_op (head_kind rest) ≡ None)
+
+abbrev pub Stops : Level → List Lexeme → Type 0
+Stops Unary rest = StopsUnary rest
+Stops Term rest = StopsTerm rest
+Stops Sum rest = StopsSum rest
+Stops Comp rest = StopsComp rest
+Stops Conj rest = StopsConj rest
+Stops Whole rest = StopsWhole rest
+
+-- a star before what closes a dimension
+abbrev pub is_star : Bool → Bool → Bool
+is_star true closes = closes
+is_star false closes = false
+
+-- how an expression begins
+pub record Opens (lexemes : List Lexeme) : Type 0 where
+  pub begins : begins_expr (head_kind lexemes) ≡ true
+  pub bracket : next_is (kind.Symbol sym.OpenBracket) lexemes ≡ false
+  pub paren : next_is (kind.Symbol sym.CloseParen) lexemes ≡ false
+  pub string : next_is kind.Str lexemes ≡ false
+  pub dim : closes_dim (head_kind lexemes) ≡ false
+  pub star : is_star (next_is (kind.Symbol sym.Star) lexemes) (closes_dim (second_kind lexemes)) ≡ false
+
+-- What stands behind an operand's words is left to a chain, which has turns enough; or the operand is too deep.
+pub data Goes (t : Expr) (rest : List Lexeme) (deeper : ℕ) (op_of : Kind → Option Op) (operand : Reader Expr) : Outcome Expr → Type 0 where
+  goes : (made : Expr) (turns : ℕ) → length rest < turns → expr_depth t ≤ suc deeper → SameExpr t made → Goes t rest deeper op_of operand (chain turns deeper op_of operand made rest)
+  sinks : (left : List Lexeme) → suc deeper < expr_depth t → Goes t rest deeper op_of operand (Deep left)
+
+module _ {t : Expr} {rest : List Lexeme} {deeper : ℕ} {op_of : Kind → Option Op} {operand : Reader Expr} where
+  pub chain_one : {most : ℕ} {outcome : Outcome Expr} → length rest < most → Reads (SameExpr t) rest (expr_depth t) (suc deeper) outcome →
+      Goes t rest deeper op_of operand (and_then outcome (chain most deeper op_of operand))
+  chain_one {most = most} bound (read value fits alike) = goes value most bound fits alike
+  chain_one bound (deep left h) = sinks left h
+
+  pub chain_ends : {outcome : Outcome Expr} → op_of (head_kind rest) ≡ None → Goes t rest deeper op_of operand outcome → Reads (SameExpr t) rest (expr_depth t) (suc deeper) outcome
+  chain_ends ends (goes value zero bound fits alike) = absurd (omega arith)
+  chain_ends ends (goes value (suc turns) bound fits alike) = rw (ends, chain) (read value fits alike)
+  chain_ends ends (sinks left h) = deep left h
+
+module _ {left right : Expr} {deeper : ℕ} {op_of : Kind → Option Op} {operand : Reader Expr} (at : ℕ) (op : Op) (x : Lexeme) (middle : List Lexeme) {rest : List Lexeme} (shorter : length rest ≤ length middle) where
+  pair_ends : (value : Expr) (turns : ℕ) {outcome : Outcome Expr} → length rest < turns → expr_depth left ≤ deeper → SameExpr left value → Reads (SameExpr right) rest (expr_depth right) deeper outcome →
+      Goes (Pair at op left right) rest deeper op_of operand (and_then outcome (λ taken others. chain turns deeper op_of operand (Pair (at_of value) op value taken) others))
+  pair_ends value turns bound fits alike (read taken small equal) =
+      goes (Pair (at_of value) op value taken) turns bound (omega arith) (rw (alike, equal))
+  pair_ends value turns bound fits alike (deep behind h) = sinks behind (omega arith)
+
+  pair_goes : (value : Expr) (turns : ℕ) → length (x ∷ middle) < suc turns → SameExpr left value → Reads (SameExpr right) rest (expr_depth right) deeper (operand middle) → (b : Bool) → nat_le (expr_depth value) deeper ≡ b →
+      Goes (Pair at op left right) rest deeper op_of operand (elim b [
+        | false ↦ Deep middle
+        | true ↦ and_then (operand middle) (λ taken others. chain turns deeper op_of operand (Pair (at_of value) op value taken) others)
+      ])
+  pair_goes value turns bound alike reads true fits =
+      let equal = same_depth left value alike in
+      let small : expr_depth value ≤ deeper = grind (arith, nat_tests) in
+      pair_ends value turns (omega arith) (omega arith) alike reads
+  pair_goes value turns bound alike reads false fits =
+      let equal = same_depth left value alike in
+      let large : deeper < expr_depth value = grind (arith, nat_tests) in
+      sinks middle (omega arith)
+
+  pub chain_pair : {outcome : Outcome Expr} → op_of x.kind ≡ Some op → Goes left (x ∷ middle) deeper op_of operand outcome → Reads (SameExpr right) rest (expr_depth right) deeper (operand middle) →
+      Goes (Pair at op left right) rest deeper op_of operand outcome
+  chain_pair is (goes value zero bound fits alike) reads = absurd (omega arith)
+  chain_pair is (goes value (suc turns) bound fits alike) reads = rw (is, chain) (pair_goes value turns bound alike reads (nat_le (expr_depth value) deeper) refl)
+  chain_pair is (sinks behind h) reads = sinks behind (omega arith)
