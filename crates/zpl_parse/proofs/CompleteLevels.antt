@@ -4,6 +4,7 @@ use Rattle.std.proofs.lemmas.Bool.Decides.{nat_tests}
 use Rattle.zpl_nums.specs.declared.operators.Op.{Op}
 use Rattle.zpl_tokens.specs.declared.Kind.{Kind}
 use Rattle.zpl_tokens.specs.declared.Kind.TheVariants as kind
+use Rattle.zpl_tokens.specs.declared.symbols.Sym.{Sym}
 use Rattle.zpl_tokens.specs.declared.symbols.Sym.TheVariants as sym
 use Rattle.zpl_tree.specs.Word.{Word, kind_of, word_text}
 use Rattle.zpl_tree.specs.Word as word
@@ -176,3 +177,180 @@ module _ {left right : Expr} {deeper : ℕ} {op_of : Kind → Option Op} {operan
   chain_pair is (goes value zero bound fits alike) reads = absurd (omega arith)
   chain_pair is (goes value (suc turns) bound fits alike) reads = rw (is, chain) (pair_goes value turns bound alike reads (nat_le (expr_depth value) deeper) refl)
   chain_pair is (sinks behind h) reads = sinks behind (omega arith)
+
+-- the same for what stands once
+module _ (deeper : ℕ) (op_of : Kind → Option Op) (operand : Reader Expr) where
+  pub once_one : (t : Expr) {rest : List Lexeme} {outcome : Outcome Expr} → op_of (head_kind rest) ≡ None → Reads (SameExpr t) rest (expr_depth t) (suc deeper) outcome →
+      Reads (SameExpr t) rest (expr_depth t) (suc deeper) (and_then outcome (once deeper op_of operand))
+  once_one t ends (read value fits alike) = rw (ends, once) (read value fits alike)
+  once_one t ends (deep left h) = deep left h
+
+  module _ (left right : Expr) (at : ℕ) (op : Op) (x : Lexeme) (middle : List Lexeme) {rest : List Lexeme} where
+    once_goes : (value : Expr) → SameExpr left value → Reads (SameExpr right) rest (expr_depth right) deeper (operand middle) → (b : Bool) → nat_le (expr_depth value) deeper ≡ b →
+        Reads (SameExpr (Pair at op left right)) rest (expr_depth (Pair at op left right)) (suc deeper) (elim b [
+          | false ↦ Deep middle
+          | true ↦ made (Pair (at_of value) op value) (operand middle)
+        ])
+    once_goes value alike reads true fits =
+        let equal = same_depth left value alike in
+        let small : expr_depth value ≤ deeper = grind (arith, nat_tests) in
+        let small_left : expr_depth left ≤ deeper = omega arith in
+        weigh (λ k. omega arith) (λ k. omega arith) (made_reads (Pair (at_of value) op value) (λ taken same. cc) reads)
+    once_goes value alike reads false fits =
+        let equal = same_depth left value alike in
+        let large : deeper < expr_depth value = grind (arith, nat_tests) in
+        deep middle (omega arith)
+
+    pub once_pair : {outcome : Outcome Expr} → op_of x.kind ≡ Some op → Reads (SameExpr left) (x ∷ middle) (expr_depth left) (suc deeper) outcome → Reads (SameExpr right) rest (expr_depth right) deeper (operand middle) →
+        Reads (SameExpr (Pair at op left right)) rest (expr_depth (Pair at op left right)) (suc deeper) (and_then outcome (once deeper op_of operand))
+    once_pair is (read value fits alike) reads = rw (is, once) (once_goes value alike reads (nat_le (expr_depth value) deeper) refl)
+    once_pair is (deep behind h) reads = deep behind (omega arith)
+
+pub some_depth : (t : Expr) → 0 < expr_depth t
+some_depth (Number at value) = omega arith
+some_depth (Truth at value) = omega arith
+some_depth (Coord at dimension) = omega arith
+some_depth (Named at name) = omega arith
+some_depth (Shifted at name shift) = omega arith
+some_depth (Call at name actuals) = omega arith
+some_depth (Paren at inside) = omega arith
+some_depth (Neg at operand) = omega arith
+some_depth (Not at operand) = omega arith
+some_depth (Abs at operand) = omega arith
+some_depth (Pair at op left right) = omega arith
+some_depth (Reduce at operator over operand) = omega arith
+some_depth (Scan at operator along operand) = omega arith
+some_depth (Flood at source operand) = omega arith
+
+-- where no expression may stand
+pub too_deep_at : (most : ℕ) (level : Level) (xs : List Lexeme) {S : Expr → Type 0} {rest : List Lexeme} (n : ℕ) → begins_expr (head_kind xs) ≡ true → 0 < n → Reads S rest n 0 (reader level (levels most zero) xs)
+too_deep_at most Unary xs n begins some = rw begins (deep _ some)
+too_deep_at most Term xs n begins some = rw begins (deep _ some)
+too_deep_at most Sum xs n begins some = rw begins (deep _ some)
+too_deep_at most Comp xs n begins some = rw begins (deep _ some)
+too_deep_at most Conj xs n begins some = rw begins (deep _ some)
+too_deep_at most Whole xs n begins some = rw begins (deep _ some)
+
+module _ (most : ℕ) where
+  abbrev pub OpensAt : Expr → Type 0
+  OpensAt t = (xs rest : List Lexeme) → Begins most (expr_words t) xs rest → Opens xs
+
+  abbrev pub ReadsAt : Level → Expr → Type 0
+  ReadsAt level t = (budget : ℕ) (xs rest : List Lexeme) → Begins most (expr_words t) xs rest → Stops level rest →
+      Reads (SameExpr t) rest (expr_depth t) budget (reader level (levels most budget) xs)
+
+  abbrev pub GoesAt : Level → Expr → Type 0
+  GoesAt Unary t = Unit {0}
+  GoesAt Term t = (deeper : ℕ) (xs rest : List Lexeme) → Begins most (expr_words t) xs rest → StopsUnary rest → Goes t rest deeper term_op (levels most deeper).unary ((levels most (suc deeper)).term xs)
+  GoesAt Sum t = (deeper : ℕ) (xs rest : List Lexeme) → Begins most (expr_words t) xs rest → StopsTerm rest → Goes t rest deeper sum_op (levels most deeper).term ((levels most (suc deeper)).sum xs)
+  GoesAt Comp t = Unit {0}
+  GoesAt Conj t = (deeper : ℕ) (xs rest : List Lexeme) → Begins most (expr_words t) xs rest → StopsComp rest → Goes t rest deeper and_op (levels most deeper).comp ((levels most (suc deeper)).conj xs)
+  GoesAt Whole t = (deeper : ℕ) (xs rest : List Lexeme) → Begins most (expr_words t) xs rest → StopsConj rest → Goes t rest deeper or_op (levels most deeper).conj ((levels most (suc deeper)).expr xs)
+
+  -- the rule of the level is complete for the expression
+  pub record Ready (level : Level) (t : Expr) : Type 0 where
+    pub opens : OpensAt t
+    pub reads : ReadsAt level t
+    pub going : GoesAt level t
+
+  module _ {t : Expr} where
+    pub ready_term : OpensAt t → GoesAt Term t → Ready Term t
+    ready_term opens going = record { opens = opens; reads = reads; going = going }
+      where
+        reads : ReadsAt Term t
+        reads zero xs rest b stops = too_deep_at most Term xs (expr_depth t) (opens xs rest b).begins (some_depth t)
+        reads (suc deeper) xs rest b stops = chain_ends stops.1 (going deeper xs rest b stops.0)
+
+    pub ready_sum : OpensAt t → GoesAt Sum t → Ready Sum t
+    ready_sum opens going = record { opens = opens; reads = reads; going = going }
+      where
+        reads : ReadsAt Sum t
+        reads zero xs rest b stops = too_deep_at most Sum xs (expr_depth t) (opens xs rest b).begins (some_depth t)
+        reads (suc deeper) xs rest b stops = chain_ends stops.1 (going deeper xs rest b stops.0)
+
+    pub ready_conj : OpensAt t → GoesAt Conj t → Ready Conj t
+    ready_conj opens going = record { opens = opens; reads = reads; going = going }
+      where
+        reads : ReadsAt Conj t
+        reads zero xs rest b stops = too_deep_at most Conj xs (expr_depth t) (opens xs rest b).begins (some_depth t)
+        reads (suc deeper) xs rest b stops = chain_ends stops.1 (going deeper xs rest b stops.0)
+
+    pub ready_whole : OpensAt t → GoesAt Whole t → Ready Whole t
+    ready_whole opens going = record { opens = opens; reads = reads; going = going }
+      where
+        reads : ReadsAt Whole t
+        reads zero xs rest b stops = too_deep_at most Whole xs (expr_depth t) (opens xs rest b).begins (some_depth t)
+        reads (suc deeper) xs rest b stops = chain_ends stops.1 (going deeper xs rest b stops.0)
+
+    up_term : Ready Unary t → Ready Term t
+    up_term h = ready_term h.opens (λ deeper xs rest b stops. chain_one (bound_behind b) (h.reads (suc deeper) xs rest b stops))
+
+    up_sum : Ready Term t → Ready Sum t
+    up_sum h = ready_sum h.opens (λ deeper xs rest b stops. chain_one (bound_behind b) (h.reads (suc deeper) xs rest b stops))
+
+    up_comp : Ready Sum t → Ready Comp t
+    up_comp h = record { opens = h.opens; reads = reads; going = tt }
+      where
+        reads : ReadsAt Comp t
+        reads zero xs rest b stops = too_deep_at most Comp xs (expr_depth t) (h.opens xs rest b).begins (some_depth t)
+        reads (suc deeper) xs rest b stops = once_one deeper comp_op (levels most deeper).sum t stops.1 (h.reads (suc deeper) xs rest b stops.0)
+
+    up_conj : Ready Comp t → Ready Conj t
+    up_conj h = ready_conj h.opens (λ deeper xs rest b stops. chain_one (bound_behind b) (h.reads (suc deeper) xs rest b stops))
+
+    up_whole : Ready Conj t → Ready Whole t
+    up_whole h = ready_whole h.opens (λ deeper xs rest b stops. chain_one (bound_behind b) (h.reads (suc deeper) xs rest b stops))
+
+    -- what is complete for one level is so for each that binds less tightly
+    pub from_whole : (level : Level) → IsTrue (nat_le (number level) 0) → Ready Whole t → Ready level t
+    from_whole Whole stands h = h
+    from_whole Conj stands h = absurd (cc)
+    from_whole Comp stands h = absurd (cc)
+    from_whole Sum stands h = absurd (cc)
+    from_whole Term stands h = absurd (cc)
+    from_whole Unary stands h = absurd (cc)
+
+    pub from_conj : (level : Level) → IsTrue (nat_le (number level) 1) → Ready Conj t → Ready level t
+    from_conj Whole stands h = up_whole h
+    from_conj Conj stands h = h
+    from_conj Comp stands h = absurd (cc)
+    from_conj Sum stands h = absurd (cc)
+    from_conj Term stands h = absurd (cc)
+    from_conj Unary stands h = absurd (cc)
+
+    pub from_comp : (level : Level) → IsTrue (nat_le (number level) 2) → Ready Comp t → Ready level t
+    from_comp Whole stands h = up_whole (up_conj h)
+    from_comp Conj stands h = up_conj h
+    from_comp Comp stands h = h
+    from_comp Sum stands h = absurd (cc)
+    from_comp Term stands h = absurd (cc)
+    from_comp Unary stands h = absurd (cc)
+
+    pub from_sum : (level : Level) → IsTrue (nat_le (number level) 3) → Ready Sum t → Ready level t
+    from_sum Whole stands h = up_whole (up_conj (up_comp h))
+    from_sum Conj stands h = up_conj (up_comp h)
+    from_sum Comp stands h = up_comp h
+    from_sum Sum stands h = h
+    from_sum Term stands h = absurd (cc)
+    from_sum Unary stands h = absurd (cc)
+
+    pub from_term : (level : Level) → IsTrue (nat_le (number level) 4) → Ready Term t → Ready level t
+    from_term Whole stands h = up_whole (up_conj (up_comp (up_sum h)))
+    from_term Conj stands h = up_conj (up_comp (up_sum h))
+    from_term Comp stands h = up_comp (up_sum h)
+    from_term Sum stands h = up_sum h
+    from_term Term stands h = h
+    from_term Unary stands h = absurd (cc)
+
+    pub from_unary : (level : Level) → Ready Unary t → Ready level t
+    from_unary Whole h = up_whole (up_conj (up_comp (up_sum (up_term h))))
+    from_unary Conj h = up_conj (up_comp (up_sum (up_term h)))
+    from_unary Comp h = up_comp (up_sum (up_term h))
+    from_unary Sum h = up_sum (up_term h)
+    from_unary Term h = up_term h
+    from_unary Unary h = h
+
+  -- an operator between its operands
+  module _ (s : Sym) (op : Op) (at : ℕ) (left right : Expr) where
+    abbrev pub words_of_pair : List Word
+    words_of_pair = expr_words left ++ word.Symbol s ∷ expr_words right
