@@ -1,5 +1,5 @@
 -- What a reader makes of words that stand before others: how one reader's completeness follows from those that it is made of.
-use Rattle.std.proofs.Common.{◌≡◌, ℕ, suc, ◌+◌, ◌<◌, ◌≤◌, ◌==◌, max, Bool, true, false, List, [], ◌∷◌, ◌++◌, length, codes, refl, sym, ap, subst, ◌∙◌, arith, rules}
+use Rattle.std.proofs.Common.{◌≡◌, ℕ, suc, ◌+◌, ◌<◌, ◌≤◌, ◌==◌, max, Bool, true, false, List, [], ◌∷◌, ◌++◌, length, codes, refl, sym, ap, subst, ◌∙◌, arith, rules, append_assoc}
 use Rattle.zpl_tokens.specs.declared.Kind.{Kind}
 use Rattle.zpl_tokens.specs.declared.Kind.TheVariants as kind
 use Rattle.zpl_tokens.specs.declared.keywords.Key.{Key}
@@ -51,6 +51,10 @@ split [] back b = record { middle = _; first = none (bound_of b); then = b }
 split (w ∷ front) back (more v bytes at bound b) =
     let parts = split front back b in
     record { middle = parts.middle; first = more w bytes at bound parts.first; then = parts.then }
+
+-- the same for words of which one stands between others
+pub split_at : {most : ℕ} (front : List Word) (w : Word) (back : List Word) {lexemes rest : List Lexeme} → Begins most ((front ++ w ∷ []) ++ back) lexemes rest → Split most front (w ∷ back) lexemes rest
+split_at {most = most} front w back {lexemes = lexemes} {rest = rest} b = split front (w ∷ back) (subst (λ words. Begins most words lexemes rest) (append_assoc front (w ∷ []) back) b)
 
 -- a tree is read that is as wanted, and the rest is left, where it isn't too deep; and else it is too deep
 pub data Reads {A : Type 0} (Same : A → Type 0) (rest : List Lexeme) (need budget : ℕ) : Outcome A → Type 0 where

@@ -17,7 +17,7 @@ use Rattle.zpl_parse.specs.Outcome.{Outcome, Done, Wrong, Deep, Reader, and_then
 use Rattle.zpl_parse.specs.Classes.{or_op, and_op, comp_op, sum_op, term_op, begins_expr, closes_dim, follows_region}
 use Rattle.zpl_parse.specs.Tokens.{next_is}
 use Rattle.zpl_parse.specs.Expressions.{at_of, Levels, levels_over, levels, no_expr, no_levels, chain, once, unary_over, begins_region}
-use Rattle.zpl_parse.proofs.CompleteBase.{lexeme, Begins, none, more, Split, split, bound_of, bound_behind, shorter, Reads, read, deep, Anything, weigh, made_reads, then_reads, symbol_reads, keyword_reads, at_head}
+use Rattle.zpl_parse.proofs.CompleteBase.{lexeme, Begins, none, more, Split, split, split_at, bound_of, bound_behind, shorter, Reads, read, deep, Anything, weigh, made_reads, then_reads, symbol_reads, keyword_reads, at_head}
 
 -- a tree's depth is that of its shape
 mutual
@@ -350,7 +350,88 @@ module _ (most : ℕ) where
     from_unary Term h = up_term h
     from_unary Unary h = h
 
-  -- an operator between its operands
+  -- an operator of the level between its operands
   module _ (s : Sym) (op : Op) (at : ℕ) (left right : Expr) where
-    abbrev pub words_of_pair : List Word
-    words_of_pair = expr_words left ++ word.Symbol s ∷ expr_words right
+    term_split : term_op (kind.Symbol s) ≡ Some op → ((bytes : List ℕ) (place : ℕ) (others : List Lexeme) → StopsUnary (lexeme (word.Symbol s) bytes place ∷ others)) → Ready Term left → Ready Unary right →
+        (deeper : ℕ) (xs middle rest : List Lexeme) → Begins most (expr_words left) xs middle → Begins most (word.Symbol s ∷ expr_words right) middle rest → StopsUnary rest →
+        Goes (Pair at op left right) rest deeper term_op (levels most deeper).unary ((levels most (suc deeper)).term xs)
+    term_split is starts before after deeper xs middle rest first (more {lexemes = others} w bytes place bound b) stops =
+        chain_pair at op (lexeme (word.Symbol s) bytes place) others (shorter b) is (before.going deeper xs _ first (starts bytes place others)) (after.reads deeper _ rest b stops)
+
+    pub term_pair : term_op (kind.Symbol s) ≡ Some op → ((bytes : List ℕ) (place : ℕ) (others : List Lexeme) → StopsUnary (lexeme (word.Symbol s) bytes place ∷ others)) → Ready Term left → Ready Unary right →
+        (deeper : ℕ) (xs rest : List Lexeme) → Begins most ((expr_words left ++ word.Symbol s ∷ []) ++ expr_words right) xs rest → StopsUnary rest →
+        Goes (Pair at op left right) rest deeper term_op (levels most deeper).unary ((levels most (suc deeper)).term xs)
+    term_pair is starts before after deeper xs rest b stops =
+        let parts : Split most (expr_words left) (word.Symbol s ∷ expr_words right) xs rest = split_at (expr_words left) (word.Symbol s) (expr_words right) b in
+        term_split is starts before after deeper xs parts.middle rest parts.first parts.then stops
+
+  -- an operator of the level between its operands
+  module _ (s : Sym) (op : Op) (at : ℕ) (left right : Expr) where
+    sum_split : sum_op (kind.Symbol s) ≡ Some op → ((bytes : List ℕ) (place : ℕ) (others : List Lexeme) → StopsTerm (lexeme (word.Symbol s) bytes place ∷ others)) → Ready Sum left → Ready Term right →
+        (deeper : ℕ) (xs middle rest : List Lexeme) → Begins most (expr_words left) xs middle → Begins most (word.Symbol s ∷ expr_words right) middle rest → StopsTerm rest →
+        Goes (Pair at op left right) rest deeper sum_op (levels most deeper).term ((levels most (suc deeper)).sum xs)
+    sum_split is starts before after deeper xs middle rest first (more {lexemes = others} w bytes place bound b) stops =
+        chain_pair at op (lexeme (word.Symbol s) bytes place) others (shorter b) is (before.going deeper xs _ first (starts bytes place others)) (after.reads deeper _ rest b stops)
+
+    pub sum_pair : sum_op (kind.Symbol s) ≡ Some op → ((bytes : List ℕ) (place : ℕ) (others : List Lexeme) → StopsTerm (lexeme (word.Symbol s) bytes place ∷ others)) → Ready Sum left → Ready Term right →
+        (deeper : ℕ) (xs rest : List Lexeme) → Begins most ((expr_words left ++ word.Symbol s ∷ []) ++ expr_words right) xs rest → StopsTerm rest →
+        Goes (Pair at op left right) rest deeper sum_op (levels most deeper).term ((levels most (suc deeper)).sum xs)
+    sum_pair is starts before after deeper xs rest b stops =
+        let parts : Split most (expr_words left) (word.Symbol s ∷ expr_words right) xs rest = split_at (expr_words left) (word.Symbol s) (expr_words right) b in
+        sum_split is starts before after deeper xs parts.middle rest parts.first parts.then stops
+
+  -- an operator of the level between its operands
+  module _ (s : Sym) (op : Op) (at : ℕ) (left right : Expr) where
+    conj_split : and_op (kind.Symbol s) ≡ Some op → ((bytes : List ℕ) (place : ℕ) (others : List Lexeme) → StopsComp (lexeme (word.Symbol s) bytes place ∷ others)) → Ready Conj left → Ready Comp right →
+        (deeper : ℕ) (xs middle rest : List Lexeme) → Begins most (expr_words left) xs middle → Begins most (word.Symbol s ∷ expr_words right) middle rest → StopsComp rest →
+        Goes (Pair at op left right) rest deeper and_op (levels most deeper).comp ((levels most (suc deeper)).conj xs)
+    conj_split is starts before after deeper xs middle rest first (more {lexemes = others} w bytes place bound b) stops =
+        chain_pair at op (lexeme (word.Symbol s) bytes place) others (shorter b) is (before.going deeper xs _ first (starts bytes place others)) (after.reads deeper _ rest b stops)
+
+    pub conj_pair : and_op (kind.Symbol s) ≡ Some op → ((bytes : List ℕ) (place : ℕ) (others : List Lexeme) → StopsComp (lexeme (word.Symbol s) bytes place ∷ others)) → Ready Conj left → Ready Comp right →
+        (deeper : ℕ) (xs rest : List Lexeme) → Begins most ((expr_words left ++ word.Symbol s ∷ []) ++ expr_words right) xs rest → StopsComp rest →
+        Goes (Pair at op left right) rest deeper and_op (levels most deeper).comp ((levels most (suc deeper)).conj xs)
+    conj_pair is starts before after deeper xs rest b stops =
+        let parts : Split most (expr_words left) (word.Symbol s ∷ expr_words right) xs rest = split_at (expr_words left) (word.Symbol s) (expr_words right) b in
+        conj_split is starts before after deeper xs parts.middle rest parts.first parts.then stops
+
+  -- an operator of the level between its operands
+  module _ (s : Sym) (op : Op) (at : ℕ) (left right : Expr) where
+    whole_split : or_op (kind.Symbol s) ≡ Some op → ((bytes : List ℕ) (place : ℕ) (others : List Lexeme) → StopsConj (lexeme (word.Symbol s) bytes place ∷ others)) → Ready Whole left → Ready Conj right →
+        (deeper : ℕ) (xs middle rest : List Lexeme) → Begins most (expr_words left) xs middle → Begins most (word.Symbol s ∷ expr_words right) middle rest → StopsConj rest →
+        Goes (Pair at op left right) rest deeper or_op (levels most deeper).conj ((levels most (suc deeper)).expr xs)
+    whole_split is starts before after deeper xs middle rest first (more {lexemes = others} w bytes place bound b) stops =
+        chain_pair at op (lexeme (word.Symbol s) bytes place) others (shorter b) is (before.going deeper xs _ first (starts bytes place others)) (after.reads deeper _ rest b stops)
+
+    pub whole_pair : or_op (kind.Symbol s) ≡ Some op → ((bytes : List ℕ) (place : ℕ) (others : List Lexeme) → StopsConj (lexeme (word.Symbol s) bytes place ∷ others)) → Ready Whole left → Ready Conj right →
+        (deeper : ℕ) (xs rest : List Lexeme) → Begins most ((expr_words left ++ word.Symbol s ∷ []) ++ expr_words right) xs rest → StopsConj rest →
+        Goes (Pair at op left right) rest deeper or_op (levels most deeper).conj ((levels most (suc deeper)).expr xs)
+    whole_pair is starts before after deeper xs rest b stops =
+        let parts : Split most (expr_words left) (word.Symbol s ∷ expr_words right) xs rest = split_at (expr_words left) (word.Symbol s) (expr_words right) b in
+        whole_split is starts before after deeper xs parts.middle rest parts.first parts.then stops
+
+  -- a comparison between its operands
+  module _ (s : Sym) (op : Op) (at : ℕ) (left right : Expr) where
+    comp_split : comp_op (kind.Symbol s) ≡ Some op → ((bytes : List ℕ) (place : ℕ) (others : List Lexeme) → StopsSum (lexeme (word.Symbol s) bytes place ∷ others)) → Ready Sum left → Ready Sum right →
+        (deeper : ℕ) (xs middle rest : List Lexeme) → Begins most (expr_words left) xs middle → Begins most (word.Symbol s ∷ expr_words right) middle rest → StopsSum rest →
+        Reads (SameExpr (Pair at op left right)) rest (expr_depth (Pair at op left right)) (suc deeper) ((levels most (suc deeper)).comp xs)
+    comp_split is starts before after deeper xs middle rest first (more {lexemes = others} w bytes place bound b) stops =
+        once_pair deeper comp_op (levels most deeper).sum left right at op (lexeme (word.Symbol s) bytes place) others is (before.reads (suc deeper) xs _ first (starts bytes place others)) (after.reads deeper _ rest b stops)
+
+    comp_reads : comp_op (kind.Symbol s) ≡ Some op → ((bytes : List ℕ) (place : ℕ) (others : List Lexeme) → StopsSum (lexeme (word.Symbol s) bytes place ∷ others)) → Ready Sum left → Ready Sum right →
+        (budget : ℕ) (xs rest : List Lexeme) → Begins most ((expr_words left ++ word.Symbol s ∷ []) ++ expr_words right) xs rest → StopsComp rest →
+        Reads (SameExpr (Pair at op left right)) rest (expr_depth (Pair at op left right)) budget ((levels most budget).comp xs)
+    comp_reads is starts before after zero xs rest b stops =
+        let parts : Split most (expr_words left) (word.Symbol s ∷ expr_words right) xs rest = split_at (expr_words left) (word.Symbol s) (expr_words right) b in
+        too_deep_at most Comp xs (expr_depth (Pair at op left right)) (before.opens xs parts.middle parts.first).begins (omega arith)
+    comp_reads is starts before after (suc deeper) xs rest b stops =
+        let parts : Split most (expr_words left) (word.Symbol s ∷ expr_words right) xs rest = split_at (expr_words left) (word.Symbol s) (expr_words right) b in
+        comp_split is starts before after deeper xs parts.middle rest parts.first parts.then stops.0
+
+    pub comp_pair : comp_op (kind.Symbol s) ≡ Some op → ((bytes : List ℕ) (place : ℕ) (others : List Lexeme) → StopsSum (lexeme (word.Symbol s) bytes place ∷ others)) → Ready Sum left → Ready Sum right →
+        (opens : OpensAt (Pair at op left right)) → (expr_words (Pair at op left right) ≡ (expr_words left ++ word.Symbol s ∷ []) ++ expr_words right) → Ready Comp (Pair at op left right)
+    comp_pair is starts before after opens words = record {
+      opens = opens;
+      reads = λ budget xs rest b stops. comp_reads is starts before after budget xs rest (subst (λ those. Begins most those xs rest) words b) stops;
+      going = tt;
+    }

@@ -1,2 +1,3 @@
 pub mod CompleteBase
 pub mod CompleteLevels
+pub mod CompleteOpens
