@@ -1,3 +1,4 @@
 pub mod CompleteBase
 pub mod CompleteLevels
 pub mod CompleteOpens
+pub mod CompleteParts
