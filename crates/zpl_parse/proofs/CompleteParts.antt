@@ -1,5 +1,5 @@
 -- How the rules of what stands in expressions are complete, given that the rule of expressions is for those within.
-use Rattle.std.proofs.Common.{◌≡◌, ℕ, suc, zero, ◌+◌, ◌<◌, ◌≤◌, max, nat_le, Bool, true, false, IsTrue, List, [], ◌∷◌, ◌++◌, map, length, Option, Some, None, ◌⊎◌, inl, inr, refl, sym, ap, subst, arith}
+use Rattle.std.proofs.Common.{◌≡◌, ℕ, suc, zero, ◌+◌, ◌<◌, ◌≤◌, max, nat_le, Bool, true, false, IsTrue, List, [], ◌∷◌, ◌++◌, map, length, Option, Some, None, ◌⊎◌, inl, inr, refl, sym, ap, subst, arith, append_assoc}
 use Rattle.std.specs.List.{flat_map}
 use Rattle.std.proofs.lemmas.Bool.Decides.{nat_tests}
 use Rattle.zpl_nums.specs.declared.operators.Op.TheVariants as op
@@ -144,6 +144,11 @@ star_skips false b starred plain e h = h
 
 open_dim : {S : DimText → Type 0} {rest : List Lexeme} {n d : ℕ} (most budget : ℕ) (xs : List Lexeme) → Opens xs → Reads S rest n d (bounds (levels most budget).expr xs) → Reads S rest n d (dim_text (levels most budget).expr xs)
 open_dim most budget xs opens h = rw (opens.dim, dim_text) (star_skips (next_is (kind.Symbol sym.Star) xs) (closes_dim (second_kind xs)) _ (bounds (levels most budget).expr xs) opens.star h)
+
+-- there is a dimension
+abbrev pub HasSome : DimTexts → Type 0
+HasSome NoDim = ⊥
+HasSome (ThenDim first rest) = Unit {0}
 
 zero_fits : (n : ℕ) → 0 ≤ n
 zero_fits n = omega arith
@@ -295,3 +300,89 @@ module _ {most : ℕ} where
   span_at low high opens h k budget xs rest b ends =
       let parts : Split most (expr_words low) (word.Symbol sym.DotDot ∷ expr_words high) xs rest = split_at (expr_words low) (word.Symbol sym.DotDot) (expr_words high) b in
       open_dim most budget xs (opens xs parts.middle parts.first) (span_dim low high h k budget xs parts.middle rest parts.first parts.then ends)
+
+  -- dimensions, with a bracket's end behind them
+  dims_last : (first : DimText) → DimAt most first → (budget turns : ℕ) (xs middle rest : List Lexeme) → Begins most (dim_words first) xs middle → Begins most [] middle rest → InnerEnds rest →
+      Reads (SameDims (ThenDim first NoDim)) rest (max (dim_depth first) 0) budget (dim_texts (suc turns) (levels most budget).expr xs)
+  dims_last first h budget turns xs middle rest b (none bound) ends =
+      then_reads _ (h budget xs rest b ends.dim) (λ value same. rw (ends.comma) (read (ThenDim value NoDim) (zero_fits budget) (ap (λ shape. ThenDim shape NoDim) same)))
+
+  dims_more : (first second : DimText) (others : DimTexts) → DimAt most first → DimsAt most (ThenDim second others) → (budget turns : ℕ) (xs middle rest : List Lexeme) → Begins most (dim_words first) xs middle →
+      Begins most (more_dims (ThenDim second others)) middle rest → length xs < suc turns → InnerEnds rest →
+      Reads (SameDims (ThenDim first (ThenDim second others))) rest (max (dim_depth first) (dims_depth (ThenDim second others))) budget (dim_texts (suc turns) (levels most budget).expr xs)
+  dims_more first second others h k budget turns xs middle rest b (more w bytes place bound c) short ends =
+      let fewer = shorter b in
+      then_reads _ (h budget xs _ b (record { closes = refl; stops = ((((((refl, refl), refl), refl), refl), refl), refl); dots = refl }))
+      (λ value same. made_reads (ThenDim value) (λ rest alike. cc) (k budget turns _ rest c (omega arith) ends))
+
+  pub dims_at : (first : DimText) (others : DimTexts) → DimAt most first → (HasSome others → DimsAt most others) → DimsAt most (ThenDim first others)
+  dims_at first others h k budget zero xs rest b short ends = absurd (omega arith)
+  dims_at first NoDim h k budget (suc turns) xs rest b short ends =
+      let parts : Split most (dim_words first) [] xs rest = split (dim_words first) [] b in
+      dims_last first h budget turns xs parts.middle rest parts.first parts.then ends
+  dims_at first (ThenDim second others) h k budget (suc turns) xs rest b short ends =
+      let parts : Split most (dim_words first) (more_dims (ThenDim second others)) xs rest = split (dim_words first) (more_dims (ThenDim second others)) b in
+      dims_more first second others h (k tt) budget turns xs parts.middle rest parts.first parts.then short ends
+
+  -- what stands in a bracket is told apart by its first two words
+  region_begins_pre : (way : Name) (outside : Bool) (one two three : List Word) {xs rest : List Lexeme} → Begins most (((pre_words (record { dir = way; outside = outside }) ++ one) ++ two) ++ three) xs rest →
+      begins_region (head_kind xs) (second_kind xs) ≡ true
+  region_begins_pre way true one two three (more w bytes place bound (more v other where_at limit b)) = refl
+  region_begins_pre way false one two three (more w bytes place bound (more v other where_at limit b)) = refl
+
+  region_begins : (pre : List Pre) (base : RegionBase) (post : Posts) {xs rest : List Lexeme} → Begins most (inner_words (Rexpr pre base post)) xs rest → InnerEnds rest → begins_region (head_kind xs) (second_kind xs) ≡ true
+  region_begins [] (Ditto at) post (more w bytes place bound b) ends = refl
+  region_begins [] (NamedRegion name) NoPost (more w bytes place bound (none limit)) ends = ends.follows
+  region_begins [] (NamedRegion name) (ThenPost true way others) (more w bytes place bound (more v other where_at limit b)) ends = refl
+  region_begins [] (NamedRegion name) (ThenPost false way others) (more w bytes place bound (more v other where_at limit b)) ends = refl
+  region_begins (first ∷ pre) base post b ends = region_begins_pre first.dir first.outside (flat_map pre_words pre) (base_words base) (posts_words post) b
+
+  pub inner_rexpr_at : (pre : List Pre) (base : RegionBase) (post : Posts) → PostsAt most post → InnerAt most (Rexpr pre base post)
+  inner_rexpr_at pre base post h budget xs rest b ends = rw (region_begins pre base post b ends, inner) (rexpr_at pre base post h budget xs rest b ends.region)
+
+  span_free : (low high : Expr) (words : List Word) → IsExpr 0 low → (xs rest : List Lexeme) → Begins most (dim_words (Span low high) ++ words) xs rest → NoRegion xs
+  span_free low high words is xs rest b =
+      let parts : Split most (dim_words (Span low high)) words xs rest = split (dim_words (Span low high)) words b in
+      let inside : Split most (expr_words low) (word.Symbol sym.DotDot ∷ expr_words high) xs parts.middle = split_at (expr_words low) (word.Symbol sym.DotDot) (expr_words high) parts.first in
+      free_at most 0 low is xs inside.middle inside.first (inl (at_head (λ those. follows_region (head_kind those) ≡ false) (λ bytes at others. refl) inside.then))
+
+  dims_free : (first : DimText) (others : DimTexts) → HasDims (ThenDim first others) → AreDims (ThenDim first others) → (xs rest : List Lexeme) → Begins most (dims_words (ThenDim first others)) xs rest → InnerEnds rest → NoRegion xs
+  dims_free (Blank at) NoDim has are xs rest (none bound) ends = ends.plain
+  dims_free (Blank at) (ThenDim second others) has are xs rest (more w bytes place bound b) ends = refl
+  dims_free (Star at) others has are xs rest (more w bytes place bound b) ends = refl
+  dims_free (One index) NoDim has are xs rest b ends =
+      let parts : Split most (expr_words index) [] xs rest = split (expr_words index) [] b in
+      free_at most 0 index are.0 xs parts.middle parts.first (inr has)
+  dims_free (One index) (ThenDim second others) has are xs rest b ends =
+      let parts : Split most (expr_words index) (more_dims (ThenDim second others)) xs rest = split (expr_words index) (more_dims (ThenDim second others)) b in
+      free_at most 0 index are.0 xs parts.middle parts.first (inl (at_head (λ those. follows_region (head_kind those) ≡ false) (λ bytes at others. refl) parts.then))
+  dims_free (Span low high) others has are xs rest b ends = span_free low high (more_dims others) are.0.0 xs rest b
+
+  pub inner_dims_at : (those : DimTexts) → HasDims those → AreDims those → (HasSome those → DimsAt most those) → InnerAt most (Dims those)
+  inner_dims_at NoDim has are h budget xs rest b ends = absurd has
+  inner_dims_at (ThenDim first others) has are h budget xs rest b ends =
+      rw (dims_free first others has are xs rest b ends, inner)
+      (weigh {n = max (dims_depth (ThenDim first others)) 0} {d = budget} (λ k. omega arith) (λ k. omega arith) (then_reads _ (h tt budget most xs rest b (bound_of b) ends) (λ value same. rw (ends.closes) (read (Dims value) (zero_fits budget) (ap Dims same)))))
+
+  -- a bracket
+  inner_in : (region : Inner) → InnerAt most region → (budget : ℕ) (xs rest : List Lexeme) → Begins most (inner_words region ++ word.Symbol sym.CloseBracket ∷ []) xs rest →
+      Reads (SameInner region) rest (inner_depth region) budget (and_then (inner most (levels most budget).expr xs) (λ value after. made (λ end. value) (symbol sym.CloseBracket after)))
+  inner_in region h budget xs rest b =
+      let parts : Split most (inner_words region) (word.Symbol sym.CloseBracket ∷ []) xs rest = split (inner_words region) (word.Symbol sym.CloseBracket ∷ []) b in
+      weigh {n = max (inner_depth region) 0} {d = budget} (λ k. omega arith) (λ k. omega arith) (then_reads _ (h budget xs parts.middle parts.first
+        (at_head InnerEnds (λ bytes at others. record {
+          dim = record { closes = refl; stops = ((((((refl, refl), refl), refl), refl), refl), refl); dots = refl };
+          region = record { outside = refl; stride = refl };
+          closes = refl; follows = refl; comma = refl; plain = refl;
+        }) parts.then))
+      (λ value same. made_reads (λ at. value) (λ at any. same) (symbol_reads sym.CloseBracket {d = budget} parts.then)))
+
+  pub in_bracket_at : (region : Inner) → InnerAt most region → (budget : ℕ) (xs rest : List Lexeme) → Begins most (word.Symbol sym.OpenBracket ∷ (inner_words region ++ word.Symbol sym.CloseBracket ∷ [])) xs rest →
+      Reads (SameInner region) rest (inner_depth region) budget (in_bracket most (levels most budget).expr xs)
+  in_bracket_at region h budget xs rest (more w bytes place bound b) = inner_in region h budget _ rest b
+
+  pub no_bracket_at : BracketAt most NoBracket
+  no_bracket_at budget xs rest (none bound) plain = rw (plain, bracket) (read NoBracket (zero_fits budget) refl)
+
+  pub bracketed_at : (region : Inner) → InnerAt most region → BracketAt most (Bracketed region)
+  bracketed_at region h budget xs rest (more w bytes place bound b) plain = made_reads Bracketed (λ value same. ap Bracketed same) (inner_in region h budget _ rest b)
