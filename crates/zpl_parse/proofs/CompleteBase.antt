@@ -52,6 +52,11 @@ split (w ∷ front) back (more v bytes at bound b) =
     let parts = split front back b in
     record { middle = parts.middle; first = more w bytes at bound parts.first; then = parts.then }
 
+-- words, and others behind them
+pub joined : {most : ℕ} {front back : List Word} {lexemes middle rest : List Lexeme} → Begins most front lexemes middle → Begins most back middle rest → Begins most (front ++ back) lexemes rest
+joined (none bound) c = c
+joined (more w bytes at bound b) c = more w bytes at bound (joined b c)
+
 -- the same for words of which one stands between others
 pub split_at : {most : ℕ} (front : List Word) (w : Word) (back : List Word) {lexemes rest : List Lexeme} → Begins most ((front ++ w ∷ []) ++ back) lexemes rest → Split most front (w ∷ back) lexemes rest
 split_at {most = most} front w back {lexemes = lexemes} {rest = rest} b = split front (w ∷ back) (subst (λ words. Begins most words lexemes rest) (append_assoc front (w ∷ []) back) b)

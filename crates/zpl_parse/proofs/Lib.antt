@@ -2,3 +2,4 @@ pub mod CompleteBase
 pub mod CompleteLevels
 pub mod CompleteOpens
 pub mod CompleteParts
+pub mod CompleteExprs
