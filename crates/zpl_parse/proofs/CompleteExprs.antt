@@ -64,7 +64,7 @@ module _ (most : ℕ) where
   call_at : (at : ℕ) (name : Name) (those : Exprs) → (HasExpr those → (xs rest : List Lexeme) → Begins most (exprs_words those) xs rest → Opens xs) → (HasExpr those → ExprsAt most those) → UnaryAt (Call at name those)
   call_at at name those opens h deeper xs rest (more w bytes place bound (more v other where_at limit b)) stops =
       weigh {n = exprs_depth those} {d = deeper} (λ k. omega arith) (λ k. omega arith)
-      (made_reads (Call place (record { text = name.text; at = place })) (λ value same. ap (Call 0 (name_shape name)) same) (actuals_at those opens h deeper _ rest b))
+      (made_reads (Call place (record { text = name.text; at = place })) (λ value same. ap (Call 0 (name_shape name)) same) (actuals_at those opens h deeper most _ rest b (bound_of b)))
 
   inside_at : (operand : Expr) → ReadsAt most Whole operand → (budget : ℕ) (xs rest : List Lexeme) → Begins most (expr_words operand ++ word.Symbol sym.CloseParen ∷ []) xs rest →
       Reads (SameExpr operand) rest (expr_depth operand) budget (inside (levels most budget) xs)
@@ -120,7 +120,7 @@ module _ (most : ℕ) where
       let parts : Split most (bracket_words over) (expr_words operand) xs rest = split (bracket_words over) (expr_words operand) b in
       let opened : Opens parts.middle = opens parts.middle rest parts.then in
       weigh {n = max (bracket_depth over) (expr_depth operand)} {d = deeper} (λ k. omega arith) (λ k. omega arith)
-      (then_reads _ (k deeper xs parts.middle parts.first opened.bracket) (λ value same. made_reads (Reduce place operator value) (λ other alike. cc) (h deeper parts.middle rest parts.then stops)))
+      (then_reads _ (k deeper most xs parts.middle parts.first (bound_of parts.first) opened.bracket) (λ value same. made_reads (Reduce place operator value) (λ other alike. cc) (h deeper parts.middle rest parts.then stops)))
 
   reduce_at : (at : ℕ) (operator : Fold) (over : Bracket) (operand : Expr) → BracketAt most over → OpensAt most operand → ReadsAt most Unary operand → UnaryAt (Reduce at operator over operand)
   reduce_at at fold.Sum over operand k opens h deeper xs rest (more w bytes place bound (more v other where_at limit b)) stops = reduce_tail at place fold.Sum over operand k opens h deeper _ rest b stops
@@ -153,7 +153,7 @@ module _ (most : ℕ) where
   flood_tail at place source operand k h deeper xs rest b stops =
       let parts : Split most (word.Symbol sym.OpenBracket ∷ (inner_words source ++ word.Symbol sym.CloseBracket ∷ [])) (expr_words operand) xs rest = split (word.Symbol sym.OpenBracket ∷ (inner_words source ++ word.Symbol sym.CloseBracket ∷ [])) (expr_words operand) b in
       weigh {n = max (inner_depth source) (expr_depth operand)} {d = deeper} (λ k. omega arith) (λ k. omega arith)
-      (then_reads _ (in_bracket_at source k deeper xs parts.middle parts.first) (λ value same. made_reads (Flood place value) (λ other alike. cc) (h deeper parts.middle rest parts.then stops)))
+      (then_reads _ (in_bracket_at source k deeper most xs parts.middle parts.first (bound_of parts.first)) (λ value same. made_reads (Flood place value) (λ other alike. cc) (h deeper parts.middle rest parts.then stops)))
 
   flood_at : (at : ℕ) (source : Inner) (operand : Expr) → InnerAt most source → ReadsAt most Unary operand → UnaryAt (Flood at source operand)
   flood_at at source operand k h deeper xs rest (more w bytes place bound b) stops = flood_tail at place source operand k h deeper _ rest b stops

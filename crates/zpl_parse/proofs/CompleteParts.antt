@@ -163,11 +163,11 @@ module _ (most : ℕ) where
   DirAt t = (budget turns : ℕ) (xs rest : List Lexeme) → Begins most (dir_words t) xs rest → length xs < turns → Reads (SameDir t) rest (dir_depth t) budget (dir turns (levels most budget).expr xs)
 
   abbrev pub InnerAt : Inner → Type 0
-  InnerAt t = (budget : ℕ) (xs rest : List Lexeme) → Begins most (inner_words t) xs rest → InnerEnds rest → Reads (SameInner t) rest (inner_depth t) budget (inner most (levels most budget).expr xs)
+  InnerAt t = (budget turns : ℕ) (xs rest : List Lexeme) → Begins most (inner_words t) xs rest → length xs < turns → InnerEnds rest → Reads (SameInner t) rest (inner_depth t) budget (inner turns (levels most budget).expr xs)
 
   abbrev pub BracketAt : Bracket → Type 0
-  BracketAt t = (budget : ℕ) (xs rest : List Lexeme) → Begins most (bracket_words t) xs rest → next_is (kind.Symbol sym.OpenBracket) rest ≡ false →
-      Reads (SameBracket t) rest (bracket_depth t) budget (bracket most (levels most budget).expr xs)
+  BracketAt t = (budget turns : ℕ) (xs rest : List Lexeme) → Begins most (bracket_words t) xs rest → length xs < turns → next_is (kind.Symbol sym.OpenBracket) rest ≡ false →
+      Reads (SameBracket t) rest (bracket_depth t) budget (bracket turns (levels most budget).expr xs)
 
   abbrev pub PostsAt : Posts → Type 0
   PostsAt t = (budget turns : ℕ) (xs rest : List Lexeme) → Begins most (posts_words t) xs rest → length xs < turns → stride_of (head_kind rest) ≡ None →
@@ -205,13 +205,13 @@ module _ {most : ℕ} where
 
   -- in brackets of either kind
   pub actuals_at : (those : Exprs) → (HasExpr those → (xs rest : List Lexeme) → Begins most (exprs_words those) xs rest → Opens xs) → (HasExpr those → ExprsAt most those) →
-      (budget : ℕ) (xs rest : List Lexeme) → Begins most (exprs_words those ++ word.Symbol sym.CloseParen ∷ []) xs rest →
-      Reads (SameExprs those) rest (exprs_depth those) budget (actuals most (levels most budget).expr xs)
-  actuals_at NoExpr opens h budget xs rest (more w bytes place bound (none limit)) = read NoExpr (omega arith) refl
-  actuals_at (ThenExpr first others) opens h budget xs rest b =
+      (budget turns : ℕ) (xs rest : List Lexeme) → Begins most (exprs_words those ++ word.Symbol sym.CloseParen ∷ []) xs rest → length xs < turns →
+      Reads (SameExprs those) rest (exprs_depth those) budget (actuals turns (levels most budget).expr xs)
+  actuals_at NoExpr opens h budget turns xs rest (more w bytes place bound (none limit)) short = read NoExpr (omega arith) refl
+  actuals_at (ThenExpr first others) opens h budget turns xs rest b short =
       let parts : Split most (exprs_words (ThenExpr first others)) (word.Symbol sym.CloseParen ∷ []) xs rest = split (exprs_words (ThenExpr first others)) (word.Symbol sym.CloseParen ∷ []) b in
       let opened : Opens xs = opens tt xs parts.middle parts.first in
-      rw (opened.paren, actuals) (weigh (λ k. omega arith) (λ k. omega arith) (then_reads _ (h tt budget most xs parts.middle parts.first (bound_of parts.first) (at_head StopsWhole (λ bytes at others. ((((((refl, refl), refl), refl), refl), refl), refl)) parts.then) (at_head (λ rest. next_is (kind.Symbol sym.Comma) rest ≡ false) (λ bytes at others. refl) parts.then))
+      rw (opened.paren, actuals) (weigh (λ k. omega arith) (λ k. omega arith) (then_reads _ (h tt budget turns xs parts.middle parts.first short (at_head StopsWhole (λ bytes at others. ((((((refl, refl), refl), refl), refl), refl), refl)) parts.then) (at_head (λ rest. next_is (kind.Symbol sym.Comma) rest ≡ false) (λ bytes at others. refl) parts.then))
       (λ value same. made_reads (λ at. value) (λ at any. same) (symbol_reads sym.CloseParen {d = budget} parts.then))))
 
   pub components_at : (those : Exprs) → ExprsAt most those →
@@ -269,12 +269,13 @@ module _ {most : ℕ} where
   region_base_at (first ∷ pre) base budget (suc turns) xs rest b short ends =
       pre_at first.dir first.outside pre base budget turns xs rest (λ others c fewer. region_base_at pre base budget turns others rest c fewer ends) b short
 
-  pub rexpr_at : (pre : List Pre) (base : RegionBase) (post : Posts) → PostsAt most post → (budget : ℕ) (xs rest : List Lexeme) → Begins most (inner_words (Rexpr pre base post)) xs rest → RegionEnds rest →
-      Reads (SameInner (Rexpr pre base post)) rest (posts_depth post) budget (rexpr most (levels most budget).expr xs)
-  rexpr_at pre base post h budget xs rest b ends =
+  pub rexpr_at : (pre : List Pre) (base : RegionBase) (post : Posts) → PostsAt most post → (budget turns : ℕ) (xs rest : List Lexeme) → Begins most (inner_words (Rexpr pre base post)) xs rest → length xs < turns → RegionEnds rest →
+      Reads (SameInner (Rexpr pre base post)) rest (posts_depth post) budget (rexpr turns (levels most budget).expr xs)
+  rexpr_at pre base post h budget turns xs rest b short ends =
       let parts : Split most (flat_map pre_words pre ++ base_words base) (posts_words post) xs rest = split (flat_map pre_words pre ++ base_words base) (posts_words post) b in
-      weigh (λ k. omega arith) (λ k. omega arith) (then_reads _ (region_base_at pre base budget most xs parts.middle parts.first (bound_of parts.first) (posts_stop post parts.then ends.outside))
-      (λ value same. made_reads (Rexpr value.0 value.1) (λ those alike. cc (same.0, same.1)) (h budget most parts.middle rest parts.then (bound_of parts.then) ends.stride)))
+      let fewer = shorter parts.first in
+      weigh {n = max 0 (posts_depth post)} {d = budget} (λ k. omega arith) (λ k. omega arith) (then_reads _ (region_base_at pre base budget turns xs parts.middle parts.first short (posts_stop post parts.then ends.outside))
+      (λ value same. made_reads (Rexpr value.0 value.1) (λ those alike. cc (same.0, same.1)) (h budget turns parts.middle rest parts.then (omega arith) ends.stride)))
 
   -- a dimension
   one_dim : (index : Expr) → ReadsAt most Whole index → (budget : ℕ) (xs rest : List Lexeme) → Begins most (expr_words index) xs rest → DimEnds rest →
@@ -338,7 +339,7 @@ module _ {most : ℕ} where
   region_begins (first ∷ pre) base post b ends = region_begins_pre first.dir first.outside (flat_map pre_words pre) (base_words base) (posts_words post) b
 
   pub inner_rexpr_at : (pre : List Pre) (base : RegionBase) (post : Posts) → PostsAt most post → InnerAt most (Rexpr pre base post)
-  inner_rexpr_at pre base post h budget xs rest b ends = rw (region_begins pre base post b ends, inner) (rexpr_at pre base post h budget xs rest b ends.region)
+  inner_rexpr_at pre base post h budget turns xs rest b short ends = rw (region_begins pre base post b ends, inner) (rexpr_at pre base post h budget turns xs rest b short ends.region)
 
   span_free : (low high : Expr) (words : List Word) → IsExpr 0 low → (xs rest : List Lexeme) → Begins most (dim_words (Span low high) ++ words) xs rest → NoRegion xs
   span_free low high words is xs rest b =
@@ -359,17 +360,17 @@ module _ {most : ℕ} where
   dims_free (Span low high) others has are xs rest b ends = span_free low high (more_dims others) are.0.0 xs rest b
 
   pub inner_dims_at : (those : DimTexts) → HasDims those → AreDims those → (HasSome those → DimsAt most those) → InnerAt most (Dims those)
-  inner_dims_at NoDim has are h budget xs rest b ends = absurd has
-  inner_dims_at (ThenDim first others) has are h budget xs rest b ends =
+  inner_dims_at NoDim has are h budget turns xs rest b short ends = absurd has
+  inner_dims_at (ThenDim first others) has are h budget turns xs rest b short ends =
       rw (dims_free first others has are xs rest b ends, inner)
-      (weigh {n = max (dims_depth (ThenDim first others)) 0} {d = budget} (λ k. omega arith) (λ k. omega arith) (then_reads _ (h tt budget most xs rest b (bound_of b) ends) (λ value same. rw (ends.closes) (read (Dims value) (zero_fits budget) (ap Dims same)))))
+      (weigh {n = max (dims_depth (ThenDim first others)) 0} {d = budget} (λ k. omega arith) (λ k. omega arith) (then_reads _ (h tt budget turns xs rest b short ends) (λ value same. rw (ends.closes) (read (Dims value) (zero_fits budget) (ap Dims same)))))
 
   -- a bracket
-  inner_in : (region : Inner) → InnerAt most region → (budget : ℕ) (xs rest : List Lexeme) → Begins most (inner_words region ++ word.Symbol sym.CloseBracket ∷ []) xs rest →
-      Reads (SameInner region) rest (inner_depth region) budget (and_then (inner most (levels most budget).expr xs) (λ value after. made (λ end. value) (symbol sym.CloseBracket after)))
-  inner_in region h budget xs rest b =
+  inner_in : (region : Inner) → InnerAt most region → (budget turns : ℕ) (xs rest : List Lexeme) → Begins most (inner_words region ++ word.Symbol sym.CloseBracket ∷ []) xs rest → length xs < turns →
+      Reads (SameInner region) rest (inner_depth region) budget (and_then (inner turns (levels most budget).expr xs) (λ value after. made (λ end. value) (symbol sym.CloseBracket after)))
+  inner_in region h budget turns xs rest b short =
       let parts : Split most (inner_words region) (word.Symbol sym.CloseBracket ∷ []) xs rest = split (inner_words region) (word.Symbol sym.CloseBracket ∷ []) b in
-      weigh {n = max (inner_depth region) 0} {d = budget} (λ k. omega arith) (λ k. omega arith) (then_reads _ (h budget xs parts.middle parts.first
+      weigh {n = max (inner_depth region) 0} {d = budget} (λ k. omega arith) (λ k. omega arith) (then_reads _ (h budget turns xs parts.middle parts.first short
         (at_head InnerEnds (λ bytes at others. record {
           dim = record { closes = refl; stops = ((((((refl, refl), refl), refl), refl), refl), refl); dots = refl };
           region = record { outside = refl; stride = refl };
@@ -377,12 +378,12 @@ module _ {most : ℕ} where
         }) parts.then))
       (λ value same. made_reads (λ at. value) (λ at any. same) (symbol_reads sym.CloseBracket {d = budget} parts.then)))
 
-  pub in_bracket_at : (region : Inner) → InnerAt most region → (budget : ℕ) (xs rest : List Lexeme) → Begins most (word.Symbol sym.OpenBracket ∷ (inner_words region ++ word.Symbol sym.CloseBracket ∷ [])) xs rest →
-      Reads (SameInner region) rest (inner_depth region) budget (in_bracket most (levels most budget).expr xs)
-  in_bracket_at region h budget xs rest (more w bytes place bound b) = inner_in region h budget _ rest b
+  pub in_bracket_at : (region : Inner) → InnerAt most region → (budget turns : ℕ) (xs rest : List Lexeme) → Begins most (word.Symbol sym.OpenBracket ∷ (inner_words region ++ word.Symbol sym.CloseBracket ∷ [])) xs rest → length xs < turns →
+      Reads (SameInner region) rest (inner_depth region) budget (in_bracket turns (levels most budget).expr xs)
+  in_bracket_at region h budget turns xs rest (more w bytes place bound b) short = inner_in region h budget turns _ rest b (omega arith)
 
   pub no_bracket_at : BracketAt most NoBracket
-  no_bracket_at budget xs rest (none bound) plain = rw (plain, bracket) (read NoBracket (zero_fits budget) refl)
+  no_bracket_at budget turns xs rest (none bound) short plain = rw (plain, bracket) (read NoBracket (zero_fits budget) refl)
 
   pub bracketed_at : (region : Inner) → InnerAt most region → BracketAt most (Bracketed region)
-  bracketed_at region h budget xs rest (more w bytes place bound b) plain = made_reads Bracketed (λ value same. ap Bracketed same) (inner_in region h budget _ rest b)
+  bracketed_at region h budget turns xs rest (more w bytes place bound b) short plain = made_reads Bracketed (λ value same. ap Bracketed same) (inner_in region h budget turns _ rest b (omega arith))
