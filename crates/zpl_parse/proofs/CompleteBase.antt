@@ -3,7 +3,9 @@ use Rattle.std.proofs.Common.{◌≡◌, ℕ, suc, ◌+◌, ◌<◌, ◌≤◌, 
 use Rattle.zpl_tokens.specs.declared.Kind.{Kind}
 use Rattle.zpl_tokens.specs.declared.Kind.TheVariants as kind
 use Rattle.zpl_tokens.specs.declared.keywords.Key.{Key}
+use Rattle.zpl_tokens.specs.declared.keywords.Key.TheVariants as key
 use Rattle.zpl_tokens.specs.declared.symbols.Sym.{Sym}
+use Rattle.zpl_tokens.specs.declared.symbols.Sym.TheVariants as sym
 use Rattle.zpl_tree.specs.Word.{Word, kind_of, word_text}
 use Rattle.zpl_tree.specs.Word as word
 use Rattle.zpl_grammar.specs.Written.{HasBytes}
@@ -11,7 +13,7 @@ use Rattle.zpl_parse.specs.Lexeme.{Lexeme, head_kind, behind}
 use Rattle.zpl_parse.specs.Written.{IsLexeme, AreLexemes}
 use Rattle.zpl_parse.specs.Outcome.{Outcome, Done, Wrong, Deep, Reader, and_then, made, too_deep}
 use Rattle.zpl_parse.specs.Same.{same, symbol_number, key_number}
-use Rattle.zpl_parse.specs.Tokens.{next_is, taken, expect, symbol, keyword, in_quotes, without_last}
+use Rattle.zpl_parse.specs.Tokens.{next_is, taken, expect, symbol, keyword, in_quotes, without_last, closing}
 
 -- the bytes of a word, which only a name and a string say
 abbrev pub bytes_of : Word → List ℕ → List ℕ
@@ -105,3 +107,27 @@ keyword_reads k (more w bytes at bound (none b)) = rw (same_keyword k) (read at 
 pub at_head : {most : ℕ} {w : Word} {words : List Word} {lexemes rest : List Lexeme} (P : List Lexeme → Type 0) →
     ((bytes : List ℕ) (at : ℕ) (others : List Lexeme) → P (lexeme w bytes at ∷ others)) → Begins most (w ∷ words) lexemes rest → P lexemes
 at_head P holds (more w bytes at bound b) = holds bytes at _
+
+-- a rule, and a symbol behind it
+pub ends_with : {most : ℕ} {A B : Type 0} {Same : A → Type 0} {Alike : B → Type 0} {middle rest : List Lexeme} {n d : ℕ} {outcome : Outcome A} (s : Sym) (f : A → B) →
+    ((tree : A) → Same tree → Alike (f tree)) → Reads Same middle n d outcome → Begins most (word.Symbol s ∷ []) middle rest → Reads Alike rest n d (and_then outcome (λ tree left. made (λ at. f tree) (symbol s left)))
+ends_with {n = n} {d = d} s f alike reads b =
+    weigh {n = max n 0} {d = d} (λ k. omega arith) (λ k. omega arith) (then_reads _ reads (λ tree equal. made_reads (λ at. f tree) (λ at any. alike tree equal) (symbol_reads s {d = d} b)))
+
+-- "end" ";"
+pub closing_reads : {most : ℕ} {lexemes rest : List Lexeme} {d : ℕ} → Begins most (word.Keyword key.End ∷ word.Symbol sym.Semicolon ∷ []) lexemes rest → Reads Anything rest 0 d (closing lexemes)
+closing_reads (more w bytes at bound (more v other place limit (none b))) = read place (omega arith) tt
+
+-- what begins with more lexemes than a greater number allows
+pub wider : {most wide : ℕ} {words : List Word} {lexemes rest : List Lexeme} → most ≤ wide → Begins most words lexemes rest → Begins wide words lexemes rest
+wider fits (none bound) = none (omega arith)
+wider fits (more w bytes at bound b) = more w bytes at (omega arith) (wider fits b)
+
+unquoted : (bytes : List ℕ) (quote : ℕ) → without_last (bytes ++ quote ∷ []) ≡ bytes
+unquoted [] quote = refl
+unquoted (first ∷ []) quote = refl
+unquoted (first ∷ next ∷ bytes) quote = ap (λ those. first ∷ those) (unquoted (next ∷ bytes) quote)
+
+-- what stands between the quotes of a string
+pub string_inside : (bytes : List ℕ) → in_quotes (word_text (word.Str bytes)) ≡ bytes
+string_inside bytes = unquoted bytes 34

@@ -158,7 +158,7 @@ module _ (most : ℕ) where
   flood_at : (at : ℕ) (source : Inner) (operand : Expr) → InnerAt most source → ReadsAt most Unary operand → UnaryAt (Flood at source operand)
   flood_at at source operand k h deeper xs rest (more w bytes place bound b) stops = flood_tail at place source operand k h deeper _ rest b stops
 
-  exprs_open : (those : Exprs) → AreExprs those → HasExpr those → (xs rest : List Lexeme) → Begins most (exprs_words those) xs rest → Opens xs
+  pub exprs_open : (those : Exprs) → AreExprs those → HasExpr those → (xs rest : List Lexeme) → Begins most (exprs_words those) xs rest → Opens xs
   exprs_open NoExpr are has xs rest b = absurd has
   exprs_open (ThenExpr first others) are has xs rest b =
       let parts : Split most (expr_words first) (more_exprs others) xs rest = split (expr_words first) (more_exprs others) b in

@@ -3,3 +3,4 @@ pub mod CompleteLevels
 pub mod CompleteOpens
 pub mod CompleteParts
 pub mod CompleteExprs
+pub mod CompleteHere
