@@ -48,6 +48,10 @@ pub shorter : {most : ℕ} {words : List Word} {lexemes rest : List Lexeme} → 
 shorter (none bound) = omega arith
 shorter (more w bytes at bound b) = let h = shorter b in omega arith
 
+-- where there is a word at least
+pub shorter_by_one : {most : ℕ} {w : Word} {words : List Word} {lexemes rest : List Lexeme} → Begins most (w ∷ words) lexemes rest → length rest < length lexemes
+shorter_by_one (more w bytes at bound b) = let h = shorter b in omega arith
+
 pub split : {most : ℕ} (front back : List Word) {lexemes rest : List Lexeme} → Begins most (front ++ back) lexemes rest → Split most front back lexemes rest
 split [] back b = record { middle = _; first = none (bound_of b); then = b }
 split (w ∷ front) back (more v bytes at bound b) =

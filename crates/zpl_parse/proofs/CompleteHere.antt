@@ -35,9 +35,6 @@ names_at d (first ∷ second ∷ others) has (suc turns) xs rest (more w bytes p
     made_reads (λ those. record { text = first.text; at = place } ∷ those) (λ those alike. ap (λ shapes. name_shape first ∷ shapes) alike) (names_at d (second ∷ others) tt turns _ rest b (omega arith) ends)
 
 module _ (wide most limit : ℕ) (fits : most ≤ wide) where
-  abbrev pub the_expr : Reader Expr
-  the_expr = (levels wide limit).expr
-
   pub expr_here : (t : Expr) → IsExpr 0 t → (xs rest : List Lexeme) → Begins most (expr_words t) xs rest → StopsWhole rest → Reads (SameExpr t) rest (expr_depth t) limit ((levels wide limit).expr xs)
   expr_here t is xs rest b stops = (expr_at wide Whole t is).reads limit xs rest (wider fits b) stops
 

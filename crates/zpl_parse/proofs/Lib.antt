@@ -4,3 +4,4 @@ pub mod CompleteOpens
 pub mod CompleteParts
 pub mod CompleteExprs
 pub mod CompleteHere
+pub mod CompleteStatements
