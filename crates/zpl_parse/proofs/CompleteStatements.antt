@@ -1,5 +1,5 @@
 -- The rules of statements are complete: words of a statement of the grammar are read as one of the same shape, or are too deep.
-use Rattle.std.proofs.Common.{◌≡◌, ℕ, suc, zero, ◌+◌, ◌<◌, ◌≤◌, max, Bool, true, false, List, [], ◌∷◌, ◌++◌, map, length, Option, Some, None, refl, sym, ap, subst, arith}
+use Rattle.std.proofs.Common.{◌≡◌, ℕ, suc, zero, ◌+◌, ◌<◌, ◌≤◌, max, Bool, true, false, List, [], ◌∷◌, ◌++◌, map, length, if◌then◌else◌, Option, Some, None, refl, sym, ap, subst, arith}
 use Rattle.std.specs.Option.{option_map}
 use Rattle.std.specs.List.{flat_map, AllByRecursion}
 use Rattle.zpl_nums.specs.declared.operators.Op.{Op}
@@ -15,7 +15,7 @@ use Rattle.zpl_tree.specs.Word as word
 use Rattle.zpl_tree.specs.Syntax.{Name, Expr, Exprs, NoExpr, ThenExpr, Inner, Mask, Prefix, ForHead, Item, Str, Value, Stmt, Prefixed, Stmts, NoStmt, ThenStmt, Form, Assign, Invoke, Block, If, While, Repeat, For, Border, Write, Return, Arm, Tested, Arms, NoArm, ThenArm, Otherwise, NoElse, Else}
 use Rattle.zpl_tree.specs.Depth.{expr_depth, exprs_depth, inner_depth, greatest_of, prefix_depth, step_depth, head_depth, item_depth, stmt_depth, form_depth, stmts_depth, arms_depth, arm_depth, otherwise_depth, nest_depth, form_nest, stmts_nest, arms_nest, arm_nest, otherwise_nest}
 use Rattle.zpl_tree.specs.Shape.{name_shape, expr_shape, inner_shape, mask_shape, prefix_shape, head_shape, item_shape, stmt_shape, form_shape, stmts_shape, arms_shape, arm_shape, otherwise_shape}
-use Rattle.zpl_tree.specs.Spelling.{expr_words, exprs_words, inner_words, names_words, mask_words, prefix_words, assign_words, step_words, head_words, item_words, items_words, end_words, stmt_words, stmts_words, form_words, arms_words, arm_words, more_arms, otherwise_words}
+use Rattle.zpl_tree.specs.Spelling.{keyword as keyword_of, expr_words, exprs_words, inner_words, names_words, mask_words, prefix_words, assign_words, step_words, head_words, item_words, items_words, end_words, stmt_words, stmts_words, form_words, arms_words, arm_words, more_arms, otherwise_words}
 use Rattle.zpl_tree.specs.Grammar.{IsExpr, AreExprs, HasExpr, IsInner, HasAny, IsAssigning, IsPrefix, IsStep, IsHead, IsItem, HasArm, IsStmt, AreStmts, IsForm, AreArms, IsArm, IsOtherwise}
 use Rattle.zpl_parse.specs.Lexeme.{Lexeme, head_kind, head_at, behind}
 use Rattle.zpl_parse.specs.Outcome.{Outcome, Done, Wrong, Deep, Reader, and_then, made}
@@ -137,3 +137,88 @@ module _ (wide most limit : ℕ) (fits : most ≤ wide) where
       let opened : next_is (kind.Symbol sym.OpenBracket) xs ≡ true = at_head (λ those. next_is (kind.Symbol sym.OpenBracket) those ≡ true) (λ bytes at others. refl) parts.first in
       rw (opened, prefixes) (then_reads _ (prefix_at first.at first.region first.mask are.0 turns xs parts.middle parts.first short)
       (λ value same. made_reads (λ those. value ∷ those) (λ those alike. cc) (prefixes_at others are.1 turns parts.middle rest parts.then (omega arith) ends)))
+
+  -- item = STRING | expr
+  item_at : (t : Item) → IsItem t → (xs rest : List Lexeme) → Begins most (item_words t) xs rest → StopsWhole rest → Reads (SameItem t) rest (item_depth t) limit (item (levels wide limit).expr xs)
+  item_at (Str bytes) is xs rest (more w given place bound (none last)) stops = read (Str _) (zero_fits limit) (ap Str (string_inside bytes))
+  item_at (Value value) is xs rest b stops =
+      let opened : Opens xs = opens_here wide most limit fits value is xs rest b in
+      rw (opened.string, item) (made_reads Value (λ v same. ap Value same) (expr_here wide most limit fits value is xs rest b stops))
+
+  items_last : (first : Item) → IsItem first → (turns : ℕ) (xs middle rest : List Lexeme) → Begins most (item_words first) xs middle → Begins most [] middle rest → StopsWhole rest → next_is (kind.Symbol sym.Comma) rest ≡ false →
+      Reads (SameItems (first ∷ [])) rest (max (item_depth first) 0) limit (some_items (suc turns) (levels wide limit).expr xs)
+  items_last first is turns xs middle rest b (none bound) stops ends =
+      then_reads _ (item_at first is xs rest b stops) (λ value same. rw ends (read (value ∷ []) (zero_fits limit) (ap (λ shape. shape ∷ []) same)))
+
+  items_more : (first : Item) (words : List Word) (others : List Item) → IsItem first → (turns : ℕ) (xs middle rest : List Lexeme) → Begins most (item_words first) xs middle → Begins most (word.Symbol sym.Comma ∷ words) middle rest → length xs < suc turns →
+      ((ys : List Lexeme) → Begins most words ys rest → length ys < turns → Reads (SameItems others) rest (greatest_of item_depth others) limit (some_items turns (levels wide limit).expr ys)) →
+      Reads (SameItems (first ∷ others)) rest (max (item_depth first) (greatest_of item_depth others)) limit (some_items (suc turns) (levels wide limit).expr xs)
+  items_more first words others is turns xs middle rest b (more w bytes place bound c) short h =
+      let fewer = shorter b in
+      then_reads _ (item_at first is xs _ b ((((((refl, refl), refl), refl), refl), refl), refl)) (λ value same. made_reads (λ those. value ∷ those) (λ those alike. cc) (h _ c (omega arith)))
+
+  -- item { "," item }
+  some_items_at : (first : Item) (others : List Item) → AllByRecursion IsItem (first ∷ others) → (turns : ℕ) (xs rest : List Lexeme) → Begins most (items_words (first ∷ others)) xs rest → length xs < turns → StopsWhole rest → next_is (kind.Symbol sym.Comma) rest ≡ false →
+      Reads (SameItems (first ∷ others)) rest (greatest_of item_depth (first ∷ others)) limit (some_items turns (levels wide limit).expr xs)
+  some_items_at first others are zero xs rest b short stops ends = absurd (omega arith)
+  some_items_at first [] are (suc turns) xs rest b short stops ends =
+      let parts : Split most (item_words first) [] xs rest = split (item_words first) [] b in
+      items_last first are.0 turns xs parts.middle rest parts.first parts.then stops ends
+  some_items_at first (second ∷ others) are (suc turns) xs rest b short stops ends =
+      let parts : Split most (item_words first) (word.Symbol sym.Comma ∷ items_words (second ∷ others)) xs rest = split (item_words first) (word.Symbol sym.Comma ∷ items_words (second ∷ others)) b in
+      items_more first (items_words (second ∷ others)) (second ∷ others) are.0 turns xs parts.middle rest parts.first parts.then short (λ ys c fewer. some_items_at second others are.1 turns ys rest c fewer stops ends)
+
+  -- [ item { "," item } ] ")"
+  items_at : (those : List Item) → AllByRecursion IsItem those → (xs rest : List Lexeme) → Begins most (items_words those ++ word.Symbol sym.CloseParen ∷ []) xs rest →
+      Reads (SameItems those) rest (greatest_of item_depth those) limit (items most (levels wide limit).expr xs)
+  items_at [] are xs rest (more w bytes place bound (none last)) = read [] (zero_fits limit) refl
+  items_at (first ∷ others) are xs rest b =
+      let parts : Split most (items_words (first ∷ others)) (word.Symbol sym.CloseParen ∷ []) xs rest = split (items_words (first ∷ others)) (word.Symbol sym.CloseParen ∷ []) b in
+      let inside : Split most (item_words first) _ xs parts.middle = split (item_words first) _ parts.first in
+      rw (no_close first are.0 xs _ inside.first, items) (ends_with sym.CloseParen (λ those. those) (λ those same. same)
+      (some_items_at first others are most xs parts.middle parts.first (bound_of parts.first) (at_head StopsWhole (λ bytes at others. ((((((refl, refl), refl), refl), refl), refl), refl)) parts.then) (at_head (λ those. next_is (kind.Symbol sym.Comma) those ≡ false) (λ bytes at others. refl) parts.then)) parts.then)
+    where
+      no_close : (t : Item) → IsItem t → (xs rest : List Lexeme) → Begins most (item_words t) xs rest → next_is (kind.Symbol sym.CloseParen) xs ≡ false
+      no_close (Str bytes) is xs rest (more w given place bound b) = refl
+      no_close (Value value) is xs rest b = (opens_here wide most limit fits value is xs rest b).paren
+
+  -- [ "by" expr ]
+  step_stops : (t : Option Expr) {xs rest : List Lexeme} → Begins most (step_words t) xs rest → StopsWhole rest → StopsWhole xs
+  step_stops None (none bound) stops = stops
+  step_stops (Some value) (more w bytes place bound b) stops = ((((((refl, refl), refl), refl), refl), refl), refl)
+
+  step_at : (t : Option Expr) → IsStep t → (xs rest : List Lexeme) → Begins most (step_words t) xs rest → StopsWhole rest → next_is (kind.Word key.By) rest ≡ false → Reads (SameStep t) rest (step_depth t) limit (step (levels wide limit).expr xs)
+  step_at None is xs rest (none bound) stops ends = rw (ends, step) (read None (zero_fits limit) refl)
+  step_at (Some value) is xs rest (more w bytes place bound b) stops ends = made_reads Some (λ v same. ap Some same) (expr_here wide most limit fits value is _ rest b stops)
+
+  abbrev way_words : Bool → List Word
+  way_words down = if down then keyword_of key.Downto else keyword_of key.To
+
+  way_stops : (down : Bool) (words : List Word) {xs rest : List Lexeme} → Begins most (way_words down ++ words) xs rest → StopsWhole xs
+  way_stops true words (more w bytes place bound b) = ((((((refl, refl), refl), refl), refl), refl), refl)
+  way_stops false words (more w bytes place bound b) = ((((((refl, refl), refl), refl), refl), refl), refl)
+
+  -- NAME ":=" expr ( "to" | "downto" ) expr [ "by" expr ]
+  module _ (counter : Name) (first last : Expr) (stride : Option Expr) (first_is : IsExpr 0 first) (last_is : IsExpr 0 last) (stride_is : IsStep stride) where
+    head_last : (down : Bool) (place : ℕ) (value : Expr) → SameExpr first value → (xs middle rest : List Lexeme) → Begins most (expr_words last) xs middle → Begins most (step_words stride) middle rest → StopsWhole rest → next_is (kind.Word key.By) rest ≡ false →
+        Reads (SameHead (record { name = counter; first = first; down = down; last = last; step = stride })) rest (max (expr_depth last) (step_depth stride)) limit
+        (and_then ((levels wide limit).expr xs) (λ last by. made (λ stride. record { name = record { text = counter.text; at = place }; first = value; down = down; last = last; step = stride }) (step (levels wide limit).expr by)))
+    head_last down place value same xs middle rest b c stops ends =
+        then_reads _ (expr_here wide most limit fits last last_is xs middle b (step_stops stride c stops))
+        (λ other alike. made_reads (λ by. record { name = record { text = counter.text; at = place }; first = value; down = down; last = other; step = by }) (λ by equal. cc) (step_at stride stride_is middle rest c stops ends))
+
+    head_way : (down : Bool) (place : ℕ) (value : Expr) → SameExpr first value → (xs middle rest : List Lexeme) → Begins most (way_words down ++ expr_words last) xs middle → Begins most (step_words stride) middle rest → StopsWhole rest → next_is (kind.Word key.By) rest ≡ false →
+        Reads (SameHead (record { name = counter; first = first; down = down; last = last; step = stride })) rest (max (expr_depth last) (step_depth stride)) limit
+        (and_then (way_down xs) (λ down behind_to. and_then ((levels wide limit).expr behind_to) (λ last by. made (λ stride. record { name = record { text = counter.text; at = place }; first = value; down = down; last = last; step = stride }) (step (levels wide limit).expr by))))
+    head_way true place value same xs middle rest (more w bytes spot bound b) c stops ends = head_last true place value same _ middle rest b c stops ends
+    head_way false place value same xs middle rest (more w bytes spot bound b) c stops ends = head_last false place value same _ middle rest b c stops ends
+
+    head_at_words : (down : Bool) (xs rest : List Lexeme) → Begins most (head_words (record { name = counter; first = first; down = down; last = last; step = stride })) xs rest → StopsWhole rest → next_is (kind.Word key.By) rest ≡ false →
+        Reads (SameHead (record { name = counter; first = first; down = down; last = last; step = stride })) rest (max (max (expr_depth first) (expr_depth last)) (step_depth stride)) limit (for_head (levels wide limit).expr xs)
+    head_at_words down xs rest (more w bytes place bound (more {lexemes = others} v other where_at after b)) stops ends =
+        let outer : Split most ((expr_words first ++ way_words down) ++ expr_words last) (step_words stride) others rest = split ((expr_words first ++ way_words down) ++ expr_words last) (step_words stride) b in
+        let front : Split most (expr_words first ++ way_words down) (expr_words last) others outer.middle = split (expr_words first ++ way_words down) (expr_words last) outer.first in
+        let parts : Split most (expr_words first) (way_words down) others front.middle = split (expr_words first) (way_words down) front.first in
+        let way : Begins most (way_words down ++ expr_words last) parts.middle outer.middle = joined parts.then front.then in
+        weigh {n = max (expr_depth first) (max (expr_depth last) (step_depth stride))} {d = limit} (λ k. omega arith) (λ k. omega arith)
+        (then_reads _ (expr_here wide most limit fits first first_is others parts.middle parts.first (way_stops down (expr_words last) way)) (λ value same. head_way down place value same parts.middle outer.middle rest way outer.then stops ends))
