@@ -135,3 +135,11 @@ unquoted (first ∷ next ∷ bytes) quote = ap (λ those. first ∷ those) (unqu
 -- what stands between the quotes of a string
 pub string_inside : (bytes : List ℕ) → in_quotes (word_text (word.Str bytes)) ≡ bytes
 string_inside bytes = unquoted bytes 34
+
+-- the same with a smaller number, where it is still enough
+pub narrower : {most wide : ℕ} {words : List Word} {lexemes rest : List Lexeme} → length lexemes < most → Begins wide words lexemes rest → Begins most words lexemes rest
+narrower fits (none bound) = none fits
+narrower fits (more w bytes at bound b) = more w bytes at fits (narrower (omega arith) b)
+
+pub reword : {most : ℕ} {words others : List Word} (lexemes rest : List Lexeme) → words ≡ others → Begins most words lexemes rest → Begins most others lexemes rest
+reword {most = most} lexemes rest e b = subst (λ those. Begins most those lexemes rest) e b

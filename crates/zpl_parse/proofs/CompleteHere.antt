@@ -25,10 +25,10 @@ abbrev pub SameNames : List Name → List Name → Type 0
 SameNames t those = map name_shape those ≡ map name_shape t
 
 -- NAME { "," NAME }
-pub names_at : {most : ℕ} (d : ℕ) (those : List Name) → HasAny those → (turns : ℕ) (xs rest : List Lexeme) → Begins most (names_words those) xs rest → length xs < turns → next_is (kind.Symbol sym.Comma) rest ≡ false →
+pub names_at : {most : ℕ} (d : ℕ) (those : List Name) → HasAny those → (turns : ℕ) (xs rest : List Lexeme) → Begins most (names_words those) xs rest → length xs ≤ turns → next_is (kind.Symbol sym.Comma) rest ≡ false →
     Reads (SameNames those) rest 0 d (names turns xs)
 names_at d [] has turns xs rest b short ends = absurd has
-names_at d (first ∷ others) has zero xs rest b short ends = absurd (omega arith)
+names_at d (first ∷ others) has zero xs rest (more w bytes place bound b) short ends = absurd (omega arith)
 names_at d (first ∷ []) has (suc turns) xs rest (more w bytes place bound (none limit)) short ends =
     rw (ends, names, and_then) (read (record { text = first.text; at = place } ∷ []) (omega arith) refl)
 names_at d (first ∷ second ∷ others) has (suc turns) xs rest (more w bytes place bound (more v other where_at limit b)) short ends =

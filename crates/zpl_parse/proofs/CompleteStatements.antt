@@ -403,7 +403,7 @@ module _ (wide most limit : ℕ) (fits : most ≤ wide) where
       Reads (SameForm (Border b those)) rest 0 limit (and_then (names most xs) (λ those rest. made (λ at. Border b those) (symbol sym.Semicolon rest)))
   border_tail kind_of those has xs rest b =
       let parts : Split most (names_words those) (word.Symbol sym.Semicolon ∷ []) xs rest = split (names_words those) (word.Symbol sym.Semicolon ∷ []) b in
-      ends_with sym.Semicolon (Border kind_of) (λ value same. ap (Border kind_of) same) (names_at limit those has most xs parts.middle parts.first (bound_of parts.first) (at_head (λ those. next_is (kind.Symbol sym.Comma) those ≡ false) (λ bytes at others. refl) parts.then)) parts.then
+      ends_with sym.Semicolon (Border kind_of) (λ value same. ap (Border kind_of) same) (names_at limit those has most xs parts.middle parts.first (let short = bound_of parts.first in omega arith) (at_head (λ those. next_is (kind.Symbol sym.Comma) those ≡ false) (λ bytes at others. refl) parts.then)) parts.then
 
   border_at : (b : BorderKind) (those : List Name) → HasAny those → FormAt (Border b those)
   border_at border.Wrap those has deeper spent e xs rest (more w bytes place bound b) = weigh {n = 0} {d = limit} (λ k. omega arith) (λ k. omega arith) (border_tail border.Wrap those has _ rest b)

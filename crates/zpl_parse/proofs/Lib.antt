@@ -5,3 +5,4 @@ pub mod CompleteParts
 pub mod CompleteExprs
 pub mod CompleteHere
 pub mod CompleteStatements
+pub mod CompleteDeclarations
