@@ -143,3 +143,9 @@ narrower fits (more w bytes at bound b) = more w bytes at fits (narrower (omega 
 
 pub reword : {most : ℕ} {words others : List Word} (lexemes rest : List Lexeme) → words ≡ others → Begins most words lexemes rest → Begins most others lexemes rest
 reword {most = most} lexemes rest e b = subst (λ those. Begins most those lexemes rest) e b
+
+-- a rule behind two others
+pub then_then_reads : {A B C : Type 0} {Same : A → Type 0} {Alike : C → Type 0} {middle rest : List Lexeme} {n m d : ℕ} {outcome : Outcome A} (inner : A → Reader B) (next : B → Reader C) →
+    Reads Same middle n d outcome → ((tree : A) → Same tree → Reads Alike rest m d (and_then (inner tree middle) next)) → Reads Alike rest (max n m) d (and_then (and_then outcome inner) next)
+then_then_reads inner next (read tree h alike) others = weigh (λ k. omega arith) (λ k. omega arith) (others tree alike)
+then_then_reads inner next (deep left h) others = deep left (omega arith)

@@ -1,5 +1,5 @@
 -- The rules of declarations are complete: words of a declaration of the grammar are read as one of the same shape, or are too deep.
-use Rattle.std.proofs.Common.{◌≡◌, ℕ, suc, zero, ◌+◌, ◌<◌, ◌≤◌, max, Bool, true, false, List, [], ◌∷◌, ◌++◌, map, length, if◌then◌else◌, Option, Some, None, ◌⊎◌, inl, inr, refl, sym, ap, subst, arith}
+use Rattle.std.proofs.Common.{◌≡◌, ℕ, suc, zero, ◌+◌, ◌<◌, ◌≤◌, max, Bool, true, false, List, [], ◌∷◌, ◌++◌, map, length, if◌then◌else◌, Option, Some, None, ◌⊎◌, inl, inr, refl, sym, ap, subst, ◌∙◌, arith, append-nil}
 use Rattle.std.specs.Option.{option_map}
 use Rattle.std.specs.List.{flat_map, AllByRecursion}
 use Rattle.zpl_tokens.specs.declared.Kind.TheVariants as kind
@@ -13,7 +13,7 @@ use Rattle.zpl_tree.specs.Syntax.{Name, Expr, Exprs, Inner, Rexpr, Dims, Bracket
 use Rattle.zpl_tree.specs.Depth.{expr_depth, exprs_depth, inner_depth, bracket_depth, posts_depth, greatest_of, prefix_depth, stmt_depth, nest_depth, stmts_depth, stmts_nest, define_depth, region_depth, direction_depth, var_depth, param_depth, procedure_depth, decl_depth, depth}
 use Rattle.zpl_tree.specs.Shape.{name_shape, stmt_shape, base_type_shape, define_shape, region_shape, direction_shape, var_shape, param_shape, procedure_shape, decl_shape, shape_of, SameShape}
 use Rattle.zpl_tree.specs.Spelling.{keyword as keyword_of, expr_words, exprs_words, inner_words, bracket_words, posts_words, pre_words, base_words, names_words, prefix_words, end_words, stmt_words, stmts_words, type_words, define_words, region_words, direction_words, var_words, param_words, params_words, result_words, heading_words, decl_words}
-use Rattle.zpl_tree.specs.Grammar.{IsExpr, AreExprs, HasExpr, IsInner, HasAny, IsPrefix, IsBody, IsDefine, IsRegion, IsDirection, IsVar, IsParam, IsProcedure, IsDecl, IsProgram, SpellsEach, IsRexpr, HasNoPost, bare_words, SpellsRegion, SpellsMoreLocals, SpellsLocals, SpellsProcedure, SpellsDecl, Spells}
+use Rattle.zpl_tree.specs.Grammar.{IsExpr, AreExprs, HasExpr, IsInner, IsBracket, HasAny, IsPrefix, IsBody, IsDefine, IsRegion, IsDirection, IsVar, IsParam, IsProcedure, IsDecl, IsProgram, SpellsEach, IsRexpr, HasNoPost, bare_words, SpellsRegion, SpellsMoreLocals, SpellsLocals, SpellsProcedure, SpellsDecl, Spells}
 use Rattle.zpl_parse.specs.Lexeme.{Lexeme, head_kind, head_at, behind}
 use Rattle.zpl_parse.specs.Outcome.{Outcome, Done, Wrong, Deep, Reader, and_then, made}
 use Rattle.zpl_parse.specs.Classes.{begins_stmt, outside_of, stride_of, part_of}
@@ -21,7 +21,7 @@ use Rattle.zpl_parse.specs.Tokens.{next_is, symbol, keyword, names, name, closin
 use Rattle.zpl_parse.specs.Expressions.{levels, components, in_bracket, bracket, posts, rexpr}
 use Rattle.zpl_parse.specs.Statements.{prefixes, body_end, stmts, stmt}
 use Rattle.zpl_parse.specs.Declarations.{base, group, define, region_body, region, direction, variables, formals, param, some_params, params, result, locals, body, procedure, decl_by, decls, most_deep, program}
-use Rattle.zpl_parse.proofs.CompleteBase.{lexeme, Begins, none, more, Split, split, split_at, joined, bound_of, shorter, shorter_by_one, wider, narrower, reword, Reads, read, deep, Anything, weigh, made_reads, then_reads, symbol_reads, ends_with, closing_reads, at_head}
+use Rattle.zpl_parse.proofs.CompleteBase.{lexeme, Begins, none, more, Split, split, split_at, joined, bound_of, shorter, shorter_by_one, wider, narrower, reword, Reads, read, deep, Anything, weigh, made_reads, then_reads, then_then_reads, symbol_reads, ends_with, closing_reads, at_head}
 use Rattle.zpl_parse.proofs.CompleteLevels.{SameExpr, StopsWhole, Opens}
 use Rattle.zpl_parse.proofs.CompleteParts.{SameExprs, SameInner, SameBracket, SamePosts, RegionEnds}
 use Rattle.zpl_parse.proofs.CompleteHere.{SameNames, names_at, expr_here, components_here, in_bracket_here, bracket_here, posts_here, rexpr_here}
@@ -83,7 +83,7 @@ module _ {most : ℕ} where
 
 -- definitions, one behind the other
 module _ {A : Type 0} (most limit : ℕ) (definition : Reader A) (shape : A → A) (depth_of : A → ℕ) (Is : A → Type 0) (Spell : A → List Word → Type 0)
-    (named : (t : A) (words : List Word) (xs rest : List Lexeme) → Spell t words → Begins most words xs rest → (next_is kind.Name xs ≡ true) × (length rest < length xs))
+    (named : (t : A) → Is t → (words : List Word) (xs rest : List Lexeme) → Spell t words → Begins most words xs rest → (next_is kind.Name xs ≡ true) × (length rest < length xs))
     (reads : (t : A) → Is t → (words : List Word) → Spell t words → (xs rest : List Lexeme) → Begins most words xs rest → Reads (λ value. shape value ≡ shape t) rest (depth_of t) limit (definition xs)) where
   group_last : (t : A) → Is t → (front back : List Word) → Spell t front → back ≡ [] → (turns : ℕ) (xs middle rest : List Lexeme) → Begins most front xs middle → Begins most back middle rest → next_is kind.Name rest ≡ false →
       Reads (λ value. map shape value ≡ map shape (t ∷ [])) rest (max (depth_of t) 0) limit (group (suc turns) definition xs)
@@ -101,9 +101,9 @@ module _ {A : Type 0} (most limit : ℕ) (definition : Reader A) (shape : A → 
       group_last first are.0 spells.0 spells.1 spells.2 spells.3 turns xs parts.middle rest parts.first parts.then ends
   group_at (first ∷ second ∷ others) has are words spells (suc turns) xs rest b short ends =
       let parts : Split most spells.0 spells.1 xs rest = split spells.0 spells.1 (reword xs rest spells.4 b) in
-      let fewer = (named first spells.0 xs parts.middle spells.2 parts.first).1 in
+      let fewer = (named first are.0 spells.0 xs parts.middle spells.2 parts.first).1 in
       let inner : Split most spells.3.0 spells.3.1 parts.middle rest = split spells.3.0 spells.3.1 (reword parts.middle rest spells.3.4 parts.then) in
-      let next : next_is kind.Name parts.middle ≡ true = (named second spells.3.0 parts.middle inner.middle spells.3.2 inner.first).0 in
+      let next : next_is kind.Name parts.middle ≡ true = (named second are.1.0 spells.3.0 parts.middle inner.middle spells.3.2 inner.first).0 in
       then_reads _ (reads first are.0 spells.0 spells.2 xs parts.middle parts.first) (λ value same. rw next (made_reads (λ those. value ∷ those) (λ those alike. cc) (group_at (second ∷ others) tt are.1 spells.1 spells.3 turns parts.middle rest parts.then (omega arith) ends)))
 
 -- what is spelled in one way
@@ -175,3 +175,189 @@ module _ (wide most limit : ℕ) (fits : most ≤ wide) where
       direction_words_at (more w bytes place bound (more v other where_at after (more {lexemes = others} u another there behind_it b))) =
           let parts : Split most (exprs_words t.parts ++ word.Symbol sym.CloseBracket ∷ []) (word.Symbol sym.Semicolon ∷ []) others rest = split (exprs_words t.parts ++ word.Symbol sym.CloseBracket ∷ []) (word.Symbol sym.Semicolon ∷ []) b in
           ends_with sym.Semicolon (λ v. record { name = record { text = t.name.text; at = place }; parts = v }) (λ v same. cc) (components_here wide most limit fits t.parts is.1 is.0 most others parts.middle parts.first (bound_of parts.first)) parts.then
+
+  -- NAME { "," NAME } ":" [ bracket ] base
+  names_shorter : (those : List Name) → HasAny those → {xs rest : List Lexeme} → Begins most (names_words those) xs rest → length rest < length xs
+  names_shorter [] has b = absurd has
+  names_shorter (first ∷ others) has b = shorter_by_one b
+
+  shape_split : {A : Type 0} {Same : A → Type 0} (t : Bracket) → IsBracket t → (type : Base) → (m : ℕ) (next : Bracket → Base → Reader A) (turns : ℕ) (xs middle after rest : List Lexeme) → Begins most (word.Symbol sym.Colon ∷ bracket_words t) xs middle → Begins most (type_words type) middle after → length xs ≤ turns →
+      ((shape : Bracket) → SameBracket t shape → (base_of : Base) → SameBase type base_of → Reads Same rest m limit (next shape base_of after)) →
+      Reads Same rest (max (bracket_depth t) m) limit (and_then (symbol sym.Colon xs) (λ colon after. and_then (bracket turns (levels wide limit).expr after) (λ shape behind_shape. and_then (base behind_shape) (λ type last. next shape type last))))
+  shape_split t is type m next turns xs middle after rest (more w bytes place bound b) c short h =
+      weigh {n = max (bracket_depth t) (max 0 m)} {d = limit} (λ k. omega arith) (λ k. omega arith)
+      (then_reads _ (bracket_here wide most limit fits t is turns _ middle b (omega arith) (base_plain type c)) (λ shape same. then_reads _ (base_at limit type c) (λ base_of alike. h shape same base_of alike)))
+
+  -- vardef
+  variables_at : (turns : ℕ) (t : VarDef) → IsVar t → (xs rest : List Lexeme) → Begins most (var_words t) xs rest → length xs ≤ turns → Reads (SameVar t) rest (var_depth t) limit (variables turns (levels wide limit).expr xs)
+  variables_at turns t is xs rest b short =
+      let outer : Split most (((names_words t.names ++ word.Symbol sym.Colon ∷ []) ++ bracket_words t.shape) ++ type_words t.base) (word.Symbol sym.Semicolon ∷ []) xs rest = split (((names_words t.names ++ word.Symbol sym.Colon ∷ []) ++ bracket_words t.shape) ++ type_words t.base) (word.Symbol sym.Semicolon ∷ []) b in
+      let front : Split most ((names_words t.names ++ word.Symbol sym.Colon ∷ []) ++ bracket_words t.shape) (type_words t.base) xs outer.middle = split ((names_words t.names ++ word.Symbol sym.Colon ∷ []) ++ bracket_words t.shape) (type_words t.base) outer.first in
+      let parts : Split most (names_words t.names) (word.Symbol sym.Colon ∷ bracket_words t.shape) xs front.middle = split_at (names_words t.names) (word.Symbol sym.Colon) (bracket_words t.shape) front.first in
+      let fewer = shorter parts.first in
+      weigh {n = max 0 (max (bracket_depth t.shape) 0)} {d = limit} (λ k. omega arith) (λ k. omega arith)
+      (then_reads _ (names_at limit t.names is.0 turns xs parts.middle parts.first short (at_head (λ those. next_is (kind.Symbol sym.Comma) those ≡ false) (λ bytes at others. refl) parts.then))
+      (λ those same. shape_split t.shape is.1 t.base 0 (λ shape type last. made (λ end. record { names = those; shape = shape; base = type }) (symbol sym.Semicolon last)) turns parts.middle front.middle outer.middle rest parts.then front.then (omega arith)
+      (λ shape alike type equal. made_reads (λ end. record { names = those; shape = shape; base = type }) (λ end any. cc) (symbol_reads sym.Semicolon {d = limit} outer.then))))
+
+  var_named : (t : VarDef) → IsVar t → {xs rest : List Lexeme} → Begins most (var_words t) xs rest → (next_is kind.Name xs ≡ true) × (length rest < length xs)
+  var_named t is b = go t.names is.0 b
+    where
+      go : (those : List Name) → HasAny those → {xs rest : List Lexeme} → Begins most (var_words (record { names = those; shape = t.shape; base = t.base })) xs rest → (next_is kind.Name xs ≡ true) × (length rest < length xs)
+      go [] has b = absurd has
+      go (first ∷ others) has b = (at_head (λ those. next_is kind.Name those ≡ true) (λ bytes at others. refl) b, shorter_by_one b)
+
+  -- param = [ "var" ] NAME { "," NAME } ":" [ bracket ] base
+  formals_at : (turns : ℕ) (t : Param) → IsParam t → (xs rest : List Lexeme) → Begins most (((names_words t.names ++ word.Symbol sym.Colon ∷ []) ++ bracket_words t.shape) ++ type_words t.base) xs rest → length xs ≤ turns →
+      Reads (SameParam t) rest (param_depth t) limit (formals turns (levels wide limit).expr t.by_ref xs)
+  formals_at turns t is xs rest b short =
+      let front : Split most ((names_words t.names ++ word.Symbol sym.Colon ∷ []) ++ bracket_words t.shape) (type_words t.base) xs rest = split ((names_words t.names ++ word.Symbol sym.Colon ∷ []) ++ bracket_words t.shape) (type_words t.base) b in
+      let parts : Split most (names_words t.names) (word.Symbol sym.Colon ∷ bracket_words t.shape) xs front.middle = split_at (names_words t.names) (word.Symbol sym.Colon) (bracket_words t.shape) front.first in
+      let fewer = shorter parts.first in
+      weigh {n = max 0 (max (bracket_depth t.shape) 0)} {d = limit} (λ k. omega arith) (λ k. omega arith)
+      (then_reads _ (names_at limit t.names is.0 turns xs parts.middle parts.first short (at_head (λ those. next_is (kind.Symbol sym.Comma) those ≡ false) (λ bytes at others. refl) parts.then))
+      (λ those same. formals_split turns t is those same parts.middle front.middle rest parts.then front.then (omega arith)))
+    where
+      formals_split : (turns : ℕ) (t : Param) → IsParam t → (those : List Name) → SameNames t.names those → (xs middle rest : List Lexeme) → Begins most (word.Symbol sym.Colon ∷ bracket_words t.shape) xs middle → Begins most (type_words t.base) middle rest → length xs ≤ turns →
+          Reads (SameParam t) rest (max (bracket_depth t.shape) 0) limit (and_then (symbol sym.Colon xs) (λ colon after. and_then (bracket turns (levels wide limit).expr after) (λ shape last. made (λ type. record { by_ref = t.by_ref; names = those; shape = shape; base = type }) (base last))))
+      formals_split turns t is those same xs middle rest (more w bytes place bound b) c short =
+          then_reads _ (bracket_here wide most limit fits t.shape is.1 turns _ middle b (omega arith) (base_plain t.base c)) (λ shape alike. made_reads (λ type. record { by_ref = t.by_ref; names = those; shape = shape; base = type }) (λ type equal. cc) (base_at limit t.base c))
+
+  param_fields_at : (turns : ℕ) (by_ref : Bool) (those : List Name) (shape : Bracket) (type : Base) → HasAny those → IsBracket shape → (xs rest : List Lexeme) → Begins most (param_words (record { by_ref = by_ref; names = those; shape = shape; base = type })) xs rest → length xs ≤ turns →
+      Reads (SameParam (record { by_ref = by_ref; names = those; shape = shape; base = type })) rest (bracket_depth shape) limit (param turns (levels wide limit).expr xs)
+  param_fields_at turns true those shape type has is xs rest (more w bytes place bound b) short = formals_at turns (record { by_ref = true; names = those; shape = shape; base = type }) (has, is) _ rest b (omega arith)
+  param_fields_at turns false [] shape type has is xs rest b short = absurd has
+  param_fields_at turns false (first ∷ others) shape type has is xs rest b short =
+      let plain : next_is (kind.Word key.Var) xs ≡ false = at_head (λ those. next_is (kind.Word key.Var) those ≡ false) (λ bytes at others. refl) b in
+      rw (plain, param) (formals_at turns (record { by_ref = false; names = first ∷ others; shape = shape; base = type }) (has, is) xs rest b short)
+
+  param_at : (turns : ℕ) (t : Param) → IsParam t → (xs rest : List Lexeme) → Begins most (param_words t) xs rest → length xs ≤ turns → Reads (SameParam t) rest (param_depth t) limit (param turns (levels wide limit).expr xs)
+  param_at turns t is xs rest b short = param_fields_at turns t.by_ref t.names t.shape t.base is.0 is.1 xs rest b short
+
+  param_plain : (by_ref : Bool) (those : List Name) (shape : Bracket) (type : Base) → HasAny those → {xs rest : List Lexeme} → Begins most (param_words (record { by_ref = by_ref; names = those; shape = shape; base = type })) xs rest → next_is (kind.Symbol sym.CloseParen) xs ≡ false
+  param_plain true those shape type has (more w bytes place bound b) = refl
+  param_plain false [] shape type has b = absurd has
+  param_plain false (first ∷ others) shape type has (more w bytes place bound b) = refl
+
+  params_last : (first : Param) → IsParam first → (turns : ℕ) (xs middle rest : List Lexeme) → Begins most (param_words first) xs middle → Begins most [] middle rest → length xs < suc turns → next_is (kind.Symbol sym.Semicolon) rest ≡ false →
+      Reads (SameParams (first ∷ [])) rest (max (param_depth first) 0) limit (some_params (suc turns) (levels wide limit).expr xs)
+  params_last first is turns xs middle rest b (none bound) short ends =
+      then_reads _ (param_at turns first is xs rest b (omega arith)) (λ value same. rw ends (read (value ∷ []) (zero_fits limit) (ap (λ shape. shape ∷ []) same)))
+
+  params_more : (first : Param) (words : List Word) (others : List Param) → IsParam first → (turns : ℕ) (xs middle rest : List Lexeme) → Begins most (param_words first) xs middle → Begins most (word.Symbol sym.Semicolon ∷ words) middle rest → length xs < suc turns →
+      ((ys : List Lexeme) → Begins most words ys rest → length ys < turns → Reads (SameParams others) rest (greatest_of param_depth others) limit (some_params turns (levels wide limit).expr ys)) →
+      Reads (SameParams (first ∷ others)) rest (max (param_depth first) (greatest_of param_depth others)) limit (some_params (suc turns) (levels wide limit).expr xs)
+  params_more first words others is turns xs middle rest b (more w bytes place bound c) short h =
+      let fewer = shorter b in
+      then_reads _ (param_at turns first is xs _ b (omega arith)) (λ value same. made_reads (λ those. value ∷ those) (λ those alike. cc) (h _ c (omega arith)))
+
+  some_params_at : (first : Param) (others : List Param) → AllByRecursion IsParam (first ∷ others) → (turns : ℕ) (xs rest : List Lexeme) → Begins most (params_words (first ∷ others)) xs rest → length xs < turns → next_is (kind.Symbol sym.Semicolon) rest ≡ false →
+      Reads (SameParams (first ∷ others)) rest (greatest_of param_depth (first ∷ others)) limit (some_params turns (levels wide limit).expr xs)
+  some_params_at first others are zero xs rest b short ends = absurd (omega arith)
+  some_params_at first [] are (suc turns) xs rest b short ends =
+      let parts : Split most (param_words first) [] xs rest = split (param_words first) [] b in
+      params_last first are.0 turns xs parts.middle rest parts.first parts.then short ends
+  some_params_at first (second ∷ others) are (suc turns) xs rest b short ends =
+      let parts : Split most (param_words first) (word.Symbol sym.Semicolon ∷ params_words (second ∷ others)) xs rest = split (param_words first) (word.Symbol sym.Semicolon ∷ params_words (second ∷ others)) b in
+      params_more first (params_words (second ∷ others)) (second ∷ others) are.0 turns xs parts.middle rest parts.first parts.then short (λ ys c fewer. some_params_at second others are.1 turns ys rest c fewer ends)
+
+  -- [ param { ";" param } ] ")"
+  params_at : (those : List Param) → AllByRecursion IsParam those → (xs rest : List Lexeme) → Begins most (params_words those ++ word.Symbol sym.CloseParen ∷ []) xs rest →
+      Reads (SameParams those) rest (greatest_of param_depth those) limit (params most (levels wide limit).expr xs)
+  params_at [] are xs rest (more w bytes place bound (none last)) = read [] (zero_fits limit) refl
+  params_at (first ∷ others) are xs rest b =
+      let parts : Split most (params_words (first ∷ others)) (word.Symbol sym.CloseParen ∷ []) xs rest = split (params_words (first ∷ others)) (word.Symbol sym.CloseParen ∷ []) b in
+      let inside : Split most (param_words first) _ xs parts.middle = split (param_words first) _ parts.first in
+      rw (param_plain first.by_ref first.names first.shape first.base are.0.0 inside.first, params) (ends_with sym.CloseParen (λ those. those) (λ those same. same)
+      (some_params_at first others are most xs parts.middle parts.first (bound_of parts.first) (at_head (λ those. next_is (kind.Symbol sym.Semicolon) those ≡ false) (λ bytes at others. refl) parts.then)) parts.then)
+
+  -- [ ":" base ]
+  result_at : (t : Option Base) → (xs rest : List Lexeme) → Begins most (result_words t) xs rest → next_is (kind.Symbol sym.Colon) rest ≡ false → Reads (SameResult t) rest 0 limit (result xs)
+  result_at None xs rest (none bound) ends = rw (ends, result) (read None (zero_fits limit) refl)
+  result_at (Some type) xs rest (more w bytes place bound b) ends = made_reads Some (λ v same. ap Some same) (base_at limit type b)
+
+  -- what may stand behind local variables
+  pub record LocalsEnd (rest : List Lexeme) : Type 0 where
+    pub var : next_is (kind.Word key.Var) rest ≡ false
+    pub named : next_is kind.Name rest ≡ false
+
+  made_behind : (first : VarDef) (outcome : Outcome (List VarDef)) (next : Reader (List VarDef)) →
+      and_then (made (λ v. first ∷ v) outcome) (λ v rest. made (λ others. v ++ others) (next rest)) ≡ made (λ v. first ∷ v) (and_then outcome (λ v rest. made (λ others. v ++ others) (next rest)))
+  made_behind first (Done v rest) next = made_twice first v (next rest)
+    where
+      made_twice : (first : VarDef) (v : List VarDef) (o : Outcome (List VarDef)) → made (λ others. (first ∷ v) ++ others) o ≡ made (λ v. first ∷ v) (made (λ others. v ++ others) o)
+      made_twice first v (Done w rest) = refl
+      made_twice first v (Wrong rest) = refl
+      made_twice first v (Deep rest) = refl
+  made_behind first (Wrong rest) next = refl
+  made_behind first (Deep rest) next = refl
+
+  no_locals : (turns : ℕ) (rest : List Lexeme) → length rest < turns → LocalsEnd rest → Reads (SameVars []) rest 0 limit (locals turns (levels wide limit).expr rest)
+  no_locals zero rest short ends = absurd (omega arith)
+  no_locals (suc turns) rest short ends = rw (ends.var, locals) (read [] (zero_fits limit) refl)
+
+  -- variables of a group, and the groups behind it
+  abbrev grouped : ℕ → ℕ → Reader (List VarDef)
+  grouped g m xs = and_then (group g (variables m (levels wide limit).expr) xs) (λ first rest. made (λ others. first ++ others) (locals m (levels wide limit).expr rest))
+
+  last_local : (first : VarDef) → IsVar first → (g m : ℕ) (xs middle rest : List Lexeme) → Begins most (var_words first) xs middle → Begins most [] middle rest → length xs < suc g → length xs < m → LocalsEnd rest →
+      Reads (SameVars (first ∷ [])) rest (max (var_depth first) 0) limit (grouped (suc g) m xs)
+  last_local first is g m xs middle rest b (none bound) short few ends =
+      let fewer = shorter b in
+      then_then_reads _ _ (variables_at m first is xs rest b (omega arith)) (λ value same. rw (ends.named, and_then) (made_reads (λ others. value ∷ others) (λ others alike. cc) (no_locals m rest (omega arith) ends)))
+
+  next_local : (first : VarDef) → IsVar first → (others : List VarDef) (words : List Word) (g m : ℕ) (xs middle rest : List Lexeme) → Begins most (var_words first) xs middle → Begins most words middle rest → next_is kind.Name middle ≡ true → length xs < m →
+      Reads (SameVars others) rest (greatest_of var_depth others) limit (grouped g m middle) →
+      Reads (SameVars (first ∷ others)) rest (max (var_depth first) (greatest_of var_depth others)) limit (grouped (suc g) m xs)
+  next_local first is others words g m xs middle rest b c named few h =
+      then_then_reads _ _ (variables_at m first is xs middle b (omega arith)) (λ value same. rw (named, and_then)
+      (subst (λ outcome. Reads (SameVars (first ∷ others)) rest (greatest_of var_depth others) limit outcome) (sym (made_behind value (group g (variables m (levels wide limit).expr) middle) (locals m (levels wide limit).expr)))
+      (made_reads (λ those. value ∷ those) (λ those alike. cc) h)))
+
+  next_group : (first : VarDef) → IsVar first → (others : List VarDef) (words : List Word) (g m : ℕ) (xs middle rest : List Lexeme) → Begins most (var_words first) xs middle → Begins most (word.Keyword key.Var ∷ words) middle rest → length xs < suc m →
+      ((ys : List Lexeme) → Begins most words ys rest → length ys < m → Reads (SameVars others) rest (greatest_of var_depth others) limit (grouped m m ys)) →
+      Reads (SameVars (first ∷ others)) rest (max (var_depth first) (greatest_of var_depth others)) limit (grouped (suc g) (suc m) xs)
+  next_group first is others words g m xs middle rest b (more w bytes place bound c) few h =
+      let fewer = shorter b in
+      then_then_reads _ _ (variables_at (suc m) first is xs _ b (omega arith)) (λ value same. made_reads (λ those. value ∷ those) (λ those alike. cc) (h _ c (omega arith)))
+
+  later_local : (first second : VarDef) (those : List VarDef) → AllByRecursion IsVar (first ∷ second ∷ those) → (others rest_words : List Word) →
+      (others ≡ var_words second ++ rest_words) ⊎ (others ≡ keyword_of key.Var ++ var_words second ++ rest_words) →
+      (g m : ℕ) (xs rest : List Lexeme) → Begins most (var_words first ++ others) xs rest → length xs < suc g → length xs < suc m →
+      ((f n : ℕ) (ys : List Lexeme) → Begins most (var_words second ++ rest_words) ys rest → length ys < f → length ys < n → Reads (SameVars (second ∷ those)) rest (greatest_of var_depth (second ∷ those)) limit (grouped f n ys)) →
+      Reads (SameVars (first ∷ second ∷ those)) rest (greatest_of var_depth (first ∷ second ∷ those)) limit (grouped (suc g) (suc m) xs)
+  later_local first second those are others rest_words (inl same) g m xs rest b short few h =
+      let parts : Split most (var_words first) others xs rest = split (var_words first) others b in
+      let after : Begins most (var_words second ++ rest_words) parts.middle rest = reword parts.middle rest same parts.then in
+      let inside : Split most (var_words second) rest_words parts.middle rest = split (var_words second) rest_words after in
+      let fewer = (var_named first are.0 parts.first).1 in
+      next_local first are.0 (second ∷ those) (var_words second ++ rest_words) g (suc m) xs parts.middle rest parts.first after (var_named second are.1.0 inside.first).0 few
+      (h g (suc m) parts.middle after (omega arith) (omega arith))
+  later_local first second those are others rest_words (inr same) g m xs rest b short few h =
+      let parts : Split most (var_words first) others xs rest = split (var_words first) others b in
+      let after : Begins most (word.Keyword key.Var ∷ (var_words second ++ rest_words)) parts.middle rest = reword parts.middle rest same parts.then in
+      next_group first are.0 (second ∷ those) (var_words second ++ rest_words) g m xs parts.middle rest parts.first after few (λ ys c fewer. h m m ys c fewer fewer)
+
+  more_locals_at : (first : VarDef) (those : List VarDef) → AllByRecursion IsVar (first ∷ those) → (others : List Word) → SpellsMoreLocals those others → (g m : ℕ) (xs rest : List Lexeme) → Begins most (var_words first ++ others) xs rest → length xs < g → length xs < m → LocalsEnd rest →
+      Reads (SameVars (first ∷ those)) rest (greatest_of var_depth (first ∷ those)) limit (grouped g m xs)
+  more_locals_at first those are others spells zero m xs rest b short few ends = absurd (omega arith)
+  more_locals_at first those are others spells (suc g) zero xs rest b short few ends = absurd (omega arith)
+  more_locals_at first [] are others spells (suc g) (suc m) xs rest b short few ends =
+      let parts : Split most (var_words first) others xs rest = split (var_words first) others b in
+      last_local first are.0 g (suc m) xs parts.middle rest parts.first (reword parts.middle rest spells parts.then) short few ends
+  more_locals_at first (second ∷ those) are others spells (suc g) (suc m) xs rest b short few ends =
+      later_local first second those are others spells.0 spells.2 g m xs rest b short few (λ f n ys c fewer less. more_locals_at second those are.1 spells.0 spells.1 f n ys rest c fewer less ends)
+
+  -- { "var" vardef { vardef } }
+  first_group : (first : VarDef) (those : List VarDef) → AllByRecursion IsVar (first ∷ those) → (others : List Word) → SpellsMoreLocals those others → (turns : ℕ) (xs rest : List Lexeme) → Begins most (word.Keyword key.Var ∷ (var_words first ++ others)) xs rest → length xs < suc turns → LocalsEnd rest →
+      Reads (SameVars (first ∷ those)) rest (greatest_of var_depth (first ∷ those)) limit (locals (suc turns) (levels wide limit).expr xs)
+  first_group first those are others spells turns xs rest (more w bytes place bound b) short ends = more_locals_at first those are others spells turns turns _ rest b (omega arith) (omega arith) ends
+
+  locals_at : (those : List VarDef) → AllByRecursion IsVar those → (words : List Word) → SpellsLocals those words → (turns : ℕ) (xs rest : List Lexeme) → Begins most words xs rest → length xs < turns → LocalsEnd rest →
+      Reads (SameVars those) rest (greatest_of var_depth those) limit (locals turns (levels wide limit).expr xs)
+  locals_at those are words spells zero xs rest b short ends = absurd (omega arith)
+  locals_at [] are words spells (suc turns) xs rest b short ends = nothing_left (reword xs rest spells b)
+    where
+      nothing_left : {xs : List Lexeme} → Begins most [] xs rest → Reads (SameVars []) rest 0 limit (locals (suc turns) (levels wide limit).expr xs)
+      nothing_left (none bound) = rw (ends.var, locals) (read [] (zero_fits limit) refl)
+  locals_at (first ∷ those) are words spells (suc turns) xs rest b short ends = first_group first those are spells.0 spells.1 turns xs rest (reword xs rest spells.2 b) short ends
