@@ -9,11 +9,11 @@ use Rattle.zpl_tokens.specs.declared.symbols.Sym.{Sym}
 use Rattle.zpl_tokens.specs.declared.symbols.Sym.TheVariants as sym
 use Rattle.zpl_tree.specs.Word.{Word}
 use Rattle.zpl_tree.specs.Word as word
-use Rattle.zpl_tree.specs.Syntax.{Name, Expr, Exprs, Inner, Rexpr, Dims, Bracket, NoBracket, Bracketed, Posts, NoPost, ThenPost, Pre, RegionBase, NamedRegion, Ditto, Prefix, Stmt, Prefixed, Stmts, Block, Base, Integer, Boolean, Other, Define, RegionDef, DirDef, VarDef, Param, Procedure, Decl, Config, Constant, Regions, Directions, Vars, Defined, Program}
+use Rattle.zpl_tree.specs.Syntax.{Name, Expr, Exprs, Inner, Rexpr, Dims, Bracket, NoBracket, Bracketed, Posts, NoPost, ThenPost, Pre, RegionBase, NamedRegion, Ditto, Prefix, Stmt, Prefixed, Stmts, Assign, Invoke, Block, If, While, Repeat, For, Border, Write, Return, Base, Integer, Boolean, Other, Define, RegionDef, DirDef, VarDef, Param, Procedure, Decl, Config, Constant, Regions, Directions, Vars, Defined, Program}
 use Rattle.zpl_tree.specs.Depth.{expr_depth, exprs_depth, inner_depth, bracket_depth, posts_depth, greatest_of, prefix_depth, stmt_depth, nest_depth, stmts_depth, stmts_nest, define_depth, region_depth, direction_depth, var_depth, param_depth, procedure_depth, decl_depth, depth}
 use Rattle.zpl_tree.specs.Shape.{name_shape, stmt_shape, base_type_shape, define_shape, region_shape, direction_shape, var_shape, param_shape, procedure_shape, decl_shape, shape_of, SameShape}
 use Rattle.zpl_tree.specs.Spelling.{keyword as keyword_of, expr_words, exprs_words, inner_words, bracket_words, posts_words, pre_words, base_words, names_words, prefix_words, end_words, stmt_words, stmts_words, type_words, define_words, region_words, direction_words, var_words, param_words, params_words, result_words, heading_words, decl_words}
-use Rattle.zpl_tree.specs.Grammar.{IsExpr, AreExprs, HasExpr, IsInner, IsBracket, HasAny, IsPrefix, IsBody, IsDefine, IsRegion, IsDirection, IsVar, IsParam, IsProcedure, IsDecl, IsProgram, SpellsEach, IsRexpr, HasNoPost, bare_words, SpellsRegion, SpellsMoreLocals, SpellsLocals, SpellsProcedure, SpellsDecl, Spells}
+use Rattle.zpl_tree.specs.Grammar.{IsExpr, AreExprs, HasExpr, IsInner, IsBracket, HasAny, IsPrefix, AreStmts, IsBody, IsDefine, IsRegion, IsDirection, IsVar, IsParam, IsProcedure, IsDecl, IsProgram, SpellsEach, IsRexpr, HasNoPost, bare_words, SpellsRegion, SpellsMoreLocals, SpellsLocals, SpellsProcedure, SpellsDecl, Spells}
 use Rattle.zpl_parse.specs.Lexeme.{Lexeme, head_kind, head_at, behind}
 use Rattle.zpl_parse.specs.Outcome.{Outcome, Done, Wrong, Deep, Reader, and_then, made}
 use Rattle.zpl_parse.specs.Classes.{begins_stmt, outside_of, stride_of, part_of}
@@ -361,3 +361,186 @@ module _ (wide most limit : ℕ) (fits : most ≤ wide) where
       nothing_left : {xs : List Lexeme} → Begins most [] xs rest → Reads (SameVars []) rest 0 limit (locals (suc turns) (levels wide limit).expr xs)
       nothing_left (none bound) = rw (ends.var, locals) (read [] (zero_fits limit) refl)
   locals_at (first ∷ those) are words spells (suc turns) xs rest b short ends = first_group first those are spells.0 spells.1 turns xs rest (reword xs rest spells.2 b) short ends
+
+  -- { prefix } block
+  body_split : (at : ℕ) (before : List Prefix) (t : Stmts) → AreStmts t → (deeper spent : ℕ) → suc deeper + spent ≡ limit → (value : List Prefix) → SamePrefixes before value → (xs rest : List Lexeme) → Begins most (word.Keyword key.Begin ∷ (stmts_words t ++ end_words)) xs rest →
+      Reads (SameBody (Prefixed at before (Block t))) rest (max (stmts_depth t) (stmts_nest t + suc spent)) limit
+      (and_then (keyword key.Begin xs) (λ at after. made (λ those. Prefixed at value (Block those)) (body_end (stmts most (stmt most (levels wide limit).expr deeper)) after)))
+  body_split at before t are deeper spent e value same xs rest (more w bytes place bound b) =
+      made_reads (λ those. Prefixed place value (Block those)) (λ those alike. cc) (body_end_at wide most limit fits t (stmts_all wide most limit fits t are) deeper spent e _ rest b)
+
+  block_body_at : (at : ℕ) (before : List Prefix) (t : Stmts) → AllByRecursion IsPrefix before → AreStmts t → (deeper spent : ℕ) → suc deeper + spent ≡ limit → (xs rest : List Lexeme) → Begins most (stmt_words (Prefixed at before (Block t))) xs rest →
+      Reads (SameBody (Prefixed at before (Block t))) rest (max (max (greatest_of prefix_depth before) (stmts_depth t)) (1 + stmts_nest t + spent)) limit (body most (levels wide limit).expr deeper xs)
+  block_body_at at before t prefixes_are are deeper spent e xs rest b =
+      let parts : Split most (flat_map prefix_words before) (word.Keyword key.Begin ∷ (stmts_words t ++ end_words)) xs rest = split (flat_map prefix_words before) (word.Keyword key.Begin ∷ (stmts_words t ++ end_words)) b in
+      weigh {n = max (greatest_of prefix_depth before) (max (stmts_depth t) (stmts_nest t + suc spent))} {d = limit} (λ k. omega arith) (λ k. omega arith)
+      (then_reads _ (prefixes_at wide most limit fits before prefixes_are most xs parts.middle parts.first (bound_of parts.first) (at_head (λ those. next_is (kind.Symbol sym.OpenBracket) those ≡ false) (λ bytes at others. refl) parts.then))
+      (λ value same. body_split at before t are deeper spent e value same parts.middle rest parts.then))
+
+  body_at : (t : Stmt) → IsBody t → (deeper : ℕ) → suc deeper ≡ limit → (xs rest : List Lexeme) → Begins most (stmt_words t) xs rest → Reads (SameBody t) rest (max (stmt_depth t) (nest_depth t)) limit (body most (levels wide limit).expr deeper xs)
+  body_at (Prefixed at before (Block t)) is deeper e xs rest b =
+      weigh {n = max (max (greatest_of prefix_depth before) (stmts_depth t)) (1 + stmts_nest t + 0)} {d = limit} (λ k. omega arith) (λ k. omega arith) (block_body_at at before t is.0 is.1 deeper 0 (omega arith) xs rest b)
+  body_at (Prefixed at before (Assign name op value)) is deeper e xs rest b = absurd is
+  body_at (Prefixed at before (Invoke name actuals)) is deeper e xs rest b = absurd is
+  body_at (Prefixed at before (If arms otherwise)) is deeper e xs rest b = absurd is
+  body_at (Prefixed at before (While test body)) is deeper e xs rest b = absurd is
+  body_at (Prefixed at before (Repeat body until test)) is deeper e xs rest b = absurd is
+  body_at (Prefixed at before (For head body)) is deeper e xs rest b = absurd is
+  body_at (Prefixed at before (Border kind names)) is deeper e xs rest b = absurd is
+  body_at (Prefixed at before (Write line items)) is deeper e xs rest b = absurd is
+  body_at (Prefixed at before (Return value)) is deeper e xs rest b = absurd is
+
+  body_ends : (t : Stmt) → IsBody t → {xs rest : List Lexeme} → Begins most (stmt_words t) xs rest → LocalsEnd xs
+  body_ends (Prefixed at [] (Block t)) is (more w bytes place bound b) = record { var = refl; named = refl }
+  body_ends (Prefixed at (first ∷ before) (Block t)) is (more w bytes place bound b) = record { var = refl; named = refl }
+  body_ends (Prefixed at before (Assign name op value)) is b = absurd is
+  body_ends (Prefixed at before (Invoke name actuals)) is b = absurd is
+  body_ends (Prefixed at before (If arms otherwise)) is b = absurd is
+  body_ends (Prefixed at before (While test body)) is b = absurd is
+  body_ends (Prefixed at before (Repeat body until test)) is b = absurd is
+  body_ends (Prefixed at before (For head body)) is b = absurd is
+  body_ends (Prefixed at before (Border kind names)) is b = absurd is
+  body_ends (Prefixed at before (Write line items)) is b = absurd is
+  body_ends (Prefixed at before (Return value)) is b = absurd is
+
+  -- a procedure behind its keyword
+  procedure_parts : (t : Procedure) → IsProcedure t → (local_words : List Word) → SpellsLocals t.locals local_words → (deeper : ℕ) → suc deeper ≡ limit → (place : ℕ) (xs rest : List Lexeme) →
+      Begins most (((((params_words t.params ++ word.Symbol sym.CloseParen ∷ []) ++ result_words t.result) ++ word.Symbol sym.Semicolon ∷ []) ++ local_words) ++ stmt_words t.body) xs rest →
+      Reads (SameProcedure t) rest (procedure_depth t) limit
+      (and_then (params most (levels wide limit).expr xs) (λ those behind_params.
+      and_then (result behind_params) (λ type behind_result.
+      and_then (symbol sym.Semicolon behind_result) (λ semicolon behind_heading.
+      and_then (locals most (levels wide limit).expr behind_heading) (λ own last.
+      made (λ what. record { name = record { text = t.name.text; at = place }; params = those; result = type; locals = own; body = what }) (body most (levels wide limit).expr deeper last))))))
+  procedure_parts t is local_words spells deeper e place xs rest b =
+      let front : List Word = (params_words t.params ++ word.Symbol sym.CloseParen ∷ []) ++ result_words t.result in
+      let one : Split most ((front ++ word.Symbol sym.Semicolon ∷ []) ++ local_words) (stmt_words t.body) xs rest = split ((front ++ word.Symbol sym.Semicolon ∷ []) ++ local_words) (stmt_words t.body) b in
+      let two : Split most (front ++ word.Symbol sym.Semicolon ∷ []) local_words xs one.middle = split (front ++ word.Symbol sym.Semicolon ∷ []) local_words one.first in
+      let three : Split most front (word.Symbol sym.Semicolon ∷ []) xs two.middle = split front (word.Symbol sym.Semicolon ∷ []) two.first in
+      let four : Split most (params_words t.params ++ word.Symbol sym.CloseParen ∷ []) (result_words t.result) xs three.middle = split (params_words t.params ++ word.Symbol sym.CloseParen ∷ []) (result_words t.result) three.first in
+      weigh {n = max (greatest_of param_depth t.params) (max 0 (max 0 (max (greatest_of var_depth t.locals) (max (stmt_depth t.body) (nest_depth t.body)))))} {d = limit} (λ k. omega arith) (λ k. omega arith)
+      (then_reads _ (params_at t.params is.0 xs four.middle four.first)
+      (λ those same. then_reads _ (result_at t.result four.middle three.middle four.then (at_head (λ those. next_is (kind.Symbol sym.Colon) those ≡ false) (λ bytes at others. refl) three.then))
+      (λ type alike. then_reads _ (symbol_reads sym.Semicolon {d = limit} three.then)
+      (λ semicolon any. then_reads _ (locals_at t.locals is.1 local_words spells most two.middle one.middle two.then (bound_of two.then) (body_ends t.body is.2 one.then))
+      (λ own equal. made_reads (λ what. record { name = record { text = t.name.text; at = place }; params = those; result = type; locals = own; body = what }) (λ what even. cc) (body_at t.body is.2 deeper e one.middle rest one.then))))))
+
+  procedure_at : (t : Procedure) → IsProcedure t → (local_words : List Word) → SpellsLocals t.locals local_words → (deeper : ℕ) → suc deeper ≡ limit → (xs rest : List Lexeme) →
+      Begins most (word.Name t.name.text ∷ word.Symbol sym.OpenParen ∷ (((((params_words t.params ++ word.Symbol sym.CloseParen ∷ []) ++ result_words t.result) ++ word.Symbol sym.Semicolon ∷ []) ++ local_words) ++ stmt_words t.body)) xs rest →
+      Reads (SameProcedure t) rest (procedure_depth t) limit (procedure most (levels wide limit).expr deeper xs)
+  procedure_at t is local_words spells deeper e xs rest (more w bytes place bound (more v other where_at after b)) = procedure_parts t is local_words spells deeper e place _ rest b
+
+  -- what names a definition
+  named_first : {name : List ℕ} {words : List Word} (spelled : List Word) (xs rest : List Lexeme) → spelled ≡ word.Name name ∷ words → Begins most spelled xs rest → (next_is kind.Name xs ≡ true) × (length rest < length xs)
+  named_first {name = name} {words = words} spelled xs rest e b = go (reword xs rest e b)
+    where
+      go : {xs : List Lexeme} → Begins most (word.Name name ∷ words) xs rest → (next_is kind.Name xs ≡ true) × (length rest < length xs)
+      go b = (at_head (λ those. next_is kind.Name those ≡ true) (λ bytes at others. refl) b, shorter_by_one b)
+
+  defines_at : (those : List Define) → HasAny those → AllByRecursion IsDefine those → (xs rest : List Lexeme) → Begins most (flat_map define_words those) xs rest → next_is kind.Name rest ≡ false →
+      Reads (λ value. map define_shape value ≡ map define_shape those) rest (greatest_of define_depth those) limit (group most (define (levels wide limit).expr) xs)
+  defines_at those has are xs rest b ends =
+      group_at most limit (define (levels wide limit).expr) define_shape define_depth IsDefine (λ t words. words ≡ define_words t) (λ t is words xs rest spells b. named_first words xs rest spells b) (λ t is words spells xs rest b. define_at t is words spells xs rest b)
+      those has are (flat_map define_words those) (each_of define_words those) most xs rest b (bound_of b) ends
+
+  directions_at : (those : List DirDef) → HasAny those → AllByRecursion IsDirection those → (xs rest : List Lexeme) → Begins most (flat_map direction_words those) xs rest → next_is kind.Name rest ≡ false →
+      Reads (λ value. map direction_shape value ≡ map direction_shape those) rest (greatest_of direction_depth those) limit (group most (direction most (levels wide limit).expr) xs)
+  directions_at those has are xs rest b ends =
+      group_at most limit (direction most (levels wide limit).expr) direction_shape direction_depth IsDirection (λ t words. words ≡ direction_words t) (λ t is words xs rest spells b. named_first words xs rest spells b) (λ t is words spells xs rest b. direction_at t is words spells xs rest b)
+      those has are (flat_map direction_words those) (each_of direction_words those) most xs rest b (bound_of b) ends
+
+  vars_at : (those : List VarDef) → HasAny those → AllByRecursion IsVar those → (xs rest : List Lexeme) → Begins most (flat_map var_words those) xs rest → next_is kind.Name rest ≡ false →
+      Reads (SameVars those) rest (greatest_of var_depth those) limit (group most (variables most (levels wide limit).expr) xs)
+  vars_at those has are xs rest b ends =
+      group_at most limit (variables most (levels wide limit).expr) var_shape var_depth IsVar (λ t words. words ≡ var_words t) (λ t is words xs rest spells b. var_named t is (reword xs rest spells b)) (λ t is words spells xs rest b. variables_at most t is xs rest (reword xs rest spells b) (let short = bound_of b in omega arith))
+      those has are (flat_map var_words those) (each_of var_words those) most xs rest b (bound_of b) ends
+
+  region_named : (t : RegionDef) (words : List Word) → SpellsRegion t words → (xs rest : List Lexeme) → Begins most words xs rest → (next_is kind.Name xs ≡ true) × (length rest < length xs)
+  region_named t words (inl spells) xs rest b = named_first words xs rest spells b
+  region_named t words (inr spells) xs rest b = named_first words xs rest spells.2 b
+
+  regions_at : (those : List RegionDef) → HasAny those → AllByRecursion IsRegion those → (words : List Word) → SpellsEach SpellsRegion those words → (xs rest : List Lexeme) → Begins most words xs rest → next_is kind.Name rest ≡ false →
+      Reads (λ value. map region_shape value ≡ map region_shape those) rest (greatest_of region_depth those) limit (group most (region most (levels wide limit).expr) xs)
+  regions_at those has are words spells xs rest b ends =
+      group_at most limit (region most (levels wide limit).expr) region_shape region_depth IsRegion SpellsRegion (λ t is words xs rest spells b. region_named t words spells xs rest b) (λ t is words spells xs rest b. region_at t is words spells xs rest b)
+      those has are words spells most xs rest b (bound_of b) ends
+
+  -- a declaration behind its keyword, and what goes on with none of its definitions behind it
+  abbrev DeclAt : Decl → List Word → Type 0
+  DeclAt t words = (deeper : ℕ) → suc deeper ≡ limit → (xs rest : List Lexeme) → Begins (suc most) words xs rest → next_is kind.Name rest ≡ false →
+      Reads (SameDecl t) rest (decl_depth t) limit (decl_by most (levels wide limit).expr deeper (part_of (head_kind xs)) xs)
+
+  config_at : (those : List Define) → HasAny those → AllByRecursion IsDefine those → DeclAt (Config those) (word.Keyword key.Config ∷ word.Keyword key.Var ∷ flat_map define_words those)
+  config_at those has are deeper e xs rest (more w bytes place bound (more v other where_at after b)) ends =
+      made_reads Config (λ value same. ap Config same) (defines_at those has are _ rest (narrower (omega arith) b) ends)
+
+  constant_at : (those : List Define) → HasAny those → AllByRecursion IsDefine those → DeclAt (Constant those) (word.Keyword key.Constant ∷ flat_map define_words those)
+  constant_at those has are deeper e xs rest (more w bytes place bound b) ends =
+      made_reads Constant (λ value same. ap Constant same) (defines_at those has are _ rest (narrower (omega arith) b) ends)
+
+  directions_decl : (those : List DirDef) → HasAny those → AllByRecursion IsDirection those → DeclAt (Directions those) (word.Keyword key.Direction ∷ flat_map direction_words those)
+  directions_decl those has are deeper e xs rest (more w bytes place bound b) ends =
+      made_reads Directions (λ value same. ap Directions same) (directions_at those has are _ rest (narrower (omega arith) b) ends)
+
+  vars_decl : (those : List VarDef) → HasAny those → AllByRecursion IsVar those → DeclAt (Vars those) (word.Keyword key.Var ∷ flat_map var_words those)
+  vars_decl those has are deeper e xs rest (more w bytes place bound b) ends =
+      made_reads Vars (λ value same. ap Vars same) (vars_at those has are _ rest (narrower (omega arith) b) ends)
+
+  regions_decl : (those : List RegionDef) → HasAny those → AllByRecursion IsRegion those → (words : List Word) → SpellsEach SpellsRegion those words → DeclAt (Regions those) (word.Keyword key.Region ∷ words)
+  regions_decl those has are words spells deeper e xs rest (more w bytes place bound b) ends =
+      made_reads Regions (λ value same. ap Regions same) (regions_at those has are words spells _ rest (narrower (omega arith) b) ends)
+
+  procedure_decl : (t : Procedure) → IsProcedure t → (local_words : List Word) → SpellsLocals t.locals local_words → DeclAt (Defined t) ((heading_words t ++ local_words) ++ stmt_words t.body)
+  procedure_decl t is local_words spells deeper e xs rest (more w bytes place bound b) ends =
+      made_reads Defined (λ value same. ap Defined same) (procedure_at t is local_words spells deeper e _ rest (narrower (omega arith) b))
+
+  decl_at : (t : Decl) → IsDecl t → (words : List Word) → SpellsDecl t words → DeclAt t words
+  decl_at (Config those) is words spells deeper e xs rest b ends = config_at those is.0 is.1 deeper e xs rest (reword xs rest spells b) ends
+  decl_at (Constant those) is words spells deeper e xs rest b ends = constant_at those is.0 is.1 deeper e xs rest (reword xs rest spells b) ends
+  decl_at (Regions those) is words spells deeper e xs rest b ends = regions_decl those is.0 is.1 spells.0 spells.1 deeper e xs rest (reword xs rest spells.2 b) ends
+  decl_at (Directions those) is words spells deeper e xs rest b ends = directions_decl those is.0 is.1 deeper e xs rest (reword xs rest spells b) ends
+  decl_at (Vars those) is words spells deeper e xs rest b ends = vars_decl those is.0 is.1 deeper e xs rest (reword xs rest spells b) ends
+  decl_at (Defined t) is words spells deeper e xs rest b ends = procedure_decl t is spells.0 spells.1 deeper e xs rest (reword xs rest spells.2 b) ends
+
+-- how a declaration begins
+pub record OpensDecl (xs rest : List Lexeme) : Type 0 where
+  pub plain : next_is kind.End xs ≡ false
+  pub named : next_is kind.Name xs ≡ false
+  pub fewer : length rest < length xs
+
+module _ {most : ℕ} where
+  keyword_opens : {k : Key} {words : List Word} {xs rest : List Lexeme} → Begins most (word.Keyword k ∷ words) xs rest → OpensDecl xs rest
+  keyword_opens b = record { plain = at_head (λ those. next_is kind.End those ≡ false) (λ bytes at others. refl) b; named = at_head (λ those. next_is kind.Name those ≡ false) (λ bytes at others. refl) b; fewer = shorter_by_one b }
+
+  decl_opens : (t : Decl) (words : List Word) → SpellsDecl t words → (xs rest : List Lexeme) → Begins most words xs rest → OpensDecl xs rest
+  decl_opens (Config those) words spells xs rest b = keyword_opens (reword xs rest spells b)
+  decl_opens (Constant those) words spells xs rest b = keyword_opens (reword xs rest spells b)
+  decl_opens (Regions those) words spells xs rest b = keyword_opens (reword xs rest spells.2 b)
+  decl_opens (Directions those) words spells xs rest b = keyword_opens (reword xs rest spells b)
+  decl_opens (Vars those) words spells xs rest b = keyword_opens (reword xs rest spells b)
+  decl_opens (Defined t) words spells xs rest b = keyword_opens (reword xs rest spells.2 b)
+
+  decls_named : (those : List Decl) (words : List Word) → SpellsEach SpellsDecl those words → (xs middle rest : List Lexeme) → Begins most words xs middle → Begins most (word.End ∷ []) middle rest → next_is kind.Name xs ≡ false
+  decls_named [] words spells xs middle rest b c = go (reword xs middle spells b) c
+    where
+      go : {xs middle rest : List Lexeme} → Begins most [] xs middle → Begins most (word.End ∷ []) middle rest → next_is kind.Name xs ≡ false
+      go (none bound) (more w bytes at limit c) = refl
+  decls_named (first ∷ others) words spells xs middle rest b c =
+      let parts : Split most spells.0 spells.1 xs middle = split spells.0 spells.1 (reword xs middle spells.4 b) in
+      (decl_opens first spells.0 spells.2 xs parts.middle parts.first).named
+
+-- { decl } END
+module _ (wide limit deeper : ℕ) (e : suc deeper ≡ limit) where
+  no_decls : (turns : ℕ) {xs middle rest : List Lexeme} → Begins wide [] xs middle → Begins wide (word.End ∷ []) middle rest → Reads (SameDecls []) rest 0 limit (decls (suc turns) (levels wide limit).expr deeper xs)
+  no_decls turns (none bound) (more w bytes at after (none last)) = read [] (zero_fits limit) refl
+
+  decls_at : (those : List Decl) → AllByRecursion IsDecl those → (words : List Word) → SpellsEach SpellsDecl those words → (turns : ℕ) (xs middle rest : List Lexeme) → Begins wide words xs middle → Begins wide (word.End ∷ []) middle rest → length xs < turns → turns ≤ wide →
+      Reads (SameDecls those) rest (greatest_of decl_depth those) limit (decls turns (levels wide limit).expr deeper xs)
+  decls_at those are words spells zero xs middle rest b c short fits = absurd (omega arith)
+  decls_at [] are words spells (suc turns) xs middle rest b c short fits = no_decls turns (reword xs middle spells b) c
+  decls_at (first ∷ others) are words spells (suc turns) xs middle rest b c short fits =
+      let parts : Split wide spells.0 spells.1 xs middle = split spells.0 spells.1 (reword xs middle spells.4 b) in
+      let opens : OpensDecl xs parts.middle = decl_opens first spells.0 spells.2 xs parts.middle parts.first in
+      let fewer = opens.fewer in
+      rw (opens.plain, decls) (then_reads _ (decl_at wide turns limit (omega arith) first are.0 spells.0 spells.2 deeper e xs parts.middle (narrower short parts.first) (decls_named others spells.1 spells.3 parts.middle middle rest parts.then c))
+      (λ value same. made_reads (λ those. value ∷ those) (λ those alike. cc) (decls_at others are.1 spells.1 spells.3 turns parts.middle middle rest parts.then c (omega arith) (omega arith))))
