@@ -534,7 +534,7 @@ module _ (wide limit deeper : ℕ) (e : suc deeper ≡ limit) where
   no_decls : (turns : ℕ) {xs middle rest : List Lexeme} → Begins wide [] xs middle → Begins wide (word.End ∷ []) middle rest → Reads (SameDecls []) rest 0 limit (decls (suc turns) (levels wide limit).expr deeper xs)
   no_decls turns (none bound) (more w bytes at after (none last)) = read [] (zero_fits limit) refl
 
-  decls_at : (those : List Decl) → AllByRecursion IsDecl those → (words : List Word) → SpellsEach SpellsDecl those words → (turns : ℕ) (xs middle rest : List Lexeme) → Begins wide words xs middle → Begins wide (word.End ∷ []) middle rest → length xs < turns → turns ≤ wide →
+  pub decls_at : (those : List Decl) → AllByRecursion IsDecl those → (words : List Word) → SpellsEach SpellsDecl those words → (turns : ℕ) (xs middle rest : List Lexeme) → Begins wide words xs middle → Begins wide (word.End ∷ []) middle rest → length xs < turns → turns ≤ wide →
       Reads (SameDecls those) rest (greatest_of decl_depth those) limit (decls turns (levels wide limit).expr deeper xs)
   decls_at those are words spells zero xs middle rest b c short fits = absurd (omega arith)
   decls_at [] are words spells (suc turns) xs middle rest b c short fits = no_decls turns (reword xs middle spells b) c

@@ -6,3 +6,4 @@ pub mod CompleteExprs
 pub mod CompleteHere
 pub mod CompleteStatements
 pub mod CompleteDeclarations
+pub mod CompleteProgram
