@@ -21,3 +21,12 @@ pub mod AtExprs
 pub mod AtStmts
 pub mod AtDecls
 mod PlaceExamples
+pub mod CompleteBase
+pub mod CompleteLevels
+pub mod CompleteOpens
+pub mod CompleteParts
+pub mod CompleteExprs
+pub mod CompleteHere
+pub mod CompleteStatements
+pub mod CompleteDeclarations
+pub mod CompleteProgram
