@@ -15,7 +15,6 @@ pub mod ViableBase
 pub mod ViableExprs
 pub mod ViableStmts
 pub mod ViableDecls
-pub mod Whole
 pub mod AtBase
 pub mod AtExprs
 pub mod AtStmts
@@ -30,3 +29,4 @@ pub mod CompleteHere
 pub mod CompleteStatements
 pub mod CompleteDeclarations
 pub mod CompleteProgram
+pub mod Whole

@@ -31,6 +31,7 @@ use Rattle.zpl_parse.proofs.SoundProgram.{heads, tails, HaveNoEnd, found_no_end,
 use Rattle.zpl_parse.proofs.Local.{LocalAt, SameHead, IsWrong, IsNotDone}
 use Rattle.zpl_parse.proofs.LocalTokens.{Turns}
 use Rattle.zpl_parse.proofs.LocalDeclarations.{program_local}
+use Rattle.zpl_parse.proofs.CompleteProgram.{program_is_complete}
 use Rattle.zpl_parse.proofs.ViableBase.{Begun}
 use Rattle.zpl_parse.proofs.ViableDecls.{program_viable}
 
@@ -158,12 +159,6 @@ length-lexemes_of : (text : List ℕ) (tokens : List Token) → length (lexemes_
 length-lexemes_of text [] = refl
 length-lexemes_of text (t ∷ tokens) = ap suc (length-lexemes_of text tokens)
 
--- What is read of the words of a program of the grammar: a program of the same shape, or its tree is too deep.
-abbrev pub IsComplete : Type 0
-IsComplete = (source : List ℕ) (most : ℕ) (tree : Program) (words : List Word) (lexemes : List Lexeme) → Spells tree words → AreLexemes lexemes words → length lexemes < most →
-    ((depth tree ≤ most_deep) × ((other : Program) × (program source most lexemes ≡ Done other []) × SameShape other tree)) ⊎
-    ((most_deep < depth tree) × ((rest : List Lexeme) × (program source most lexemes ≡ Deep rest)))
-
 not_wrong : {A : Type 0} (tree : A) (rest : List Lexeme) (outcome : Outcome A) → outcome ≡ Done tree rest → IsWrong outcome → ⊥
 not_wrong tree rest outcome is wrong = subst IsWrong is wrong
 
@@ -206,12 +201,12 @@ deep_anyhow source text most wide below front back rest others deep left =
     subst (λ l. IsNotDone (program source wide (l ++ others))) same (here.3 tt others)
 
 -- what the rule of programs answers, whatever bounds its lists, if that is more than there are tokens
-abbrev pub IsWrongAt : List ℕ → List ℕ → List Token → ℕ → Type 0
-IsWrongAt source text tokens at =
+abbrev pub AnswersWrong : List ℕ → List ℕ → List Token → ℕ → Type 0
+AnswersWrong source text tokens at =
     (most : ℕ) → length tokens < most → (rest : List Lexeme) × (program source most (lexemes_of text tokens) ≡ Wrong rest) × (at ≡ head_at rest)
 
-abbrev pub IsDeep : List ℕ → List ℕ → List Token → Type 0
-IsDeep source text tokens = (most : ℕ) → length tokens < most → (rest : List Lexeme) × (program source most (lexemes_of text tokens) ≡ Deep rest)
+abbrev pub AnswersDeep : List ℕ → List ℕ → List Token → Type 0
+AnswersDeep source text tokens = (most : ℕ) → length tokens < most → (rest : List Lexeme) × (program source most (lexemes_of text tokens) ≡ Deep rest)
 
 -- the lexemes of tokens that begin a program's words, and the rest of them
 long_enough : (text : List ℕ) (tokens : List Token) (more : List Lexeme) → length (lexemes_of text tokens ++ more) < suc (length tokens + length more)
@@ -242,94 +237,93 @@ takes_tokens text at (t ∷ tokens) spans (one {first = first} {w = w} reads inn
 same_done : (one two : Program) → Done one [] ≡ Done two [] → one ≡ two
 same_done first second e = cc
 
-module _ (complete : IsComplete) where
-  -- no text of the grammar begins with the tokens up to one at which the rule is wrong
-  none_begins : (source text : List ℕ) (tokens : List Token) (at : ℕ) → IsTokens text tokens → AreSpans text 0 tokens → IsWrongAt source text tokens at →
-      (front back : List Token) (t : Token) → tokens ≡ front ++ t ∷ back → t.from ≡ at → ¬ BeginsText text (front ++ t ∷ [])
-  none_begins source text tokens at are spans wrong front back t split place begins =
-      let on = continue text (front ++ t ∷ []) begins.words begins.first in
-      let lexemes : List Lexeme = lexemes_of text (front ++ t ∷ []) ++ on.more in
-      let most : ℕ = suc (length tokens + suc (length (front ++ t ∷ []) + length on.more)) in
-      let here = wrong most (omega arith) in
-      let left = wrong_is_left source text most tokens here.0 here.1 in
-      let found = token_is_left text tokens here.0 are left in
-      let there : tokens ≡ left.front ++ found.0 ∷ found.1 = left.split ∙ ap (λ l. left.front ++ l) found.2 in
-      let begun : here.0 ≡ lexemes_of text (found.0 ∷ found.1) = left.left ∙ ap (lexemes_of text) found.2 in
-      let same_from : t.from ≡ found.0.from = place ∙ (here.2 ∙ ap head_at begun) in
-      let rise : Rise 0 (front ++ t ∷ back) = subst (Rise 0) split (tokens_rise text tokens are spans) in
-      let same = same_place 0 front left.front t found.0 back found.1 rise (sym split ∙ there) same_from in
-      let is_wrong : IsWrong (program source most lexemes) =
-      subst (λ f. IsWrong (program source most (lexemes_of text f ++ on.more))) (sym (ap (λ f. f ++ t ∷ []) same.0 ∙ ap (λ u. left.front ++ u ∷ []) same.1))
-      (wrong_anyhow source text most left.front found.1 found.0 here.0 on.more (ap (λ l. program source most (lexemes_of text l)) (sym there) ∙ here.1) begun) in
-      go most lexemes begins.program is_wrong (complete source most begins.program begins.words lexemes begins.spells on.are (let e = long_enough text (front ++ t ∷ []) on.more in omega arith))
-    where
-      go : (most : ℕ) (lexemes : List Lexeme) (tree : Program) → IsWrong (program source most lexemes) →
-          ((depth tree ≤ most_deep) × ((other : Program) × (program source most lexemes ≡ Done other []) × SameShape other tree)) ⊎
-          ((most_deep < depth tree) × ((rest : List Lexeme) × (program source most lexemes ≡ Deep rest))) → ⊥
-      go most lexemes tree wrong (inl read) = not_wrong read.1.0 [] (program source most lexemes) read.1.1 wrong
-      go most lexemes tree wrong (inr deep) = deep_not_wrong deep.1.0 (program source most lexemes) deep.1.1 wrong
+-- no text of the grammar begins with the tokens up to one at which the rule is wrong
+none_begins : (source text : List ℕ) (tokens : List Token) (at : ℕ) → IsTokens text tokens → AreSpans text 0 tokens → AnswersWrong source text tokens at →
+    (front back : List Token) (t : Token) → tokens ≡ front ++ t ∷ back → t.from ≡ at → ¬ BeginsText text (front ++ t ∷ [])
+none_begins source text tokens at are spans wrong front back t split place begins =
+    let on = continue text (front ++ t ∷ []) begins.words begins.first in
+    let lexemes : List Lexeme = lexemes_of text (front ++ t ∷ []) ++ on.more in
+    let most : ℕ = suc (length tokens + suc (length (front ++ t ∷ []) + length on.more)) in
+    let here = wrong most (omega arith) in
+    let left = wrong_is_left source text most tokens here.0 here.1 in
+    let found = token_is_left text tokens here.0 are left in
+    let there : tokens ≡ left.front ++ found.0 ∷ found.1 = left.split ∙ ap (λ l. left.front ++ l) found.2 in
+    let begun : here.0 ≡ lexemes_of text (found.0 ∷ found.1) = left.left ∙ ap (lexemes_of text) found.2 in
+    let same_from : t.from ≡ found.0.from = place ∙ (here.2 ∙ ap head_at begun) in
+    let rise : Rise 0 (front ++ t ∷ back) = subst (Rise 0) split (tokens_rise text tokens are spans) in
+    let same = same_place 0 front left.front t found.0 back found.1 rise (sym split ∙ there) same_from in
+    let is_wrong : IsWrong (program source most lexemes) =
+    subst (λ f. IsWrong (program source most (lexemes_of text f ++ on.more))) (sym (ap (λ f. f ++ t ∷ []) same.0 ∙ ap (λ u. left.front ++ u ∷ []) same.1))
+    (wrong_anyhow source text most left.front found.1 found.0 here.0 on.more (ap (λ l. program source most (lexemes_of text l)) (sym there) ∙ here.1) begun) in
+    go most lexemes begins.program is_wrong (program_is_complete source most begins.program begins.words lexemes begins.spells on.are (let e = long_enough text (front ++ t ∷ []) on.more in omega arith))
+  where
+    go : (most : ℕ) (lexemes : List Lexeme) (tree : Program) → IsWrong (program source most lexemes) →
+        ((depth tree ≤ most_deep) × ((other : Program) × (program source most lexemes ≡ Done other []) × SameShape other tree)) ⊎
+        ((most_deep < depth tree) × ((rest : List Lexeme) × (program source most lexemes ≡ Deep rest))) → ⊥
+    go most lexemes tree wrong (inl read) = not_wrong read.1.0 [] (program source most lexemes) read.1.1 wrong
+    go most lexemes tree wrong (inr deep) = deep_not_wrong deep.1.0 (program source most lexemes) deep.1.1 wrong
 
-  -- every tree whose words begin with those that were taken is too deep
-  too_deep_anyhow : (source text : List ℕ) (most : ℕ) (front back : List Token) (rest : List Lexeme) → program source most (lexemes_of text (front ++ back)) ≡ Deep rest → rest ≡ lexemes_of text back →
-      (tree : Program) (words : List Word) → Spells tree words → AreFirstWords text front words → most_deep < depth tree
-  too_deep_anyhow source text most front back rest deep left tree words spells first =
-      let on = continue text front words first in
-      let wide : ℕ = most + suc (length front + length on.more) in
-      let open_ : IsNotDone (program source wide (lexemes_of text front ++ on.more)) = deep_anyhow source text most wide (omega arith) front back rest on.more deep left in
-      go wide (lexemes_of text front ++ on.more) open_ (complete source wide tree words (lexemes_of text front ++ on.more) spells on.are (let e = long_enough text front on.more in omega arith))
-    where
-      go : (wide : ℕ) (lexemes : List Lexeme) → IsNotDone (program source wide lexemes) →
-          ((depth tree ≤ most_deep) × ((other : Program) × (program source wide lexemes ≡ Done other []) × SameShape other tree)) ⊎
-          ((most_deep < depth tree) × ((rest : List Lexeme) × (program source wide lexemes ≡ Deep rest))) → most_deep < depth tree
-      go wide lexemes open_ (inl read) = absurd (subst IsNotDone read.1.1 open_)
-      go wide lexemes open_ (inr deep) = deep.0
+-- every tree whose words begin with those that were taken is too deep
+too_deep_anyhow : (source text : List ℕ) (most : ℕ) (front back : List Token) (rest : List Lexeme) → program source most (lexemes_of text (front ++ back)) ≡ Deep rest → rest ≡ lexemes_of text back →
+    (tree : Program) (words : List Word) → Spells tree words → AreFirstWords text front words → most_deep < depth tree
+too_deep_anyhow source text most front back rest deep left tree words spells first =
+    let on = continue text front words first in
+    let wide : ℕ = most + suc (length front + length on.more) in
+    let open_ : IsNotDone (program source wide (lexemes_of text front ++ on.more)) = deep_anyhow source text most wide (omega arith) front back rest on.more deep left in
+    go wide (lexemes_of text front ++ on.more) open_ (program_is_complete source wide tree words (lexemes_of text front ++ on.more) spells on.are (let e = long_enough text front on.more in omega arith))
+  where
+    go : (wide : ℕ) (lexemes : List Lexeme) → IsNotDone (program source wide lexemes) →
+        ((depth tree ≤ most_deep) × ((other : Program) × (program source wide lexemes ≡ Done other []) × SameShape other tree)) ⊎
+        ((most_deep < depth tree) × ((rest : List Lexeme) × (program source wide lexemes ≡ Deep rest))) → most_deep < depth tree
+    go wide lexemes open_ (inl read) = absurd (subst IsNotDone read.1.1 open_)
+    go wide lexemes open_ (inr deep) = deep.0
 
-  -- Where the rule is wrong there is a fault.
-  pub wrong_is_fault : (source text : List ℕ) (tokens : List Token) (at : ℕ) → IsTokens text tokens → AreSpans text 0 tokens → IsWrongAt source text tokens at → IsSyntaxFault text tokens at
-  wrong_is_fault source text tokens at are spans wrong =
-      let most : ℕ = suc (length tokens) in
-      let here = wrong most (omega arith) in
-      let left = wrong_is_left source text most tokens here.0 here.1 in
-      let found = token_is_left text tokens here.0 are left in
-      let split : tokens ≡ left.front ++ found.0 ∷ found.1 = left.split ∙ ap (λ l. left.front ++ l) found.2 in
-      let place : found.0.from ≡ at = sym (here.2 ∙ ap head_at (left.left ∙ ap (lexemes_of text) found.2)) in
-      record { front = left.front; token = found.0; back = found.1; split = split; place = place; none = none_begins source text tokens at are spans wrong left.front found.1 found.0 split place }
+-- Where the rule is wrong there is a fault.
+pub wrong_is_fault : (source text : List ℕ) (tokens : List Token) (at : ℕ) → IsTokens text tokens → AreSpans text 0 tokens → AnswersWrong source text tokens at → IsSyntaxFault text tokens at
+wrong_is_fault source text tokens at are spans wrong =
+    let most : ℕ = suc (length tokens) in
+    let here = wrong most (omega arith) in
+    let left = wrong_is_left source text most tokens here.0 here.1 in
+    let found = token_is_left text tokens here.0 are left in
+    let split : tokens ≡ left.front ++ found.0 ∷ found.1 = left.split ∙ ap (λ l. left.front ++ l) found.2 in
+    let place : found.0.from ≡ at = sym (here.2 ∙ ap head_at (left.left ∙ ap (lexemes_of text) found.2)) in
+    record { front = left.front; token = found.0; back = found.1; split = split; place = place; none = none_begins source text tokens at are spans wrong left.front found.1 found.0 split place }
 
-  -- Where the rule is too deep every tree is.
-  pub deep_is_fault : (source text : List ℕ) (tokens : List Token) → IsTokens text tokens → AreSpans text 0 tokens → IsDeep source text tokens → IsTooDeep text tokens
-  deep_is_fault source text tokens are spans deep =
-      let most : ℕ = suc (length tokens) in
-      let here = deep most (omega arith) in
-      let begun : Begun Spells (lexemes_of text tokens) (Deep here.0) = subst (Begun Spells (lexemes_of text tokens)) here.1 (program_viable source most (lexemes_of text tokens)).begun in
-      let taken = takes_tokens text 0 tokens spans begun.1 refl in
-      record {
-        front = taken.front;
-        back = taken.back;
-        split = taken.split;
-        begins = record { program = begun.2.tree; words = begun.0 ++ begun.2.more; spells = begun.2.says; first = taken.first begun.2.more };
-        deep = λ tree words spells first. too_deep_anyhow source text most taken.front taken.back here.0 (ap (λ l. program source most (lexemes_of text l)) (sym taken.split) ∙ here.1) taken.left tree words spells first;
-      }
+-- Where the rule is too deep every tree is.
+pub deep_is_fault : (source text : List ℕ) (tokens : List Token) → IsTokens text tokens → AreSpans text 0 tokens → AnswersDeep source text tokens → IsTooDeep text tokens
+deep_is_fault source text tokens are spans deep =
+    let most : ℕ = suc (length tokens) in
+    let here = deep most (omega arith) in
+    let begun : Begun Spells (lexemes_of text tokens) (Deep here.0) = subst (Begun Spells (lexemes_of text tokens)) here.1 (program_viable source most (lexemes_of text tokens)).begun in
+    let taken = takes_tokens text 0 tokens spans begun.1 refl in
+    record {
+      front = taken.front;
+      back = taken.back;
+      split = taken.split;
+      begins = record { program = begun.2.tree; words = begun.0 ++ begun.2.more; spells = begun.2.says; first = taken.first begun.2.more };
+      deep = λ tree words spells first. too_deep_anyhow source text most taken.front taken.back here.0 (ap (λ l. program source most (lexemes_of text l)) (sym taken.split) ∙ here.1) taken.left tree words spells first;
+    }
 
-  -- What has a tree that is not too deep is read as one of the same shape.
-  pub tree_is_read : (source text : List ℕ) (tokens : List Token) (tree : Program) → IsTree text tokens tree → (most : ℕ) → length tokens < most →
-      (other : Program) × (program source most (lexemes_of text tokens) ≡ Done other []) × SameShape other tree
-  tree_is_read source text tokens tree is most enough =
-      go (complete source most tree is.words (lexemes_of text tokens) is.spells (all_lexemes text tokens is.words is.are) (let e = length-lexemes_of text tokens in omega arith))
-    where
-      go : ((depth tree ≤ most_deep) × ((other : Program) × (program source most (lexemes_of text tokens) ≡ Done other []) × SameShape other tree)) ⊎
-          ((most_deep < depth tree) × ((rest : List Lexeme) × (program source most (lexemes_of text tokens) ≡ Deep rest))) →
-          (other : Program) × (program source most (lexemes_of text tokens) ≡ Done other []) × SameShape other tree
-      go (inl read) = read.1
-      go (inr deep) = absurd (omega (arith, deep.0, is.shallow))
+-- What has a tree that is not too deep is read as one of the same shape.
+pub tree_is_read : (source text : List ℕ) (tokens : List Token) (tree : Program) → IsTree text tokens tree → (most : ℕ) → length tokens ≤ most →
+    (other : Program) × (program source most (lexemes_of text tokens) ≡ Done other []) × SameShape other tree
+tree_is_read source text tokens tree is most enough =
+    go (program_is_complete source most tree is.words (lexemes_of text tokens) is.spells (all_lexemes text tokens is.words is.are) (let e = length-lexemes_of text tokens in omega arith))
+  where
+    go : ((depth tree ≤ most_deep) × ((other : Program) × (program source most (lexemes_of text tokens) ≡ Done other []) × SameShape other tree)) ⊎
+        ((most_deep < depth tree) × ((rest : List Lexeme) × (program source most (lexemes_of text tokens) ≡ Deep rest))) →
+        (other : Program) × (program source most (lexemes_of text tokens) ≡ Done other []) × SameShape other tree
+    go (inl read) = read.1
+    go (inr deep) = absurd (omega (arith, deep.0, is.shallow))
 
-  -- A text has at most one tree, up to its shape.
-  pub one_tree : (text : List ℕ) (tokens : List Token) (tree other : Program) → IsTree text tokens tree → IsTree text tokens other → SameShape tree other
-  one_tree text tokens tree other is too =
-      let most : ℕ = suc (length tokens) in
-      let one = tree_is_read [] text tokens tree is most (omega arith) in
-      let two = tree_is_read [] text tokens other too most (omega arith) in
-      let same : one.0 ≡ two.0 = same_done one.0 two.0 (sym one.1 ∙ two.1) in
-      sym one.2 ∙ (ap shape_of same ∙ two.2)
+-- A text has at most one tree, up to its shape.
+pub one_tree : (text : List ℕ) (tokens : List Token) (tree other : Program) → IsTree text tokens tree → IsTree text tokens other → SameShape tree other
+one_tree text tokens tree other is too =
+    let most : ℕ = suc (length tokens) in
+    let one = tree_is_read [] text tokens tree is most (omega arith) in
+    let two = tree_is_read [] text tokens other too most (omega arith) in
+    let same : one.0 ≡ two.0 = same_done one.0 two.0 (sym one.1 ∙ two.1) in
+    sym one.2 ∙ (ap shape_of same ∙ two.2)
 
 -- A text that has a tree has no fault.
 pub tree_no_fault : (text : List ℕ) (tokens : List Token) (tree : Program) (at : ℕ) → IsTree text tokens tree → IsSyntaxFault text tokens at → ⊥
