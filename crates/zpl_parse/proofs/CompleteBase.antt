@@ -1,6 +1,5 @@
 -- What a reader makes of words that stand before others: how one reader's completeness follows from those that it is made of.
-use Rattle.std.proofs.Common.{◌≡◌, ℕ, suc, ◌+◌, ◌<◌, ◌≤◌, ◌==◌, max, Bool, true, false, List, [], ◌∷◌, ◌++◌, length, codes, refl, sym, ap, subst, ◌∙◌, arith, rules, append_assoc}
-use Rattle.zpl_tokens.specs.declared.Kind.{Kind}
+use Rattle.std.proofs.Common.{◌≡◌, ℕ, suc, ◌<◌, ◌≤◌, ◌==◌, max, true, List, [], ◌∷◌, ◌++◌, length, refl, ap, subst, arith, rules, append_assoc}
 use Rattle.zpl_tokens.specs.declared.Kind.TheVariants as kind
 use Rattle.zpl_tokens.specs.declared.keywords.Key.{Key}
 use Rattle.zpl_tokens.specs.declared.keywords.Key.TheVariants as key
@@ -8,12 +7,10 @@ use Rattle.zpl_tokens.specs.declared.symbols.Sym.{Sym}
 use Rattle.zpl_tokens.specs.declared.symbols.Sym.TheVariants as sym
 use Rattle.zpl_tree.specs.Word.{Word, kind_of, word_text}
 use Rattle.zpl_tree.specs.Word as word
-use Rattle.zpl_grammar.specs.Written.{HasBytes}
-use Rattle.zpl_parse.specs.Lexeme.{Lexeme, head_kind, behind}
-use Rattle.zpl_parse.specs.Written.{IsLexeme, AreLexemes}
-use Rattle.zpl_parse.specs.Outcome.{Outcome, Done, Wrong, Deep, Reader, and_then, made, too_deep}
+use Rattle.zpl_parse.specs.Lexeme.{Lexeme}
+use Rattle.zpl_parse.specs.Outcome.{Outcome, Done, Deep, Reader, and_then, made}
 use Rattle.zpl_parse.specs.Same.{same, symbol_number, key_number}
-use Rattle.zpl_parse.specs.Tokens.{next_is, taken, expect, symbol, keyword, in_quotes, without_last, closing}
+use Rattle.zpl_parse.specs.Tokens.{symbol, keyword, in_quotes, without_last, closing}
 
 -- the bytes of a word, which only a name and a string say
 abbrev pub bytes_of : Word → List ℕ → List ℕ

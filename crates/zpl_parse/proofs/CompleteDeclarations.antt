@@ -1,31 +1,30 @@
 -- The rules of declarations are complete: words of a declaration of the grammar are read as one of the same shape, or are too deep.
-use Rattle.std.proofs.Common.{◌≡◌, ℕ, suc, zero, ◌+◌, ◌<◌, ◌≤◌, max, Bool, true, false, List, [], ◌∷◌, ◌++◌, map, length, if◌then◌else◌, Option, Some, None, ◌⊎◌, inl, inr, refl, sym, ap, subst, ◌∙◌, arith, append-nil}
+use Rattle.std.proofs.Common.{◌≡◌, ℕ, suc, zero, ◌+◌, ◌<◌, ◌≤◌, max, Bool, true, false, List, [], ◌∷◌, ◌++◌, map, length, Option, Some, None, ◌⊎◌, inl, inr, refl, sym, ap, subst, arith}
 use Rattle.std.specs.Option.{option_map}
 use Rattle.std.specs.List.{flat_map, AllByRecursion}
 use Rattle.zpl_tokens.specs.declared.Kind.TheVariants as kind
 use Rattle.zpl_tokens.specs.declared.keywords.Key.{Key}
 use Rattle.zpl_tokens.specs.declared.keywords.Key.TheVariants as key
-use Rattle.zpl_tokens.specs.declared.symbols.Sym.{Sym}
 use Rattle.zpl_tokens.specs.declared.symbols.Sym.TheVariants as sym
 use Rattle.zpl_tree.specs.Word.{Word}
 use Rattle.zpl_tree.specs.Word as word
-use Rattle.zpl_tree.specs.Syntax.{Name, Expr, Exprs, Inner, Rexpr, Dims, Bracket, NoBracket, Bracketed, Posts, NoPost, ThenPost, Pre, RegionBase, NamedRegion, Ditto, Prefix, Stmt, Prefixed, Stmts, Assign, Invoke, Block, If, While, Repeat, For, Border, Write, Return, Base, Integer, Boolean, Other, Define, RegionDef, DirDef, VarDef, Param, Procedure, Decl, Config, Constant, Regions, Directions, Vars, Defined, Program}
-use Rattle.zpl_tree.specs.Depth.{expr_depth, exprs_depth, inner_depth, bracket_depth, posts_depth, greatest_of, prefix_depth, stmt_depth, nest_depth, stmts_depth, stmts_nest, define_depth, region_depth, direction_depth, var_depth, param_depth, procedure_depth, decl_depth, depth}
-use Rattle.zpl_tree.specs.Shape.{name_shape, stmt_shape, base_type_shape, define_shape, region_shape, direction_shape, var_shape, param_shape, procedure_shape, decl_shape, shape_of, SameShape}
-use Rattle.zpl_tree.specs.Spelling.{keyword as keyword_of, expr_words, exprs_words, inner_words, bracket_words, posts_words, pre_words, base_words, names_words, prefix_words, end_words, stmt_words, stmts_words, type_words, define_words, region_words, direction_words, var_words, param_words, params_words, result_words, heading_words, decl_words}
-use Rattle.zpl_tree.specs.Grammar.{IsExpr, AreExprs, HasExpr, IsInner, IsBracket, HasAny, IsPrefix, AreStmts, IsBody, IsDefine, IsRegion, IsDirection, IsVar, IsParam, IsProcedure, IsDecl, IsProgram, SpellsEach, IsRexpr, HasNoPost, bare_words, SpellsRegion, SpellsMoreLocals, SpellsLocals, SpellsProcedure, SpellsDecl, Spells}
-use Rattle.zpl_parse.specs.Lexeme.{Lexeme, head_kind, head_at, behind}
+use Rattle.zpl_tree.specs.Syntax.{Name, Inner, Rexpr, Dims, Bracket, Posts, NoPost, ThenPost, Pre, RegionBase, NamedRegion, Ditto, Prefix, Stmt, Prefixed, Stmts, Assign, Invoke, Block, If, While, Repeat, For, Border, Write, Return, Base, Integer, Boolean, Other, Define, RegionDef, DirDef, VarDef, Param, Procedure, Decl, Config, Constant, Regions, Directions, Vars, Defined}
+use Rattle.zpl_tree.specs.Depth.{expr_depth, inner_depth, bracket_depth, posts_depth, greatest_of, prefix_depth, stmt_depth, nest_depth, stmts_depth, stmts_nest, define_depth, region_depth, direction_depth, var_depth, param_depth, procedure_depth, decl_depth}
+use Rattle.zpl_tree.specs.Shape.{stmt_shape, base_type_shape, define_shape, region_shape, direction_shape, var_shape, param_shape, procedure_shape, decl_shape}
+use Rattle.zpl_tree.specs.Spelling.{keyword as keyword_of, expr_words, exprs_words, inner_words, bracket_words, posts_words, names_words, prefix_words, end_words, stmt_words, stmts_words, type_words, define_words, region_words, direction_words, var_words, param_words, params_words, result_words, heading_words}
+use Rattle.zpl_tree.specs.Grammar.{IsInner, IsBracket, HasAny, IsPrefix, AreStmts, IsBody, IsDefine, IsRegion, IsDirection, IsVar, IsParam, IsProcedure, IsDecl, SpellsEach, IsRexpr, HasNoPost, bare_words, SpellsRegion, SpellsMoreLocals, SpellsLocals, SpellsDecl}
+use Rattle.zpl_parse.specs.Lexeme.{Lexeme, head_kind}
 use Rattle.zpl_parse.specs.Outcome.{Outcome, Done, Wrong, Deep, Reader, and_then, made}
-use Rattle.zpl_parse.specs.Classes.{begins_stmt, outside_of, stride_of, part_of}
-use Rattle.zpl_parse.specs.Tokens.{next_is, symbol, keyword, names, name, closing}
-use Rattle.zpl_parse.specs.Expressions.{levels, components, in_bracket, bracket, posts, rexpr}
-use Rattle.zpl_parse.specs.Statements.{prefixes, body_end, stmts, stmt}
-use Rattle.zpl_parse.specs.Declarations.{base, group, define, region_body, region, direction, variables, formals, param, some_params, params, result, locals, body, procedure, decl_by, decls, most_deep, program}
-use Rattle.zpl_parse.proofs.CompleteBase.{lexeme, Begins, none, more, Split, split, split_at, joined, bound_of, shorter, shorter_by_one, wider, narrower, reword, Reads, read, deep, Anything, weigh, made_reads, then_reads, then_then_reads, symbol_reads, ends_with, closing_reads, at_head}
-use Rattle.zpl_parse.proofs.CompleteLevels.{SameExpr, StopsWhole, Opens}
-use Rattle.zpl_parse.proofs.CompleteParts.{SameExprs, SameInner, SameBracket, SamePosts, RegionEnds}
+use Rattle.zpl_parse.specs.Classes.{stride_of, part_of}
+use Rattle.zpl_parse.specs.Tokens.{next_is, symbol, keyword, names, name}
+use Rattle.zpl_parse.specs.Expressions.{levels, bracket}
+use Rattle.zpl_parse.specs.Statements.{body_end, stmts, stmt}
+use Rattle.zpl_parse.specs.Declarations.{base, group, define, region_body, region, direction, variables, formals, param, some_params, params, result, locals, body, procedure, decl_by, decls}
+use Rattle.zpl_parse.proofs.CompleteBase.{Begins, none, more, Split, split, split_at, bound_of, shorter, shorter_by_one, narrower, reword, Reads, read, weigh, made_reads, then_reads, then_then_reads, symbol_reads, ends_with, at_head}
+use Rattle.zpl_parse.proofs.CompleteLevels.{StopsWhole}
+use Rattle.zpl_parse.proofs.CompleteParts.{SameBracket, RegionEnds}
 use Rattle.zpl_parse.proofs.CompleteHere.{SameNames, names_at, expr_here, components_here, in_bracket_here, bracket_here, posts_here, rexpr_here}
-use Rattle.zpl_parse.proofs.CompleteStatements.{SamePrefixes, SameStmts, prefixes_at, StmtsAt, body_end_at, stmts_all}
+use Rattle.zpl_parse.proofs.CompleteStatements.{SamePrefixes, prefixes_at, body_end_at, stmts_all}
 
 abbrev pub SameBase : Base → Base → Type 0
 SameBase t value = base_type_shape value ≡ base_type_shape t
@@ -79,7 +78,7 @@ module _ {most : ℕ} where
   base_plain : (t : Base) {xs rest : List Lexeme} → Begins most (type_words t) xs rest → next_is (kind.Symbol sym.OpenBracket) xs ≡ false
   base_plain Integer (more w bytes place bound b) = refl
   base_plain Boolean (more w bytes place bound b) = refl
-  base_plain (Other name) (more w bytes place bound b) = refl
+  base_plain (Other called) (more w bytes place bound b) = refl
 
 -- definitions, one behind the other
 module _ {A : Type 0} (most limit : ℕ) (definition : Reader A) (shape : A → A) (depth_of : A → ℕ) (Is : A → Type 0) (Spell : A → List Word → Type 0)
@@ -131,9 +130,9 @@ module _ (wide most limit : ℕ) (fits : most ≤ wide) where
 
   -- NAME "=" ( bracket { post } | rexpr ) ";"
   rexpr_plain : (pre : List Pre) (base : RegionBase) (post : Posts) {xs rest : List Lexeme} → Begins most (inner_words (Rexpr pre base post)) xs rest → next_is (kind.Symbol sym.OpenBracket) xs ≡ false
-  rexpr_plain [] (NamedRegion name) post (more w bytes place bound b) = refl
+  rexpr_plain [] (NamedRegion called) post (more w bytes place bound b) = refl
   rexpr_plain [] (Ditto at) post (more w bytes place bound b) = refl
-  rexpr_plain (first ∷ pre) base post (more w bytes place bound b) = refl
+  rexpr_plain (first ∷ pre) root post (more w bytes place bound b) = refl
 
   bracket_body : (t : RegionDef) → IsRegion t → (place : ℕ) (xs rest : List Lexeme) → Begins most ((word.Symbol sym.OpenBracket ∷ (inner_words t.body ++ word.Symbol sym.CloseBracket ∷ [])) ++ posts_words t.posts) xs rest → stride_of (head_kind rest) ≡ None →
       Reads (SameRegion t) rest (region_depth t) limit (region_body most (levels wide limit).expr (record { text = t.name.text; at = place }) xs)
@@ -380,8 +379,8 @@ module _ (wide most limit : ℕ) (fits : most ≤ wide) where
   body_at : (t : Stmt) → IsBody t → (deeper : ℕ) → suc deeper ≡ limit → (xs rest : List Lexeme) → Begins most (stmt_words t) xs rest → Reads (SameBody t) rest (max (stmt_depth t) (nest_depth t)) limit (body most (levels wide limit).expr deeper xs)
   body_at (Prefixed at before (Block t)) is deeper e xs rest b =
       weigh {n = max (max (greatest_of prefix_depth before) (stmts_depth t)) (1 + stmts_nest t + 0)} {d = limit} (λ k. omega arith) (λ k. omega arith) (block_body_at at before t is.0 is.1 deeper 0 (omega arith) xs rest b)
-  body_at (Prefixed at before (Assign name op value)) is deeper e xs rest b = absurd is
-  body_at (Prefixed at before (Invoke name actuals)) is deeper e xs rest b = absurd is
+  body_at (Prefixed at before (Assign called op value)) is deeper e xs rest b = absurd is
+  body_at (Prefixed at before (Invoke called actuals)) is deeper e xs rest b = absurd is
   body_at (Prefixed at before (If arms otherwise)) is deeper e xs rest b = absurd is
   body_at (Prefixed at before (While test body)) is deeper e xs rest b = absurd is
   body_at (Prefixed at before (Repeat body until test)) is deeper e xs rest b = absurd is
@@ -393,8 +392,8 @@ module _ (wide most limit : ℕ) (fits : most ≤ wide) where
   body_ends : (t : Stmt) → IsBody t → {xs rest : List Lexeme} → Begins most (stmt_words t) xs rest → LocalsEnd xs
   body_ends (Prefixed at [] (Block t)) is (more w bytes place bound b) = record { var = refl; named = refl }
   body_ends (Prefixed at (first ∷ before) (Block t)) is (more w bytes place bound b) = record { var = refl; named = refl }
-  body_ends (Prefixed at before (Assign name op value)) is b = absurd is
-  body_ends (Prefixed at before (Invoke name actuals)) is b = absurd is
+  body_ends (Prefixed at before (Assign called op value)) is b = absurd is
+  body_ends (Prefixed at before (Invoke called actuals)) is b = absurd is
   body_ends (Prefixed at before (If arms otherwise)) is b = absurd is
   body_ends (Prefixed at before (While test body)) is b = absurd is
   body_ends (Prefixed at before (Repeat body until test)) is b = absurd is

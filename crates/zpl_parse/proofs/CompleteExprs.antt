@@ -1,29 +1,26 @@
 -- The rules of expressions are complete: words of an expression of the grammar are read as one of the same shape, or are too deep.
-use Rattle.std.proofs.Common.{◌≡◌, ℕ, suc, zero, ◌+◌, ◌<◌, ◌≤◌, max, nat_le, Bool, true, false, IsTrue, ℤ, pos, int_le, List, [], ◌∷◌, ◌++◌, length, Option, Some, None, refl, sym, ap, subst, arith}
+use Rattle.std.proofs.Common.{ℕ, suc, zero, ◌+◌, max, nat_le, Bool, true, false, IsTrue, ℤ, List, [], ◌∷◌, ◌++◌, Option, Some, None, refl, ap, arith}
 use Rattle.std.proofs.lemmas.Bool.Decides.{nat_tests}
 use Rattle.zpl_nums.specs.declared.operators.Op.{Op}
 use Rattle.zpl_nums.specs.declared.operators.Op.TheVariants as op
 use Rattle.zpl_nums.specs.declared.folds.Fold.{Fold}
 use Rattle.zpl_nums.specs.declared.folds.Fold.TheVariants as fold
-use Rattle.zpl_tokens.specs.declared.Kind.TheVariants as kind
-use Rattle.zpl_tokens.specs.declared.keywords.Key.TheVariants as key
 use Rattle.zpl_tokens.specs.declared.symbols.Sym.TheVariants as sym
 use Rattle.zpl_tree.specs.Word.{Word}
 use Rattle.zpl_tree.specs.Word as word
-use Rattle.zpl_tree.specs.Syntax.{Name, Pre, RegionBase, NamedRegion, Ditto, Expr, Number, Truth, Coord, Named, Shifted, Call, Paren, Neg, Not, Abs, Pair, Reduce, Scan, Flood, Exprs, NoExpr, ThenExpr, Dir, NamedDir, Vector, Inner, Rexpr, Dims, Bracket, NoBracket, Bracketed, Posts, NoPost, ThenPost, DimText, Blank, Star, One, Span, DimTexts, NoDim, ThenDim}
+use Rattle.zpl_tree.specs.Syntax.{Name, Expr, Number, Truth, Coord, Named, Shifted, Call, Paren, Neg, Not, Abs, Pair, Reduce, Scan, Flood, Exprs, NoExpr, ThenExpr, Dir, NamedDir, Vector, Inner, Rexpr, Dims, Bracket, NoBracket, Bracketed, Posts, NoPost, ThenPost, DimText, Blank, Star, One, Span, DimTexts, NoDim, ThenDim}
 use Rattle.zpl_tree.specs.Depth.{expr_depth, exprs_depth, dir_depth, inner_depth, bracket_depth}
-use Rattle.zpl_tree.specs.Shape.{name_shape, expr_shape}
-use Rattle.zpl_tree.specs.Spelling.{expr_words, exprs_words, more_exprs, inner_words, bracket_words, along_words, index_words}
+use Rattle.zpl_tree.specs.Shape.{name_shape}
+use Rattle.zpl_tree.specs.Spelling.{expr_words, exprs_words, more_exprs, inner_words, bracket_words, along_words}
 use Rattle.zpl_tree.specs.Grammar.{IsExpr, AreExprs, HasExpr, IsDir, IsInner, IsBracket, ArePosts, IsDim, AreDims, IsNatural, IsAlong}
-use Rattle.zpl_parse.specs.declared.classes.Opening.TheVariants as opening
-use Rattle.zpl_parse.specs.Lexeme.{Lexeme, head_kind, second_kind, behind}
-use Rattle.zpl_parse.specs.Outcome.{Outcome, Done, Wrong, Deep, Reader, and_then, made}
-use Rattle.zpl_parse.specs.Tokens.{next_is, symbol, natural_of}
-use Rattle.zpl_parse.specs.Expressions.{at_of, levels, unary_over, unary_by, inside, both, bracket, in_bracket, along, behind_name}
-use Rattle.zpl_parse.proofs.CompleteBase.{lexeme, Begins, none, more, Split, split, split_at, joined, bound_of, Reads, read, deep, Anything, weigh, made_reads, then_reads, symbol_reads, at_head}
+use Rattle.zpl_parse.specs.Lexeme.{Lexeme}
+use Rattle.zpl_parse.specs.Outcome.{and_then, made}
+use Rattle.zpl_parse.specs.Tokens.{natural_of}
+use Rattle.zpl_parse.specs.Expressions.{levels, unary_over, unary_by, inside, both, bracket, in_bracket, along, behind_name}
+use Rattle.zpl_parse.proofs.CompleteBase.{Begins, none, more, Split, split, split_at, joined, bound_of, Reads, read, weigh, made_reads, then_reads, symbol_reads, at_head}
 use Rattle.zpl_parse.proofs.CompleteLevels.{SameExpr, Level, Unary, Term, Sum, Comp, Conj, Whole, number, StopsUnary, StopsWhole, Opens, OpensAt, ReadsAt, Ready, some_depth, too_deep_at, ready_term, ready_sum, ready_conj, ready_whole, from_unary, from_term, from_sum, from_comp, from_conj, from_whole, term_pair, sum_pair, conj_pair, whole_pair, comp_pair}
 use Rattle.zpl_parse.proofs.CompleteOpens.{opens_at}
-use Rattle.zpl_parse.proofs.CompleteParts.{SameBracket, ExprsAt, DirAt, InnerAt, BracketAt, PostsAt, DimAt, DimsAt, HasSome, exprs_at, actuals_at, named_dir_at, vector_at, posts_at, no_posts_at, inner_rexpr_at, inner_dims_at, in_bracket_at, no_bracket_at, bracketed_at, blank_at, star_at, one_at, span_at, dims_at}
+use Rattle.zpl_parse.proofs.CompleteParts.{ExprsAt, DirAt, InnerAt, BracketAt, PostsAt, DimAt, DimsAt, HasSome, exprs_at, actuals_at, named_dir_at, vector_at, posts_at, no_posts_at, inner_rexpr_at, inner_dims_at, in_bracket_at, no_bracket_at, bracketed_at, blank_at, star_at, one_at, span_at, dims_at}
 
 module _ (most : ℕ) where
   -- the rule of an expression by its first word

@@ -1,7 +1,6 @@
 -- What the rules of expressions are complete for, as those of statements and declarations take them: with lists of their own length.
-use Rattle.std.proofs.Common.{◌≡◌, ℕ, suc, zero, ◌+◌, ◌<◌, ◌≤◌, max, Bool, true, false, List, [], ◌∷◌, ◌++◌, map, length, Option, Some, None, refl, sym, ap, subst, arith}
+use Rattle.std.proofs.Common.{◌≡◌, ℕ, suc, zero, ◌<◌, ◌≤◌, false, List, [], ◌∷◌, ◌++◌, map, length, None, refl, ap, arith}
 use Rattle.zpl_tokens.specs.declared.Kind.TheVariants as kind
-use Rattle.zpl_tokens.specs.declared.keywords.Key.TheVariants as key
 use Rattle.zpl_tokens.specs.declared.symbols.Sym.TheVariants as sym
 use Rattle.zpl_tree.specs.Word.{Word}
 use Rattle.zpl_tree.specs.Word as word
@@ -11,11 +10,11 @@ use Rattle.zpl_tree.specs.Shape.{name_shape}
 use Rattle.zpl_tree.specs.Spelling.{expr_words, exprs_words, inner_words, bracket_words, posts_words, names_words}
 use Rattle.zpl_tree.specs.Grammar.{IsExpr, AreExprs, HasExpr, IsInner, IsBracket, ArePosts, HasAny}
 use Rattle.zpl_parse.specs.Lexeme.{Lexeme, head_kind}
-use Rattle.zpl_parse.specs.Outcome.{Outcome, Done, Wrong, Deep, Reader, and_then, made}
+use Rattle.zpl_parse.specs.Outcome.{and_then}
 use Rattle.zpl_parse.specs.Classes.{stride_of}
 use Rattle.zpl_parse.specs.Tokens.{next_is, names}
 use Rattle.zpl_parse.specs.Expressions.{levels, actuals, components, inner, in_bracket, bracket, posts, rexpr}
-use Rattle.zpl_parse.proofs.CompleteBase.{Begins, none, more, wider, bound_of, Reads, read, deep, made_reads}
+use Rattle.zpl_parse.proofs.CompleteBase.{Begins, none, more, wider, Reads, read, made_reads}
 use Rattle.zpl_parse.proofs.CompleteLevels.{SameExpr, StopsWhole, Whole, Opens}
 use Rattle.zpl_parse.proofs.CompleteOpens.{opens_at}
 use Rattle.zpl_parse.proofs.CompleteParts.{SameExprs, SameInner, SameBracket, SamePosts, InnerEnds, RegionEnds, actuals_at, components_at, in_bracket_at, rexpr_at}

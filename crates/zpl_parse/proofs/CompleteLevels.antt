@@ -1,5 +1,5 @@
 -- How the rules of the levels of expressions are complete, given that each is for what stands within.
-use Rattle.std.proofs.Common.{◌≡◌, ℕ, suc, zero, ◌+◌, ◌<◌, ◌≤◌, ◌==◌, nat_le, max, Bool, true, false, IsTrue, List, [], ◌∷◌, ◌++◌, length, Option, Some, None, refl, sym, ap, subst, ◌∙◌, arith, rules}
+use Rattle.std.proofs.Common.{◌≡◌, ℕ, suc, zero, ◌+◌, ◌<◌, ◌≤◌, nat_le, Bool, true, false, IsTrue, List, [], ◌∷◌, ◌++◌, length, Option, Some, None, refl, sym, ap, subst, ◌∙◌, arith}
 use Rattle.std.proofs.lemmas.Bool.Decides.{nat_tests}
 use Rattle.zpl_nums.specs.declared.operators.Op.{Op}
 use Rattle.zpl_tokens.specs.declared.Kind.{Kind}
@@ -8,16 +8,16 @@ use Rattle.zpl_tokens.specs.declared.symbols.Sym.{Sym}
 use Rattle.zpl_tokens.specs.declared.symbols.Sym.TheVariants as sym
 use Rattle.zpl_tree.specs.Word.{Word, kind_of, word_text}
 use Rattle.zpl_tree.specs.Word as word
-use Rattle.zpl_tree.specs.Syntax.{Name, Pre, RegionBase, NamedRegion, Ditto, Expr, Number, Truth, Coord, Named, Shifted, Call, Paren, Neg, Not, Abs, Pair, Reduce, Scan, Flood, Exprs, NoExpr, ThenExpr, Dir, NamedDir, Vector, Inner, Rexpr, Dims, Bracket, NoBracket, Bracketed, Posts, NoPost, ThenPost, DimText, Blank, Star, One, Span, DimTexts, NoDim, ThenDim}
+use Rattle.zpl_tree.specs.Syntax.{Expr, Number, Truth, Coord, Named, Shifted, Call, Paren, Neg, Not, Abs, Pair, Reduce, Scan, Flood, Exprs, NoExpr, ThenExpr, Dir, NamedDir, Vector, Inner, Rexpr, Dims, Bracket, NoBracket, Bracketed, Posts, NoPost, ThenPost, DimText, Blank, Star, One, Span, DimTexts, NoDim, ThenDim}
 use Rattle.zpl_tree.specs.Depth.{expr_depth, exprs_depth, dir_depth, inner_depth, bracket_depth, posts_depth, dim_depth, dims_depth}
 use Rattle.zpl_tree.specs.Shape.{expr_shape, exprs_shape, dir_shape, inner_shape, bracket_shape, posts_shape, dim_shape, dims_shape}
 use Rattle.zpl_tree.specs.Spelling.{expr_words}
 use Rattle.zpl_parse.specs.Lexeme.{Lexeme, head_kind, second_kind, behind}
-use Rattle.zpl_parse.specs.Outcome.{Outcome, Done, Wrong, Deep, Reader, and_then, made, too_deep}
-use Rattle.zpl_parse.specs.Classes.{or_op, and_op, comp_op, sum_op, term_op, begins_expr, closes_dim, follows_region}
+use Rattle.zpl_parse.specs.Outcome.{Outcome, Deep, Reader, and_then, made}
+use Rattle.zpl_parse.specs.Classes.{or_op, and_op, comp_op, sum_op, term_op, begins_expr, closes_dim}
 use Rattle.zpl_parse.specs.Tokens.{next_is}
-use Rattle.zpl_parse.specs.Expressions.{at_of, Levels, levels_over, levels, no_expr, no_levels, chain, once, unary_over, begins_region}
-use Rattle.zpl_parse.proofs.CompleteBase.{lexeme, Begins, none, more, Split, split, split_at, bound_of, bound_behind, shorter, Reads, read, deep, Anything, weigh, made_reads, then_reads, symbol_reads, keyword_reads, at_head}
+use Rattle.zpl_parse.specs.Expressions.{at_of, Levels, levels, chain, once}
+use Rattle.zpl_parse.proofs.CompleteBase.{lexeme, Begins, more, Split, split_at, bound_behind, shorter, Reads, read, deep, weigh, made_reads}
 
 -- a tree's depth is that of its shape
 mutual

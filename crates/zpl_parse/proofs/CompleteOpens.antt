@@ -1,22 +1,19 @@
 -- How the words of an expression begin.
-use Rattle.std.proofs.Common.{◌≡◌, ℕ, suc, zero, ◌≤◌, Bool, true, false, IsTrue, nat_le, ℤ, pos, int_le, List, [], ◌∷◌, ◌++◌, refl, arith}
+use Rattle.std.proofs.Common.{◌≡◌, ℕ, suc, zero, true, false, IsTrue, nat_le, ℤ, pos, int_le, List, [], ◌∷◌, ◌++◌, refl, arith}
 use Rattle.std.proofs.lemmas.Bool.Decides.{nat_tests}
-use Rattle.zpl_nums.specs.declared.operators.Op.{Op}
 use Rattle.zpl_nums.specs.declared.operators.Op.TheVariants as op
 use Rattle.zpl_nums.specs.declared.folds.Fold.{Fold}
 use Rattle.zpl_nums.specs.declared.folds.Fold.TheVariants as fold
-use Rattle.zpl_tokens.specs.declared.Kind.TheVariants as kind
 use Rattle.zpl_tokens.specs.declared.symbols.Sym.{Sym}
 use Rattle.zpl_tokens.specs.declared.symbols.Sym.TheVariants as sym
 use Rattle.zpl_tree.specs.Word.{Word}
 use Rattle.zpl_tree.specs.Word as word
-use Rattle.zpl_tree.specs.Syntax.{Name, Pre, RegionBase, NamedRegion, Ditto, Expr, Number, Truth, Coord, Named, Shifted, Call, Paren, Neg, Not, Abs, Pair, Reduce, Scan, Flood, Exprs, NoExpr, ThenExpr, DimText, Blank, Star, One, Span, DimTexts, NoDim, ThenDim}
-use Rattle.zpl_tree.specs.Spelling.{expr_words, exprs_words, fold_words, index_words, bracket_words, along_words}
-use Rattle.zpl_tree.specs.Grammar.{IsExpr, AreExprs, HasExpr, IsMoreThanName, left_level}
-use Rattle.zpl_parse.specs.Lexeme.{Lexeme, head_kind, second_kind}
-use Rattle.zpl_parse.specs.Classes.{begins_expr, follows_region, is_some, opening_number}
-use Rattle.zpl_parse.specs.Expressions.{begins_region}
-use Rattle.zpl_parse.proofs.CompleteBase.{lexeme, Begins, none, more, Split, split_at}
+use Rattle.zpl_tree.specs.Syntax.{Expr, Number, Truth, Coord, Named, Shifted, Call, Paren, Neg, Not, Abs, Pair, Reduce, Scan, Flood}
+use Rattle.zpl_tree.specs.Spelling.{expr_words, fold_words, index_words, bracket_words, along_words}
+use Rattle.zpl_tree.specs.Grammar.{IsExpr, left_level}
+use Rattle.zpl_parse.specs.Lexeme.{Lexeme}
+use Rattle.zpl_parse.specs.Classes.{is_some, opening_number}
+use Rattle.zpl_parse.proofs.CompleteBase.{Begins, more, Split, split_at}
 use Rattle.zpl_parse.proofs.CompleteLevels.{Opens, OpensAt}
 
 number_begins : (value : ℤ) → IsTrue (int_le (pos 0) value) → is_some (opening_number value (int_le (pos 0) value)) ≡ true

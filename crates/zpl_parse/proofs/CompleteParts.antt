@@ -1,28 +1,27 @@
 -- How the rules of what stands in expressions are complete, given that the rule of expressions is for those within.
-use Rattle.std.proofs.Common.{◌≡◌, ℕ, suc, zero, ◌+◌, ◌<◌, ◌≤◌, max, nat_le, Bool, true, false, IsTrue, List, [], ◌∷◌, ◌++◌, map, length, Option, Some, None, ◌⊎◌, inl, inr, refl, sym, ap, subst, arith, append_assoc}
+use Rattle.std.proofs.Common.{◌≡◌, ℕ, suc, zero, ◌<◌, ◌≤◌, max, nat_le, Bool, true, false, IsTrue, List, [], ◌∷◌, ◌++◌, map, length, None, ◌⊎◌, inl, inr, refl, ap, arith}
 use Rattle.std.specs.List.{flat_map}
 use Rattle.std.proofs.lemmas.Bool.Decides.{nat_tests}
 use Rattle.zpl_nums.specs.declared.operators.Op.TheVariants as op
 use Rattle.zpl_nums.specs.declared.folds.Fold.{Fold}
 use Rattle.zpl_nums.specs.declared.folds.Fold.TheVariants as fold
 use Rattle.zpl_tokens.specs.declared.Kind.TheVariants as kind
-use Rattle.zpl_tokens.specs.declared.keywords.Key.TheVariants as key
 use Rattle.zpl_tokens.specs.declared.symbols.Sym.{Sym}
 use Rattle.zpl_tokens.specs.declared.symbols.Sym.TheVariants as sym
 use Rattle.zpl_tree.specs.Word.{Word}
 use Rattle.zpl_tree.specs.Word as word
 use Rattle.zpl_tree.specs.Syntax.{Name, Pre, RegionBase, NamedRegion, Ditto, Expr, Number, Truth, Coord, Named, Shifted, Call, Paren, Neg, Not, Abs, Pair, Reduce, Scan, Flood, Exprs, NoExpr, ThenExpr, Dir, NamedDir, Vector, Inner, Rexpr, Dims, Bracket, NoBracket, Bracketed, Posts, NoPost, ThenPost, DimText, Blank, Star, One, Span, DimTexts, NoDim, ThenDim}
 use Rattle.zpl_tree.specs.Depth.{expr_depth, exprs_depth, dir_depth, inner_depth, bracket_depth, posts_depth, dim_depth, dims_depth}
-use Rattle.zpl_tree.specs.Shape.{pre_shape, base_shape, expr_shape, exprs_shape, dir_shape, inner_shape, bracket_shape, posts_shape, dim_shape, dims_shape}
+use Rattle.zpl_tree.specs.Shape.{pre_shape, base_shape, exprs_shape, dir_shape, inner_shape, bracket_shape, posts_shape, dim_shape, dims_shape}
 use Rattle.zpl_tree.specs.Spelling.{expr_words, exprs_words, more_exprs, dir_words, inner_words, bracket_words, posts_words, dim_words, dims_words, more_dims, pre_words, base_words, fold_words, index_words, along_words}
 use Rattle.zpl_tree.specs.Grammar.{IsExpr, HasExpr, IsMoreThanName, HasDims, AreDims, left_level}
-use Rattle.zpl_parse.specs.Lexeme.{Lexeme, head_kind, second_kind, behind}
-use Rattle.zpl_parse.specs.Outcome.{Outcome, Done, Wrong, Deep, Reader, and_then, made}
+use Rattle.zpl_parse.specs.Lexeme.{Lexeme, head_kind, second_kind}
+use Rattle.zpl_parse.specs.Outcome.{Outcome, and_then, made}
 use Rattle.zpl_parse.specs.Classes.{closes_dim, closes_region, follows_region, outside_of, stride_of}
 use Rattle.zpl_parse.specs.Tokens.{next_is, symbol}
 use Rattle.zpl_parse.specs.Expressions.{levels, exprs, actuals, components, dir, posts, region_base, rexpr, bounds, dim_text, dim_texts, begins_region, inner, in_bracket, bracket}
-use Rattle.zpl_parse.proofs.CompleteBase.{lexeme, Begins, none, more, Split, split, split_at, bound_of, bound_behind, shorter, Reads, read, deep, Anything, weigh, made_reads, then_reads, symbol_reads, at_head}
-use Rattle.zpl_parse.proofs.CompleteLevels.{SameExpr, StopsWhole, Opens, is_star, OpensAt, ReadsAt, Whole}
+use Rattle.zpl_parse.proofs.CompleteBase.{Begins, none, more, Split, split, split_at, shorter, Reads, read, weigh, made_reads, then_reads, symbol_reads, at_head}
+use Rattle.zpl_parse.proofs.CompleteLevels.{StopsWhole, Opens, is_star, OpensAt, ReadsAt, Whole}
 
 abbrev pub SameExprs : Exprs → Exprs → Type 0
 SameExprs t made = exprs_shape made ≡ exprs_shape t
@@ -371,11 +370,14 @@ module _ {most : ℕ} where
   inner_in region h budget turns xs rest b short =
       let parts : Split most (inner_words region) (word.Symbol sym.CloseBracket ∷ []) xs rest = split (inner_words region) (word.Symbol sym.CloseBracket ∷ []) b in
       weigh {n = max (inner_depth region) 0} {d = budget} (λ k. omega arith) (λ k. omega arith) (then_reads _ (h budget turns xs parts.middle parts.first short
-        (at_head InnerEnds (λ bytes at others. record {
-          dim = record { closes = refl; stops = ((((((refl, refl), refl), refl), refl), refl), refl); dots = refl };
-          region = record { outside = refl; stride = refl };
-          closes = refl; follows = refl; comma = refl; plain = refl;
-        }) parts.then))
+      (at_head InnerEnds (λ bytes at others. record {
+        dim = record { closes = refl; stops = ((((((refl, refl), refl), refl), refl), refl), refl); dots = refl };
+        region = record { outside = refl; stride = refl };
+        closes = refl;
+        follows = refl;
+        comma = refl;
+        plain = refl;
+      }) parts.then))
       (λ value same. made_reads (λ at. value) (λ at any. same) (symbol_reads sym.CloseBracket {d = budget} parts.then)))
 
   pub in_bracket_at : (region : Inner) → InnerAt most region → (budget turns : ℕ) (xs rest : List Lexeme) → Begins most (word.Symbol sym.OpenBracket ∷ (inner_words region ++ word.Symbol sym.CloseBracket ∷ [])) xs rest → length xs < turns →

@@ -1,5 +1,5 @@
 -- The rule of programs is complete: words of a tree are read as a tree of its shape, or are too deep.
-use Rattle.std.proofs.Common.{◌≡◌, ℕ, suc, zero, ◌<◌, ◌≤◌, max, List, [], ◌∷◌, ◌++◌, map, length, ◌⊎◌, inl, inr, refl, sym, ap, subst, arith}
+use Rattle.std.proofs.Common.{◌≡◌, ℕ, suc, ◌<◌, ◌≤◌, List, [], ◌∷◌, ◌++◌, length, ◌⊎◌, inl, inr, refl, sym, subst, arith}
 use Rattle.zpl_tokens.specs.declared.Kind.{Kind}
 use Rattle.zpl_tokens.specs.declared.keywords.Key.TheVariants as key
 use Rattle.zpl_tokens.specs.declared.symbols.Sym.TheVariants as sym
@@ -8,13 +8,13 @@ use Rattle.zpl_tree.specs.Word.{Word, kind_of}
 use Rattle.zpl_tree.specs.Word as word
 use Rattle.zpl_tree.specs.Syntax.{Program}
 use Rattle.zpl_tree.specs.Depth.{depth}
-use Rattle.zpl_tree.specs.Shape.{shape_of, SameShape}
+use Rattle.zpl_tree.specs.Shape.{SameShape}
 use Rattle.zpl_tree.specs.Grammar.{IsProgram, SpellsEach, SpellsDecl, Spells}
 use Rattle.zpl_parse.specs.Lexeme.{Lexeme}
-use Rattle.zpl_parse.specs.Written.{IsLexeme, AreLexemes}
-use Rattle.zpl_parse.specs.Outcome.{Outcome, Done, Wrong, Deep}
+use Rattle.zpl_parse.specs.Written.{AreLexemes}
+use Rattle.zpl_parse.specs.Outcome.{Outcome, Done, Deep}
 use Rattle.zpl_parse.specs.Declarations.{most_deep, program}
-use Rattle.zpl_parse.proofs.CompleteBase.{lexeme, bytes_of, Begins, none, more, Split, split, shorter, narrower, reword, Reads, read, deep, weigh, made_reads}
+use Rattle.zpl_parse.proofs.CompleteBase.{bytes_of, Begins, none, more, Split, split, shorter, narrower, reword, Reads, read, deep, made_reads}
 use Rattle.zpl_parse.proofs.CompleteDeclarations.{decls_at}
 
 -- a word's lexeme has its bytes

@@ -1,5 +1,5 @@
 -- The rules of statements are complete: words of a statement of the grammar are read as one of the same shape, or are too deep.
-use Rattle.std.proofs.Common.{◌≡◌, ℕ, suc, zero, ◌+◌, ◌<◌, ◌≤◌, max, Bool, true, false, List, [], ◌∷◌, ◌++◌, map, length, if◌then◌else◌, Option, Some, None, refl, sym, ap, subst, arith}
+use Rattle.std.proofs.Common.{◌≡◌, ℕ, suc, zero, ◌+◌, ◌<◌, ◌≤◌, max, Bool, true, false, List, [], ◌∷◌, ◌++◌, map, length, if◌then◌else◌, Option, Some, None, refl, ap, arith}
 use Rattle.std.specs.Option.{option_map}
 use Rattle.std.specs.List.{flat_map, AllByRecursion}
 use Rattle.zpl_nums.specs.declared.operators.Op.{Op}
@@ -8,26 +8,25 @@ use Rattle.zpl_nums.specs.declared.ends.Border.{Border as BorderKind}
 use Rattle.zpl_nums.specs.declared.ends.Border.TheVariants as border
 use Rattle.zpl_tokens.specs.declared.Kind.TheVariants as kind
 use Rattle.zpl_tokens.specs.declared.keywords.Key.TheVariants as key
-use Rattle.zpl_tokens.specs.declared.symbols.Sym.{Sym}
 use Rattle.zpl_tokens.specs.declared.symbols.Sym.TheVariants as sym
 use Rattle.zpl_tree.specs.Word.{Word}
 use Rattle.zpl_tree.specs.Word as word
-use Rattle.zpl_tree.specs.Syntax.{Name, Expr, Exprs, NoExpr, ThenExpr, Inner, Mask, Prefix, ForHead, Item, Str, Value, Stmt, Prefixed, Stmts, NoStmt, ThenStmt, Form, Assign, Invoke, Block, If, While, Repeat, For, Border, Write, Return, Arm, Tested, Arms, NoArm, ThenArm, Otherwise, NoElse, Else}
+use Rattle.zpl_tree.specs.Syntax.{Name, Expr, Exprs, Inner, Mask, Prefix, ForHead, Item, Str, Value, Stmt, Prefixed, Stmts, NoStmt, ThenStmt, Form, Assign, Invoke, Block, If, While, Repeat, For, Border, Write, Return, Arm, Tested, Arms, NoArm, ThenArm, Otherwise, NoElse, Else}
 use Rattle.zpl_tree.specs.Depth.{expr_depth, exprs_depth, inner_depth, greatest_of, prefix_depth, step_depth, head_depth, item_depth, stmt_depth, form_depth, stmts_depth, arms_depth, arm_depth, otherwise_depth, nest_depth, form_nest, stmts_nest, arms_nest, arm_nest, otherwise_nest}
-use Rattle.zpl_tree.specs.Shape.{name_shape, expr_shape, inner_shape, mask_shape, prefix_shape, head_shape, item_shape, stmt_shape, form_shape, stmts_shape, arms_shape, arm_shape, otherwise_shape}
-use Rattle.zpl_tree.specs.Spelling.{keyword as keyword_of, expr_words, exprs_words, inner_words, names_words, mask_words, prefix_words, assign_words, step_words, head_words, item_words, items_words, end_words, stmt_words, stmts_words, form_words, arms_words, arm_words, more_arms, otherwise_words}
-use Rattle.zpl_tree.specs.Grammar.{IsExpr, AreExprs, HasExpr, IsInner, HasAny, IsAssigning, IsPrefix, IsStep, IsHead, IsItem, HasArm, IsStmt, AreStmts, IsForm, AreArms, IsArm, IsOtherwise}
-use Rattle.zpl_parse.specs.Lexeme.{Lexeme, head_kind, head_at, behind}
-use Rattle.zpl_parse.specs.Outcome.{Outcome, Done, Wrong, Deep, Reader, and_then, made}
-use Rattle.zpl_parse.specs.Classes.{assigning, start_of, begins_stmt, without_of, down_of}
-use Rattle.zpl_parse.specs.Tokens.{next_is, symbol, keyword, names, closing}
-use Rattle.zpl_parse.specs.Expressions.{levels, actuals, inner}
+use Rattle.zpl_tree.specs.Shape.{name_shape, expr_shape, mask_shape, prefix_shape, head_shape, item_shape, stmt_shape, form_shape, stmts_shape, arms_shape, arm_shape, otherwise_shape}
+use Rattle.zpl_tree.specs.Spelling.{keyword as keyword_of, expr_words, exprs_words, inner_words, names_words, mask_words, prefix_words, step_words, head_words, item_words, items_words, end_words, stmt_words, stmts_words, form_words, arm_words, more_arms, otherwise_words}
+use Rattle.zpl_tree.specs.Grammar.{IsExpr, AreExprs, IsInner, HasAny, IsAssigning, IsPrefix, IsStep, IsHead, IsItem, HasArm, IsStmt, AreStmts, IsForm, AreArms, IsArm, IsOtherwise}
+use Rattle.zpl_parse.specs.Lexeme.{Lexeme, head_kind, head_at}
+use Rattle.zpl_parse.specs.Outcome.{and_then, made}
+use Rattle.zpl_parse.specs.Classes.{start_of, begins_stmt}
+use Rattle.zpl_parse.specs.Tokens.{next_is, symbol, names}
+use Rattle.zpl_parse.specs.Expressions.{levels, actuals}
 use Rattle.zpl_parse.specs.Statements.{prefix, prefixes, stmts, item, some_items, items, assign_or_call, body_end, arm, arms, otherwise, choice, while_loop, repeat_loop, step, way_down, for_head, for_loop, form_by, stmt_over, stmt}
 use Rattle.zpl_parse.specs.Statements as statements
-use Rattle.zpl_parse.proofs.CompleteBase.{lexeme, Begins, none, more, Split, split, split_at, joined, bound_of, shorter, shorter_by_one, Reads, read, deep, Anything, weigh, made_reads, then_reads, symbol_reads, ends_with, closing_reads, string_inside, at_head}
+use Rattle.zpl_parse.proofs.CompleteBase.{Begins, none, more, Split, split, split_at, joined, bound_of, shorter, shorter_by_one, Reads, read, deep, weigh, made_reads, then_reads, ends_with, closing_reads, string_inside, at_head}
 use Rattle.zpl_parse.proofs.CompleteLevels.{SameExpr, StopsWhole, Opens}
-use Rattle.zpl_parse.proofs.CompleteParts.{SameExprs, SameInner, InnerEnds}
-use Rattle.zpl_parse.proofs.CompleteHere.{SameNames, names_at, expr_here, opens_here, actuals_here, inner_here}
+use Rattle.zpl_parse.proofs.CompleteParts.{InnerEnds}
+use Rattle.zpl_parse.proofs.CompleteHere.{names_at, expr_here, opens_here, actuals_here, inner_here}
 
 abbrev pub SameMask : Option Mask → Option Mask → Type 0
 SameMask t value = option_map mask_shape value ≡ option_map mask_shape t
