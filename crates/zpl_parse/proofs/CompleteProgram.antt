@@ -13,7 +13,8 @@ use Rattle.zpl_tree.specs.Grammar.{IsProgram, SpellsEach, SpellsDecl, Spells}
 use Rattle.zpl_parse.specs.Lexeme.{Lexeme}
 use Rattle.zpl_parse.specs.Written.{AreLexemes}
 use Rattle.zpl_parse.specs.Outcome.{Outcome, Done, Deep}
-use Rattle.zpl_parse.specs.Declarations.{most_deep, program}
+use Rattle.zpl_grammar.specs.Texts.{most_deep}
+use Rattle.zpl_parse.specs.Declarations.{program}
 use Rattle.zpl_parse.proofs.CompleteBase.{bytes_of, Begins, none, more, Split, split, shorter, narrower, reword, Reads, read, deep, made_reads}
 use Rattle.zpl_parse.proofs.CompleteDeclarations.{decls_at}
 

@@ -19,7 +19,8 @@ use Rattle.zpl_parse.specs.Classes.{part_of}
 use Rattle.zpl_parse.specs.Tokens.{next_is, expect, name}
 use Rattle.zpl_parse.specs.Expressions.{levels}
 use Rattle.zpl_parse.specs.Statements.{stmts, stmt}
-use Rattle.zpl_parse.specs.Declarations.{base, group, define, region_body, region, direction, variables, formals, param, some_params, params, result, locals, body, procedure, decl_by, decls, most_deep, program}
+use Rattle.zpl_grammar.specs.Texts.{most_deep}
+use Rattle.zpl_parse.specs.Declarations.{base, group, define, region_body, region, direction, variables, formals, param, some_params, params, result, locals, body, procedure, decl_by, decls, program}
 use Rattle.zpl_parse.proofs.SoundBase.{Takes, nothing, Past, here, past_then, takes_then, IsSound, Spelled, done, wrong, behind_words, weaken, step, step_says, finish, made_says, choose}
 use Rattle.zpl_parse.proofs.SoundTokens.{IsSign, at_sign, expect_sound, sign, last_sign, name_sound, names_sound, one_more, takes_head, same_is_end}
 use Rattle.zpl_parse.proofs.SoundClasses.{IsPart, part_is}

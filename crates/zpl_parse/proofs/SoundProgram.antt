@@ -17,7 +17,7 @@ use Rattle.zpl_parse.specs.Lexeme.{Lexeme, lexeme_of, lexemes_of}
 use Rattle.zpl_parse.specs.Outcome.{Done, Wrong, Deep}
 use Rattle.zpl_parse.specs.Tokens.{without_last, in_quotes}
 use Rattle.zpl_parse.specs.Declarations.{program}
-use Rattle.zpl_parse.specs.Claims.{IsTree}
+use Rattle.zpl_grammar.specs.Texts.{IsTree}
 use Rattle.zpl_parse.proofs.SoundBase.{Reads, ReadsBytes, IsNoEnd, Takes, nothing, one, Past, here, further, no_end}
 use Rattle.zpl_parse.proofs.SoundDecls.{IsWhole, SaysProgram, program_whole}
 

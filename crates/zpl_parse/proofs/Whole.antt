@@ -24,8 +24,8 @@ use Rattle.zpl_grammar.specs.Written.{AreWords}
 use Rattle.zpl_parse.specs.Lexeme.{Lexeme, lexeme_of, lexemes_of, lexeme_at, head_at}
 use Rattle.zpl_parse.specs.Written.{IsLexeme, AreLexemes}
 use Rattle.zpl_parse.specs.Outcome.{Outcome, Done, Wrong, Deep}
-use Rattle.zpl_parse.specs.Declarations.{most_deep, program}
-use Rattle.zpl_parse.specs.Claims.{AreFirstWords, BeginsText, IsTree, IsSyntaxFault, IsTooDeep}
+use Rattle.zpl_parse.specs.Declarations.{program}
+use Rattle.zpl_grammar.specs.Texts.{most_deep, AreFirstWords, BeginsText, IsTree, IsSyntaxFault, IsTooDeep}
 use Rattle.zpl_parse.proofs.SoundBase.{Reads, Takes, nothing, one}
 use Rattle.zpl_parse.proofs.SoundProgram.{heads, tails, HaveNoEnd, found_no_end, word_of_token, wrong_is_left, token_is_left}
 use Rattle.zpl_parse.proofs.Local.{LocalAt, SameHead, IsWrong, IsNotDone}

@@ -7,5 +7,4 @@ pub mod Tokens
 pub mod Expressions
 pub mod Statements
 pub mod Declarations
-pub mod Claims
 pub mod Places
