@@ -1,0 +1,10 @@
+pub mod Lexeme
+pub mod Written
+pub mod Outcome
+pub mod Classes
+pub mod Same
+pub mod Tokens
+pub mod Expressions
+pub mod Statements
+pub mod Declarations
+pub mod Places
