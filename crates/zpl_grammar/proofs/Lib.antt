@@ -1,1 +1,7 @@
+mod Examples
+pub mod OneWords
+pub mod ReadBack
+pub mod Respelled
+pub mod TextWords
+pub mod WordCuts
 pub mod WordLemmas

@@ -1,14 +1,18 @@
 //! The texts of programs: how the tokens of a text are the words that a tree is written as.
 //!
-//! The definitions stand in `specs/`; what runs is elsewhere. The function here does nothing: it has a law of the
+//! The definitions stand in `specs/`; what runs is elsewhere. A function here does nothing: it has a law of the
 //! definitions as its contract, and a call brings the law into a proof.
 #![tactic(auto)]
 
-ghost use Rattle.std.specs.Prelude.{◌≤◌, ℕ, List, length, sum_by};
+ghost use Rattle.std.specs.Prelude.{◌≡◌, ◌≤◌, ℕ, List, length, sum_by};
 ghost use Rattle.zpl_text.specs.declared.tokens.Token.{Token};
 ghost use Rattle.zpl_text.specs.Tokens.{IsTokens};
-ghost use Rattle.zpl_tree.specs.Word.{Word, word_text};
+ghost use Rattle.zpl_tree.specs.Grammar.{Spells};
+ghost use Rattle.zpl_tree.specs.Spelling.{program_words};
+ghost use Rattle.zpl_tree.specs.Syntax.{Program};
+ghost use Rattle.zpl_tree.specs.Word.{Word, word_text, printed_text};
 ghost use Rattle.zpl_grammar.specs.Written.{AreWords};
+ghost use Rattle.zpl_grammar.specs.Writable.{AreWritable, HasWords, HasTree};
 
 /// The words of a text take no more bytes than the text.
 pub fn words_fit_their_text()
@@ -16,4 +20,32 @@ pub fn words_fit_their_text()
         sum_by (λ word. length (word_text word)) words ≤ length text }
 {
     zpl_text::tokens_are_in_order();
+}
+
+/// Writable words are read back from what they are printed as. The words of each text are writable, and they are its
+/// only words.
+pub fn writable_words_are_read_back()
+    ensures printed { (words : List Word) → AreWritable words → HasWords (printed_text words) words }
+    ensures any { (text : List ℕ) (words : List Word) → HasWords text words → AreWritable words }
+    ensures one { (text : List ℕ) (words others : List Word) → HasWords text words → HasWords text others → words ≡ others }
+{
+    zpl_text::tokens_are_in_order();
+    zpl_text::text_is_cut_one_way();
+}
+
+/// The words that a tree is printed as are writable where another spelling of the tree is.
+pub fn printed_words_are_writable()
+    ensures { (program : Program) (words : List Word) → Spells program words → AreWritable words → AreWritable (program_words program) }
+{}
+
+/// A tree that some text has is read back from what it is printed as: the printed text has just the words
+/// that were printed, and so it has the tree.
+pub fn printed_trees_are_read_back()
+    ensures words { (text : List ℕ) (program : Program) → HasTree text program
+        → HasWords (printed_text (program_words program)) (program_words program) }
+    ensures tree { (text : List ℕ) (program : Program) → HasTree text program → HasTree (printed_text (program_words program)) program }
+{
+    writable_words_are_read_back();
+    printed_words_are_writable();
+    zpl_tree::printed_words_are_a_spelling();
 }
