@@ -2,3 +2,6 @@
 #![tactic(auto)]
 
 mod classes;
+mod laws;
+
+pub use laws::{printed_trees_are_parsed_again, texts_have_one_tree};

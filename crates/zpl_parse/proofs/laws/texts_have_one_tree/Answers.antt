@@ -1,0 +1,11 @@
+use Rattle.zpl_parse.proofs.Whole.{one_tree, tree_no_fault, tree_not_deep}
+use Rattle.zpl_parse.proofs.laws.texts_have_one_tree.Goals as goal
+
+pub returns-clause-one : goal.returns-clause-one
+returns-clause-one c = one_tree
+
+pub returns-clause-sound : goal.returns-clause-sound
+returns-clause-sound c = tree_no_fault
+
+pub returns-clause-shallow : goal.returns-clause-shallow
+returns-clause-shallow c = tree_not_deep
