@@ -1,5 +1,5 @@
 -- From the parts of the compiler to code of a text.
-use Rattle.std.proofs.Common.{◌≡◌, ℕ, suc, ◌<◌, ◌≤◌, List, [], ◌∷◌, ◌++◌, length, sum_by, Result, Err, IfErr, refl, sym, ◌∙◌, ap, subst, arith}
+use Rattle.std.proofs.Common.{◌≡◌, ℕ, suc, ◌<◌, ◌≤◌, List, [], ◌∷◌, length, sum_by, Result, Err, IfErr, refl, sym, ap, subst, arith}
 use Rattle.zpl_text.specs.declared.tokens.Token.{Token}
 use Rattle.zpl_text.specs.Tokens.{IsTokens, Appends, HasFault, Refuses}
 use Rattle.zpl_tree.specs.Syntax.{Program}

@@ -1,6 +1,6 @@
 -- Trees of small programs: they are trees of the grammar, none is too deep, each is spelled in one way, and a tree of
 -- the same shape is small too.
-use Rattle.std.proofs.Common.{◌≡◌, ℕ, ℤ, pos, ◌≤ℤ◌, ◌+◌, ◌≤◌, max, List, [], ◌∷◌, ◌++◌, map, Option, Some, None, refl, sym, ◌∙◌, ap, subst, arith}
+use Rattle.std.proofs.Common.{◌≡◌, ℕ, ℤ, pos, ◌≤ℤ◌, ◌+◌, ◌≤◌, List, [], ◌∷◌, ◌++◌, map, Option, Some, None, refl, sym, ◌∙◌, ap, subst, arith}
 use Rattle.std.proofs.lemmas.Int.{ints}
 use Rattle.std.specs.List.{AllByRecursion, flat_map}
 use Rattle.std.specs.Option.{option_map}
@@ -9,7 +9,7 @@ use Rattle.zpl_tokens.specs.declared.keywords.Key.TheVariants as key
 use Rattle.zpl_tokens.specs.declared.symbols.Sym.TheVariants as symbols
 use Rattle.zpl_tree.specs.Word.{Word}
 use Rattle.zpl_tree.specs.Word as word
-use Rattle.zpl_tree.specs.Syntax.{Name, Expr, Number, Named, Pair, NoBracket, Item, Str, Value, Stmt, Prefixed, Stmts, NoStmt, ThenStmt, Form, Assign, Invoke, Block, If, While, Repeat, For, Border, Write, Return, Integer, Boolean, Other, Base, Bracket, Bracketed, Param, VarDef, Procedure, Decl, Config, Constant, Regions, Directions, Vars, Defined, Program}
+use Rattle.zpl_tree.specs.Syntax.{Name, Expr, Number, Named, Pair, NoBracket, Item, Str, Value, Stmt, Prefixed, Stmts, NoStmt, ThenStmt, Form, Assign, Invoke, Block, If, While, Repeat, For, Border, Write, Return, Integer, Boolean, Other, Base, Bracket, Bracketed, VarDef, Procedure, Decl, Config, Constant, Regions, Directions, Vars, Defined, Program}
 use Rattle.zpl_tree.specs.Spelling.{symbol, keyword, name_words, heading_words, locals_words, stmt_words, decl_words, program_words}
 use Rattle.zpl_tree.specs.Grammar as grammar
 use Rattle.zpl_tree.specs.Grammar.{IsNatural, StandsAt, expr_level, sum_level, term_level, unary_level, IsExpr, IsStmt, IsForm, AreStmts, IsProgram, SpellsEach, SpellsDecl, SpellsLocals, SpellsProcedure, Spells}

@@ -11,7 +11,6 @@ use Rattle.zpl_claims.specs.Answer.{IsCodeOf}
 use Rattle.zpl_claims.specs.Bound.{turn_bound}
 use Rattle.zpl_claims.specs.Run.{Stops, grid_at}
 use Rattle.small_run.specs.Run.{after_turns, TakesIntoNext}
-use Rattle.zpl_tree.specs.Syntax.{Program}
 use Rattle.zplgrid.specs.Refusals.{IsFaultOf}
 use Rattle.zplgrid.specs.declared.compiling.CompileFault.TheVariants.{Refused}
 use Rattle.zplgrid.specs.declared.refusals.Refusal.{Refusal}

@@ -1,4 +1,4 @@
-use Rattle.std.proofs.Common.{rules, ◌≡◌, ap, ◌∙◌, subst}
+use Rattle.std.proofs.Common.{◌≡◌, ap, ◌∙◌, subst}
 use Rattle.zplgrid.specs.Refusals.{IsFaultOf}
 use Rattle.zplgrid.specs.declared.answers.Answer.TheVariants as answer
 use Rattle.zplgrid.proofs.work.work_on.Goals as goal
