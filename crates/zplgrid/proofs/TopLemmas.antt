@@ -15,6 +15,7 @@ use Rattle.zpl_claims.specs.Small.{IsSmallText}
 use Rattle.zplgrid.specs.declared.answers.Answer.{Answer}
 use Rattle.zplgrid.specs.declared.answers.Answer.TheVariants as answer
 use Rattle.zplgrid.specs.Answers.{status_of, text_of}
+use Rattle.zplgrid.specs.Refusals.{refusal_text}
 use Rattle.zplgrid.specs.Top.{IsDecided, TellsOneText, EndsSo, IsNoCommand, IsTooLong, IsNotSmall, HasTrapped, IsCutShort, IsAnswered, IsHalfAnswered, IsWorkFor, HasReason, IsHalfTold}
 use Rattle.zplgrid.specs.Work.{IsAnswer, HasEnded}
 
@@ -49,7 +50,7 @@ module _ (Told : List ℕ → List ℕ → Type 0) (words : List (List ℕ)) (co
   reason_of_work answer.Done w = w
   reason_of_work (answer.Trap kind line) w = w
   reason_of_work answer.TurnLimit w = w
-  reason_of_work answer.NotBuilt w = w
+  reason_of_work (answer.Refused refusal) w = w
   reason_of_work answer.NoMemory w = tt
   reason_of_work answer.PutFailed w = tt
   reason_of_work answer.Usage w = absurd w.worked
@@ -68,7 +69,7 @@ module _ (Told : List ℕ → List ℕ → Type 0) (words : List (List ℕ)) (co
       trap w.file w.rest w.text w.worked.run_of.made kind line w.given w.told w.worked.run_of.code_is w.worked.run_of.of_text w.worked.run_of.run w.worked.ends
   has_cause answer.TurnLimit w n =
       turn_limit w.file w.rest w.text w.worked.run_of.made w.given w.told w.worked.run_of.code_is w.worked.run_of.of_text w.worked.all w.worked.run_of.run w.worked.not_over
-  has_cause answer.NotBuilt w n = refused w.file w.rest w.text w.given w.told w.short w.worked.none w.worked.no_run
+  has_cause (answer.Refused refusal) w n = refused w.file w.rest w.text w.given w.told w.short w.worked.none (refusal_text refusal) w.worked.refusal w.worked.no_run
   has_cause answer.NoMemory w n = no_memory
   has_cause answer.PutFailed w n = absurd (n refl)
   has_cause answer.Usage w n = usage w.0 w.1
@@ -139,7 +140,7 @@ module _ (Told : List ℕ → List ℕ → Type 0) (words : List (List ℕ)) (co
   run_status answer.Done w d e = is_done (ended_run w.worked e)
   run_status (answer.Trap kind line) w d e = is_trap kind line (ended_run w.worked e)
   run_status {made} answer.TurnLimit w d e = is_cut (subst (λ m. IsOver (grid_at m [] turns) → ⊥) (one_made w.worked.run_of.code_is e) w.worked.not_over) (cut_run w)
-  run_status answer.NotBuilt w d e = absurd (none_made w.worked.no_run e)
+  run_status (answer.Refused refusal) w d e = absurd (none_made w.worked.no_run e)
   run_status answer.NoMemory w d e = absurd (d.1 refl)
   run_status answer.PutFailed w d e = absurd (d.0 refl)
   run_status answer.Usage w d e = absurd (none_made w.1 e)
@@ -187,7 +188,7 @@ module _ (Told : List ℕ → List ℕ → Type 0) (words : List (List ℕ)) (co
   was_usage answer.Done w d none = absurd (none (Run w.file w.rest) w.given)
   was_usage (answer.Trap kind line) w d none = absurd (none (Run w.file w.rest) w.given)
   was_usage answer.TurnLimit w d none = absurd (none (Run w.file w.rest) w.given)
-  was_usage answer.NotBuilt w d none = absurd (none (Run w.file w.rest) w.given)
+  was_usage (answer.Refused refusal) w d none = absurd (none (Run w.file w.rest) w.given)
 
   long_of : (a : Answer) → HasReason Told words code turns a → status_of a ≡ 3 → IsTooLong Told words
   long_of (answer.TooLong name) w e = w.0.0
@@ -211,10 +212,10 @@ module _ (Told : List ℕ → List ℕ → Type 0) (words : List (List ℕ)) (co
   was_long answer.Done w d n one long = absurd (short_and_long one w long)
   was_long (answer.Trap kind line) w d n one long = absurd (short_and_long one w long)
   was_long answer.TurnLimit w d n one long = absurd (short_and_long one w long)
-  was_long answer.NotBuilt w d n one long = absurd (short_and_long one w long)
+  was_long (answer.Refused refusal) w d n one long = absurd (short_and_long one w long)
 
   small_of : (a : Answer) → HasReason Told words code turns a → status_of a ≡ 4 → IsNotSmall Told words
-  small_of answer.NotBuilt w e = record { file = w.file; rest = w.rest; text = w.text; given = w.given; told = w.told; short = w.short; none = w.worked.none }
+  small_of (answer.Refused refusal) w e = record { file = w.file; rest = w.rest; text = w.text; given = w.given; told = w.told; short = w.short; none = w.worked.none }
   small_of a w e = absurd (omega arith)
 
   short_too : TellsOneText Told → IsTooLong Told words → IsNotSmall Told words → ⊥
@@ -228,7 +229,7 @@ module _ (Told : List ℕ → List ℕ → Type 0) (words : List (List ℕ)) (co
       other.none of_text.program (subst (λ t. IsSmallText t of_text.program) same of_text.small)
 
   was_not_small : (a : Answer) → HasReason Told words code turns a → IsDecided (status_of a) → status_of a ≢ 2 → TellsOneText Told → IsNotSmall Told words → status_of a ≡ 4
-  was_not_small answer.NotBuilt w d n one other = refl
+  was_not_small (answer.Refused refusal) w d n one other = refl
   was_not_small answer.NoMemory w d n one other = absurd (d.1 refl)
   was_not_small answer.PutFailed w d n one other = absurd (d.0 refl)
   was_not_small answer.Usage w d n one other = absurd (w.0 (Run other.file other.rest) other.given)

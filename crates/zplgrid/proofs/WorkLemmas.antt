@@ -11,8 +11,9 @@ use Rattle.zpl_claims.specs.Answer.{IsCodeOf}
 use Rattle.zpl_claims.specs.Bound.{turn_bound}
 use Rattle.zpl_claims.specs.Run.{Stops, grid_at}
 use Rattle.small_run.specs.Run.{after_turns, TakesIntoNext}
-use Rattle.zpl_claims.specs.Small.{IsSmallText}
-use Rattle.zpl_tree.specs.Syntax.{Program}
+use Rattle.zplgrid.specs.Refusals.{IsFaultOf}
+use Rattle.zplgrid.specs.declared.compiling.CompileFault.TheVariants.{Refused}
+use Rattle.zplgrid.specs.declared.refusals.Refusal.{Refusal}
 use Rattle.zplgrid.specs.declared.answers.Answer.{Answer}
 use Rattle.zplgrid.specs.declared.answers.Answer.TheVariants as answer
 use Rattle.zplgrid.specs.Work.{IsRunOf, HasEnded, HasNotEnded, IsAnswer, IsTooFew, WereGiven, IsCutOff, printed_of}
@@ -104,7 +105,7 @@ cut_off code alone k before after takes =
       takes = subst (λ x. Takes before (x ++ takes.front) after) now takes.takes;
     }
 
-pub without_program : (text : List ℕ) (limit : ℕ) (code : Option Tables) (turns : ℕ) (a : Answer) → ((program : Program) → IsSmallText text program → ⊥)
-    → code ≡ None → turns ≡ 0 → a ≡ answer.NotBuilt → IsAnswer text limit code turns a
-without_program text limit code turns a none no_code no_turns is =
-    subst (IsAnswer text limit code turns) (sym is) (record { none = none; no_run = record { no_code = no_code; no_turns = no_turns } })
+pub without_program : (text : List ℕ) (limit : ℕ) (code : Option Tables) (turns : ℕ) (a : Answer) (refusal : Refusal) → IsFaultOf text (Refused refusal)
+    → code ≡ None → turns ≡ 0 → a ≡ answer.Refused refusal → IsAnswer text limit code turns a
+without_program text limit code turns a refusal fault no_code no_turns is =
+    subst (IsAnswer text limit code turns) (sym is) (record { none = fault.1; refusal = fault.0; no_run = record { no_code = no_code; no_turns = no_turns } })

@@ -1,8 +1,9 @@
 -- What the program answers.
 use Rattle.std.specs.Prelude.{ℕ, List, []}
-use Rattle.zpl_claims.specs.Answer.{usage_text, unreadable_text, too_long_text, not_built_text, trap_text, turn_limit_text, no_memory_text}
+use Rattle.zpl_claims.specs.Answer.{usage_text, unreadable_text, too_long_text, trap_text, turn_limit_text, no_memory_text}
 use Rattle.zplgrid.specs.declared.answers.Answer.{Answer}
-use Rattle.zplgrid.specs.declared.answers.Answer.TheVariants.{Done, Usage, Unreadable, TooLong, NotBuilt, Trap, TurnLimit, PutFailed, NoMemory}
+use Rattle.zplgrid.specs.declared.answers.Answer.TheVariants.{Done, Usage, Unreadable, TooLong, Refused, Trap, TurnLimit, PutFailed, NoMemory}
+use Rattle.zplgrid.specs.Refusals.{refusal_text}
 
 -- the status that the program ends with
 abbrev pub status_of : Answer → ℕ
@@ -10,7 +11,7 @@ status_of Done = 0
 status_of Usage = 1
 status_of (Unreadable file) = 2
 status_of (TooLong file) = 3
-status_of NotBuilt = 4
+status_of (Refused refusal) = 4
 status_of (Trap kind line) = 7
 status_of TurnLimit = 8
 status_of PutFailed = 9
@@ -22,7 +23,7 @@ text_of Done = []
 text_of Usage = usage_text
 text_of (Unreadable file) = unreadable_text file.now
 text_of (TooLong file) = too_long_text file.now
-text_of NotBuilt = not_built_text
+text_of (Refused refusal) = refusal_text refusal
 text_of (Trap kind line) = trap_text kind line
 text_of TurnLimit = turn_limit_text
 text_of PutFailed = []

@@ -131,7 +131,7 @@ abbrev pub HasReason : (List ℕ → List ℕ → Type 0) → List (List ℕ) �
 HasReason told words code turns answer.Usage = IsNoCommand words × HasNoRun code turns
 HasReason told words code turns (answer.Unreadable file) = IsUnread words file.now × HasNoRun code turns
 HasReason told words code turns (answer.TooLong file) = ((long : IsTooLong told words) × (long.file ≡ file.now)) × HasNoRun code turns
-HasReason told words code turns answer.NotBuilt = IsWorkFor told words code turns answer.NotBuilt
+HasReason told words code turns (answer.Refused refusal) = IsWorkFor told words code turns (answer.Refused refusal)
 HasReason told words code turns answer.Done = IsWorkFor told words code turns answer.Done
 HasReason told words code turns (answer.Trap kind line) = IsWorkFor told words code turns (answer.Trap kind line)
 HasReason told words code turns answer.TurnLimit = IsWorkFor told words code turns answer.TurnLimit

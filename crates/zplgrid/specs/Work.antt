@@ -10,8 +10,10 @@ use Rattle.zpl_meaning.specs.Program.{mean_of}
 use Rattle.grid_meaning.specs.Grid.{IsOver, EndsAs}
 use Rattle.zpl_claims.specs.Answer.{IsCodeOf, HasNoRun}
 use Rattle.zpl_claims.specs.Bound.{turn_bound}
+use Rattle.zpl_claims.specs.Refusal.{IsRefusal}
 use Rattle.zpl_claims.specs.Run.{IsRun, Stops, grid_at}
 use Rattle.zpl_claims.specs.Small.{IsSmallText}
+use Rattle.zplgrid.specs.Refusals.{refusal_text}
 use Rattle.zplgrid.specs.declared.answers.Answer.{Answer}
 use Rattle.zplgrid.specs.declared.answers.Answer.TheVariants as answer
 
@@ -38,9 +40,10 @@ pub record HasNotEnded (text : List ℕ) (limit : ℕ) (code : Option Tables) (t
   pub not_over : IsOver (grid_at run_of.made [] turns) → ⊥
   pub too_few : IsTooFew limit run_of.made run_of.of_text.program
 
--- The text has no small program.
-pub record HasNoProgram (text : List ℕ) (code : Option Tables) (turns : ℕ) : Type 0 where
+-- The text has no small program, and this is told of it.
+pub record HasNoProgram (text told : List ℕ) (code : Option Tables) (turns : ℕ) : Type 0 where
   pub none : (program : Program) → IsSmallText text program → ⊥
+  pub refusal : IsRefusal text told
   pub no_run : HasNoRun code turns
 
 -- Why the work on a text has an answer. Of failed puts and of memory nothing is said here.
@@ -48,7 +51,7 @@ abbrev pub IsAnswer : List ℕ → ℕ → Option Tables → ℕ → Answer → 
 IsAnswer text limit code turns answer.Done = HasEnded text limit code turns Done
 IsAnswer text limit code turns (answer.Trap kind line) = HasEnded text limit code turns (Trap kind line)
 IsAnswer text limit code turns answer.TurnLimit = HasNotEnded text limit code turns
-IsAnswer text limit code turns answer.NotBuilt = HasNoProgram text code turns
+IsAnswer text limit code turns (answer.Refused refusal) = HasNoProgram text (refusal_text refusal) code turns
 IsAnswer text limit code turns answer.PutFailed = Unit {0}
 IsAnswer text limit code turns answer.NoMemory = Unit {0}
 IsAnswer text limit code turns answer.Usage = ⊥

@@ -6,6 +6,7 @@ ghost use Rattle.zplgrid.specs.declared.answers.Untold.TheVariants.{NoMemory};
 ghost use Rattle.zpl_claims.specs.Answer.{trap_name, trap_text};
 ghost use Rattle.zplgrid.specs.Answers.{text_of, status_of};
 
+use crate::refusals::{Refusal, fault_text};
 use std::alloc::{AllocError, Global};
 use zpl_io::{Put, Sink, write_number};
 use zpl_nums::TrapKind;
@@ -22,7 +23,7 @@ pub enum Answer<'a> {
     /// The file is too long.
     TooLong(&'a str),
     /// The text has no small program.
-    NotBuilt,
+    Refused(Refusal),
     /// The run is over, with a trap at a line.
     Trap(TrapKind, u32),
     /// All turns were given, and the run isn't over.
@@ -43,7 +44,7 @@ impl<'a> Answer<'a> {
             Answer::Usage => 1,
             Answer::Unreadable(_) => 2,
             Answer::TooLong(_) => 3,
-            Answer::NotBuilt => 4,
+            Answer::Refused(_) => 4,
             Answer::Trap(..) => 7,
             Answer::TurnLimit => 8,
             Answer::PutFailed => 9,
@@ -85,7 +86,11 @@ pub fn tell<E: Sink>(alloc: Global, answer: Answer<'_>, errs: &mut E) -> Result<
         ),
         Answer::Unreadable(file) => put(errs, named(alloc, b"cannot read ", file)?.as_slice()),
         Answer::TooLong(file) => put(errs, named(alloc, b"too long: ", file)?.as_slice()),
-        Answer::NotBuilt => put(errs, b"refused: NotBuilt, line 1, byte 0\n"),
+        Answer::Refused(Refusal::At(fault, place)) => {
+            put(errs, fault_text(alloc, fault, place)?.as_slice())
+        }
+        Answer::Refused(Refusal::TooDeep) => put(errs, b"refused: TooDeep\n"),
+        Answer::Refused(Refusal::NotBuilt) => put(errs, b"refused: NotBuilt, line 1, byte 0\n"),
         Answer::Trap(kind, line) => put(errs, trap_text(alloc, kind, line)?.as_slice()),
         Answer::TurnLimit => put(errs, b"turn limit\n"),
         Answer::NoMemory => put(errs, b"no memory\n"),

@@ -5,6 +5,7 @@ mod answers;
 mod commands;
 mod compiling;
 mod numbers;
+mod refusals;
 #[cfg(test)]
 mod tests;
 mod top;

@@ -10,7 +10,9 @@ const SUM: &str =
 
 const USAGE: &[u8] = b"usage: zplgrid run|mean|list|exec|gen WORD [words]\n";
 
-const REFUSED: &[u8] = b"refused: NotBuilt, line 1, byte 0\n";
+const NOT_BUILT: &[u8] = b"refused: NotBuilt, line 1, byte 0\n";
+
+const TOO_DEEP: &[u8] = b"refused: TooDeep\n";
 
 /// What a call has to come to: its status, what each sink took, and the turns.
 #[derive(Clone, Copy, Drop)]
@@ -203,28 +205,152 @@ fn texts_that_are_too_long(rt: HostRuntime) -> Result<(), Fail> {
     let text = spaces.as_slice();
     let words = ["run", "a.zpl"];
     expect_refusal(&rt, rt.alloc(), &words, text, 3, b"too long: a.zpl\n")?;
-    expect_refusal(&rt, rt.alloc(), &words, &text[1..], 4, REFUSED)?;
+    expect_refusal(
+        &rt,
+        rt.alloc(),
+        &words,
+        &text[1..],
+        4,
+        b"refused: Syntax, line 1, byte 1048576\n",
+    )?;
     Ok(())
+}
+
+/// Runs a text that is refused.
+fn expect_fault(
+    rt: &impl Abort,
+    alloc: Global,
+    text: &[u8],
+    errs: &[u8],
+) -> Result<(), AllocError> {
+    expect_refusal(rt, alloc, &["run", "a.zpl"], text, 4, errs)
+}
+
+/// Runs statements that begin at byte 49 on line 5, and are refused.
+fn expect_statement_fault(
+    rt: &impl Abort,
+    alloc: Global,
+    statements: &[u8],
+    errs: &[u8],
+) -> Result<(), AllocError> {
+    let mut text = Vec::from_slice(
+        alloc,
+        b"program t;\nvar x : integer;\nprocedure t();\nbegin\n",
+    )?;
+    text.extend_from_slice(statements)?;
+    text.extend_from_slice(b"\nend;\n")?;
+    expect_fault(rt, alloc, text.as_slice(), errs)
 }
 
 #[test]
 fn texts_without_a_small_program(rt: HostRuntime) -> Result<(), Fail> {
     let texts = [
-        "",
         "program t; procedure t(); begin x := 1; end;",
-        "program t; procedure t(); begin writeln(\"open); end;",
         "program t; var t : integer; procedure t(); begin end;",
+        "program t; procedure u(); begin end;",
+        "program t; config var n : integer = 1; procedure t(); begin end;",
     ];
     for text in texts {
-        expect_refusal(
-            &rt,
-            rt.alloc(),
-            &["run", "a.zpl"],
-            text.as_bytes(),
-            4,
-            REFUSED,
-        )?;
+        expect_fault(&rt, rt.alloc(), text.as_bytes(), NOT_BUILT)?;
     }
+    Ok(())
+}
+
+#[test]
+fn faults_of_the_tokens(rt: HostRuntime) -> Result<(), Fail> {
+    let cases: [(&[u8], &[u8]); 5] = [
+        (b"x := $;", b"refused: BadByte, line 5, byte 54\n"),
+        (b"x := 1.5;", b"refused: FloatText, line 5, byte 54\n"),
+        (
+            b"x := 9223372036854775808;",
+            b"refused: NumberTooLarge, line 5, byte 54\n",
+        ),
+        (b"/* x := 1;", b"refused: OpenComment, line 5, byte 49\n"),
+        (b"writeln(\"x);", b"refused: OpenString, line 5, byte 57\n"),
+    ];
+    for (statements, errs) in cases {
+        expect_statement_fault(&rt, rt.alloc(), statements, errs)?;
+    }
+    Ok(())
+}
+
+#[test]
+fn faults_of_the_tree(rt: HostRuntime) -> Result<(), Fail> {
+    let cases: [(&[u8], &[u8]); 5] = [
+        (b"x := (1;", b"refused: Syntax, line 5, byte 56\n"),
+        (b"x := x + ;", b"refused: Syntax, line 5, byte 58\n"),
+        (b"x := + ;", b"refused: Syntax, line 5, byte 56\n"),
+        (b"x := 1;\nx := ;", b"refused: Syntax, line 6, byte 62\n"),
+        (b"if := 1;", b"refused: Syntax, line 5, byte 52\n"),
+    ];
+    for (statements, errs) in cases {
+        expect_statement_fault(&rt, rt.alloc(), statements, errs)?;
+    }
+    Ok(())
+}
+
+#[test]
+fn lines_of_faults(rt: HostRuntime) -> Result<(), Fail> {
+    let cases: [(&[u8], &[u8]); 5] = [
+        (b"", b"refused: Syntax, line 1, byte 0\n"),
+        (b"\n\n", b"refused: Syntax, line 3, byte 2\n"),
+        (b"program\n$", b"refused: BadByte, line 2, byte 8\n"),
+        (b"program -- \n\n ;", b"refused: Syntax, line 3, byte 14\n"),
+        (b"program t\n", b"refused: Syntax, line 2, byte 10\n"),
+    ];
+    for (text, errs) in cases {
+        expect_fault(&rt, rt.alloc(), text, errs)?;
+    }
+    Ok(())
+}
+
+/// Runs an assignment of a number in so many pairs of brackets.
+fn expect_brackets(
+    rt: &impl Abort,
+    alloc: Global,
+    pairs: usize,
+    errs: &[u8],
+) -> Result<(), AllocError> {
+    let open = vec![in alloc; b'('; pairs]?;
+    let close = vec![in alloc; b')'; pairs]?;
+    let mut statement = Vec::from_slice(alloc, b"x := ")?;
+    statement.extend_from_slice(open.as_slice())?;
+    statement.extend_from_slice(b"1")?;
+    statement.extend_from_slice(close.as_slice())?;
+    statement.extend_from_slice(b";")?;
+    expect_statement_fault(rt, alloc, statement.as_slice(), errs)
+}
+
+#[test]
+fn brackets_that_are_too_deep(rt: HostRuntime) -> Result<(), Fail> {
+    expect_brackets(&rt, rt.alloc(), 1, NOT_BUILT)?;
+    expect_brackets(&rt, rt.alloc(), 199, NOT_BUILT)?;
+    expect_brackets(&rt, rt.alloc(), 200, TOO_DEEP)?;
+    expect_brackets(&rt, rt.alloc(), 100_000, TOO_DEEP)?;
+    Ok(())
+}
+
+/// Runs so many assignments, with a statement behind them.
+fn expect_assignments(
+    rt: &impl Abort,
+    alloc: Global,
+    count: u32,
+    last: &[u8],
+    errs: &[u8],
+) -> Result<(), AllocError> {
+    let mut statements = Vec::new(alloc);
+    for _ in 0..count {
+        statements.extend_from_slice(b"x:=1;")?;
+    }
+    statements.extend_from_slice(last)?;
+    expect_statement_fault(rt, alloc, statements.as_slice(), errs)
+}
+
+#[test]
+fn texts_with_too_many_tokens(rt: HostRuntime) -> Result<(), Fail> {
+    expect_assignments(&rt, rt.alloc(), 2_500, b"", NOT_BUILT)?;
+    let errs = b"refused: Syntax, line 5, byte 12552\n".as_slice();
+    expect_assignments(&rt, rt.alloc(), 2_500, b"x:=;", errs)?;
     Ok(())
 }
 

@@ -7,10 +7,9 @@ ghost use Rattle.zpl_claims.specs.Answer.{IsCodeOf, most_source};
 ghost use Rattle.zplgrid.specs.Work.{IsAnswer, WereGiven, HasTurns, printed_of, IsCutOff};
 
 use crate::answers::Answer;
-use crate::compiling::compile;
+use crate::compiling::{CompileFault, compile};
 use grid_meaning::{given_turns_are_orders, over_stays, turns_count};
 use node_form::NodeProgram;
-use small_code::CodeFault;
 use small_run::{RunFault, run_alone, scalar_code_goes_on};
 use std::alloc::Global;
 use zpl_io::Sink;
@@ -57,8 +56,8 @@ pub fn work_on<'a, O: Sink>(alloc: Global, text: &[u8], turns: u64, out: &mut O)
 {
     match compile(alloc, text) {
         Ok(code) => run(alloc, text, code, turns, out),
-        Err(CodeFault::NotBuilt) => Work::without_code(Answer::NotBuilt),
-        Err(CodeFault::NoMemory) => Work::without_code(Answer::NoMemory),
+        Err(CompileFault::Refused(refusal)) => Work::without_code(Answer::Refused(refusal)),
+        Err(CompileFault::NoMemory) => Work::without_code(Answer::NoMemory),
     }
 }
 

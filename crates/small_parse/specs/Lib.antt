@@ -1,3 +1,0 @@
-pub mod SmallShape
-pub mod Reading
-pub mod Operators
