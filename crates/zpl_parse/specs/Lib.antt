@@ -7,3 +7,4 @@ pub mod Expressions
 pub mod Statements
 pub mod Declarations
 pub mod Claims
+pub mod Following

@@ -2,3 +2,17 @@
 #![tactic(auto)]
 
 mod classes;
+mod declarations;
+mod expressions;
+mod faults;
+mod placing;
+mod programs;
+mod regions;
+mod statements;
+mod tokens;
+
+pub use faults::ParseFault;
+pub use programs::parse;
+
+#[cfg(test)]
+mod tests;
