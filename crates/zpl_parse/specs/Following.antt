@@ -1,12 +1,12 @@
 -- What it means that a function of the parser follows a rule of the grammar.
-use Rattle.std.specs.Prelude.{◌≡◌, ℕ, Result, Ok, Err}
+use Rattle.std.specs.Prelude.{◌≡◌, ℕ, List, [], ◌∷◌, Result, Ok, Err}
+use Rattle.zpl_text.specs.declared.tokens.Token.{Token}
 use Rattle.zpl_tokens.specs.declared.Kind.{Kind}
 use Rattle.zpl_tokens.specs.declared.Kind.TheVariants as kind
 use Rattle.zpl_parse.specs.declared.faults.ParseFault.{ParseFault}
 use Rattle.zpl_parse.specs.declared.faults.ParseFault.TheVariants.{Syntax, TooDeep, NoMemory}
 use Rattle.zpl_parse.specs.Lexeme.{Lexeme, head_at}
 use Rattle.zpl_parse.specs.Outcome.{Outcome, Wrong, Deep}
-use Rattle.std.specs.Prelude.{List}
 
 -- the rule meets a lexeme that can't stand where it does, and it stands here
 pub record IsWrongAt {A : Type 0} (at : ℕ) (outcome : Outcome A) : Type 0 where
@@ -34,3 +34,8 @@ Follows (Err fault) done outcome = IsFaultOf fault outcome
 abbrev pub HasNoValue : Kind → Type 0
 HasNoValue (kind.Number value) = ⊥
 HasNoValue _ = Unit {0}
+
+-- the first token is of the kind
+abbrev pub BeginsWith : Kind → List Token → Type 0
+BeginsWith kind [] = ⊥
+BeginsWith kind (token ∷ tokens) = token.kind ≡ kind

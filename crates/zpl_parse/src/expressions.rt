@@ -1,5 +1,14 @@
 //! Rules of expressions.
-ghost use Rattle.std.specs.Prelude.{◌<◌};
+ghost use Rattle.std.specs.Prelude.{◌≡◌, ◌<◌, ◌≤◌, ◌-◌, ℕ, length, IfOk, MatchResult};
+ghost use Rattle.zpl_tree.specs.Depth.{expr_depth, exprs_depth};
+ghost use Rattle.zpl_tree.specs.Syntax.{Pair as PairTree};
+ghost use Rattle.zpl_tree.specs.View.{expr_of, exprs_of, form_of, name_of};
+ghost use Rattle.zpl_parse.specs.declared.faults.ParseFault.TheVariants.{NoMemory};
+ghost use Rattle.zpl_parse.specs.Classes.{folding_of};
+ghost use Rattle.zpl_parse.specs.Following.{Follows};
+ghost use Rattle.zpl_parse.specs.Lexeme.{lexemes_of, head_kind};
+ghost use Rattle.zpl_parse.specs.Outcome.{Done};
+ghost use Rattle.zpl_parse.specs.Expressions.{levels, behind_name as behind_name_rule, folded as folded_rule, both as both_rule, inside as inside_rule, actuals as actuals_rule, components as components_rule, exprs as exprs_rule};
 
 use crate::classes::{
     Folding, Opening, and_operator, comparison, folded_by, opened_by, or_operator, sum_operator,
@@ -26,7 +35,13 @@ pub fn expr<'a, 't>(
     bytes: &'a [u8],
     tokens: &'t [Token],
     deep: u32,
-) -> ReadDeep<'t, Expr<'a>> {
+) -> ReadDeep<'t, Expr<'a>>
+    ensures follows { (most : ℕ) → length tokens.now < most
+        → Follows result (λ r. Done (expr_of r.0) (lexemes_of bytes.now r.2.now)) ((levels most deep).expr (lexemes_of bytes.now tokens.now)) }
+    ensures shorter { IfOk result (λ r. length r.2.now < length tokens.now) }
+    ensures depth { IfOk result (λ r. r.1 ≡ expr_depth (expr_of r.0)) }
+    ensures within { IfOk result (λ r. r.1 ≤ deep) }
+{
     let (mut left, mut depth, mut rest) = conj(alloc, arena, bytes, tokens, deep)?;
     while let Some(op) = or_operator(first_kind(rest)) {
         if depth >= deep {
@@ -48,7 +63,13 @@ fn conj<'a, 't>(
     bytes: &'a [u8],
     tokens: &'t [Token],
     deep: u32,
-) -> ReadDeep<'t, Expr<'a>> {
+) -> ReadDeep<'t, Expr<'a>>
+    ensures follows { (most : ℕ) → length tokens.now < most
+        → Follows result (λ r. Done (expr_of r.0) (lexemes_of bytes.now r.2.now)) ((levels most deep).conj (lexemes_of bytes.now tokens.now)) }
+    ensures shorter { IfOk result (λ r. length r.2.now < length tokens.now) }
+    ensures depth { IfOk result (λ r. r.1 ≡ expr_depth (expr_of r.0)) }
+    ensures within { IfOk result (λ r. r.1 ≤ deep) }
+{
     let (mut left, mut depth, mut rest) = comp(alloc, arena, bytes, tokens, deep)?;
     while let Some(op) = and_operator(first_kind(rest)) {
         if depth >= deep {
@@ -70,7 +91,13 @@ fn comp<'a, 't>(
     bytes: &'a [u8],
     tokens: &'t [Token],
     deep: u32,
-) -> ReadDeep<'t, Expr<'a>> {
+) -> ReadDeep<'t, Expr<'a>>
+    ensures follows { (most : ℕ) → length tokens.now < most
+        → Follows result (λ r. Done (expr_of r.0) (lexemes_of bytes.now r.2.now)) ((levels most deep).comp (lexemes_of bytes.now tokens.now)) }
+    ensures shorter { IfOk result (λ r. length r.2.now < length tokens.now) }
+    ensures depth { IfOk result (λ r. r.1 ≡ expr_depth (expr_of r.0)) }
+    ensures within { IfOk result (λ r. r.1 ≤ deep) }
+{
     let (left, depth, rest) = sum(alloc, arena, bytes, tokens, deep)?;
     let Some(op) = comparison(first_kind(rest)) else {
         return Ok((left, depth, rest));
@@ -91,7 +118,13 @@ fn sum<'a, 't>(
     bytes: &'a [u8],
     tokens: &'t [Token],
     deep: u32,
-) -> ReadDeep<'t, Expr<'a>> {
+) -> ReadDeep<'t, Expr<'a>>
+    ensures follows { (most : ℕ) → length tokens.now < most
+        → Follows result (λ r. Done (expr_of r.0) (lexemes_of bytes.now r.2.now)) ((levels most deep).sum (lexemes_of bytes.now tokens.now)) }
+    ensures shorter { IfOk result (λ r. length r.2.now < length tokens.now) }
+    ensures depth { IfOk result (λ r. r.1 ≡ expr_depth (expr_of r.0)) }
+    ensures within { IfOk result (λ r. r.1 ≤ deep) }
+{
     let (mut left, mut depth, mut rest) = term(alloc, arena, bytes, tokens, deep)?;
     while let Some(op) = sum_operator(first_kind(rest)) {
         if depth >= deep {
@@ -113,7 +146,13 @@ fn term<'a, 't>(
     bytes: &'a [u8],
     tokens: &'t [Token],
     deep: u32,
-) -> ReadDeep<'t, Expr<'a>> {
+) -> ReadDeep<'t, Expr<'a>>
+    ensures follows { (most : ℕ) → length tokens.now < most
+        → Follows result (λ r. Done (expr_of r.0) (lexemes_of bytes.now r.2.now)) ((levels most deep).term (lexemes_of bytes.now tokens.now)) }
+    ensures shorter { IfOk result (λ r. length r.2.now < length tokens.now) }
+    ensures depth { IfOk result (λ r. r.1 ≡ expr_depth (expr_of r.0)) }
+    ensures within { IfOk result (λ r. r.1 ≤ deep) }
+{
     let (mut left, mut depth, mut rest) = unary(alloc, arena, bytes, tokens, deep)?;
     while let Some(op) = term_operator(first_kind(rest)) {
         if depth >= deep {
@@ -136,7 +175,13 @@ fn unary<'a, 't>(
     bytes: &'a [u8],
     tokens: &'t [Token],
     deep: u32,
-) -> ReadDeep<'t, Expr<'a>> {
+) -> ReadDeep<'t, Expr<'a>>
+    ensures follows { (most : ℕ) → length tokens.now < most
+        → Follows result (λ r. Done (expr_of r.0) (lexemes_of bytes.now r.2.now)) ((levels most deep).unary (lexemes_of bytes.now tokens.now)) }
+    ensures shorter { IfOk result (λ r. length r.2.now < length tokens.now) }
+    ensures depth { IfOk result (λ r. r.1 ≡ expr_depth (expr_of r.0)) }
+    ensures within { IfOk result (λ r. r.1 ≤ deep) }
+{
     let Some((first, rest)) = tokens.split_first() else {
         return Err(refused(tokens));
     };
@@ -197,6 +242,11 @@ fn behind_name<'a, 't>(
     deep: u32,
 ) -> ReadDeep<'t, Expr<'a>>
     requires { 0 < deep }
+    ensures follows { (most : ℕ) → length tokens.now < most
+        → Follows result (λ r. Done (expr_of r.0) (lexemes_of bytes.now r.2.now)) (behind_name_rule most (levels most (deep - 1)) (name_of name.entry) (lexemes_of bytes.now tokens.now)) }
+    ensures shorter { IfOk result (λ r. length r.2.now ≤ length tokens.now) }
+    ensures depth { IfOk result (λ r. r.1 ≡ expr_depth (expr_of r.0)) }
+    ensures within { IfOk result (λ r. r.1 ≤ deep) }
 {
     let at = name.at;
     if begins_with(tokens, Kind::Symbol(Sym::At)) {
@@ -223,6 +273,11 @@ fn folded<'a, 't>(
     deep: u32,
 ) -> ReadDeep<'t, Expr<'a>>
     requires { 0 < deep }
+    ensures follows { (most : ℕ) → length tokens.now < most
+        → Follows result (λ r. Done (expr_of r.0) (lexemes_of bytes.now r.2.now)) (folded_rule most at operator (levels most (deep - 1)) (folding_of operator (head_kind (lexemes_of bytes.now tokens.now))) (lexemes_of bytes.now tokens.now)) }
+    ensures shorter { IfOk result (λ r. length r.2.now ≤ length tokens.now) }
+    ensures depth { IfOk result (λ r. r.1 ≡ expr_depth (expr_of r.0)) }
+    ensures within { IfOk result (λ r. r.1 ≤ deep) }
 {
     match folded_by(operator, first_kind(tokens)) {
         Some(Folding::Reduce) => {
@@ -262,6 +317,11 @@ fn both<'a, 't>(
     deep: u32,
 ) -> ReadDeep<'t, Expr<'a>>
     requires { 0 < deep }
+    ensures follows { (most : ℕ) → length tokens.now < most
+        → Follows result (λ r. Done (expr_of r.0) (lexemes_of bytes.now r.2.now)) (both_rule at op (levels most (deep - 1)) (lexemes_of bytes.now tokens.now)) }
+    ensures shorter { IfOk result (λ r. length r.2.now < length tokens.now) }
+    ensures depth { IfOk result (λ r. r.1 ≡ expr_depth (expr_of r.0)) }
+    ensures within { IfOk result (λ r. r.1 ≤ deep) }
 {
     let (left, left_depth, rest) = expr(alloc, arena, bytes, tokens, deep - 1)?;
     let (_, rest) = symbol(rest, Sym::Comma)?;
@@ -278,7 +338,13 @@ fn inside<'a, 't>(
     bytes: &'a [u8],
     tokens: &'t [Token],
     deep: u32,
-) -> ReadDeep<'t, Expr<'a>> {
+) -> ReadDeep<'t, Expr<'a>>
+    ensures follows { (most : ℕ) → length tokens.now < most
+        → Follows result (λ r. Done (expr_of r.0) (lexemes_of bytes.now r.2.now)) (inside_rule (levels most deep) (lexemes_of bytes.now tokens.now)) }
+    ensures shorter { IfOk result (λ r. length r.2.now < length tokens.now) }
+    ensures depth { IfOk result (λ r. r.1 ≡ expr_depth (expr_of r.0)) }
+    ensures within { IfOk result (λ r. r.1 ≤ deep) }
+{
     let (value, depth, rest) = expr(alloc, arena, bytes, tokens, deep)?;
     let (_, rest) = symbol(rest, Sym::CloseParen)?;
     Ok((value, depth, rest))
@@ -292,7 +358,13 @@ pub fn actuals<'a, 't>(
     bytes: &'a [u8],
     tokens: &'t [Token],
     deep: u32,
-) -> ReadDeep<'t, &'a [Expr<'a>]> {
+) -> ReadDeep<'t, &'a [Expr<'a>]>
+    ensures follows { (most : ℕ) → length tokens.now < most
+        → Follows result (λ r. Done (exprs_of r.0.now) (lexemes_of bytes.now r.2.now)) (actuals_rule most (levels most deep).expr (lexemes_of bytes.now tokens.now)) }
+    ensures shorter { IfOk result (λ r. length r.2.now ≤ length tokens.now) }
+    ensures depth { IfOk result (λ r. r.1 ≡ exprs_depth (exprs_of r.0.now)) }
+    ensures within { IfOk result (λ r. r.1 ≤ deep) }
+{
     if begins_with(tokens, Kind::Symbol(Sym::CloseParen)) {
         return Ok((&[], 0, behind(tokens)));
     }
@@ -309,7 +381,13 @@ pub fn components<'a, 't>(
     bytes: &'a [u8],
     tokens: &'t [Token],
     deep: u32,
-) -> ReadDeep<'t, &'a [Expr<'a>]> {
+) -> ReadDeep<'t, &'a [Expr<'a>]>
+    ensures follows { (most : ℕ) → length tokens.now < most
+        → Follows result (λ r. Done (exprs_of r.0.now) (lexemes_of bytes.now r.2.now)) (components_rule most (levels most deep).expr (lexemes_of bytes.now tokens.now)) }
+    ensures shorter { IfOk result (λ r. length r.2.now < length tokens.now) }
+    ensures depth { IfOk result (λ r. r.1 ≡ exprs_depth (exprs_of r.0.now)) }
+    ensures within { IfOk result (λ r. r.1 ≤ deep) }
+{
     let (parts, depth, rest) = exprs(alloc, arena, bytes, tokens, deep)?;
     let (_, rest) = symbol(rest, Sym::CloseBracket)?;
     Ok((parts, depth, rest))
@@ -323,7 +401,13 @@ fn exprs<'a, 't>(
     bytes: &'a [u8],
     tokens: &'t [Token],
     deep: u32,
-) -> ReadDeep<'t, &'a [Expr<'a>]> {
+) -> ReadDeep<'t, &'a [Expr<'a>]>
+    ensures follows { (most : ℕ) → length tokens.now < most
+        → Follows result (λ r. Done (exprs_of r.0.now) (lexemes_of bytes.now r.2.now)) (exprs_rule most (levels most deep).expr (lexemes_of bytes.now tokens.now)) }
+    ensures shorter { IfOk result (λ r. length r.2.now < length tokens.now) }
+    ensures depth { IfOk result (λ r. r.1 ≡ exprs_depth (exprs_of r.0.now)) }
+    ensures within { IfOk result (λ r. r.1 ≤ deep) }
+{
     let mut exprs = Vec::new(alloc);
     let mut deepest = 0;
     let mut rest = tokens;
@@ -340,7 +424,9 @@ fn exprs<'a, 't>(
 }
 
 /// An expression of a form, at an offset.
-fn leaf<'a>(at: u32, form: ExprForm<'a>) -> Expr<'a> {
+fn leaf<'a>(at: u32, form: ExprForm<'a>) -> Expr<'a>
+    ensures { expr_of result ≡ form_of at form.entry }
+{
     Expr { at, form }
 }
 
@@ -351,7 +437,11 @@ fn pair<'a>(
     op: Op,
     left: Expr<'a>,
     right: Expr<'a>,
-) -> Result<Expr<'a>, ParseFault> {
+) -> Result<Expr<'a>, ParseFault>
+    ensures { MatchResult result
+        (λ pair. expr_of pair ≡ PairTree at op (expr_of left.entry) (expr_of right.entry))
+        (λ e. e ≡ NoMemory) }
+{
     let left = placed(arena, left)?;
     let right = placed(arena, right)?;
     let form = ExprForm::Pair(op, left, right);

@@ -1,4 +1,12 @@
 //! Rules of directions and regions.
+ghost use Rattle.std.specs.Prelude.{◌≡◌, ◌<◌, ◌≤◌, ℕ, map, length, IfOk};
+ghost use Rattle.zpl_tree.specs.Depth.{dir_depth, posts_depth, inner_depth, bracket_depth, dims_depth, dim_depth};
+ghost use Rattle.zpl_tree.specs.View.{pre_of, base_of, dir_of, posts_of, inner_of, bracket_of, dims_of, dim_of};
+ghost use Rattle.zpl_parse.specs.Following.{Follows};
+ghost use Rattle.zpl_parse.specs.Lexeme.{lexemes_of};
+ghost use Rattle.zpl_parse.specs.Outcome.{Done};
+ghost use Rattle.zpl_parse.specs.Expressions.{levels, begins_region as begins_region_rule, dir as dir_rule, posts as posts_rule, in_bracket as in_bracket_rule, bracket as bracket_rule, inner as inner_rule, rexpr as rexpr_rule, dim_texts as dim_texts_rule, dim_text as dim_text_rule, bounds as bounds_rule, region_base as region_base_rule};
+
 use crate::classes::{ends_dimension, ends_region, goes_on_region, outside, stride};
 use crate::expressions::{components, expr};
 use crate::faults::ParseFault;
@@ -20,7 +28,13 @@ pub fn dir<'a, 't>(
     bytes: &'a [u8],
     tokens: &'t [Token],
     deep: u32,
-) -> ReadDeep<'t, Dir<'a>> {
+) -> ReadDeep<'t, Dir<'a>>
+    ensures follows { (most : ℕ) → length tokens.now < most
+        → Follows result (λ r. Done (dir_of r.0) (lexemes_of bytes.now r.2.now)) (dir_rule most (levels most deep).expr (lexemes_of bytes.now tokens.now)) }
+    ensures shorter { IfOk result (λ r. length r.2.now < length tokens.now) }
+    ensures depth { IfOk result (λ r. r.1 ≡ dir_depth (dir_of r.0)) }
+    ensures within { IfOk result (λ r. r.1 ≤ deep) }
+{
     if begins_with(tokens, Kind::Symbol(Sym::OpenBracket)) {
         let (parts, depth, rest) = components(alloc, arena, bytes, behind(tokens), deep)?;
         return Ok((Dir::Vector(parts), depth, rest));
@@ -37,7 +51,13 @@ pub fn posts<'a, 't>(
     bytes: &'a [u8],
     tokens: &'t [Token],
     deep: u32,
-) -> ReadDeep<'t, &'a [Post<'a>]> {
+) -> ReadDeep<'t, &'a [Post<'a>]>
+    ensures follows { (most : ℕ) → length tokens.now < most
+        → Follows result (λ r. Done (posts_of r.0.now) (lexemes_of bytes.now r.2.now)) (posts_rule most (levels most deep).expr (lexemes_of bytes.now tokens.now)) }
+    ensures shorter { IfOk result (λ r. length r.2.now ≤ length tokens.now) }
+    ensures depth { IfOk result (λ r. r.1 ≡ posts_depth (posts_of r.0.now)) }
+    ensures within { IfOk result (λ r. r.1 ≤ deep) }
+{
     let mut posts = Vec::new(alloc);
     let mut deepest = 0;
     let mut rest = tokens;
@@ -59,7 +79,13 @@ pub fn in_bracket<'a, 't>(
     bytes: &'a [u8],
     tokens: &'t [Token],
     deep: u32,
-) -> ReadDeep<'t, Inner<'a>> {
+) -> ReadDeep<'t, Inner<'a>>
+    ensures follows { (most : ℕ) → length tokens.now < most
+        → Follows result (λ r. Done (inner_of r.0) (lexemes_of bytes.now r.2.now)) (in_bracket_rule most (levels most deep).expr (lexemes_of bytes.now tokens.now)) }
+    ensures shorter { IfOk result (λ r. length r.2.now < length tokens.now) }
+    ensures depth { IfOk result (λ r. r.1 ≡ inner_depth (inner_of r.0)) }
+    ensures within { IfOk result (λ r. r.1 ≤ deep) }
+{
     let (_, rest) = symbol(tokens, Sym::OpenBracket)?;
     let (region, depth, rest) = inner(alloc, arena, bytes, rest, deep)?;
     let (_, rest) = symbol(rest, Sym::CloseBracket)?;
@@ -74,7 +100,13 @@ pub fn bracket<'a, 't>(
     bytes: &'a [u8],
     tokens: &'t [Token],
     deep: u32,
-) -> ReadDeep<'t, Option<Inner<'a>>> {
+) -> ReadDeep<'t, Option<Inner<'a>>>
+    ensures follows { (most : ℕ) → length tokens.now < most
+        → Follows result (λ r. Done (bracket_of r.0) (lexemes_of bytes.now r.2.now)) (bracket_rule most (levels most deep).expr (lexemes_of bytes.now tokens.now)) }
+    ensures shorter { IfOk result (λ r. length r.2.now ≤ length tokens.now) }
+    ensures depth { IfOk result (λ r. r.1 ≡ bracket_depth (bracket_of r.0)) }
+    ensures within { IfOk result (λ r. r.1 ≤ deep) }
+{
     if !begins_with(tokens, Kind::Symbol(Sym::OpenBracket)) {
         return Ok((None, 0, tokens));
     }
@@ -90,7 +122,13 @@ pub fn inner<'a, 't>(
     bytes: &'a [u8],
     tokens: &'t [Token],
     deep: u32,
-) -> ReadDeep<'t, Inner<'a>> {
+) -> ReadDeep<'t, Inner<'a>>
+    ensures follows { (most : ℕ) → length tokens.now < most
+        → Follows result (λ r. Done (inner_of r.0) (lexemes_of bytes.now r.2.now)) (inner_rule most (levels most deep).expr (lexemes_of bytes.now tokens.now)) }
+    ensures shorter { IfOk result (λ r. length r.2.now ≤ length tokens.now) }
+    ensures depth { IfOk result (λ r. r.1 ≡ inner_depth (inner_of r.0)) }
+    ensures within { IfOk result (λ r. r.1 ≤ deep) }
+{
     if begins_region(first_kind(tokens), second_kind(tokens)) {
         return rexpr(alloc, arena, bytes, tokens, deep);
     }
@@ -109,7 +147,13 @@ pub fn rexpr<'a, 't>(
     bytes: &'a [u8],
     tokens: &'t [Token],
     deep: u32,
-) -> ReadDeep<'t, Inner<'a>> {
+) -> ReadDeep<'t, Inner<'a>>
+    ensures follows { (most : ℕ) → length tokens.now < most
+        → Follows result (λ r. Done (inner_of r.0) (lexemes_of bytes.now r.2.now)) (rexpr_rule most (levels most deep).expr (lexemes_of bytes.now tokens.now)) }
+    ensures shorter { IfOk result (λ r. length r.2.now ≤ length tokens.now) }
+    ensures depth { IfOk result (λ r. r.1 ≡ inner_depth (inner_of r.0)) }
+    ensures within { IfOk result (λ r. r.1 ≤ deep) }
+{
     let ((pre, base), rest) = region_base(alloc, arena, bytes, tokens)?;
     let (post, depth, rest) = posts(alloc, arena, bytes, rest, deep)?;
     Ok((Inner::Rexpr(Rexpr { pre, base, post }), depth, rest))
@@ -123,7 +167,13 @@ fn dim_texts<'a, 't>(
     bytes: &'a [u8],
     tokens: &'t [Token],
     deep: u32,
-) -> ReadDeep<'t, &'a [DimText<'a>]> {
+) -> ReadDeep<'t, &'a [DimText<'a>]>
+    ensures follows { (most : ℕ) → length tokens.now < most
+        → Follows result (λ r. Done (dims_of r.0.now) (lexemes_of bytes.now r.2.now)) (dim_texts_rule most (levels most deep).expr (lexemes_of bytes.now tokens.now)) }
+    ensures shorter { IfOk result (λ r. length r.2.now ≤ length tokens.now) }
+    ensures depth { IfOk result (λ r. r.1 ≡ dims_depth (dims_of r.0.now)) }
+    ensures within { IfOk result (λ r. r.1 ≤ deep) }
+{
     let mut dims = Vec::new(alloc);
     let mut deepest = 0;
     let mut rest = tokens;
@@ -147,7 +197,13 @@ fn dim_text<'a, 't>(
     bytes: &'a [u8],
     tokens: &'t [Token],
     deep: u32,
-) -> ReadDeep<'t, DimText<'a>> {
+) -> ReadDeep<'t, DimText<'a>>
+    ensures follows { (most : ℕ) → length tokens.now < most
+        → Follows result (λ r. Done (dim_of r.0) (lexemes_of bytes.now r.2.now)) (dim_text_rule (levels most deep).expr (lexemes_of bytes.now tokens.now)) }
+    ensures shorter { IfOk result (λ r. length r.2.now ≤ length tokens.now) }
+    ensures depth { IfOk result (λ r. r.1 ≡ dim_depth (dim_of r.0)) }
+    ensures within { IfOk result (λ r. r.1 ≤ deep) }
+{
     if ends_dimension(first_kind(tokens)) {
         return Ok((DimText::Blank(offset(tokens)), 0, tokens));
     }
@@ -165,7 +221,13 @@ fn bounds<'a, 't>(
     bytes: &'a [u8],
     tokens: &'t [Token],
     deep: u32,
-) -> ReadDeep<'t, DimText<'a>> {
+) -> ReadDeep<'t, DimText<'a>>
+    ensures follows { (most : ℕ) → length tokens.now < most
+        → Follows result (λ r. Done (dim_of r.0) (lexemes_of bytes.now r.2.now)) (bounds_rule (levels most deep).expr (lexemes_of bytes.now tokens.now)) }
+    ensures shorter { IfOk result (λ r. length r.2.now ≤ length tokens.now) }
+    ensures depth { IfOk result (λ r. r.1 ≡ dim_depth (dim_of r.0)) }
+    ensures within { IfOk result (λ r. r.1 ≤ deep) }
+{
     let (low, low_depth, rest) = expr(alloc, arena, bytes, tokens, deep)?;
     let low = placed(arena, low)?;
     if !begins_with(rest, Kind::Symbol(Sym::DotDot)) {
@@ -182,7 +244,11 @@ fn region_base<'a, 't>(
     arena: &'a Bump<Global>,
     bytes: &'a [u8],
     tokens: &'t [Token],
-) -> Read<'t, (&'a [Pre<'a>], RegionBase<'a>)> {
+) -> Read<'t, (&'a [Pre<'a>], RegionBase<'a>)>
+    ensures follows { (most : ℕ) → length tokens.now < most
+        → Follows result (λ r. Done (map pre_of r.0.0.now, base_of r.0.1) (lexemes_of bytes.now r.1.now)) (region_base_rule most (lexemes_of bytes.now tokens.now)) }
+    ensures shorter { IfOk result (λ r. length r.1.now ≤ length tokens.now) }
+{
     let mut pre = Vec::new(alloc);
     let mut rest = tokens;
     loop {
@@ -204,7 +270,9 @@ fn region_base<'a, 't>(
 }
 
 /// Whether two tokens begin a region expression: a ditto, or a name behind which no dimension goes on.
-fn begins_region(first: Kind, second: Kind) -> bool {
+fn begins_region(first: Kind, second: Kind) -> bool
+    ensures { result ≡ begins_region_rule first second }
+{
     match first {
         Kind::Ditto => true,
         Kind::Name => goes_on_region(second),

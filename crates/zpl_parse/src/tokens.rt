@@ -1,11 +1,12 @@
 //! Rules of single tokens, at the front of those that are left.
-ghost use Rattle.std.specs.Prelude.{◌≡◌, ◌<◌, ◌≤◌, if◌then◌else◌, ℕ, List, map, length, IfOk};
+ghost use Rattle.std.specs.Prelude.{◌≡◌, ◌<◌, ◌≤◌, ◌-◌, ◌↔◌, if◌then◌else◌, ℕ, List, map, length, IfOk, IsTrue};
 ghost use Rattle.zpl_tree.specs.View.{name_of};
 ghost use Rattle.zpl_grammar.specs.Written.{token_text};
 ghost use Rattle.zpl_parse.specs.declared.faults.ParseFault.TheVariants.{Syntax, TooDeep};
-ghost use Rattle.zpl_parse.specs.Following.{Follows, HasNoValue};
+ghost use Rattle.zpl_parse.specs.Following.{BeginsWith, Follows, HasNoValue};
 ghost use Rattle.zpl_parse.specs.Lexeme.{lexemes_of, head_kind, second_kind, head_at, behind as behind_of};
 ghost use Rattle.zpl_parse.specs.Outcome.{Done};
+ghost use Rattle.zpl_parse.specs.Expressions.{along as along_rule};
 ghost use Rattle.zpl_parse.specs.Tokens.{next_is, expect as expect_rule, symbol as symbol_rule, keyword as keyword_rule, name as name_rule, natural as natural_rule, names as names_rule, closing as closing_rule, string_of, in_quotes};
 
 use crate::classes::{Opening, opened_by};
@@ -24,14 +25,22 @@ pub type Read<'t, T> = Result<(T, &'t [Token]), ParseFault>;
 pub type ReadDeep<'t, T> = Result<(T, u32, &'t [Token]), ParseFault>;
 
 /// Whether the first token is of a kind.
-pub fn begins_with(tokens: &[Token], wanted: Kind) -> bool
-    requires { HasNoValue wanted }
-    ensures { (text : List ℕ) → result ≡ next_is wanted (lexemes_of text tokens.now) }
+fn has_first(tokens: &[Token], kind: Kind) -> bool
+    ensures { IsTrue result ↔ BeginsWith kind tokens.now }
 {
     match tokens.split_first() {
-        Some((first, _)) => first.kind == wanted,
+        Some((first, _)) => first.kind == kind,
         None => false,
     }
+}
+
+/// Whether the first token is of a kind, which is that of no number.
+pub fn begins_with(tokens: &[Token], wanted: Kind) -> bool
+    requires { HasNoValue wanted }
+    ensures is { (text : List ℕ) → result ≡ next_is wanted (lexemes_of text tokens.now) }
+    ensures some { IsTrue result → 0 < length tokens.now }
+{
+    has_first(tokens, wanted)
 }
 
 /// The kind of the first token.
@@ -67,7 +76,7 @@ pub fn offset(tokens: &[Token]) -> u32
 /// The tokens behind the first.
 pub fn behind(tokens: &[Token]) -> &[Token]
     ensures rest { (text : List ℕ) → lexemes_of text result.now ≡ behind_of (lexemes_of text tokens.now) }
-    ensures shorter { length result.now ≤ length tokens.now }
+    ensures shorter { length result.now ≡ length tokens.now - 1 }
 {
     match tokens {
         [_, rest @ ..] => rest,
@@ -99,9 +108,10 @@ pub fn expect(tokens: &[Token], wanted: Kind) -> Read<'_, u32>
     ensures follows { (text : List ℕ) → Follows result (λ r. Done r.0 (lexemes_of text r.1.now)) (expect_rule wanted (lexemes_of text tokens.now)) }
     ensures shorter { IfOk result (λ r. length r.1.now < length tokens.now) }
 {
-    match tokens.split_first() {
-        Some((first, rest)) if first.kind == wanted => Ok((first.from, rest)),
-        _ => Err(refused(tokens)),
+    if begins_with(tokens, wanted) {
+        Ok((offset(tokens), behind(tokens)))
+    } else {
+        Err(refused(tokens))
     }
 }
 
@@ -126,8 +136,11 @@ pub fn name<'a, 't>(bytes: &'a [u8], tokens: &'t [Token]) -> Read<'t, Name<'a>>
     ensures follows { Follows result (λ r. Done (name_of r.0) (lexemes_of bytes.now r.1.now)) (name_rule (lexemes_of bytes.now tokens.now)) }
     ensures shorter { IfOk result (λ r. length r.1.now < length tokens.now) }
 {
-    match tokens.split_first() {
-        Some((first, rest)) if first.kind == Kind::Name => Ok((named(bytes, first), rest)),
+    let Some((first, rest)) = tokens.split_first() else {
+        return Err(refused(tokens));
+    };
+    match first.kind {
+        Kind::Name => Ok((named(bytes, first), rest)),
         _ => Err(refused(tokens)),
     }
 }
@@ -147,8 +160,11 @@ pub fn natural(tokens: &[Token]) -> Read<'_, i64>
     ensures follows { (text : List ℕ) → Follows result (λ r. Done r.0 (lexemes_of text r.1.now)) (natural_rule (lexemes_of text tokens.now)) }
     ensures shorter { IfOk result (λ r. length r.1.now < length tokens.now) }
 {
-    match opened_by(first_kind(tokens)) {
-        Some(Opening::Number(value)) => Ok((value, behind(tokens))),
+    let Some((first, rest)) = tokens.split_first() else {
+        return Err(refused(tokens));
+    };
+    match opened_by(first.kind) {
+        Some(Opening::Number(value)) => Ok((value, rest)),
         _ => Err(refused(tokens)),
     }
 }
@@ -160,7 +176,7 @@ pub fn names<'a, 't>(
     bytes: &'a [u8],
     tokens: &'t [Token],
 ) -> Read<'t, &'a [Name<'a>]>
-    ensures follows { (most : ℕ) → length tokens.now ≤ most
+    ensures follows { (most : ℕ) → length tokens.now < most
         → Follows result (λ r. Done (map name_of r.0.now) (lexemes_of bytes.now r.1.now)) (names_rule most (lexemes_of bytes.now tokens.now)) }
     ensures shorter { IfOk result (λ r. length r.1.now < length tokens.now) }
 {
@@ -218,7 +234,10 @@ pub fn text_of<'a>(bytes: &'a [u8], token: &Token) -> &'a [u8]
 }
 
 /// [ "[" NUMBER "]" ].
-pub fn along(tokens: &[Token]) -> Read<'_, Option<i64>> {
+pub fn along(tokens: &[Token]) -> Read<'_, Option<i64>>
+    ensures follows { (text : List ℕ) → Follows result (λ r. Done r.0 (lexemes_of text r.1.now)) (along_rule (lexemes_of text tokens.now)) }
+    ensures shorter { IfOk result (λ r. length r.1.now ≤ length tokens.now) }
+{
     if !begins_with(tokens, Kind::Symbol(Sym::OpenBracket)) {
         return Ok((None, tokens));
     }

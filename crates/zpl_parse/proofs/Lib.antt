@@ -1,0 +1,4 @@
+pub mod Sames
+pub mod Follows
+pub mod Loops
+pub mod Lists
