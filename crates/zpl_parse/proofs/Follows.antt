@@ -1,10 +1,10 @@
 -- One rule behind another: how an answer follows the outcome of the whole.
-use Rattle.std.proofs.Common.{◌≡◌, ℕ, List, Result, Ok, Err, refl, sym, ap, subst, ◌∙◌}
+use Rattle.std.proofs.Common.{◌≡◌, ℕ, Bool, true, false, if◌then◌else◌, List, Result, Ok, Err, refl, sym, ap, subst, ◌∙◌}
 use Rattle.std.specs.Result.{IsErrAnd}
 use Rattle.zpl_parse.specs.declared.faults.ParseFault.{ParseFault}
 use Rattle.zpl_parse.specs.declared.faults.ParseFault.TheVariants.{Syntax, TooDeep, NoMemory}
-use Rattle.zpl_parse.specs.Lexeme.{Lexeme, head_at}
-use Rattle.zpl_parse.specs.Outcome.{Outcome, Done, Wrong, Deep, Reader, and_then, made}
+use Rattle.zpl_parse.specs.Lexeme.{Lexeme, head_at, behind}
+use Rattle.zpl_parse.specs.Outcome.{Outcome, Done, Wrong, Deep, Reader, and_then, made, too_deep}
 use Rattle.zpl_parse.specs.Following.{IsFaultOf, Follows, IsWrongAt, IsDeep}
 
 -- a fault is passed on as it is
@@ -32,3 +32,11 @@ refused_here fault rest o e is = subst (λ f. IsFaultOf f o) (sym e) (record { r
 pub follows_then : {V A B : Type 0} (r : Result V ParseFault) (done : V → Outcome B) (o : Outcome A) (k : A → Reader B) (x : A) (rest : List Lexeme) → o ≡ Done x rest → Follows r done (k x rest) → Follows r done (and_then o k)
 follows_then r done o k x rest e h = subst (λ o. Follows r done (and_then o k)) (sym e) h
 
+-- where no deeper tree may stand
+pub too_deep_here : (A : Type 0) (b : Bool) (rest : List Lexeme) (fault : ParseFault) → fault ≡ (if b then TooDeep else Syntax (head_at rest)) → IsFaultOf {A = A} fault (too_deep b rest)
+too_deep_here A true rest fault is = subst (λ f. IsFaultOf {A = A} f (Deep (behind rest))) (sym is) (record { rest = behind rest; is = refl })
+too_deep_here A false rest fault is = subst (λ f. IsFaultOf {A = A} f (Wrong rest)) (sym is) (record { rest = rest; is = refl; place = refl })
+
+-- the same of an outcome that is equal
+pub follows_same : {V A : Type 0} (r : Result V ParseFault) (done : V → Outcome A) (o other : Outcome A) → o ≡ other → Follows r done o → Follows r done other
+follows_same r done o other e h = subst (Follows r done) e h

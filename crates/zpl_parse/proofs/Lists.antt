@@ -1,5 +1,5 @@
 -- How lists of the tree are made of their parts, one by one.
-use Rattle.std.proofs.Common.{◌≡◌, ℕ, List, [], ◌∷◌, ◌++◌, map, max, refl, sym, ap, ◌∙◌}
+use Rattle.std.proofs.Common.{◌≡◌, ℕ, List, [], ◌∷◌, ◌++◌, map, max, refl, sym, ap, ◌∙◌, arith}
 use Rattle.zpl_tree.specs.Syntax as plain
 use Rattle.zpl_tree.specs.View.{pre_of, expr_of, exprs_of, dir_of, posts_of, dim_of, dims_of, stmt_of, stmts_of, arm_of, arms_of}
 use Rattle.zpl_tree.specs.Depth.{expr_depth, exprs_depth, dir_depth, posts_depth, dim_depth, dims_depth}
@@ -53,3 +53,15 @@ stmts-prepended (x ∷ xs) = ap (put_stmt x) (stmts-prepended xs)
 pub arms-prepended : (arms : List Arm) → arms_of arms ≡ prepended put_arm arms plain.NoArm
 arms-prepended [] = refl
 arms-prepended (x ∷ xs) = ap (put_arm x) (arms-prepended xs)
+
+pub exprs_depth-append : (xs : List Expr) (x : Expr) → exprs_depth (exprs_of (xs ++ x ∷ [])) ≡ max (expr_depth (expr_of x)) (exprs_depth (exprs_of xs))
+exprs_depth-append [] x = omega arith
+exprs_depth-append (y ∷ xs) x = omega (arith, exprs_depth-append xs x)
+
+pub posts_depth-append : (xs : List Post) (x : Post) → posts_depth (posts_of (xs ++ x ∷ [])) ≡ max (dir_depth (dir_of x.dir)) (posts_depth (posts_of xs))
+posts_depth-append [] x = omega arith
+posts_depth-append (y ∷ xs) x = omega (arith, posts_depth-append xs x)
+
+pub dims_depth-append : (xs : List DimText) (x : DimText) → dims_depth (dims_of (xs ++ x ∷ [])) ≡ max (dim_depth (dim_of x)) (dims_depth (dims_of xs))
+dims_depth-append [] x = omega arith
+dims_depth-append (y ∷ xs) x = omega (arith, dims_depth-append xs x)

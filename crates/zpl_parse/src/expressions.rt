@@ -359,8 +359,8 @@ pub fn actuals<'a, 't>(
     tokens: &'t [Token],
     deep: u32,
 ) -> ReadDeep<'t, &'a [Expr<'a>]>
-    ensures follows { (most : ℕ) → length tokens.now < most
-        → Follows result (λ r. Done (exprs_of r.0.now) (lexemes_of bytes.now r.2.now)) (actuals_rule most (levels most deep).expr (lexemes_of bytes.now tokens.now)) }
+    ensures follows { (few most : ℕ) → length tokens.now < few → length tokens.now < most
+        → Follows result (λ r. Done (exprs_of r.0.now) (lexemes_of bytes.now r.2.now)) (actuals_rule few (levels most deep).expr (lexemes_of bytes.now tokens.now)) }
     ensures shorter { IfOk result (λ r. length r.2.now ≤ length tokens.now) }
     ensures depth { IfOk result (λ r. r.1 ≡ exprs_depth (exprs_of r.0.now)) }
     ensures within { IfOk result (λ r. r.1 ≤ deep) }
@@ -382,8 +382,8 @@ pub fn components<'a, 't>(
     tokens: &'t [Token],
     deep: u32,
 ) -> ReadDeep<'t, &'a [Expr<'a>]>
-    ensures follows { (most : ℕ) → length tokens.now < most
-        → Follows result (λ r. Done (exprs_of r.0.now) (lexemes_of bytes.now r.2.now)) (components_rule most (levels most deep).expr (lexemes_of bytes.now tokens.now)) }
+    ensures follows { (few most : ℕ) → length tokens.now < few → length tokens.now < most
+        → Follows result (λ r. Done (exprs_of r.0.now) (lexemes_of bytes.now r.2.now)) (components_rule few (levels most deep).expr (lexemes_of bytes.now tokens.now)) }
     ensures shorter { IfOk result (λ r. length r.2.now < length tokens.now) }
     ensures depth { IfOk result (λ r. r.1 ≡ exprs_depth (exprs_of r.0.now)) }
     ensures within { IfOk result (λ r. r.1 ≤ deep) }
@@ -402,8 +402,8 @@ fn exprs<'a, 't>(
     tokens: &'t [Token],
     deep: u32,
 ) -> ReadDeep<'t, &'a [Expr<'a>]>
-    ensures follows { (most : ℕ) → length tokens.now < most
-        → Follows result (λ r. Done (exprs_of r.0.now) (lexemes_of bytes.now r.2.now)) (exprs_rule most (levels most deep).expr (lexemes_of bytes.now tokens.now)) }
+    ensures follows { (few most : ℕ) → length tokens.now < few → length tokens.now < most
+        → Follows result (λ r. Done (exprs_of r.0.now) (lexemes_of bytes.now r.2.now)) (exprs_rule few (levels most deep).expr (lexemes_of bytes.now tokens.now)) }
     ensures shorter { IfOk result (λ r. length r.2.now < length tokens.now) }
     ensures depth { IfOk result (λ r. r.1 ≡ exprs_depth (exprs_of r.0.now)) }
     ensures within { IfOk result (λ r. r.1 ≤ deep) }

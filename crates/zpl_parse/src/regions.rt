@@ -29,8 +29,8 @@ pub fn dir<'a, 't>(
     tokens: &'t [Token],
     deep: u32,
 ) -> ReadDeep<'t, Dir<'a>>
-    ensures follows { (most : ℕ) → length tokens.now < most
-        → Follows result (λ r. Done (dir_of r.0) (lexemes_of bytes.now r.2.now)) (dir_rule most (levels most deep).expr (lexemes_of bytes.now tokens.now)) }
+    ensures follows { (few most : ℕ) → length tokens.now < few → length tokens.now < most
+        → Follows result (λ r. Done (dir_of r.0) (lexemes_of bytes.now r.2.now)) (dir_rule few (levels most deep).expr (lexemes_of bytes.now tokens.now)) }
     ensures shorter { IfOk result (λ r. length r.2.now < length tokens.now) }
     ensures depth { IfOk result (λ r. r.1 ≡ dir_depth (dir_of r.0)) }
     ensures within { IfOk result (λ r. r.1 ≤ deep) }
@@ -52,8 +52,8 @@ pub fn posts<'a, 't>(
     tokens: &'t [Token],
     deep: u32,
 ) -> ReadDeep<'t, &'a [Post<'a>]>
-    ensures follows { (most : ℕ) → length tokens.now < most
-        → Follows result (λ r. Done (posts_of r.0.now) (lexemes_of bytes.now r.2.now)) (posts_rule most (levels most deep).expr (lexemes_of bytes.now tokens.now)) }
+    ensures follows { (few most : ℕ) → length tokens.now < few → length tokens.now < most
+        → Follows result (λ r. Done (posts_of r.0.now) (lexemes_of bytes.now r.2.now)) (posts_rule few (levels most deep).expr (lexemes_of bytes.now tokens.now)) }
     ensures shorter { IfOk result (λ r. length r.2.now ≤ length tokens.now) }
     ensures depth { IfOk result (λ r. r.1 ≡ posts_depth (posts_of r.0.now)) }
     ensures within { IfOk result (λ r. r.1 ≤ deep) }
@@ -80,8 +80,8 @@ pub fn in_bracket<'a, 't>(
     tokens: &'t [Token],
     deep: u32,
 ) -> ReadDeep<'t, Inner<'a>>
-    ensures follows { (most : ℕ) → length tokens.now < most
-        → Follows result (λ r. Done (inner_of r.0) (lexemes_of bytes.now r.2.now)) (in_bracket_rule most (levels most deep).expr (lexemes_of bytes.now tokens.now)) }
+    ensures follows { (few most : ℕ) → length tokens.now < few → length tokens.now < most
+        → Follows result (λ r. Done (inner_of r.0) (lexemes_of bytes.now r.2.now)) (in_bracket_rule few (levels most deep).expr (lexemes_of bytes.now tokens.now)) }
     ensures shorter { IfOk result (λ r. length r.2.now < length tokens.now) }
     ensures depth { IfOk result (λ r. r.1 ≡ inner_depth (inner_of r.0)) }
     ensures within { IfOk result (λ r. r.1 ≤ deep) }
@@ -101,8 +101,8 @@ pub fn bracket<'a, 't>(
     tokens: &'t [Token],
     deep: u32,
 ) -> ReadDeep<'t, Option<Inner<'a>>>
-    ensures follows { (most : ℕ) → length tokens.now < most
-        → Follows result (λ r. Done (bracket_of r.0) (lexemes_of bytes.now r.2.now)) (bracket_rule most (levels most deep).expr (lexemes_of bytes.now tokens.now)) }
+    ensures follows { (few most : ℕ) → length tokens.now < few → length tokens.now < most
+        → Follows result (λ r. Done (bracket_of r.0) (lexemes_of bytes.now r.2.now)) (bracket_rule few (levels most deep).expr (lexemes_of bytes.now tokens.now)) }
     ensures shorter { IfOk result (λ r. length r.2.now ≤ length tokens.now) }
     ensures depth { IfOk result (λ r. r.1 ≡ bracket_depth (bracket_of r.0)) }
     ensures within { IfOk result (λ r. r.1 ≤ deep) }
@@ -123,8 +123,8 @@ pub fn inner<'a, 't>(
     tokens: &'t [Token],
     deep: u32,
 ) -> ReadDeep<'t, Inner<'a>>
-    ensures follows { (most : ℕ) → length tokens.now < most
-        → Follows result (λ r. Done (inner_of r.0) (lexemes_of bytes.now r.2.now)) (inner_rule most (levels most deep).expr (lexemes_of bytes.now tokens.now)) }
+    ensures follows { (few most : ℕ) → length tokens.now < few → length tokens.now < most
+        → Follows result (λ r. Done (inner_of r.0) (lexemes_of bytes.now r.2.now)) (inner_rule few (levels most deep).expr (lexemes_of bytes.now tokens.now)) }
     ensures shorter { IfOk result (λ r. length r.2.now ≤ length tokens.now) }
     ensures depth { IfOk result (λ r. r.1 ≡ inner_depth (inner_of r.0)) }
     ensures within { IfOk result (λ r. r.1 ≤ deep) }
@@ -148,8 +148,8 @@ pub fn rexpr<'a, 't>(
     tokens: &'t [Token],
     deep: u32,
 ) -> ReadDeep<'t, Inner<'a>>
-    ensures follows { (most : ℕ) → length tokens.now < most
-        → Follows result (λ r. Done (inner_of r.0) (lexemes_of bytes.now r.2.now)) (rexpr_rule most (levels most deep).expr (lexemes_of bytes.now tokens.now)) }
+    ensures follows { (few most : ℕ) → length tokens.now < few → length tokens.now < most
+        → Follows result (λ r. Done (inner_of r.0) (lexemes_of bytes.now r.2.now)) (rexpr_rule few (levels most deep).expr (lexemes_of bytes.now tokens.now)) }
     ensures shorter { IfOk result (λ r. length r.2.now ≤ length tokens.now) }
     ensures depth { IfOk result (λ r. r.1 ≡ inner_depth (inner_of r.0)) }
     ensures within { IfOk result (λ r. r.1 ≤ deep) }
@@ -168,8 +168,8 @@ fn dim_texts<'a, 't>(
     tokens: &'t [Token],
     deep: u32,
 ) -> ReadDeep<'t, &'a [DimText<'a>]>
-    ensures follows { (most : ℕ) → length tokens.now < most
-        → Follows result (λ r. Done (dims_of r.0.now) (lexemes_of bytes.now r.2.now)) (dim_texts_rule most (levels most deep).expr (lexemes_of bytes.now tokens.now)) }
+    ensures follows { (few most : ℕ) → length tokens.now < few → length tokens.now < most
+        → Follows result (λ r. Done (dims_of r.0.now) (lexemes_of bytes.now r.2.now)) (dim_texts_rule few (levels most deep).expr (lexemes_of bytes.now tokens.now)) }
     ensures shorter { IfOk result (λ r. length r.2.now ≤ length tokens.now) }
     ensures depth { IfOk result (λ r. r.1 ≡ dims_depth (dims_of r.0.now)) }
     ensures within { IfOk result (λ r. r.1 ≤ deep) }
