@@ -9,6 +9,7 @@ use Rattle.node_form.specs.declared.tables.Tables.{Tables}
 use Rattle.grid_meaning.specs.Grid.{IsOver, EndsAs}
 use Rattle.zpl_claims.specs.Command.{RunWords, Command, Run, IsCommand}
 use Rattle.zpl_claims.specs.Compiled.{IsCompiled}
+use Rattle.zpl_claims.specs.Refusal.{IsRefusal}
 use Rattle.zpl_claims.specs.Run.{IsRun, grid_at}
 use Rattle.zpl_claims.specs.Small.{IsSmallText}
 
@@ -25,9 +26,6 @@ unreadable_text file = codes "cannot read " ++ (file ++ codes "\n")
 
 abbrev pub too_long_text : List ℕ → List ℕ
 too_long_text file = codes "too long: " ++ (file ++ codes "\n")
-
-abbrev pub not_built_text : List ℕ
-not_built_text = codes "refused: NotBuilt, line 1, byte 0\n"
 
 abbrev pub turn_limit_text : List ℕ
 turn_limit_text = codes "turn limit\n"
@@ -66,7 +64,7 @@ pub data Cause (Told : List ℕ → List ℕ → Type 0) (words : List (List ℕ
   usage : ((command : Command) → IsCommand words command → ⊥) → HasNoRun code turns → Cause Told words code turns 1 usage_text
   unreadable : (file : List ℕ) (rest : RunWords) → IsCommand words (Run file rest) → HasNoRun code turns → Cause Told words code turns 2 (unreadable_text file)
   too_long : (file : List ℕ) (rest : RunWords) (text : List ℕ) → IsCommand words (Run file rest) → Told file text → most_source < length text → HasNoRun code turns → Cause Told words code turns 3 (too_long_text file)
-  refused : (file : List ℕ) (rest : RunWords) (text : List ℕ) → IsCommand words (Run file rest) → Told file text → length text ≤ most_source → ((program : Program) → IsSmallText text program → ⊥) → HasNoRun code turns → Cause Told words code turns 4 not_built_text
+  refused : (file : List ℕ) (rest : RunWords) (text : List ℕ) → IsCommand words (Run file rest) → Told file text → length text ≤ most_source → ((program : Program) → IsSmallText text program → ⊥) → (told : List ℕ) → IsRefusal text told → HasNoRun code turns → Cause Told words code turns 4 told
   done : (file : List ℕ) (rest : RunWords) (text : List ℕ) (made : Tables) → IsCommand words (Run file rest) → Told file text → code ≡ Some made → IsCodeOf text made → IsRun made [] rest.turns turns → EndsAs (grid_at made [] turns) Done → Cause Told words code turns 0 []
   trap : (file : List ℕ) (rest : RunWords) (text : List ℕ) (made : Tables) (kind : TrapKind) (line : ℕ) → IsCommand words (Run file rest) → Told file text → code ≡ Some made → IsCodeOf text made → IsRun made [] rest.turns turns → EndsAs (grid_at made [] turns) (Trap kind line) → Cause Told words code turns 7 (trap_text kind line)
   turn_limit : (file : List ℕ) (rest : RunWords) (text : List ℕ) (made : Tables) → IsCommand words (Run file rest) → Told file text → code ≡ Some made → IsCodeOf text made → turns ≡ rest.turns → IsRun made [] rest.turns turns → (IsOver (grid_at made [] turns) → ⊥) → Cause Told words code turns 8 turn_limit_text

@@ -4,6 +4,7 @@ pub mod Command
 pub mod Compiled
 pub mod Good
 pub mod LockStep
+pub mod Refusal
 pub mod Run
 pub mod Small
 pub mod Tidy

@@ -4,3 +4,35 @@ pub mod Loops
 pub mod Lists
 pub mod Chains
 pub mod RegionBase
+mod Examples
+pub mod SoundBase
+pub mod SoundTokens
+pub mod SoundClasses
+pub mod SoundExprs
+pub mod SoundStmts
+pub mod SoundDecls
+pub mod SoundProgram
+pub mod Local
+pub mod LocalTokens
+pub mod LocalExpressions
+pub mod LocalStatements
+pub mod LocalDeclarations
+pub mod ViableBase
+pub mod ViableExprs
+pub mod ViableStmts
+pub mod ViableDecls
+pub mod AtBase
+pub mod AtExprs
+pub mod AtStmts
+pub mod AtDecls
+mod PlaceExamples
+pub mod CompleteBase
+pub mod CompleteLevels
+pub mod CompleteOpens
+pub mod CompleteParts
+pub mod CompleteExprs
+pub mod CompleteHere
+pub mod CompleteStatements
+pub mod CompleteDeclarations
+pub mod CompleteProgram
+pub mod Whole

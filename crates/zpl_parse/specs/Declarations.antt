@@ -4,6 +4,7 @@ use Rattle.zpl_tokens.specs.declared.Kind.TheVariants as kind
 use Rattle.zpl_tokens.specs.declared.keywords.Key.TheVariants as key
 use Rattle.zpl_tokens.specs.declared.symbols.Sym.TheVariants as sym
 use Rattle.zpl_tree.specs.Syntax.{Name, Expr, NoPost, Stmt, Prefixed, Block, Base, Integer, Boolean, Other, Define, RegionDef, DirDef, VarDef, Param, Procedure, Decl, Config, Constant, Regions, Directions, Vars, Defined, Program}
+use Rattle.zpl_grammar.specs.Texts.{most_deep}
 use Rattle.zpl_parse.specs.declared.classes.Part.{Part}
 use Rattle.zpl_parse.specs.declared.classes.Part.TheVariants as part
 use Rattle.zpl_parse.specs.Classes.{part_of}
@@ -160,10 +161,6 @@ decls (suc most) expr deep lexemes =
       | false ↦ and_then (decl_by most expr deep (part_of (head_kind lexemes)) lexemes) (λ first rest.
           made (λ others. first ∷ others) (decls most expr deep rest))
     ]
-
--- the greatest depth of a tree
-abbrev pub most_deep : ℕ
-most_deep = 200
 
 -- program = "program" NAME ";" { decl } END, of the source
 abbrev pub program : List ℕ → ℕ → Reader Program

@@ -1,4 +1,5 @@
 pub mod Lexeme
+pub mod Written
 pub mod Outcome
 pub mod Classes
 pub mod Same
@@ -8,3 +9,4 @@ pub mod Statements
 pub mod Declarations
 pub mod Claims
 pub mod Following
+pub mod Places

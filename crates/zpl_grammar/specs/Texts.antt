@@ -1,4 +1,4 @@
--- What is claimed of a text that has a tree, and of one that is refused.
+-- What it means that a text has a tree, and what is wrong with one that has none.
 use Rattle.std.specs.Prelude.{◌≡◌, ℕ, ◌<◌, ◌≤◌, List, [], ◌∷◌, ◌++◌}
 use Rattle.zpl_text.specs.declared.tokens.Token.{Token}
 use Rattle.zpl_tree.specs.Word.{Word}
@@ -6,7 +6,10 @@ use Rattle.zpl_tree.specs.Syntax.{Program}
 use Rattle.zpl_tree.specs.Depth.{depth}
 use Rattle.zpl_tree.specs.Grammar.{Spells}
 use Rattle.zpl_grammar.specs.Written.{IsWord, AreWords}
-use Rattle.zpl_parse.specs.Declarations.{most_deep}
+
+-- the greatest depth of a tree
+abbrev pub most_deep : ℕ
+most_deep = 200
 
 -- The tokens are the words that come first, one by one.
 abbrev pub AreFirstWords : List ℕ → List Token → List Word → Type 0
