@@ -8,3 +8,4 @@ pub mod Statements
 pub mod Declarations
 pub mod Claims
 pub mod Following
+pub mod Whole
