@@ -1,5 +1,5 @@
 -- Rules of statements behind the parts that are already read.
-use Rattle.std.proofs.Common.{◌≡◌, ℕ, zero, suc, ◌-◌, ◌<◌, Bool, true, false, List, [], ◌∷◌, Option, Some, None, Bor, refl, sym, ap, ◌∙◌, arith}
+use Rattle.std.proofs.Common.{◌≡◌, ℕ, zero, suc, ◌-◌, ◌<◌, Bool, true, false, List, [], ◌∷◌, Option, Some, None, Result, Bor, refl, sym, ap, subst, ◌∙◌, arith}
 use Rattle.zpl_tokens.specs.declared.Kind.TheVariants as kind
 use Rattle.zpl_tokens.specs.declared.keywords.Key.TheVariants as key
 use Rattle.zpl_tokens.specs.declared.symbols.Sym.TheVariants as sym
@@ -11,6 +11,8 @@ use Rattle.zpl_tree.specs.declared.statements.Arm.{Arm as TreeArm, roll-Arm}
 use Rattle.zpl_tree.specs.declared.statements.Form.TheVariants.{If as TreeIf}
 use Rattle.zpl_tree.proofs.Views.{stmts_of_slice, statement_of-If, statement_of-If_else}
 use Rattle.zpl_parse.specs.declared.classes.Start.{Start}
+use Rattle.zpl_parse.specs.declared.faults.ParseFault.{ParseFault}
+use Rattle.zpl_parse.specs.Following.{Follows}
 use Rattle.zpl_parse.specs.Classes.{assigning, begins_stmt, start_of}
 use Rattle.zpl_parse.specs.Lexeme.{Lexeme, head_kind, head_at, behind}
 use Rattle.zpl_parse.specs.Outcome.{Outcome, Done, Reader, and_then, made}
@@ -175,3 +177,7 @@ pub statement_of-Choice : (arms : Bor (List TreeArm)) (otherwise : Option (Bor (
     statement_of (TreeIf arms otherwise) ≡ If (arms_of arms.now) (else_of otherwise)
 statement_of-Choice arms None = statement_of-If arms
 statement_of-Choice arms (Some body) = statement_of-If_else arms body
+
+-- an outcome by another name
+pub follows_same : {V A : Type 0} (result : Result V ParseFault) (done : V → Outcome A) (whole same : Outcome A) → whole ≡ same → Follows result done same → Follows result done whole
+follows_same result done whole same is h = subst (λ o. Follows result done o) (sym is) h

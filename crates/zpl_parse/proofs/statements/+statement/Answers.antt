@@ -11,12 +11,12 @@ use Rattle.zpl_parse.specs.Following.{IsFaultOf, Follows}
 use Rattle.zpl_parse.specs.Lexeme.{lexemes_of, head_kind, head_at, behind}
 use Rattle.zpl_parse.specs.Outcome.{Done, and_then, made}
 use Rattle.zpl_parse.specs.Tokens.{next_is}
-use Rattle.zpl_parse.specs.Statements.{arm, arms, stmt, stmts, form_by}
+use Rattle.zpl_parse.specs.Statements.{stmt, stmts, body_end, while_loop, repeat_loop, for_loop}
 use Rattle.zpl_parse.specs.Whole.{any_expr, else_of}
 use Rattle.zpl_parse.proofs.Follows.{passed, fault_then, fault_made}
 use Rattle.zpl_parse.proofs.Loops.{gathered_none, gathered_more, gathered_done, gathered_last, gathered_fault}
 use Rattle.zpl_parse.proofs.Lists.{stmts-prepended, arms-prepended}
-use Rattle.zpl_parse.proofs.StatementBase.{stmts_goes, stmts_ends, arms_go, arms_end, arm_body, choice_arms, choice_otherwise, otherwise_goes, while_do, repeat_until, for_do, stmt_deeper, stmt_form, started, arm_of-made, statement_of-Choice}
+use Rattle.zpl_parse.proofs.StatementBase.{stmts_goes, stmts_ends, arms_go, arms_end, arm_body, choice_arms, choice_otherwise, otherwise_goes, while_do, repeat_until, for_do, stmt_deeper, stmt_form, started, arm_of-made, statement_of-Choice, follows_same}
 use Rattle.zpl_parse.proofs.statements.+statement.Goals as goal
 
 -- ---- statements in a row
@@ -304,20 +304,76 @@ stmt-returns-clause-follows t c = λ few most enough much.
     ∙ ap (made (Prefixed (head_at rest) before)) (c.in_ok-form.ensures.follows few most less short)
     ∙ ap (λ at. Done (Prefixed at before (statement_of c.in_ok-form.form)) (lexemes_of text c.in_ok-form.rest.now)) (sym (c.offset-at.ensures text))
 
+-- ---- a statement behind its prefixes
 pub form-returns-in_err-body-in-Block-clause-follows : goal.form-returns-in_err-body-in-Block-clause-follows
-form-returns-in_err-body-in-Block-clause-follows t c = λ few most enough much. ?
+form-returns-in_err-body-in-Block-clause-follows t c = λ few most enough much.
+    let text = c.args.bytes.now in
+    let tokens = lexemes_of text c.args.tokens.now in
+    let body = stmts few (stmt few (any_expr most) c.args.deep) in
+    let is : start_of (head_kind tokens) ≡ Some start.Block =
+    ap start_of (sym (c.first_kind.ensures text)) ∙ sym c.started_by.ensures ∙ c.in-Some.is ∙ ap Some c.in-Block.is in
+    let less : length c.behind-rest.result.now < few = omega (arith, c.behind-rest.ensures.shorter) in
+    let short : length c.behind-rest.result.now < most = omega (arith, c.behind-rest.ensures.shorter) in
+    let whole = started few (any_expr most) body tokens (Some start.Block) is ∙ ap (λ l. made Block (body_end body l)) (sym (c.behind-rest.ensures.rest text)) in
+    passed _ _ _ _ c.from_residual.ensures.1
+    (subst (IsFaultOf c.in_err-body-in-Block.field-0.0) (sym whole)
+    (fault_made _ _ _ ((c.in_err-body-in-Block.ensures {u = tt}).follows few most less short)))
 
 pub form-returns-in_ok-body-in-Block-clause-follows : goal.form-returns-in_ok-body-in-Block-clause-follows
-form-returns-in_ok-body-in-Block-clause-follows t c = λ few most enough much. ?
+form-returns-in_ok-body-in-Block-clause-follows t c = λ few most enough much.
+    let text = c.args.bytes.now in
+    let tokens = lexemes_of text c.args.tokens.now in
+    let body = stmts few (stmt few (any_expr most) c.args.deep) in
+    let is : start_of (head_kind tokens) ≡ Some start.Block =
+    ap start_of (sym (c.first_kind.ensures text)) ∙ sym c.started_by.ensures ∙ c.in-Some.is ∙ ap Some c.in-Block.is in
+    let less : length c.behind-rest.result.now < few = omega (arith, c.behind-rest.ensures.shorter) in
+    let short : length c.behind-rest.result.now < most = omega (arith, c.behind-rest.ensures.shorter) in
+    started few (any_expr most) body tokens (Some start.Block) is
+    ∙ ap (λ l. made Block (body_end body l)) (sym (c.behind-rest.ensures.rest text))
+    ∙ ap (made Block) (c.in_ok-body-in-Block.ensures.follows few most less short)
+    ∙ ap (λ form. Done form (lexemes_of text c.in_ok-body-in-Block.rest.now)) (sym (statement_of-Block c.in_ok-body-in-Block.body))
 
 pub form-returns-in-If-clause-follows : goal.form-returns-in-If-clause-follows
-form-returns-in-If-clause-follows t c = λ few most enough much. ?
+form-returns-in-If-clause-follows t c = λ few most enough much.
+    let text = c.args.bytes.now in
+    let tokens = lexemes_of text c.args.tokens.now in
+    let body = stmts few (stmt few (any_expr most) c.args.deep) in
+    let is : start_of (head_kind tokens) ≡ Some start.If =
+    ap start_of (sym (c.first_kind.ensures text)) ∙ sym c.started_by.ensures ∙ c.in-Some.is ∙ ap Some c.in-If.is in
+    follows_same _ _ _ _ (started few (any_expr most) body tokens (Some start.If) is) (c.choice.ensures.follows few most enough much)
 
 pub form-returns-in-While-clause-follows : goal.form-returns-in-While-clause-follows
-form-returns-in-While-clause-follows t c = λ few most enough much. ?
+form-returns-in-While-clause-follows t c = λ few most enough much.
+    let text = c.args.bytes.now in
+    let tokens = lexemes_of text c.args.tokens.now in
+    let body = stmts few (stmt few (any_expr most) c.args.deep) in
+    let is : start_of (head_kind tokens) ≡ Some start.While =
+    ap start_of (sym (c.first_kind.ensures text)) ∙ sym c.started_by.ensures ∙ c.in-Some.is ∙ ap Some c.in-While.is in
+    let less : length c.behind-rest.result.now < few = omega (arith, c.behind-rest.ensures.shorter) in
+    let short : length c.behind-rest.result.now < most = omega (arith, c.behind-rest.ensures.shorter) in
+    let whole = started few (any_expr most) body tokens (Some start.While) is ∙ ap (while_loop (any_expr most) body) (sym (c.behind-rest.ensures.rest text)) in
+    follows_same _ _ _ _ whole (c.while_loop.ensures.follows few most less short)
 
 pub form-returns-in-Repeat-clause-follows : goal.form-returns-in-Repeat-clause-follows
-form-returns-in-Repeat-clause-follows t c = λ few most enough much. ?
+form-returns-in-Repeat-clause-follows t c = λ few most enough much.
+    let text = c.args.bytes.now in
+    let tokens = lexemes_of text c.args.tokens.now in
+    let body = stmts few (stmt few (any_expr most) c.args.deep) in
+    let is : start_of (head_kind tokens) ≡ Some start.Repeat =
+    ap start_of (sym (c.first_kind.ensures text)) ∙ sym c.started_by.ensures ∙ c.in-Some.is ∙ ap Some c.in-Repeat.is in
+    let less : length c.behind-rest.result.now < few = omega (arith, c.behind-rest.ensures.shorter) in
+    let short : length c.behind-rest.result.now < most = omega (arith, c.behind-rest.ensures.shorter) in
+    let whole = started few (any_expr most) body tokens (Some start.Repeat) is ∙ ap (repeat_loop (any_expr most) body) (sym (c.behind-rest.ensures.rest text)) in
+    follows_same _ _ _ _ whole (c.repeat_loop.ensures.follows few most less short)
 
 pub form-returns-in-For-clause-follows : goal.form-returns-in-For-clause-follows
-form-returns-in-For-clause-follows t c = λ few most enough much. ?
+form-returns-in-For-clause-follows t c = λ few most enough much.
+    let text = c.args.bytes.now in
+    let tokens = lexemes_of text c.args.tokens.now in
+    let body = stmts few (stmt few (any_expr most) c.args.deep) in
+    let is : start_of (head_kind tokens) ≡ Some start.For =
+    ap start_of (sym (c.first_kind.ensures text)) ∙ sym c.started_by.ensures ∙ c.in-Some.is ∙ ap Some c.in-For.is in
+    let less : length c.behind-rest.result.now < few = omega (arith, c.behind-rest.ensures.shorter) in
+    let short : length c.behind-rest.result.now < most = omega (arith, c.behind-rest.ensures.shorter) in
+    let whole = started few (any_expr most) body tokens (Some start.For) is ∙ ap (for_loop (any_expr most) body) (sym (c.behind-rest.ensures.rest text)) in
+    follows_same _ _ _ _ whole (c.for_loop.ensures.follows few most less short)
