@@ -1,13 +1,13 @@
-use Rattle.std.proofs.Common.{◌≡◌, ℕ, suc, ◌-◌, ◌<◌, ◌≤◌, [], ◌∷◌, ◌++◌, List, map, length, Some, true, false, is_ok, refl, sym, ap, subst, ◌∙◌, arith, rules}
+use Rattle.std.proofs.Common.{◌≡◌, ◌-◌, ◌<◌, map, length, Some, true, false, is_ok, sym, ap, subst, ◌∙◌, arith, rules}
 use Rattle.std.proofs.ResultArms.{chosen}
 use Rattle.zpl_tokens.specs.declared.Kind.TheVariants as kind
 use Rattle.zpl_tokens.specs.declared.keywords.Key.TheVariants as key
 use Rattle.zpl_tree.specs.Syntax.{Prefixed, NoStmt, ThenStmt, NoArm, Tested, Block, If, While, Repeat, For, Else}
-use Rattle.zpl_tree.specs.View.{prefix_of, expr_of, head_of, stmt_of, stmts_of, arm_of, arms_of, statement_of}
+use Rattle.zpl_tree.specs.View.{prefix_of, expr_of, head_of, stmts_of, arm_of, arms_of, statement_of}
 use Rattle.zpl_tree.proofs.Views.{statement_of-Block, statement_of-While, statement_of-Repeat, statement_of-For}
 use Rattle.zpl_parse.specs.declared.classes.Start.TheVariants as start
 use Rattle.zpl_parse.specs.Classes.{begins_stmt, start_of}
-use Rattle.zpl_parse.specs.Following.{IsFaultOf, Follows}
+use Rattle.zpl_parse.specs.Following.{IsFaultOf}
 use Rattle.zpl_parse.specs.Lexeme.{lexemes_of, head_kind, head_at, behind}
 use Rattle.zpl_parse.specs.Outcome.{Done, and_then, made}
 use Rattle.zpl_parse.specs.Tokens.{next_is}
@@ -37,8 +37,8 @@ stmts-returns-in_err-next-clause-follows t c = λ few most enough much.
     passed _ _ _ _ c.from_residual.ensures.1
     (gathered_fault _ _ few _ _ _ _ _ (c.loop-alloc.invariant.gathered few most enough much)
     (λ less fits.
-      subst (IsFaultOf c.in_err-next.field-0.0) (sym (stmts_goes less (stmt few (any_expr most) c.args.deep) left goes))
-      (fault_then _ _ _ ((c.in_err-next.ensures {u = tt}).follows few most short shorter))))
+    subst (IsFaultOf c.in_err-next.field-0.0) (sym (stmts_goes less (stmt few (any_expr most) c.args.deep) left goes))
+    (fault_then _ _ _ ((c.in_err-next.ensures {u = tt}).follows few most short shorter))))
 
 pub stmts-loop-alloc-preserved : goal.stmts-loop-alloc-preserved
 stmts-loop-alloc-preserved t c =
@@ -51,13 +51,13 @@ stmts-loop-alloc-preserved t c =
     record {
       within = omega (arith, c.loop-alloc.invariant.within, fewer);
       gathered = λ few most enough much.
-        let short : length c.loop-alloc.rest.now < few = omega (arith, c.loop-alloc.invariant.within) in
-        let shorter : length c.loop-alloc.rest.now < most = omega (arith, c.loop-alloc.invariant.within) in
-        let one = stmt few (any_expr most) c.args.deep in
-        rw pushed
-        (gathered_more _ _ few _ _ _ _ c.in_ok-next.next _ _ (c.loop-alloc.invariant.gathered few most enough much) fewer
-        (λ less fits. stmts_goes less one left goes
-        ∙ ap (λ o. and_then o (λ first rest. made (ThenStmt first) (stmts less one rest))) (c.in_ok-next.ensures.follows few most short shorter)));
+          let short : length c.loop-alloc.rest.now < few = omega (arith, c.loop-alloc.invariant.within) in
+          let shorter : length c.loop-alloc.rest.now < most = omega (arith, c.loop-alloc.invariant.within) in
+          let one = stmt few (any_expr most) c.args.deep in
+          rw pushed
+          (gathered_more _ _ few _ _ _ _ c.in_ok-next.next _ _ (c.loop-alloc.invariant.gathered few most enough much) fewer
+          (λ less fits. stmts_goes less one left goes
+          ∙ ap (λ o. and_then o (λ first rest. made (ThenStmt first) (stmts less one rest))) (c.in_ok-next.ensures.follows few most short shorter)));
     }
 
 pub stmts-returns-clause-follows : goal.stmts-returns-clause-follows
@@ -142,12 +142,12 @@ arms-loop-arms-preserved t c =
     record {
       within = omega (arith, c.loop-arms.invariant.within, fewer);
       gathered = λ few most enough much.
-        let body = stmts few (stmt few (any_expr most) c.args.deep) in
-        let less : length c.loop-arms.rest.now < few = omega (arith, c.loop-arms.invariant.within) in
-        let short : length c.loop-arms.rest.now < most = omega (arith, c.loop-arms.invariant.within) in
-        rw pushed
-        (gathered_more _ _ few _ _ _ _ c.in_ok-next.next _ _ (c.loop-arms.invariant.gathered few most enough much) fewer
-        (λ fuel fits. arms_go fuel (any_expr most) body (head_at left) (behind left) after (arm_of c.in_ok-next.next) (c.in_ok-next.ensures.follows few most less short) goes));
+          let body = stmts few (stmt few (any_expr most) c.args.deep) in
+          let less : length c.loop-arms.rest.now < few = omega (arith, c.loop-arms.invariant.within) in
+          let short : length c.loop-arms.rest.now < most = omega (arith, c.loop-arms.invariant.within) in
+          rw pushed
+          (gathered_more _ _ few _ _ _ _ c.in_ok-next.next _ _ (c.loop-arms.invariant.gathered few most enough much) fewer
+          (λ fuel fits. arms_go fuel (any_expr most) body (head_at left) (behind left) after (arm_of c.in_ok-next.next) (c.in_ok-next.ensures.follows few most less short) goes));
     }
 
 -- ---- an `if`

@@ -10,7 +10,7 @@ abbrev pub invariant-stmts-loop-alloc : goal.invariant-stmts-loop-alloc
 invariant-stmts-loop-alloc l = record {
   within : length l.rest ≤ length l.fn.tokens;
   gathered : (few most : ℕ) → length l.fn.tokens < few → length l.fn.tokens < most
-    → IsGathered put_stmt (λ fuel lexemes. stmts fuel (stmt few (any_expr most) l.deep) lexemes) few (lexemes_of l.bytes l.fn.tokens) l.stmts.items (lexemes_of l.bytes l.rest) (length l.rest);
+      → IsGathered put_stmt (λ fuel lexemes. stmts fuel (stmt few (any_expr most) l.deep) lexemes) few (lexemes_of l.bytes l.fn.tokens) l.stmts.items (lexemes_of l.bytes l.rest) (length l.rest);
 }
 
 abbrev pub decreases-stmts-loop-alloc : goal.decreases-stmts-loop-alloc
@@ -20,7 +20,7 @@ abbrev pub invariant-arms-loop-arms : goal.invariant-arms-loop-arms
 invariant-arms-loop-arms l = record {
   within : length l.rest ≤ length l.fn.tokens;
   gathered : (few most : ℕ) → length l.fn.tokens < few → length l.fn.tokens < most
-    → IsGathered put_arm (λ fuel lexemes. arms fuel (any_expr most) (stmts few (stmt few (any_expr most) l.deep)) (head_at lexemes) (behind lexemes)) few (lexemes_of l.bytes l.fn.tokens) l.arms.items (lexemes_of l.bytes l.rest) (length l.rest);
+      → IsGathered put_arm (λ fuel lexemes. arms fuel (any_expr most) (stmts few (stmt few (any_expr most) l.deep)) (head_at lexemes) (behind lexemes)) few (lexemes_of l.bytes l.fn.tokens) l.arms.items (lexemes_of l.bytes l.rest) (length l.rest);
 }
 
 abbrev pub decreases-arms-loop-arms : goal.decreases-arms-loop-arms

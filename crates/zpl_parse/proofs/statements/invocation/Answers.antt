@@ -1,4 +1,4 @@
-use Rattle.std.proofs.Common.{◌≡◌, ◌<◌, ℕ, length, refl, ap, subst, sym, ◌∙◌, arith, rules}
+use Rattle.std.proofs.Common.{◌≡◌, ◌<◌, length, ap, subst, sym, ◌∙◌, arith}
 use Rattle.zpl_tree.specs.View.{exprs_of, name_of}
 use Rattle.zpl_tree.specs.Syntax.{Invoke}
 use Rattle.zpl_parse.specs.Following.{IsFaultOf}

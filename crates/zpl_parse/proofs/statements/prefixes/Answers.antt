@@ -1,4 +1,4 @@
-use Rattle.std.proofs.Common.{◌≡◌, ℕ, suc, ◌<◌, ◌≤◌, [], ◌∷◌, ◌++◌, List, map, length, true, false, is_ok, refl, sym, ap, subst, ◌∙◌, arith, rules}
+use Rattle.std.proofs.Common.{◌≡◌, ◌<◌, ◌≤◌, [], ◌∷◌, length, true, false, is_ok, sym, ap, subst, ◌∙◌, arith, rules}
 use Rattle.std.proofs.ResultArms.{chosen}
 use Rattle.zpl_tokens.specs.declared.Kind.TheVariants as kind
 use Rattle.zpl_tokens.specs.declared.symbols.Sym.TheVariants as sym
@@ -30,9 +30,9 @@ returns-in_err-next-clause-follows c = λ few most enough much.
     passed _ _ _ _ c.from_residual.ensures.1
     (gathered_fault _ _ few _ _ _ _ _ (c.loop-alloc.invariant.gathered few most enough much)
     (λ less fits.
-      let fits_less : length c.loop-alloc.rest.now ≤ less = omega arith in
-      subst (IsFaultOf c.in_err-next.field-0.0) (sym (prefixes_go less (any_expr most) left goes))
-      (fault_then _ _ _ ((c.in_err-next.ensures {u = tt}).follows less most fits_less short))))
+    let fits_less : length c.loop-alloc.rest.now ≤ less = omega arith in
+    subst (IsFaultOf c.in_err-next.field-0.0) (sym (prefixes_go less (any_expr most) left goes))
+    (fault_then _ _ _ ((c.in_err-next.ensures {u = tt}).follows less most fits_less short))))
 
 pub loop-alloc-preserved : goal.loop-alloc-preserved
 loop-alloc-preserved c =
@@ -45,10 +45,10 @@ loop-alloc-preserved c =
     record {
       within = omega (arith, c.loop-alloc.invariant.within, shorter);
       gathered = λ few most enough much.
-        let short : length c.loop-alloc.rest.now < most = omega (arith, c.loop-alloc.invariant.within) in
-        rw pushed
-        (gathered_more _ _ few _ _ _ _ c.in_ok-next.next _ _ (c.loop-alloc.invariant.gathered few most enough much) shorter
-        (λ less fits.
+          let short : length c.loop-alloc.rest.now < most = omega (arith, c.loop-alloc.invariant.within) in
+          rw pushed
+          (gathered_more _ _ few _ _ _ _ c.in_ok-next.next _ _ (c.loop-alloc.invariant.gathered few most enough much) shorter
+          (λ less fits.
           let fits_less : length c.loop-alloc.rest.now ≤ less = omega arith in
           prefixes_go less (any_expr most) left goes
           ∙ ap (λ o. and_then o (λ first rest. made (λ others. first ∷ others) (prefixes less (any_expr most) rest))) (c.in_ok-next.ensures.follows less most fits_less short)));

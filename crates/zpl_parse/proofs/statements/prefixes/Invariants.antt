@@ -10,7 +10,7 @@ abbrev pub invariant-loop-alloc : goal.invariant-loop-alloc
 invariant-loop-alloc l = record {
   within : length l.rest ≤ length l.fn.tokens;
   gathered : (few most : ℕ) → length l.fn.tokens < few → length l.fn.tokens < most
-    → IsGathered (λ x found. prefix_of x ∷ found) (λ fuel lexemes. prefixes fuel (any_expr most) lexemes) few (lexemes_of l.bytes l.fn.tokens) l.prefixes.items (lexemes_of l.bytes l.rest) (length l.rest);
+      → IsGathered (λ x found. prefix_of x ∷ found) (λ fuel lexemes. prefixes fuel (any_expr most) lexemes) few (lexemes_of l.bytes l.fn.tokens) l.prefixes.items (lexemes_of l.bytes l.rest) (length l.rest);
 }
 
 abbrev pub decreases-loop-alloc : goal.decreases-loop-alloc

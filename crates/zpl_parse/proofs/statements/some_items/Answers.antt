@@ -1,4 +1,4 @@
-use Rattle.std.proofs.Common.{◌≡◌, ℕ, ◌<◌, ◌≤◌, [], ◌∷◌, ◌++◌, List, map, length, true, false, is_ok, refl, sym, ap, ◌∙◌, arith, rules}
+use Rattle.std.proofs.Common.{◌≡◌, ◌<◌, [], length, true, false, is_ok, sym, ap, ◌∙◌, arith, rules}
 use Rattle.std.proofs.ResultArms.{chosen}
 use Rattle.zpl_tokens.specs.declared.Kind.TheVariants as kind
 use Rattle.zpl_tokens.specs.declared.symbols.Sym.TheVariants as sym
@@ -44,9 +44,9 @@ loop-items-preserved c =
     record {
       within = omega (arith, c.loop-items.invariant.within);
       gathered = λ few most enough much.
-        let short : length c.loop-items.rest.now < most = omega (arith, c.loop-items.invariant.within) in
-        let step = c.in_ok-next.ensures.follows most short in
-        rw pushed
-        (gathered_more _ _ few _ _ _ _ c.in_ok-next.next _ _ (c.loop-items.invariant.gathered few most enough much) shorter
-        (λ less fits. search (rules, step, goes, c.behind-rest.ensures.rest text)));
+          let short : length c.loop-items.rest.now < most = omega (arith, c.loop-items.invariant.within) in
+          let step = c.in_ok-next.ensures.follows most short in
+          rw pushed
+          (gathered_more _ _ few _ _ _ _ c.in_ok-next.next _ _ (c.loop-items.invariant.gathered few most enough much) shorter
+          (λ less fits. search (rules, step, goes, c.behind-rest.ensures.rest text)));
     }

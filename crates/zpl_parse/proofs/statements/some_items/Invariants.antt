@@ -10,7 +10,7 @@ abbrev pub invariant-loop-items : goal.invariant-loop-items
 invariant-loop-items l = record {
   within : length l.rest ≤ length l.fn.tokens;
   gathered : (few most : ℕ) → length l.fn.tokens < few → length l.fn.tokens < most
-    → IsGathered (λ x found. item_of x ∷ found) (λ fuel lexemes. some_items fuel (any_expr most) lexemes) few (lexemes_of l.bytes l.fn.tokens) l.items.items (lexemes_of l.bytes l.rest) (length l.rest);
+      → IsGathered (λ x found. item_of x ∷ found) (λ fuel lexemes. some_items fuel (any_expr most) lexemes) few (lexemes_of l.bytes l.fn.tokens) l.items.items (lexemes_of l.bytes l.rest) (length l.rest);
 }
 
 abbrev pub decreases-loop-items : goal.decreases-loop-items

@@ -1,4 +1,4 @@
-use Rattle.std.proofs.Common.{◌≡◌, ℕ, refl, ap, subst, sym, ◌∙◌, arith, rules}
+use Rattle.std.proofs.Common.{ap, sym, ◌∙◌}
 use Rattle.zpl_tree.specs.View.{expr_of}
 use Rattle.zpl_parse.specs.Lexeme.{lexemes_of}
 use Rattle.zpl_parse.specs.Outcome.{Done}
