@@ -36,3 +36,4 @@ pub mod CompleteStatements
 pub mod CompleteDeclarations
 pub mod CompleteProgram
 pub mod Whole
+pub mod StatementBase

@@ -7,6 +7,6 @@ pub mod Tokens
 pub mod Expressions
 pub mod Statements
 pub mod Declarations
-pub mod Claims
 pub mod Following
 pub mod Places
+pub mod Whole

@@ -1,4 +1,15 @@
 //! Rules of statements. Expressions may be `MOST_DEEP` deep.
+ghost use Rattle.std.specs.Prelude.{◌≡◌, ◌<◌, ◌≤◌, ℕ, List, map, length, IfOk};
+ghost use Rattle.std.specs.Option.{option_map};
+ghost use Rattle.zpl_tree.specs.View.{name_of, expr_of, mask_of, prefix_of, head_of, item_of, statement_of, stmt_of, stmts_of, arm_of, arms_of};
+ghost use Rattle.zpl_parse.specs.Classes.{assigning, start_of};
+ghost use Rattle.zpl_parse.specs.Following.{Follows};
+ghost use Rattle.zpl_parse.specs.Lexeme.{lexemes_of, head_kind, head_at, behind as behind_of};
+ghost use Rattle.zpl_parse.specs.Outcome.{Done, and_then};
+ghost use Rattle.zpl_parse.specs.Tokens.{name as name_rule};
+ghost use Rattle.zpl_parse.specs.Whole.{any_expr, else_of};
+ghost use Rattle.zpl_parse.specs.Statements.{mask as mask_rule, prefix as prefix_rule, prefixes as prefixes_rule, stmts as stmts_rule, item as item_rule, some_items as some_items_rule, items as items_rule, assign_or_call as assign_or_call_rule, body_end as body_end_rule, arm as arm_rule, arms as arms_rule, otherwise as otherwise_rule, choice as choice_rule, while_loop as while_rule, repeat_loop as repeat_rule, step as step_rule, way_down as way_down_rule, for_head as for_head_rule, for_loop as for_rule, form_by, stmt as stmt_rule};
+
 use crate::classes::{Start, assignment, begins_statement, downwards, started_by, without};
 use crate::expressions::{actuals, expr};
 use crate::faults::ParseFault;
@@ -17,6 +28,22 @@ use zpl_tree::{Arm, Expr, ForHead, Form, Item, Mask, Name, Prefix, Stmt};
 /// How deep expressions and nests of statements may be.
 pub const MOST_DEEP: u32 = 200;
 
+/// An expression, placed in the arena.
+pub fn value<'a, 't>(
+    alloc: Global,
+    arena: &'a Bump<Global>,
+    bytes: &'a [u8],
+    tokens: &'t [Token],
+) -> Read<'t, &'a Expr<'a>>
+    ensures follows { (most : ℕ) → length tokens.now < most
+        → Follows result (λ r. Done (expr_of r.0.now) (lexemes_of bytes.now r.1.now)) (any_expr most (lexemes_of bytes.now tokens.now)) }
+    ensures shorter { IfOk result (λ r. length r.1.now < length tokens.now) }
+{
+    let (value, _, rest) = expr(alloc, arena, bytes, tokens, MOST_DEEP)?;
+    let value = placed(arena, value)?;
+    Ok((value, rest))
+}
+
 /// stmt = { prefix } simple, in which statements nest `deep` deep at most.
 #[cycle(statement)]
 pub fn stmt<'a, 't>(
@@ -25,7 +52,11 @@ pub fn stmt<'a, 't>(
     bytes: &'a [u8],
     tokens: &'t [Token],
     deep: u32,
-) -> Read<'t, Stmt<'a>> {
+) -> Read<'t, Stmt<'a>>
+    ensures follows { (few most : ℕ) → length tokens.now < few → length tokens.now < most
+        → Follows result (λ r. Done (stmt_of r.0) (lexemes_of bytes.now r.1.now)) (stmt_rule few (any_expr most) deep (lexemes_of bytes.now tokens.now)) }
+    ensures shorter { IfOk result (λ r. length r.1.now < length tokens.now) }
+{
     if deep == 0 {
         return Err(too_deep(begins_statement(first_kind(tokens)), tokens));
     }
@@ -43,7 +74,11 @@ fn form<'a, 't>(
     bytes: &'a [u8],
     tokens: &'t [Token],
     deep: u32,
-) -> Read<'t, Form<'a>> {
+) -> Read<'t, Form<'a>>
+    ensures follows { (few most : ℕ) → length tokens.now < few → length tokens.now < most
+        → Follows result (λ r. Done (statement_of r.0) (lexemes_of bytes.now r.1.now)) (form_by few (any_expr most) (stmts_rule few (stmt_rule few (any_expr most) deep)) (start_of (head_kind (lexemes_of bytes.now tokens.now))) (lexemes_of bytes.now tokens.now)) }
+    ensures shorter { IfOk result (λ r. length r.1.now < length tokens.now) }
+{
     let Some(start) = started_by(first_kind(tokens)) else {
         return Err(refused(tokens));
     };
@@ -70,8 +105,7 @@ fn form<'a, 't>(
             Ok((Form::Write(line, those), rest))
         }
         Start::Return => {
-            let (value, _, rest) = expr(alloc, arena, bytes, rest, MOST_DEEP)?;
-            let value = placed(arena, value)?;
+            let (value, rest) = value(alloc, arena, bytes, rest)?;
             let (_, rest) = symbol(rest, Sym::Semicolon)?;
             Ok((Form::Return(value), rest))
         }
@@ -84,13 +118,16 @@ fn assign_or_call<'a, 't>(
     arena: &'a Bump<Global>,
     bytes: &'a [u8],
     tokens: &'t [Token],
-) -> Read<'t, Form<'a>> {
+) -> Read<'t, Form<'a>>
+    ensures follows { (few most : ℕ) → length tokens.now < few → length tokens.now < most
+        → Follows result (λ r. Done (statement_of r.0) (lexemes_of bytes.now r.1.now)) (and_then (name_rule (lexemes_of bytes.now tokens.now)) (assign_or_call_rule few (any_expr most))) }
+    ensures shorter { IfOk result (λ r. length r.1.now < length tokens.now) }
+{
     let (target, rest) = name(bytes, tokens)?;
     let Some(op) = assignment(first_kind(rest)) else {
         return invocation(alloc, arena, bytes, target, rest);
     };
-    let (value, _, rest) = expr(alloc, arena, bytes, behind(rest), MOST_DEEP)?;
-    let value = placed(arena, value)?;
+    let (value, rest) = value(alloc, arena, bytes, behind(rest))?;
     let (_, rest) = symbol(rest, Sym::Semicolon)?;
     Ok((Form::Assign(target, op, value), rest))
 }
@@ -102,7 +139,11 @@ fn invocation<'a, 't>(
     bytes: &'a [u8],
     target: Name<'a>,
     tokens: &'t [Token],
-) -> Read<'t, Form<'a>> {
+) -> Read<'t, Form<'a>>
+    ensures follows { (few most : ℕ) → length tokens.now < few → length tokens.now < most
+        → assigning (head_kind (lexemes_of bytes.now tokens.now)) ≡ None → Follows result (λ r. Done (statement_of r.0) (lexemes_of bytes.now r.1.now)) (assign_or_call_rule few (any_expr most) (name_of target.entry) (lexemes_of bytes.now tokens.now)) }
+    ensures shorter { IfOk result (λ r. length r.1.now < length tokens.now) }
+{
     let (_, rest) = symbol(tokens, Sym::OpenParen)?;
     let (those, _, rest) = actuals(alloc, arena, bytes, rest, MOST_DEEP)?;
     let (_, rest) = symbol(rest, Sym::Semicolon)?;
@@ -117,7 +158,11 @@ pub fn body_end<'a, 't>(
     bytes: &'a [u8],
     tokens: &'t [Token],
     deep: u32,
-) -> Read<'t, &'a [Stmt<'a>]> {
+) -> Read<'t, &'a [Stmt<'a>]>
+    ensures follows { (few most : ℕ) → length tokens.now < few → length tokens.now < most
+        → Follows result (λ r. Done (stmts_of r.0.now) (lexemes_of bytes.now r.1.now)) (body_end_rule (stmts_rule few (stmt_rule few (any_expr most) deep)) (lexemes_of bytes.now tokens.now)) }
+    ensures shorter { IfOk result (λ r. length r.1.now < length tokens.now) }
+{
     let (body, rest) = stmts(alloc, arena, bytes, tokens, deep)?;
     let (_, rest) = closing(rest)?;
     Ok((body, rest))
@@ -131,7 +176,11 @@ fn stmts<'a, 't>(
     bytes: &'a [u8],
     tokens: &'t [Token],
     deep: u32,
-) -> Read<'t, &'a [Stmt<'a>]> {
+) -> Read<'t, &'a [Stmt<'a>]>
+    ensures follows { (few most : ℕ) → length tokens.now < few → length tokens.now < most
+        → Follows result (λ r. Done (stmts_of r.0.now) (lexemes_of bytes.now r.1.now)) (stmts_rule few (stmt_rule few (any_expr most) deep) (lexemes_of bytes.now tokens.now)) }
+    ensures shorter { IfOk result (λ r. length r.1.now ≤ length tokens.now) }
+{
     let mut stmts = Vec::new(alloc);
     let mut rest = tokens;
     while begins_statement(first_kind(rest)) {
@@ -151,7 +200,11 @@ fn choice<'a, 't>(
     bytes: &'a [u8],
     tokens: &'t [Token],
     deep: u32,
-) -> Read<'t, Form<'a>> {
+) -> Read<'t, Form<'a>>
+    ensures follows { (few most : ℕ) → length tokens.now < few → length tokens.now < most
+        → Follows result (λ r. Done (statement_of r.0) (lexemes_of bytes.now r.1.now)) (choice_rule few (any_expr most) (stmts_rule few (stmt_rule few (any_expr most) deep)) (head_at (lexemes_of bytes.now tokens.now)) (behind_of (lexemes_of bytes.now tokens.now))) }
+    ensures shorter { IfOk result (λ r. length r.1.now < length tokens.now) }
+{
     let (arms, rest) = arms(alloc, arena, bytes, tokens, deep)?;
     let (otherwise, rest) = otherwise(alloc, arena, bytes, rest, deep)?;
     let (_, rest) = closing(rest)?;
@@ -166,7 +219,11 @@ fn arms<'a, 't>(
     bytes: &'a [u8],
     tokens: &'t [Token],
     deep: u32,
-) -> Read<'t, &'a [Arm<'a>]> {
+) -> Read<'t, &'a [Arm<'a>]>
+    ensures follows { (few most : ℕ) → length tokens.now < few → length tokens.now < most
+        → Follows result (λ r. Done (arms_of r.0.now) (lexemes_of bytes.now r.1.now)) (arms_rule few (any_expr most) (stmts_rule few (stmt_rule few (any_expr most) deep)) (head_at (lexemes_of bytes.now tokens.now)) (behind_of (lexemes_of bytes.now tokens.now))) }
+    ensures shorter { IfOk result (λ r. length r.1.now < length tokens.now) }
+{
     let mut arms = Vec::new(alloc);
     let mut rest = tokens;
     loop {
@@ -188,10 +245,13 @@ fn arm<'a, 't>(
     bytes: &'a [u8],
     tokens: &'t [Token],
     deep: u32,
-) -> Read<'t, Arm<'a>> {
+) -> Read<'t, Arm<'a>>
+    ensures follows { (few most : ℕ) → length tokens.now < few → length tokens.now < most
+        → Follows result (λ r. Done (arm_of r.0) (lexemes_of bytes.now r.1.now)) (arm_rule (any_expr most) (stmts_rule few (stmt_rule few (any_expr most) deep)) (head_at (lexemes_of bytes.now tokens.now)) (behind_of (lexemes_of bytes.now tokens.now))) }
+    ensures shorter { IfOk result (λ r. length r.1.now < length tokens.now) }
+{
     let at = offset(tokens);
-    let (test, _, rest) = expr(alloc, arena, bytes, behind(tokens), MOST_DEEP)?;
-    let test = placed(arena, test)?;
+    let (test, rest) = value(alloc, arena, bytes, behind(tokens))?;
     let (_, rest) = keyword(rest, Key::Then)?;
     let (body, rest) = stmts(alloc, arena, bytes, rest, deep)?;
     Ok((Arm { at, test, body }, rest))
@@ -205,7 +265,11 @@ fn otherwise<'a, 't>(
     bytes: &'a [u8],
     tokens: &'t [Token],
     deep: u32,
-) -> Read<'t, Option<&'a [Stmt<'a>]>> {
+) -> Read<'t, Option<&'a [Stmt<'a>]>>
+    ensures follows { (few most : ℕ) → length tokens.now < few → length tokens.now < most
+        → Follows result (λ r. Done (else_of r.0) (lexemes_of bytes.now r.1.now)) (otherwise_rule (stmts_rule few (stmt_rule few (any_expr most) deep)) (lexemes_of bytes.now tokens.now)) }
+    ensures shorter { IfOk result (λ r. length r.1.now ≤ length tokens.now) }
+{
     if !begins_with(tokens, Kind::Word(Key::Else)) {
         return Ok((None, tokens));
     }
@@ -221,9 +285,12 @@ fn while_loop<'a, 't>(
     bytes: &'a [u8],
     tokens: &'t [Token],
     deep: u32,
-) -> Read<'t, Form<'a>> {
-    let (test, _, rest) = expr(alloc, arena, bytes, tokens, MOST_DEEP)?;
-    let test = placed(arena, test)?;
+) -> Read<'t, Form<'a>>
+    ensures follows { (few most : ℕ) → length tokens.now < few → length tokens.now < most
+        → Follows result (λ r. Done (statement_of r.0) (lexemes_of bytes.now r.1.now)) (while_rule (any_expr most) (stmts_rule few (stmt_rule few (any_expr most) deep)) (lexemes_of bytes.now tokens.now)) }
+    ensures shorter { IfOk result (λ r. length r.1.now < length tokens.now) }
+{
+    let (test, rest) = value(alloc, arena, bytes, tokens)?;
     let (_, rest) = keyword(rest, Key::Do)?;
     let (body, rest) = body_end(alloc, arena, bytes, rest, deep)?;
     Ok((Form::While(test, body), rest))
@@ -237,11 +304,14 @@ fn repeat_loop<'a, 't>(
     bytes: &'a [u8],
     tokens: &'t [Token],
     deep: u32,
-) -> Read<'t, Form<'a>> {
+) -> Read<'t, Form<'a>>
+    ensures follows { (few most : ℕ) → length tokens.now < few → length tokens.now < most
+        → Follows result (λ r. Done (statement_of r.0) (lexemes_of bytes.now r.1.now)) (repeat_rule (any_expr most) (stmts_rule few (stmt_rule few (any_expr most) deep)) (lexemes_of bytes.now tokens.now)) }
+    ensures shorter { IfOk result (λ r. length r.1.now < length tokens.now) }
+{
     let (body, rest) = stmts(alloc, arena, bytes, tokens, deep)?;
     let (until, rest) = keyword(rest, Key::Until)?;
-    let (test, _, rest) = expr(alloc, arena, bytes, rest, MOST_DEEP)?;
-    let test = placed(arena, test)?;
+    let (test, rest) = value(alloc, arena, bytes, rest)?;
     let (_, rest) = symbol(rest, Sym::Semicolon)?;
     Ok((Form::Repeat(body, until, test), rest))
 }
@@ -254,7 +324,11 @@ fn for_loop<'a, 't>(
     bytes: &'a [u8],
     tokens: &'t [Token],
     deep: u32,
-) -> Read<'t, Form<'a>> {
+) -> Read<'t, Form<'a>>
+    ensures follows { (few most : ℕ) → length tokens.now < few → length tokens.now < most
+        → Follows result (λ r. Done (statement_of r.0) (lexemes_of bytes.now r.1.now)) (for_rule (any_expr most) (stmts_rule few (stmt_rule few (any_expr most) deep)) (lexemes_of bytes.now tokens.now)) }
+    ensures shorter { IfOk result (λ r. length r.1.now < length tokens.now) }
+{
     let (head, rest) = for_head(alloc, arena, bytes, tokens)?;
     let head = placed_head(arena, head)?;
     let (_, rest) = keyword(rest, Key::Do)?;
@@ -268,14 +342,16 @@ fn for_head<'a, 't>(
     arena: &'a Bump<Global>,
     bytes: &'a [u8],
     tokens: &'t [Token],
-) -> Read<'t, ForHead<'a>> {
+) -> Read<'t, ForHead<'a>>
+    ensures follows { (most : ℕ) → length tokens.now < most
+        → Follows result (λ r. Done (head_of r.0) (lexemes_of bytes.now r.1.now)) (for_head_rule (any_expr most) (lexemes_of bytes.now tokens.now)) }
+    ensures shorter { IfOk result (λ r. length r.1.now < length tokens.now) }
+{
     let (name, rest) = name(bytes, tokens)?;
     let (_, rest) = symbol(rest, Sym::Assign)?;
-    let (first, _, rest) = expr(alloc, arena, bytes, rest, MOST_DEEP)?;
-    let first = placed(arena, first)?;
+    let (first, rest) = value(alloc, arena, bytes, rest)?;
     let (down, rest) = way_down(rest)?;
-    let (last, _, rest) = expr(alloc, arena, bytes, rest, MOST_DEEP)?;
-    let last = placed(arena, last)?;
+    let (last, rest) = value(alloc, arena, bytes, rest)?;
     let (step, rest) = step(alloc, arena, bytes, rest)?;
     let head = ForHead {
         name,
@@ -288,7 +364,10 @@ fn for_head<'a, 't>(
 }
 
 /// "to" | "downto".
-fn way_down(tokens: &[Token]) -> Read<'_, bool> {
+fn way_down(tokens: &[Token]) -> Read<'_, bool>
+    ensures follows { (text : List ℕ) → Follows result (λ r. Done r.0 (lexemes_of text r.1.now)) (way_down_rule (lexemes_of text tokens.now)) }
+    ensures shorter { IfOk result (λ r. length r.1.now ≤ length tokens.now) }
+{
     match downwards(first_kind(tokens)) {
         Some(down) => Ok((down, behind(tokens))),
         None => Err(refused(tokens)),
@@ -301,12 +380,15 @@ fn step<'a, 't>(
     arena: &'a Bump<Global>,
     bytes: &'a [u8],
     tokens: &'t [Token],
-) -> Read<'t, Option<&'a Expr<'a>>> {
+) -> Read<'t, Option<&'a Expr<'a>>>
+    ensures follows { (most : ℕ) → length tokens.now < most
+        → Follows result (λ r. Done (option_map (λ step. expr_of step.now) r.0) (lexemes_of bytes.now r.1.now)) (step_rule (any_expr most) (lexemes_of bytes.now tokens.now)) }
+    ensures shorter { IfOk result (λ r. length r.1.now ≤ length tokens.now) }
+{
     if !begins_with(tokens, Kind::Word(Key::By)) {
         return Ok((None, tokens));
     }
-    let (step, _, rest) = expr(alloc, arena, bytes, behind(tokens), MOST_DEEP)?;
-    let step = placed(arena, step)?;
+    let (step, rest) = value(alloc, arena, bytes, behind(tokens))?;
     Ok((Some(step), rest))
 }
 
@@ -316,7 +398,11 @@ fn items<'a, 't>(
     arena: &'a Bump<Global>,
     bytes: &'a [u8],
     tokens: &'t [Token],
-) -> Read<'t, &'a [Item<'a>]> {
+) -> Read<'t, &'a [Item<'a>]>
+    ensures follows { (few most : ℕ) → length tokens.now < few → length tokens.now < most
+        → Follows result (λ r. Done (map item_of r.0.now) (lexemes_of bytes.now r.1.now)) (items_rule few (any_expr most) (lexemes_of bytes.now tokens.now)) }
+    ensures shorter { IfOk result (λ r. length r.1.now ≤ length tokens.now) }
+{
     if begins_with(tokens, Kind::Symbol(Sym::CloseParen)) {
         return Ok((&[], behind(tokens)));
     }
@@ -331,7 +417,11 @@ fn some_items<'a, 't>(
     arena: &'a Bump<Global>,
     bytes: &'a [u8],
     tokens: &'t [Token],
-) -> Read<'t, &'a [Item<'a>]> {
+) -> Read<'t, &'a [Item<'a>]>
+    ensures follows { (few most : ℕ) → length tokens.now < few → length tokens.now < most
+        → Follows result (λ r. Done (map item_of r.0.now) (lexemes_of bytes.now r.1.now)) (some_items_rule few (any_expr most) (lexemes_of bytes.now tokens.now)) }
+    ensures shorter { IfOk result (λ r. length r.1.now < length tokens.now) }
+{
     let mut items = Vec::new(alloc);
     let mut rest = tokens;
     loop {
@@ -351,13 +441,16 @@ fn item<'a, 't>(
     arena: &'a Bump<Global>,
     bytes: &'a [u8],
     tokens: &'t [Token],
-) -> Read<'t, Item<'a>> {
+) -> Read<'t, Item<'a>>
+    ensures follows { (most : ℕ) → length tokens.now < most
+        → Follows result (λ r. Done (item_of r.0) (lexemes_of bytes.now r.1.now)) (item_rule (any_expr most) (lexemes_of bytes.now tokens.now)) }
+    ensures shorter { IfOk result (λ r. length r.1.now < length tokens.now) }
+{
     if begins_with(tokens, Kind::Str) {
         let (inside, rest) = string(bytes, tokens)?;
         return Ok((Item::Str(inside), rest));
     }
-    let (value, _, rest) = expr(alloc, arena, bytes, tokens, MOST_DEEP)?;
-    let value = placed(arena, value)?;
+    let (value, rest) = value(alloc, arena, bytes, tokens)?;
     Ok((Item::Value(value), rest))
 }
 
@@ -367,7 +460,11 @@ pub fn prefixes<'a, 't>(
     arena: &'a Bump<Global>,
     bytes: &'a [u8],
     tokens: &'t [Token],
-) -> Read<'t, &'a [Prefix<'a>]> {
+) -> Read<'t, &'a [Prefix<'a>]>
+    ensures follows { (few most : ℕ) → length tokens.now < few → length tokens.now < most
+        → Follows result (λ r. Done (map prefix_of r.0.now) (lexemes_of bytes.now r.1.now)) (prefixes_rule few (any_expr most) (lexemes_of bytes.now tokens.now)) }
+    ensures shorter { IfOk result (λ r. length r.1.now ≤ length tokens.now) }
+{
     let mut prefixes = Vec::new(alloc);
     let mut rest = tokens;
     while begins_with(rest, Kind::Symbol(Sym::OpenBracket)) {
@@ -385,7 +482,11 @@ fn prefix<'a, 't>(
     arena: &'a Bump<Global>,
     bytes: &'a [u8],
     tokens: &'t [Token],
-) -> Read<'t, Prefix<'a>> {
+) -> Read<'t, Prefix<'a>>
+    ensures follows { (few most : ℕ) → length tokens.now ≤ few → length tokens.now < most
+        → Follows result (λ r. Done (prefix_of r.0) (lexemes_of bytes.now r.1.now)) (prefix_rule few (any_expr most) (lexemes_of bytes.now tokens.now)) }
+    ensures shorter { IfOk result (λ r. length r.1.now < length tokens.now) }
+{
     let (at, rest) = symbol(tokens, Sym::OpenBracket)?;
     let (region, _, rest) = inner(alloc, arena, bytes, rest, MOST_DEEP)?;
     let (mask, rest) = mask(bytes, rest)?;
@@ -394,7 +495,10 @@ fn prefix<'a, 't>(
 }
 
 /// [ ( "with" | "without" ) NAME ].
-fn mask<'a, 't>(bytes: &'a [u8], tokens: &'t [Token]) -> Read<'t, Option<Mask<'a>>> {
+fn mask<'a, 't>(bytes: &'a [u8], tokens: &'t [Token]) -> Read<'t, Option<Mask<'a>>>
+    ensures follows { Follows result (λ r. Done (option_map mask_of r.0) (lexemes_of bytes.now r.1.now)) (mask_rule (lexemes_of bytes.now tokens.now)) }
+    ensures shorter { IfOk result (λ r. length r.1.now ≤ length tokens.now) }
+{
     let Some(without) = without(first_kind(tokens)) else {
         return Ok((None, tokens));
     };
