@@ -37,3 +37,4 @@ pub mod CompleteDeclarations
 pub mod CompleteProgram
 pub mod Whole
 pub mod StatementBase
+pub mod Answering

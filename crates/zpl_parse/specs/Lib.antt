@@ -10,3 +10,4 @@ pub mod Declarations
 pub mod Following
 pub mod Places
 pub mod Whole
+pub mod Answers

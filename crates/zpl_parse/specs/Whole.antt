@@ -15,3 +15,7 @@ any_expr most = (levels most 200).expr
 abbrev pub else_of : Option (Bor (List Stmt)) → Otherwise
 else_of None = NoElse
 else_of (Some body) = Else (stmts_of body.now)
+
+-- how deep statements may nest in the body of a procedure
+unfoldable pub most_nested : ℕ
+most_nested = 199

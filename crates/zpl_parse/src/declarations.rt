@@ -1,9 +1,19 @@
 //! Rules of declarations.
+ghost use Rattle.std.specs.Prelude.{◌≡◌, ◌<◌, ◌≤◌, ℕ, map, length, IfOk};
+ghost use Rattle.std.specs.Option.{option_map};
+ghost use Rattle.zpl_tree.specs.View.{name_of, base_type_of, define_of, region_of, direction_of, var_of, param_of, procedure_of, decl_of, stmt_of};
+ghost use Rattle.zpl_parse.specs.Classes.{part_of};
+ghost use Rattle.zpl_parse.specs.Following.{Follows};
+ghost use Rattle.zpl_parse.specs.Lexeme.{lexemes_of, head_kind};
+ghost use Rattle.zpl_parse.specs.Outcome.{Done};
+ghost use Rattle.zpl_parse.specs.Whole.{any_expr, most_nested};
+ghost use Rattle.zpl_parse.specs.Declarations.{base as base_rule, group, define as define_rule, region_body as region_body_rule, region as region_rule, direction as direction_rule, variables as variable_rule, formals as formals_rule, param as param_rule, some_params as some_params_rule, params as params_rule, result as result_rule, locals as locals_rule, body as body_rule, procedure as procedure_rule, decl_by, decls as decls_rule};
+
 use crate::classes::{Part, declared_by};
-use crate::expressions::{components, expr};
-use crate::placing::{placed, placed_list, placed_procedure};
+use crate::expressions::components;
+use crate::placing::{placed_list, placed_procedure};
 use crate::regions::{bracket, in_bracket, posts, rexpr};
-use crate::statements::{MOST_DEEP, body_end, prefixes};
+use crate::statements::{MOST_DEEP, body_end, prefixes, value};
 use crate::tokens::{Read, begins_with, behind, first_kind, keyword, name, names, refused, symbol};
 use bumpalo::Bump;
 use std::alloc::Global;
@@ -19,7 +29,10 @@ pub fn decls<'a, 't>(
     arena: &'a Bump<Global>,
     bytes: &'a [u8],
     tokens: &'t [Token],
-) -> Read<'t, &'a [Decl<'a>]> {
+) -> Read<'t, &'a [Decl<'a>]>
+    ensures follows { (few most : ℕ) → length tokens.now < few → length tokens.now < most
+        → Follows result (λ r. Done (map decl_of r.0.now) (lexemes_of bytes.now r.1.now)) (decls_rule few (any_expr most) most_nested (lexemes_of bytes.now tokens.now)) }
+{
     let mut decls = Vec::new(alloc);
     let mut rest = tokens;
     while !begins_with(rest, Kind::End) {
@@ -38,7 +51,11 @@ fn decl<'a, 't>(
     arena: &'a Bump<Global>,
     bytes: &'a [u8],
     tokens: &'t [Token],
-) -> Read<'t, Decl<'a>> {
+) -> Read<'t, Decl<'a>>
+    ensures follows { (few most : ℕ) → length tokens.now ≤ few → length tokens.now < most
+        → Follows result (λ r. Done (decl_of r.0) (lexemes_of bytes.now r.1.now)) (decl_by few (any_expr most) most_nested (part_of (head_kind (lexemes_of bytes.now tokens.now))) (lexemes_of bytes.now tokens.now)) }
+    ensures shorter { IfOk result (λ r. length r.1.now < length tokens.now) }
+{
     let Some(part) = declared_by(first_kind(tokens)) else {
         return Err(refused(tokens));
     };
@@ -79,7 +96,11 @@ fn defines<'a, 't>(
     arena: &'a Bump<Global>,
     bytes: &'a [u8],
     tokens: &'t [Token],
-) -> Read<'t, &'a [Define<'a>]> {
+) -> Read<'t, &'a [Define<'a>]>
+    ensures follows { (few most : ℕ) → length tokens.now < few → length tokens.now < most
+        → Follows result (λ r. Done (map define_of r.0.now) (lexemes_of bytes.now r.1.now)) (group few (define_rule (any_expr most)) (lexemes_of bytes.now tokens.now)) }
+    ensures shorter { IfOk result (λ r. length r.1.now < length tokens.now) }
+{
     let mut defines = Vec::new(alloc);
     let mut rest = tokens;
     loop {
@@ -99,19 +120,25 @@ fn define<'a, 't>(
     arena: &'a Bump<Global>,
     bytes: &'a [u8],
     tokens: &'t [Token],
-) -> Read<'t, Define<'a>> {
+) -> Read<'t, Define<'a>>
+    ensures follows { (most : ℕ) → length tokens.now < most
+        → Follows result (λ r. Done (define_of r.0) (lexemes_of bytes.now r.1.now)) (define_rule (any_expr most) (lexemes_of bytes.now tokens.now)) }
+    ensures shorter { IfOk result (λ r. length r.1.now < length tokens.now) }
+{
     let (name, rest) = name(bytes, tokens)?;
     let (_, rest) = symbol(rest, Sym::Colon)?;
     let (base, rest) = base(bytes, rest)?;
     let (_, rest) = symbol(rest, Sym::Equal)?;
-    let (value, _, rest) = expr(alloc, arena, bytes, rest, MOST_DEEP)?;
-    let value = placed(arena, value)?;
+    let (value, rest) = value(alloc, arena, bytes, rest)?;
     let (_, rest) = symbol(rest, Sym::Semicolon)?;
     Ok((Define { name, base, value }, rest))
 }
 
 /// base = "integer" | "boolean" | NAME.
-fn base<'a, 't>(bytes: &'a [u8], tokens: &'t [Token]) -> Read<'t, Base<'a>> {
+fn base<'a, 't>(bytes: &'a [u8], tokens: &'t [Token]) -> Read<'t, Base<'a>>
+    ensures follows { Follows result (λ r. Done (base_type_of r.0) (lexemes_of bytes.now r.1.now)) (base_rule (lexemes_of bytes.now tokens.now)) }
+    ensures shorter { IfOk result (λ r. length r.1.now < length tokens.now) }
+{
     if begins_with(tokens, Kind::Word(Key::Integer)) {
         return Ok((Base::Integer, behind(tokens)));
     }
@@ -128,7 +155,11 @@ fn regions<'a, 't>(
     arena: &'a Bump<Global>,
     bytes: &'a [u8],
     tokens: &'t [Token],
-) -> Read<'t, &'a [RegionDef<'a>]> {
+) -> Read<'t, &'a [RegionDef<'a>]>
+    ensures follows { (few most : ℕ) → length tokens.now < few → length tokens.now < most
+        → Follows result (λ r. Done (map region_of r.0.now) (lexemes_of bytes.now r.1.now)) (group few (region_rule few (any_expr most)) (lexemes_of bytes.now tokens.now)) }
+    ensures shorter { IfOk result (λ r. length r.1.now < length tokens.now) }
+{
     let mut regions = Vec::new(alloc);
     let mut rest = tokens;
     loop {
@@ -148,7 +179,11 @@ fn region<'a, 't>(
     arena: &'a Bump<Global>,
     bytes: &'a [u8],
     tokens: &'t [Token],
-) -> Read<'t, RegionDef<'a>> {
+) -> Read<'t, RegionDef<'a>>
+    ensures follows { (few most : ℕ) → length tokens.now < few → length tokens.now < most
+        → Follows result (λ r. Done (region_of r.0) (lexemes_of bytes.now r.1.now)) (region_rule few (any_expr most) (lexemes_of bytes.now tokens.now)) }
+    ensures shorter { IfOk result (λ r. length r.1.now < length tokens.now) }
+{
     let (name, rest) = name(bytes, tokens)?;
     let (_, rest) = symbol(rest, Sym::Equal)?;
     let (definition, rest) = region_body(alloc, arena, bytes, name, rest)?;
@@ -163,10 +198,14 @@ fn region_body<'a, 't>(
     bytes: &'a [u8],
     name: Name<'a>,
     tokens: &'t [Token],
-) -> Read<'t, RegionDef<'a>> {
+) -> Read<'t, RegionDef<'a>>
+    ensures follows { (few most : ℕ) → length tokens.now < few → length tokens.now < most
+        → Follows result (λ r. Done (region_of r.0) (lexemes_of bytes.now r.1.now)) (region_body_rule few (any_expr most) (name_of name.entry) (lexemes_of bytes.now tokens.now)) }
+    ensures shorter { IfOk result (λ r. length r.1.now ≤ length tokens.now) }
+{
     if !begins_with(tokens, Kind::Symbol(Sym::OpenBracket)) {
         let (body, _, rest) = rexpr(alloc, arena, bytes, tokens, MOST_DEEP)?;
-        let posts = &[];
+        let posts: &[Post] = &[];
         return Ok((RegionDef { name, body, posts }, rest));
     }
     let (body, _, rest) = in_bracket(alloc, arena, bytes, tokens, MOST_DEEP)?;
@@ -180,7 +219,11 @@ fn directions<'a, 't>(
     arena: &'a Bump<Global>,
     bytes: &'a [u8],
     tokens: &'t [Token],
-) -> Read<'t, &'a [DirDef<'a>]> {
+) -> Read<'t, &'a [DirDef<'a>]>
+    ensures follows { (few most : ℕ) → length tokens.now < few → length tokens.now < most
+        → Follows result (λ r. Done (map direction_of r.0.now) (lexemes_of bytes.now r.1.now)) (group few (direction_rule few (any_expr most)) (lexemes_of bytes.now tokens.now)) }
+    ensures shorter { IfOk result (λ r. length r.1.now < length tokens.now) }
+{
     let mut directions = Vec::new(alloc);
     let mut rest = tokens;
     loop {
@@ -200,7 +243,11 @@ fn direction<'a, 't>(
     arena: &'a Bump<Global>,
     bytes: &'a [u8],
     tokens: &'t [Token],
-) -> Read<'t, DirDef<'a>> {
+) -> Read<'t, DirDef<'a>>
+    ensures follows { (few most : ℕ) → length tokens.now < few → length tokens.now < most
+        → Follows result (λ r. Done (direction_of r.0) (lexemes_of bytes.now r.1.now)) (direction_rule few (any_expr most) (lexemes_of bytes.now tokens.now)) }
+    ensures shorter { IfOk result (λ r. length r.1.now < length tokens.now) }
+{
     let (name, rest) = name(bytes, tokens)?;
     let (_, rest) = symbol(rest, Sym::Equal)?;
     let (_, rest) = symbol(rest, Sym::OpenBracket)?;
@@ -215,7 +262,11 @@ fn variables<'a, 't>(
     arena: &'a Bump<Global>,
     bytes: &'a [u8],
     tokens: &'t [Token],
-) -> Read<'t, &'a [VarDef<'a>]> {
+) -> Read<'t, &'a [VarDef<'a>]>
+    ensures follows { (few most : ℕ) → length tokens.now < few → length tokens.now < most
+        → Follows result (λ r. Done (map var_of r.0.now) (lexemes_of bytes.now r.1.now)) (group few (variable_rule few (any_expr most)) (lexemes_of bytes.now tokens.now)) }
+    ensures shorter { IfOk result (λ r. length r.1.now < length tokens.now) }
+{
     let mut variables = Vec::new(alloc);
     let mut rest = tokens;
     loop {
@@ -235,7 +286,11 @@ fn variable<'a, 't>(
     arena: &'a Bump<Global>,
     bytes: &'a [u8],
     tokens: &'t [Token],
-) -> Read<'t, VarDef<'a>> {
+) -> Read<'t, VarDef<'a>>
+    ensures follows { (few most : ℕ) → length tokens.now < few → length tokens.now < most
+        → Follows result (λ r. Done (var_of r.0) (lexemes_of bytes.now r.1.now)) (variable_rule few (any_expr most) (lexemes_of bytes.now tokens.now)) }
+    ensures shorter { IfOk result (λ r. length r.1.now < length tokens.now) }
+{
     let (names, rest) = names(alloc, arena, bytes, tokens)?;
     let (_, rest) = symbol(rest, Sym::Colon)?;
     let (shape, _, rest) = bracket(alloc, arena, bytes, rest, MOST_DEEP)?;
@@ -251,7 +306,11 @@ fn procedure<'a, 't>(
     arena: &'a Bump<Global>,
     bytes: &'a [u8],
     tokens: &'t [Token],
-) -> Read<'t, Procedure<'a>> {
+) -> Read<'t, Procedure<'a>>
+    ensures follows { (few most : ℕ) → length tokens.now < few → length tokens.now < most
+        → Follows result (λ r. Done (procedure_of r.0) (lexemes_of bytes.now r.1.now)) (procedure_rule few (any_expr most) most_nested (lexemes_of bytes.now tokens.now)) }
+    ensures shorter { IfOk result (λ r. length r.1.now < length tokens.now) }
+{
     let (name, rest) = name(bytes, tokens)?;
     let (_, rest) = symbol(rest, Sym::OpenParen)?;
     let (params, rest) = params(alloc, arena, bytes, rest)?;
@@ -275,7 +334,11 @@ fn params<'a, 't>(
     arena: &'a Bump<Global>,
     bytes: &'a [u8],
     tokens: &'t [Token],
-) -> Read<'t, &'a [Param<'a>]> {
+) -> Read<'t, &'a [Param<'a>]>
+    ensures follows { (few most : ℕ) → length tokens.now < few → length tokens.now < most
+        → Follows result (λ r. Done (map param_of r.0.now) (lexemes_of bytes.now r.1.now)) (params_rule few (any_expr most) (lexemes_of bytes.now tokens.now)) }
+    ensures shorter { IfOk result (λ r. length r.1.now ≤ length tokens.now) }
+{
     if begins_with(tokens, Kind::Symbol(Sym::CloseParen)) {
         return Ok((&[], behind(tokens)));
     }
@@ -290,7 +353,11 @@ fn some_params<'a, 't>(
     arena: &'a Bump<Global>,
     bytes: &'a [u8],
     tokens: &'t [Token],
-) -> Read<'t, &'a [Param<'a>]> {
+) -> Read<'t, &'a [Param<'a>]>
+    ensures follows { (few most : ℕ) → length tokens.now < few → length tokens.now < most
+        → Follows result (λ r. Done (map param_of r.0.now) (lexemes_of bytes.now r.1.now)) (some_params_rule few (any_expr most) (lexemes_of bytes.now tokens.now)) }
+    ensures shorter { IfOk result (λ r. length r.1.now < length tokens.now) }
+{
     let mut params = Vec::new(alloc);
     let mut rest = tokens;
     loop {
@@ -310,7 +377,11 @@ fn param<'a, 't>(
     arena: &'a Bump<Global>,
     bytes: &'a [u8],
     tokens: &'t [Token],
-) -> Read<'t, Param<'a>> {
+) -> Read<'t, Param<'a>>
+    ensures follows { (few most : ℕ) → length tokens.now ≤ few → length tokens.now < most
+        → Follows result (λ r. Done (param_of r.0) (lexemes_of bytes.now r.1.now)) (param_rule few (any_expr most) (lexemes_of bytes.now tokens.now)) }
+    ensures shorter { IfOk result (λ r. length r.1.now < length tokens.now) }
+{
     if begins_with(tokens, Kind::Word(Key::Var)) {
         formals(alloc, arena, bytes, true, behind(tokens))
     } else {
@@ -325,7 +396,11 @@ fn formals<'a, 't>(
     bytes: &'a [u8],
     by_ref: bool,
     tokens: &'t [Token],
-) -> Read<'t, Param<'a>> {
+) -> Read<'t, Param<'a>>
+    ensures follows { (few most : ℕ) → length tokens.now ≤ few → length tokens.now < most
+        → Follows result (λ r. Done (param_of r.0) (lexemes_of bytes.now r.1.now)) (formals_rule few (any_expr most) by_ref (lexemes_of bytes.now tokens.now)) }
+    ensures shorter { IfOk result (λ r. length r.1.now < length tokens.now) }
+{
     let (names, rest) = names(alloc, arena, bytes, tokens)?;
     let (_, rest) = symbol(rest, Sym::Colon)?;
     let (shape, _, rest) = bracket(alloc, arena, bytes, rest, MOST_DEEP)?;
@@ -340,7 +415,10 @@ fn formals<'a, 't>(
 }
 
 /// [ ":" base ].
-fn result_type<'a, 't>(bytes: &'a [u8], tokens: &'t [Token]) -> Read<'t, Option<Base<'a>>> {
+fn result_type<'a, 't>(bytes: &'a [u8], tokens: &'t [Token]) -> Read<'t, Option<Base<'a>>>
+    ensures follows { Follows result (λ r. Done (option_map base_type_of r.0) (lexemes_of bytes.now r.1.now)) (result_rule (lexemes_of bytes.now tokens.now)) }
+    ensures shorter { IfOk result (λ r. length r.1.now ≤ length tokens.now) }
+{
     if !begins_with(tokens, Kind::Symbol(Sym::Colon)) {
         return Ok((None, tokens));
     }
@@ -354,7 +432,11 @@ fn locals<'a, 't>(
     arena: &'a Bump<Global>,
     bytes: &'a [u8],
     tokens: &'t [Token],
-) -> Read<'t, &'a [VarDef<'a>]> {
+) -> Read<'t, &'a [VarDef<'a>]>
+    ensures follows { (few most : ℕ) → length tokens.now < few → length tokens.now < most
+        → Follows result (λ r. Done (map var_of r.0.now) (lexemes_of bytes.now r.1.now)) (locals_rule few (any_expr most) (lexemes_of bytes.now tokens.now)) }
+    ensures shorter { IfOk result (λ r. length r.1.now ≤ length tokens.now) }
+{
     let mut locals = Vec::new(alloc);
     let mut rest = tokens;
     while begins_with(rest, Kind::Word(Key::Var)) {
@@ -372,7 +454,11 @@ fn body<'a, 't>(
     arena: &'a Bump<Global>,
     bytes: &'a [u8],
     tokens: &'t [Token],
-) -> Read<'t, Stmt<'a>> {
+) -> Read<'t, Stmt<'a>>
+    ensures follows { (few most : ℕ) → length tokens.now < few → length tokens.now < most
+        → Follows result (λ r. Done (stmt_of r.0) (lexemes_of bytes.now r.1.now)) (body_rule few (any_expr most) most_nested (lexemes_of bytes.now tokens.now)) }
+    ensures shorter { IfOk result (λ r. length r.1.now < length tokens.now) }
+{
     let (prefixes, rest) = prefixes(alloc, arena, bytes, tokens)?;
     let (at, rest) = keyword(rest, Key::Begin)?;
     let (those, rest) = body_end(alloc, arena, bytes, rest, MOST_DEEP - 1)?;

@@ -3,8 +3,9 @@ use bumpalo::Bump;
 use std::alloc::Global;
 use std::process::Abort;
 use std::test::Fail;
+use zpl_nums::Op;
 use zpl_text::{Token, lex};
-use zpl_tree::print_tree;
+use zpl_tree::{Decl, Expr, ExprForm, Form, Program, print_tree};
 
 /// The tokens of a text.
 fn tokens_of(rt: &impl Abort, alloc: Global, text: &[u8]) -> Result<Vec<Token>, Fail> {
@@ -168,4 +169,184 @@ fn bodies(rt: HostRuntime) -> Result<(), Fail> {
         b"wrap A, B; reflect C; write(); writeln(\"a\", 1); f(); f(1, 2); x := f(1, g());",
     )?;
     Ok(())
+}
+
+/// The texts of all keywords.
+const KEYWORDS: [&str; 41] = [
+    "program",
+    "config",
+    "var",
+    "constant",
+    "region",
+    "direction",
+    "procedure",
+    "begin",
+    "end",
+    "if",
+    "then",
+    "elsif",
+    "else",
+    "while",
+    "do",
+    "repeat",
+    "until",
+    "for",
+    "to",
+    "downto",
+    "by",
+    "of",
+    "in",
+    "at",
+    "with",
+    "without",
+    "wrap",
+    "reflect",
+    "return",
+    "integer",
+    "boolean",
+    "true",
+    "false",
+    "max",
+    "min",
+    "abs",
+    "write",
+    "writeln",
+    "Index1",
+    "Index2",
+    "Index3",
+];
+
+#[test]
+fn keywords_are_no_names(rt: HostRuntime) -> Result<(), Fail> {
+    let alloc = rt.alloc();
+    for keyword in KEYWORDS {
+        let mut text = Vec::new(alloc);
+        text.extend_from_slice(b"program p; var ")?;
+        text.extend_from_slice(keyword.as_bytes())?;
+        text.extend_from_slice(b" : integer; procedure p(); begin end;")?;
+        let fault = printed(&rt, alloc, &text)?.err();
+        assert_eq!(rt; fault, Some(ParseFault::Syntax { at: 15 }), "{keyword}");
+    }
+    Ok(())
+}
+
+/// A text and what is printed of its tree.
+fn prints(rt: &impl Abort, alloc: Global, text: &[u8], wanted: &[u8]) -> Result<(), Fail> {
+    let shown = printed(rt, alloc, text)?;
+    assert_eq!(rt; shown.as_deref(), Ok(wanted));
+    let again = printed(rt, alloc, wanted)?;
+    assert_eq!(rt; again.as_deref(), Ok(wanted));
+    Ok(())
+}
+
+#[test]
+fn declarations_have_their_trees(rt: HostRuntime) -> Result<(), Fail> {
+    let alloc = rt.alloc();
+    prints(
+        &rt,
+        alloc,
+        b"program p; config var n : integer = 8; m : boolean = true; constant c : t = -n;",
+        b"program p ;\nconfig var n : integer = 8 ;\nm : boolean = true ;\nconstant c : t = - n ;\n",
+    )?;
+    prints(
+        &rt,
+        alloc,
+        b"program p; region R = [1..n, *]; S = d of R at e; T = [R] by [2, 3]; direction d = [1]; e = [0, -1];",
+        b"program p ;\nregion R = [ 1 .. n , * ] ;\nS = [ d of R at e ] ;\nT = [ R ] by [ 2 , 3 ] ;\ndirection d = [ 1 ] ;\ne = [ 0 , - 1 ] ;\n",
+    )?;
+    prints(
+        &rt,
+        alloc,
+        b"program p; var a, b : [R] integer; c : q; procedure f(var x, y : [1..2] integer; z : boolean) : integer; var i : integer; var j : [R] q; k : integer; [R] begin end;",
+        b"program p ;\nvar a , b : [ R ] integer ;\nc : q ;\nprocedure f ( var x , y : [ 1 .. 2 ] integer ;\nz : boolean ) : integer ;\nvar i : integer ;\nj : [ R ] q ;\nk : integer ;\n[ R ] begin end ;\n",
+    )
+}
+
+/// The value of the one assignment in the body of the last declaration.
+fn assigned<'a>(program: &Program<'a>) -> Option<&'a Expr<'a>> {
+    match program.decls.last()? {
+        Decl::Procedure(procedure) => match procedure.body.form {
+            Form::Block([only]) => match only.form {
+                Form::Assign(_, _, value) => Some(value),
+                _ => None,
+            },
+            _ => None,
+        },
+        _ => None,
+    }
+}
+
+/// A value with an operator between two operands, of which the operator of the left or else the right one is told.
+fn grouping(value: &Expr<'_>) -> Option<(Op, Option<Op>, Option<Op>)> {
+    match value.form {
+        ExprForm::Pair(op, left, right) => Some((op, operator_of(left), operator_of(right))),
+        _ => None,
+    }
+}
+
+fn operator_of(value: &Expr<'_>) -> Option<Op> {
+    match value.form {
+        ExprForm::Pair(op, ..) => Some(op),
+        _ => None,
+    }
+}
+
+/// How the value of an assignment is grouped.
+fn groups(
+    rt: &impl Abort,
+    alloc: Global,
+    body: &[u8],
+    wanted: (Op, Option<Op>, Option<Op>),
+) -> Result<(), Fail> {
+    let text = with_body(alloc, body)?;
+    let tokens = tokens_of(rt, alloc, &text)?;
+    let arena = Bump::new(alloc);
+    let found = match parse(alloc, &arena, &tokens, &text) {
+        Ok(program) => assigned(program).and_then(grouping),
+        Err(_) => None,
+    };
+    assert_eq!(rt; found, Some(wanted), "{body:?}");
+    Ok(())
+}
+
+#[test]
+fn operators_group_by_their_levels(rt: HostRuntime) -> Result<(), Fail> {
+    let alloc = rt.alloc();
+    groups(
+        &rt,
+        alloc,
+        b"x := a - b - c;",
+        (Op::Sub, Some(Op::Sub), None),
+    )?;
+    groups(
+        &rt,
+        alloc,
+        b"x := a / b % c;",
+        (Op::Rem, Some(Op::Div), None),
+    )?;
+    groups(
+        &rt,
+        alloc,
+        b"x := a - b * c;",
+        (Op::Sub, None, Some(Op::Mul)),
+    )?;
+    groups(
+        &rt,
+        alloc,
+        b"x := -a * b + c;",
+        (Op::Add, Some(Op::Mul), None),
+    )?;
+    groups(
+        &rt,
+        alloc,
+        b"x := a < b & c | d;",
+        (Op::Or, Some(Op::And), None),
+    )?;
+    groups(
+        &rt,
+        alloc,
+        b"x := a | b & c < d;",
+        (Op::Or, None, Some(Op::And)),
+    )?;
+    groups(&rt, alloc, b"x := +<<A * B;", (Op::Mul, None, None))
 }
