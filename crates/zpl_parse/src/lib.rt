@@ -5,6 +5,7 @@ mod classes;
 mod declarations;
 mod expressions;
 mod faults;
+mod laws;
 mod placing;
 mod programs;
 mod regions;
@@ -12,6 +13,7 @@ mod statements;
 mod tokens;
 
 pub use faults::ParseFault;
+pub use laws::a_text_has_one_tree;
 pub use programs::parse;
 
 #[cfg(test)]
