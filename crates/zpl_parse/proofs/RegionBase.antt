@@ -1,11 +1,10 @@
 -- Rules of directions and regions behind the parts that are already read.
-use Rattle.std.proofs.Common.{◌≡◌, ◌<◌, ℕ, suc, zero, Bool, true, false, List, [], ◌∷◌, length, map, Option, Some, None, Result, refl, sym, ap, subst, ◌∙◌, arith}
+use Rattle.std.proofs.Common.{◌≡◌, ◌<◌, ℕ, suc, Bool, true, false, List, [], ◌∷◌, length, map, Option, Some, None, sym, ap, subst, ◌∙◌, arith}
+use Rattle.std.specs.Borrow.{Bor}
 use Rattle.zpl_text.specs.declared.tokens.Token.{Token}
 use Rattle.zpl_tokens.specs.declared.Kind.TheVariants as kind
 use Rattle.zpl_tokens.specs.declared.symbols.Sym.TheVariants as sym
-use Rattle.zpl_tree.specs.Syntax.{Name, Expr, Pre, RegionBase, Dir, NamedDir, Vector, Inner, Rexpr, Dims, Bracket, NoBracket, Bracketed, Posts, NoPost, ThenPost, DimText, Blank, Star, One, Span, DimTexts, NoDim, ThenDim}
-use Rattle.std.specs.Borrow.{Bor}
-use Rattle.zpl_tree.specs.Syntax as plain
+use Rattle.zpl_tree.specs.Syntax.{Expr, Pre, RegionBase, Dir, NamedDir, Vector, Inner, Rexpr, Dims, Posts, NoPost, ThenPost, DimText, DimTexts, NoDim, ThenDim}
 use Rattle.zpl_tree.specs.View.{pre_of, base_of, posts_of, rexpr_of}
 use Rattle.zpl_tree.specs.declared.regions.Pre.{Pre as PreNode}
 use Rattle.zpl_tree.specs.declared.regions.Post.{Post}
@@ -13,19 +12,16 @@ use Rattle.zpl_tree.specs.declared.regions.RegionBase.{RegionBase as BaseNode}
 use Rattle.zpl_tree.specs.declared.regions.Rexpr.{roll-Rexpr}
 use Rattle.zpl_tree.proofs.Views.{posts_of_slice}
 use Rattle.zpl_parse.specs.declared.faults.ParseFault.{ParseFault}
-use Rattle.zpl_parse.specs.Classes.{stride_of, closes_dim, closes_region}
-use Rattle.zpl_parse.specs.Lexeme.{Lexeme, lexemes_of, head_kind, second_kind, head_at, behind}
+use Rattle.zpl_parse.specs.Classes.{stride_of, closes_region}
+use Rattle.zpl_parse.specs.Lexeme.{Lexeme, lexemes_of, head_kind, second_kind, behind}
 use Rattle.zpl_parse.specs.Outcome.{Outcome, Done, Wrong, Reader, and_then, made}
-use Rattle.zpl_parse.specs.Tokens.{symbol, name, next_is}
-use Rattle.zpl_parse.specs.Expressions.{components, dir, posts, region_base, rexpr, bounds, dim_text, dim_texts, begins_region, inner, in_bracket, bracket}
-use Rattle.zpl_parse.specs.Following.{IsFaultOf, Follows}
+use Rattle.zpl_parse.specs.Tokens.{name, next_is}
+use Rattle.zpl_parse.specs.Expressions.{components, dir, posts, region_base, rexpr, dim_text, dim_texts, begins_region, inner}
+use Rattle.zpl_parse.specs.Following.{IsFaultOf}
 
 -- what is said of an outcome holds of the same one
 pub fault_is : {A : Type 0} (fault : ParseFault) (o p : Outcome A) → o ≡ p → IsFaultOf fault p → IsFaultOf fault o
 fault_is fault o p e h = subst (IsFaultOf fault) (sym e) h
-
-pub follows_is : {V A : Type 0} (r : Result V ParseFault) (done : V → Outcome A) (o p : Outcome A) → o ≡ p → Follows r done p → Follows r done o
-follows_is r done o p e h = subst (Follows r done) (sym e) h
 
 pub dir_vector : (few : ℕ) (expr : Reader Expr) (lexemes rest : List Lexeme) → next_is (kind.Symbol sym.OpenBracket) lexemes ≡ true → rest ≡ behind lexemes →
     dir few expr lexemes ≡ made Vector (components few expr rest)
@@ -70,7 +66,7 @@ pub inner_ends : (few : ℕ) (expr : Reader Expr) (lexemes rest : List Lexeme) (
     dim_texts few expr lexemes ≡ Done dims rest → closes_region (head_kind rest) ≡ true → inner few expr lexemes ≡ Done (Dims dims) rest
 inner_ends few expr lexemes rest dims not is ends =
     let after : DimTexts → Reader Inner = λ dims rest.
-        elim (closes_region (head_kind rest)) [ true ↦ Done (Dims dims) rest | false ↦ Wrong rest ] in
+    elim (closes_region (head_kind rest)) [ true ↦ Done (Dims dims) rest | false ↦ Wrong rest ] in
     let by : Bool → Outcome Inner = λ b. elim b [ true ↦ Done (Dims dims) rest | false ↦ Wrong rest ] in
     inner_dims few expr lexemes not ∙ ap (λ o. and_then o after) is ∙ ap by ends
 
@@ -119,6 +115,6 @@ strides_some text (token ∷ tokens) stride is = omega arith
 
 -- a region expression of these parts, as it is seen
 pub rexpr_of-made : (pre : Bor (List PreNode)) (base : BaseNode) (post : Bor (List Post)) →
-    rexpr_of (roll-Rexpr (record { pre = pre; base = base; post = post })) ≡ plain.Rexpr (map pre_of pre.now) (base_of base) (posts_of post.now)
+    rexpr_of (roll-Rexpr (record { pre = pre; base = base; post = post })) ≡ Rexpr (map pre_of pre.now) (base_of base) (posts_of post.now)
 unfolding roll-Rexpr denote.Hole.Carrier.roll
-rexpr_of-made pre base post = ap (plain.Rexpr (map pre_of pre.now) (base_of base)) (posts_of_slice post.now)
+rexpr_of-made pre base post = ap (Rexpr (map pre_of pre.now) (base_of base)) (posts_of_slice post.now)
