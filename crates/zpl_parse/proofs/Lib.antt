@@ -1,3 +1,9 @@
+pub mod Sames
+pub mod Follows
+pub mod Loops
+pub mod Lists
+pub mod Chains
+pub mod RegionBase
 mod Examples
 pub mod SoundBase
 pub mod SoundTokens
@@ -30,3 +36,6 @@ pub mod CompleteStatements
 pub mod CompleteDeclarations
 pub mod CompleteProgram
 pub mod Whole
+pub mod StatementBase
+pub mod Answering
+pub mod DeclarationSteps

@@ -7,4 +7,7 @@ pub mod Tokens
 pub mod Expressions
 pub mod Statements
 pub mod Declarations
+pub mod Following
 pub mod Places
+pub mod Whole
+pub mod Answers

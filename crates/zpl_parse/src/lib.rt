@@ -1,7 +1,22 @@
 //! Reads the tree of a program from the tokens of its text.
+//!
+//! Recursive descent, one function a rule of the grammar, with the depth that is left.
 #![tactic(auto)]
 
 mod classes;
+mod declarations;
+mod expressions;
+mod faults;
 mod laws;
+mod placing;
+mod programs;
+mod regions;
+mod statements;
+mod tokens;
 
+pub use faults::ParseFault;
 pub use laws::{printed_trees_are_parsed_again, texts_have_one_tree};
+pub use programs::parse;
+
+#[cfg(test)]
+mod tests;

@@ -14,4 +14,4 @@ returns-clause-one c = λ text program tree tokens has are is.
     let again = c.printed_trees_are_read_back.ensures.tree text program has in
     let same : again.tokens ≡ tokens = c.text_is_cut_one_way.ensures.tokens (printed_text (program_words program)) again.tokens tokens again.are_tokens are in
     one_tree (printed_text (program_words program)) tokens program tree
-        (subst (λ l. IsTree (printed_text (program_words program)) l program) same again.is_tree) is
+    (subst (λ l. IsTree (printed_text (program_words program)) l program) same again.is_tree) is

@@ -1,0 +1,161 @@
+-- What is left of the depth, and then how far a rule stands above those that it calls at the same depth.
+use Rattle.std.proofs.Common.{◌≡◌, ℕ, ◌+◌, ◌*◌, ◌-◌, ◌<◌, ◌≤◌, length}
+use Rattle.zpl_tree.specs.Depth.{expr_depth, exprs_depth, posts_depth, dims_depth}
+use Rattle.zpl_tree.specs.View.{expr_of, exprs_of, posts_of, dims_of}
+use Rattle.zpl_parse.specs.Classes.{or_op, and_op, sum_op, term_op}
+use Rattle.zpl_parse.specs.Lexeme.{lexemes_of}
+use Rattle.zpl_parse.specs.Expressions.{levels, exprs, posts, dim_texts}
+use Rattle.zpl_parse.proofs.Chains.{IsChained}
+use Rattle.zpl_parse.proofs.Loops.{IsGathered}
+use Rattle.zpl_parse.proofs.Lists.{put_expr, put_post, put_dim}
+use Rattle.zpl_parse.proofs.+expression.Given as goal
+
+abbrev pub decreases-expressions::both : goal.decreases-expressions::both
+decreases-expressions::both l = 16 * l.deep
+
+abbrev pub decreases-expressions::behind_name : goal.decreases-expressions::behind_name
+decreases-expressions::behind_name l = 16 * l.deep
+
+abbrev pub decreases-expressions::folded : goal.decreases-expressions::folded
+decreases-expressions::folded l = 16 * l.deep + 1
+
+abbrev pub decreases-expressions::unary : goal.decreases-expressions::unary
+decreases-expressions::unary l = 16 * l.deep + 2
+
+abbrev pub decreases-expressions::term : goal.decreases-expressions::term
+decreases-expressions::term l = 16 * l.deep + 3
+
+abbrev pub decreases-expressions::sum : goal.decreases-expressions::sum
+decreases-expressions::sum l = 16 * l.deep + 4
+
+abbrev pub decreases-expressions::comp : goal.decreases-expressions::comp
+decreases-expressions::comp l = 16 * l.deep + 5
+
+abbrev pub decreases-expressions::conj : goal.decreases-expressions::conj
+decreases-expressions::conj l = 16 * l.deep + 6
+
+abbrev pub decreases-expressions::expr : goal.decreases-expressions::expr
+decreases-expressions::expr l = 16 * l.deep + 7
+
+abbrev pub decreases-expressions::inside : goal.decreases-expressions::inside
+decreases-expressions::inside l = 16 * l.deep + 8
+
+abbrev pub decreases-expressions::exprs : goal.decreases-expressions::exprs
+decreases-expressions::exprs l = 16 * l.deep + 8
+
+abbrev pub decreases-regions::bounds : goal.decreases-regions::bounds
+decreases-regions::bounds l = 16 * l.deep + 8
+
+abbrev pub decreases-expressions::actuals : goal.decreases-expressions::actuals
+decreases-expressions::actuals l = 16 * l.deep + 9
+
+abbrev pub decreases-expressions::components : goal.decreases-expressions::components
+decreases-expressions::components l = 16 * l.deep + 9
+
+abbrev pub decreases-regions::dim_text : goal.decreases-regions::dim_text
+decreases-regions::dim_text l = 16 * l.deep + 9
+
+abbrev pub decreases-regions::dir : goal.decreases-regions::dir
+decreases-regions::dir l = 16 * l.deep + 10
+
+abbrev pub decreases-regions::dim_texts : goal.decreases-regions::dim_texts
+decreases-regions::dim_texts l = 16 * l.deep + 10
+
+abbrev pub decreases-regions::posts : goal.decreases-regions::posts
+decreases-regions::posts l = 16 * l.deep + 11
+
+abbrev pub decreases-regions::rexpr : goal.decreases-regions::rexpr
+decreases-regions::rexpr l = 16 * l.deep + 12
+
+abbrev pub decreases-regions::inner : goal.decreases-regions::inner
+decreases-regions::inner l = 16 * l.deep + 13
+
+abbrev pub decreases-regions::in_bracket : goal.decreases-regions::in_bracket
+decreases-regions::in_bracket l = 16 * l.deep + 14
+
+abbrev pub decreases-regions::bracket : goal.decreases-regions::bracket
+decreases-regions::bracket l = 16 * l.deep + 15
+
+abbrev pub invariant-expressions::term-loop-op : goal.invariant-expressions::term-loop-op
+invariant-expressions::term-loop-op l = record {
+  within : length l.rest < length l.fn.tokens;
+  depth : l.depth ≡ expr_depth (expr_of l.left);
+  shallow : l.depth ≤ l.deep;
+  chained : (most : ℕ) → length l.fn.tokens < most
+      → IsChained ((levels most l.deep).term (lexemes_of l.bytes l.fn.tokens)) (l.deep - 1) term_op (levels most (l.deep - 1)).unary (expr_of l.left) (lexemes_of l.bytes l.rest) (length l.rest);
+}
+
+abbrev pub decreases-expressions::term-loop-op : goal.decreases-expressions::term-loop-op
+decreases-expressions::term-loop-op l = length l.rest
+
+abbrev pub invariant-expressions::sum-loop-op : goal.invariant-expressions::sum-loop-op
+invariant-expressions::sum-loop-op l = record {
+  within : length l.rest < length l.fn.tokens;
+  depth : l.depth ≡ expr_depth (expr_of l.left);
+  shallow : l.depth ≤ l.deep;
+  chained : (most : ℕ) → length l.fn.tokens < most
+      → IsChained ((levels most l.deep).sum (lexemes_of l.bytes l.fn.tokens)) (l.deep - 1) sum_op (levels most (l.deep - 1)).term (expr_of l.left) (lexemes_of l.bytes l.rest) (length l.rest);
+}
+
+abbrev pub decreases-expressions::sum-loop-op : goal.decreases-expressions::sum-loop-op
+decreases-expressions::sum-loop-op l = length l.rest
+
+abbrev pub invariant-expressions::conj-loop-op : goal.invariant-expressions::conj-loop-op
+invariant-expressions::conj-loop-op l = record {
+  within : length l.rest < length l.fn.tokens;
+  depth : l.depth ≡ expr_depth (expr_of l.left);
+  shallow : l.depth ≤ l.deep;
+  chained : (most : ℕ) → length l.fn.tokens < most
+      → IsChained ((levels most l.deep).conj (lexemes_of l.bytes l.fn.tokens)) (l.deep - 1) and_op (levels most (l.deep - 1)).comp (expr_of l.left) (lexemes_of l.bytes l.rest) (length l.rest);
+}
+
+abbrev pub decreases-expressions::conj-loop-op : goal.decreases-expressions::conj-loop-op
+decreases-expressions::conj-loop-op l = length l.rest
+
+abbrev pub invariant-expressions::expr-loop-op : goal.invariant-expressions::expr-loop-op
+invariant-expressions::expr-loop-op l = record {
+  within : length l.rest < length l.fn.tokens;
+  depth : l.depth ≡ expr_depth (expr_of l.left);
+  shallow : l.depth ≤ l.deep;
+  chained : (most : ℕ) → length l.fn.tokens < most
+      → IsChained ((levels most l.deep).expr (lexemes_of l.bytes l.fn.tokens)) (l.deep - 1) or_op (levels most (l.deep - 1)).conj (expr_of l.left) (lexemes_of l.bytes l.rest) (length l.rest);
+}
+
+abbrev pub decreases-expressions::expr-loop-op : goal.decreases-expressions::expr-loop-op
+decreases-expressions::expr-loop-op l = length l.rest
+
+abbrev pub invariant-expressions::exprs-loop-exprs : goal.invariant-expressions::exprs-loop-exprs
+invariant-expressions::exprs-loop-exprs l = record {
+  within : length l.rest ≤ length l.fn.tokens;
+  depth : l.deepest ≡ exprs_depth (exprs_of l.exprs.items);
+  shallow : l.deepest ≤ l.deep;
+  gathered : (few most : ℕ) → length l.fn.tokens < few → length l.fn.tokens < most
+      → IsGathered put_expr (λ fuel lexemes. exprs fuel (levels most l.deep).expr lexemes) few (lexemes_of l.bytes l.fn.tokens) l.exprs.items (lexemes_of l.bytes l.rest) (length l.rest);
+}
+
+abbrev pub decreases-expressions::exprs-loop-exprs : goal.decreases-expressions::exprs-loop-exprs
+decreases-expressions::exprs-loop-exprs l = length l.rest
+
+abbrev pub invariant-regions::dim_texts-loop-dims : goal.invariant-regions::dim_texts-loop-dims
+invariant-regions::dim_texts-loop-dims l = record {
+  within : length l.rest ≤ length l.fn.tokens;
+  depth : l.deepest ≡ dims_depth (dims_of l.dims.items);
+  shallow : l.deepest ≤ l.deep;
+  gathered : (few most : ℕ) → length l.fn.tokens < few → length l.fn.tokens < most
+      → IsGathered put_dim (λ fuel lexemes. dim_texts fuel (levels most l.deep).expr lexemes) few (lexemes_of l.bytes l.fn.tokens) l.dims.items (lexemes_of l.bytes l.rest) (length l.rest);
+}
+
+abbrev pub decreases-regions::dim_texts-loop-dims : goal.decreases-regions::dim_texts-loop-dims
+decreases-regions::dim_texts-loop-dims l = length l.rest
+
+abbrev pub invariant-regions::posts-loop-stride : goal.invariant-regions::posts-loop-stride
+invariant-regions::posts-loop-stride l = record {
+  within : length l.rest ≤ length l.fn.tokens;
+  depth : l.deepest ≡ posts_depth (posts_of l.posts.items);
+  shallow : l.deepest ≤ l.deep;
+  gathered : (few most : ℕ) → length l.fn.tokens < few → length l.fn.tokens < most
+      → IsGathered put_post (λ fuel lexemes. posts fuel (levels most l.deep).expr lexemes) few (lexemes_of l.bytes l.fn.tokens) l.posts.items (lexemes_of l.bytes l.rest) (length l.rest);
+}
+
+abbrev pub decreases-regions::posts-loop-stride : goal.decreases-regions::posts-loop-stride
+decreases-regions::posts-loop-stride l = length l.rest

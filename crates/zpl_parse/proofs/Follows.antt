@@ -1,0 +1,42 @@
+-- One rule behind another: how an answer follows the outcome of the whole.
+use Rattle.std.proofs.Common.{◌≡◌, ℕ, Bool, true, false, if◌then◌else◌, List, Result, Ok, Err, refl, sym, ap, subst, ◌∙◌}
+use Rattle.std.specs.Result.{IsErrAnd}
+use Rattle.zpl_parse.specs.declared.faults.ParseFault.{ParseFault}
+use Rattle.zpl_parse.specs.declared.faults.ParseFault.TheVariants.{Syntax, TooDeep, NoMemory}
+use Rattle.zpl_parse.specs.Lexeme.{Lexeme, head_at, behind}
+use Rattle.zpl_parse.specs.Outcome.{Outcome, Done, Wrong, Deep, Reader, and_then, made, too_deep}
+use Rattle.zpl_parse.specs.Following.{IsFaultOf, Follows, IsWrongAt, IsDeep}
+
+-- a fault is passed on as it is
+pub passed : {V A : Type 0} (fault : ParseFault) (r : Result V ParseFault) (done : V → Outcome A) (o : Outcome A) → IsErrAnd r (λ e. e ≡ fault) → IsFaultOf fault o → Follows r done o
+passed fault (Ok x) done o is h = absurd is
+passed fault (Err e) done o is h = subst (λ f. IsFaultOf f o) (sym is) h
+
+-- a fault of the first rule is one of both
+pub fault_then : {A B : Type 0} (fault : ParseFault) (o : Outcome A) (k : A → Reader B) → IsFaultOf fault o → IsFaultOf fault (and_then o k)
+fault_then (Syntax at) o k h = record { rest = h.rest; is = ap (λ o. and_then o k) h.is; place = h.place }
+fault_then TooDeep o k h = record { rest = h.rest; is = ap (λ o. and_then o k) h.is }
+fault_then NoMemory o k h = tt
+
+-- and of what is made of it
+pub fault_made : {A B : Type 0} (fault : ParseFault) (f : A → B) (o : Outcome A) → IsFaultOf fault o → IsFaultOf fault (made f o)
+fault_made (Syntax at) f o h = record { rest = h.rest; is = ap (made f) h.is; place = h.place }
+fault_made TooDeep f o h = record { rest = h.rest; is = ap (made f) h.is }
+fault_made NoMemory f o h = tt
+
+-- a lexeme that can't stand here
+pub refused_here : {A : Type 0} (fault : ParseFault) (rest : List Lexeme) (o : Outcome A) → fault ≡ Syntax (head_at rest) → o ≡ Wrong rest → IsFaultOf fault o
+refused_here fault rest o e is = subst (λ f. IsFaultOf f o) (sym e) (record { rest = rest; is = is; place = refl })
+
+-- the second rule's answer is that of both, where the first is done
+pub follows_then : {V A B : Type 0} (r : Result V ParseFault) (done : V → Outcome B) (o : Outcome A) (k : A → Reader B) (x : A) (rest : List Lexeme) → o ≡ Done x rest → Follows r done (k x rest) → Follows r done (and_then o k)
+follows_then r done o k x rest e h = subst (λ o. Follows r done (and_then o k)) (sym e) h
+
+-- where no deeper tree may stand
+pub too_deep_here : (A : Type 0) (b : Bool) (rest : List Lexeme) (fault : ParseFault) → fault ≡ (if b then TooDeep else Syntax (head_at rest)) → IsFaultOf {A = A} fault (too_deep b rest)
+too_deep_here A true rest fault is = subst (λ f. IsFaultOf {A = A} f (Deep (behind rest))) (sym is) (record { rest = behind rest; is = refl })
+too_deep_here A false rest fault is = subst (λ f. IsFaultOf {A = A} f (Wrong rest)) (sym is) (record { rest = rest; is = refl; place = refl })
+
+-- the same of an outcome that is equal
+pub follows_same : {V A : Type 0} (r : Result V ParseFault) (done : V → Outcome A) (o other : Outcome A) → o ≡ other → Follows r done o → Follows r done other
+follows_same r done o other e h = subst (Follows r done) e h

@@ -1,0 +1,19 @@
+use Rattle.std.proofs.Common.{ℕ, ◌<◌, ◌≤◌, ◌∷◌, List, length}
+use Rattle.zpl_tree.specs.Syntax.{Pre as PrePlain, RegionBase}
+use Rattle.zpl_tree.specs.View.{pre_of}
+use Rattle.zpl_tree.specs.declared.regions.Pre.{Pre}
+use Rattle.zpl_parse.specs.Lexeme.{lexemes_of}
+use Rattle.zpl_parse.specs.Expressions.{region_base}
+use Rattle.zpl_parse.proofs.Loops.{IsGathered}
+use Rattle.zpl_parse.proofs.Lists.{put_pre}
+use Rattle.zpl_parse.proofs.regions.region_base.Given as goal
+
+abbrev pub invariant-loop-pre : goal.invariant-loop-pre
+invariant-loop-pre l = record {
+  within : length l.rest ≤ length l.fn.tokens;
+  gathered : (most : ℕ) → length l.fn.tokens < most
+      → IsGathered put_pre region_base most (lexemes_of l.bytes l.fn.tokens) l.pre.items (lexemes_of l.bytes l.rest) (length l.rest);
+}
+
+abbrev pub decreases-loop-pre : goal.decreases-loop-pre
+decreases-loop-pre l = length l.rest

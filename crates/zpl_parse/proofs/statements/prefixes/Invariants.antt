@@ -1,0 +1,17 @@
+use Rattle.std.proofs.Common.{ℕ, ◌<◌, ◌≤◌, ◌∷◌, length}
+use Rattle.zpl_tree.specs.View.{prefix_of}
+use Rattle.zpl_parse.specs.Lexeme.{lexemes_of}
+use Rattle.zpl_parse.specs.Statements.{prefixes}
+use Rattle.zpl_parse.specs.Whole.{any_expr}
+use Rattle.zpl_parse.proofs.Loops.{IsGathered}
+use Rattle.zpl_parse.proofs.statements.prefixes.Given as goal
+
+abbrev pub invariant-loop-alloc : goal.invariant-loop-alloc
+invariant-loop-alloc l = record {
+  within : length l.rest ≤ length l.fn.tokens;
+  gathered : (few most : ℕ) → length l.fn.tokens < few → length l.fn.tokens < most
+      → IsGathered (λ x found. prefix_of x ∷ found) (λ fuel lexemes. prefixes fuel (any_expr most) lexemes) few (lexemes_of l.bytes l.fn.tokens) l.prefixes.items (lexemes_of l.bytes l.rest) (length l.rest);
+}
+
+abbrev pub decreases-loop-alloc : goal.decreases-loop-alloc
+decreases-loop-alloc l = length l.rest

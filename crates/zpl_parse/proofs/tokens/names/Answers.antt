@@ -1,0 +1,46 @@
+use Rattle.std.proofs.Common.{◌≡◌, ℕ, ◌<◌, ◌≤◌, [], ◌∷◌, ◌++◌, List, map, length, true, false, is_ok, refl, sym, ap, ◌∙◌, arith, rules}
+use Rattle.std.proofs.ResultArms.{chosen}
+use Rattle.zpl_tokens.specs.declared.Kind.TheVariants as kind
+use Rattle.zpl_tokens.specs.declared.symbols.Sym.TheVariants as sym
+use Rattle.zpl_tree.specs.View.{name_of}
+use Rattle.zpl_parse.specs.Lexeme.{lexemes_of}
+use Rattle.zpl_parse.specs.Tokens.{names, next_is}
+use Rattle.zpl_parse.proofs.Follows.{passed, fault_then}
+use Rattle.zpl_parse.proofs.Loops.{gathered_none, gathered_more, gathered_last, gathered_fault, map-prepended}
+use Rattle.zpl_parse.proofs.tokens.names.Goals as goal
+
+pub loop-names-init : goal.loop-names-init
+loop-names-init c = record {
+  within = omega arith;
+  gathered = λ most enough. rw c.new-names.ensures.items (gathered_none _ _ most _ _ enough);
+}
+
+pub returns-in_err-next-clause-follows : goal.returns-in_err-next-clause-follows
+returns-in_err-next-clause-follows c = λ most enough.
+    passed _ _ _ _ c.from_residual.ensures.1
+    (gathered_fault _ _ most _ _ _ _ _ (c.loop-names.invariant.gathered most enough)
+    (λ less fits. fault_then _ _ _ (c.in_err-next.ensures {u = tt}).follows))
+
+pub returns-then-not-begins_with-clause-follows : goal.returns-then-not-begins_with-clause-follows
+returns-then-not-begins_with-clause-follows c = λ most enough.
+    let text = c.args.bytes.now in
+    let pushed = chosen _ _ _ _ c.push.ensures.items (ap is_ok c.in_ok-push.was) in
+    let not : c.begins_with.result ≡ false = search rules in
+    let ends : next_is (kind.Symbol sym.Comma) (lexemes_of text c.in_ok-next.after.now) ≡ false = sym (c.begins_with.ensures.is text) ∙ not in
+    rw (c.in_ok-names.ensures {u = tt}, c.as_slice.ensures.value, pushed, map-prepended name_of)
+    (gathered_last _ _ most _ _ _ _ c.in_ok-next.next [] _ (c.loop-names.invariant.gathered most enough)
+    (λ less fits. search (rules, c.in_ok-next.ensures.follows, ends)))
+
+pub loop-names-preserved : goal.loop-names-preserved
+loop-names-preserved c =
+    let text = c.args.bytes.now in
+    let pushed = chosen _ _ _ _ c.push.ensures.items (ap is_ok c.in_ok-push.was) in
+    let is : c.begins_with.result ≡ true = search rules in
+    let goes : next_is (kind.Symbol sym.Comma) (lexemes_of text c.in_ok-next.after.now) ≡ true = sym (c.begins_with.ensures.is text) ∙ is in
+    let shorter : length c.behind-rest.result.now < length c.loop-names.rest.now = omega (arith, c.in_ok-next.ensures.shorter, c.behind-rest.ensures.shorter) in
+    record {
+      within = omega (arith, c.loop-names.invariant.within);
+      gathered = λ most enough. rw pushed
+          (gathered_more _ _ most _ _ _ _ c.in_ok-next.next _ _ (c.loop-names.invariant.gathered most enough) shorter
+          (λ less fits. search (rules, c.in_ok-next.ensures.follows, goes, c.behind-rest.ensures.rest text)));
+    }

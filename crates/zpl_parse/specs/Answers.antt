@@ -1,0 +1,15 @@
+-- What a parser's answer says.
+use Rattle.std.specs.Prelude.{ℕ, Result, Ok, Err}
+use Rattle.zpl_parse.specs.declared.faults.ParseFault.{ParseFault}
+use Rattle.zpl_parse.specs.declared.faults.ParseFault.TheVariants.{Syntax, TooDeep, NoMemory}
+
+-- the fault is want of memory
+abbrev pub WantsMemory : ParseFault → Type 0
+WantsMemory (Syntax at) = ⊥
+WantsMemory TooDeep = ⊥
+WantsMemory NoMemory = Unit {0}
+
+-- The answer is something of which the fact holds, or memory ran out.
+abbrev pub Reads : {A : Type 0} → Result A ParseFault → (A → Type 0) → Type 0
+Reads (Ok found) fact = fact found
+Reads (Err fault) fact = WantsMemory fault

@@ -1,0 +1,35 @@
+//! Why a text has no tree.
+ghost use Rattle.std.specs.Prelude.{◌≡◌};
+ghost use Rattle.zpl_parse.specs.declared.faults.ParseFault.TheVariants.{NoMemory};
+
+use std::alloc::{AllocError, AllocFailed};
+
+/// Why there is no tree.
+#[derive(Clone, Copy, Debug, PartialEq, Eq)]
+pub enum ParseFault {
+    /// No text of the grammar begins with the tokens up to and with the one at `at`.
+    Syntax {
+        /// The offset of that token.
+        at: u32,
+    },
+    /// Every text of the grammar that begins with some front of the tokens has a tree deeper than 200.
+    TooDeep,
+    /// There was no memory for the tree.
+    NoMemory,
+}
+
+impl<T: Drop> From<AllocFailed<T>> for ParseFault {
+    ghost from_gives = { λ _ e. e ≡ NoMemory };
+
+    fn from(_failed: AllocFailed<T>) -> ParseFault {
+        ParseFault::NoMemory
+    }
+}
+
+impl From<AllocError> for ParseFault {
+    ghost from_gives = { λ _ e. e ≡ NoMemory };
+
+    fn from(_failed: AllocError) -> ParseFault {
+        ParseFault::NoMemory
+    }
+}
