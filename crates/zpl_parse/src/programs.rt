@@ -55,7 +55,6 @@ pub fn parse<'a>(
 }
 
 /// program = "program" NAME ";" { decl } END.
-
 fn program<'a, 't>(
     alloc: Global,
     arena: &'a Bump<Global>,

@@ -1,3 +1,6 @@
+ghost use Rattle.std.specs.Prelude.{IfOk};
+ghost use Rattle.zpl_text.specs.Tokens.{IsTokens};
+
 use super::*;
 use bumpalo::Bump;
 use std::alloc::Global;
@@ -5,10 +8,12 @@ use std::process::Abort;
 use std::test::Fail;
 use zpl_nums::Op;
 use zpl_text::{Token, lex};
-use zpl_tree::{Decl, Expr, ExprForm, Form, Program, print_tree};
+use zpl_tree::{Decl, DimText, Expr, ExprForm, Form, Inner, Program, Stmt, print_tree};
 
 /// The tokens of a text.
-fn tokens_of(rt: &impl Abort, alloc: Global, text: &[u8]) -> Result<Vec<Token>, Fail> {
+fn tokens_of(rt: &impl Abort, alloc: Global, text: &[u8]) -> Result<Vec<Token>, Fail>
+    ensures { IfOk result (λ tokens. IsTokens text.now tokens.items) }
+{
     let mut tokens = Vec::new(alloc);
     assert!(rt; text.len() <= 1000000);
     assert_eq!(rt; lex(alloc, text, &mut tokens), Ok(()), "{text:?}");
@@ -349,4 +354,105 @@ fn operators_group_by_their_levels(rt: HostRuntime) -> Result<(), Fail> {
         (Op::Or, None, Some(Op::And)),
     )?;
     groups(&rt, alloc, b"x := +<<A * B;", (Op::Mul, None, None))
+}
+
+/// A dimension of a region, with the offsets that it has.
+#[derive(Clone, Copy, Debug, PartialEq, Eq)]
+enum Dimension {
+    Blank(u32),
+    Star(u32),
+    One(u32),
+    Span(u32, u32),
+}
+
+fn dimension_of(dim: &DimText<'_>) -> Dimension {
+    match dim {
+        DimText::Blank(at) => Dimension::Blank(*at),
+        DimText::Star(at) => Dimension::Star(*at),
+        DimText::One(index) => Dimension::One(index.at),
+        DimText::Span(low, high) => Dimension::Span(low.at, high.at),
+    }
+}
+
+/// The first statement in the body of the last declaration.
+fn first_statement<'a>(program: &Program<'a>) -> Option<&'a Stmt<'a>> {
+    match program.decls.last()? {
+        Decl::Procedure(procedure) => match procedure.body.form {
+            Form::Block(body) => body.first(),
+            _ => None,
+        },
+        _ => None,
+    }
+}
+
+/// The dimensions of a statement's first prefix, or nothing where that is a region expression.
+fn dimensions(alloc: Global, stmt: &Stmt<'_>) -> Result<Option<Vec<Dimension>>, Fail> {
+    let Some(prefix) = stmt.prefixes.first() else {
+        return Ok(Some(Vec::new(alloc)));
+    };
+    let Inner::Dims(dims) = prefix.region else {
+        return Ok(None);
+    };
+    let mut told = Vec::new(alloc);
+    for dim in dims {
+        told.push(dimension_of(dim))?;
+    }
+    Ok(Some(told))
+}
+
+/// The dimensions of the bracket that a body begins with.
+fn bracket(
+    rt: &impl Abort,
+    alloc: Global,
+    body: &[u8],
+    wanted: Option<&[Dimension]>,
+) -> Result<(), Fail> {
+    let text = with_body(alloc, body)?;
+    let tokens = tokens_of(rt, alloc, &text)?;
+    let arena = Bump::new(alloc);
+    let program = parse(alloc, &arena, &tokens, &text).map_err(Fail::from)?;
+    let stmt = first_statement(program).ok_or("no statement")?;
+    let told = dimensions(alloc, stmt)?;
+    assert_eq!(rt; told.as_deref(), wanted, "{body:?}");
+    Ok(())
+}
+
+#[test]
+fn brackets_have_their_trees(rt: HostRuntime) -> Result<(), Fail> {
+    let alloc = rt.alloc();
+    bracket(&rt, alloc, b"[R] x := 1;", None)?;
+    bracket(&rt, alloc, b"[\"] x := 1;", None)?;
+    bracket(&rt, alloc, b"[d of R with m] x := 1;", None)?;
+    bracket(&rt, alloc, b"[k + 1] x := 1;", Some(&[Dimension::One(33)]))?;
+    bracket(&rt, alloc, b"[ ] x := 1;", Some(&[Dimension::Blank(34)]))?;
+    bracket(
+        &rt,
+        alloc,
+        b"[ , k] x := 1;",
+        Some(&[Dimension::Blank(34), Dimension::One(36)]),
+    )
+}
+
+#[test]
+fn stars_have_their_trees(rt: HostRuntime) -> Result<(), Fail> {
+    let alloc = rt.alloc();
+    bracket(&rt, alloc, b"[*] x := 1;", Some(&[Dimension::Star(33)]))?;
+    bracket(
+        &rt,
+        alloc,
+        b"[*, 1..2 with m] x := 1;",
+        Some(&[Dimension::Star(33), Dimension::Span(36, 39)]),
+    )?;
+    bracket(
+        &rt,
+        alloc,
+        b"[* without m] x := 1;",
+        Some(&[Dimension::Star(33)]),
+    )?;
+    bracket(
+        &rt,
+        alloc,
+        b"[*<<[*] A] x := 1;",
+        Some(&[Dimension::One(33)]),
+    )
 }
