@@ -4,6 +4,8 @@
 mod answers;
 mod commands;
 mod compiling;
+#[cfg(test)]
+mod form_tests;
 mod numbers;
 mod refusals;
 #[cfg(test)]
