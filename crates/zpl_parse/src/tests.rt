@@ -235,12 +235,17 @@ fn keywords_are_no_names(rt: HostRuntime) -> Result<(), Fail> {
     Ok(())
 }
 
-/// A text and what is printed of its tree.
+/// A text and what is printed of its tree, which is printed of that text too.
 fn prints(rt: &impl Abort, alloc: Global, text: &[u8], wanted: &[u8]) -> Result<(), Fail> {
-    let shown = printed(rt, alloc, text)?;
-    assert_eq!(rt; shown.as_deref(), Ok(wanted));
-    let again = printed(rt, alloc, wanted)?;
-    assert_eq!(rt; again.as_deref(), Ok(wanted));
+    shows(rt, alloc, text, wanted)?;
+    shows(rt, alloc, wanted, wanted)
+}
+
+fn shows(rt: &impl Abort, alloc: Global, text: &[u8], wanted: &[u8]) -> Result<(), Fail> {
+    match printed(rt, alloc, text)? {
+        Ok(shown) => assert_eq!(rt; shown.as_slice(), wanted),
+        Err(fault) => assert!(rt; false, "{fault:?}"),
+    }
     Ok(())
 }
 
@@ -385,36 +390,41 @@ fn first_statement<'a>(program: &Program<'a>) -> Option<&'a Stmt<'a>> {
     }
 }
 
-/// The dimensions of a statement's first prefix, or nothing where that is a region expression.
-fn dimensions(alloc: Global, stmt: &Stmt<'_>) -> Result<Option<Vec<Dimension>>, Fail> {
-    let Some(prefix) = stmt.prefixes.first() else {
-        return Ok(Some(Vec::new(alloc)));
-    };
-    let Inner::Dims(dims) = prefix.region else {
-        return Ok(None);
-    };
-    let mut told = Vec::new(alloc);
-    for dim in dims {
-        told.push(dimension_of(dim))?;
+/// How many dimensions a statement's first prefix has, with the first and the last, or nothing where it has a region
+/// expression.
+fn dimensions(stmt: &Stmt<'_>) -> Option<(usize, Option<Dimension>, Option<Dimension>)> {
+    match stmt.prefixes.first()?.region {
+        Inner::Dims(dims) => Some((
+            dims.len(),
+            dims.first().map(dimension_of),
+            dims.last().map(dimension_of),
+        )),
+        Inner::Rexpr(_) => None,
     }
-    Ok(Some(told))
 }
 
-/// The dimensions of the bracket that a body begins with.
+/// The first and the last dimension of the bracket that a body begins with, of so many.
 fn bracket(
     rt: &impl Abort,
     alloc: Global,
     body: &[u8],
-    wanted: Option<&[Dimension]>,
+    wanted: Option<(usize, Dimension, Dimension)>,
 ) -> Result<(), Fail> {
     let text = with_body(alloc, body)?;
     let tokens = tokens_of(rt, alloc, &text)?;
     let arena = Bump::new(alloc);
-    let program = parse(alloc, &arena, &tokens, &text).map_err(Fail::from)?;
-    let stmt = first_statement(program).ok_or("no statement")?;
-    let told = dimensions(alloc, stmt)?;
-    assert_eq!(rt; told.as_deref(), wanted, "{body:?}");
+    let found = match parse(alloc, &arena, &tokens, &text) {
+        Ok(program) => first_statement(program).and_then(dimensions),
+        Err(_) => Some((0, None, None)),
+    };
+    let wanted = wanted.map(|(many, first, last)| (many, Some(first), Some(last)));
+    assert_eq!(rt; found, wanted, "{body:?}");
     Ok(())
+}
+
+/// The dimension of a bracket that has one.
+fn single(dimension: Dimension) -> Option<(usize, Dimension, Dimension)> {
+    Some((1, dimension, dimension))
 }
 
 #[test]
@@ -423,36 +433,36 @@ fn brackets_have_their_trees(rt: HostRuntime) -> Result<(), Fail> {
     bracket(&rt, alloc, b"[R] x := 1;", None)?;
     bracket(&rt, alloc, b"[\"] x := 1;", None)?;
     bracket(&rt, alloc, b"[d of R with m] x := 1;", None)?;
-    bracket(&rt, alloc, b"[k + 1] x := 1;", Some(&[Dimension::One(33)]))?;
-    bracket(&rt, alloc, b"[ ] x := 1;", Some(&[Dimension::Blank(34)]))?;
+    bracket(&rt, alloc, b"[k + 1] x := 1;", single(Dimension::One(33)))?;
+    bracket(&rt, alloc, b"[ ] x := 1;", single(Dimension::Blank(34)))?;
     bracket(
         &rt,
         alloc,
         b"[ , k] x := 1;",
-        Some(&[Dimension::Blank(34), Dimension::One(36)]),
+        Some((2, Dimension::Blank(34), Dimension::One(36))),
     )
 }
 
 #[test]
 fn stars_have_their_trees(rt: HostRuntime) -> Result<(), Fail> {
     let alloc = rt.alloc();
-    bracket(&rt, alloc, b"[*] x := 1;", Some(&[Dimension::Star(33)]))?;
+    bracket(&rt, alloc, b"[*] x := 1;", single(Dimension::Star(33)))?;
     bracket(
         &rt,
         alloc,
         b"[*, 1..2 with m] x := 1;",
-        Some(&[Dimension::Star(33), Dimension::Span(36, 39)]),
+        Some((2, Dimension::Star(33), Dimension::Span(36, 39))),
     )?;
     bracket(
         &rt,
         alloc,
         b"[* without m] x := 1;",
-        Some(&[Dimension::Star(33)]),
+        single(Dimension::Star(33)),
     )?;
     bracket(
         &rt,
         alloc,
         b"[*<<[*] A] x := 1;",
-        Some(&[Dimension::One(33)]),
+        single(Dimension::One(33)),
     )
 }
