@@ -86,3 +86,11 @@ filled 'program t; region ' 'R=[1..2,1..2]; ' 'procedure t(); begin end;' >"$pla
 row 'regions' "$place/text.zpl"
 filled "$front" '[d of R with M] A:=+<<[R] B@[1,2]; ' 'end;' >"$place/text.zpl"
 row 'prefixes, reductions and shifts' "$place/text.zpl"
+
+echo "-- the same at a quarter, a half and the whole of that size"
+for size in 262144 524288 1048576; do
+    filled "$front" 'x := x + 1; ' 'end;' >"$place/text.zpl"
+    row "assignments, $size bytes" "$place/text.zpl"
+    filled "$front t(1" ',1' '); end;' >"$place/text.zpl"
+    row "one call with many actuals, $size bytes" "$place/text.zpl"
+done
