@@ -6,7 +6,7 @@ use Rattle.zpl_text.specs.declared.faults.LexFault.TheVariants.{BadByte, OpenCom
 use Rattle.zpl_text.specs.declared.tokens.Token.{Token}
 use Rattle.zpl_text.specs.Tokens.{IsTokens, HasFault}
 use Rattle.zpl_tree.specs.Syntax.{Program}
-use Rattle.zpl_grammar.specs.Texts.{IsTree, IsSyntaxFault, IsTooDeep}
+use Rattle.zpl_grammar.specs.Texts.{IsShallowTree, IsSyntaxFault, IsTooDeep}
 use Rattle.zpl_meaning.specs.Text.{line_at}
 use Rattle.zpl_claims.specs.Small.{IsSmallText}
 
@@ -43,4 +43,4 @@ pub data IsRefusal (text : List ℕ) : List ℕ → Type 0 where
   lexical : (found : List Token) (fault : LexFault) → HasFault text found fault → IsRefusal text (fault_text (lexical_name fault) text (lexical_place fault))
   syntax : (tokens : List Token) (at : ℕ) → IsTokens text tokens → IsSyntaxFault text tokens at → IsRefusal text (fault_text (codes "Syntax") text at)
   too_deep : (tokens : List Token) → IsTokens text tokens → IsTooDeep text tokens → IsRefusal text too_deep_text
-  not_built : (tokens : List Token) (program : Program) → IsTokens text tokens → IsTree text tokens program → ((small : Program) → IsSmallText text small → ⊥) → IsRefusal text not_built_text
+  not_built : (tokens : List Token) (program : Program) → IsTokens text tokens → IsShallowTree text tokens program → ((small : Program) → IsSmallText text small → ⊥) → IsRefusal text not_built_text

@@ -24,20 +24,25 @@ pub record BeginsText (text : List ℕ) (tokens : List Token) : Type 0 where
   pub spells : Spells program words
   pub first : AreFirstWords text tokens words
 
--- the tokens are the words of the tree, which is not too deep
+-- the tokens are the words of the tree, however deep it is
 pub record IsTree (text : List ℕ) (tokens : List Token) (program : Program) : Type 0 where
   pub words : List Word
   pub spells : Spells program words
   pub are : AreWords text tokens words
+
+-- a tree of the tokens that is not too deep
+pub record IsShallowTree (text : List ℕ) (tokens : List Token) (program : Program) : Type 0 where
+  pub tree : IsTree text tokens program
   pub shallow : depth program ≤ most_deep
 
--- a token stands here with which, behind those before it, no text of the grammar begins
+-- At the first token with which no text of the grammar begins: some text begins with those before it.
 pub record IsSyntaxFault (text : List ℕ) (tokens : List Token) (at : ℕ) : Type 0 where
   pub front : List Token
   pub token : Token
   pub back : List Token
   pub split : tokens ≡ front ++ token ∷ back
   pub place : token.from ≡ at
+  pub begins : BeginsText text front
   pub none : ¬ BeginsText text (front ++ token ∷ [])
 
 -- some front of the tokens begins a text of the grammar, and no tree that is not too deep

@@ -34,7 +34,7 @@ pub record HasWords (text : List ℕ) (words : List Word) : Type 0 where
   pub are_tokens : IsTokens text tokens
   pub are : AreWords text tokens words
 
--- the tokens of the text are words of the tree, which is not too deep
+-- the tokens of the text are words of the tree
 pub record HasTree (text : List ℕ) (program : Program) : Type 0 where
   pub tokens : List Token
   pub are_tokens : IsTokens text tokens

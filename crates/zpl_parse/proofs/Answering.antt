@@ -8,7 +8,7 @@ use Rattle.zpl_tokens.specs.declared.keywords.Key.TheVariants as key
 use Rattle.zpl_tokens.specs.declared.symbols.Sym.TheVariants as sym
 use Rattle.zpl_tree.specs.Syntax.{Name, Program}
 use Rattle.zpl_tree.specs.declared.declarations.Program.{Program as Placed}
-use Rattle.zpl_grammar.specs.Texts.{most_deep, IsTree, IsSyntaxFault, IsTooDeep}
+use Rattle.zpl_grammar.specs.Texts.{most_deep, IsShallowTree, IsSyntaxFault, IsTooDeep}
 use Rattle.zpl_parse.specs.declared.faults.ParseFault.{ParseFault}
 use Rattle.zpl_parse.specs.declared.faults.ParseFault.TheVariants.{Syntax, TooDeep, NoMemory}
 use Rattle.zpl_parse.specs.Answers.{Reads, WantsMemory}
@@ -32,8 +32,8 @@ pub is_deep : (text : List ℕ) (tokens : List Token) → IsTokens text tokens �
 is_deep text tokens are spans here = deep_is_fault text text tokens are spans (λ most enough. let d = here most enough in (d.rest, d.is))
 
 -- a text that has a tree has no fault but want of memory
-pub tree_wants_memory : (text : List ℕ) (tokens : List Token) (fault : ParseFault) (tree : Program) → IsTokens text tokens → AreSpans text 0 tokens → IsFaultHere text tokens fault → IsTree text tokens tree → WantsMemory fault
-tree_wants_memory text tokens (Syntax at) tree are spans here is = tree_no_fault text tokens tree at is (is_syntax text tokens at are spans here)
+pub tree_wants_memory : (text : List ℕ) (tokens : List Token) (fault : ParseFault) (tree : Program) → IsTokens text tokens → AreSpans text 0 tokens → IsFaultHere text tokens fault → IsShallowTree text tokens tree → WantsMemory fault
+tree_wants_memory text tokens (Syntax at) tree are spans here is = tree_no_fault text tokens tree at is.tree (is_syntax text tokens at are spans here)
 tree_wants_memory text tokens TooDeep tree are spans here is = tree_not_deep text tokens tree is (is_deep text tokens are spans here)
 tree_wants_memory text tokens NoMemory tree are spans here is = tt
 

@@ -17,7 +17,7 @@ use Rattle.zpl_parse.specs.Lexeme.{Lexeme, lexeme_of, lexemes_of}
 use Rattle.zpl_parse.specs.Outcome.{Done, Wrong, Deep}
 use Rattle.zpl_parse.specs.Tokens.{without_last, in_quotes}
 use Rattle.zpl_parse.specs.Declarations.{program}
-use Rattle.zpl_grammar.specs.Texts.{IsTree}
+use Rattle.zpl_grammar.specs.Texts.{IsShallowTree}
 use Rattle.zpl_parse.proofs.SoundBase.{Reads, ReadsBytes, IsNoEnd, Takes, nothing, one, Past, here, further, no_end}
 use Rattle.zpl_parse.proofs.SoundDecls.{IsWhole, SaysProgram, program_whole}
 
@@ -100,14 +100,14 @@ words_are text (t ∷ tokens) at spans e (one {first = first} {w = w} reads inne
     (word_of_token text t at w spans.0 (subst (λ (l : Lexeme). Reads l w) (heads same) reads), words_are text tokens t.to spans.1 e more (tails same) left end)
 
 whole_is : (source text : List ℕ) (tokens : List Token) (tree : Program) (rest : List Lexeme) → IsTokens text tokens → AreSpans text 0 tokens → (words : List Word) (e : Lexeme) →
-    Takes (lexemes_of text tokens) words (e ∷ rest) → e.kind ≡ kind.End → SaysProgram source tree words → IsTree text tokens tree × (tree.source ≡ source) × (rest ≡ [])
+    Takes (lexemes_of text tokens) words (e ∷ rest) → e.kind ≡ kind.End → SaysProgram source tree words → IsShallowTree text tokens tree × (tree.source ≡ source) × (rest ≡ [])
 whole_is source text tokens tree rest are spans words e takes end says =
     let none : rest ≡ [] = last_end text are.found (end_of text) (found_no_end are.cuts) takes (ap (lexemes_of text) are.all) end in
-    (record { words = words ++ word.End ∷ []; spells = says.0; are = words_are text tokens 0 spans e takes refl (ap (λ xs. e ∷ xs) none) end; shallow = says.1 }, says.2, none)
+    (record { tree = record { words = words ++ word.End ∷ []; spells = says.0; are = words_are text tokens 0 spans e takes refl (ap (λ xs. e ∷ xs) none) end }; shallow = says.1 }, says.2, none)
 
 -- What the rule of programs makes of a text's tokens is a tree of the text, and nothing is left.
 pub program_is_sound : (source text : List ℕ) (most : ℕ) (tokens : List Token) (tree : Program) (rest : List Lexeme) →
-    program source most (lexemes_of text tokens) ≡ Done tree rest → IsTokens text tokens → AreSpans text 0 tokens → IsTree text tokens tree × (tree.source ≡ source) × (rest ≡ [])
+    program source most (lexemes_of text tokens) ≡ Done tree rest → IsTokens text tokens → AreSpans text 0 tokens → IsShallowTree text tokens tree × (tree.source ≡ source) × (rest ≡ [])
 program_is_sound source text most tokens tree rest done are spans =
     let whole : IsWhole (SaysProgram source) (lexemes_of text tokens) (Done tree rest) = subst (IsWhole (SaysProgram source) (lexemes_of text tokens)) done (program_whole source most (lexemes_of text tokens)) in
     whole_is source text tokens tree rest are spans whole.tells.0 whole.tells.1 whole.tells.2 whole.tells.3 whole.tells.4

@@ -25,7 +25,7 @@ use Rattle.zpl_parse.specs.Lexeme.{Lexeme, lexeme_of, lexemes_of, lexeme_at, hea
 use Rattle.zpl_parse.specs.Written.{IsLexeme, AreLexemes}
 use Rattle.zpl_parse.specs.Outcome.{Outcome, Done, Wrong, Deep}
 use Rattle.zpl_parse.specs.Declarations.{program}
-use Rattle.zpl_grammar.specs.Texts.{most_deep, AreFirstWords, BeginsText, IsTree, IsSyntaxFault, IsTooDeep}
+use Rattle.zpl_grammar.specs.Texts.{most_deep, AreFirstWords, BeginsText, IsTree, IsShallowTree, IsSyntaxFault, IsTooDeep}
 use Rattle.zpl_parse.proofs.SoundBase.{Reads, Takes, nothing, one}
 use Rattle.zpl_parse.proofs.SoundProgram.{heads, tails, HaveNoEnd, found_no_end, word_of_token, wrong_is_left, token_is_left}
 use Rattle.zpl_parse.proofs.Local.{LocalAt, SameHead, IsWrong, IsNotDone}
@@ -305,10 +305,10 @@ deep_is_fault source text tokens are spans deep =
     }
 
 -- What has a tree that is not too deep is read as one of the same shape.
-pub tree_is_read : (source text : List ℕ) (tokens : List Token) (tree : Program) → IsTree text tokens tree → (most : ℕ) → length tokens ≤ most →
+pub tree_is_read : (source text : List ℕ) (tokens : List Token) (tree : Program) → IsShallowTree text tokens tree → (most : ℕ) → length tokens ≤ most →
     (other : Program) × (program source most (lexemes_of text tokens) ≡ Done other []) × SameShape other tree
 tree_is_read source text tokens tree is most enough =
-    go (program_is_complete source most tree is.words (lexemes_of text tokens) is.spells (all_lexemes text tokens is.words is.are) (let e = length-lexemes_of text tokens in omega arith))
+    go (program_is_complete source most tree is.tree.words (lexemes_of text tokens) is.tree.spells (all_lexemes text tokens is.tree.words is.tree.are) (let e = length-lexemes_of text tokens in omega arith))
   where
     go : ((depth tree ≤ most_deep) × ((other : Program) × (program source most (lexemes_of text tokens) ≡ Done other []) × SameShape other tree)) ⊎
         ((most_deep < depth tree) × ((rest : List Lexeme) × (program source most (lexemes_of text tokens) ≡ Deep rest))) →
@@ -317,7 +317,7 @@ tree_is_read source text tokens tree is most enough =
     go (inr deep) = absurd (omega (arith, deep.0, is.shallow))
 
 -- A text has at most one tree, up to its shape.
-pub one_tree : (text : List ℕ) (tokens : List Token) (tree other : Program) → IsTree text tokens tree → IsTree text tokens other → SameShape tree other
+pub one_tree : (text : List ℕ) (tokens : List Token) (tree other : Program) → IsShallowTree text tokens tree → IsShallowTree text tokens other → SameShape tree other
 one_tree text tokens tree other is too =
     let most : ℕ = suc (length tokens) in
     let one = tree_is_read [] text tokens tree is most (omega arith) in
@@ -336,7 +336,7 @@ tree_no_fault text tokens tree at is fault =
       first = front_of_first text (fault.front ++ fault.token ∷ []) fault.back is.words (subst (λ l. AreFirstWords text l is.words) split (first_of_all text tokens is.words is.are));
     })
 
-pub tree_not_deep : (text : List ℕ) (tokens : List Token) (tree : Program) → IsTree text tokens tree → IsTooDeep text tokens → ⊥
+pub tree_not_deep : (text : List ℕ) (tokens : List Token) (tree : Program) → IsShallowTree text tokens tree → IsTooDeep text tokens → ⊥
 tree_not_deep text tokens tree is fault =
-    let deep = fault.deep tree is.words is.spells (front_of_first text fault.front fault.back is.words (subst (λ l. AreFirstWords text l is.words) fault.split (first_of_all text tokens is.words is.are))) in
+    let deep = fault.deep tree is.tree.words is.tree.spells (front_of_first text fault.front fault.back is.tree.words (subst (λ l. AreFirstWords text l is.tree.words) fault.split (first_of_all text tokens is.tree.words is.tree.are))) in
     omega (arith, deep, is.shallow)

@@ -8,14 +8,15 @@ ghost use Rattle.zpl_tree.specs.Shape.{SameShape};
 ghost use Rattle.zpl_tree.specs.Spelling.{program_words};
 ghost use Rattle.zpl_tree.specs.Syntax.{Program};
 ghost use Rattle.zpl_tree.specs.Word.{printed_text};
-ghost use Rattle.zpl_grammar.specs.Texts.{IsTree, IsSyntaxFault, IsTooDeep};
+ghost use Rattle.zpl_grammar.specs.Texts.{IsTree, IsShallowTree, IsSyntaxFault, IsTooDeep};
 ghost use Rattle.zpl_grammar.specs.Writable.{HasTree};
 
-/// A text has at most one tree, up to offsets and source, and where it has one it has no fault.
+/// A text has at most one tree, up to offsets and source, however deep it is. Where it has one it has no fault of syntax,
+/// and where that isn't too deep it has no fault at all.
 pub fn texts_have_one_tree()
     ensures one { (text : List ℕ) (tokens : List Token) (tree other : Program) → IsTree text tokens tree → IsTree text tokens other → SameShape tree other }
     ensures sound { (text : List ℕ) (tokens : List Token) (tree : Program) (at : ℕ) → IsTree text tokens tree → IsSyntaxFault text tokens at → ⊥ }
-    ensures shallow { (text : List ℕ) (tokens : List Token) (tree : Program) → IsTree text tokens tree → IsTooDeep text tokens → ⊥ }
+    ensures shallow { (text : List ℕ) (tokens : List Token) (tree : Program) → IsShallowTree text tokens tree → IsTooDeep text tokens → ⊥ }
 {}
 
 /// What is printed of a text's tree has that tree and no other, up to offsets and source.

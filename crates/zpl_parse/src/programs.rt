@@ -4,7 +4,7 @@ ghost use Rattle.zpl_text.specs.Tokens.{IsTokens};
 ghost use Rattle.zpl_tree.specs.Shape.{SameShape};
 ghost use Rattle.zpl_tree.specs.Syntax.{Program as Tree};
 ghost use Rattle.zpl_tree.specs.View.{syntax_of};
-ghost use Rattle.zpl_grammar.specs.Texts.{IsTree, IsSyntaxFault, IsTooDeep};
+ghost use Rattle.zpl_grammar.specs.Texts.{IsShallowTree, IsSyntaxFault, IsTooDeep};
 ghost use Rattle.zpl_parse.specs.declared.faults.ParseFault.TheVariants.{Syntax, TooDeep};
 ghost use Rattle.zpl_parse.specs.Answers.{Reads};
 ghost use Rattle.zpl_parse.specs.Following.{Follows};
@@ -37,12 +37,12 @@ pub fn parse<'a>(
     requires { IsTokens bytes.now tokens.now }
 
     // What is given is a tree of the text that isn't too deep, with the offsets of its tokens.
-    ensures tree { IfOk result (λ program. IsTree bytes.now tokens.now (syntax_of program.now)) }
+    ensures tree { IfOk result (λ program. IsShallowTree bytes.now tokens.now (syntax_of program.now)) }
     ensures offsets { IfOk result (λ program. ProgramAt (lexemes_of bytes.now tokens.now) (syntax_of program.now)) }
     ensures source { IfOk result (λ program. (syntax_of program.now).source ≡ bytes.now) }
 
     // Where the text has such a tree, it is given, unless memory runs out.
-    ensures exact { (tree : Tree) → IsTree bytes.now tokens.now tree
+    ensures exact { (tree : Tree) → IsShallowTree bytes.now tokens.now tree
         → Reads result (λ program. SameShape (syntax_of program.now) tree) }
 
     // When each fault comes.

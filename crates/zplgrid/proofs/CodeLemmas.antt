@@ -21,7 +21,7 @@ use Rattle.small_code.specs.declared.fault.CodeFault.TheVariants as code
 use Rattle.zpl_text.specs.declared.faults.LexFault.{LexFault}
 use Rattle.zpl_text.specs.declared.faults.LexFault.TheVariants as lex
 use Rattle.zpl_tree.specs.Grammar.{IsProgram, Spells}
-use Rattle.zpl_grammar.specs.Texts.{IsTree, IsSyntaxFault, IsTooDeep}
+use Rattle.zpl_grammar.specs.Texts.{IsShallowTree, IsSyntaxFault, IsTooDeep}
 use Rattle.zpl_claims.specs.Refusal.IsRefusal.{lexical, syntax, too_deep, not_built}
 use Rattle.zpl_parse.specs.Answers.{WantsMemory, Reads}
 use Rattle.zpl_parse.specs.declared.faults.ParseFault.{ParseFault}
@@ -72,17 +72,19 @@ abbrev pub Printed : Type 0
 Printed = (program : Program) → IsProgram program → Spells program (program_words program)
 
 -- ---- a small program is a tree of its text
-pub is_tree : (text : List ℕ) (tokens : List Token) (program : Program) → OneWay → Printed → IsTokens text tokens → IsSmallText text program → IsTree text tokens program
+pub is_tree : (text : List ℕ) (tokens : List Token) (program : Program) → OneWay → Printed → IsTokens text tokens → IsSmallText text program → IsShallowTree text tokens program
 is_tree text tokens program one_way printed of_text small = record {
-  words = program_words program;
-  spells = printed program (small_is_program program small.small);
-  are = same_words text tokens program one_way of_text small;
+  tree = record {
+    words = program_words program;
+    spells = printed program (small_is_program program small.small);
+    are = same_words text tokens program one_way of_text small;
+  };
   shallow = small_is_shallow program small.small;
 }
 
 -- the words of a tree that is small are those that are printed
-pub small_words : (text : List ℕ) (tokens : List Token) (program : Program) → IsTree text tokens program → IsSmall program → AreWords text tokens (program_words program)
-small_words text tokens program tree small = subst (AreWords text tokens) (spelled_once program tree.words small tree.spells) tree.are
+pub small_words : (text : List ℕ) (tokens : List Token) (program : Program) → IsShallowTree text tokens program → IsSmall program → AreWords text tokens (program_words program)
+small_words text tokens program is small = subst (AreWords text tokens) (spelled_once program is.tree.words small is.tree.spells) is.tree.are
 
 -- ---- refusals
 pub lexical_refused : (text : List ℕ) (old new : List Token) (fault : LexFault)
@@ -102,22 +104,22 @@ lexical_refused text old new lex.NoMemory not_both empty appends = tt
 
 -- a text has no small program where no reading of a tree may come to this fault
 none_read : {A : Type 0} (text : List ℕ) (tokens : List Token) (r : Result A ParseFault) (fault : ParseFault) (same : Program → A → Type 0) → OneWay → Printed → IsTokens text tokens
-    → ((tree : Program) → IsTree text tokens tree → Reads r (same tree)) → r ≡ Err fault → (WantsMemory fault → ⊥) → (program : Program) → IsSmallText text program → ⊥
+    → ((tree : Program) → IsShallowTree text tokens tree → Reads r (same tree)) → r ≡ Err fault → (WantsMemory fault → ⊥) → (program : Program) → IsSmallText text program → ⊥
 none_read text tokens r fault same one_way printed of_text exact is not_memory program small =
     not_memory (subst (λ x. Reads x (same program)) is (exact program (is_tree text tokens program one_way printed of_text small)))
 
 pub syntax_refused : {A : Type 0} (text : List ℕ) (tokens : List Token) (r : Result A ParseFault) (at : ℕ) (same : Program → A → Type 0) → OneWay → Printed → IsTokens text tokens
-    → ((tree : Program) → IsTree text tokens tree → Reads r (same tree)) → r ≡ Err (parse.Syntax at) → IsSyntaxFault text tokens at → IsFaultOf text (Refused (At Syntax (place_of text at)))
+    → ((tree : Program) → IsShallowTree text tokens tree → Reads r (same tree)) → r ≡ Err (parse.Syntax at) → IsSyntaxFault text tokens at → IsFaultOf text (Refused (At Syntax (place_of text at)))
 syntax_refused text tokens r at same one_way printed of_text exact is fault =
     (syntax tokens at of_text fault, none_read text tokens r (parse.Syntax at) same one_way printed of_text exact is (λ no. no))
 
 pub deep_refused : {A : Type 0} (text : List ℕ) (tokens : List Token) (r : Result A ParseFault) (same : Program → A → Type 0) → OneWay → Printed → IsTokens text tokens
-    → ((tree : Program) → IsTree text tokens tree → Reads r (same tree)) → r ≡ Err parse.TooDeep → IsTooDeep text tokens → IsFaultOf text (Refused TooDeep)
+    → ((tree : Program) → IsShallowTree text tokens tree → Reads r (same tree)) → r ≡ Err parse.TooDeep → IsTooDeep text tokens → IsFaultOf text (Refused TooDeep)
 deep_refused text tokens r same one_way printed of_text exact is fault =
     (too_deep tokens of_text fault, none_read text tokens r parse.TooDeep same one_way printed of_text exact is (λ no. no))
 
 -- a text with too many tokens has no small program
-pub many_refused : (text : List ℕ) (tokens : List Token) (program : Program) → OneWay → IsTokens text tokens → IsTree text tokens program → most_tokens < length tokens → IsFaultOf text (Refused NotBuilt)
+pub many_refused : (text : List ℕ) (tokens : List Token) (program : Program) → OneWay → IsTokens text tokens → IsShallowTree text tokens program → most_tokens < length tokens → IsFaultOf text (Refused NotBuilt)
 many_refused text tokens program one_way of_text tree many =
     let none : (small : Program) → IsSmallText text small → ⊥ =
     λ q small. let same : small.tokens ≡ tokens = one_way text small.tokens tokens small.of_text of_text in omega (arith, small.few, many, ap length same) in
@@ -127,7 +129,7 @@ pub refuted : {A : Type 0} (r : Result A CodeFault) (claim : Type 0) → IfErr r
 refuted r claim h is = subst (λ x. IfErr x (λ fault. Refutes fault claim)) is h
 
 -- nor has one with another tree
-pub other_refused : (text : List ℕ) (tokens : List Token) (program : Program) → OneWay → Printed → SmallByShape → IsTokens text tokens → IsTree text tokens program
+pub other_refused : (text : List ℕ) (tokens : List Token) (program : Program) → OneWay → Printed → SmallByShape → IsTokens text tokens → IsShallowTree text tokens program
     → IsOnlyTree text tokens program → (IsSmall program → ⊥) → IsFaultOf text (Refused NotBuilt)
 other_refused text tokens program one_way printed law of_text tree only not_small =
     let none : (small : Program) → IsSmallText text small → ⊥ =

@@ -6,7 +6,7 @@ use Rattle.zpl_text.specs.declared.faults.LexFault.TheVariants as lexical
 use Rattle.zpl_text.specs.declared.tokens.Token.{Token}
 use Rattle.zpl_tree.specs.Shape.{SameShape}
 use Rattle.zpl_tree.specs.Syntax.{Program}
-use Rattle.zpl_grammar.specs.Texts.{IsTree}
+use Rattle.zpl_grammar.specs.Texts.{IsShallowTree}
 use Rattle.zpl_meaning.specs.Text.{line_at}
 use Rattle.zpl_claims.specs.Refusal.{IsRefusal, too_deep_text, not_built_text}
 use Rattle.zpl_claims.specs.Small.{IsSmallText}
@@ -53,4 +53,4 @@ IsFaultOf text NoMemory = Unit {0}
 
 -- Each tree of the tokens that isn't too deep has the shape of this one.
 abbrev pub IsOnlyTree : List ℕ → List Token → Program → Type 0
-IsOnlyTree text tokens program = (tree : Program) → IsTree text tokens tree → SameShape program tree
+IsOnlyTree text tokens program = (tree : Program) → IsShallowTree text tokens tree → SameShape program tree

@@ -2,7 +2,7 @@
 ghost use Rattle.std.specs.Prelude.{◌≡◌, ◌≤◌, length, IfOk, IfErr};
 ghost use Rattle.zpl_text.specs.Tokens.{IsTokens};
 ghost use Rattle.zpl_tree.specs.View.{syntax_of};
-ghost use Rattle.zpl_grammar.specs.Texts.{IsTree};
+ghost use Rattle.zpl_grammar.specs.Texts.{IsShallowTree};
 ghost use Rattle.grid_meaning.specs.Grid.{processors};
 ghost use Rattle.zpl_claims.specs.Answer.{IsCodeOf, most_source};
 ghost use Rattle.zpl_claims.specs.Small.{most_tokens};
@@ -107,7 +107,7 @@ fn code_of_tree(
     program: &Program<'_>,
 ) -> Result<NodeProgram, CompileFault>
     requires tokens { IsTokens text.now tokens.now }
-    requires tree { IsTree text.now tokens.now (syntax_of program.now) }
+    requires tree { IsShallowTree text.now tokens.now (syntax_of program.now) }
     requires only { IsOnlyTree text.now tokens.now (syntax_of program.now) }
     requires source { (syntax_of program.now).source ≡ text.now }
     ensures code { IfOk result (IsCodeOf text.now) }

@@ -19,6 +19,5 @@ returns-clause-tree c = λ text program has.
         words = program_words program;
         spells = c.printed_words_are_a_spelling.ensures.any program tree.words tree.spells;
         are = read.are;
-        shallow = tree.shallow;
       };
     }

@@ -1,7 +1,7 @@
 use Rattle.std.proofs.Common.{◌≡◌, ℕ, suc, ◌<◌, length, Err, refl, sym, ap, subst, arith, rules}
 use Rattle.zpl_tree.specs.Shape.{SameShape}
 use Rattle.zpl_tree.specs.View.{syntax_of}
-use Rattle.zpl_grammar.specs.Texts.{IsTree}
+use Rattle.zpl_grammar.specs.Texts.{IsShallowTree}
 use Rattle.zpl_parse.specs.declared.faults.ParseFault.TheVariants.{Syntax, TooDeep}
 use Rattle.zpl_parse.specs.Lexeme.{lexemes_of}
 use Rattle.zpl_parse.specs.Places.{ProgramAt}
@@ -17,7 +17,7 @@ returns-clause-tree c =
     let text = c.args.bytes.now in
     let tokens = c.args.tokens.now in
     let sound = program_is_sound text text (suc (length tokens)) tokens (syntax_of c.in_ok-program.program) _ (c.in_ok-program.ensures {u = tt} (suc (length tokens)) (omega arith)) c.requires (c.tokens_are_in_order.ensures.tokens text tokens c.requires) in
-    placed_if c.placed_program.result c.in_ok-program.program (λ program. IsTree text tokens (syntax_of program)) c.placed_program.ensures sound.0
+    placed_if c.placed_program.result c.in_ok-program.program (λ program. IsShallowTree text tokens (syntax_of program)) c.placed_program.ensures sound.0
 
 pub returns-clause-offsets : goal.returns-clause-offsets
 returns-clause-offsets c =
