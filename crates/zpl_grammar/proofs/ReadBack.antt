@@ -6,7 +6,7 @@ use Rattle.std.proofs.lemmas.List.{take_at, drop_at}
 use Rattle.zpl_tokens.specs.declared.symbols.Sym.TheVariants.{Semicolon}
 use Rattle.zpl_text.specs.declared.tokens.Token.{Token}
 use Rattle.zpl_text.specs.Bytes.{is_white}
-use Rattle.zpl_text.specs.Gaps.{Skips, IsPastGap}
+use Rattle.zpl_text.specs.Gaps.{Skips}
 use Rattle.zpl_text.specs.Gaps as gaps
 use Rattle.zpl_text.specs.Cutting.{opens_ditto, MayStand, offset_of}
 use Rattle.zpl_text.specs.Tokens.{Place, Takes, Cuts, nothing, token, end_of}
