@@ -102,7 +102,7 @@ lone_begins text {lexemes = lexemes} {rest = rest} takes e closes =
     subst (λ (l : List Lexeme). begins_region (head_kind l) (second_kind l) ≡ true) (sym split)
     (subst (λ (k : Kind). begins_region k (head_kind rest) ≡ true) (sym is) (closes_follows (head_kind rest) closes))
 
-has_dims : (dims : DimTexts) {lexemes rest : List Lexeme} {words : List Word} → HasDim dims → Takes lexemes words rest → words ≡ dims_words dims →
+pub has_dims : (dims : DimTexts) {lexemes rest : List Lexeme} {words : List Word} → HasDim dims → Takes lexemes words rest → words ≡ dims_words dims →
     closes_region (head_kind rest) ≡ true → begins_region (head_kind lexemes) (second_kind lexemes) ≡ false → HasDims dims
 has_dims NoDim has takes e closes other = has
 has_dims (ThenDim first (ThenDim second rest)) has takes e closes other = tt

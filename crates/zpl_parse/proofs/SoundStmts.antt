@@ -66,7 +66,7 @@ unfolding behind_if
 elsif_arms NoArm has = absurd has
 elsif_arms (ThenArm first rest) has = refl
 
-for_regroup : (a b : List Word) → word.Keyword key.For ∷ (a ++ (word.Keyword key.Do ∷ (b ++ end_words))) ≡ keyword key.For ++ a ++ keyword key.Do ++ b ++ end_words
+pub for_regroup : (a b : List Word) → word.Keyword key.For ∷ (a ++ (word.Keyword key.Do ∷ (b ++ end_words))) ≡ keyword key.For ++ a ++ keyword key.Do ++ b ++ end_words
 for_regroup a b = simp append_assoc
 
 begins_no_end : (k : Kind) → begins_stmt k ≡ true → k ≡ kind.End → ⊥

@@ -1,19 +1,22 @@
--- What a reader took before a tree got too deep begins some tree: how it follows for one reader from those that it is made of.
-use Rattle.std.proofs.Common.{◌≡◌, ℕ, Bool, true, false, List, [], ◌∷◌, ◌++◌, Option, Some, None, refl, sym, subst, append_assoc, append-nil, zero, suc}
+-- What a reader took before a tree got too deep, or before a lexeme that can't stand there, begins some tree: how it follows
+-- for one reader from those that it is made of.
+use Rattle.std.proofs.Common.{codes, ◌≡◌, ℕ, Bool, true, false, List, [], ◌∷◌, ◌++◌, Option, Some, None, refl, sym, ap, subst, append_assoc, append-nil, zero, suc}
+use Rattle.std.proofs.lemmas.Bool.{false≢true}
 use Rattle.zpl_tokens.specs.declared.Kind.{Kind}
 use Rattle.zpl_tokens.specs.declared.Kind.TheVariants as kind
 use Rattle.zpl_tokens.specs.declared.keywords.Key.TheVariants as key
 use Rattle.zpl_tokens.specs.declared.symbols.Sym.TheVariants as sym
+use Rattle.zpl_tree.specs.Syntax.{Name}
+use Rattle.zpl_tree.specs.Spelling.{name_words, names_words, end_words}
+use Rattle.zpl_tree.specs.Grammar.{HasAny}
 use Rattle.zpl_tree.specs.Word.{Word, kind_of}
-use Rattle.zpl_parse.specs.Lexeme.{Lexeme, head_kind, behind}
+use Rattle.zpl_tree.specs.Word as word
+use Rattle.zpl_parse.specs.Lexeme.{Lexeme, behind}
 use Rattle.zpl_parse.specs.Outcome.{Outcome, Done, Wrong, Deep, Reader, and_then, made}
 use Rattle.zpl_parse.specs.Same.{same}
-use Rattle.zpl_parse.specs.Classes.{opening_of}
-use Rattle.zpl_parse.specs.declared.classes.Opening.{Opening}
-use Rattle.zpl_parse.specs.declared.classes.Opening.TheVariants as opening
-use Rattle.zpl_parse.specs.Tokens.{next_is, taken, expect, name, name_of_kind, natural, natural_of, names, closing, string_of}
-use Rattle.zpl_parse.proofs.SoundBase.{Takes, takes_then, IsSound, Spelled}
-use Rattle.zpl_parse.proofs.SoundTokens.{IsSign, takes_next, expect_sound}
+use Rattle.zpl_parse.specs.Tokens.{next_is, taken, expect, name, name_of_kind, names, closing, string_of}
+use Rattle.zpl_parse.proofs.SoundBase.{Takes, nothing, takes_then, Spelled}
+use Rattle.zpl_parse.proofs.SoundTokens.{IsSign, takes_one, takes_next, one_more, string_at}
 
 -- words that some tree goes on with
 pub record Goes {A : Type 0} (Says : A → List Word → Type 0) (front : List Word) : Type 0 where
@@ -21,121 +24,123 @@ pub record Goes {A : Type 0} (Says : A → List Word → Type 0) (front : List W
   pub more : List Word
   pub says : Says tree (front ++ more)
 
--- where a tree got too deep, the lexemes that were taken begin some tree
-abbrev pub Begun : {A : Type 0} → (A → List Word → Type 0) → List Lexeme → Outcome A → Type 0
-Begun Says lexemes (Done tree rest) = Unit {0}
-Begun Says lexemes (Wrong rest) = Unit {0}
-Begun Says lexemes (Deep rest) = (front : List Word) × Takes lexemes front rest × Goes Says front
+-- the lexemes before those that are left begin some tree
+abbrev pub Begins : {A : Type 0} → (A → List Word → Type 0) → List Lexeme → List Lexeme → Type 0
+Begins Says lexemes rest = (front : List Word) × Takes lexemes front rest × Goes Says front
+
+-- where a tree is done, the lexemes that were taken are its words; where one can't stand, or a tree got too deep, they begin some tree
+abbrev pub Shows : {A : Type 0} → (A → List Word → Type 0) → List Lexeme → Outcome A → Type 0
+Shows Says lexemes (Done tree rest) = (words : List Word) × Takes lexemes words rest × Says tree words
+Shows Says lexemes (Wrong rest) = Begins Says lexemes rest
+Shows Says lexemes (Deep rest) = Begins Says lexemes rest
 
 pub record IsViable {A : Type 0} (Says : A → List Word → Type 0) (lexemes : List Lexeme) (outcome : Outcome A) : Type 0 where
-  pub begun : Begun Says lexemes outcome
+  pub shows : Shows Says lexemes outcome
 
-pub viable_done : {A : Type 0} {Says : A → List Word → Type 0} {lexemes rest : List Lexeme} {tree : A} → IsViable Says lexemes (Done tree rest)
-viable_done = record { begun = tt }
+pub viable_done : {A : Type 0} {Says : A → List Word → Type 0} {lexemes : List Lexeme} {tree : A} → Says tree [] → IsViable Says lexemes (Done tree lexemes)
+viable_done says = record { shows = ([], nothing, says) }
 
-pub viable_wrong : {A : Type 0} {Says : A → List Word → Type 0} {lexemes rest : List Lexeme} → IsViable Says lexemes (Wrong rest)
-viable_wrong = record { begun = tt }
+pub viable_wrong : {A : Type 0} {Says : A → List Word → Type 0} {lexemes : List Lexeme} → Goes Says [] → IsViable Says lexemes (Wrong lexemes)
+viable_wrong goes = record { shows = ([], nothing, goes) }
 
-pub goes_on : {A : Type 0} (Says : A → List Word → Type 0) (words front : List Word) → Goes (λ tree more. Says tree (words ++ more)) front → Goes Says (words ++ front)
+pub viable_deep : {A : Type 0} {Says : A → List Word → Type 0} {lexemes rest : List Lexeme} {front : List Word} → Takes lexemes front rest → Goes Says front → IsViable Says lexemes (Deep rest)
+viable_deep {front = front} takes goes = record { shows = (front, takes, goes) }
+
+-- all words of a tree
+pub goes_all : {A : Type 0} {spelling : A → List Word} {Is : A → Type 0} (tree : A) → Is tree → Goes (Spelled spelling Is) []
+goes_all {spelling = spelling} tree is = record { tree = tree; more = spelling tree; says = (refl, is) }
+
+-- words to which none is added
+pub exactly : {A : Type 0} {Says : A → List Word → Type 0} {words : List Word} (tree : A) → Says tree words → Goes Says words
+exactly {Says = Says} {words = words} tree says = record { tree = tree; more = []; says = subst (Says tree) (sym (append-nil words)) says }
+
+goes_on : {A : Type 0} (Says : A → List Word → Type 0) (words front : List Word) → Goes (λ tree more. Says tree (words ++ more)) front → Goes Says (words ++ front)
 goes_on Says words front goes = record { tree = goes.tree; more = goes.more; says = subst (Says goes.tree) (sym (append_assoc words front goes.more)) goes.says }
+
+goes_as : {A B : Type 0} (Other : A → List Word → Type 0) (Says : B → List Word → Type 0) (f : A → B) (front : List Word) → Goes Other front →
+    ((tree : A) (words : List Word) → Other tree words → Says (f tree) words) → Goes Says front
+goes_as Other Says f front goes so = record { tree = f goes.tree; more = goes.more; says = so goes.tree (front ++ goes.more) goes.says }
+
+-- there is some tree
+some_by : {A : Type 0} (Says : A → List Word → Type 0) (lexemes : List Lexeme) (outcome : Outcome A) → IsViable Says lexemes outcome → Goes Says []
+some_by Says lexemes (Done tree rest) h = record { tree = tree; more = h.shows.0; says = h.shows.2 }
+some_by Says lexemes (Wrong rest) h = record { tree = h.shows.2.tree; more = h.shows.0 ++ h.shows.2.more; says = h.shows.2.says }
+some_by Says lexemes (Deep rest) h = record { tree = h.shows.2.tree; more = h.shows.0 ++ h.shows.2.more; says = h.shows.2.says }
+
+pub some_tree : {A : Type 0} {Says : A → List Word → Type 0} {lexemes : List Lexeme} {outcome : Outcome A} → IsViable Says lexemes outcome → Goes Says []
+some_tree {Says = Says} {lexemes = lexemes} {outcome = outcome} h = some_by Says lexemes outcome h
 
 -- words that were taken before
 viable_past : {A : Type 0} (Says : A → List Word → Type 0) (lexemes rest : List Lexeme) (words : List Word) (outcome : Outcome A) → Takes lexemes words rest →
     IsViable (λ tree more. Says tree (words ++ more)) rest outcome → IsViable Says lexemes outcome
-viable_past Says lexemes rest words (Done tree left) takes h = record { begun = tt }
-viable_past Says lexemes rest words (Wrong left) takes h = record { begun = tt }
-viable_past Says lexemes rest words (Deep left) takes h =
-    record { begun = (words ++ h.begun.0, takes_then takes h.begun.1, goes_on Says words h.begun.0 h.begun.2) }
+viable_past Says lexemes rest words (Done tree left) takes h = record { shows = (words ++ h.shows.0, takes_then takes h.shows.1, h.shows.2) }
+viable_past Says lexemes rest words (Wrong left) takes h = record { shows = (words ++ h.shows.0, takes_then takes h.shows.1, goes_on Says words h.shows.0 h.shows.2) }
+viable_past Says lexemes rest words (Deep left) takes h = record { shows = (words ++ h.shows.0, takes_then takes h.shows.1, goes_on Says words h.shows.0 h.shows.2) }
 
 pub viable_behind : {A : Type 0} {Says : A → List Word → Type 0} {lexemes rest : List Lexeme} {words : List Word} {outcome : Outcome A} → Takes lexemes words rest →
     IsViable (λ tree more. Says tree (words ++ more)) rest outcome → IsViable Says lexemes outcome
 viable_behind {Says = Says} {lexemes = lexemes} {rest = rest} {words = words} {outcome = outcome} takes h = viable_past Says lexemes rest words outcome takes h
 
 -- the same words for another tree
-made_goes : {A B : Type 0} (Other : A → List Word → Type 0) (Says : B → List Word → Type 0) (f : A → B) (lexemes : List Lexeme) (outcome : Outcome A) → IsViable Other lexemes outcome →
-    ((front : List Word) → Goes Other front → Goes Says front) → IsViable Says lexemes (made f outcome)
-made_goes Other Says f lexemes (Done tree rest) h so = record { begun = tt }
-made_goes Other Says f lexemes (Wrong rest) h so = record { begun = tt }
-made_goes Other Says f lexemes (Deep rest) h so = record { begun = (h.begun.0, h.begun.1, so h.begun.0 h.begun.2) }
+made_by : {A B : Type 0} (Other : A → List Word → Type 0) (Says : B → List Word → Type 0) (f : A → B) (lexemes : List Lexeme) (outcome : Outcome A) → IsViable Other lexemes outcome →
+    ((tree : A) (words : List Word) → Other tree words → Says (f tree) words) → IsViable Says lexemes (made f outcome)
+made_by Other Says f lexemes (Done tree rest) h so = record { shows = (h.shows.0, h.shows.1, so tree h.shows.0 h.shows.2) }
+made_by Other Says f lexemes (Wrong rest) h so = record { shows = (h.shows.0, h.shows.1, goes_as Other Says f h.shows.0 h.shows.2 so) }
+made_by Other Says f lexemes (Deep rest) h so = record { shows = (h.shows.0, h.shows.1, goes_as Other Says f h.shows.0 h.shows.2 so) }
 
--- words to which none is added
-pub exactly : {A : Type 0} {Says : A → List Word → Type 0} {words : List Word} (tree : A) → Says tree words → Goes Says words
-exactly {Says = Says} {words = words} tree says = record { tree = tree; more = []; says = subst (Says tree) (sym (append-nil words)) says }
+pub viable_made : {A B : Type 0} {Other : A → List Word → Type 0} {Says : B → List Word → Type 0} {lexemes : List Lexeme} (f : A → B) {outcome : Outcome A} →
+    IsViable Other lexemes outcome → ((tree : A) (words : List Word) → Other tree words → Says (f tree) words) → IsViable Says lexemes (made f outcome)
+viable_made {Other = Other} {Says = Says} {lexemes = lexemes} f {outcome = outcome} h so = made_by Other Says f lexemes outcome h so
 
+pub viable_finish : {A B : Type 0} {spelling : A → List Word} {Is : A → Type 0} {Says : B → List Word → Type 0} {lexemes : List Lexeme} (f : A → B) {outcome : Outcome A} →
+    IsViable (Spelled spelling Is) lexemes outcome → ((tree : A) → Is tree → Says (f tree) (spelling tree)) → IsViable Says lexemes (made f outcome)
+viable_finish {spelling = spelling} {Is = Is} {Says = Says} {lexemes = lexemes} f {outcome = outcome} h so =
+    made_by (Spelled spelling Is) Says f lexemes outcome h (λ tree words says. subst (Says (f tree)) (sym says.0) (so tree says.1))
+
+-- the same outcome says something else
+weaken_by : {A : Type 0} (Other Says : A → List Word → Type 0) (lexemes : List Lexeme) (outcome : Outcome A) → IsViable Other lexemes outcome →
+    ((tree : A) (words : List Word) → Other tree words → Says tree words) → IsViable Says lexemes outcome
+weaken_by Other Says lexemes (Done tree rest) h so = record { shows = (h.shows.0, h.shows.1, so tree h.shows.0 h.shows.2) }
+weaken_by Other Says lexemes (Wrong rest) h so = record { shows = (h.shows.0, h.shows.1, goes_as Other Says (λ tree. tree) h.shows.0 h.shows.2 so) }
+weaken_by Other Says lexemes (Deep rest) h so = record { shows = (h.shows.0, h.shows.1, goes_as Other Says (λ tree. tree) h.shows.0 h.shows.2 so) }
+
+pub viable_weaken : {A : Type 0} {Other Says : A → List Word → Type 0} {lexemes : List Lexeme} {outcome : Outcome A} → IsViable Other lexemes outcome →
+    ((tree : A) (words : List Word) → Other tree words → Says tree words) → IsViable Says lexemes outcome
+viable_weaken {Other = Other} {Says = Says} {lexemes = lexemes} {outcome = outcome} h so = weaken_by Other Says lexemes outcome h so
+
+-- what begins one tree begins another that goes on with its words
 pub goes_fill : {A B : Type 0} (Other : A → List Word → Type 0) (Says : B → List Word → Type 0) (front : List Word) → Goes Other front →
     ((tree : A) (words : List Word) → Other tree words → Goes Says words) → Goes Says front
 goes_fill Other Says front goes so =
     let on = so goes.tree (front ++ goes.more) goes.says in
     record { tree = on.tree; more = goes.more ++ on.more; says = subst (Says on.tree) (append_assoc front goes.more on.more) on.says }
 
--- what is never too deep
-abbrev pub Nothing : {A : Type 0} → A → List Word → Type 0
-Nothing tree words = ⊥
+goes_here : {A : Type 0} (Says : A → List Word → Type 0) (words : List Word) → Goes (λ tree more. Says tree (words ++ more)) [] → Goes Says words
+goes_here Says words goes = record { tree = goes.tree; more = goes.more; says = goes.says }
 
--- one rule and then another: the words of the first one go on with some behind them
-then_viable : {A B : Type 0} (Sound Other : A → List Word → Type 0) (Says : B → List Word → Type 0) (lexemes : List Lexeme) (outcome : Outcome A) (next : A → Reader B) →
-    IsSound Sound lexemes outcome → IsViable Other lexemes outcome → ((tree : A) (words : List Word) → Other tree words → Goes Says words) →
-    ((tree : A) (rest : List Lexeme) (words : List Word) → Sound tree words → IsViable (λ made more. Says made (words ++ more)) rest (next tree rest)) →
+-- one rule and then another
+then_by : {A B : Type 0} (Other : A → List Word → Type 0) (Says : B → List Word → Type 0) (lexemes : List Lexeme) (outcome : Outcome A) (next : A → Reader B) → IsViable Other lexemes outcome →
+    ((tree : A) (rest : List Lexeme) (words : List Word) → Other tree words → IsViable (λ made more. Says made (words ++ more)) rest (next tree rest)) →
     IsViable Says lexemes (and_then outcome next)
-then_viable Sound Other Says lexemes (Done tree rest) next sound h fill so =
-    viable_past Says lexemes rest sound.tells.0 (next tree rest) sound.tells.1 (so tree rest sound.tells.0 sound.tells.2)
-then_viable Sound Other Says lexemes (Wrong rest) next sound h fill so = record { begun = tt }
-then_viable Sound Other Says lexemes (Deep rest) next sound h fill so =
-    record { begun = (h.begun.0, h.begun.1, goes_fill Other Says h.begun.0 h.begun.2 fill) }
+then_by Other Says lexemes (Done tree rest) next h so = viable_past Says lexemes rest h.shows.0 (next tree rest) h.shows.1 (so tree rest h.shows.0 h.shows.2)
+then_by Other Says lexemes (Wrong rest) next h so =
+    record { shows = (h.shows.0, h.shows.1, goes_fill Other Says h.shows.0 h.shows.2 (λ tree words says. goes_here Says words (some_tree (so tree [] words says)))) }
+then_by Other Says lexemes (Deep rest) next h so =
+    record { shows = (h.shows.0, h.shows.1, goes_fill Other Says h.shows.0 h.shows.2 (λ tree words says. goes_here Says words (some_tree (so tree [] words says)))) }
 
-pub viable_then : {A B : Type 0} {Sound Other : A → List Word → Type 0} {Says : B → List Word → Type 0} {lexemes : List Lexeme} {outcome : Outcome A} {next : A → Reader B} →
-    IsSound Sound lexemes outcome → IsViable Other lexemes outcome → ((tree : A) (words : List Word) → Other tree words → Goes Says words) →
-    ((tree : A) (rest : List Lexeme) (words : List Word) → Sound tree words → IsViable (λ made more. Says made (words ++ more)) rest (next tree rest)) →
+pub viable_then : {A B : Type 0} {Other : A → List Word → Type 0} {Says : B → List Word → Type 0} {lexemes : List Lexeme} {outcome : Outcome A} {next : A → Reader B} → IsViable Other lexemes outcome →
+    ((tree : A) (rest : List Lexeme) (words : List Word) → Other tree words → IsViable (λ made more. Says made (words ++ more)) rest (next tree rest)) →
     IsViable Says lexemes (and_then outcome next)
-viable_then {Sound = Sound} {Other = Other} {Says = Says} {lexemes = lexemes} {outcome = outcome} {next = next} sound h fill so =
-    then_viable Sound Other Says lexemes outcome next sound h fill so
+viable_then {Other = Other} {Says = Says} {lexemes = lexemes} {outcome = outcome} {next = next} h so = then_by Other Says lexemes outcome next h so
 
 -- where the words are those of the tree
-pub viable_step : {A B : Type 0} {spelling : A → List Word} {Is Other : A → Type 0} {Says : B → List Word → Type 0} {lexemes : List Lexeme} {outcome : Outcome A} {next : A → Reader B} →
-    IsSound (Spelled spelling Is) lexemes outcome → IsViable (Spelled spelling Other) lexemes outcome → ((tree : A) → Other tree → Goes Says (spelling tree)) →
+pub viable_step : {A B : Type 0} {spelling : A → List Word} {Is : A → Type 0} {Says : B → List Word → Type 0} {lexemes : List Lexeme} {outcome : Outcome A} {next : A → Reader B} →
+    IsViable (Spelled spelling Is) lexemes outcome →
     ((tree : A) (rest : List Lexeme) → Is tree → IsViable (λ made more. Says made (spelling tree ++ more)) rest (next tree rest)) →
     IsViable Says lexemes (and_then outcome next)
-viable_step {spelling = spelling} {Is = Is} {Other = Other} {Says = Says} {lexemes = lexemes} {outcome = outcome} {next = next} sound h fill so =
-    then_viable (Spelled spelling Is) (Spelled spelling Other) Says lexemes outcome next sound h
-    (λ tree words says. subst (Goes Says) (sym says.0) (fill tree says.1))
+viable_step {spelling = spelling} {Is = Is} {Says = Says} {lexemes = lexemes} {outcome = outcome} {next = next} h so =
+    then_by (Spelled spelling Is) Says lexemes outcome next h
     (λ tree rest words says. subst (λ (w : List Word). IsViable (λ made more. Says made (w ++ more)) rest (next tree rest)) (sym says.0) (so tree rest says.1))
-
--- where the first one is never too deep
-pub viable_over : {A B : Type 0} {spelling : A → List Word} {Is : A → Type 0} {Says : B → List Word → Type 0} {lexemes : List Lexeme} {outcome : Outcome A} {next : A → Reader B} →
-    IsSound (Spelled spelling Is) lexemes outcome → IsViable Nothing lexemes outcome →
-    ((tree : A) (rest : List Lexeme) → Is tree → IsViable (λ made more. Says made (spelling tree ++ more)) rest (next tree rest)) →
-    IsViable Says lexemes (and_then outcome next)
-viable_over {spelling = spelling} {Is = Is} {Says = Says} {lexemes = lexemes} {outcome = outcome} {next = next} sound h so =
-    then_viable (Spelled spelling Is) Nothing Says lexemes outcome next sound h (λ tree words says. absurd says)
-    (λ tree rest words says. subst (λ (w : List Word). IsViable (λ made more. Says made (w ++ more)) rest (next tree rest)) (sym says.0) (so tree rest says.1))
-
-pub viable_made : {A B : Type 0} {Other : A → List Word → Type 0} {Says : B → List Word → Type 0} {lexemes : List Lexeme} (f : A → B) {outcome : Outcome A} →
-    IsViable Other lexemes outcome → ((tree : A) (words : List Word) → Other tree words → Goes Says words) → IsViable Says lexemes (made f outcome)
-viable_made {Other = Other} {Says = Says} {lexemes = lexemes} f {outcome = outcome} h so =
-    made_goes Other Says f lexemes outcome h (λ front goes. goes_fill Other Says front goes so)
-
-pub viable_finish : {A B : Type 0} {spelling : A → List Word} {Is : A → Type 0} {Says : B → List Word → Type 0} {lexemes : List Lexeme} (f : A → B) {outcome : Outcome A} →
-    IsViable (Spelled spelling Is) lexemes outcome → ((tree : A) → Is tree → Goes Says (spelling tree)) → IsViable Says lexemes (made f outcome)
-viable_finish {spelling = spelling} {Is = Is} {Says = Says} {lexemes = lexemes} f {outcome = outcome} h so =
-    viable_made f h (λ tree words says. subst (Goes Says) (sym says.0) (so tree says.1))
-
--- the same outcome says something else
-weaken_by : {A : Type 0} (Other Says : A → List Word → Type 0) (lexemes : List Lexeme) (outcome : Outcome A) → IsViable Other lexemes outcome →
-    ((tree : A) (words : List Word) → Other tree words → Goes Says words) → IsViable Says lexemes outcome
-weaken_by Other Says lexemes (Done tree rest) h so = record { begun = tt }
-weaken_by Other Says lexemes (Wrong rest) h so = record { begun = tt }
-weaken_by Other Says lexemes (Deep rest) h so = record { begun = (h.begun.0, h.begun.1, goes_fill Other Says h.begun.0 h.begun.2 so) }
-
-pub viable_weaken : {A : Type 0} {Other Says : A → List Word → Type 0} {lexemes : List Lexeme} {outcome : Outcome A} → IsViable Other lexemes outcome →
-    ((tree : A) (words : List Word) → Other tree words → Goes Says words) → IsViable Says lexemes outcome
-viable_weaken {Other = Other} {Says = Says} {lexemes = lexemes} {outcome = outcome} h so = weaken_by Other Says lexemes outcome h so
-
--- what is never too deep begins whatever is wanted
-pub viable_none : {A : Type 0} {Says : A → List Word → Type 0} {lexemes : List Lexeme} {outcome : Outcome A} → IsViable Nothing lexemes outcome → IsViable Says lexemes outcome
-viable_none h = viable_weaken h (λ tree words says. absurd says)
-
-pub made_none : {A B : Type 0} {lexemes : List Lexeme} (f : A → B) {outcome : Outcome A} → IsViable Nothing lexemes outcome → IsViable Nothing lexemes (made f outcome)
-made_none f h = viable_made f h (λ tree words says. absurd says)
 
 -- choices
 choose_by : {A : Type 0} (Says : A → List Word → Type 0) (lexemes : List Lexeme) (test : Bool) (x y : Outcome A) →
@@ -147,14 +152,14 @@ pub viable_choose : {A : Type 0} {Says : A → List Word → Type 0} {lexemes : 
     (test ≡ true → IsViable Says lexemes x) → (test ≡ false → IsViable Says lexemes y) → IsViable Says lexemes (elim test [ true ↦ x | false ↦ y ])
 viable_choose {Says = Says} {lexemes = lexemes} test {x = x} {y = y} so other = choose_by Says lexemes test x y so other
 
-some_by : {A B : Type 0} (Says : A → List Word → Type 0) (lexemes : List Lexeme) (option : Option B) (x : Outcome A) (y : B → Outcome A) →
+choose_some_by : {A B : Type 0} (Says : A → List Word → Type 0) (lexemes : List Lexeme) (option : Option B) (x : Outcome A) (y : B → Outcome A) →
     (option ≡ None → IsViable Says lexemes x) → ((b : B) → option ≡ Some b → IsViable Says lexemes (y b)) → IsViable Says lexemes (elim option [ None ↦ x | Some b ↦ y b ])
-some_by Says lexemes None x y so other = so refl
-some_by Says lexemes (Some b) x y so other = other b refl
+choose_some_by Says lexemes None x y so other = so refl
+choose_some_by Says lexemes (Some b) x y so other = other b refl
 
 pub viable_some : {A B : Type 0} {Says : A → List Word → Type 0} {lexemes : List Lexeme} (option : Option B) {x : Outcome A} {y : B → Outcome A} →
     (option ≡ None → IsViable Says lexemes x) → ((b : B) → option ≡ Some b → IsViable Says lexemes (y b)) → IsViable Says lexemes (elim option [ None ↦ x | Some b ↦ y b ])
-viable_some {Says = Says} {lexemes = lexemes} option {x = x} {y = y} so other = some_by Says lexemes option x y so other
+viable_some {Says = Says} {lexemes = lexemes} option {x = x} {y = y} so other = choose_some_by Says lexemes option x y so other
 
 -- a choice by the first lexeme, which is then taken
 pub viable_at_sign : {A : Type 0} {Says : A → List Word → Type 0} (w : Word) → IsSign w → (lexemes : List Lexeme) {x y : Outcome A} →
@@ -164,69 +169,104 @@ viable_at_sign w is lexemes so other = viable_choose (next_is (kind_of w) lexeme
     (λ e. viable_behind (takes_next w is lexemes e) so)
     (λ e. other)
 
--- single lexemes
-taken_none : (test : Bool) (first : Lexeme) (rest lexemes : List Lexeme) → IsViable Nothing lexemes (taken test first rest)
-taken_none true first rest lexemes = record { begun = tt }
-taken_none false first rest lexemes = record { begun = tt }
+-- one that must be there
+expected : (w : Word) → IsSign w → (first : Lexeme) (rest : List Lexeme) (test : Bool) → same first.kind (kind_of w) ≡ test →
+    IsViable (Spelled (λ at. w ∷ []) (λ (at : ℕ). Unit {0})) (first ∷ rest) (taken test first rest)
+expected w is first rest true e = record { shows = (w ∷ [], takes_next w is (first ∷ rest) e, (refl, tt)) }
+expected w is first rest false e = viable_wrong (goes_all 0 tt)
 
-pub expect_none : (k : Kind) (lexemes : List Lexeme) → IsViable Nothing lexemes (expect k lexemes)
-expect_none k [] = record { begun = tt }
-expect_none k (first ∷ rest) = taken_none (same first.kind k) first rest (first ∷ rest)
+pub expect_viable : (w : Word) → IsSign w → (lexemes : List Lexeme) → IsViable (Spelled (λ at. w ∷ []) (λ (at : ℕ). Unit {0})) lexemes (expect (kind_of w) lexemes)
+expect_viable w is [] = viable_wrong (goes_all 0 tt)
+expect_viable w is (first ∷ rest) = expected w is first rest (same first.kind (kind_of w)) refl
 
 -- one that must be there before what follows
 pub viable_sign : {A : Type 0} {Says : A → List Word → Type 0} (w : Word) → IsSign w → {lexemes : List Lexeme} {next : ℕ → Reader A} →
     ((at : ℕ) (rest : List Lexeme) → IsViable (λ tree more. Says tree (w ∷ more)) rest (next at rest)) →
     IsViable Says lexemes (and_then (expect (kind_of w) lexemes) next)
-viable_sign w is {lexemes = lexemes} so = viable_over (expect_sound w is lexemes) (expect_none (kind_of w) lexemes) (λ at rest fact. so at rest)
+viable_sign w is {lexemes = lexemes} so = viable_step (expect_viable w is lexemes) (λ at rest fact. so at rest)
 
 -- one that must be there last
-pub viable_last : {A : Type 0} {Says : A → List Word → Type 0} (k : Kind) (tree : A) {lexemes : List Lexeme} → IsViable Says lexemes (made (λ at. tree) (expect k lexemes))
-viable_last k tree {lexemes = lexemes} = viable_none (made_none (λ at. tree) (expect_none k lexemes))
+pub viable_last : {A : Type 0} {Says : A → List Word → Type 0} (w : Word) → IsSign w → {lexemes : List Lexeme} (tree : A) →
+    Says tree (w ∷ []) → IsViable Says lexemes (made (λ at. tree) (expect (kind_of w) lexemes))
+viable_last w is {lexemes = lexemes} tree so = viable_finish (λ at. tree) (expect_viable w is lexemes) (λ at fact. so)
 
-name_of_none : (k : Kind) (first : Lexeme) (rest lexemes : List Lexeme) → IsViable Nothing lexemes (name_of_kind k first rest)
-name_of_none kind.Name first rest lexemes = record { begun = tt }
-name_of_none _ first rest lexemes = record { begun = tt }
+-- the rules of other single lexemes
+abbrev pub some_name : Name
+some_name = record { text = codes "x"; at = 0 }
 
-pub name_none : (lexemes : List Lexeme) → IsViable Nothing lexemes (name lexemes)
-name_none [] = record { begun = tt }
-name_none (first ∷ rest) = name_of_none first.kind first rest (first ∷ rest)
+named : (k : Kind) (first : Lexeme) (rest : List Lexeme) → first.kind ≡ k → IsViable (Spelled name_words (λ name. Unit {0})) (first ∷ rest) (name_of_kind k first rest)
+named kind.Name first rest e = record { shows = (word.Name first.bytes ∷ [], takes_one (word.Name first.bytes) (record { kind = e; bytes = refl }) tt, (refl, tt)) }
+named _ first rest e = viable_wrong (goes_all some_name tt)
 
-natural_of_none : (o : Option Opening) (lexemes : List Lexeme) → IsViable Nothing lexemes (natural_of o lexemes)
-natural_of_none (Some (opening.Number value)) lexemes = record { begun = tt }
-natural_of_none _ lexemes = record { begun = tt }
+pub name_viable : (lexemes : List Lexeme) → IsViable (Spelled name_words (λ name. Unit {0})) lexemes (name lexemes)
+name_viable [] = viable_wrong (goes_all some_name tt)
+name_viable (first ∷ rest) = named first.kind first rest refl
 
-pub natural_none : (lexemes : List Lexeme) → IsViable Nothing lexemes (natural lexemes)
-natural_none lexemes = natural_of_none (opening_of (head_kind lexemes)) lexemes
+pub names_viable : (most : ℕ) (lexemes : List Lexeme) → IsViable (Spelled names_words HasAny) lexemes (names most lexemes)
+names_viable zero lexemes = viable_wrong (goes_all (some_name ∷ []) tt)
+names_viable (suc most) lexemes = viable_step (name_viable lexemes) (λ first rest fact.
+    viable_at_sign (word.Symbol sym.Comma) tt rest
+    (viable_finish (λ others. first ∷ others) (names_viable most (behind rest)) (λ others has. (ap (λ w. name_words first ++ w) (one_more (word.Symbol sym.Comma ∷ []) name_words others has), tt)))
+    (viable_done (refl, tt)))
 
-pub then_none : {A B : Type 0} {outcome : Outcome A} (next : A → Reader B) {lexemes : List Lexeme} → IsViable Nothing lexemes outcome →
-    ((tree : A) (rest : List Lexeme) → IsViable Nothing rest (next tree rest)) → IsViable Nothing lexemes (and_then outcome next)
-then_none {outcome = outcome} next {lexemes = lexemes} h so = go outcome lexemes h
-  where
-    shift : {B : Type 0} (o : Outcome B) (lexemes rest : List Lexeme) → IsViable Nothing rest o → IsViable Nothing lexemes o
-    shift (Done tree left) lexemes rest h = record { begun = tt }
-    shift (Wrong left) lexemes rest h = record { begun = tt }
-    shift (Deep left) lexemes rest h = absurd h.begun.2.says
+pub closing_viable : (lexemes : List Lexeme) → IsViable (Spelled (λ at. end_words) (λ (at : ℕ). Unit {0})) lexemes (closing lexemes)
+closing_viable lexemes = viable_sign (word.Keyword key.End) tt (λ at rest. viable_weaken (expect_viable (word.Symbol sym.Semicolon) tt rest) (λ at words says. (ap (λ w. word.Keyword key.End ∷ w) says.0, tt)))
 
-    go : (o : Outcome _) (lexemes : List Lexeme) → IsViable Nothing lexemes o → IsViable Nothing lexemes (and_then o next)
-    go (Done tree rest) lexemes h = shift (next tree rest) lexemes rest (so tree rest)
-    go (Wrong rest) lexemes h = record { begun = tt }
-    go (Deep rest) lexemes h = absurd h.begun.2.says
+pub string_viable : (lexemes : List Lexeme) → next_is kind.Str lexemes ≡ true → IsViable (Spelled (λ bytes. word.Str bytes ∷ []) (λ (bytes : List ℕ). Unit {0})) lexemes (string_of lexemes)
+string_viable [] e = absurd (false≢true e)
+string_viable (first ∷ rest) e = record { shows = (string_at (first ∷ rest) e).tells }
 
--- behind a lexeme
-pub none_behind : {A : Type 0} {outcome : Outcome A} (lexemes rest : List Lexeme) → IsViable Nothing rest outcome → IsViable Nothing lexemes outcome
-none_behind {outcome = Done tree left} lexemes rest h = record { begun = tt }
-none_behind {outcome = Wrong left} lexemes rest h = record { begun = tt }
-none_behind {outcome = Deep left} lexemes rest h = absurd h.begun.2.says
+-- where a whole program is wrong or too deep, the lexemes that were taken begin one; where it is done, the end was taken too
+abbrev pub Begun : {A : Type 0} → (A → List Word → Type 0) → List Lexeme → Outcome A → Type 0
+Begun Says lexemes (Done tree rest) = Unit {0}
+Begun Says lexemes (Wrong rest) = Begins Says lexemes rest
+Begun Says lexemes (Deep rest) = Begins Says lexemes rest
 
-pub names_none : (most : ℕ) (lexemes : List Lexeme) → IsViable Nothing lexemes (names most lexemes)
-names_none zero lexemes = record { begun = tt }
-names_none (suc most) lexemes = then_none _ (name_none lexemes) (λ first rest. viable_choose (next_is (kind.Symbol sym.Comma) rest)
-    (λ e. none_behind rest (behind rest) (made_none (λ others. first ∷ others) (names_none most (behind rest))))
-    (λ e. viable_done))
+pub record IsBegun {A : Type 0} (Says : A → List Word → Type 0) (lexemes : List Lexeme) (outcome : Outcome A) : Type 0 where
+  pub some : Goes Says []
+  pub begun : Begun Says lexemes outcome
 
-pub closing_none : (lexemes : List Lexeme) → IsViable Nothing lexemes (closing lexemes)
-closing_none lexemes = then_none _ (expect_none (kind.Word key.End) lexemes) (λ at rest. expect_none (kind.Symbol sym.Semicolon) rest)
+-- words that were taken before a part of the program
+begun_past : {A : Type 0} (Says : A → List Word → Type 0) (lexemes rest : List Lexeme) (words : List Word) (outcome : Outcome A) → Takes lexemes words rest →
+    IsBegun (λ tree more. Says tree (words ++ more)) rest outcome → Begun Says lexemes outcome
+begun_past Says lexemes rest words (Done tree left) takes h = tt
+begun_past Says lexemes rest words (Wrong left) takes h = (words ++ h.begun.0, takes_then takes h.begun.1, goes_on Says words h.begun.0 h.begun.2)
+begun_past Says lexemes rest words (Deep left) takes h = (words ++ h.begun.0, takes_then takes h.begun.1, goes_on Says words h.begun.0 h.begun.2)
 
-pub string_none : (lexemes : List Lexeme) → IsViable Nothing lexemes (string_of lexemes)
-string_none [] = record { begun = tt }
-string_none (first ∷ rest) = record { begun = tt }
+-- one rule and then the others
+begun_by : {A B : Type 0} (Other : A → List Word → Type 0) (Says : B → List Word → Type 0) (lexemes : List Lexeme) (outcome : Outcome A) (next : A → Reader B) → IsViable Other lexemes outcome →
+    ((tree : A) (words : List Word) → Other tree words → Goes Says words) →
+    ((tree : A) (rest : List Lexeme) (words : List Word) → Other tree words → IsBegun (λ made more. Says made (words ++ more)) rest (next tree rest)) →
+    Begun Says lexemes (and_then outcome next)
+begun_by Other Says lexemes (Done tree rest) next h fill so = begun_past Says lexemes rest h.shows.0 (next tree rest) h.shows.1 (so tree rest h.shows.0 h.shows.2)
+begun_by Other Says lexemes (Wrong rest) next h fill so = (h.shows.0, h.shows.1, goes_fill Other Says h.shows.0 h.shows.2 fill)
+begun_by Other Says lexemes (Deep rest) next h fill so = (h.shows.0, h.shows.1, goes_fill Other Says h.shows.0 h.shows.2 fill)
+
+pub begun_then : {A B : Type 0} (Other : A → List Word → Type 0) (Says : B → List Word → Type 0) (lexemes : List Lexeme) (outcome : Outcome A) (next : A → Reader B) → IsViable Other lexemes outcome →
+    ((tree : A) (rest : List Lexeme) (words : List Word) → Other tree words → IsBegun (λ made more. Says made (words ++ more)) rest (next tree rest)) →
+    IsBegun Says lexemes (and_then outcome next)
+begun_then {A = A} Other Says lexemes outcome next h so =
+    let fill : (tree : A) (words : List Word) → Other tree words → Goes Says words = λ tree words says. goes_here Says words (so tree [] words says).some in
+    record { some = goes_fill Other Says [] (some_tree h) fill; begun = begun_by Other Says lexemes outcome next h fill so }
+
+pub begun_sign : {A : Type 0} (Says : A → List Word → Type 0) (w : Word) → IsSign w → (lexemes : List Lexeme) (next : ℕ → Reader A) →
+    ((at : ℕ) (rest : List Lexeme) → IsBegun (λ tree more. Says tree (w ∷ more)) rest (next at rest)) →
+    IsBegun Says lexemes (and_then (expect (kind_of w) lexemes) next)
+begun_sign Says w is lexemes next so = begun_then (Spelled (λ at. w ∷ []) (λ (at : ℕ). Unit {0})) Says lexemes (expect (kind_of w) lexemes) next (expect_viable w is lexemes)
+    (λ at rest words says. subst (λ (v : List Word). IsBegun (λ made more. Says made (v ++ more)) rest (next at rest)) (sym says.0) (so at rest))
+
+-- what begins a part begins a program
+begun_as : {A B : Type 0} (Other : A → List Word → Type 0) (Says : B → List Word → Type 0) (f : A → B) (lexemes : List Lexeme) (outcome : Outcome A) → IsBegun Other lexemes outcome →
+    ((tree : A) (words : List Word) → Other tree words → Goes Says words) → Begun Says lexemes (made f outcome)
+begun_as Other Says f lexemes (Done tree rest) h fill = tt
+begun_as Other Says f lexemes (Wrong rest) h fill = (h.begun.0, h.begun.1, goes_fill Other Says h.begun.0 h.begun.2 fill)
+begun_as Other Says f lexemes (Deep rest) h fill = (h.begun.0, h.begun.1, goes_fill Other Says h.begun.0 h.begun.2 fill)
+
+pub begun_made : {A B : Type 0} (Other : A → List Word → Type 0) (Says : B → List Word → Type 0) (f : A → B) (lexemes : List Lexeme) (outcome : Outcome A) → IsBegun Other lexemes outcome →
+    ((tree : A) (words : List Word) → Other tree words → Goes Says words) → IsBegun Says lexemes (made f outcome)
+begun_made Other Says f lexemes outcome h fill = record { some = goes_fill Other Says [] h.some fill; begun = begun_as Other Says f lexemes outcome h fill }
+
+pub begun_choose : {A : Type 0} (Says : A → List Word → Type 0) (lexemes : List Lexeme) (test : Bool) (x y : Outcome A) →
+    IsBegun Says lexemes x → IsBegun Says lexemes y → IsBegun Says lexemes (elim test [ true ↦ x | false ↦ y ])
+begun_choose Says lexemes true x y so other = so
+begun_choose Says lexemes false x y so other = other

@@ -254,16 +254,32 @@ too_deep_anyhow source text most front back rest deep left tree words spells fir
     go wide lexemes open_ (inl read) = absurd (subst IsNotDone read.1.1 open_)
     go wide lexemes open_ (inr deep) = deep.0
 
+-- lexemes of tokens that are some are those of some tokens
+head_token : (text : List ℕ) (tokens : List Token) (first : Lexeme) (rest : List Lexeme) → lexemes_of text tokens ≡ first ∷ rest → (t : Token) × (more : List Token) × (tokens ≡ t ∷ more)
+head_token text [] first rest same = absurd (cc)
+head_token text (t ∷ tokens) first rest same = (t, tokens, refl)
+
 -- Where the rule is wrong there is a fault.
 pub wrong_is_fault : (source text : List ℕ) (tokens : List Token) (at : ℕ) → IsTokens text tokens → AreSpans text 0 tokens → AnswersWrong source text tokens at → IsSyntaxFault text tokens at
 wrong_is_fault source text tokens at are spans wrong =
     let most : ℕ = suc (length tokens) in
     let here = wrong most (omega arith) in
+    let begun : Begun Spells (lexemes_of text tokens) (Wrong here.0) = subst (Begun Spells (lexemes_of text tokens)) here.1 (program_viable source most (lexemes_of text tokens)).begun in
+    let taken = takes_tokens text 0 tokens spans begun.1 refl in
     let left = wrong_is_left source text most tokens here.0 here.1 in
     let found = token_is_left text tokens here.0 are left in
-    let split : tokens ≡ left.front ++ found.0 ∷ found.1 = left.split ∙ ap (λ l. left.front ++ l) found.2 in
-    let place : found.0.from ≡ at = sym (here.2 ∙ ap head_at (left.left ∙ ap (lexemes_of text) found.2)) in
-    record { front = left.front; token = found.0; back = found.1; split = split; place = place; none = none_begins source text tokens at are spans wrong left.front found.1 found.0 split place }
+    let head = head_token text taken.back (lexeme_of text found.0) (lexemes_of text found.1) (sym taken.left ∙ (left.left ∙ ap (lexemes_of text) found.2)) in
+    let split : tokens ≡ taken.front ++ head.0 ∷ head.1 = taken.split ∙ ap (λ l. taken.front ++ l) head.2 in
+    let place : head.0.from ≡ at = sym (here.2 ∙ ap head_at (taken.left ∙ ap (lexemes_of text) head.2)) in
+    record {
+      front = taken.front;
+      token = head.0;
+      back = head.1;
+      split = split;
+      place = place;
+      begins = record { program = begun.2.tree; words = begun.0 ++ begun.2.more; spells = begun.2.says; first = taken.first begun.2.more };
+      none = none_begins source text tokens at are spans wrong taken.front head.1 head.0 split place;
+    }
 
 -- Where the rule is too deep every tree is.
 pub deep_is_fault : (source text : List ℕ) (tokens : List Token) → IsTokens text tokens → AreSpans text 0 tokens → AnswersDeep source text tokens → IsTooDeep text tokens

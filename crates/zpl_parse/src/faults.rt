@@ -7,7 +7,7 @@ use std::alloc::{AllocError, AllocFailed};
 /// Why there is no tree.
 #[derive(Clone, Copy, Debug, PartialEq, Eq)]
 pub enum ParseFault {
-    /// No text of the grammar begins with the tokens up to and with the one at `at`.
+    /// The token at `at` is the first with which, behind those before it, no text of the grammar begins.
     Syntax {
         /// The offset of that token.
         at: u32,

@@ -1,17 +1,19 @@
 //! Printing expressions, directions and regions.
 ghost use Rattle.std.specs.Prelude.{◌≡◌, ◌++◌, OnOk, map};
 ghost use Rattle.std.specs.List.{flat_map};
-ghost use Rattle.zpl_tree.specs.Spelling.{along_words, base_words, bracket_words, dim_words, dims_words, dir_words, expr_words, exprs_words, in_square, inner_words, posts_words, pre_words};
-ghost use Rattle.zpl_tree.specs.View.{base_of, bracket_of, dim_of, dims_of, dir_of, expr_of, exprs_of, inner_of, posts_of, pre_of};
+ghost use Rattle.zpl_tokens.specs.declared.symbols.Sym.TheVariants as sym;
+ghost use Rattle.zpl_tree.specs.Spelling.{along_words, base_words, bracket_words, dim_words, dims_words, dir_words, expr_words, exprs_words, fold_words, in_round, in_square, inner_words, name_words, pair_words, posts_words, pre_words, symbol};
+ghost use Rattle.zpl_tree.specs.View.{base_of, bracket_of, dim_of, dims_of, dir_of, expr_of, exprs_of, inner_of, name_of, posts_of, pre_of};
 ghost use Rattle.zpl_tree.specs.Word.{printed_text};
 
 use super::words::{
     put_ditto, put_fold, put_index, put_keyword, put_name, put_number, put_operator, put_symbol,
 };
 use crate::expressions::{Expr, ExprForm};
+use crate::names::Name;
 use crate::regions::{DimText, Dir, Inner, Post, Pre, RegionBase};
 use std::alloc::AllocError;
-use zpl_nums::Op;
+use zpl_nums::{Fold, Op};
 use zpl_tokens::{Key, Sym};
 
 #[cycle(print_expression)]
@@ -29,17 +31,8 @@ pub fn print_expr(text: &mut Vec<u8>, expr: &Expr<'_>) -> Result<(), AllocError>
             put_symbol(text, Sym::At)?;
             print_dir(text, shift)
         }
-        ExprForm::Call(name, actuals) => {
-            put_name(text, name)?;
-            put_symbol(text, Sym::OpenParen)?;
-            print_exprs(text, actuals)?;
-            put_symbol(text, Sym::CloseParen)
-        }
-        ExprForm::Paren(inside) => {
-            put_symbol(text, Sym::OpenParen)?;
-            print_expr(text, inside)?;
-            put_symbol(text, Sym::CloseParen)
-        }
+        ExprForm::Call(name, actuals) => print_call(text, name, actuals),
+        ExprForm::Paren(inside) => print_in_round(text, inside),
         ExprForm::Neg(operand) => {
             put_symbol(text, Sym::Minus)?;
             print_expr(text, operand)
@@ -50,43 +43,101 @@ pub fn print_expr(text: &mut Vec<u8>, expr: &Expr<'_>) -> Result<(), AllocError>
         }
         ExprForm::Abs(operand) => {
             put_keyword(text, Key::Abs)?;
-            put_symbol(text, Sym::OpenParen)?;
-            print_expr(text, operand)?;
-            put_symbol(text, Sym::CloseParen)
+            print_in_round(text, operand)
         }
-        ExprForm::Pair(op, left, right) => match op {
-            Op::Max | Op::Min => {
-                put_operator(text, *op)?;
-                put_symbol(text, Sym::OpenParen)?;
-                print_expr(text, left)?;
-                put_symbol(text, Sym::Comma)?;
-                print_expr(text, right)?;
-                put_symbol(text, Sym::CloseParen)
-            }
-            _ => {
-                print_expr(text, left)?;
-                put_operator(text, *op)?;
-                print_expr(text, right)
-            }
-        },
-        ExprForm::Reduce(fold, over, operand) => {
-            put_fold(text, *fold)?;
-            put_symbol(text, Sym::Reduce)?;
-            print_bracket(text, over)?;
-            print_expr(text, operand)
-        }
-        ExprForm::Scan(fold, along, operand) => {
-            put_fold(text, *fold)?;
-            put_symbol(text, Sym::Scan)?;
-            print_along(text, *along)?;
-            print_expr(text, operand)
-        }
+        ExprForm::Pair(op, left, right) => print_pair(text, *op, left, right),
+        ExprForm::Reduce(fold, over, operand) => print_reduce(text, *fold, over, operand),
+        ExprForm::Scan(fold, along, operand) => print_scan(text, *fold, *along, operand),
         ExprForm::Flood(source, operand) => {
             put_symbol(text, Sym::Flood)?;
             print_in_square(text, source)?;
             print_expr(text, operand)
         }
     }
+}
+
+/// Appends a call: the name, and the actuals in round brackets.
+#[cycle(print_expression)]
+pub fn print_call(
+    text: &mut Vec<u8>,
+    name: &Name<'_>,
+    actuals: &[Expr<'_>],
+) -> Result<(), AllocError>
+    ensures { OnOk result (text.new.items ≡ text.old.items ++ printed_text (name_words (name_of name.now) ++ in_round (exprs_words (exprs_of actuals.now)))) }
+{
+    put_name(text, name)?;
+    put_symbol(text, Sym::OpenParen)?;
+    print_exprs(text, actuals)?;
+    put_symbol(text, Sym::CloseParen)
+}
+
+// An expression in round brackets.
+#[cycle(print_expression)]
+fn print_in_round(text: &mut Vec<u8>, inside: &Expr<'_>) -> Result<(), AllocError>
+    ensures { OnOk result (text.new.items ≡ text.old.items ++ printed_text (in_round (expr_words (expr_of inside.now)))) }
+{
+    put_symbol(text, Sym::OpenParen)?;
+    print_expr(text, inside)?;
+    put_symbol(text, Sym::CloseParen)
+}
+
+// An operator between its operands, or before both in round brackets.
+#[cycle(print_expression)]
+fn print_pair(
+    text: &mut Vec<u8>,
+    op: Op,
+    left: &Expr<'_>,
+    right: &Expr<'_>,
+) -> Result<(), AllocError>
+    ensures { OnOk result (text.new.items ≡ text.old.items ++ printed_text (pair_words op (expr_words (expr_of left.now)) (expr_words (expr_of right.now)))) }
+{
+    match op {
+        Op::Max | Op::Min => {
+            put_operator(text, op)?;
+            put_symbol(text, Sym::OpenParen)?;
+            print_expr(text, left)?;
+            put_symbol(text, Sym::Comma)?;
+            print_expr(text, right)?;
+            put_symbol(text, Sym::CloseParen)
+        }
+        _ => {
+            print_expr(text, left)?;
+            put_operator(text, op)?;
+            print_expr(text, right)
+        }
+    }
+}
+
+// A reduction, with the region that it runs over if it is written.
+#[cycle(print_expression)]
+fn print_reduce(
+    text: &mut Vec<u8>,
+    fold: Fold,
+    over: &Option<Inner<'_>>,
+    operand: &Expr<'_>,
+) -> Result<(), AllocError>
+    ensures { OnOk result (text.new.items ≡ text.old.items ++ printed_text (fold_words fold ++ symbol sym.Reduce ++ bracket_words (bracket_of over.now) ++ expr_words (expr_of operand.now))) }
+{
+    put_fold(text, fold)?;
+    put_symbol(text, Sym::Reduce)?;
+    print_bracket(text, over)?;
+    print_expr(text, operand)
+}
+
+// A scan, with the dimension that it runs along if it is written.
+#[cycle(print_expression)]
+fn print_scan(
+    text: &mut Vec<u8>,
+    fold: Fold,
+    along: Option<i64>,
+    operand: &Expr<'_>,
+) -> Result<(), AllocError>
+    ensures { OnOk result (text.new.items ≡ text.old.items ++ printed_text (fold_words fold ++ symbol sym.Scan ++ along_words along ++ expr_words (expr_of operand.now))) }
+{
+    put_fold(text, fold)?;
+    put_symbol(text, Sym::Scan)?;
+    print_along(text, along)?;
+    print_expr(text, operand)
 }
 
 /// Appends expressions with commas between them.

@@ -2,11 +2,14 @@
 ghost use Rattle.std.specs.Prelude.{◌≡◌, ◌++◌, OnOk, map};
 ghost use Rattle.std.specs.List.{flat_map};
 ghost use Rattle.std.specs.Option.{option_map};
-ghost use Rattle.zpl_tree.specs.Spelling.{arm_words, arms_words, assign_words, border_words, end_words, form_words, head_words, item_words, items_words, mask_words, names_words, prefix_words, step_words, stmt_words, stmts_words};
-ghost use Rattle.zpl_tree.specs.View.{arm_of, arms_of, expr_of, head_of, item_of, mask_of, name_of, prefix_of, statement_of, stmt_of, stmts_of};
+ghost use Rattle.zpl_tokens.specs.declared.keywords.Key.TheVariants as key;
+ghost use Rattle.zpl_tokens.specs.declared.symbols.Sym.TheVariants as sym;
+ghost use Rattle.zpl_tree.specs.Spelling.{arm_words, arms_words, assign_words, border_words, end_words, expr_words, form_words, head_words, item_words, items_words, keyword, mask_words, names_words, prefix_words, step_words, stmt_words, stmts_words, symbol};
+ghost use Rattle.zpl_tree.specs.Syntax as plain;
+ghost use Rattle.zpl_tree.specs.View.{arm_of, arms_of, expr_of, exprs_of, head_of, item_of, mask_of, name_of, prefix_of, statement_of, stmt_of, stmts_of};
 ghost use Rattle.zpl_tree.specs.Word.{printed_text};
 
-use super::expressions::{print_expr, print_exprs, print_inner};
+use super::expressions::{print_call, print_expr, print_inner};
 use super::words::{put_keyword, put_name, put_string, put_symbol};
 use crate::expressions::Expr;
 use crate::names::Name;
@@ -38,19 +41,8 @@ fn print_form(text: &mut Vec<u8>, form: &Form<'_>) -> Result<(), AllocError>
     ensures { OnOk result (text.new.items ≡ text.old.items ++ printed_text (form_words (statement_of form.now))) }
 {
     match form {
-        Form::Assign(name, op, value) => {
-            put_name(text, name)?;
-            put_assign(text, *op)?;
-            print_expr(text, value)?;
-            put_symbol(text, Sym::Semicolon)
-        }
-        Form::Call(name, actuals) => {
-            put_name(text, name)?;
-            put_symbol(text, Sym::OpenParen)?;
-            print_exprs(text, actuals)?;
-            put_symbol(text, Sym::CloseParen)?;
-            put_symbol(text, Sym::Semicolon)
-        }
+        Form::Assign(name, op, value) => print_assign(text, name, *op, value),
+        Form::Call(name, actuals) => print_invocation(text, name, actuals),
         Form::Block(body) => {
             put_keyword(text, Key::Begin)?;
             print_stmts(text, body)?;
@@ -60,52 +52,48 @@ fn print_form(text: &mut Vec<u8>, form: &Form<'_>) -> Result<(), AllocError>
             print_arms(text, arms)?;
             match otherwise {
                 None => put_end(text),
-                Some(body) => {
-                    put_keyword(text, Key::Else)?;
-                    print_stmts(text, body)?;
-                    put_end(text)
-                }
+                Some(body) => print_else(text, body),
             }
         }
         Form::While(test, body) => {
             put_keyword(text, Key::While)?;
             print_expr(text, test)?;
-            put_keyword(text, Key::Do)?;
-            print_stmts(text, body)?;
-            put_end(text)
+            print_do(text, body)
         }
         Form::Repeat(body, _, test) => {
             put_keyword(text, Key::Repeat)?;
             print_stmts(text, body)?;
-            put_keyword(text, Key::Until)?;
-            print_expr(text, test)?;
-            put_symbol(text, Sym::Semicolon)
+            print_until(text, test)
         }
         Form::For(head, body) => {
             put_keyword(text, Key::For)?;
             print_head(text, head)?;
-            put_keyword(text, Key::Do)?;
-            print_stmts(text, body)?;
-            put_end(text)
+            print_do(text, body)
         }
-        Form::Border(kind, names) => {
-            put_border(text, *kind)?;
-            print_names(text, names)?;
-            put_symbol(text, Sym::Semicolon)
-        }
-        Form::Write(line, items) => {
-            put_keyword(text, if *line { Key::Writeln } else { Key::Write })?;
-            put_symbol(text, Sym::OpenParen)?;
-            print_items(text, items)?;
-            put_symbol(text, Sym::CloseParen)?;
-            put_symbol(text, Sym::Semicolon)
-        }
-        Form::Return(value) => {
-            put_keyword(text, Key::Return)?;
-            print_expr(text, value)?;
-            put_symbol(text, Sym::Semicolon)
-        }
+        Form::Border(kind, names) => print_border(text, *kind, names),
+        Form::Write(line, items) => print_write(text, *line, items),
+        Form::Return(value) => print_return(text, value),
     }
+}
+
+// The body of a `while` or a `for`.
+#[cycle(print_statement)]
+fn print_do(text: &mut Vec<u8>, body: &[Stmt<'_>]) -> Result<(), AllocError>
+    ensures { OnOk result (text.new.items ≡ text.old.items ++ printed_text (keyword key.Do ++ stmts_words (stmts_of body.now) ++ end_words)) }
+{
+    put_keyword(text, Key::Do)?;
+    print_stmts(text, body)?;
+    put_end(text)
+}
+
+// The last statements of an `if`, behind `else`.
+#[cycle(print_statement)]
+fn print_else(text: &mut Vec<u8>, body: &[Stmt<'_>]) -> Result<(), AllocError>
+    ensures { OnOk result (text.new.items ≡ text.old.items ++ printed_text (keyword key.Else ++ stmts_words (stmts_of body.now) ++ end_words)) }
+{
+    put_keyword(text, Key::Else)?;
+    print_stmts(text, body)?;
+    put_end(text)
 }
 
 // The arms of an `if`, the first behind `if` and the others behind `elsif`.
@@ -132,6 +120,66 @@ fn print_arm(text: &mut Vec<u8>, arm: &Arm<'_>) -> Result<(), AllocError>
     print_expr(text, arm.test)?;
     put_keyword(text, Key::Then)?;
     print_stmts(text, arm.body)
+}
+
+fn print_assign(
+    text: &mut Vec<u8>,
+    name: &Name<'_>,
+    op: Option<Op>,
+    value: &Expr<'_>,
+) -> Result<(), AllocError>
+    ensures { OnOk result (text.new.items ≡ text.old.items ++ printed_text (form_words (plain.Assign (name_of name.now) op (expr_of value.now)))) }
+{
+    put_name(text, name)?;
+    put_assign(text, op)?;
+    print_expr(text, value)?;
+    put_symbol(text, Sym::Semicolon)
+}
+
+fn print_invocation(
+    text: &mut Vec<u8>,
+    name: &Name<'_>,
+    actuals: &[Expr<'_>],
+) -> Result<(), AllocError>
+    ensures { OnOk result (text.new.items ≡ text.old.items ++ printed_text (form_words (plain.Invoke (name_of name.now) (exprs_of actuals.now)))) }
+{
+    print_call(text, name, actuals)?;
+    put_symbol(text, Sym::Semicolon)
+}
+
+fn print_border(text: &mut Vec<u8>, kind: Border, names: &[Name<'_>]) -> Result<(), AllocError>
+    ensures { OnOk result (text.new.items ≡ text.old.items ++ printed_text (form_words (plain.Border kind (map name_of names.now)))) }
+{
+    put_border(text, kind)?;
+    print_names(text, names)?;
+    put_symbol(text, Sym::Semicolon)
+}
+
+fn print_write(text: &mut Vec<u8>, line: bool, items: &[Item<'_>]) -> Result<(), AllocError>
+    ensures { OnOk result (text.new.items ≡ text.old.items ++ printed_text (form_words (plain.Write line (map item_of items.now)))) }
+{
+    put_keyword(text, if line { Key::Writeln } else { Key::Write })?;
+    put_symbol(text, Sym::OpenParen)?;
+    print_items(text, items)?;
+    put_symbol(text, Sym::CloseParen)?;
+    put_symbol(text, Sym::Semicolon)
+}
+
+fn print_return(text: &mut Vec<u8>, value: &Expr<'_>) -> Result<(), AllocError>
+    ensures { OnOk result (text.new.items ≡ text.old.items ++ printed_text (form_words (plain.Return (expr_of value.now)))) }
+{
+    put_keyword(text, Key::Return)?;
+    print_expr(text, value)?;
+    put_symbol(text, Sym::Semicolon)
+}
+
+// The condition of a `repeat`, behind its statements.
+fn print_until(text: &mut Vec<u8>, test: &Expr<'_>) -> Result<(), AllocError>
+    ensures { OnOk result (text.new.items ≡ text.old.items ++ printed_text (keyword key.Until ++ expr_words (expr_of test.now) ++ symbol sym.Semicolon)) }
+{
+    put_keyword(text, Key::Until)?;
+    print_expr(text, test)?;
+    put_symbol(text, Sym::Semicolon)
 }
 
 fn print_prefixes(text: &mut Vec<u8>, prefixes: &[Prefix<'_>]) -> Result<(), AllocError>

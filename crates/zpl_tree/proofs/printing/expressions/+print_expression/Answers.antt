@@ -13,15 +13,15 @@ print_dir-returns-in_ok-print_exprs-in-Vector t c =
     let is : dir_of c.args.dir.now ≡ plain.Vector (exprs_of c.in-Vector.parts.now) = ap dir_of c.in-Vector.is ∙ dir_of-Vector c.in-Vector.parts in
     grind (arith, common_steps)
 
-pub print_expr-returns-in_ok-print_exprs-in-Call : goal.print_expr-returns-in_ok-print_exprs-in-Call
-print_expr-returns-in_ok-print_exprs-in-Call t c =
+pub print_expr-returns-in-Call : goal.print_expr-returns-in-Call
+print_expr-returns-in-Call t c =
     let is : expr_of c.args.expr.now ≡ plain.Call c.args.expr.now.at (name_of c.in-Call.name) (exprs_of c.in-Call.actuals.now) =
     ap (form_of c.args.expr.now.at) c.in-Call.is ∙ form_of-Call c.args.expr.now.at c.in-Call.name c.in-Call.actuals in
     grind (arith, common_steps)
 
-pub print_expr-returns-in_ok-print_expr-in-Max-2 : goal.print_expr-returns-in_ok-print_expr-in-Max-2
-print_expr-returns-in_ok-print_expr-in-Max-2 t c =
-    let call = pair_words-call c.in-Pair.op (expr_words (expr_of c.in-Pair.left.now)) (expr_words (expr_of c.in-Pair.right.now)) c.in-Max.is in
+pub print_pair-returns-in_ok-print_expr-in-Max-2 : goal.print_pair-returns-in_ok-print_expr-in-Max-2
+print_pair-returns-in_ok-print_expr-in-Max-2 t c =
+    let call = pair_words-call c.args.op (expr_words (expr_of c.args.left.now)) (expr_words (expr_of c.args.right.now)) c.in-Max.is in
     grind (arith, common_steps)
 
 pub print_inner-returns-in_ok-print_base-in-Rexpr : goal.print_inner-returns-in_ok-print_base-in-Rexpr
