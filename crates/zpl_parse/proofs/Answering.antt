@@ -19,7 +19,8 @@ use Rattle.zpl_parse.specs.Tokens.{keyword, name, symbol}
 use Rattle.zpl_parse.specs.Expressions.{levels}
 use Rattle.zpl_parse.specs.Whole.{any_expr, most_nested}
 use Rattle.zpl_parse.specs.Declarations.{program, decls}
-use Rattle.zpl_parse.proofs.Whole.{wrong_is_fault, deep_is_fault, tree_no_fault, tree_not_deep}
+use Rattle.zpl_parse.proofs.OneTree.{tree_no_fault, tree_not_deep}
+use Rattle.zpl_parse.proofs.Whole.{wrong_is_fault, deep_is_fault}
 
 -- the fault is the rule's outcome with any fuel that is enough
 abbrev pub IsFaultHere : List ℕ → List Token → ParseFault → Type 0

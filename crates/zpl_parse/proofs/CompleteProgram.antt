@@ -1,4 +1,4 @@
--- The rule of programs is complete: words of a tree are read as a tree of its shape, or are too deep.
+-- The rule of programs is complete, however deep trees may be: words of a tree are read as a tree of its shape, or are too deep.
 use Rattle.std.proofs.Common.{◌≡◌, ℕ, suc, ◌<◌, ◌≤◌, List, [], ◌∷◌, ◌++◌, length, ◌⊎◌, inl, inr, refl, sym, subst, arith}
 use Rattle.zpl_tokens.specs.declared.Kind.{Kind}
 use Rattle.zpl_tokens.specs.declared.keywords.Key.TheVariants as key
@@ -12,9 +12,11 @@ use Rattle.zpl_tree.specs.Shape.{SameShape}
 use Rattle.zpl_tree.specs.Grammar.{IsProgram, SpellsEach, SpellsDecl, Spells}
 use Rattle.zpl_parse.specs.Lexeme.{Lexeme}
 use Rattle.zpl_parse.specs.Written.{AreLexemes}
-use Rattle.zpl_parse.specs.Outcome.{Outcome, Done, Deep}
+use Rattle.zpl_parse.specs.Outcome.{Outcome, Done, Deep, Reader}
 use Rattle.zpl_grammar.specs.Texts.{most_deep}
+use Rattle.zpl_parse.specs.Expressions.{levels}
 use Rattle.zpl_parse.specs.Declarations.{program}
+use Rattle.zpl_parse.proofs.SoundDecls.{program_over}
 use Rattle.zpl_parse.proofs.CompleteBase.{bytes_of, Begins, none, more, Split, split, shorter, narrower, reword, Reads, read, deep, made_reads}
 use Rattle.zpl_parse.proofs.CompleteDeclarations.{decls_at}
 
@@ -45,26 +47,38 @@ begins_all most (first ∷ lexemes) (w ∷ words) are bound =
 abbrev pub SameProgram : Program → Program → Type 0
 SameProgram t value = SameShape value t
 
--- "program" NAME ";" { decl } END
-program_reads : (source : List ℕ) (most : ℕ) (t : Program) → (words : List Word) → IsProgram t → SpellsEach SpellsDecl t.decls words → (xs : List Lexeme) →
-    Begins (suc most) (word.Keyword key.Program ∷ word.Name t.name.text ∷ word.Symbol sym.Semicolon ∷ (words ++ word.End ∷ [])) xs [] → Reads (SameProgram t) [] (depth t) most_deep (program source most xs)
-program_reads source most t words is spells xs (more w bytes at bound (more v other place limit (more {lexemes = others} u another there after b))) =
-    let parts : Split (suc most) words (word.End ∷ []) others [] = split words (word.End ∷ []) b in
-    let fewer = shorter parts.first in
-    made_reads (λ those. record { name = record { text = t.name.text; at = place }; decls = those; source = source }) (λ those same. cc)
-    (decls_at most most_deep 199 refl t.decls is words spells most others parts.middle [] (narrower (omega arith) parts.first) (narrower (omega arith) parts.then) (omega arith) (omega arith))
-
 -- either the tree is read, or it is too deep
-abbrev pub IsReadOrDeep : Program → Outcome Program → Type 0
-IsReadOrDeep t outcome =
-    ((depth t ≤ most_deep) × ((value : Program) × (outcome ≡ Done value []) × SameShape value t)) ⊎ ((most_deep < depth t) × ((rest : List Lexeme) × (outcome ≡ Deep rest)))
+abbrev pub IsReadOrDeep : ℕ → Program → Outcome Program → Type 0
+IsReadOrDeep limit t outcome =
+    ((depth t ≤ limit) × ((value : Program) × (outcome ≡ Done value []) × SameShape value t)) ⊎ ((limit < depth t) × ((rest : List Lexeme) × (outcome ≡ Deep rest)))
 
-read_or_deep : (t : Program) {outcome : Outcome Program} → Reads (SameProgram t) [] (depth t) most_deep outcome → IsReadOrDeep t outcome
-read_or_deep t (read value fits same) = inl (fits, (value, refl, same))
-read_or_deep t (deep rest sinks) = inr (sinks, (rest, refl))
+read_or_deep : (limit : ℕ) (t : Program) {outcome : Outcome Program} → Reads (SameProgram t) [] (depth t) limit outcome → IsReadOrDeep limit t outcome
+read_or_deep limit t (read value fits same) = inl (fits, (value, refl, same))
+read_or_deep limit t (deep rest sinks) = inr (sinks, (rest, refl))
 
--- Lexemes that are written as a tree of the grammar are read as a tree of its shape where it isn't too deep, and else are too deep.
+-- the rule of programs in which expressions are within the limit, and statements nest so deep
+abbrev pub program_within : ℕ → ℕ → List ℕ → ℕ → Reader Program
+program_within limit deeper source most = program_over source most (levels most limit).expr deeper
+
+module _ (limit deeper : ℕ) (e : suc deeper ≡ limit) where
+  -- "program" NAME ";" { decl } END
+  program_reads : (source : List ℕ) (most : ℕ) (t : Program) → (words : List Word) → IsProgram t → SpellsEach SpellsDecl t.decls words → (xs : List Lexeme) →
+      Begins (suc most) (word.Keyword key.Program ∷ word.Name t.name.text ∷ word.Symbol sym.Semicolon ∷ (words ++ word.End ∷ [])) xs [] → Reads (SameProgram t) [] (depth t) limit (program_within limit deeper source most xs)
+  unfolding program_over
+  program_reads source most t words is spells xs (more w bytes at bound (more v other place short (more {lexemes = others} u another there after b))) =
+      let parts : Split (suc most) words (word.End ∷ []) others [] = split words (word.End ∷ []) b in
+      let fewer = shorter parts.first in
+      made_reads (λ those. record { name = record { text = t.name.text; at = place }; decls = those; source = source }) (λ those same. cc)
+      (decls_at most limit deeper e t.decls is words spells most others parts.middle [] (narrower (omega arith) parts.first) (narrower (omega arith) parts.then) (omega arith) (omega arith))
+
+  -- Lexemes that are written as a tree of the grammar are read as a tree of its shape where it isn't too deep, and else are too deep.
+  pub within_is_complete : (source : List ℕ) (most : ℕ) (t : Program) (words : List Word) (lexemes : List Lexeme) → Spells t words → AreLexemes lexemes words → length lexemes ≤ most →
+      IsReadOrDeep limit t (program_within limit deeper source most lexemes)
+  within_is_complete source most t words lexemes spells are enough =
+      read_or_deep limit t (program_reads source most t spells.0 spells.1 spells.2 lexemes (reword lexemes [] spells.3 (begins_all (suc most) lexemes words are (omega arith))))
+
+-- So it is of the limit of the language.
 pub program_is_complete : (source : List ℕ) (most : ℕ) (t : Program) (words : List Word) (lexemes : List Lexeme) → Spells t words → AreLexemes lexemes words → length lexemes ≤ most →
-    ((depth t ≤ most_deep) × ((value : Program) × (program source most lexemes ≡ Done value []) × SameShape value t)) ⊎ ((most_deep < depth t) × ((rest : List Lexeme) × (program source most lexemes ≡ Deep rest)))
-program_is_complete source most t words lexemes spells are enough =
-    read_or_deep t (program_reads source most t spells.0 spells.1 spells.2 lexemes (reword lexemes [] spells.3 (begins_all (suc most) lexemes words are (omega arith))))
+    IsReadOrDeep most_deep t (program source most lexemes)
+unfolding program_over
+program_is_complete source most t words lexemes spells are enough = within_is_complete most_deep 199 refl source most t words lexemes spells are enough

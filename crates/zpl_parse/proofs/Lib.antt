@@ -35,6 +35,7 @@ pub mod CompleteHere
 pub mod CompleteStatements
 pub mod CompleteDeclarations
 pub mod CompleteProgram
+pub mod OneTree
 pub mod Whole
 pub mod StatementBase
 pub mod Answering

@@ -16,16 +16,15 @@ use Rattle.zpl_text.specs.Spans.{AreSpans, IsSpan}
 use Rattle.zpl_text.specs.Tokens.{end_of, IsTokens}
 use Rattle.zpl_tree.specs.Syntax.{Program}
 use Rattle.zpl_tree.specs.Depth.{depth}
-use Rattle.zpl_tree.specs.Shape.{shape_of, SameShape}
+use Rattle.zpl_tree.specs.Shape.{SameShape}
 use Rattle.zpl_tree.specs.Grammar.{Spells}
 use Rattle.zpl_tree.specs.Word.{Word, kind_of, word_text}
 use Rattle.zpl_tree.specs.Word as word
-use Rattle.zpl_grammar.specs.Written.{AreWords}
 use Rattle.zpl_parse.specs.Lexeme.{Lexeme, lexeme_of, lexemes_of, lexeme_at, head_at}
 use Rattle.zpl_parse.specs.Written.{IsLexeme, AreLexemes}
 use Rattle.zpl_parse.specs.Outcome.{Outcome, Done, Wrong, Deep}
 use Rattle.zpl_parse.specs.Declarations.{program}
-use Rattle.zpl_grammar.specs.Texts.{most_deep, AreFirstWords, BeginsText, IsTree, IsShallowTree, IsSyntaxFault, IsTooDeep}
+use Rattle.zpl_grammar.specs.Texts.{most_deep, AreFirstWords, BeginsText, IsSyntaxFault, IsTooDeep}
 use Rattle.zpl_parse.proofs.SoundBase.{Reads, Takes, nothing, one}
 use Rattle.zpl_parse.proofs.SoundProgram.{heads, tails, HaveNoEnd, found_no_end, word_of_token, wrong_is_left, token_is_left}
 use Rattle.zpl_parse.proofs.Local.{LocalAt, SameHead, IsWrong, IsNotDone}
@@ -34,6 +33,7 @@ use Rattle.zpl_parse.proofs.LocalDeclarations.{program_local}
 use Rattle.zpl_parse.proofs.CompleteProgram.{program_is_complete}
 use Rattle.zpl_parse.proofs.ViableBase.{Begun}
 use Rattle.zpl_parse.proofs.ViableDecls.{program_viable}
+use Rattle.zpl_parse.proofs.OneTree.{length-lexemes_of}
 
 -- offsets that rise from one token to the next
 abbrev Rise : ℕ → List Token → Type 0
@@ -134,30 +134,9 @@ continue text (t ∷ tokens) (w ∷ words) first =
     let rest = continue text tokens words first.1 in
     record { more = rest.more; are = (record { kind = first.0.kind; bytes = first.0.bytes }, rest.are) }
 
-all_lexemes : (text : List ℕ) (tokens : List Token) (words : List Word) → AreWords text tokens words → AreLexemes (lexemes_of text tokens) words
-all_lexemes text [] [] are = tt
-all_lexemes text [] (w ∷ words) are = absurd are
-all_lexemes text (t ∷ tokens) [] are = absurd are
-all_lexemes text (t ∷ tokens) (w ∷ words) are = (record { kind = are.0.kind; bytes = are.0.bytes }, all_lexemes text tokens words are.1)
-
-first_of_all : (text : List ℕ) (tokens : List Token) (words : List Word) → AreWords text tokens words → AreFirstWords text tokens words
-first_of_all text [] [] are = tt
-first_of_all text [] (w ∷ words) are = absurd are
-first_of_all text (t ∷ tokens) [] are = absurd are
-first_of_all text (t ∷ tokens) (w ∷ words) are = (are.0, first_of_all text tokens words are.1)
-
-front_of_first : (text : List ℕ) (front back : List Token) (words : List Word) → AreFirstWords text (front ++ back) words → AreFirstWords text front words
-front_of_first text [] back words first = tt
-front_of_first text (t ∷ front) back [] first = absurd first
-front_of_first text (t ∷ front) back (w ∷ words) first = (first.0, front_of_first text front back words first.1)
-
 lexemes_of-append : (text : List ℕ) (front back : List Token) → lexemes_of text (front ++ back) ≡ lexemes_of text front ++ lexemes_of text back
 lexemes_of-append text [] back = refl
 lexemes_of-append text (t ∷ front) back = ap (λ l. lexeme_of text t ∷ l) (lexemes_of-append text front back)
-
-length-lexemes_of : (text : List ℕ) (tokens : List Token) → length (lexemes_of text tokens) ≡ length tokens
-length-lexemes_of text [] = refl
-length-lexemes_of text (t ∷ tokens) = ap suc (length-lexemes_of text tokens)
 
 not_wrong : {A : Type 0} (tree : A) (rest : List Lexeme) (outcome : Outcome A) → outcome ≡ Done tree rest → IsWrong outcome → ⊥
 not_wrong tree rest outcome is wrong = subst IsWrong is wrong
@@ -233,9 +212,6 @@ takes_tokens text at (t ∷ tokens) spans (one {first = first} {w = w} reads inn
       left = rest.left;
       first = λ words. (word_of_token text t at w spans.0 (subst (λ (l : Lexeme). Reads l w) (heads same) reads), rest.first words);
     }
-
-same_done : (one two : Program) → Done one [] ≡ Done two [] → one ≡ two
-same_done first second e = cc
 
 -- no text of the grammar begins with the tokens up to one at which the rule is wrong
 none_begins : (source text : List ℕ) (tokens : List Token) (at : ℕ) → IsTokens text tokens → AreSpans text 0 tokens → AnswersWrong source text tokens at →
@@ -319,40 +295,3 @@ deep_is_fault source text tokens are spans deep =
       begins = record { program = begun.2.tree; words = begun.0 ++ begun.2.more; spells = begun.2.says; first = taken.first begun.2.more };
       deep = λ tree words spells first. too_deep_anyhow source text most taken.front taken.back here.0 (ap (λ l. program source most (lexemes_of text l)) (sym taken.split) ∙ here.1) taken.left tree words spells first;
     }
-
--- What has a tree that is not too deep is read as one of the same shape.
-pub tree_is_read : (source text : List ℕ) (tokens : List Token) (tree : Program) → IsShallowTree text tokens tree → (most : ℕ) → length tokens ≤ most →
-    (other : Program) × (program source most (lexemes_of text tokens) ≡ Done other []) × SameShape other tree
-tree_is_read source text tokens tree is most enough =
-    go (program_is_complete source most tree is.tree.words (lexemes_of text tokens) is.tree.spells (all_lexemes text tokens is.tree.words is.tree.are) (let e = length-lexemes_of text tokens in omega arith))
-  where
-    go : ((depth tree ≤ most_deep) × ((other : Program) × (program source most (lexemes_of text tokens) ≡ Done other []) × SameShape other tree)) ⊎
-        ((most_deep < depth tree) × ((rest : List Lexeme) × (program source most (lexemes_of text tokens) ≡ Deep rest))) →
-        (other : Program) × (program source most (lexemes_of text tokens) ≡ Done other []) × SameShape other tree
-    go (inl read) = read.1
-    go (inr deep) = absurd (omega (arith, deep.0, is.shallow))
-
--- A text has at most one tree, up to its shape.
-pub one_tree : (text : List ℕ) (tokens : List Token) (tree other : Program) → IsShallowTree text tokens tree → IsShallowTree text tokens other → SameShape tree other
-one_tree text tokens tree other is too =
-    let most : ℕ = suc (length tokens) in
-    let one = tree_is_read [] text tokens tree is most (omega arith) in
-    let two = tree_is_read [] text tokens other too most (omega arith) in
-    let same : one.0 ≡ two.0 = same_done one.0 two.0 (sym one.1 ∙ two.1) in
-    sym one.2 ∙ (ap shape_of same ∙ two.2)
-
--- A text that has a tree has no fault.
-pub tree_no_fault : (text : List ℕ) (tokens : List Token) (tree : Program) (at : ℕ) → IsTree text tokens tree → IsSyntaxFault text tokens at → ⊥
-tree_no_fault text tokens tree at is fault =
-    let split : tokens ≡ (fault.front ++ fault.token ∷ []) ++ fault.back = fault.split ∙ sym (append_assoc fault.front (fault.token ∷ []) fault.back) in
-    fault.none (record {
-      program = tree;
-      words = is.words;
-      spells = is.spells;
-      first = front_of_first text (fault.front ++ fault.token ∷ []) fault.back is.words (subst (λ l. AreFirstWords text l is.words) split (first_of_all text tokens is.words is.are));
-    })
-
-pub tree_not_deep : (text : List ℕ) (tokens : List Token) (tree : Program) → IsShallowTree text tokens tree → IsTooDeep text tokens → ⊥
-tree_not_deep text tokens tree is fault =
-    let deep = fault.deep tree is.tree.words is.tree.spells (front_of_first text fault.front fault.back is.tree.words (subst (λ l. AreFirstWords text l is.tree.words) fault.split (first_of_all text tokens is.tree.words is.tree.are))) in
-    omega (arith, deep, is.shallow)

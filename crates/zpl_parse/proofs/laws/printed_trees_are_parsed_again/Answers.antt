@@ -3,7 +3,7 @@ use Rattle.std.proofs.Common.{subst}
 use Rattle.zpl_tree.specs.Spelling.{program_words}
 use Rattle.zpl_tree.specs.Word.{printed_text}
 use Rattle.zpl_grammar.specs.Texts.{IsTree}
-use Rattle.zpl_parse.proofs.Whole.{one_tree}
+use Rattle.zpl_parse.proofs.OneTree.{one_tree}
 use Rattle.zpl_parse.proofs.laws.printed_trees_are_parsed_again.Goals as goal
 
 pub returns-clause-tree : goal.returns-clause-tree

@@ -1,4 +1,4 @@
-use Rattle.zpl_parse.proofs.Whole.{one_tree, tree_no_fault, tree_not_deep}
+use Rattle.zpl_parse.proofs.OneTree.{one_tree, tree_no_fault, tree_not_deep}
 use Rattle.zpl_parse.proofs.laws.texts_have_one_tree.Goals as goal
 
 pub returns-clause-one : goal.returns-clause-one

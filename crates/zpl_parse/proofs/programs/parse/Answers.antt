@@ -7,7 +7,7 @@ use Rattle.zpl_parse.specs.Lexeme.{lexemes_of}
 use Rattle.zpl_parse.specs.Places.{ProgramAt}
 use Rattle.zpl_parse.proofs.SoundProgram.{program_is_sound}
 use Rattle.zpl_parse.proofs.AtDecls.{program_is_placed}
-use Rattle.zpl_parse.proofs.Whole.{one_tree}
+use Rattle.zpl_parse.proofs.OneTree.{one_tree}
 use Rattle.zpl_parse.proofs.Answering.{is_syntax, is_deep, tree_wants_memory, passed_reads, passed_fault, placed_if, placed_reads, placed_fault}
 use Rattle.zpl_parse.proofs.programs.parse.Goals as goal
 
@@ -39,7 +39,7 @@ returns-clause-exact c = λ tree is.
     let tokens = c.args.tokens.now in
     let sound = program_is_sound text text (suc (length tokens)) tokens (syntax_of c.in_ok-program.program) _ (c.in_ok-program.ensures {u = tt} (suc (length tokens)) (omega arith)) c.requires (c.tokens_are_in_order.ensures.tokens text tokens c.requires) in
     placed_reads c.placed_program.result c.in_ok-program.program (λ program. SameShape (syntax_of program) tree) c.placed_program.ensures
-    (one_tree text tokens (syntax_of c.in_ok-program.program) tree sound.0 is)
+    (one_tree text tokens (syntax_of c.in_ok-program.program) tree sound.0.tree is.tree)
 
 pub returns-clause-syntax : goal.returns-clause-syntax
 returns-clause-syntax c = λ at same. absurd (placed_fault c.placed_program.result c.in_ok-program.program (Syntax at) c.placed_program.ensures same)
