@@ -5,6 +5,7 @@ pub mod Lists
 pub mod Chains
 pub mod RegionBase
 mod Examples
+mod EveryForm
 pub mod SoundBase
 pub mod SoundTokens
 pub mod SoundClasses

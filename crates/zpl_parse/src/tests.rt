@@ -1,6 +1,9 @@
 ghost use Rattle.std.specs.Prelude.{IfOk};
 ghost use Rattle.zpl_text.specs.Tokens.{IsTokens};
 
+mod every_form;
+mod shown;
+
 use super::*;
 use bumpalo::Bump;
 use std::alloc::Global;
