@@ -1,14 +1,15 @@
 //! Rules of expressions.
-ghost use Rattle.std.specs.Prelude.{◌≡◌, ◌<◌, ◌≤◌, ◌-◌, ℕ, length, IfOk, MatchResult};
+ghost use Rattle.std.specs.Prelude.{◌≡◌, ◌<◌, ◌≤◌, ◌-◌, ℕ, length, Some, IfOk, MatchResult};
 ghost use Rattle.zpl_tree.specs.Depth.{expr_depth, exprs_depth};
 ghost use Rattle.zpl_tree.specs.Syntax.{Pair as PairTree};
 ghost use Rattle.zpl_tree.specs.View.{expr_of, exprs_of, form_of, name_of};
+ghost use Rattle.zpl_parse.specs.declared.classes.Opening.TheVariants as opening;
 ghost use Rattle.zpl_parse.specs.declared.faults.ParseFault.TheVariants.{NoMemory};
 ghost use Rattle.zpl_parse.specs.Classes.{folding_of};
 ghost use Rattle.zpl_parse.specs.Following.{Follows};
-ghost use Rattle.zpl_parse.specs.Lexeme.{lexemes_of, head_kind};
+ghost use Rattle.zpl_parse.specs.Lexeme.{lexemes_of, lexeme_of, head_kind};
 ghost use Rattle.zpl_parse.specs.Outcome.{Done};
-ghost use Rattle.zpl_parse.specs.Expressions.{levels, behind_name as behind_name_rule, folded as folded_rule, both as both_rule, inside as inside_rule, actuals as actuals_rule, components as components_rule, exprs as exprs_rule};
+ghost use Rattle.zpl_parse.specs.Expressions.{levels, unary_by, behind_name as behind_name_rule, folded as folded_rule, both as both_rule, inside as inside_rule, actuals as actuals_rule, components as components_rule, exprs as exprs_rule};
 
 use crate::classes::{
     Folding, Opening, and_operator, comparison, folded_by, opened_by, or_operator, sum_operator,
@@ -189,46 +190,102 @@ fn unary<'a, 't>(
     if deep == 0 {
         return Err(too_deep(opening.is_some(), tokens));
     }
+    match opening {
+        Some(opening) => opened(alloc, arena, bytes, opening, first, rest, deep),
+        None => Err(refused(tokens)),
+    }
+}
+
+/// unary, behind its first token.
+#[cycle(expression)]
+fn opened<'a, 't>(
+    alloc: Global,
+    arena: &'a Bump<Global>,
+    bytes: &'a [u8],
+    opening: Opening,
+    first: &Token,
+    tokens: &'t [Token],
+    deep: u32,
+) -> ReadDeep<'t, Expr<'a>>
+    requires { 0 < deep }
+    ensures follows { (most : ℕ) → length tokens.now < most
+        → Follows result (λ r. Done (expr_of r.0) (lexemes_of bytes.now r.2.now)) (unary_by most (levels most (deep - 1)) (Some opening) (lexeme_of bytes.now first.now) (lexemes_of bytes.now tokens.now)) }
+    ensures shorter { IfOk result (λ r. length r.2.now ≤ length tokens.now) }
+    ensures depth { IfOk result (λ r. r.1 ≡ expr_depth (expr_of r.0)) }
+    ensures within { IfOk result (λ r. r.1 ≤ deep) }
+{
     let at = first.from;
     match opening {
-        Some(Opening::Number(value)) => Ok((leaf(at, ExprForm::Number(value)), 1, rest)),
-        Some(Opening::Truth(value)) => Ok((leaf(at, ExprForm::Truth(value)), 1, rest)),
-        Some(Opening::Coord(dimension)) => Ok((leaf(at, ExprForm::Coord(dimension)), 1, rest)),
-        Some(Opening::Name) => { behind_name(alloc, arena, bytes, named(bytes, first), rest, deep) }
-        Some(Opening::Paren) => {
-            let (inside, depth, rest) = inside(alloc, arena, bytes, rest, deep - 1)?;
+        Opening::Number(value) => Ok((leaf(at, ExprForm::Number(value)), 1, tokens)),
+        Opening::Truth(value) => Ok((leaf(at, ExprForm::Truth(value)), 1, tokens)),
+        Opening::Coord(dimension) => Ok((leaf(at, ExprForm::Coord(dimension)), 1, tokens)),
+        Opening::Name => behind_name(alloc, arena, bytes, named(bytes, first), tokens, deep),
+        Opening::Paren => {
+            let (inside, depth, rest) = inside(alloc, arena, bytes, tokens, deep - 1)?;
             let inside = placed(arena, inside)?;
             Ok((leaf(at, ExprForm::Paren(inside)), 1 + depth, rest))
         }
-        Some(Opening::Minus) => {
-            let (operand, depth, rest) = unary(alloc, arena, bytes, rest, deep - 1)?;
+        Opening::Minus => {
+            let (operand, depth, rest) = unary(alloc, arena, bytes, tokens, deep - 1)?;
             let operand = placed(arena, operand)?;
             Ok((leaf(at, ExprForm::Neg(operand)), 1 + depth, rest))
         }
-        Some(Opening::Not) => {
-            let (operand, depth, rest) = unary(alloc, arena, bytes, rest, deep - 1)?;
+        Opening::Not => {
+            let (operand, depth, rest) = unary(alloc, arena, bytes, tokens, deep - 1)?;
             let operand = placed(arena, operand)?;
             Ok((leaf(at, ExprForm::Not(operand)), 1 + depth, rest))
         }
-        Some(Opening::Abs) => {
-            let (_, rest) = symbol(rest, Sym::OpenParen)?;
-            let (inside, depth, rest) = inside(alloc, arena, bytes, rest, deep - 1)?;
-            let inside = placed(arena, inside)?;
-            Ok((leaf(at, ExprForm::Abs(inside)), 1 + depth, rest))
-        }
-        Some(Opening::Fold(operator)) => { folded(alloc, arena, bytes, at, operator, rest, deep) }
-        Some(Opening::Flood) => {
-            let (source, source_depth, rest) = in_bracket(alloc, arena, bytes, rest, deep - 1)?;
-            let (operand, depth, rest) = unary(alloc, arena, bytes, rest, deep - 1)?;
-            let operand = placed(arena, operand)?;
-            Ok((
-                leaf(at, ExprForm::Flood(source, operand)),
-                1 + depth.max(source_depth),
-                rest,
-            ))
-        }
-        None => Err(refused(tokens)),
+        Opening::Abs => absolute(alloc, arena, bytes, first, tokens, deep),
+        Opening::Fold(operator) => folded(alloc, arena, bytes, at, operator, tokens, deep),
+        Opening::Flood => flood(alloc, arena, bytes, first, tokens, deep),
     }
+}
+
+/// "(" expr ")", behind an "abs".
+#[cycle(expression)]
+fn absolute<'a, 't>(
+    alloc: Global,
+    arena: &'a Bump<Global>,
+    bytes: &'a [u8],
+    first: &Token,
+    tokens: &'t [Token],
+    deep: u32,
+) -> ReadDeep<'t, Expr<'a>>
+    requires { 0 < deep }
+    ensures follows { (most : ℕ) → length tokens.now < most
+        → Follows result (λ r. Done (expr_of r.0) (lexemes_of bytes.now r.2.now)) (unary_by most (levels most (deep - 1)) (Some opening.Abs) (lexeme_of bytes.now first.now) (lexemes_of bytes.now tokens.now)) }
+    ensures shorter { IfOk result (λ r. length r.2.now < length tokens.now) }
+    ensures depth { IfOk result (λ r. r.1 ≡ expr_depth (expr_of r.0)) }
+    ensures within { IfOk result (λ r. r.1 ≤ deep) }
+{
+    let (_, rest) = symbol(tokens, Sym::OpenParen)?;
+    let (inside, depth, rest) = inside(alloc, arena, bytes, rest, deep - 1)?;
+    let inside = placed(arena, inside)?;
+    Ok((leaf(first.from, ExprForm::Abs(inside)), 1 + depth, rest))
+}
+
+/// bracket unary, behind a ">>".
+#[cycle(expression)]
+fn flood<'a, 't>(
+    alloc: Global,
+    arena: &'a Bump<Global>,
+    bytes: &'a [u8],
+    first: &Token,
+    tokens: &'t [Token],
+    deep: u32,
+) -> ReadDeep<'t, Expr<'a>>
+    requires { 0 < deep }
+    ensures follows { (most : ℕ) → length tokens.now < most
+        → Follows result (λ r. Done (expr_of r.0) (lexemes_of bytes.now r.2.now)) (unary_by most (levels most (deep - 1)) (Some opening.Flood) (lexeme_of bytes.now first.now) (lexemes_of bytes.now tokens.now)) }
+    ensures shorter { IfOk result (λ r. length r.2.now < length tokens.now) }
+    ensures depth { IfOk result (λ r. r.1 ≡ expr_depth (expr_of r.0)) }
+    ensures within { IfOk result (λ r. r.1 ≤ deep) }
+{
+    let (source, source_depth, rest) = in_bracket(alloc, arena, bytes, tokens, deep - 1)?;
+    let (operand, depth, rest) = unary(alloc, arena, bytes, rest, deep - 1)?;
+    let operand = placed(arena, operand)?;
+    let form = ExprForm::Flood(source, operand);
+    Ok((leaf(first.from, form), 1 + depth.max(source_depth), rest))
 }
 
 /// What stands behind a name: [ "@" dir ] or "(" [ expr { "," expr } ] ")".

@@ -1,23 +1,21 @@
-use Rattle.std.proofs.Common.{◌≡◌, ℕ, suc, ◌+◌, ◌<◌, ◌≤◌, ◌-◌, [], ◌∷◌, ◌++◌, List, Some, None, map, max, length, true, false, is_ok, refl, sym, ap, subst, ◌∙◌, arith, rules}
+use Rattle.std.proofs.Common.{◌≡◌, ℕ, suc, ◌+◌, ◌<◌, ◌-◌, ◌∷◌, Some, None, map, max, length, true, false, is_ok, refl, sym, ap, subst, ◌∙◌, arith, rules}
 use Rattle.std.proofs.ResultArms.{chosen}
 use Rattle.zpl_tokens.specs.declared.Kind.TheVariants as kind
 use Rattle.zpl_tokens.specs.declared.symbols.Sym.TheVariants as sym
-use Rattle.zpl_tree.specs.Depth.{expr_depth, exprs_depth, dir_depth, posts_depth, dims_depth, inner_depth}
+use Rattle.zpl_tree.specs.Depth.{expr_depth, exprs_depth, dir_depth, inner_depth}
 use Rattle.zpl_tree.specs.Syntax as plain
 use Rattle.zpl_tree.specs.Syntax.{Pair}
-use Rattle.zpl_tree.specs.View.{expr_of, exprs_of, dir_of, posts_of, dims_of, inner_of, name_of, pre_of, base_of, form_of, dim_of}
-use Rattle.zpl_tree.proofs.Views.{form_of-Call, dir_of-Vector, inner_of-Dims, rexpr_of-parts}
-use Rattle.zpl_grammar.specs.Written.{token_text}
-use Rattle.zpl_parse.specs.declared.classes.Opening.TheVariants as opening
-use Rattle.zpl_parse.specs.Classes.{or_op, and_op, comp_op, sum_op, term_op, stride_of, opening_of, folding_of, closes_region}
-use Rattle.zpl_parse.specs.Following.{IsFaultOf, IsDeep, Follows}
-use Rattle.zpl_parse.specs.Lexeme.{lexemes_of, lexeme_of, head_kind, second_kind}
-use Rattle.zpl_parse.specs.Outcome.{Done, and_then, made}
-use Rattle.zpl_parse.specs.Tokens.{next_is, symbol}
-use Rattle.zpl_parse.specs.Expressions.{levels, exprs, posts, dim_texts, at_of, folded, inside, in_bracket, behind_name, begins_region}
-use Rattle.zpl_parse.proofs.Follows.{passed, fault_then, fault_made, follows_same}
+use Rattle.zpl_tree.specs.View.{expr_of, exprs_of, dir_of, dims_of, name_of, pre_of, base_of, dim_of}
+use Rattle.zpl_tree.proofs.Views.{form_of-Call, dir_of-Vector, inner_of-Dims}
+use Rattle.zpl_parse.specs.Classes.{or_op, and_op, comp_op, sum_op, term_op, stride_of, opening_of, closes_region}
+use Rattle.zpl_parse.specs.Following.{IsFaultOf, IsDeep}
+use Rattle.zpl_parse.specs.Lexeme.{lexemes_of, head_kind, second_kind}
+use Rattle.zpl_parse.specs.Outcome.{Done, made}
+use Rattle.zpl_parse.specs.Tokens.{next_is}
+use Rattle.zpl_parse.specs.Expressions.{levels, exprs, at_of, begins_region}
+use Rattle.zpl_parse.proofs.Follows.{passed, fault_then, follows_same}
 use Rattle.zpl_parse.proofs.Loops.{gathered_none, gathered_more, gathered_last, gathered_done, gathered_fault}
-use Rattle.zpl_parse.proofs.Lists.{put_expr, put_post, put_dim, exprs-prepended, posts-prepended, dims-prepended, exprs_depth-append, posts_depth-append, dims_depth-append}
+use Rattle.zpl_parse.proofs.Lists.{exprs-prepended, posts-prepended, dims-prepended, exprs_depth-append, posts_depth-append, dims_depth-append}
 use Rattle.zpl_parse.proofs.Chains.{IsChained, at_of-form, expr_depth-some, chain_more, chain_end, chain_deep, chain_fault, term_chain, term_fault, sum_chain, sum_fault, conj_chain, conj_fault, expr_chain, expr_fault, comp_once, comp_fault, once_end, once_deep, once_more, once_fault, unary_opens}
 use Rattle.zpl_parse.proofs.RegionBase.{fault_is, dir_vector, posts_go, posts_end, posts_more, strides_some, inner_ends, rexpr_based, rexpr_of-made, dims_go, dims_end}
 use Rattle.zpl_parse.proofs.+expression.Goals as goal
@@ -399,204 +397,17 @@ expressions::behind_name-returns-in_ok-those-clause-depth t c =
     called 0 _ _ _ _ _ made c.in_ok-those.ensures.depth
 
 -- ---- unary
-abbrev name_at : List ℕ → ℕ → plain.Name
-name_at bytes at = record { text = bytes; at = at }
 
-pub expressions::unary-returns-in_err-inside-in-Some-Paren-clause-follows : goal.expressions::unary-returns-in_err-inside-in-Some-Paren-clause-follows
-expressions::unary-returns-in_err-inside-in-Some-Paren-clause-follows t c = λ most enough.
+pub expressions::unary-returns-in-Some-opening-clause-follows : goal.expressions::unary-returns-in-Some-opening-clause-follows
+expressions::unary-returns-in-Some-opening-clause-follows t c = λ most enough.
     let text = c.args.bytes.now in
     let first = c.in-Some.first.now in
-    let deeper = levels most (c.args.deep - 1) in
     let split : c.args.tokens.now ≡ first ∷ c.in-Some.rest.now = search rules in
     let size : length c.args.tokens.now ≡ suc (length c.in-Some.rest.now) = ap length split in
-    let is : opening_of first.kind ≡ Some opening.Paren = search rules in
-    let opens = unary_opens most c.args.deep text c.args.tokens.now first c.in-Some.rest.now opening.Paren (omega arith) split is in
+    let is : opening_of first.kind ≡ Some c.in-Some-opening.opening = search rules in
+    let opens = unary_opens most c.args.deep text c.args.tokens.now first c.in-Some.rest.now c.in-Some-opening.opening (omega arith) split is in
     let there : length c.in-Some.rest.now < most = omega arith in
-    let fault = c.in_err-inside-in-Some-Paren.field-0.0 in
-    let found : IsFaultOf fault (inside deeper (lexemes_of text c.in-Some.rest.now)) = (c.in_err-inside-in-Some-Paren.ensures {u = tt}).follows most there in
-    passed _ _ _ _ c.from_residual.ensures.1 (subst (IsFaultOf fault) (sym opens) (fault_made fault (plain.Paren first.from) (inside deeper (lexemes_of text c.in-Some.rest.now)) found))
-
-pub expressions::unary-returns-in_ok-inside-in-Some-Paren-2-clause-follows : goal.expressions::unary-returns-in_ok-inside-in-Some-Paren-2-clause-follows
-expressions::unary-returns-in_ok-inside-in-Some-Paren-2-clause-follows t c = λ most enough.
-    let text = c.args.bytes.now in
-    let first = c.in-Some.first.now in
-    let deeper = levels most (c.args.deep - 1) in
-    let split : c.args.tokens.now ≡ first ∷ c.in-Some.rest.now = search rules in
-    let size : length c.args.tokens.now ≡ suc (length c.in-Some.rest.now) = ap length split in
-    let is : opening_of first.kind ≡ Some opening.Paren = search rules in
-    let opens = unary_opens most c.args.deep text c.args.tokens.now first c.in-Some.rest.now opening.Paren (omega arith) split is in
-    let there : length c.in-Some.rest.now < most = omega arith in
-    let made_it : expr_of c.leaf-in-Some-Paren.result ≡ plain.Paren first.from (expr_of c.in_ok-inside-in-Some-Paren.inside) = search rules in
-    opens ∙ ap (made (plain.Paren first.from)) (c.in_ok-inside-in-Some-Paren.ensures.follows most there)
-    ∙ ap (λ e. Done e (lexemes_of text c.in_ok-inside-in-Some-Paren.rest.now)) (sym made_it)
-
-pub expressions::unary-returns-in_err-operand-in-Some-Minus-clause-follows : goal.expressions::unary-returns-in_err-operand-in-Some-Minus-clause-follows
-expressions::unary-returns-in_err-operand-in-Some-Minus-clause-follows t c = λ most enough.
-    let text = c.args.bytes.now in
-    let first = c.in-Some.first.now in
-    let deeper = levels most (c.args.deep - 1) in
-    let split : c.args.tokens.now ≡ first ∷ c.in-Some.rest.now = search rules in
-    let size : length c.args.tokens.now ≡ suc (length c.in-Some.rest.now) = ap length split in
-    let is : opening_of first.kind ≡ Some opening.Minus = search rules in
-    let opens = unary_opens most c.args.deep text c.args.tokens.now first c.in-Some.rest.now opening.Minus (omega arith) split is in
-    let there : length c.in-Some.rest.now < most = omega arith in
-    let fault = c.in_err-operand-in-Some-Minus.field-0.0 in
-    let found : IsFaultOf fault (deeper.unary (lexemes_of text c.in-Some.rest.now)) = (c.in_err-operand-in-Some-Minus.ensures {u = tt}).follows most there in
-    passed _ _ _ _ c.from_residual-in_err-operand-in-Some-Minus.ensures.1 (subst (IsFaultOf fault) (sym opens) (fault_made fault (plain.Neg first.from) (deeper.unary (lexemes_of text c.in-Some.rest.now)) found))
-
-pub expressions::unary-returns-in_ok-operand-in-Some-Minus-2-clause-follows : goal.expressions::unary-returns-in_ok-operand-in-Some-Minus-2-clause-follows
-expressions::unary-returns-in_ok-operand-in-Some-Minus-2-clause-follows t c = λ most enough.
-    let text = c.args.bytes.now in
-    let first = c.in-Some.first.now in
-    let deeper = levels most (c.args.deep - 1) in
-    let split : c.args.tokens.now ≡ first ∷ c.in-Some.rest.now = search rules in
-    let size : length c.args.tokens.now ≡ suc (length c.in-Some.rest.now) = ap length split in
-    let is : opening_of first.kind ≡ Some opening.Minus = search rules in
-    let opens = unary_opens most c.args.deep text c.args.tokens.now first c.in-Some.rest.now opening.Minus (omega arith) split is in
-    let there : length c.in-Some.rest.now < most = omega arith in
-    let made_it : expr_of c.leaf-in-Some-Minus.result ≡ plain.Neg first.from (expr_of c.in_ok-operand-in-Some-Minus.operand) = search rules in
-    opens ∙ ap (made (plain.Neg first.from)) (c.in_ok-operand-in-Some-Minus.ensures.follows most there)
-    ∙ ap (λ e. Done e (lexemes_of text c.in_ok-operand-in-Some-Minus.rest.now)) (sym made_it)
-
-pub expressions::unary-returns-in_err-operand-in-Some-Not-clause-follows : goal.expressions::unary-returns-in_err-operand-in-Some-Not-clause-follows
-expressions::unary-returns-in_err-operand-in-Some-Not-clause-follows t c = λ most enough.
-    let text = c.args.bytes.now in
-    let first = c.in-Some.first.now in
-    let deeper = levels most (c.args.deep - 1) in
-    let split : c.args.tokens.now ≡ first ∷ c.in-Some.rest.now = search rules in
-    let size : length c.args.tokens.now ≡ suc (length c.in-Some.rest.now) = ap length split in
-    let is : opening_of first.kind ≡ Some opening.Not = search rules in
-    let opens = unary_opens most c.args.deep text c.args.tokens.now first c.in-Some.rest.now opening.Not (omega arith) split is in
-    let there : length c.in-Some.rest.now < most = omega arith in
-    let fault = c.in_err-operand-in-Some-Not.field-0.0 in
-    let found : IsFaultOf fault (deeper.unary (lexemes_of text c.in-Some.rest.now)) = (c.in_err-operand-in-Some-Not.ensures {u = tt}).follows most there in
-    passed _ _ _ _ c.from_residual-in_err-operand-in-Some-Not.ensures.1 (subst (IsFaultOf fault) (sym opens) (fault_made fault (plain.Not first.from) (deeper.unary (lexemes_of text c.in-Some.rest.now)) found))
-
-pub expressions::unary-returns-in_ok-operand-in-Some-Not-2-clause-follows : goal.expressions::unary-returns-in_ok-operand-in-Some-Not-2-clause-follows
-expressions::unary-returns-in_ok-operand-in-Some-Not-2-clause-follows t c = λ most enough.
-    let text = c.args.bytes.now in
-    let first = c.in-Some.first.now in
-    let deeper = levels most (c.args.deep - 1) in
-    let split : c.args.tokens.now ≡ first ∷ c.in-Some.rest.now = search rules in
-    let size : length c.args.tokens.now ≡ suc (length c.in-Some.rest.now) = ap length split in
-    let is : opening_of first.kind ≡ Some opening.Not = search rules in
-    let opens = unary_opens most c.args.deep text c.args.tokens.now first c.in-Some.rest.now opening.Not (omega arith) split is in
-    let there : length c.in-Some.rest.now < most = omega arith in
-    let made_it : expr_of c.leaf-in-Some-Not.result ≡ plain.Not first.from (expr_of c.in_ok-operand-in-Some-Not.operand) = search rules in
-    opens ∙ ap (made (plain.Not first.from)) (c.in_ok-operand-in-Some-Not.ensures.follows most there)
-    ∙ ap (λ e. Done e (lexemes_of text c.in_ok-operand-in-Some-Not.rest.now)) (sym made_it)
-
-pub expressions::unary-returns-in_err-inside-in-Some-Abs-clause-follows : goal.expressions::unary-returns-in_err-inside-in-Some-Abs-clause-follows
-expressions::unary-returns-in_err-inside-in-Some-Abs-clause-follows t c = λ most enough.
-    let text = c.args.bytes.now in
-    let first = c.in-Some.first.now in
-    let deeper = levels most (c.args.deep - 1) in
-    let split : c.args.tokens.now ≡ first ∷ c.in-Some.rest.now = search rules in
-    let size : length c.args.tokens.now ≡ suc (length c.in-Some.rest.now) = ap length split in
-    let is : opening_of first.kind ≡ Some opening.Abs = search rules in
-    let opens = unary_opens most c.args.deep text c.args.tokens.now first c.in-Some.rest.now opening.Abs (omega arith) split is in
-    let there : length c.in-Some.rest.now < most = omega arith in
-    let opened = opens ∙ ap (λ o. and_then o (λ at after. made (plain.Abs first.from) (inside deeper after))) (c.in_ok-rest-in-Some-Abs.ensures.follows text) in
-    let within : length c.in_ok-rest-in-Some-Abs.rest.now < most = omega (arith, c.in_ok-rest-in-Some-Abs.ensures.shorter) in
-    let fault = c.in_err-inside-in-Some-Abs.field-0.0 in
-    let rule = inside deeper (lexemes_of text c.in_ok-rest-in-Some-Abs.rest.now) in
-    let found : IsFaultOf fault rule = (c.in_err-inside-in-Some-Abs.ensures {u = tt}).follows most within in
-    passed _ _ _ _ c.from_residual-in_err-inside-in-Some-Abs.ensures.1 (subst (IsFaultOf fault) (sym opened) (fault_made fault (plain.Abs first.from) rule found))
-
-pub expressions::unary-returns-in_ok-inside-in-Some-Abs-2-clause-follows : goal.expressions::unary-returns-in_ok-inside-in-Some-Abs-2-clause-follows
-expressions::unary-returns-in_ok-inside-in-Some-Abs-2-clause-follows t c = λ most enough.
-    let text = c.args.bytes.now in
-    let first = c.in-Some.first.now in
-    let deeper = levels most (c.args.deep - 1) in
-    let split : c.args.tokens.now ≡ first ∷ c.in-Some.rest.now = search rules in
-    let size : length c.args.tokens.now ≡ suc (length c.in-Some.rest.now) = ap length split in
-    let is : opening_of first.kind ≡ Some opening.Abs = search rules in
-    let opens = unary_opens most c.args.deep text c.args.tokens.now first c.in-Some.rest.now opening.Abs (omega arith) split is in
-    let there : length c.in-Some.rest.now < most = omega arith in
-    let opened = opens ∙ ap (λ o. and_then o (λ at after. made (plain.Abs first.from) (inside deeper after))) (c.in_ok-rest-in-Some-Abs.ensures.follows text) in
-    let within : length c.in_ok-rest-in-Some-Abs.rest.now < most = omega (arith, c.in_ok-rest-in-Some-Abs.ensures.shorter) in
-    let made_it : expr_of c.leaf-in-Some-Abs.result ≡ plain.Abs first.from (expr_of c.in_ok-inside-in-Some-Abs.inside) = search rules in
-    opened ∙ ap (made (plain.Abs first.from)) (c.in_ok-inside-in-Some-Abs.ensures.follows most within)
-    ∙ ap (λ e. Done e (lexemes_of text c.in_ok-inside-in-Some-Abs.rest.now)) (sym made_it)
-
-pub expressions::unary-returns-in_err-source-in-Some-Flood-clause-follows : goal.expressions::unary-returns-in_err-source-in-Some-Flood-clause-follows
-expressions::unary-returns-in_err-source-in-Some-Flood-clause-follows t c = λ most enough.
-    let text = c.args.bytes.now in
-    let first = c.in-Some.first.now in
-    let deeper = levels most (c.args.deep - 1) in
-    let split : c.args.tokens.now ≡ first ∷ c.in-Some.rest.now = search rules in
-    let size : length c.args.tokens.now ≡ suc (length c.in-Some.rest.now) = ap length split in
-    let is : opening_of first.kind ≡ Some opening.Flood = search rules in
-    let opens = unary_opens most c.args.deep text c.args.tokens.now first c.in-Some.rest.now opening.Flood (omega arith) split is in
-    let there : length c.in-Some.rest.now < most = omega arith in
-    let fault = c.in_err-source-in-Some-Flood.field-0.0 in
-    let rule = in_bracket most deeper.expr (lexemes_of text c.in-Some.rest.now) in
-    let found : IsFaultOf fault rule = (c.in_err-source-in-Some-Flood.ensures {u = tt}).follows most most there there in
-    passed _ _ _ _ c.from_residual-in_err-source-in-Some-Flood.ensures.1
-    (subst (IsFaultOf fault) (sym opens) (fault_then fault rule (λ source after. made (plain.Flood first.from source) (deeper.unary after)) found))
-
-pub expressions::unary-returns-in_err-operand-in-Some-Flood-clause-follows : goal.expressions::unary-returns-in_err-operand-in-Some-Flood-clause-follows
-expressions::unary-returns-in_err-operand-in-Some-Flood-clause-follows t c = λ most enough.
-    let text = c.args.bytes.now in
-    let first = c.in-Some.first.now in
-    let deeper = levels most (c.args.deep - 1) in
-    let split : c.args.tokens.now ≡ first ∷ c.in-Some.rest.now = search rules in
-    let size : length c.args.tokens.now ≡ suc (length c.in-Some.rest.now) = ap length split in
-    let is : opening_of first.kind ≡ Some opening.Flood = search rules in
-    let opens = unary_opens most c.args.deep text c.args.tokens.now first c.in-Some.rest.now opening.Flood (omega arith) split is in
-    let there : length c.in-Some.rest.now < most = omega arith in
-    let source = inner_of c.in_ok-source-in-Some-Flood.source in
-    let opened = opens ∙ ap (λ o. and_then o (λ source after. made (plain.Flood first.from source) (deeper.unary after))) (c.in_ok-source-in-Some-Flood.ensures.follows most most there there) in
-    let within : length c.in_ok-source-in-Some-Flood.rest.now < most = omega (arith, c.in_ok-source-in-Some-Flood.ensures.shorter) in
-    let fault = c.in_err-operand-in-Some-Flood.field-0.0 in
-    let rule = deeper.unary (lexemes_of text c.in_ok-source-in-Some-Flood.rest.now) in
-    let found : IsFaultOf fault rule = (c.in_err-operand-in-Some-Flood.ensures {u = tt}).follows most within in
-    passed _ _ _ _ c.from_residual-in_err-operand-in-Some-Flood.ensures.1
-    (subst (IsFaultOf fault) (sym opened) (fault_made fault (plain.Flood first.from source) rule found))
-
-pub expressions::unary-returns-in_ok-operand-in-Some-Flood-2-clause-follows : goal.expressions::unary-returns-in_ok-operand-in-Some-Flood-2-clause-follows
-expressions::unary-returns-in_ok-operand-in-Some-Flood-2-clause-follows t c = λ most enough.
-    let text = c.args.bytes.now in
-    let first = c.in-Some.first.now in
-    let deeper = levels most (c.args.deep - 1) in
-    let split : c.args.tokens.now ≡ first ∷ c.in-Some.rest.now = search rules in
-    let size : length c.args.tokens.now ≡ suc (length c.in-Some.rest.now) = ap length split in
-    let is : opening_of first.kind ≡ Some opening.Flood = search rules in
-    let opens = unary_opens most c.args.deep text c.args.tokens.now first c.in-Some.rest.now opening.Flood (omega arith) split is in
-    let there : length c.in-Some.rest.now < most = omega arith in
-    let source = inner_of c.in_ok-source-in-Some-Flood.source in
-    let opened = opens ∙ ap (λ o. and_then o (λ source after. made (plain.Flood first.from source) (deeper.unary after))) (c.in_ok-source-in-Some-Flood.ensures.follows most most there there) in
-    let within : length c.in_ok-source-in-Some-Flood.rest.now < most = omega (arith, c.in_ok-source-in-Some-Flood.ensures.shorter) in
-    let made_it : expr_of c.leaf-in-Some-Flood.result ≡ plain.Flood first.from source (expr_of c.in_ok-operand-in-Some-Flood.operand) = search rules in
-    opened ∙ ap (made (plain.Flood first.from source)) (c.in_ok-operand-in-Some-Flood.ensures.follows most within)
-    ∙ ap (λ e. Done e (lexemes_of text c.in_ok-operand-in-Some-Flood.rest.now)) (sym made_it)
-
-pub expressions::unary-returns-in-Some-Name-clause-follows : goal.expressions::unary-returns-in-Some-Name-clause-follows
-expressions::unary-returns-in-Some-Name-clause-follows t c = λ most enough.
-    let text = c.args.bytes.now in
-    let first = c.in-Some.first.now in
-    let deeper = levels most (c.args.deep - 1) in
-    let split : c.args.tokens.now ≡ first ∷ c.in-Some.rest.now = search rules in
-    let size : length c.args.tokens.now ≡ suc (length c.in-Some.rest.now) = ap length split in
-    let is : opening_of first.kind ≡ Some opening.Name = search rules in
-    let opens = unary_opens most c.args.deep text c.args.tokens.now first c.in-Some.rest.now opening.Name (omega arith) split is in
-    let there : length c.in-Some.rest.now < most = omega arith in
-    let rest = lexemes_of text c.in-Some.rest.now in
-    let same : name_of c.named.result ≡ name_at (token_text text first) first.from =
-    ap (λ bytes. name_at bytes c.named.result.at) c.named.ensures.text ∙ ap (name_at (token_text text first)) c.named.ensures.at in
-    follows_same _ _ _ _ (ap (λ name. behind_name most deeper name rest) same ∙ sym opens) (c.behind_name.ensures.follows most there)
-
-pub expressions::unary-returns-in-Some-Fold-clause-follows : goal.expressions::unary-returns-in-Some-Fold-clause-follows
-expressions::unary-returns-in-Some-Fold-clause-follows t c = λ most enough.
-    let text = c.args.bytes.now in
-    let first = c.in-Some.first.now in
-    let deeper = levels most (c.args.deep - 1) in
-    let split : c.args.tokens.now ≡ first ∷ c.in-Some.rest.now = search rules in
-    let size : length c.args.tokens.now ≡ suc (length c.in-Some.rest.now) = ap length split in
-    let is : opening_of first.kind ≡ Some (opening.Fold c.in-Some-Fold.operator) = search rules in
-    let opens = unary_opens most c.args.deep text c.args.tokens.now first c.in-Some.rest.now (opening.Fold c.in-Some-Fold.operator) (omega arith) split is in
-    let there : length c.in-Some.rest.now < most = omega arith in
-    follows_same _ _ _ _ (sym opens) (c.folded.ensures.follows most there)
+    follows_same _ _ _ _ (sym opens) (c.opened.ensures.follows most there)
 
 -- ---- regions
 

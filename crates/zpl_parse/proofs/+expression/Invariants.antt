@@ -11,70 +11,79 @@ use Rattle.zpl_parse.proofs.Lists.{put_expr, put_post, put_dim}
 use Rattle.zpl_parse.proofs.+expression.Given as goal
 
 abbrev pub decreases-expressions::both : goal.decreases-expressions::both
-decreases-expressions::both l = 16 * l.deep
+decreases-expressions::both l = 17 * l.deep
 
 abbrev pub decreases-expressions::behind_name : goal.decreases-expressions::behind_name
-decreases-expressions::behind_name l = 16 * l.deep
+decreases-expressions::behind_name l = 17 * l.deep
+
+abbrev pub decreases-expressions::absolute : goal.decreases-expressions::absolute
+decreases-expressions::absolute l = 17 * l.deep
+
+abbrev pub decreases-expressions::flood : goal.decreases-expressions::flood
+decreases-expressions::flood l = 17 * l.deep
 
 abbrev pub decreases-expressions::folded : goal.decreases-expressions::folded
-decreases-expressions::folded l = 16 * l.deep + 1
+decreases-expressions::folded l = 17 * l.deep + 1
+
+abbrev pub decreases-expressions::opened : goal.decreases-expressions::opened
+decreases-expressions::opened l = 17 * l.deep + 2
 
 abbrev pub decreases-expressions::unary : goal.decreases-expressions::unary
-decreases-expressions::unary l = 16 * l.deep + 2
+decreases-expressions::unary l = 17 * l.deep + 3
 
 abbrev pub decreases-expressions::term : goal.decreases-expressions::term
-decreases-expressions::term l = 16 * l.deep + 3
+decreases-expressions::term l = 17 * l.deep + 4
 
 abbrev pub decreases-expressions::sum : goal.decreases-expressions::sum
-decreases-expressions::sum l = 16 * l.deep + 4
+decreases-expressions::sum l = 17 * l.deep + 5
 
 abbrev pub decreases-expressions::comp : goal.decreases-expressions::comp
-decreases-expressions::comp l = 16 * l.deep + 5
+decreases-expressions::comp l = 17 * l.deep + 6
 
 abbrev pub decreases-expressions::conj : goal.decreases-expressions::conj
-decreases-expressions::conj l = 16 * l.deep + 6
+decreases-expressions::conj l = 17 * l.deep + 7
 
 abbrev pub decreases-expressions::expr : goal.decreases-expressions::expr
-decreases-expressions::expr l = 16 * l.deep + 7
+decreases-expressions::expr l = 17 * l.deep + 8
 
 abbrev pub decreases-expressions::inside : goal.decreases-expressions::inside
-decreases-expressions::inside l = 16 * l.deep + 8
+decreases-expressions::inside l = 17 * l.deep + 9
 
 abbrev pub decreases-expressions::exprs : goal.decreases-expressions::exprs
-decreases-expressions::exprs l = 16 * l.deep + 8
+decreases-expressions::exprs l = 17 * l.deep + 9
 
 abbrev pub decreases-regions::bounds : goal.decreases-regions::bounds
-decreases-regions::bounds l = 16 * l.deep + 8
+decreases-regions::bounds l = 17 * l.deep + 9
 
 abbrev pub decreases-expressions::actuals : goal.decreases-expressions::actuals
-decreases-expressions::actuals l = 16 * l.deep + 9
+decreases-expressions::actuals l = 17 * l.deep + 10
 
 abbrev pub decreases-expressions::components : goal.decreases-expressions::components
-decreases-expressions::components l = 16 * l.deep + 9
+decreases-expressions::components l = 17 * l.deep + 10
 
 abbrev pub decreases-regions::dim_text : goal.decreases-regions::dim_text
-decreases-regions::dim_text l = 16 * l.deep + 9
+decreases-regions::dim_text l = 17 * l.deep + 10
 
 abbrev pub decreases-regions::dir : goal.decreases-regions::dir
-decreases-regions::dir l = 16 * l.deep + 10
+decreases-regions::dir l = 17 * l.deep + 11
 
 abbrev pub decreases-regions::dim_texts : goal.decreases-regions::dim_texts
-decreases-regions::dim_texts l = 16 * l.deep + 10
+decreases-regions::dim_texts l = 17 * l.deep + 11
 
 abbrev pub decreases-regions::posts : goal.decreases-regions::posts
-decreases-regions::posts l = 16 * l.deep + 11
+decreases-regions::posts l = 17 * l.deep + 12
 
 abbrev pub decreases-regions::rexpr : goal.decreases-regions::rexpr
-decreases-regions::rexpr l = 16 * l.deep + 12
+decreases-regions::rexpr l = 17 * l.deep + 13
 
 abbrev pub decreases-regions::inner : goal.decreases-regions::inner
-decreases-regions::inner l = 16 * l.deep + 13
+decreases-regions::inner l = 17 * l.deep + 14
 
 abbrev pub decreases-regions::in_bracket : goal.decreases-regions::in_bracket
-decreases-regions::in_bracket l = 16 * l.deep + 14
+decreases-regions::in_bracket l = 17 * l.deep + 15
 
 abbrev pub decreases-regions::bracket : goal.decreases-regions::bracket
-decreases-regions::bracket l = 16 * l.deep + 15
+decreases-regions::bracket l = 17 * l.deep + 16
 
 abbrev pub invariant-expressions::term-loop-op : goal.invariant-expressions::term-loop-op
 invariant-expressions::term-loop-op l = record {
