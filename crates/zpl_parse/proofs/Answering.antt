@@ -1,5 +1,5 @@
 -- What an answer says, where it follows the rule of programs.
-use Rattle.std.proofs.Common.{◌≡◌, ℕ, ◌<◌, List, length, Result, Ok, Err, Bor, refl, sym, ap, subst, ◌∙◌, arith}
+use Rattle.std.proofs.Common.{◌≡◌, ℕ, ◌<◌, List, length, Result, Ok, Err, Bor, sym, ap, subst, ◌∙◌}
 use Rattle.std.specs.Result.{IsErrAnd, IfOk, MatchResult}
 use Rattle.zpl_text.specs.declared.tokens.Token.{Token}
 use Rattle.zpl_text.specs.Spans.{AreSpans}
@@ -12,9 +12,9 @@ use Rattle.zpl_grammar.specs.Texts.{most_deep, IsShallowTree, IsSyntaxFault, IsT
 use Rattle.zpl_parse.specs.declared.faults.ParseFault.{ParseFault}
 use Rattle.zpl_parse.specs.declared.faults.ParseFault.TheVariants.{Syntax, TooDeep, NoMemory}
 use Rattle.zpl_parse.specs.Answers.{Reads, WantsMemory}
-use Rattle.zpl_parse.specs.Following.{IsFaultOf, IsWrongAt, IsDeep}
+use Rattle.zpl_parse.specs.Following.{IsFaultOf}
 use Rattle.zpl_parse.specs.Lexeme.{Lexeme, lexemes_of}
-use Rattle.zpl_parse.specs.Outcome.{Outcome, Done, Reader, and_then, made}
+use Rattle.zpl_parse.specs.Outcome.{Done, Reader, and_then, made}
 use Rattle.zpl_parse.specs.Tokens.{keyword, name, symbol}
 use Rattle.zpl_parse.specs.Expressions.{levels}
 use Rattle.zpl_parse.specs.Whole.{any_expr, most_nested}

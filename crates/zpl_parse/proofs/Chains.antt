@@ -1,5 +1,5 @@
 -- Chains of operators: what stands to the left is what the rule has made so far.
-use Rattle.std.proofs.Common.{◌≡◌, ℕ, suc, zero, ◌+◌, ◌<◌, ◌≤◌, ◌-◌, if◌then◌else◌, Bool, true, false, nat_le, List, [], ◌∷◌, Option, Some, None, max, refl, sym, ap, subst, ◌∙◌, arith}
+use Rattle.std.proofs.Common.{◌≡◌, ℕ, suc, zero, ◌<◌, ◌≤◌, ◌-◌, if◌then◌else◌, Bool, true, false, nat_le, List, ◌∷◌, Option, Some, None, refl, sym, ap, subst, ◌∙◌, arith}
 use Rattle.std.proofs.lemmas.Bool.{le-leb, lt-leb}
 use Rattle.zpl_nums.specs.declared.operators.Op.{Op}
 use Rattle.zpl_tokens.specs.declared.Kind.{Kind}

@@ -2,7 +2,6 @@
 use Rattle.std.proofs.Common.{◌≡◌, ℕ, suc, zero, ◌<◌, ◌≤◌, false, List, [], ◌∷◌, ◌++◌, map, length, None, refl, ap, arith}
 use Rattle.zpl_tokens.specs.declared.Kind.TheVariants as kind
 use Rattle.zpl_tokens.specs.declared.symbols.Sym.TheVariants as sym
-use Rattle.zpl_tree.specs.Word.{Word}
 use Rattle.zpl_tree.specs.Word as word
 use Rattle.zpl_tree.specs.Syntax.{Name, Expr, Exprs, Inner, Rexpr, Bracket, Posts, Pre, RegionBase}
 use Rattle.zpl_tree.specs.Depth.{expr_depth, exprs_depth, inner_depth, bracket_depth, posts_depth}

@@ -21,7 +21,7 @@ use Rattle.zpl_parse.specs.Outcome.{and_then, made}
 use Rattle.zpl_parse.specs.Classes.{start_of, begins_stmt}
 use Rattle.zpl_parse.specs.Tokens.{next_is, symbol, names}
 use Rattle.zpl_parse.specs.Expressions.{levels, actuals}
-use Rattle.zpl_parse.specs.Statements.{prefix, prefixes, stmts, item, some_items, items, assign_or_call, body_end, arm, arms, otherwise, choice, while_loop, repeat_loop, step, way_down, for_head, for_loop, form_by, stmt_over, stmt}
+use Rattle.zpl_parse.specs.Statements.{prefix, prefixes, stmts, item, some_items, items, body_end, arm, arms, otherwise, while_loop, repeat_loop, step, way_down, for_head, for_loop, form_by, stmt}
 use Rattle.zpl_parse.specs.Statements as statements
 use Rattle.zpl_parse.proofs.CompleteBase.{Begins, none, more, Split, split, split_at, joined, bound_of, shorter, shorter_by_one, Reads, read, deep, weigh, made_reads, then_reads, ends_with, closing_reads, string_inside, at_head}
 use Rattle.zpl_parse.proofs.CompleteLevels.{SameExpr, StopsWhole, Opens}

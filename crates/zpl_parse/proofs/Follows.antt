@@ -1,11 +1,11 @@
 -- One rule behind another: how an answer follows the outcome of the whole.
-use Rattle.std.proofs.Common.{◌≡◌, ℕ, Bool, true, false, if◌then◌else◌, List, Result, Ok, Err, refl, sym, ap, subst, ◌∙◌}
+use Rattle.std.proofs.Common.{◌≡◌, Bool, true, false, if◌then◌else◌, List, Result, Ok, Err, refl, sym, ap, subst}
 use Rattle.std.specs.Result.{IsErrAnd}
 use Rattle.zpl_parse.specs.declared.faults.ParseFault.{ParseFault}
 use Rattle.zpl_parse.specs.declared.faults.ParseFault.TheVariants.{Syntax, TooDeep, NoMemory}
 use Rattle.zpl_parse.specs.Lexeme.{Lexeme, head_at, behind}
 use Rattle.zpl_parse.specs.Outcome.{Outcome, Done, Wrong, Deep, Reader, and_then, made, too_deep}
-use Rattle.zpl_parse.specs.Following.{IsFaultOf, Follows, IsWrongAt, IsDeep}
+use Rattle.zpl_parse.specs.Following.{IsFaultOf, Follows}
 
 -- a fault is passed on as it is
 pub passed : {V A : Type 0} (fault : ParseFault) (r : Result V ParseFault) (done : V → Outcome A) (o : Outcome A) → IsErrAnd r (λ e. e ≡ fault) → IsFaultOf fault o → Follows r done o

@@ -1,5 +1,5 @@
 -- How lists of the tree are made of their parts, one by one.
-use Rattle.std.proofs.Common.{◌≡◌, ℕ, List, [], ◌∷◌, ◌++◌, map, max, refl, sym, ap, ◌∙◌, arith}
+use Rattle.std.proofs.Common.{◌≡◌, List, [], ◌∷◌, ◌++◌, map, max, refl, ap, arith}
 use Rattle.zpl_tree.specs.Syntax as plain
 use Rattle.zpl_tree.specs.View.{pre_of, expr_of, exprs_of, dir_of, posts_of, dim_of, dims_of, stmt_of, stmts_of, arm_of, arms_of}
 use Rattle.zpl_tree.specs.Depth.{expr_depth, exprs_depth, dir_depth, posts_depth, dim_depth, dims_depth}

@@ -10,7 +10,7 @@ use Rattle.zpl_text.specs.Cutting.{MayStand}
 use Rattle.zpl_text.specs.Spans.{AreSpans, IsSpan}
 use Rattle.zpl_text.specs.Tokens.{Place, Cuts, nothing as no_cut, token as one_cut, end_of, IsTokens}
 use Rattle.zpl_tree.specs.Syntax.{Program}
-use Rattle.zpl_tree.specs.Word.{Word, kind_of, word_text}
+use Rattle.zpl_tree.specs.Word.{Word, kind_of}
 use Rattle.zpl_tree.specs.Word as word
 use Rattle.zpl_grammar.specs.Written.{token_text, HasBytes, IsWord, AreWords}
 use Rattle.zpl_parse.specs.Lexeme.{Lexeme, lexeme_of, lexemes_of}

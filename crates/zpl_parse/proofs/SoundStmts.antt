@@ -10,7 +10,7 @@ use Rattle.zpl_tree.specs.Syntax.{Name, Expr, Str, Value, Stmt, Prefixed, Stmts,
 use Rattle.zpl_tree.specs.Spelling.{symbol, keyword, mask_words, prefix_words, step_words, head_words, item_words, items_words, end_words, stmt_words, stmts_words, form_words, arms_words, arm_words, more_arms, otherwise_words}
 use Rattle.zpl_tree.specs.Grammar.{HasAny, IsPrefix, IsStep, IsHead, IsItem, HasArm, IsStmt, AreStmts, IsForm, AreArms, IsArm, IsOtherwise}
 use Rattle.zpl_tree.specs.Depth.{greatest_of, prefix_depth, step_depth, head_depth, item_depth, stmt_depth, form_depth, stmts_depth, arms_depth, arm_depth, otherwise_depth, nest_depth, form_nest, stmts_nest, arms_nest, arm_nest, otherwise_nest}
-use Rattle.zpl_tree.specs.Word.{Word, kind_of}
+use Rattle.zpl_tree.specs.Word.{Word}
 use Rattle.zpl_tree.specs.Word as word
 use Rattle.zpl_parse.specs.declared.classes.Start.{Start}
 use Rattle.zpl_parse.specs.declared.classes.Start.TheVariants as start

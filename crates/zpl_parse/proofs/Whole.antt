@@ -18,7 +18,7 @@ use Rattle.zpl_tree.specs.Syntax.{Program}
 use Rattle.zpl_tree.specs.Depth.{depth}
 use Rattle.zpl_tree.specs.Shape.{SameShape}
 use Rattle.zpl_tree.specs.Grammar.{Spells}
-use Rattle.zpl_tree.specs.Word.{Word, kind_of, word_text}
+use Rattle.zpl_tree.specs.Word.{Word}
 use Rattle.zpl_tree.specs.Word as word
 use Rattle.zpl_parse.specs.Lexeme.{Lexeme, lexeme_of, lexemes_of, lexeme_at, head_at}
 use Rattle.zpl_parse.specs.Written.{IsLexeme, AreLexemes}

@@ -1,4 +1,4 @@
-use Rattle.std.proofs.Common.{◌≡◌, ℕ, suc, ◌<◌, length, Err, refl, sym, ap, subst, arith, rules}
+use Rattle.std.proofs.Common.{◌≡◌, suc, length, arith}
 use Rattle.zpl_tree.specs.Shape.{SameShape}
 use Rattle.zpl_tree.specs.View.{syntax_of}
 use Rattle.zpl_grammar.specs.Texts.{IsShallowTree}

@@ -1,6 +1,6 @@
-use Rattle.std.proofs.Common.{◌≡◌, ℕ, ◌<◌, ◌∙◌, List, length, map, sym, ap, subst, arith}
+use Rattle.std.proofs.Common.{ℕ, ◌<◌, ◌∙◌, List, length, sym, ap, subst, arith}
 use Rattle.zpl_tree.specs.Syntax.{Name, Decl, Program}
-use Rattle.zpl_tree.specs.View.{decl_of, name_of}
+use Rattle.zpl_tree.specs.View.{name_of}
 use Rattle.zpl_parse.specs.Following.{IsFaultOf}
 use Rattle.zpl_parse.specs.Lexeme.{lexemes_of}
 use Rattle.zpl_parse.specs.Outcome.{made}

@@ -1,15 +1,14 @@
-use Rattle.std.proofs.Common.{◌≡◌, ℕ, ◌<◌, ◌≤◌, [], ◌∷◌, ◌++◌, List, Some, None, map, length, true, false, is_ok, refl, sym, ap, ◌∙◌, arith, rules}
+use Rattle.std.proofs.Common.{◌≡◌, ◌<◌, [], Some, None, length, true, false, is_ok, sym, ap, ◌∙◌, arith, rules}
 use Rattle.std.proofs.ResultArms.{chosen}
 use Rattle.zpl_tokens.specs.declared.Kind.TheVariants as kind
 use Rattle.zpl_tree.specs.Syntax.{Ditto, NamedRegion}
-use Rattle.zpl_tree.specs.View.{pre_of, name_of}
+use Rattle.zpl_tree.specs.View.{name_of}
 use Rattle.zpl_parse.specs.Classes.{outside_of}
 use Rattle.zpl_parse.specs.Lexeme.{lexemes_of, head_kind}
 use Rattle.zpl_parse.specs.Tokens.{next_is}
-use Rattle.zpl_parse.specs.Expressions.{region_base}
 use Rattle.zpl_parse.proofs.Follows.{passed, fault_then}
-use Rattle.zpl_parse.proofs.Loops.{gathered_none, gathered_more, gathered_done, gathered_fault, prepended}
-use Rattle.zpl_parse.proofs.Lists.{put_pre, pre-prepended}
+use Rattle.zpl_parse.proofs.Loops.{gathered_none, gathered_more, gathered_done, gathered_fault}
+use Rattle.zpl_parse.proofs.Lists.{pre-prepended}
 use Rattle.zpl_parse.proofs.regions.region_base.Goals as goal
 
 pub loop-pre-init : goal.loop-pre-init

@@ -1,7 +1,4 @@
-use Rattle.std.proofs.Common.{ℕ, ◌<◌, ◌≤◌, ◌∷◌, List, length}
-use Rattle.zpl_tree.specs.Syntax.{Pre as PrePlain, RegionBase}
-use Rattle.zpl_tree.specs.View.{pre_of}
-use Rattle.zpl_tree.specs.declared.regions.Pre.{Pre}
+use Rattle.std.proofs.Common.{ℕ, ◌<◌, ◌≤◌, length}
 use Rattle.zpl_parse.specs.Lexeme.{lexemes_of}
 use Rattle.zpl_parse.specs.Expressions.{region_base}
 use Rattle.zpl_parse.proofs.Loops.{IsGathered}

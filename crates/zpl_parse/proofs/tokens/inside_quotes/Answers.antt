@@ -1,4 +1,4 @@
-use Rattle.std.proofs.Common.{◌≡◌, ◌≤◌, ◌-◌, ℕ, suc, [], ◌∷◌, List, length, take, drop, refl, sym, ap, ◌∙◌, arith}
+use Rattle.std.proofs.Common.{◌≡◌, ◌≤◌, ◌-◌, ℕ, suc, [], ◌∷◌, List, length, take, drop, refl, ap, arith}
 use Rattle.zpl_parse.specs.Tokens.{in_quotes, without_last}
 use Rattle.zpl_parse.proofs.tokens.inside_quotes.Goals as goal
 
