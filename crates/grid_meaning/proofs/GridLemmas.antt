@@ -1,15 +1,15 @@
 -- What a turn and an order keep of a grid.
-use Rattle.std.proofs.Common.{◌≡◌, ℕ, zero, suc, ◌+◌, ◌-◌, ◌*◌, ◌%◌, ◌<◌, ◌≤◌, Bool, true, false, cond, nat_lt, get_or, List, [], ◌∷◌, ◌++◌, length, Option, Some, None, IsSome, refl, sym, ◌∙◌, ap, subst, arith, append_assoc, length-set, length-append, add-zero}
+use Rattle.std.proofs.Common.{◌≡◌, ℕ, zero, suc, ◌+◌, ◌-◌, ◌%◌, ◌<◌, Bool, true, false, cond, nat_lt, get_or, List, [], ◌∷◌, ◌++◌, length, Option, Some, None, IsSome, refl, sym, ◌∙◌, ap, subst, arith, append_assoc, length-set, length-append, add-zero}
 use Rattle.std.proofs.lemmas.List.{append-nil, length-replicate}
 use Rattle.std.proofs.lemmas.List.Sums.{fold-append}
 use Rattle.std.proofs.lemmas.List.Elements.{All-head, All-tail, All-nil, All-cons, All-append}
 use Rattle.std.proofs.lemmas.Bool.Decides.{nat_tests}
 use Rattle.std.proofs.Math.Nat.{mod-lt}
-use Rattle.std.specs.List.{All, fold, slice_get, slice_index_or}
+use Rattle.std.specs.List.{All, slice_get}
 use Rattle.zpl_lists.specs.Front.{IsFrontOf}
 use Rattle.node_form.specs.declared.tables.Tables.{Tables}
 use Rattle.grid_meaning.specs.Local.{Message, Local, start_local}
-use Rattle.grid_meaning.specs.Turn.{Move, Turn, Moves, Waiting, Over, Stuck, Heads, turn_at, act, unless_ended}
+use Rattle.grid_meaning.specs.Turn.{Turn, Moves, Waiting, Over, Stuck, act, unless_ended}
 use Rattle.grid_meaning.specs.Grid.{Grid, processors, start_grid, with_sent, with_taken, counting, printed_by, after_turn, turn_or_over, next_turn, given_turn, after_from, after, IsOver, heads_of}
 use Rattle.grid_meaning.specs.Order.{IsOrder, turn_number, given}
 use Rattle.zpl_nums.specs.declared.ends.End.{End}

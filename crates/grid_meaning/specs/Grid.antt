@@ -4,7 +4,7 @@ use Rattle.zpl_nums.specs.declared.ends.End.{End}
 use Rattle.node_form.specs.declared.tables.Tables.{Tables}
 use Rattle.node_form.specs.Grid.{processors_of}
 use Rattle.grid_meaning.specs.Local.{Message, Local, start_local}
-use Rattle.grid_meaning.specs.Turn.{StuckKind, Move, Turn, Moves, Waiting, Over, Stuck, Heads, turn_at}
+use Rattle.grid_meaning.specs.Turn.{StuckKind, Turn, Moves, Waiting, Over, Stuck, Heads, turn_at}
 
 -- The processors' states; the messages on their way, the oldest first: those from p to q are link
 -- p * P + q, where P processors are; what processor 0 has printed; and how many turns were given,

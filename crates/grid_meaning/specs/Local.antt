@@ -1,5 +1,5 @@
 -- What one processor keeps between its turns, and the messages that processors send.
-use Rattle.std.specs.Prelude.{ℕ, ℤ, pos, List, [], ◌∷◌, Option, Some, None, replicate}
+use Rattle.std.specs.Prelude.{ℕ, ℤ, pos, List, [], Option, None, replicate}
 use Rattle.zpl_nums.specs.declared.ends.End.{End}
 use Rattle.node_form.specs.declared.tables.Tables.{Tables}
 

@@ -1,5 +1,5 @@
 -- One turn of a processor: what its next instruction does.
-use Rattle.std.specs.Prelude.{ℕ, zero, suc, ◌+◌, Bool, true, false, ℤ, pos, List, [], ◌∷◌, Option, Some, None, slice_get, slice_set, option_and_then}
+use Rattle.std.specs.Prelude.{ℕ, zero, suc, ◌+◌, Bool, true, false, ℤ, List, [], Option, Some, None, slice_get, slice_set, option_and_then}
 use Rattle.std.specs.Fmt.{signed_decimal}
 use Rattle.zpl_nums.specs.declared.ends.End.{End}
 use Rattle.zpl_nums.specs.declared.ends.End.TheVariants.{Done, Trap}

@@ -1,6 +1,5 @@
 //! The tables of a program.
-ghost use Rattle.std.specs.Prelude.{◌≡◌, ◌↔◌, [], IsTrue};
-ghost use Rattle.node_form.specs.Fits.{Fits};
+ghost use Rattle.std.specs.Prelude.{◌≡◌, []};
 
 use crate::fits;
 use crate::rows::Rows;

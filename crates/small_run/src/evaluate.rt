@@ -1,5 +1,5 @@
 //! The value of an expression, on a stack that is made beforehand.
-ghost use Rattle.std.specs.Prelude.{◌≡◌, ℕ, ◌+◌, ◌-◌, ◌≤◌, length, drop, All, IfSome};
+ghost use Rattle.std.specs.Prelude.{◌≡◌, ◌+◌, ◌-◌, ◌≤◌, length, drop, All, IfSome};
 ghost use Rattle.std.specs.Option.{option_map};
 ghost use Rattle.node_form.specs.Expression.{IsExpression, operands_of};
 ghost use Rattle.node_form.specs.Value.{stepped, value_of};

@@ -3,6 +3,7 @@ use Rattle.std.proofs.Common.{◌≡◌, ℕ, ◌+◌, ◌≤◌, max, List, [],
 use Rattle.std.specs.List.{AllByRecursion}
 use Rattle.zpl_tree.specs.Syntax.{Name, Expr, Number, Truth, Coord, Named, Shifted, Call, Paren, Neg, Not, Abs, Pair, Reduce, Scan, Flood, Item, Str, Value, Stmt, Prefixed, Stmts, NoStmt, ThenStmt, Form, Assign, Invoke, Block, If, While, Repeat, For, Border, Write, Return, VarDef, Procedure, Decl, Vars, Defined, Program}
 use Rattle.zpl_tree.specs.Shape.{name_shape, expr_shape, item_shape, stmt_shape, stmts_shape, form_shape, decl_shape, SameShape}
+use Rattle.zpl_claims.proofs.DeclShapes.{decls_of_shape}
 use Rattle.zpl_claims.specs.Small.{IsPrim, IsSum, IsTest, IsItem, IsSmallStmt, IsSmallForm, AreSmall, stmt_loops, form_loops, loops, AreDistinct, texts_of, small_decls, IsSmall, most_loops}
 
 module _ (names : List (List ℕ)) where
@@ -226,8 +227,8 @@ entry_in-small : (names : List Name) (entry : Name) (at : ℕ) (body : Stmts) �
 entry_in-small [] entry at body = refl
 entry_in-small (name ∷ names) entry at body = refl
 
-pub IsSmall-shape : (p q : Program) → SameShape p q → (names : List Name) (entry : Name) (at : ℕ) (body : Stmts) → p.decls ≡ small_decls names entry at body → IsSmall q → IsSmall p
-IsSmall-shape p q same names entry at body is small =
+with_decls : (p q : Program) → SameShape p q → (names : List Name) (entry : Name) (at : ℕ) (body : Stmts) → p.decls ≡ small_decls names entry at body → IsSmall q → IsSmall p
+with_decls p q same names entry at body is small =
     let decls : map decl_shape (small_decls names entry at body) ≡ map decl_shape (small_decls small.names small.entry small.at small.body) =
     ap (map decl_shape) (sym is) ∙ (ap (λ (s : Program). s.decls) same ∙ ap (map decl_shape) small.decls) in
     let texts : texts_of small.names ≡ texts_of names =
@@ -253,3 +254,10 @@ IsSmall-shape p q same names entry at body is small =
           (subst (λ ns. AreSmall ns small.body) texts small.small)));
       shallow = subst (λ n. n ≤ most_loops) (sym deep) small.shallow;
     }
+
+pub IsSmall-shape : (p q : Program) → SameShape p q → IsSmall q → IsSmall p
+IsSmall-shape p q same small =
+    let shapes : map decl_shape p.decls ≡ map decl_shape (small_decls small.names small.entry small.at small.body) =
+    ap (λ (s : Program). s.decls) same ∙ ap (map decl_shape) small.decls in
+    let own = decls_of_shape p.decls small.names small.entry small.at small.body shapes in
+    with_decls p q same own.names own.entry own.at own.body own.are small

@@ -1,9 +1,9 @@
 //! The laws of the claims.
 ghost use Rattle.std.specs.Prelude.{◌≡◌, ℕ, List};
 ghost use Rattle.node_form.specs.declared.tables.Tables.{Tables as Code};
-ghost use Rattle.zpl_tree.specs.Syntax.{Name, Stmts, Program as Tree};
+ghost use Rattle.zpl_tree.specs.Syntax.{Program as Tree};
 ghost use Rattle.zpl_tree.specs.Shape.{SameShape};
-ghost use Rattle.zpl_claims.specs.Small.{IsSmall, small_decls};
+ghost use Rattle.zpl_claims.specs.Small.{IsSmall};
 ghost use Rattle.zpl_claims.specs.Command.{Command, IsCommand};
 ghost use Rattle.zpl_claims.specs.Run.{IsRun};
 
@@ -17,8 +17,7 @@ pub fn runs_are_one()
     ensures { (code : Code) (order : List ℕ) (limit k j : ℕ) → IsRun code order limit k → IsRun code order limit j → k ≡ j }
 {}
 
-/// Whether a tree with the declarations of a small program is a small program's is told by its shape.
+/// Whether a tree is a small program's is told by its shape.
 pub fn smallness_is_of_the_shape()
-    ensures { (tree other : Tree) (names : List Name) (entry : Name) (at : ℕ) (body : Stmts) → SameShape tree other →
-        tree.decls ≡ small_decls names entry at body → IsSmall other → IsSmall tree }
+    ensures { (tree other : Tree) → SameShape tree other → IsSmall other → IsSmall tree }
 {}

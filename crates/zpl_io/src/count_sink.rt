@@ -1,6 +1,5 @@
 //! A sink that keeps the number and the hash of its bytes.
-ghost use Rattle.std.specs.Prelude.{◌≡◌, ◌≤◌, [], ◌∷◌};
-ghost use Rattle.zpl_io.specs.Faults.{last_count};
+ghost use Rattle.std.specs.Prelude.{◌≡◌, []};
 ghost use Rattle.zpl_io.specs.Sink.{Takes};
 ghost use Rattle.zpl_io.specs.CountSink.{tally_of, tally_after};
 

@@ -2,7 +2,6 @@
 //!
 //! Each law is the contract of a function that does nothing: a call brings the law into a proof.
 ghost use Rattle.std.specs.Prelude.{◌≡◌, ◌↔◌, ℕ, List, [], ◌++◌};
-ghost use Rattle.zpl_lists.specs.Front.{IsFrontOf};
 ghost use Rattle.zpl_io.specs.Sink.{Takes, TakesFront};
 ghost use Rattle.zpl_io.specs.MemFiles.{KeptFiles, HasText};
 ghost use Rattle.zpl_io.specs.MemSink.{KeptBytes};

@@ -1,9 +1,9 @@
 //! Files in memory.
-ghost use Rattle.std.specs.Prelude.{◌≡◌, ◌≢◌, ◌↔◌, ℕ, ◌+◌, ◌^◌, ◌<◌, ◌≤◌, [], ◌∷◌, ◌++◌, length, IfOk, OnOk, OnErr, IsTrue};
+ghost use Rattle.std.specs.Prelude.{◌≡◌, ◌≢◌, ◌↔◌, ℕ, ◌+◌, ◌^◌, ◌<◌, ◌≤◌, [], ◌∷◌, ◌++◌, length, IfOk, OnOk, OnErr};
 ghost use Rattle.std.specs.Option.{option_copied};
 ghost use Rattle.std.specs.Str.{bytes_eq};
-ghost use Rattle.zpl_io.specs.Faults.{last_count, Rose};
-ghost use Rattle.zpl_io.specs.Files.{GainsWhole, GainsTooMuch, GainsFront, SameTexts};
+ghost use Rattle.zpl_io.specs.Faults.{last_count};
+ghost use Rattle.zpl_io.specs.Files.{GainsWhole, GainsTooMuch};
 ghost use Rattle.zpl_io.specs.MemFiles.{text_under, HasText, FailsNext, files_after};
 
 use crate::outside::{Fetched, Files};

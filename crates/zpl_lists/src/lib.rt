@@ -3,7 +3,7 @@
 //! Each law is the contract of a function that does nothing: a call brings the law into a proof.
 #![tactic(auto)]
 
-ghost use Rattle.std.specs.Prelude.{◌≡◌, List, [], ◌++◌};
+ghost use Rattle.std.specs.Prelude.{List, [], ◌++◌};
 ghost use Rattle.zpl_lists.specs.Front.{IsFrontOf};
 
 /// A front of a front is a front, and so is a front behind the same list; a list has its empty front,

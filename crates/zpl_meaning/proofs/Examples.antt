@@ -7,8 +7,8 @@ use Rattle.zpl_nums.specs.declared.ends.End.TheVariants.{Done, Trap, More}
 use Rattle.zpl_nums.specs.declared.ends.TrapKind.TheVariants.{DivideByZero}
 use Rattle.zpl_nums.specs.declared.operators.Op.{Op}
 use Rattle.zpl_nums.specs.Integer.{greatest}
-use Rattle.zpl_tree.specs.Syntax.{Name, Expr, Number, Named, Neg, Not, Pair, Item, Str, Value, ForHead, Stmt, Prefixed, Stmts, NoStmt, ThenStmt, Form, Assign, Block, If, While, Repeat, For, Write, Tested, NoArm, ThenArm, Else, NoBracket, Integer, Boolean, VarDef, Procedure, Decl, Vars, Defined, Program}
-use Rattle.zpl_meaning.specs.Program.{Meaning, mean_of, steps_of}
+use Rattle.zpl_tree.specs.Syntax.{Name, Expr, Number, Named, Neg, Not, Pair, Str, Value, Stmt, Prefixed, Stmts, NoStmt, ThenStmt, Assign, Block, If, While, Repeat, For, Write, Tested, NoArm, ThenArm, Else, NoBracket, Integer, Boolean, Vars, Defined, Program}
+use Rattle.zpl_meaning.specs.Program.{mean_of, steps_of}
 
 abbrev name : List ℕ → Name
 name text = record { text = text; at = 0 }

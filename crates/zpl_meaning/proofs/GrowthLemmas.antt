@@ -5,11 +5,11 @@ use Rattle.zpl_lists.specs.Front.{IsFrontOf}
 use Rattle.zpl_nums.specs.declared.ends.End.{End}
 use Rattle.zpl_nums.specs.declared.ends.End.TheVariants.{Done, Trap, More}
 use Rattle.zpl_nums.specs.Integer.{is_true}
-use Rattle.zpl_tree.specs.Syntax.{Expr, ForHead, Base, VarDef, Param, Procedure, Program, Stmt, Prefixed, Stmts, NoStmt, ThenStmt, Form, Assign, Invoke, Block, If, While, Repeat, For, Border, Write, Return, Arm, Tested, Arms, NoArm, ThenArm, Otherwise, NoElse, Else}
+use Rattle.zpl_tree.specs.Syntax.{Base, VarDef, Param, Procedure, Program, Stmt, Prefixed, Stmts, NoStmt, ThenStmt, Form, Assign, Invoke, Block, If, While, Repeat, For, Border, Write, Return, Arm, Tested, Arms, NoArm, ThenArm, Otherwise, NoElse, Else}
 use Rattle.zpl_meaning.specs.Store.{Thing, Scalar, Store, empty_store, with_scalar, thing_of}
 use Rattle.zpl_meaning.specs.Value.{Computed, Gives, ZeroDivisor, NotBuilt}
-use Rattle.zpl_meaning.specs.Outcome.{Outcome, ends, goes_on, wants_more, counting, behind, then_at, then_do, with_value, choose, Test, tested, while_turns, repeat_turns, Count, is_past, next_value, for_turns}
-use Rattle.zpl_meaning.specs.Statement.{Context, exec, exec_all, exec_form, exec_arms, exec_arm, arms_at, exec_otherwise, test_of, Start, head_value, for_from, line_of, own_nodes}
+use Rattle.zpl_meaning.specs.Outcome.{Outcome, goes_on, wants_more, counting, behind, then_at, then_do, with_value, choose, Test, tested, while_turns, repeat_turns, Count, is_past, next_value, for_turns}
+use Rattle.zpl_meaning.specs.Statement.{Context, exec, exec_all, exec_form, exec_arms, exec_arm, arms_at, exec_otherwise, test_of, Start, head_value, for_from, line_of}
 use Rattle.zpl_meaning.specs.Program.{Names, if_bare, run_entry, context_of, with_declarations, entry_of, outcome_of, mean_of}
 
 -- the second is the first, or the first wants more and the second begins with what it printed

@@ -1,10 +1,9 @@
 -- The meaning of a program: what its entry procedure prints, and how it ends.
-use Rattle.std.specs.Prelude.{◌≡◌, ℕ, ◌+◌, Bool, true, false, List, [], ◌∷◌, ◌++◌, length, Option, Some, None, find}
+use Rattle.std.specs.Prelude.{ℕ, ◌+◌, Bool, true, false, List, [], ◌∷◌, ◌++◌, length, Option, Some, None, find}
 use Rattle.std.specs.Str.{bytes_eq}
-use Rattle.std.specs.Option.{option_and_then}
 use Rattle.zpl_nums.specs.declared.ends.End.{End}
 use Rattle.zpl_tree.specs.Syntax.{Name, Bracket, NoBracket, Bracketed, Base, Integer, Boolean, Other, VarDef, Param, Procedure, Decl, Config, Constant, Regions, Directions, Vars, Defined, Program}
-use Rattle.zpl_meaning.specs.Store.{Thing, Scalar, Environment, Store, empty_store}
+use Rattle.zpl_meaning.specs.Store.{Thing, Scalar, empty_store}
 use Rattle.zpl_meaning.specs.Outcome.{Outcome, wants_more}
 use Rattle.zpl_meaning.specs.Statement.{Context, exec}
 

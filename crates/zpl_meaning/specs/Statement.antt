@@ -2,10 +2,10 @@
 --
 -- A form that isn't built wants more at once, with nothing printed: a call, a `return`, a border statement, a prefix,
 -- and whatever has an array.
-use Rattle.std.specs.Prelude.{ℕ, ◌+◌, Bool, true, false, not, ℤ, pos, int_lt, List, [], ◌∷◌, Option, Some, None, sum_by}
+use Rattle.std.specs.Prelude.{ℕ, ◌+◌, true, ℤ, pos, int_lt, List, [], ◌∷◌, Option, Some, None, sum_by}
 use Rattle.zpl_nums.specs.declared.operators.Op.{Op}
 use Rattle.zpl_nums.specs.Op.{applied}
-use Rattle.zpl_tree.specs.Syntax.{Name, Expr, Item, Str, Value, ForHead, Stmt, Prefixed, Stmts, NoStmt, ThenStmt, Form, Assign, Invoke, Block, If, While, Repeat, For, Border, Write, Return, Arm, Tested, Arms, NoArm, ThenArm, Otherwise, NoElse, Else}
+use Rattle.zpl_tree.specs.Syntax.{Expr, Item, Str, Value, ForHead, Stmt, Prefixed, Stmts, NoStmt, ThenStmt, Form, Assign, Invoke, Block, If, While, Repeat, For, Border, Write, Return, Arm, Tested, Arms, NoArm, ThenArm, Otherwise, NoElse, Else}
 use Rattle.zpl_meaning.specs.Store.{Thing, Scalar, Environment, Store, thing_of, scalar_at, with_scalar}
 use Rattle.zpl_meaning.specs.Value.{Computed, Gives, computed_then, both_then, given, value_of, expr_nodes, exprs_nodes}
 use Rattle.zpl_meaning.specs.Text.{line_at, print_text}

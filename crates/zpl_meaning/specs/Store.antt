@@ -1,5 +1,5 @@
 -- What the names of a program stand for, and what its variables hold.
-use Rattle.std.specs.Prelude.{ℕ, Bool, ℤ, pos, List, [], ◌∷◌, ◌++◌, Option, find, replicate, slice_index_or, slice_set, map}
+use Rattle.std.specs.Prelude.{ℕ, Bool, ℤ, pos, List, Option, find, replicate, slice_index_or, slice_set}
 use Rattle.std.specs.Option.{option_map}
 use Rattle.std.specs.Str.{bytes_eq}
 

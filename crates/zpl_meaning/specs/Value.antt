@@ -1,10 +1,10 @@
 -- The value of an expression of rank 0, and its nodes.
-use Rattle.std.specs.Prelude.{ℕ, ◌+◌, Bool, true, false, ℤ, List, [], ◌∷◌, Option, Some, None}
+use Rattle.std.specs.Prelude.{ℕ, ◌+◌, Bool, true, false, ℤ, Option, Some, None}
 use Rattle.zpl_nums.specs.declared.operators.Op.{Op}
 use Rattle.zpl_nums.specs.declared.operators.Op.TheVariants as op
 use Rattle.zpl_nums.specs.Integer.{truth, negated, absolute, denied}
 use Rattle.zpl_nums.specs.Op.{applied}
-use Rattle.zpl_tree.specs.Syntax.{Name, Expr, Number, Truth, Coord, Named, Shifted, Call, Paren, Neg, Not, Abs, Pair, Reduce, Scan, Flood, Exprs, NoExpr, ThenExpr, Dir, NamedDir, Vector, Inner, Rexpr, Dims, Bracket, NoBracket, Bracketed, Posts, NoPost, ThenPost, DimText, Blank, Star, One, Span, DimTexts, NoDim, ThenDim}
+use Rattle.zpl_tree.specs.Syntax.{Expr, Number, Truth, Coord, Named, Shifted, Call, Paren, Neg, Not, Abs, Pair, Reduce, Scan, Flood, Exprs, NoExpr, ThenExpr, Dir, NamedDir, Vector, Inner, Rexpr, Dims, Bracket, NoBracket, Bracketed, Posts, NoPost, ThenPost, DimText, Blank, Star, One, Span, DimTexts, NoDim, ThenDim}
 use Rattle.zpl_meaning.specs.Store.{Thing, Scalar, Environment, Store, thing_of, scalar_at}
 
 -- What a computation gives: a value, or none for a divisor that is 0, or none for a form that has no

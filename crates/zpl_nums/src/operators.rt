@@ -1,5 +1,5 @@
 //! The binary operators of the language.
-ghost use Rattle.std.specs.Prelude.{◌≡◌, ◌⊎◌, ◌↔◌, IsNone, pos};
+ghost use Rattle.std.specs.Prelude.{◌≡◌, ◌↔◌, IsNone, pos};
 ghost use Rattle.zpl_nums.specs.Op.{applied, Divides};
 
 /// A binary operator on integers. Comparisons and `And`, `Or` answer a truth value, 0 or 1.

@@ -1,5 +1,5 @@
 //! Rules of declarations.
-ghost use Rattle.std.specs.Prelude.{◌≡◌, ◌<◌, ◌≤◌, ℕ, map, length, IfOk};
+ghost use Rattle.std.specs.Prelude.{◌<◌, ◌≤◌, ℕ, map, length, IfOk};
 ghost use Rattle.std.specs.Option.{option_map};
 ghost use Rattle.zpl_tree.specs.View.{name_of, base_type_of, define_of, region_of, direction_of, var_of, param_of, procedure_of, decl_of, stmt_of};
 ghost use Rattle.zpl_parse.specs.Classes.{part_of};

@@ -1,5 +1,5 @@
 //! Calls on small regions, compared with plain counts, and values from tables.
-ghost use Rattle.std.specs.Prelude.{◌<◌, ◌^◌, ◌≡◌, ◌≤ℤ◌, neg_ℤ, pos, length};
+ghost use Rattle.std.specs.Prelude.{◌<◌, ◌^◌, ◌≤ℤ◌, neg_ℤ, pos, length};
 ghost use Rattle.zpl_region.specs.Dim.{HasStep};
 ghost use Rattle.zpl_region.specs.Region.{IsRegion, members};
 

@@ -5,10 +5,10 @@ use Rattle.zpl_tokens.specs.declared.keywords.Key.TheVariants.{Of}
 use Rattle.zpl_tokens.specs.declared.symbols.Sym.TheVariants.{OpenBracket, Or}
 use Rattle.zpl_text.specs.declared.faults.LexFault.TheVariants.{FloatText}
 use Rattle.zpl_text.specs.Kinds.{IsToken, nothing, plain, escape}
-use Rattle.zpl_text.specs.Gaps.{IsLineComment, IsBlockComment, IsPastGap, Skips, white, line}
+use Rattle.zpl_text.specs.Gaps.{IsPastGap, Skips, white, line}
 use Rattle.zpl_text.specs.Gaps as gaps
 use Rattle.zpl_text.specs.Cutting.{opens_ditto, float_text}
-use Rattle.zpl_text.specs.Tokens.{Place, Takes, token, start, end_of, IsTokens, HasFault}
+use Rattle.zpl_text.specs.Tokens.{Takes, token, start, IsTokens, HasFault}
 use Rattle.zpl_text.specs.Tokens as cutting
 use Rattle.std.proofs.lemmas.Bool.{both_ways}
 use Rattle.zpl_text.specs.Bytes.{is_white}

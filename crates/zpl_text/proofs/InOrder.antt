@@ -9,7 +9,7 @@ use Rattle.zpl_text.specs.Bytes.{quote, backslash}
 use Rattle.zpl_text.specs.Kinds.{IsToken}
 use Rattle.zpl_text.specs.Gaps.{Skips, nothing, white, line, block}
 use Rattle.zpl_text.specs.Cutting.{IsSound, offset_of, IsWrong, no_token, bad_escape, open_comment, open_string, too_large, float_text}
-use Rattle.zpl_text.specs.Tokens.{Place, Takes, Cuts, start, end_of, IsTokens, IsFound, HasFault}
+use Rattle.zpl_text.specs.Tokens.{Place, Takes, Cuts, end_of, IsTokens, IsFound, HasFault}
 use Rattle.zpl_text.specs.Tokens as cutting
 use Rattle.zpl_text.specs.Spans.{IsWithinLimit, IsSpan, AreSpans, IsPlaceBelow, BeginWith}
 use Rattle.zpl_text.proofs.Cuts.{nil≢cons}

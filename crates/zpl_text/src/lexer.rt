@@ -1,5 +1,5 @@
 //! The whole text.
-ghost use Rattle.std.specs.Prelude.{◌≡◌, ◌≤◌, ◌<◌, ◌⊎◌, [], Bool, List, Ok, Err, length, MatchResult, MatchOption, IfOk, IfSome, OnOk, IfErr, IsOkUnless, vec_len};
+ghost use Rattle.std.specs.Prelude.{◌≡◌, ◌≤◌, ◌<◌, ◌⊎◌, [], List, Ok, Err, length, MatchResult, MatchOption, IfOk, IfSome, OnOk, IfErr, IsOkUnless, vec_len};
 ghost use Rattle.std.specs.Vec.{vec_capacity};
 ghost use Rattle.zpl_text.specs.declared.tokens.Token.{Token as Cutting};
 ghost use Rattle.zpl_text.specs.declared.faults.LexFault.{LexFault as Fault};

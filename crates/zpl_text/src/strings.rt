@@ -1,5 +1,5 @@
 //! Strings.
-ghost use Rattle.std.specs.Prelude.{◌≡◌, ◌≤◌, ◌<◌, ◌↔◌, [], ◌∷◌, Bool, false, length, IsTrue, MatchResult, IfOk};
+ghost use Rattle.std.specs.Prelude.{◌≤◌, ◌<◌, ◌↔◌, [], ◌∷◌, false, length, IsTrue, MatchResult, IfOk};
 ghost use Rattle.zpl_text.specs.Scanning.{BeginsEscape, BeginsPlain, IsWholeBody};
 ghost use Rattle.zpl_text.specs.Bytes.{quote, BeginsWith, EndsLine};
 ghost use Rattle.zpl_text.specs.Cutting.{IsCut, IsSound, IsWrong};

@@ -9,8 +9,8 @@ use Rattle.zpl_tokens.specs.declared.symbols.Sym.TheVariants as sym
 use Rattle.zpl_tree.specs.Depth.{depth, expr_depth, nest_depth}
 use Rattle.zpl_tree.specs.Grammar.{IsExpr, IsInner, IsProgram, SpellsLocals, SpellsRegion, expr_level}
 use Rattle.zpl_tree.specs.Shape.{SameShape}
-use Rattle.zpl_tree.specs.Spelling.{expr_words, inner_words, keyword, program_words, region_words, symbol, var_words}
-use Rattle.zpl_tree.specs.Syntax.{Name, Expr, Number, Named, Neg, Pair, Reduce, Inner, Rexpr, Dims, NoBracket, NamedDir, NamedRegion, NoPost, ThenPost, One, Star, Blank, Span, ThenDim, NoDim, RegionDef, VarDef, Stmt, Prefixed, NoStmt, ThenStmt, Assign, Block, Integer, Vars, Defined, Program}
+use Rattle.zpl_tree.specs.Spelling.{expr_words, inner_words, keyword, program_words, symbol, var_words}
+use Rattle.zpl_tree.specs.Syntax.{Name, Expr, Number, Named, Neg, Pair, Reduce, Rexpr, Dims, NoBracket, NamedDir, NamedRegion, NoPost, ThenPost, One, Star, Blank, Span, ThenDim, NoDim, RegionDef, VarDef, Stmt, Prefixed, NoStmt, ThenStmt, Assign, Block, Integer, Vars, Defined, Program}
 use Rattle.zpl_tree.specs.Word.{Word, printed_text, written}
 use Rattle.zpl_tree.specs.Word as word
 

@@ -1,5 +1,5 @@
 -- Why the words that are printed are a spelling.
-use Rattle.std.proofs.Common.{◌≡◌, List, [], ◌∷◌, refl, inl}
+use Rattle.std.proofs.Common.{List, [], ◌∷◌, refl, inl}
 use Rattle.std.specs.List.{flat_map}
 use Rattle.zpl_tree.specs.Grammar.{IsProgram, Spells, SpellsEach, SpellsRegion, SpellsMoreLocals, SpellsLocals, SpellsDecl}
 use Rattle.zpl_tree.specs.Spelling.{region_words, var_words, locals_words, decl_words, program_words}

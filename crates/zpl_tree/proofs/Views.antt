@@ -1,6 +1,6 @@
 -- How a tree's slices are seen as plain lists.
-use Rattle.std.proofs.Common.{◌≡◌, ℕ, List, [], ◌∷◌, Some, None, map, Bor, refl, sym, ap, ◌∙◌}
-use Rattle.zpl_tree.specs.View.{name_of, inner_of, rexpr_of, pre_of, base_of, row_of_exprs, exprs_of, form_of, row_of_posts, posts_of, dir_of, row_of_dims, dims_of, dim_of, row_of_stmts, stmts_of, statement_of, prefix_of, row_of_arms, arms_of, arm_of, expr_of, otherwise_of, head_of}
+use Rattle.std.proofs.Common.{◌≡◌, ℕ, List, Some, None, map, Bor, refl, sym, ap, ◌∙◌}
+use Rattle.zpl_tree.specs.View.{name_of, inner_of, rexpr_of, pre_of, base_of, row_of_exprs, exprs_of, form_of, row_of_posts, posts_of, dir_of, row_of_dims, dims_of, dim_of, row_of_stmts, stmts_of, statement_of, prefix_of, row_of_arms, arms_of, arm_of, expr_of, head_of}
 use Rattle.zpl_tree.specs.Syntax as plain
 use Rattle.zpl_tree.specs.declared.names.Name.{Name}
 use Rattle.zpl_tree.specs.declared.expressions.Expr.{Expr}

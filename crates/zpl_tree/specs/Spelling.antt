@@ -2,7 +2,7 @@
 --
 -- Each definition stands below the line of the grammar that it is. There `{ x }` is any number of x and `[ x ]` at most
 -- one; what the language writes is in quotes. Where a line has choices, the tree's form says which is taken.
-use Rattle.std.specs.Prelude.{ℕ, ◌==◌, ℤ, Bool, List, [], ◌∷◌, ◌++◌, Option, Some, None, if◌then◌else◌}
+use Rattle.std.specs.Prelude.{ℕ, ◌==◌, ℤ, List, [], ◌∷◌, ◌++◌, Option, Some, None, if◌then◌else◌}
 use Rattle.std.specs.List.{flat_map}
 use Rattle.zpl_nums.specs.declared.operators.Op.{Op}
 use Rattle.zpl_nums.specs.declared.operators.Op.TheVariants as op

@@ -1,5 +1,5 @@
 -- The tree in the arena, seen as plain syntax.
-use Rattle.std.specs.Prelude.{ℕ, ℤ, Bool, List, [], ◌∷◌, Option, Some, None, map}
+use Rattle.std.specs.Prelude.{ℕ, List, [], ◌∷◌, Option, Some, None, map}
 use Rattle.std.specs.Option.{option_map}
 use Rattle.zpl_tree.specs.Syntax as plain
 use Rattle.zpl_tree.specs.declared.names.Name.{Name}

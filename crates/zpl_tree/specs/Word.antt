@@ -1,5 +1,5 @@
 -- The words of a program: its tokens, with the bytes of names and strings.
-use Rattle.std.specs.Prelude.{ℕ, ℤ, List, [], ◌∷◌, ◌++◌, codes}
+use Rattle.std.specs.Prelude.{ℕ, ℤ, List, [], ◌++◌, codes}
 use Rattle.std.specs.Fmt.{signed_decimal}
 use Rattle.std.specs.List.{flat_map}
 use Rattle.zpl_tokens.specs.declared.Kind.{Kind}

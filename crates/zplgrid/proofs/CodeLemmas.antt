@@ -5,6 +5,7 @@ use Rattle.zpl_text.specs.Tokens.{IsTokens, Appends, HasFault, Refuses}
 use Rattle.zpl_tree.specs.Syntax.{Program}
 use Rattle.zpl_tree.specs.Word.{Word, word_text}
 use Rattle.zpl_tree.specs.Spelling.{program_words}
+use Rattle.zpl_tree.specs.Shape.{SameShape}
 use Rattle.zpl_grammar.specs.Written.{AreWords}
 use Rattle.node_form.specs.declared.tables.Tables.{Tables}
 use Rattle.zpl_meaning.specs.Program.{mean_of}
@@ -30,7 +31,7 @@ use Rattle.zplgrid.specs.Refusals.{place_of, lexical_fault, IsFaultOf, IsOnlyTre
 use Rattle.zplgrid.specs.declared.compiling.CompileFault.TheVariants.{Refused}
 use Rattle.zplgrid.specs.declared.refusals.Fault.TheVariants.{Syntax}
 use Rattle.zplgrid.specs.declared.refusals.Refusal.TheVariants.{At, TooDeep, NotBuilt}
-use Rattle.zplgrid.proofs.SmallLemmas.{small_is_program, small_is_shallow, spelled_once, SmallByShape, small_too}
+use Rattle.zplgrid.proofs.SmallLemmas.{small_is_program, small_is_shallow, spelled_once}
 
 -- there are as many tokens as words
 as_many : (text : List ℕ) (tokens : List Token) (words : List Word) → AreWords text tokens words → length words ≡ length tokens
@@ -128,10 +129,14 @@ many_refused text tokens program one_way of_text tree many =
 pub refuted : {A : Type 0} (r : Result A CodeFault) (claim : Type 0) → IfErr r (λ fault. Refutes fault claim) → r ≡ Err code.NotBuilt → claim → ⊥
 refuted r claim h is = subst (λ x. IfErr x (λ fault. Refutes fault claim)) is h
 
+-- whether a tree is small is told by its shape
+abbrev pub SmallByShape : Type 0
+SmallByShape = (tree other : Program) → SameShape tree other → IsSmall other → IsSmall tree
+
 -- nor has one with another tree
 pub other_refused : (text : List ℕ) (tokens : List Token) (program : Program) → OneWay → Printed → SmallByShape → IsTokens text tokens → IsShallowTree text tokens program
     → IsOnlyTree text tokens program → (IsSmall program → ⊥) → IsFaultOf text (Refused NotBuilt)
 other_refused text tokens program one_way printed law of_text tree only not_small =
     let none : (small : Program) → IsSmallText text small → ⊥ =
-    λ q small. not_small (small_too program q law (only q (is_tree text tokens q one_way printed of_text small)) small.small) in
+    λ q small. not_small (law program q (only q (is_tree text tokens q one_way printed of_text small)) small.small) in
     (not_built tokens program of_text tree none, none)

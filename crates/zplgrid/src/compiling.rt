@@ -5,7 +5,6 @@ ghost use Rattle.zpl_tree.specs.View.{syntax_of};
 ghost use Rattle.zpl_grammar.specs.Texts.{IsShallowTree};
 ghost use Rattle.grid_meaning.specs.Grid.{processors};
 ghost use Rattle.zpl_claims.specs.Answer.{IsCodeOf, most_source};
-ghost use Rattle.zpl_claims.specs.Small.{most_tokens};
 ghost use Rattle.zplgrid.specs.Refusals.{place_of, lexical_fault, IsFaultOf, IsOnlyTree};
 
 use crate::refusals::{Fault, Place, Refusal};

@@ -1,5 +1,5 @@
 use Rattle.std.proofs.Common.{ap}
-use Rattle.zpl_meaning.proofs.GrowthLemmas.{IsFrontOf-mean_of, outcome_of-stays}
+use Rattle.zpl_meaning.proofs.GrowthLemmas.{outcome_of-stays}
 use Rattle.zpl_meaning.proofs.laws.endings_stay.Goals as goal
 
 pub returns : goal.returns

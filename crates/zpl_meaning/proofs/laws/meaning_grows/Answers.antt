@@ -1,5 +1,4 @@
-use Rattle.std.proofs.Common.{ap}
-use Rattle.zpl_meaning.proofs.GrowthLemmas.{IsFrontOf-mean_of, outcome_of-stays}
+use Rattle.zpl_meaning.proofs.GrowthLemmas.{IsFrontOf-mean_of}
 use Rattle.zpl_meaning.proofs.laws.meaning_grows.Goals as goal
 
 pub returns : goal.returns

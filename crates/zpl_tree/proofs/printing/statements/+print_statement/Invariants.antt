@@ -1,6 +1,4 @@
-use Rattle.std.proofs.Common.{◌≡◌, ◌++◌, drop, map}
-use Rattle.std.specs.List.{flat_map}
-use Rattle.zpl_tokens.specs.declared.symbols.Sym.TheVariants as sym
+use Rattle.std.proofs.Common.{◌≡◌, ◌++◌, drop}
 use Rattle.zpl_tree.specs.Spelling.{more_arms, stmts_words}
 use Rattle.zpl_tree.specs.View.{stmts_of, arms_of}
 use Rattle.zpl_tree.specs.Word.{printed_text}

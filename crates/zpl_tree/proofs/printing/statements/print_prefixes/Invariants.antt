@@ -1,6 +1,5 @@
 use Rattle.std.proofs.Common.{◌≡◌, ◌++◌, drop, map}
 use Rattle.std.specs.List.{flat_map}
-use Rattle.zpl_tokens.specs.declared.symbols.Sym.TheVariants as sym
 use Rattle.zpl_tree.specs.Spelling.{prefix_words}
 use Rattle.zpl_tree.specs.View.{prefix_of}
 use Rattle.zpl_tree.specs.Word.{printed_text}
