@@ -6,7 +6,7 @@ use Rattle.zpl_tokens.specs.declared.Kind.{Kind}
 use Rattle.zpl_tokens.specs.declared.Kind.TheVariants as kind
 use Rattle.zpl_tokens.specs.declared.keywords.Key.TheVariants as key
 use Rattle.zpl_tokens.specs.declared.symbols.Sym.TheVariants as sym
-use Rattle.zpl_tree.specs.Syntax.{NoExpr, Dims, ThenDim, NoDim, Name, Expr, Str, Value, Stmt, Prefixed, Stmts, NoStmt, ThenStmt, Form, Assign, Invoke, Block, If, While, Repeat, For, Border, Write, Return, Tested, NoArm, ThenArm, NoElse, Else}
+use Rattle.zpl_tree.specs.Syntax.{NoExpr, Dims, ThenDim, NoDim, Name, Expr, Str, Value, Stmt, Prefixed, Stmts, NoStmt, ThenStmt, Form, Invoke, Block, If, While, Repeat, For, Border, Write, Return, Tested, NoArm, ThenArm, NoElse, Else}
 use Rattle.zpl_tree.specs.Spelling.{symbol, keyword, name_words, expr_words, mask_words, prefix_words, step_words, head_words, item_words, items_words, end_words, stmt_words, stmts_words, form_words, arms_words, arm_words, otherwise_words}
 use Rattle.zpl_tree.specs.Grammar.{HasAny, IsPrefix, IsStep, IsHead, IsItem, HasArm, IsStmt, AreStmts, IsForm, AreArms, IsArm, IsOtherwise}
 use Rattle.zpl_tree.specs.Word as word
