@@ -1,5 +1,5 @@
 -- The words of a text are writable.
-use Rattle.std.proofs.Common.{◌≡◌, ℕ, ◌<◌, ◌≤◌, ◌^◌, ℤ, pos, ◌≤ℤ◌, Bool, true, List, [], ◌∷◌, ◌++◌, length, refl, sym, ◌∙◌, ap, subst, arith}
+use Rattle.std.proofs.Common.{◌≡◌, ℕ, ◌<◌, ◌≤◌, ◌^◌, ℤ, pos, ◌≤ℤ◌, Bool, true, false, List, [], ◌∷◌, ◌++◌, length, refl, sym, ◌∙◌, ap, subst, arith}
 use Rattle.std.specs.Char.{is_ascii_digit}
 use Rattle.std.specs.Fmt.{decimal, signed_decimal}
 use Rattle.std.specs.List.{list_all}
@@ -103,3 +103,34 @@ text_words_writable text words in_order has =
     let are = subst (λ (ts : List Token). AreWords text ts words) is.all has.are in
     let from = writable_from 0 words is.cuts spans are in
     record { before = from.before; split = from.split; each = from.each }
+
+-- lists that are the same
+list_head : {x y : Token} {xs ys : List Token} → x ∷ xs ≡ y ∷ ys → y ≡ x
+list_head same = cc
+
+list_tail : {x y : Token} {xs ys : List Token} → x ∷ xs ≡ y ∷ ys → xs ≡ ys
+list_tail same = cc
+
+none_behind : {A : Type 0} (front back : List Token) (t : Token) → [] ≡ front ++ t ∷ back → A
+none_behind [] back t same = absurd cc
+none_behind (first ∷ front) back t same = absurd cc
+
+-- the words before some token behind a place
+front_writable : {text : List ℕ} {here last : Place} {found : List Token} (at : ℕ) (front back : List Token) (t : Token) (words : List Word) → Cuts text here found last → AreSpans text at (found ++ end_of text ∷ [])
+    → found ++ end_of text ∷ [] ≡ front ++ t ∷ back → AreWords text front words → EachIsWritable here.ditto words
+front_writable at [] back t [] cuts spans split are = tt
+front_writable at [] back t (word ∷ words) cuts spans split are = absurd are
+front_writable at (first ∷ front) back t [] cuts spans split are = absurd are
+front_writable {text = text} at (first ∷ front) back t (word ∷ words) nothing spans split are = none_behind front back t (list_tail split)
+front_writable {text = text} {here = here} at (first ∷ front) back t (word ∷ words) (token {next = next} {t = u} step steps) spans split are =
+    let same : first ≡ u = list_head split in
+    let is : IsWord text u word = subst (λ (x : Token). IsWord text x word) same are.0 in
+    let ditto : next.ditto ≡ opens_ditto (kind_of word) = step.ditto ∙ ap opens_ditto is.kind in (
+      is_writable text here next at u word step spans.0 is,
+      subst (λ (d : Bool). EachIsWritable d words) ditto (front_writable u.to front back t words steps spans.1 (list_tail split) are.1),
+    )
+
+pub words_before_writable : (text : List ℕ) (tokens front back : List Token) (t : Token) (words : List Word) → ((tokens : List Token) → IsTokens text tokens → AreSpans text 0 tokens) → IsTokens text tokens
+    → tokens ≡ front ++ t ∷ back → AreWords text front words → EachIsWritable false words
+words_before_writable text tokens front back t words in_order is split are =
+    front_writable 0 front back t words is.cuts (subst (λ (ts : List Token). AreSpans text 0 ts) is.all (in_order tokens is)) (sym is.all ∙ split) are

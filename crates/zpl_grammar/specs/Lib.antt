@@ -1,3 +1,3 @@
 pub mod Written
-pub mod Texts
 pub mod Writable
+pub mod Texts

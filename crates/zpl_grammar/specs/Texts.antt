@@ -1,11 +1,13 @@
 -- What it means that a text has a tree, and what is wrong with one that has none.
 use Rattle.std.specs.Prelude.{◌≡◌, ℕ, ◌<◌, ◌≤◌, List, [], ◌∷◌, ◌++◌}
 use Rattle.zpl_text.specs.declared.tokens.Token.{Token}
+use Rattle.zpl_text.specs.Tokens.{IsTokens}
 use Rattle.zpl_tree.specs.Word.{Word}
 use Rattle.zpl_tree.specs.Syntax.{Program}
 use Rattle.zpl_tree.specs.Depth.{depth}
 use Rattle.zpl_tree.specs.Grammar.{Spells}
 use Rattle.zpl_grammar.specs.Written.{IsWord, AreWords}
+use Rattle.zpl_grammar.specs.Writable.{AreWritable}
 
 -- the greatest depth of a tree
 abbrev pub most_deep : ℕ
@@ -17,12 +19,17 @@ AreFirstWords text [] words = Unit {0}
 AreFirstWords text (token ∷ tokens) [] = ⊥
 AreFirstWords text (token ∷ tokens) (word ∷ words) = IsWord text token word × AreFirstWords text tokens words
 
--- some text of the grammar begins with the tokens
-pub record BeginsText (text : List ℕ) (tokens : List Token) : Type 0 where
+-- The words of some program begin with the tokens, whether or not a text can have those words.
+pub record BeginsWords (text : List ℕ) (tokens : List Token) : Type 0 where
   pub program : Program
   pub words : List Word
   pub spells : Spells program words
   pub first : AreFirstWords text tokens words
+
+-- Some text of the grammar begins with the tokens: the words that they begin are words that a text can have.
+pub record BeginsText (text : List ℕ) (tokens : List Token) : Type 0 where
+  pub begun : BeginsWords text tokens
+  pub writable : AreWritable begun.words
 
 -- the tokens are the words of the tree, however deep it is
 pub record IsTree (text : List ℕ) (tokens : List Token) (program : Program) : Type 0 where
@@ -30,12 +37,19 @@ pub record IsTree (text : List ℕ) (tokens : List Token) (program : Program) : 
   pub spells : Spells program words
   pub are : AreWords text tokens words
 
+-- the tokens of the text are words of the tree
+pub record HasTree (text : List ℕ) (program : Program) : Type 0 where
+  pub tokens : List Token
+  pub are_tokens : IsTokens text tokens
+  pub is_tree : IsTree text tokens program
+
 -- a tree of the tokens that is not too deep
 pub record IsShallowTree (text : List ℕ) (tokens : List Token) (program : Program) : Type 0 where
   pub tree : IsTree text tokens program
   pub shallow : depth program ≤ most_deep
 
--- At the first token with which no text of the grammar begins: some text begins with those before it.
+-- At the first token with which no text of the grammar begins: some text begins with those before it. With that token
+-- no program's words begin at all.
 pub record IsSyntaxFault (text : List ℕ) (tokens : List Token) (at : ℕ) : Type 0 where
   pub front : List Token
   pub token : Token
@@ -43,7 +57,7 @@ pub record IsSyntaxFault (text : List ℕ) (tokens : List Token) (at : ℕ) : Ty
   pub split : tokens ≡ front ++ token ∷ back
   pub place : token.from ≡ at
   pub begins : BeginsText text front
-  pub none : ¬ BeginsText text (front ++ token ∷ [])
+  pub none : ¬ BeginsWords text (front ++ token ∷ [])
 
 -- some front of the tokens begins a text of the grammar, and no tree that is not too deep
 pub record IsTooDeep (text : List ℕ) (tokens : List Token) : Type 0 where

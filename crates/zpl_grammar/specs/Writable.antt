@@ -1,14 +1,12 @@
--- Which words a text can have, and what it means that a text has words or a tree.
+-- Which words a text can have, and what it means that a text has words.
 use Rattle.std.specs.Prelude.{◌≡◌, ℕ, Bool, false, List, [], ◌∷◌, ◌++◌}
 use Rattle.zpl_text.specs.declared.tokens.Token.{Token}
 use Rattle.zpl_text.specs.Kinds.{IsToken}
 use Rattle.zpl_text.specs.Cutting.{opens_ditto, MayStand}
 use Rattle.zpl_text.specs.Spans.{IsWithinLimit}
 use Rattle.zpl_text.specs.Tokens.{IsTokens}
-use Rattle.zpl_tree.specs.Syntax.{Program}
 use Rattle.zpl_tree.specs.Word.{Word, End, kind_of, word_text}
 use Rattle.zpl_grammar.specs.Written.{AreWords}
-use Rattle.zpl_grammar.specs.Texts.{IsTree}
 
 -- The word is written as a token of its kind, one that may stand where a quote is a ditto, or where it isn't. The end is no
 -- such word.
@@ -33,9 +31,3 @@ pub record HasWords (text : List ℕ) (words : List Word) : Type 0 where
   pub tokens : List Token
   pub are_tokens : IsTokens text tokens
   pub are : AreWords text tokens words
-
--- the tokens of the text are words of the tree
-pub record HasTree (text : List ℕ) (program : Program) : Type 0 where
-  pub tokens : List Token
-  pub are_tokens : IsTokens text tokens
-  pub is_tree : IsTree text tokens program

@@ -4,7 +4,7 @@
 //! definitions as its contract, and a call brings the law into a proof.
 #![tactic(auto)]
 
-ghost use Rattle.std.specs.Prelude.{◌≡◌, ◌≤◌, ℕ, List, length, sum_by};
+ghost use Rattle.std.specs.Prelude.{◌≡◌, ◌≤◌, ℕ, false, List, ◌∷◌, ◌++◌, length, sum_by};
 ghost use Rattle.zpl_text.specs.declared.tokens.Token.{Token};
 ghost use Rattle.zpl_text.specs.Tokens.{IsTokens};
 ghost use Rattle.zpl_tree.specs.Grammar.{Spells};
@@ -12,12 +12,21 @@ ghost use Rattle.zpl_tree.specs.Spelling.{program_words};
 ghost use Rattle.zpl_tree.specs.Syntax.{Program};
 ghost use Rattle.zpl_tree.specs.Word.{Word, word_text, printed_text};
 ghost use Rattle.zpl_grammar.specs.Written.{AreWords};
-ghost use Rattle.zpl_grammar.specs.Writable.{AreWritable, HasWords, HasTree};
+ghost use Rattle.zpl_grammar.specs.Texts.{HasTree};
+ghost use Rattle.zpl_grammar.specs.Writable.{AreWritable, EachIsWritable, HasWords};
 
 /// The words of a text take no more bytes than the text.
 pub fn words_fit_their_text()
     ensures { (text : List ℕ) (tokens : List Token) (words : List Word) → IsTokens text tokens → AreWords text tokens words →
         sum_by (λ word. length (word_text word)) words ≤ length text }
+{
+    zpl_text::tokens_are_in_order();
+}
+
+/// The words before a token of a text are writable, each where it stands.
+pub fn words_before_a_token_are_writable()
+    ensures { (text : List ℕ) (tokens front back : List Token) (token : Token) (words : List Word) → IsTokens text tokens
+        → tokens ≡ front ++ token ∷ back → AreWords text front words → EachIsWritable false words }
 {
     zpl_text::tokens_are_in_order();
 }

@@ -20,23 +20,23 @@ use Rattle.zpl_parse.specs.Expressions.{levels}
 use Rattle.zpl_parse.specs.Whole.{any_expr, most_nested}
 use Rattle.zpl_parse.specs.Declarations.{program, decls}
 use Rattle.zpl_parse.proofs.OneTree.{tree_no_fault, tree_not_deep}
-use Rattle.zpl_parse.proofs.Whole.{wrong_is_fault, deep_is_fault}
+use Rattle.zpl_parse.proofs.Whole.{AreWritableBefore, wrong_is_fault, deep_is_fault}
 
 -- the fault is the rule's outcome with any fuel that is enough
 abbrev pub IsFaultHere : List ℕ → List Token → ParseFault → Type 0
 IsFaultHere text tokens fault = (most : ℕ) → length tokens < most → IsFaultOf fault (program text most (lexemes_of text tokens))
 
-pub is_syntax : (text : List ℕ) (tokens : List Token) (at : ℕ) → IsTokens text tokens → AreSpans text 0 tokens → IsFaultHere text tokens (Syntax at) → IsSyntaxFault text tokens at
-is_syntax text tokens at are spans here = wrong_is_fault text text tokens at are spans (λ most enough. let w = here most enough in (w.rest, w.is, w.place))
+pub is_syntax : AreWritableBefore → (text : List ℕ) (tokens : List Token) (at : ℕ) → IsTokens text tokens → AreSpans text 0 tokens → IsFaultHere text tokens (Syntax at) → IsSyntaxFault text tokens at
+is_syntax writable text tokens at are spans here = wrong_is_fault writable text text tokens at are spans (λ most enough. let w = here most enough in (w.rest, w.is, w.place))
 
-pub is_deep : (text : List ℕ) (tokens : List Token) → IsTokens text tokens → AreSpans text 0 tokens → IsFaultHere text tokens TooDeep → IsTooDeep text tokens
-is_deep text tokens are spans here = deep_is_fault text text tokens are spans (λ most enough. let d = here most enough in (d.rest, d.is))
+pub is_deep : AreWritableBefore → (text : List ℕ) (tokens : List Token) → IsTokens text tokens → AreSpans text 0 tokens → IsFaultHere text tokens TooDeep → IsTooDeep text tokens
+is_deep writable text tokens are spans here = deep_is_fault writable text text tokens are spans (λ most enough. let d = here most enough in (d.rest, d.is))
 
 -- a text that has a tree has no fault but want of memory
-pub tree_wants_memory : (text : List ℕ) (tokens : List Token) (fault : ParseFault) (tree : Program) → IsTokens text tokens → AreSpans text 0 tokens → IsFaultHere text tokens fault → IsShallowTree text tokens tree → WantsMemory fault
-tree_wants_memory text tokens (Syntax at) tree are spans here is = tree_no_fault text tokens tree at is.tree (is_syntax text tokens at are spans here)
-tree_wants_memory text tokens TooDeep tree are spans here is = tree_not_deep text tokens tree is (is_deep text tokens are spans here)
-tree_wants_memory text tokens NoMemory tree are spans here is = tt
+pub tree_wants_memory : AreWritableBefore → (text : List ℕ) (tokens : List Token) (fault : ParseFault) (tree : Program) → IsTokens text tokens → AreSpans text 0 tokens → IsFaultHere text tokens fault → IsShallowTree text tokens tree → WantsMemory fault
+tree_wants_memory writable text tokens (Syntax at) tree are spans here is = tree_no_fault text tokens tree at is.tree (is_syntax writable text tokens at are spans here)
+tree_wants_memory writable text tokens TooDeep tree are spans here is = tree_not_deep text tokens tree is (is_deep writable text tokens are spans here)
+tree_wants_memory writable text tokens NoMemory tree are spans here is = tt
 
 -- the same of an answer that passes the fault on
 pub passed_reads : {V : Type 0} (fault : ParseFault) (r : Result V ParseFault) (Q : V → Type 0) → IsErrAnd r (λ e. e ≡ fault) → WantsMemory fault → Reads r Q

@@ -18,6 +18,7 @@ pub mod LocalTokens
 pub mod LocalExpressions
 pub mod LocalStatements
 pub mod LocalDeclarations
+pub mod PlainWords
 pub mod ViableBase
 pub mod ViableExprs
 pub mod ViableStmts

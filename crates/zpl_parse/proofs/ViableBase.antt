@@ -15,14 +15,16 @@ use Rattle.zpl_parse.specs.Lexeme.{Lexeme, behind}
 use Rattle.zpl_parse.specs.Outcome.{Outcome, Done, Wrong, Deep, Reader, and_then, made}
 use Rattle.zpl_parse.specs.Same.{same}
 use Rattle.zpl_parse.specs.Tokens.{next_is, taken, expect, name, name_of_kind, names, closing, string_of}
-use Rattle.zpl_parse.proofs.SoundBase.{Takes, nothing, takes_then, Spelled}
+use Rattle.zpl_parse.proofs.SoundBase.{Takes, nothing, one, takes_then, Spelled}
+use Rattle.zpl_parse.proofs.PlainWords.{ArePlain, plain_then, IsMark, mark_is_sign, mark_is_plain}
 use Rattle.zpl_parse.proofs.SoundTokens.{IsSign, takes_one, takes_next, one_more, string_at}
 
--- words that some tree goes on with
+-- words that some tree goes on with, and that may stand anywhere
 pub record Goes {A : Type 0} (Says : A → List Word → Type 0) (front : List Word) : Type 0 where
   pub tree : A
   pub more : List Word
   pub says : Says tree (front ++ more)
+  pub plain : ArePlain more
 
 -- the lexemes before those that are left begin some tree
 abbrev pub Begins : {A : Type 0} → (A → List Word → Type 0) → List Lexeme → List Lexeme → Type 0
@@ -47,28 +49,36 @@ pub viable_deep : {A : Type 0} {Says : A → List Word → Type 0} {lexemes rest
 viable_deep {front = front} takes goes = record { shows = (front, takes, goes) }
 
 -- all words of a tree
-pub goes_all : {A : Type 0} {spelling : A → List Word} {Is : A → Type 0} (tree : A) → Is tree → Goes (Spelled spelling Is) []
-goes_all {spelling = spelling} tree is = record { tree = tree; more = spelling tree; says = (refl, is) }
+pub goes_all : {A : Type 0} {spelling : A → List Word} {Is : A → Type 0} (tree : A) → Is tree → ArePlain (spelling tree) → Goes (Spelled spelling Is) []
+goes_all {spelling = spelling} tree is plain = record { tree = tree; more = spelling tree; says = (refl, is); plain = plain }
 
 -- words to which none is added
 pub exactly : {A : Type 0} {Says : A → List Word → Type 0} {words : List Word} (tree : A) → Says tree words → Goes Says words
-exactly {Says = Says} {words = words} tree says = record { tree = tree; more = []; says = subst (Says tree) (sym (append-nil words)) says }
+exactly {Says = Says} {words = words} tree says = record { tree = tree; more = []; says = subst (Says tree) (sym (append-nil words)) says; plain = refl }
 
 goes_on : {A : Type 0} (Says : A → List Word → Type 0) (words front : List Word) → Goes (λ tree more. Says tree (words ++ more)) front → Goes Says (words ++ front)
-goes_on Says words front goes = record { tree = goes.tree; more = goes.more; says = subst (Says goes.tree) (sym (append_assoc words front goes.more)) goes.says }
+goes_on Says words front goes = record { tree = goes.tree; more = goes.more; says = subst (Says goes.tree) (sym (append_assoc words front goes.more)) goes.says; plain = goes.plain }
 
 goes_as : {A B : Type 0} (Other : A → List Word → Type 0) (Says : B → List Word → Type 0) (f : A → B) (front : List Word) → Goes Other front →
     ((tree : A) (words : List Word) → Other tree words → Says (f tree) words) → Goes Says front
-goes_as Other Says f front goes so = record { tree = f goes.tree; more = goes.more; says = so goes.tree (front ++ goes.more) goes.says }
+goes_as Other Says f front goes so = record { tree = f goes.tree; more = goes.more; says = so goes.tree (front ++ goes.more) goes.says; plain = goes.plain }
 
--- there is some tree
-some_by : {A : Type 0} (Says : A → List Word → Type 0) (lexemes : List Lexeme) (outcome : Outcome A) → IsViable Says lexemes outcome → Goes Says []
-some_by Says lexemes (Done tree rest) h = record { tree = tree; more = h.shows.0; says = h.shows.2 }
-some_by Says lexemes (Wrong rest) h = record { tree = h.shows.2.tree; more = h.shows.0 ++ h.shows.2.more; says = h.shows.2.says }
-some_by Says lexemes (Deep rest) h = record { tree = h.shows.2.tree; more = h.shows.0 ++ h.shows.2.more; says = h.shows.2.says }
+-- of no lexemes none are taken
+none_taken : {lexemes rest : List Lexeme} {words : List Word} → lexemes ≡ [] → Takes lexemes words rest → words ≡ []
+none_taken none nothing = refl
+none_taken none (one reads inner more) = absurd (cc)
 
-pub some_tree : {A : Type 0} {Says : A → List Word → Type 0} {lexemes : List Lexeme} {outcome : Outcome A} → IsViable Says lexemes outcome → Goes Says []
-some_tree {Says = Says} {lexemes = lexemes} {outcome = outcome} h = some_by Says lexemes outcome h
+goes_from : {A : Type 0} (Says : A → List Word → Type 0) (words : List Word) → words ≡ [] → Goes Says words → Goes Says []
+goes_from Says words none goes = subst (Goes Says) none goes
+
+-- there is some tree, by what a reader does where there are no lexemes
+some_by : {A : Type 0} (Says : A → List Word → Type 0) (lexemes : List Lexeme) (outcome : Outcome A) → lexemes ≡ [] → IsViable Says lexemes outcome → Goes Says []
+some_by Says lexemes (Done tree rest) none h = goes_from Says h.shows.0 (none_taken none h.shows.1) (exactly tree h.shows.2)
+some_by Says lexemes (Wrong rest) none h = goes_from Says h.shows.0 (none_taken none h.shows.1) h.shows.2
+some_by Says lexemes (Deep rest) none h = goes_from Says h.shows.0 (none_taken none h.shows.1) h.shows.2
+
+pub some_tree : {A : Type 0} {Says : A → List Word → Type 0} {lexemes : List Lexeme} {outcome : Outcome A} → lexemes ≡ [] → IsViable Says lexemes outcome → Goes Says []
+some_tree {Says = Says} {lexemes = lexemes} {outcome = outcome} none h = some_by Says lexemes outcome none h
 
 -- words that were taken before
 viable_past : {A : Type 0} (Says : A → List Word → Type 0) (lexemes rest : List Lexeme) (words : List Word) (outcome : Outcome A) → Takes lexemes words rest →
@@ -113,10 +123,10 @@ pub goes_fill : {A B : Type 0} (Other : A → List Word → Type 0) (Says : B �
     ((tree : A) (words : List Word) → Other tree words → Goes Says words) → Goes Says front
 goes_fill Other Says front goes so =
     let on = so goes.tree (front ++ goes.more) goes.says in
-    record { tree = on.tree; more = goes.more ++ on.more; says = subst (Says on.tree) (append_assoc front goes.more on.more) on.says }
+    record { tree = on.tree; more = goes.more ++ on.more; says = subst (Says on.tree) (append_assoc front goes.more on.more) on.says; plain = plain_then goes.more on.more goes.plain on.plain }
 
 goes_here : {A : Type 0} (Says : A → List Word → Type 0) (words : List Word) → Goes (λ tree more. Says tree (words ++ more)) [] → Goes Says words
-goes_here Says words goes = record { tree = goes.tree; more = goes.more; says = goes.says }
+goes_here Says words goes = record { tree = goes.tree; more = goes.more; says = goes.says; plain = goes.plain }
 
 -- one rule and then another
 then_by : {A B : Type 0} (Other : A → List Word → Type 0) (Says : B → List Word → Type 0) (lexemes : List Lexeme) (outcome : Outcome A) (next : A → Reader B) → IsViable Other lexemes outcome →
@@ -124,9 +134,9 @@ then_by : {A B : Type 0} (Other : A → List Word → Type 0) (Says : B → List
     IsViable Says lexemes (and_then outcome next)
 then_by Other Says lexemes (Done tree rest) next h so = viable_past Says lexemes rest h.shows.0 (next tree rest) h.shows.1 (so tree rest h.shows.0 h.shows.2)
 then_by Other Says lexemes (Wrong rest) next h so =
-    record { shows = (h.shows.0, h.shows.1, goes_fill Other Says h.shows.0 h.shows.2 (λ tree words says. goes_here Says words (some_tree (so tree [] words says)))) }
+    record { shows = (h.shows.0, h.shows.1, goes_fill Other Says h.shows.0 h.shows.2 (λ tree words says. goes_here Says words (some_tree refl (so tree [] words says)))) }
 then_by Other Says lexemes (Deep rest) next h so =
-    record { shows = (h.shows.0, h.shows.1, goes_fill Other Says h.shows.0 h.shows.2 (λ tree words says. goes_here Says words (some_tree (so tree [] words says)))) }
+    record { shows = (h.shows.0, h.shows.1, goes_fill Other Says h.shows.0 h.shows.2 (λ tree words says. goes_here Says words (some_tree refl (so tree [] words says)))) }
 
 pub viable_then : {A B : Type 0} {Other : A → List Word → Type 0} {Says : B → List Word → Type 0} {lexemes : List Lexeme} {outcome : Outcome A} {next : A → Reader B} → IsViable Other lexemes outcome →
     ((tree : A) (rest : List Lexeme) (words : List Word) → Other tree words → IsViable (λ made more. Says made (words ++ more)) rest (next tree rest)) →
@@ -170,23 +180,23 @@ viable_at_sign w is lexemes so other = viable_choose (next_is (kind_of w) lexeme
     (λ e. other)
 
 -- one that must be there
-expected : (w : Word) → IsSign w → (first : Lexeme) (rest : List Lexeme) (test : Bool) → same first.kind (kind_of w) ≡ test →
+expected : (w : Word) → IsMark w → (first : Lexeme) (rest : List Lexeme) (test : Bool) → same first.kind (kind_of w) ≡ test →
     IsViable (Spelled (λ at. w ∷ []) (λ (at : ℕ). Unit {0})) (first ∷ rest) (taken test first rest)
-expected w is first rest true e = record { shows = (w ∷ [], takes_next w is (first ∷ rest) e, (refl, tt)) }
-expected w is first rest false e = viable_wrong (goes_all 0 tt)
+expected w is first rest true e = record { shows = (w ∷ [], takes_next w (mark_is_sign w is) (first ∷ rest) e, (refl, tt)) }
+expected w is first rest false e = viable_wrong (goes_all 0 tt (mark_is_plain w is))
 
-pub expect_viable : (w : Word) → IsSign w → (lexemes : List Lexeme) → IsViable (Spelled (λ at. w ∷ []) (λ (at : ℕ). Unit {0})) lexemes (expect (kind_of w) lexemes)
-expect_viable w is [] = viable_wrong (goes_all 0 tt)
+pub expect_viable : (w : Word) → IsMark w → (lexemes : List Lexeme) → IsViable (Spelled (λ at. w ∷ []) (λ (at : ℕ). Unit {0})) lexemes (expect (kind_of w) lexemes)
+expect_viable w is [] = viable_wrong (goes_all 0 tt (mark_is_plain w is))
 expect_viable w is (first ∷ rest) = expected w is first rest (same first.kind (kind_of w)) refl
 
 -- one that must be there before what follows
-pub viable_sign : {A : Type 0} {Says : A → List Word → Type 0} (w : Word) → IsSign w → {lexemes : List Lexeme} {next : ℕ → Reader A} →
+pub viable_sign : {A : Type 0} {Says : A → List Word → Type 0} (w : Word) → IsMark w → {lexemes : List Lexeme} {next : ℕ → Reader A} →
     ((at : ℕ) (rest : List Lexeme) → IsViable (λ tree more. Says tree (w ∷ more)) rest (next at rest)) →
     IsViable Says lexemes (and_then (expect (kind_of w) lexemes) next)
 viable_sign w is {lexemes = lexemes} so = viable_step (expect_viable w is lexemes) (λ at rest fact. so at rest)
 
 -- one that must be there last
-pub viable_last : {A : Type 0} {Says : A → List Word → Type 0} (w : Word) → IsSign w → {lexemes : List Lexeme} (tree : A) →
+pub viable_last : {A : Type 0} {Says : A → List Word → Type 0} (w : Word) → IsMark w → {lexemes : List Lexeme} (tree : A) →
     Says tree (w ∷ []) → IsViable Says lexemes (made (λ at. tree) (expect (kind_of w) lexemes))
 viable_last w is {lexemes = lexemes} tree so = viable_finish (λ at. tree) (expect_viable w is lexemes) (λ at fact. so)
 
@@ -196,14 +206,14 @@ some_name = record { text = codes "x"; at = 0 }
 
 named : (k : Kind) (first : Lexeme) (rest : List Lexeme) → first.kind ≡ k → IsViable (Spelled name_words (λ name. Unit {0})) (first ∷ rest) (name_of_kind k first rest)
 named kind.Name first rest e = record { shows = (word.Name first.bytes ∷ [], takes_one (word.Name first.bytes) (record { kind = e; bytes = refl }) tt, (refl, tt)) }
-named _ first rest e = viable_wrong (goes_all some_name tt)
+named _ first rest e = viable_wrong (goes_all some_name tt refl)
 
 pub name_viable : (lexemes : List Lexeme) → IsViable (Spelled name_words (λ name. Unit {0})) lexemes (name lexemes)
-name_viable [] = viable_wrong (goes_all some_name tt)
+name_viable [] = viable_wrong (goes_all some_name tt refl)
 name_viable (first ∷ rest) = named first.kind first rest refl
 
 pub names_viable : (most : ℕ) (lexemes : List Lexeme) → IsViable (Spelled names_words HasAny) lexemes (names most lexemes)
-names_viable zero lexemes = viable_wrong (goes_all (some_name ∷ []) tt)
+names_viable zero lexemes = viable_wrong (goes_all (some_name ∷ []) tt refl)
 names_viable (suc most) lexemes = viable_step (name_viable lexemes) (λ first rest fact.
     viable_at_sign (word.Symbol sym.Comma) tt rest
     (viable_finish (λ others. first ∷ others) (names_viable most (behind rest)) (λ others has. (ap (λ w. name_words first ++ w) (one_more (word.Symbol sym.Comma ∷ []) name_words others has), tt)))
@@ -223,7 +233,7 @@ Begun Says lexemes (Wrong rest) = Begins Says lexemes rest
 Begun Says lexemes (Deep rest) = Begins Says lexemes rest
 
 pub record IsBegun {A : Type 0} (Says : A → List Word → Type 0) (lexemes : List Lexeme) (outcome : Outcome A) : Type 0 where
-  pub some : Goes Says []
+  pub some : lexemes ≡ [] → Goes Says []
   pub begun : Begun Says lexemes outcome
 
 -- words that were taken before a part of the program
@@ -246,10 +256,10 @@ pub begun_then : {A B : Type 0} (Other : A → List Word → Type 0) (Says : B �
     ((tree : A) (rest : List Lexeme) (words : List Word) → Other tree words → IsBegun (λ made more. Says made (words ++ more)) rest (next tree rest)) →
     IsBegun Says lexemes (and_then outcome next)
 begun_then {A = A} Other Says lexemes outcome next h so =
-    let fill : (tree : A) (words : List Word) → Other tree words → Goes Says words = λ tree words says. goes_here Says words (so tree [] words says).some in
-    record { some = goes_fill Other Says [] (some_tree h) fill; begun = begun_by Other Says lexemes outcome next h fill so }
+    let fill : (tree : A) (words : List Word) → Other tree words → Goes Says words = λ tree words says. goes_here Says words ((so tree [] words says).some refl) in
+    record { some = λ none. goes_fill Other Says [] (some_tree none h) fill; begun = begun_by Other Says lexemes outcome next h fill so }
 
-pub begun_sign : {A : Type 0} (Says : A → List Word → Type 0) (w : Word) → IsSign w → (lexemes : List Lexeme) (next : ℕ → Reader A) →
+pub begun_sign : {A : Type 0} (Says : A → List Word → Type 0) (w : Word) → IsMark w → (lexemes : List Lexeme) (next : ℕ → Reader A) →
     ((at : ℕ) (rest : List Lexeme) → IsBegun (λ tree more. Says tree (w ∷ more)) rest (next at rest)) →
     IsBegun Says lexemes (and_then (expect (kind_of w) lexemes) next)
 begun_sign Says w is lexemes next so = begun_then (Spelled (λ at. w ∷ []) (λ (at : ℕ). Unit {0})) Says lexemes (expect (kind_of w) lexemes) next (expect_viable w is lexemes)
@@ -264,7 +274,7 @@ begun_as Other Says f lexemes (Deep rest) h fill = (h.begun.0, h.begun.1, goes_f
 
 pub begun_made : {A B : Type 0} (Other : A → List Word → Type 0) (Says : B → List Word → Type 0) (f : A → B) (lexemes : List Lexeme) (outcome : Outcome A) → IsBegun Other lexemes outcome →
     ((tree : A) (words : List Word) → Other tree words → Goes Says words) → IsBegun Says lexemes (made f outcome)
-begun_made Other Says f lexemes outcome h fill = record { some = goes_fill Other Says [] h.some fill; begun = begun_as Other Says f lexemes outcome h fill }
+begun_made Other Says f lexemes outcome h fill = record { some = λ none. goes_fill Other Says [] (h.some none) fill; begun = begun_as Other Says f lexemes outcome h fill }
 
 pub begun_choose : {A : Type 0} (Says : A → List Word → Type 0) (lexemes : List Lexeme) (test : Bool) (x y : Outcome A) →
     IsBegun Says lexemes x → IsBegun Says lexemes y → IsBegun Says lexemes (elim test [ true ↦ x | false ↦ y ])

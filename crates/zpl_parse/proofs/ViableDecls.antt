@@ -1,10 +1,10 @@
 -- What was taken before a declaration or a program got too deep, or before a lexeme that can't stand there, begins some.
-use Rattle.std.proofs.Common.{◌≡◌, inl, inr, ℕ, zero, suc, if◌then◌else◌, Bool, true, false, List, [], ◌∷◌, ◌++◌, Option, Some, None, refl, sym, ap, append_assoc, append-nil}
+use Rattle.std.proofs.Common.{◌≡◌, inl, inr, ℕ, zero, suc, if◌then◌else◌, Bool, true, false, List, [], ◌∷◌, ◌++◌, Option, Some, None, refl, sym, ap, ◌∙◌, append_assoc, append-nil}
 use Rattle.std.specs.List.{flat_map, AllByRecursion}
 use Rattle.zpl_tokens.specs.declared.Kind.TheVariants as kind
 use Rattle.zpl_tokens.specs.declared.keywords.Key.TheVariants as key
 use Rattle.zpl_tokens.specs.declared.symbols.Sym.TheVariants as sym
-use Rattle.zpl_tree.specs.Syntax.{Name, Expr, NoBracket, Integer, Other, Decl, Config, Constant, Regions, Directions, Vars, Defined}
+use Rattle.zpl_tree.specs.Syntax.{Name, Expr, NoBracket, Integer, Other, Decl, Program, Config, Constant, Regions, Directions, Vars, Defined}
 use Rattle.zpl_tree.specs.Spelling.{symbol, keyword, name_words, type_words, define_words, direction_words, var_words, param_words, result_words, params_words, stmt_words, decl_words}
 use Rattle.zpl_tree.specs.Grammar.{HasAny, IsDefine, IsRegion, IsDirection, IsVar, IsParam, IsBody, IsProcedure, IsDecl, SpellsEach, SpellsRegion, SpellsLocals, SpellsProcedure, SpellsDecl, Spells}
 use Rattle.zpl_tree.specs.Word.{Word}
@@ -39,12 +39,12 @@ abbrev Each : {A : Type 0} → (A → List Word → Type 0) → (A → Type 0) �
 Each Spells_one Is xs words = SpellsEach Spells_one xs words × HasAny xs × AllByRecursion Is xs
 
 each_goes : {A : Type 0} (Spells_one : A → List Word → Type 0) (Is : A → Type 0) → Goes (λ x words. Spells_one x words × Is x) [] → Goes (Each Spells_one Is) []
-each_goes Spells_one Is goes = record { tree = goes.tree ∷ []; more = goes.more; says = ((goes.more, [], goes.says.0, refl, sym (append-nil goes.more)), tt, (goes.says.1, tt)) }
+each_goes Spells_one Is goes = record { tree = goes.tree ∷ []; more = goes.more; says = ((goes.more, [], goes.says.0, refl, sym (append-nil goes.more)), tt, (goes.says.1, tt)); plain = goes.plain }
 
 each_group_viable : {A : Type 0} (Spells_one : A → List Word → Type 0) (Is : A → Type 0) (definition : Reader A) →
     ((lexemes : List Lexeme) → IsViable (λ x words. Spells_one x words × Is x) lexemes (definition lexemes)) → (most : ℕ) (lexemes : List Lexeme) →
     IsViable (Each Spells_one Is) lexemes (group most definition lexemes)
-each_group_viable Spells_one Is definition can zero lexemes = viable_wrong (each_goes Spells_one Is (some_tree (can [])))
+each_group_viable Spells_one Is definition can zero lexemes = viable_wrong (each_goes Spells_one Is (some_tree refl (can [])))
 each_group_viable Spells_one Is definition can (suc most) lexemes = viable_then (can lexemes) (λ first rest words says.
     viable_choose (next_is kind.Name rest)
     (λ begins. viable_made (λ others. first ∷ others) (each_group_viable Spells_one Is definition can most rest) (λ others more tells.
@@ -105,7 +105,7 @@ module _ (expr : Reader Expr) (viable : (lexemes : List Lexeme) → IsViable (Tr
   param_viable most lexemes = viable_at_sign (word.Keyword key.Var) tt lexemes (formals_viable most true (behind lexemes)) (formals_viable most false lexemes)
 
   some_params_viable : (most : ℕ) (lexemes : List Lexeme) → IsViable (Spelled params_words (λ those. HasAny those × AllByRecursion IsParam those)) lexemes (some_params most expr lexemes)
-  some_params_viable zero lexemes = viable_wrong (goes_all (record { by_ref = false; names = some_name ∷ []; shape = NoBracket; base = Integer } ∷ []) (tt, ((tt, tt), tt)))
+  some_params_viable zero lexemes = viable_wrong (goes_all (record { by_ref = false; names = some_name ∷ []; shape = NoBracket; base = Integer } ∷ []) (tt, ((tt, tt), tt)) refl)
   some_params_viable (suc most) lexemes = viable_step (param_viable most lexemes) (λ first rest is.
       viable_at_sign (word.Symbol sym.Semicolon) tt rest
       (viable_finish (λ others. first ∷ others) (some_params_viable most (behind rest)) (λ others are.
@@ -118,7 +118,7 @@ module _ (expr : Reader Expr) (viable : (lexemes : List Lexeme) → IsViable (Tr
       (viable_step (some_params_viable most lexemes) (λ those rest are. viable_last (word.Symbol sym.CloseParen) tt those (refl, are.1)))
 
   locals_viable : (most : ℕ) (lexemes : List Lexeme) → IsViable (λ vars words. SpellsLocals vars words × AllByRecursion IsVar vars) lexemes (locals most expr lexemes)
-  locals_viable zero lexemes = viable_wrong (record { tree = []; more = []; says = (refl, tt) })
+  locals_viable zero lexemes = viable_wrong (record { tree = []; more = []; says = (refl, tt); plain = refl })
   locals_viable (suc most) lexemes = viable_at_sign (word.Keyword key.Var) tt lexemes
       (viable_step (group_viable var_words IsVar (variables most expr) (variables_viable most) most (behind lexemes)) (λ first rest are.
       viable_made (λ others. first ++ others) (locals_viable most rest) (λ others words says.
@@ -156,7 +156,7 @@ module _ (expr : Reader Expr) (viable : (lexemes : List Lexeme) → IsViable (Tr
       (viable_made Defined (procedure_viable deep most (behind lexemes)) (λ procedure words says. says))
 
   decl_by_viable : (deep most : ℕ) (p : Option Part) (lexemes : List Lexeme) → part_of (head_kind lexemes) ≡ p → IsViable OneDecl lexemes (decl_by most expr deep p lexemes)
-  decl_by_viable deep most None lexemes e = viable_wrong (record { tree = one_var; more = decl_words one_var; says = (refl, (tt, ((tt, tt), tt))) })
+  decl_by_viable deep most None lexemes e = viable_wrong (record { tree = one_var; more = decl_words one_var; says = (refl, (tt, ((tt, tt), tt))); plain = refl })
   decl_by_viable deep most (Some p) lexemes e = part_viable deep most p lexemes (part_is (head_kind lexemes) p e)
 
 -- declarations
@@ -164,24 +164,30 @@ abbrev SomeDecls : List Decl → List Word → Type 0
 SomeDecls those words = SpellsEach SpellsDecl those words × AllByRecursion IsDecl those
 
 no_decls : Goes SomeDecls []
-no_decls = record { tree = []; more = []; says = (refl, tt) }
+no_decls = record { tree = []; more = []; says = (refl, tt); plain = refl }
 
 decls_begun : (expr : Reader Expr) → ((lexemes : List Lexeme) → IsViable (Tree 0) lexemes (expr lexemes)) → (deep most : ℕ) (lexemes : List Lexeme) → IsBegun SomeDecls lexemes (decls most expr deep lexemes)
-decls_begun expr viable deep zero lexemes = record { some = no_decls; begun = ([], nothing, no_decls) }
+decls_begun expr viable deep zero lexemes = record { some = λ none. no_decls; begun = ([], nothing, no_decls) }
 decls_begun expr viable deep (suc most) lexemes = begun_choose SomeDecls lexemes (next_is kind.End lexemes) _ _
-    (record { some = no_decls; begun = tt })
+    (record { some = λ none. no_decls; begun = tt })
     (begun_then OneDecl SomeDecls lexemes (decl_by most expr deep (part_of (head_kind lexemes)) lexemes) _ (decl_by_viable expr viable deep most (part_of (head_kind lexemes)) lexemes refl) (λ first rest words says.
     begun_made SomeDecls _ (λ others. first ∷ others) rest _ (decls_begun expr viable deep most rest) (λ others more tells.
     exactly (first ∷ others) ((words, more, says.0, tells.0, refl), (says.1, tells.1)))))
 
+-- the words of a program before its end
+abbrev pub SpellsBefore : Program → List Word → Type 0
+SpellsBefore program words = Spells program (words ++ word.End ∷ [])
+
+program_regroup : (words called more : List Word) → words ≡ called →
+    word.Keyword key.Program ∷ ((words ++ word.Symbol sym.Semicolon ∷ more) ++ word.End ∷ []) ≡ word.Keyword key.Program ∷ (called ++ word.Symbol sym.Semicolon ∷ (more ++ word.End ∷ []))
+program_regroup words called more same = ap (λ (w : List Word). word.Keyword key.Program ∷ w)
+    (append_assoc words (word.Symbol sym.Semicolon ∷ more) (word.End ∷ []) ∙ ap (λ w. w ++ word.Symbol sym.Semicolon ∷ (more ++ word.End ∷ [])) same)
+
 -- What was taken before a program got too deep, or before a lexeme that can't stand there, begins a program.
-pub program_viable : (source : List ℕ) (most : ℕ) (lexemes : List Lexeme) → IsBegun Spells lexemes (program source most lexemes)
-program_viable source most lexemes = begun_sign Spells (word.Keyword key.Program) tt lexemes _ (λ at rest.
+pub program_viable : (source : List ℕ) (most : ℕ) (lexemes : List Lexeme) → IsBegun SpellsBefore lexemes (program source most lexemes)
+program_viable source most lexemes = begun_sign SpellsBefore (word.Keyword key.Program) tt lexemes _ (λ at rest.
     begun_then (Spelled name_words (λ name. Unit {0})) _ rest (name rest) _ (name_viable rest) (λ called after words says.
     begun_sign _ (word.Symbol sym.Semicolon) tt after _ (λ semicolon last.
     begun_made SomeDecls _ _ last (decls most (levels most 200).expr 199 last) (decls_begun (levels most 200).expr (levels_viable most 200).expr 199 most last) (λ those more tells.
-    record {
-      tree = record { name = called; decls = those; source = source };
-      more = word.End ∷ [];
-      says = (more, tells.1, tells.0, ap (λ w. word.Keyword key.Program ∷ (w ++ word.Symbol sym.Semicolon ∷ (more ++ word.End ∷ []))) says.0);
-    }))))
+    exactly (record { name = called; decls = those; source = source })
+    (more, tells.1, tells.0, program_regroup words (name_words called) more says.0)))))

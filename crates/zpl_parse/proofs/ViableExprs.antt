@@ -41,7 +41,7 @@ blank = Blank 0
 
 natural_of_viable : (lexemes : List Lexeme) (o : Option Opening) → opening_of (head_kind lexemes) ≡ o → IsViable (Spelled number IsNatural) lexemes (natural_of o lexemes)
 natural_of_viable lexemes (Some (opening.Number value)) e = record { shows = (natural_by lexemes (Some (opening.Number value)) e).tells }
-natural_of_viable lexemes _ e = viable_wrong (goes_all (pos 0) refl)
+natural_of_viable lexemes _ e = viable_wrong (goes_all (pos 0) refl refl)
 
 natural_viable : (lexemes : List Lexeme) → IsViable (Spelled number IsNatural) lexemes (natural lexemes)
 natural_viable lexemes = natural_of_viable lexemes (opening_of (head_kind lexemes)) refl
@@ -53,7 +53,7 @@ along_viable lexemes = viable_at_sign (word.Symbol sym.OpenBracket) tt lexemes
 
 region_base_viable : (most : ℕ) (lexemes : List Lexeme) →
     IsViable (Spelled (λ those. flat_map pre_words those.0 ++ base_words those.1) (λ (those : List Pre × RegionBase). Unit {0})) lexemes (region_base most lexemes)
-region_base_viable zero lexemes = viable_wrong (goes_all ([], NamedRegion some_name) tt)
+region_base_viable zero lexemes = viable_wrong (goes_all ([], NamedRegion some_name) tt refl)
 region_base_viable (suc most) lexemes = viable_at_sign word.Ditto tt lexemes
     (viable_done (refl, tt))
     (viable_step (name_viable lexemes) (λ first rest fact. viable_some (outside_of (head_kind rest))
@@ -90,6 +90,7 @@ dims_go (ThenDim first rest) are = record {
   tree = Dims (and_blank (ThenDim first rest));
   more = symbol sym.Comma;
   says = (append_assoc (dim_words first) (more_dims rest) (symbol sym.Comma) ∙ ap (λ w. dim_words first ++ w) (more_and_blank rest), (two_dims first rest, (are.1.0, and_blank_are rest are.1.1)));
+  plain = refl;
 }
 
 some_dims_go : (dims : DimTexts) (words : List Word) → Spelled dims_words AreSomeDims dims words → Goes (Spelled inner_words IsInner) words
@@ -98,7 +99,7 @@ some_dims_go dims words says = subst (Goes (Spelled inner_words IsInner)) (sym s
 -- the rules over one of expressions
 module _ (expr : Reader Expr) (viable : (lexemes : List Lexeme) → IsViable (Tree 0) lexemes (expr lexemes)) where
   pub exprs_viable : (most : ℕ) (lexemes : List Lexeme) → IsViable (Spelled exprs_words AreSomeExprs) lexemes (exprs most expr lexemes)
-  exprs_viable zero lexemes = viable_wrong (goes_all (ThenExpr nought NoExpr) (tt, (refl, tt)))
+  exprs_viable zero lexemes = viable_wrong (goes_all (ThenExpr nought NoExpr) (tt, (refl, tt)) refl)
   exprs_viable (suc most) lexemes = viable_step (viable lexemes) (λ first rest is.
       viable_at_sign (word.Symbol sym.Comma) tt rest
       (viable_finish (ThenExpr first) (exprs_viable most (behind rest)) (λ others are.
@@ -119,7 +120,7 @@ module _ (expr : Reader Expr) (viable : (lexemes : List Lexeme) → IsViable (Tr
       (viable_finish NamedDir (name_viable lexemes) (λ called fact. (refl, tt)))
 
   pub posts_viable : (most : ℕ) (lexemes : List Lexeme) → IsViable (Spelled posts_words ArePosts) lexemes (posts most expr lexemes)
-  posts_viable zero lexemes = viable_wrong (goes_all NoPost tt)
+  posts_viable zero lexemes = viable_wrong (goes_all NoPost tt refl)
   posts_viable (suc most) lexemes = viable_some (stride_of (head_kind lexemes))
       (λ e. viable_done (refl, tt))
       (λ stride e. viable_behind (takes_signed (stride_is (head_kind lexemes) stride e))
@@ -142,7 +143,7 @@ module _ (expr : Reader Expr) (viable : (lexemes : List Lexeme) → IsViable (Tr
       (λ other. bounds_viable lexemes))
 
   dim_texts_viable : (most : ℕ) (lexemes : List Lexeme) → IsViable (Spelled dims_words AreSomeDims) lexemes (dim_texts most expr lexemes)
-  dim_texts_viable zero lexemes = viable_wrong (goes_all (ThenDim blank NoDim) (tt, (tt, tt)))
+  dim_texts_viable zero lexemes = viable_wrong (goes_all (ThenDim blank NoDim) (tt, (tt, tt)) refl)
   dim_texts_viable (suc most) lexemes = viable_step (dim_text_viable lexemes) (λ first rest is.
       viable_at_sign (word.Symbol sym.Comma) tt rest
       (viable_finish (ThenDim first) (dim_texts_viable most (behind rest)) (λ others are.
@@ -216,7 +217,7 @@ module _ (most : ℕ) (deeper : Levels) (can : AreViable deeper) where
         (subst (λ (n : ℕ). StandsAt 5 n) (sym is.1) refl, subst (λ (n : ℕ). IsExpr n left) (sym is.2) good, subst (λ (n : ℕ). IsExpr n right) (sym is.3) more),
       )))))
   folded_viable at operator lexemes None e =
-      viable_wrong (record { tree = Reduce at operator NoBracket nought; more = symbol sym.Reduce ++ expr_words nought; says = (simp append_assoc, (refl, tt, refl)) })
+      viable_wrong (record { tree = Reduce at operator NoBracket nought; more = symbol sym.Reduce ++ expr_words nought; says = (simp append_assoc, (refl, tt, refl)); plain = refl })
 
   opened_viable : (first : Lexeme) (rest : List Lexeme) (o : Opening) → IsOpening first.kind o → IsViable (Tree 5) (first ∷ rest) (unary_by most deeper (Some o) first rest)
   opened_viable first rest (opening.Number value) is = viable_behind (takes_one (word.Number value) (record { kind = is.0; bytes = tt }) tt) (viable_done (refl, is.1))
@@ -238,11 +239,11 @@ module _ (most : ℕ) (deeper : Levels) (can : AreViable deeper) where
       viable_finish (Flood first.at source) (can.unary after) (λ operand more. (simp append_assoc, (refl, good, more)))))
 
   unary_by_viable : (first : Lexeme) (rest : List Lexeme) (o : Option Opening) → opening_of first.kind ≡ o → IsViable (Tree 5) (first ∷ rest) (unary_by most deeper o first rest)
-  unary_by_viable first rest None e = viable_wrong (goes_all nought refl)
+  unary_by_viable first rest None e = viable_wrong (goes_all nought refl refl)
   unary_by_viable first rest (Some o) e = opened_viable first rest o (opening_is first.kind o e)
 
   unary_over_viable : (lexemes : List Lexeme) → IsViable (Tree 5) lexemes (unary_over most deeper lexemes)
-  unary_over_viable [] = viable_wrong (goes_all nought refl)
+  unary_over_viable [] = viable_wrong (goes_all nought refl refl)
   unary_over_viable (first ∷ rest) = unary_by_viable first rest (opening_of first.kind) refl
 
 lowered : (wanted own : ℕ) → wanted ≤ own → (tree : Expr) → IsExpr own tree → IsExpr wanted tree
@@ -262,12 +263,13 @@ pair_begins own left_own right_own at k o is small left a = record {
   tree = Pair at o left nought;
   more = expr_words nought;
   says = (between_regroup left nought o is.between, between_is own left_own right_own at k o is left nought a small);
+  plain = refl;
 }
 
 module _ (own right_own deep : ℕ) (op_of : Kind → Option Op) (operand : Reader Expr) (can : (lexemes : List Lexeme) → IsViable (Tree right_own) lexemes (operand lexemes)) where
   chain_viable : ((k : Kind) (o : Op) → op_of k ≡ Some o → IsOperator own own right_own k o) → (most : ℕ) (left : Expr) → IsExpr own left → (lexemes : List Lexeme) →
       IsViable (On own left) lexemes (chain most deep op_of operand left lexemes)
-  chain_viable is zero left good lexemes = viable_wrong (record { tree = left; more = []; says = (append-nil _, good) })
+  chain_viable is zero left good lexemes = viable_wrong (record { tree = left; more = []; says = (append-nil _, good); plain = refl })
   chain_viable is (suc most) left good lexemes = viable_some (op_of (head_kind lexemes))
       (λ e. viable_done (append-nil _, good))
       (λ o e. viable_choose (nat_le (expr_depth left) deep)
@@ -314,24 +316,24 @@ expr_begins first rest (opening.Coord dimension) is = viable_deep (takes_signed 
 expr_begins first rest opening.Name is =
     viable_deep (takes_one (word.Name first.bytes) (record { kind = is; bytes = refl }) tt) (exactly (Named 0 (record { text = first.bytes; at = 0 })) (refl, tt))
 expr_begins first rest opening.Paren is =
-    viable_deep (takes_head (word.Symbol sym.OpenParen) tt (first ∷ rest) is) (record { tree = Paren 0 nought; more = expr_words nought ++ symbol sym.CloseParen; says = (refl, refl) })
+    viable_deep (takes_head (word.Symbol sym.OpenParen) tt (first ∷ rest) is) (record { tree = Paren 0 nought; more = expr_words nought ++ symbol sym.CloseParen; says = (refl, refl); plain = refl })
 expr_begins first rest opening.Minus is =
-    viable_deep (takes_head (word.Symbol sym.Minus) tt (first ∷ rest) is) (record { tree = Neg 0 nought; more = expr_words nought; says = (refl, (refl, refl)) })
+    viable_deep (takes_head (word.Symbol sym.Minus) tt (first ∷ rest) is) (record { tree = Neg 0 nought; more = expr_words nought; says = (refl, (refl, refl)); plain = refl })
 expr_begins first rest opening.Not is =
-    viable_deep (takes_head (word.Symbol sym.Not) tt (first ∷ rest) is) (record { tree = Not 0 nought; more = expr_words nought; says = (refl, (refl, refl)) })
+    viable_deep (takes_head (word.Symbol sym.Not) tt (first ∷ rest) is) (record { tree = Not 0 nought; more = expr_words nought; says = (refl, (refl, refl)); plain = refl })
 expr_begins first rest opening.Abs is =
-    viable_deep (takes_head (word.Keyword key.Abs) tt (first ∷ rest) is) (record { tree = Abs 0 nought; more = symbol sym.OpenParen ++ expr_words nought ++ symbol sym.CloseParen; says = (refl, refl) })
+    viable_deep (takes_head (word.Keyword key.Abs) tt (first ∷ rest) is) (record { tree = Abs 0 nought; more = symbol sym.OpenParen ++ expr_words nought ++ symbol sym.CloseParen; says = (refl, refl); plain = refl })
 expr_begins first rest (opening.Fold operator) is =
-    viable_deep (takes_signed is) (record { tree = Reduce 0 operator NoBracket nought; more = symbol sym.Reduce ++ expr_words nought; says = (simp append_assoc, (refl, tt, refl)) })
+    viable_deep (takes_signed is) (record { tree = Reduce 0 operator NoBracket nought; more = symbol sym.Reduce ++ expr_words nought; says = (simp append_assoc, (refl, tt, refl)); plain = refl })
 expr_begins first rest opening.Flood is = viable_deep (takes_head (word.Symbol sym.Flood) tt (first ∷ rest) is)
-    (record { tree = Flood 0 (Dims (ThenDim blank NoDim)) nought; more = symbol sym.OpenBracket ++ symbol sym.CloseBracket ++ expr_words nought; says = (refl, (refl, (tt, (tt, tt)), refl)) })
+    (record { tree = Flood 0 (Dims (ThenDim blank NoDim)) nought; more = symbol sym.OpenBracket ++ symbol sym.CloseBracket ++ expr_words nought; says = (refl, (refl, (tt, (tt, tt)), refl)); plain = refl })
 
 none_begins : (first : Lexeme) (rest : List Lexeme) (o : Option Opening) → opening_of first.kind ≡ o → IsViable {A = Expr} (Tree 5) (first ∷ rest) (too_deep (is_some o) (first ∷ rest))
-none_begins first rest None e = viable_wrong (goes_all nought refl)
+none_begins first rest None e = viable_wrong (goes_all nought refl refl)
 none_begins first rest (Some o) e = expr_begins first rest o (opening_is first.kind o e)
 
 no_expr_viable : (lexemes : List Lexeme) → IsViable (Tree 5) lexemes (no_expr lexemes)
-no_expr_viable [] = viable_wrong (goes_all nought refl)
+no_expr_viable [] = viable_wrong (goes_all nought refl refl)
 no_expr_viable (first ∷ rest) = none_begins first rest (opening_of first.kind) refl
 
 no_expr_lower : (wanted : ℕ) → wanted ≤ 5 → (lexemes : List Lexeme) → IsViable (Tree wanted) lexemes (no_expr lexemes)

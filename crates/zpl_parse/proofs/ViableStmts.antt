@@ -34,7 +34,7 @@ mask_viable lexemes = viable_some (without_of (head_kind lexemes))
 
 way_down_viable : (lexemes : List Lexeme) → IsViable (Spelled (λ down. if down then keyword key.Downto else keyword key.To) (λ (down : Bool). Unit {0})) lexemes (way_down lexemes)
 way_down_viable lexemes = viable_some (down_of (head_kind lexemes))
-    (λ e. viable_wrong (goes_all false tt))
+    (λ e. viable_wrong (goes_all false tt refl))
     (λ down e. viable_behind (takes_signed (down_is (head_kind lexemes) down e)) (viable_done (append-nil _, tt)))
 
 -- the smallest statement
@@ -50,7 +50,7 @@ module _ (expr : Reader Expr) (viable : (lexemes : List Lexeme) → IsViable (Tr
       viable_last (word.Symbol sym.CloseBracket) tt _ (simp append_assoc, is))))
 
   pub prefixes_viable : (most : ℕ) (lexemes : List Lexeme) → IsViable (Spelled (flat_map prefix_words) (AllByRecursion IsPrefix)) lexemes (prefixes most expr lexemes)
-  prefixes_viable zero lexemes = viable_wrong (goes_all [] tt)
+  prefixes_viable zero lexemes = viable_wrong (goes_all [] tt refl)
   prefixes_viable (suc most) lexemes = viable_choose (next_is (kind.Symbol sym.OpenBracket) lexemes)
       (λ begins. viable_step (prefix_viable most lexemes) (λ first rest is.
       viable_finish (λ others. first ∷ others) (prefixes_viable most rest) (λ others are. (refl, (is, are)))))
@@ -62,7 +62,7 @@ module _ (expr : Reader Expr) (viable : (lexemes : List Lexeme) → IsViable (Tr
       (λ other. viable_finish Value (viable lexemes) (λ value is. (refl, is)))
 
   some_items_viable : (most : ℕ) (lexemes : List Lexeme) → IsViable (Spelled items_words (λ those. HasAny those × AllByRecursion IsItem those)) lexemes (some_items most expr lexemes)
-  some_items_viable zero lexemes = viable_wrong (goes_all (Value nought ∷ []) (tt, (refl, tt)))
+  some_items_viable zero lexemes = viable_wrong (goes_all (Value nought ∷ []) (tt, (refl, tt)) refl)
   some_items_viable (suc most) lexemes = viable_step (item_viable lexemes) (λ first rest is.
       viable_at_sign (word.Symbol sym.Comma) tt rest
       (viable_finish (λ others. first ∷ others) (some_items_viable most (behind rest)) (λ others are.
@@ -99,7 +99,7 @@ module _ (expr : Reader Expr) (viable : (lexemes : List Lexeme) → IsViable (Tr
   -- the rules over one of statements too
   pub stmts_viable : (stmt_rule : Reader Stmt) → ((lexemes : List Lexeme) → IsViable (Spelled stmt_words IsStmt) lexemes (stmt_rule lexemes)) → (most : ℕ) (lexemes : List Lexeme) →
       IsViable (Spelled stmts_words AreStmts) lexemes (stmts most stmt_rule lexemes)
-  stmts_viable stmt_rule can zero lexemes = viable_wrong (goes_all NoStmt tt)
+  stmts_viable stmt_rule can zero lexemes = viable_wrong (goes_all NoStmt tt refl)
   stmts_viable stmt_rule can (suc most) lexemes = viable_choose (begins_stmt (head_kind lexemes))
       (λ begins. viable_step (can lexemes) (λ first rest is.
       viable_finish (ThenStmt first) (stmts_viable stmt_rule can most rest) (λ others are. (refl, (is, are)))))
@@ -115,7 +115,7 @@ module _ (expr : Reader Expr) (viable : (lexemes : List Lexeme) → IsViable (Tr
 
     arms_viable : (most at : ℕ) (lexemes : List Lexeme) → IsViable (Spelled behind_if (λ those. HasArm those × AreArms those)) lexemes (arms most expr body at lexemes)
     unfolding behind_if
-    arms_viable zero at lexemes = viable_wrong (goes_all (ThenArm (Tested at nought NoStmt) NoArm) (tt, ((refl, tt), tt)))
+    arms_viable zero at lexemes = viable_wrong (goes_all (ThenArm (Tested at nought NoStmt) NoArm) (tt, ((refl, tt), tt)) refl)
     arms_viable (suc most) at lexemes = viable_step (arm_viable at lexemes) (λ first rest is.
         viable_at_sign (word.Keyword key.Elsif) tt rest
         (viable_finish (ThenArm first) (arms_viable most (head_at rest) (behind rest)) (λ others are.
@@ -166,7 +166,7 @@ module _ (expr : Reader Expr) (viable : (lexemes : List Lexeme) → IsViable (Tr
         (viable_step (viable (behind lexemes)) (λ value rest good. viable_last (word.Symbol sym.Semicolon) tt _ (refl, good)))
 
     form_by_viable : (most : ℕ) (s : Option Start) (lexemes : List Lexeme) → start_of (head_kind lexemes) ≡ s → IsViable (Spelled form_words IsForm) lexemes (form_by most expr body s lexemes)
-    form_by_viable most None lexemes e = viable_wrong (goes_all call tt)
+    form_by_viable most None lexemes e = viable_wrong (goes_all call tt refl)
     form_by_viable most (Some s) lexemes e = started_viable most s lexemes (start_is (head_kind lexemes) s e)
 
     stmt_over_viable : (most : ℕ) (lexemes : List Lexeme) → IsViable (Spelled stmt_words IsStmt) lexemes (stmt_over most expr body lexemes)
@@ -177,27 +177,28 @@ module _ (expr : Reader Expr) (viable : (lexemes : List Lexeme) → IsViable (Tr
 form_begins : (lexemes : List Lexeme) (s : Start) → IsStart (head_kind lexemes) s → IsViable {A = Stmt} (Spelled stmt_words IsStmt) lexemes (Deep (behind lexemes))
 form_begins [] start.Name is = absurd (cc)
 form_begins (first ∷ rest) start.Name is = viable_deep (takes_one (word.Name first.bytes) (record { kind = is; bytes = refl }) tt)
-    (record { tree = Prefixed 0 [] (Invoke (record { text = first.bytes; at = 0 }) NoExpr); more = symbol sym.OpenParen ++ symbol sym.CloseParen ++ symbol sym.Semicolon; says = (refl, (tt, tt)) })
+    (record { tree = Prefixed 0 [] (Invoke (record { text = first.bytes; at = 0 }) NoExpr); more = symbol sym.OpenParen ++ symbol sym.CloseParen ++ symbol sym.Semicolon; says = (refl, (tt, tt)); plain = refl })
 form_begins lexemes start.Block is = viable_deep (takes_head (word.Keyword key.Begin) tt lexemes is)
-    (record { tree = Prefixed 0 [] (Block NoStmt); more = end_words; says = (refl, (tt, tt)) })
+    (record { tree = Prefixed 0 [] (Block NoStmt); more = end_words; says = (refl, (tt, tt)); plain = refl })
 form_begins lexemes start.If is = viable_deep (takes_head (word.Keyword key.If) tt lexemes is)
-    (record { tree = Prefixed 0 [] (If (ThenArm (Tested 0 nought NoStmt) NoArm) NoElse); more = expr_words nought ++ keyword key.Then ++ end_words; says = (refl, (tt, (tt, ((refl, tt), tt), tt))) })
+    (record { tree = Prefixed 0 [] (If (ThenArm (Tested 0 nought NoStmt) NoArm) NoElse); more = expr_words nought ++ keyword key.Then ++ end_words; says = (refl, (tt, (tt, ((refl, tt), tt), tt))); plain = refl })
 form_begins lexemes start.While is = viable_deep (takes_head (word.Keyword key.While) tt lexemes is)
-    (record { tree = Prefixed 0 [] (While nought NoStmt); more = expr_words nought ++ keyword key.Do ++ end_words; says = (refl, (tt, (refl, tt))) })
+    (record { tree = Prefixed 0 [] (While nought NoStmt); more = expr_words nought ++ keyword key.Do ++ end_words; says = (refl, (tt, (refl, tt))); plain = refl })
 form_begins lexemes start.Repeat is = viable_deep (takes_head (word.Keyword key.Repeat) tt lexemes is)
-    (record { tree = Prefixed 0 [] (Repeat NoStmt 0 nought); more = keyword key.Until ++ expr_words nought ++ symbol sym.Semicolon; says = (refl, (tt, (tt, refl))) })
+    (record { tree = Prefixed 0 [] (Repeat NoStmt 0 nought); more = keyword key.Until ++ expr_words nought ++ symbol sym.Semicolon; says = (refl, (tt, (tt, refl))); plain = refl })
 form_begins lexemes start.For is = viable_deep (takes_head (word.Keyword key.For) tt lexemes is)
     (record {
       tree = Prefixed 0 [] (For (record { name = some_name; first = nought; down = false; last = nought; step = None }) NoStmt);
       more = name_words some_name ++ symbol sym.Assign ++ expr_words nought ++ keyword key.To ++ expr_words nought ++ keyword key.Do ++ end_words;
       says = (refl, (tt, ((refl, refl, tt), tt)));
+      plain = refl;
     })
 form_begins lexemes (start.Border which) is = viable_deep (takes_signed is)
-    (record { tree = Prefixed 0 [] (Border which (some_name ∷ [])); more = name_words some_name ++ symbol sym.Semicolon; says = (simp append_assoc, (tt, tt)) })
+    (record { tree = Prefixed 0 [] (Border which (some_name ∷ [])); more = name_words some_name ++ symbol sym.Semicolon; says = (simp append_assoc, (tt, tt)); plain = refl })
 form_begins lexemes (start.Write line) is = viable_deep (takes_signed is)
-    (record { tree = Prefixed 0 [] (Write line []); more = symbol sym.OpenParen ++ symbol sym.CloseParen ++ symbol sym.Semicolon; says = (simp append_assoc, (tt, tt)) })
+    (record { tree = Prefixed 0 [] (Write line []); more = symbol sym.OpenParen ++ symbol sym.CloseParen ++ symbol sym.Semicolon; says = (simp append_assoc, (tt, tt)); plain = refl })
 form_begins lexemes start.Return is = viable_deep (takes_head (word.Keyword key.Return) tt lexemes is)
-    (record { tree = Prefixed 0 [] (Return nought); more = expr_words nought ++ symbol sym.Semicolon; says = (refl, (tt, refl)) })
+    (record { tree = Prefixed 0 [] (Return nought); more = expr_words nought ++ symbol sym.Semicolon; says = (refl, (tt, refl)); plain = refl })
 
 bracket_begins : (first : Lexeme) (rest : List Lexeme) → first.kind ≡ kind.Symbol sym.OpenBracket → IsViable {A = Stmt} (Spelled stmt_words IsStmt) (first ∷ rest) (Deep rest)
 bracket_begins first rest is = viable_deep (takes_head (word.Symbol sym.OpenBracket) tt (first ∷ rest) is)
@@ -205,6 +206,7 @@ bracket_begins first rest is = viable_deep (takes_head (word.Symbol sym.OpenBrac
       tree = Prefixed 0 (record { at = 0; region = Dims (ThenDim blank NoDim); mask = None } ∷ []) call;
       more = symbol sym.CloseBracket ++ form_words call;
       says = (refl, (((tt, (tt, tt)), tt), tt));
+      plain = refl;
     })
 
 kind_begins : (first : Lexeme) (rest : List Lexeme) (s : Option Start) → start_of first.kind ≡ s → is_some s ≡ true → IsViable {A = Stmt} (Spelled stmt_words IsStmt) (first ∷ rest) (Deep rest)
@@ -226,7 +228,7 @@ stmt_begins first rest begins = go (begins_either first.kind begins)
 no_stmt_viable : (test : Bool) (lexemes : List Lexeme) → begins_stmt (head_kind lexemes) ≡ test → IsViable {A = Stmt} (Spelled stmt_words IsStmt) lexemes (too_deep test lexemes)
 no_stmt_viable true [] e = absurd (false≢true e)
 no_stmt_viable true (first ∷ rest) e = stmt_begins first rest e
-no_stmt_viable false lexemes e = viable_wrong (goes_all (Prefixed 0 [] call) (tt, tt))
+no_stmt_viable false lexemes e = viable_wrong (goes_all (Prefixed 0 [] call) (tt, tt) refl)
 
 pub stmt_viable : (expr : Reader Expr) → ((lexemes : List Lexeme) → IsViable (Tree 0) lexemes (expr lexemes)) → (most deep : ℕ) (lexemes : List Lexeme) →
     IsViable (Spelled stmt_words IsStmt) lexemes (stmt most expr deep lexemes)

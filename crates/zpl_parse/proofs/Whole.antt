@@ -1,5 +1,5 @@
 -- What is claimed of a text, of what the rule of programs makes of its tokens.
-use Rattle.std.proofs.Common.{◌≡◌, ◌-◌, ◌⊎◌, inl, inr, ℕ, suc, ◌+◌, ◌<◌, ◌≤◌, List, [], ◌∷◌, ◌++◌, length, map, refl, sym, ap, subst, ◌∙◌, arith, append_assoc, length-append}
+use Rattle.std.proofs.Common.{◌≡◌, ◌-◌, ◌⊎◌, inl, inr, ℕ, suc, ◌+◌, ◌<◌, ◌≤◌, false, List, [], ◌∷◌, ◌++◌, length, map, refl, sym, ap, subst, ◌∙◌, arith, append_assoc, length-append}
 use Rattle.std.proofs.lemmas.List.{append_cancel_right, length-take, length-drop}
 use Rattle.std.specs.List.{slice_range}
 use Rattle.zpl_tokens.specs.declared.Kind.{Kind}
@@ -24,15 +24,18 @@ use Rattle.zpl_parse.specs.Lexeme.{Lexeme, lexeme_of, lexemes_of, lexeme_at, hea
 use Rattle.zpl_parse.specs.Written.{IsLexeme, AreLexemes}
 use Rattle.zpl_parse.specs.Outcome.{Outcome, Done, Wrong, Deep}
 use Rattle.zpl_parse.specs.Declarations.{program}
-use Rattle.zpl_grammar.specs.Texts.{most_deep, AreFirstWords, BeginsText, IsSyntaxFault, IsTooDeep}
-use Rattle.zpl_parse.proofs.SoundBase.{Reads, Takes, nothing, one}
-use Rattle.zpl_parse.proofs.SoundProgram.{heads, tails, HaveNoEnd, found_no_end, word_of_token, wrong_is_left, token_is_left}
+use Rattle.zpl_grammar.specs.Written.{IsWord, AreWords}
+use Rattle.zpl_grammar.specs.Writable.{EachIsWritable}
+use Rattle.zpl_grammar.specs.Texts.{most_deep, AreFirstWords, BeginsWords, BeginsText, IsSyntaxFault, IsTooDeep}
+use Rattle.zpl_parse.proofs.SoundBase.{Reads, Takes, nothing, one, no_end}
+use Rattle.zpl_parse.proofs.SoundProgram.{heads, tails, HaveNoEnd, found_no_end, word_of_token, IsLeft, wrong_is_left, token_is_left}
 use Rattle.zpl_parse.proofs.Local.{LocalAt, SameHead, IsWrong, IsNotDone}
 use Rattle.zpl_parse.proofs.LocalTokens.{Turns}
 use Rattle.zpl_parse.proofs.LocalDeclarations.{program_local}
 use Rattle.zpl_parse.proofs.CompleteProgram.{program_is_complete}
-use Rattle.zpl_parse.proofs.ViableBase.{Begun}
-use Rattle.zpl_parse.proofs.ViableDecls.{program_viable}
+use Rattle.zpl_parse.proofs.PlainWords.{writable_then}
+use Rattle.zpl_parse.proofs.ViableBase.{Goes, Begun}
+use Rattle.zpl_parse.proofs.ViableDecls.{SpellsBefore, program_viable}
 use Rattle.zpl_parse.proofs.OneTree.{length-lexemes_of}
 
 -- offsets that rise from one token to the next
@@ -191,31 +194,60 @@ AnswersDeep source text tokens = (most : ℕ) → length tokens < most → (rest
 long_enough : (text : List ℕ) (tokens : List Token) (more : List Lexeme) → length (lexemes_of text tokens ++ more) < suc (length tokens + length more)
 long_enough text tokens more = let e = length-append (lexemes_of text tokens) more in let f = length-lexemes_of text tokens in omega arith
 
--- the tokens that were taken begin a text
+-- the words that were taken are those of the tokens before what is left
 pub record TakesTokens (text : List ℕ) (tokens : List Token) (words : List Word) (rest : List Lexeme) : Type 0 where
-  pub front : List Token
-  pub back : List Token
-  pub split : tokens ≡ front ++ back
-  pub left : rest ≡ lexemes_of text back
-  pub first : (more : List Word) → AreFirstWords text front (words ++ more)
+  pub is_left : IsLeft text tokens rest
+  pub are : AreWords text is_left.front words
 
 takes_tokens : (text : List ℕ) (at : ℕ) (tokens : List Token) → AreSpans text at tokens → {lexemes rest : List Lexeme} {words : List Word} → Takes lexemes words rest → lexemes ≡ lexemes_of text tokens →
     TakesTokens text tokens words rest
-takes_tokens text at tokens spans nothing same = record { front = []; back = tokens; split = refl; left = same; first = λ more. tt }
+takes_tokens text at tokens spans nothing same = record { is_left = record { front = []; back = tokens; split = refl; none = tt; left = same }; are = tt }
 takes_tokens text at [] spans (one reads inner more) same = absurd (cc)
 takes_tokens text at (t ∷ tokens) spans (one {first = first} {w = w} reads inner more) same =
+    let is : IsWord text t w = word_of_token text t at w spans.0 (subst (λ (l : Lexeme). Reads l w) (heads same) reads) in
     let rest = takes_tokens text t.to tokens spans.1 more (tails same) in
     record {
-      front = t ∷ rest.front;
-      back = rest.back;
-      split = ap (λ l. t ∷ l) rest.split;
-      left = rest.left;
-      first = λ words. (word_of_token text t at w spans.0 (subst (λ (l : Lexeme). Reads l w) (heads same) reads), rest.first words);
+      is_left = record {
+        front = t ∷ rest.is_left.front;
+        back = rest.is_left.back;
+        split = ap (λ l. t ∷ l) rest.is_left.split;
+        none = (λ end. no_end t.kind w is.kind inner end, rest.is_left.none);
+        left = rest.is_left.left;
+      };
+      are = (is, rest.are);
     }
 
--- no text of the grammar begins with the tokens up to one at which the rule is wrong
+first_words : (text : List ℕ) (tokens : List Token) (words more : List Word) → AreWords text tokens words → AreFirstWords text tokens (words ++ more)
+first_words text [] words more are = tt
+first_words text (t ∷ tokens) [] more are = absurd are
+first_words text (t ∷ tokens) (w ∷ words) more are = (are.0, first_words text tokens words more are.1)
+
+-- the words before a token of a text are writable
+abbrev pub AreWritableBefore : Type 0
+AreWritableBefore = (text : List ℕ) (tokens front back : List Token) (token : Token) (words : List Word) → IsTokens text tokens → tokens ≡ front ++ token ∷ back → AreWords text front words →
+    EachIsWritable false words
+
+-- where some program goes on with the words that were taken, their tokens begin a text
+begins_text : AreWritableBefore → (text : List ℕ) (tokens : List Token) (words : List Word) (rest : List Lexeme) → IsTokens text tokens → (taken : TakesTokens text tokens words rest) → Goes SpellsBefore words →
+    BeginsText text taken.is_left.front
+begins_text writable text tokens words rest are taken goes =
+    let front = taken.is_left.front in
+    let found = token_is_left text tokens rest are taken.is_left in
+    let split : tokens ≡ front ++ found.0 ∷ found.1 = taken.is_left.split ∙ ap (λ l. front ++ l) found.2 in
+    let each : EachIsWritable false words = writable text tokens front found.1 found.0 words are split taken.are in
+    record {
+      begun = record {
+        program = goes.tree;
+        words = (words ++ goes.more) ++ word.End ∷ [];
+        spells = goes.says;
+        first = subst (AreFirstWords text front) (sym (append_assoc words goes.more (word.End ∷ []))) (first_words text front words (goes.more ++ word.End ∷ []) taken.are);
+      };
+      writable = record { before = words ++ goes.more; split = refl; each = writable_then false words goes.more each goes.plain };
+    }
+
+-- no program's words begin with the tokens up to one at which the rule is wrong
 none_begins : (source text : List ℕ) (tokens : List Token) (at : ℕ) → IsTokens text tokens → AreSpans text 0 tokens → AnswersWrong source text tokens at →
-    (front back : List Token) (t : Token) → tokens ≡ front ++ t ∷ back → t.from ≡ at → ¬ BeginsText text (front ++ t ∷ [])
+    (front back : List Token) (t : Token) → tokens ≡ front ++ t ∷ back → t.from ≡ at → ¬ BeginsWords text (front ++ t ∷ [])
 none_begins source text tokens at are spans wrong front back t split place begins =
     let on = continue text (front ++ t ∷ []) begins.words begins.first in
     let lexemes : List Lexeme = lexemes_of text (front ++ t ∷ []) ++ on.more in
@@ -254,44 +286,39 @@ too_deep_anyhow source text most front back rest deep left tree words spells fir
     go wide lexemes open_ (inl read) = absurd (subst IsNotDone read.1.1 open_)
     go wide lexemes open_ (inr deep) = deep.0
 
--- lexemes of tokens that are some are those of some tokens
-head_token : (text : List ℕ) (tokens : List Token) (first : Lexeme) (rest : List Lexeme) → lexemes_of text tokens ≡ first ∷ rest → (t : Token) × (more : List Token) × (tokens ≡ t ∷ more)
-head_token text [] first rest same = absurd (cc)
-head_token text (t ∷ tokens) first rest same = (t, tokens, refl)
-
 -- Where the rule is wrong there is a fault.
-pub wrong_is_fault : (source text : List ℕ) (tokens : List Token) (at : ℕ) → IsTokens text tokens → AreSpans text 0 tokens → AnswersWrong source text tokens at → IsSyntaxFault text tokens at
-wrong_is_fault source text tokens at are spans wrong =
+pub wrong_is_fault : AreWritableBefore → (source text : List ℕ) (tokens : List Token) (at : ℕ) → IsTokens text tokens → AreSpans text 0 tokens → AnswersWrong source text tokens at → IsSyntaxFault text tokens at
+wrong_is_fault writable source text tokens at are spans wrong =
     let most : ℕ = suc (length tokens) in
     let here = wrong most (omega arith) in
-    let begun : Begun Spells (lexemes_of text tokens) (Wrong here.0) = subst (Begun Spells (lexemes_of text tokens)) here.1 (program_viable source most (lexemes_of text tokens)).begun in
+    let begun : Begun SpellsBefore (lexemes_of text tokens) (Wrong here.0) = subst (Begun SpellsBefore (lexemes_of text tokens)) here.1 (program_viable source most (lexemes_of text tokens)).begun in
     let taken = takes_tokens text 0 tokens spans begun.1 refl in
-    let left = wrong_is_left source text most tokens here.0 here.1 in
+    let left = taken.is_left in
     let found = token_is_left text tokens here.0 are left in
-    let head = head_token text taken.back (lexeme_of text found.0) (lexemes_of text found.1) (sym taken.left ∙ (left.left ∙ ap (lexemes_of text) found.2)) in
-    let split : tokens ≡ taken.front ++ head.0 ∷ head.1 = taken.split ∙ ap (λ l. taken.front ++ l) head.2 in
-    let place : head.0.from ≡ at = sym (here.2 ∙ ap head_at (taken.left ∙ ap (lexemes_of text) head.2)) in
+    let split : tokens ≡ left.front ++ found.0 ∷ found.1 = left.split ∙ ap (λ l. left.front ++ l) found.2 in
+    let place : found.0.from ≡ at = sym (here.2 ∙ ap head_at (left.left ∙ ap (lexemes_of text) found.2)) in
     record {
-      front = taken.front;
-      token = head.0;
-      back = head.1;
+      front = left.front;
+      token = found.0;
+      back = found.1;
       split = split;
       place = place;
-      begins = record { program = begun.2.tree; words = begun.0 ++ begun.2.more; spells = begun.2.says; first = taken.first begun.2.more };
-      none = none_begins source text tokens at are spans wrong taken.front head.1 head.0 split place;
+      begins = begins_text writable text tokens begun.0 here.0 are taken begun.2;
+      none = none_begins source text tokens at are spans wrong left.front found.1 found.0 split place;
     }
 
 -- Where the rule is too deep every tree is.
-pub deep_is_fault : (source text : List ℕ) (tokens : List Token) → IsTokens text tokens → AreSpans text 0 tokens → AnswersDeep source text tokens → IsTooDeep text tokens
-deep_is_fault source text tokens are spans deep =
+pub deep_is_fault : AreWritableBefore → (source text : List ℕ) (tokens : List Token) → IsTokens text tokens → AreSpans text 0 tokens → AnswersDeep source text tokens → IsTooDeep text tokens
+deep_is_fault writable source text tokens are spans deep =
     let most : ℕ = suc (length tokens) in
     let here = deep most (omega arith) in
-    let begun : Begun Spells (lexemes_of text tokens) (Deep here.0) = subst (Begun Spells (lexemes_of text tokens)) here.1 (program_viable source most (lexemes_of text tokens)).begun in
+    let begun : Begun SpellsBefore (lexemes_of text tokens) (Deep here.0) = subst (Begun SpellsBefore (lexemes_of text tokens)) here.1 (program_viable source most (lexemes_of text tokens)).begun in
     let taken = takes_tokens text 0 tokens spans begun.1 refl in
+    let left = taken.is_left in
     record {
-      front = taken.front;
-      back = taken.back;
-      split = taken.split;
-      begins = record { program = begun.2.tree; words = begun.0 ++ begun.2.more; spells = begun.2.says; first = taken.first begun.2.more };
-      deep = λ tree words spells first. too_deep_anyhow source text most taken.front taken.back here.0 (ap (λ l. program source most (lexemes_of text l)) (sym taken.split) ∙ here.1) taken.left tree words spells first;
+      front = left.front;
+      back = left.back;
+      split = left.split;
+      begins = begins_text writable text tokens begun.0 here.0 are taken begun.2;
+      deep = λ tree words spells first. too_deep_anyhow source text most left.front left.back here.0 (ap (λ l. program source most (lexemes_of text l)) (sym left.split) ∙ here.1) left.left tree words spells first;
     }

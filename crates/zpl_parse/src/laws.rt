@@ -8,8 +8,7 @@ ghost use Rattle.zpl_tree.specs.Shape.{SameShape};
 ghost use Rattle.zpl_tree.specs.Spelling.{program_words};
 ghost use Rattle.zpl_tree.specs.Syntax.{Program};
 ghost use Rattle.zpl_tree.specs.Word.{printed_text};
-ghost use Rattle.zpl_grammar.specs.Texts.{IsTree, IsShallowTree, IsSyntaxFault, IsTooDeep};
-ghost use Rattle.zpl_grammar.specs.Writable.{HasTree};
+ghost use Rattle.zpl_grammar.specs.Texts.{HasTree, IsTree, IsShallowTree, IsSyntaxFault, IsTooDeep};
 
 /// A text has at most one tree, up to offsets and source, however deep it is. Where it has one it has no fault of syntax,
 /// and where that isn't too deep it has no fault at all.

@@ -19,6 +19,7 @@ use crate::placing::placed_program;
 use crate::tokens::{Read, keyword, name, symbol};
 use bumpalo::Bump;
 use std::alloc::Global;
+use zpl_grammar::words_before_a_token_are_writable;
 use zpl_text::{Token, tokens_are_in_order};
 use zpl_tokens::{Key, Sym};
 use zpl_tree::Program;
@@ -50,6 +51,7 @@ pub fn parse<'a>(
     ensures too_deep { result ≡ Err TooDeep → IsTooDeep bytes.now tokens.now }
 {
     tokens_are_in_order();
+    words_before_a_token_are_writable();
     let (program, _) = program(alloc, arena, bytes, tokens)?;
     placed_program(arena, program)
 }

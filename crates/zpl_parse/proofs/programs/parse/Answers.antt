@@ -53,18 +53,18 @@ returns-in_err-program-clause-exact c = λ tree is.
     let text = c.args.bytes.now in
     let tokens = c.args.tokens.now in
     passed_reads _ _ _ c.from_residual.ensures.1
-    (tree_wants_memory text tokens c.in_err-program.field-0.0 tree c.requires (c.tokens_are_in_order.ensures.tokens text tokens c.requires) (c.in_err-program.ensures {u = tt}) is)
+    (tree_wants_memory c.words_before_a_token_are_writable.ensures text tokens c.in_err-program.field-0.0 tree c.requires (c.tokens_are_in_order.ensures.tokens text tokens c.requires) (c.in_err-program.ensures {u = tt}) is)
 
 pub returns-in_err-program-clause-syntax : goal.returns-in_err-program-clause-syntax
 returns-in_err-program-clause-syntax c = λ at same.
     let text = c.args.bytes.now in
     let tokens = c.args.tokens.now in
-    is_syntax text tokens at c.requires (c.tokens_are_in_order.ensures.tokens text tokens c.requires)
+    is_syntax c.words_before_a_token_are_writable.ensures text tokens at c.requires (c.tokens_are_in_order.ensures.tokens text tokens c.requires)
     (passed_fault text tokens c.in_err-program.field-0.0 (Syntax at) _ c.from_residual.ensures.1 same (c.in_err-program.ensures {u = tt}))
 
 pub returns-in_err-program-clause-too_deep : goal.returns-in_err-program-clause-too_deep
 returns-in_err-program-clause-too_deep c = λ same.
     let text = c.args.bytes.now in
     let tokens = c.args.tokens.now in
-    is_deep text tokens c.requires (c.tokens_are_in_order.ensures.tokens text tokens c.requires)
+    is_deep c.words_before_a_token_are_writable.ensures text tokens c.requires (c.tokens_are_in_order.ensures.tokens text tokens c.requires)
     (passed_fault text tokens c.in_err-program.field-0.0 TooDeep _ c.from_residual.ensures.1 same (c.in_err-program.ensures {u = tt}))
