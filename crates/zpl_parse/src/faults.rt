@@ -1,10 +1,10 @@
-//! Why a text has no tree.
+//! Why a text has no tree, or none that isn't too deep.
 ghost use Rattle.std.specs.Prelude.{◌≡◌};
 ghost use Rattle.zpl_parse.specs.declared.faults.ParseFault.TheVariants.{NoMemory};
 
 use std::alloc::{AllocError, AllocFailed};
 
-/// Why there is no tree.
+/// Why no tree is given.
 #[derive(Clone, Copy, Debug, PartialEq, Eq)]
 pub enum ParseFault {
     /// The token at `at` is the first with which, behind those before it, no text of the grammar begins.
@@ -12,7 +12,7 @@ pub enum ParseFault {
         /// The offset of that token.
         at: u32,
     },
-    /// Every text of the grammar that begins with some front of the tokens has a tree deeper than 200.
+    /// Some front of the tokens begins texts of the grammar, and each of their trees is deeper than 200.
     TooDeep,
     /// There was no memory for the tree.
     NoMemory,

@@ -1,6 +1,6 @@
 //! Reads the tree of a program from the tokens of its text.
 //!
-//! Recursive descent, one function a rule of the grammar, with the depth that is left.
+//! Recursive descent: the functions follow the rules of the grammar, with the depth that is left.
 #![tactic(auto)]
 
 mod classes;

@@ -25,10 +25,10 @@ use zpl_tokens::{Key, Sym};
 use zpl_tree::Program;
 
 /// Reads the tree of a program from the tokens of its text, the end among them. The tree lies in the arena, and
-/// `alloc` has what is needed on the way. Where there is no tree, the fault says why.
+/// `alloc` has what is needed on the way. Where none is given, the fault says why.
 ///
-/// The tree's names and strings are parts of the text. The depth of the stack is bounded by that of the tree, which is
-/// 200 at most.
+/// The tree's names and strings are parts of the text. The stack holds at most 200 nested statements and one expression
+/// 200 deep.
 pub fn parse<'a>(
     alloc: Global,
     arena: &'a Bump<Global>,

@@ -91,7 +91,7 @@ pub fn refused(tokens: &[Token]) -> ParseFault
     ParseFault::Syntax { at: offset(tokens) }
 }
 
-/// The fault where no deeper tree may stand: behind a token that may begin one it is too deep, and any other can't stand here.
+/// The fault where no depth is left: too deep at a token that may begin a tree, and a fault of syntax at any other.
 pub fn too_deep(begins: bool, tokens: &[Token]) -> ParseFault
     ensures { (text : List ℕ) → result ≡ (if begins then TooDeep else Syntax (head_at (lexemes_of text tokens.now))) }
 {
