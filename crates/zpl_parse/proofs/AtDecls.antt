@@ -165,7 +165,7 @@ module _ (d : ℕ) (expr : Reader Expr) (sound : (lexemes : List Lexeme) → IsS
       bracketed_to lexemes defined inner those rest begins here (inside, there.0) there.1)))
       (λ other. finish_at (λ inner. record { name = defined; body = inner; posts = NoPost })
       (lands_at (rexpr_sound d expr sound most (behind (behind lexemes))) (rexpr_at d expr sound at most (behind (behind lexemes)))) (λ inner rest there.
-      bare_to lexemes defined inner rest other here there.0 there.1))
+      bare_to lexemes defined inner rest other here (there.0, tt) there.1))
 
   region_at : (most : ℕ) (lexemes : List Lexeme) → IsAt (λ region rest. RegionTo lexemes region rest) (region most expr lexemes)
   region_at most lexemes = step_at _ (name_sound lexemes) (name_at lexemes) (λ defined here. sign_at (kind.Symbol sym.Equal) (behind lexemes) _

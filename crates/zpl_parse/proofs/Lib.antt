@@ -37,6 +37,9 @@ pub mod CompleteHere
 pub mod CompleteStatements
 pub mod CompleteDeclarations
 pub mod CompleteProgram
+pub mod OffsetsExprs
+pub mod OffsetsStmts
+pub mod OffsetsDecls
 pub mod OneTree
 pub mod Whole
 pub mod StatementBase

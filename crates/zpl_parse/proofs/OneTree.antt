@@ -10,7 +10,9 @@ use Rattle.zpl_grammar.specs.Texts.{AreFirstWords, IsTree, IsShallowTree, IsSynt
 use Rattle.zpl_parse.specs.Lexeme.{lexemes_of}
 use Rattle.zpl_parse.specs.Written.{AreLexemes}
 use Rattle.zpl_parse.specs.Outcome.{Outcome, Done}
+use Rattle.zpl_parse.specs.Placed.{IsPlacedTree}
 use Rattle.zpl_parse.proofs.CompleteProgram.{IsReadOrDeep, program_within, within_is_complete}
+use Rattle.zpl_parse.proofs.OffsetsDecls.{program_once}
 
 all_lexemes : (text : List ℕ) (tokens : List Token) (words : List Word) → AreWords text tokens words → AreLexemes (lexemes_of text tokens) words
 all_lexemes text [] [] are = tt
@@ -54,6 +56,11 @@ one_tree text tokens tree other is too =
     let two = tree_is_read text tokens other too (length tokens) deeper (omega arith) (omega arith) in
     let same : one.0 ≡ two.0 = same_done one.0 two.0 (sym one.1 ∙ two.1) in
     sym one.2 ∙ (ap shape_of same ∙ two.2)
+
+-- With its offsets and its source it has one.
+pub placed_once : (text : List ℕ) (tokens : List Token) (tree other : Program) → IsPlacedTree text tokens tree → IsPlacedTree text tokens other → tree ≡ other
+placed_once text tokens tree other is too =
+    program_once (lexemes_of text tokens) tree other is.offsets too.offsets (one_tree text tokens tree other is.tree too.tree) (is.source ∙ sym too.source)
 
 -- A text that has a tree has no fault of syntax.
 pub tree_no_fault : (text : List ℕ) (tokens : List Token) (tree : Program) (at : ℕ) → IsTree text tokens tree → IsSyntaxFault text tokens at → ⊥

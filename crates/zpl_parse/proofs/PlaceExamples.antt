@@ -68,7 +68,7 @@ repeat_at = (tt, refl, (tt, refl, (refl, refl)))
 -- a = [a]; a = a; at 0, 2, 4, 5, 6, 7, 9, 11, 13, 14
 regions_at : RegionsAt (name_at 0 ∷ symbol_at 2 sym.Equal ∷ symbol_at 4 sym.OpenBracket ∷ name_at 5 ∷ symbol_at 6 sym.CloseBracket ∷ symbol_at 7 sym.Semicolon ∷ name_at 9 ∷ symbol_at 11 sym.Equal ∷ name_at 13 ∷ symbol_at 14 sym.Semicolon ∷ [])
     (record { name = a 0; body = Rexpr [] (NamedRegion (a 5)) NoPost; posts = NoPost } ∷ record { name = a 9; body = Rexpr [] (NamedRegion (a 13)) NoPost; posts = NoPost } ∷ [])
-regions_at = ((refl, ((tt, refl, tt), tt)), ((refl, (tt, refl, tt)), tt))
+regions_at = ((refl, ((tt, refl, tt), tt)), ((refl, ((tt, refl, tt), tt)), tt))
 
 -- var a : integer; var a : integer; at 0, 4, 6, 8, 15, 17, 21, 23, 25, 32
 locals_at : LocalsAt (keyword_at 0 key.Var ∷ name_at 4 ∷ symbol_at 6 sym.Colon ∷ keyword_at 8 key.Integer ∷ symbol_at 15 sym.Semicolon ∷ keyword_at 17 key.Var ∷ name_at 21 ∷ symbol_at 23 sym.Colon ∷ keyword_at 25 key.Integer ∷ symbol_at 32 sym.Semicolon ∷ [])

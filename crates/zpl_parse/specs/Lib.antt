@@ -9,5 +9,6 @@ pub mod Statements
 pub mod Declarations
 pub mod Following
 pub mod Places
+pub mod Placed
 pub mod Whole
 pub mod Answers

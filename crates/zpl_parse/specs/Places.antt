@@ -182,10 +182,10 @@ DefineAt lexemes define =
     NameAt lexemes define.name × TypeAt (behind (behind lexemes)) define.base ×
     ExprAt (behind (past (type_words define.base) (behind (behind lexemes)))) define.value
 
--- what a region is defined as: in a bracket, or bare
+-- what a region is defined as: in a bracket, or bare, and what stands behind it
 abbrev pub BodyAt : Bool → List Lexeme → RegionDef → Type 0
 BodyAt true lexemes region = InnerAt (behind lexemes) region.body × PostsAt (past (in_square (inner_words region.body)) lexemes) region.posts
-BodyAt false lexemes region = InnerAt lexemes region.body
+BodyAt false lexemes region = InnerAt lexemes region.body × PostsAt (past (inner_words region.body) lexemes) region.posts
 
 -- whether a bracket begins
 abbrev pub opens : List Lexeme → Bool

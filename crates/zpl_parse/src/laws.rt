@@ -1,7 +1,7 @@
 //! The laws of texts and their trees.
 //!
 //! Each law is the contract of a function that does nothing: a call brings the law into a proof.
-ghost use Rattle.std.specs.Prelude.{ℕ, List};
+ghost use Rattle.std.specs.Prelude.{◌≡◌, ℕ, List};
 ghost use Rattle.zpl_text.specs.declared.tokens.Token.{Token};
 ghost use Rattle.zpl_text.specs.Tokens.{IsTokens};
 ghost use Rattle.zpl_tree.specs.Shape.{SameShape};
@@ -9,11 +9,13 @@ ghost use Rattle.zpl_tree.specs.Spelling.{program_words};
 ghost use Rattle.zpl_tree.specs.Syntax.{Program};
 ghost use Rattle.zpl_tree.specs.Word.{printed_text};
 ghost use Rattle.zpl_grammar.specs.Texts.{HasTree, IsTree, IsShallowTree, IsSyntaxFault, IsTooDeep};
+ghost use Rattle.zpl_parse.specs.Placed.{IsPlacedTree};
 
-/// A text has at most one tree, up to offsets and source, however deep it is. Where it has one it has no fault of syntax,
-/// and where that isn't too deep it has no fault at all.
+/// A text has at most one tree, up to offsets and source, however deep it is, and one alone with the offsets of its tokens
+/// and with its source. Where it has a tree it has no fault of syntax, and where that isn't too deep it has no fault at all.
 pub fn texts_have_one_tree()
     ensures one { (text : List ℕ) (tokens : List Token) (tree other : Program) → IsTree text tokens tree → IsTree text tokens other → SameShape tree other }
+    ensures placed { (text : List ℕ) (tokens : List Token) (tree other : Program) → IsPlacedTree text tokens tree → IsPlacedTree text tokens other → tree ≡ other }
     ensures sound { (text : List ℕ) (tokens : List Token) (tree : Program) (at : ℕ) → IsTree text tokens tree → IsSyntaxFault text tokens at → ⊥ }
     ensures shallow { (text : List ℕ) (tokens : List Token) (tree : Program) → IsShallowTree text tokens tree → IsTooDeep text tokens → ⊥ }
 {}

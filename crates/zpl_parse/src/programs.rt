@@ -1,15 +1,17 @@
 //! Whole programs.
-ghost use Rattle.std.specs.Prelude.{◌≡◌, ◌<◌, ℕ, length, IfOk, Err};
+ghost use Rattle.std.specs.Prelude.{◌≡◌, ◌<◌, ◌≤◌, ℕ, length, IfOk, Err};
 ghost use Rattle.zpl_text.specs.Tokens.{IsTokens};
+ghost use Rattle.zpl_tree.specs.Depth.{depth};
 ghost use Rattle.zpl_tree.specs.Shape.{SameShape};
 ghost use Rattle.zpl_tree.specs.Syntax.{Program as Tree};
 ghost use Rattle.zpl_tree.specs.View.{syntax_of};
-ghost use Rattle.zpl_grammar.specs.Texts.{IsShallowTree, IsSyntaxFault, IsTooDeep};
+ghost use Rattle.zpl_grammar.specs.Texts.{most_deep, IsShallowTree, IsSyntaxFault, IsTooDeep};
 ghost use Rattle.zpl_parse.specs.declared.faults.ParseFault.TheVariants.{Syntax, TooDeep};
 ghost use Rattle.zpl_parse.specs.Answers.{Reads};
 ghost use Rattle.zpl_parse.specs.Following.{Follows};
 ghost use Rattle.zpl_parse.specs.Lexeme.{lexemes_of};
 ghost use Rattle.zpl_parse.specs.Outcome.{Done};
+ghost use Rattle.zpl_parse.specs.Placed.{IsPlacedTree};
 ghost use Rattle.zpl_parse.specs.Places.{ProgramAt};
 ghost use Rattle.zpl_parse.specs.Declarations.{program as program_rule};
 
@@ -45,6 +47,10 @@ pub fn parse<'a>(
     // Where the text has such a tree, it is given, unless memory runs out.
     ensures exact { (tree : Tree) → IsShallowTree bytes.now tokens.now tree
         → Reads result (λ program. SameShape (syntax_of program.now) tree) }
+
+    // It is the one that has the offsets of the tokens and the text as its source.
+    ensures alone { (tree : Tree) → IsPlacedTree bytes.now tokens.now tree → depth tree ≤ most_deep
+        → Reads result (λ program. syntax_of program.now ≡ tree) }
 
     // When each fault comes.
     ensures syntax { (at : ℕ) → result ≡ Err (Syntax at) → IsSyntaxFault bytes.now tokens.now at }

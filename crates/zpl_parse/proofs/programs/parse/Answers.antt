@@ -7,7 +7,7 @@ use Rattle.zpl_parse.specs.Lexeme.{lexemes_of}
 use Rattle.zpl_parse.specs.Places.{ProgramAt}
 use Rattle.zpl_parse.proofs.SoundProgram.{program_is_sound}
 use Rattle.zpl_parse.proofs.AtDecls.{program_is_placed}
-use Rattle.zpl_parse.proofs.OneTree.{one_tree}
+use Rattle.zpl_parse.proofs.OneTree.{one_tree, placed_once}
 use Rattle.zpl_parse.proofs.Answering.{is_syntax, is_deep, tree_wants_memory, passed_reads, passed_fault, placed_if, placed_reads, placed_fault}
 use Rattle.zpl_parse.proofs.programs.parse.Goals as goal
 
@@ -41,6 +41,16 @@ returns-clause-exact c = λ tree is.
     placed_reads c.placed_program.result c.in_ok-program.program (λ program. SameShape (syntax_of program) tree) c.placed_program.ensures
     (one_tree text tokens (syntax_of c.in_ok-program.program) tree sound.0.tree is.tree)
 
+pub returns-clause-alone : goal.returns-clause-alone
+returns-clause-alone c = λ tree is shallow.
+    let text = c.args.bytes.now in
+    let tokens = c.args.tokens.now in
+    let read = c.in_ok-program.ensures {u = tt} (suc (length tokens)) (omega arith) in
+    let sound = program_is_sound text text (suc (length tokens)) tokens (syntax_of c.in_ok-program.program) _ read c.requires (c.tokens_are_in_order.ensures.tokens text tokens c.requires) in
+    let at = program_is_placed text (suc (length tokens)) (lexemes_of text tokens) (syntax_of c.in_ok-program.program) _ read in
+    placed_reads c.placed_program.result c.in_ok-program.program (λ program. syntax_of program ≡ tree) c.placed_program.ensures
+    (placed_once text tokens (syntax_of c.in_ok-program.program) tree (record { tree = sound.0.tree; offsets = at; source = sound.1 }) is)
+
 pub returns-clause-syntax : goal.returns-clause-syntax
 returns-clause-syntax c = λ at same. absurd (placed_fault c.placed_program.result c.in_ok-program.program (Syntax at) c.placed_program.ensures same)
 
@@ -54,6 +64,14 @@ returns-in_err-program-clause-exact c = λ tree is.
     let tokens = c.args.tokens.now in
     passed_reads _ _ _ c.from_residual.ensures.1
     (tree_wants_memory c.words_before_a_token_are_writable.ensures text tokens c.in_err-program.field-0.0 tree c.requires (c.tokens_are_in_order.ensures.tokens text tokens c.requires) (c.in_err-program.ensures {u = tt}) is)
+
+pub returns-in_err-program-clause-alone : goal.returns-in_err-program-clause-alone
+returns-in_err-program-clause-alone c = λ tree is shallow.
+    let text = c.args.bytes.now in
+    let tokens = c.args.tokens.now in
+    passed_reads _ _ _ c.from_residual.ensures.1
+    (tree_wants_memory c.words_before_a_token_are_writable.ensures text tokens c.in_err-program.field-0.0 tree c.requires (c.tokens_are_in_order.ensures.tokens text tokens c.requires) (c.in_err-program.ensures {u = tt})
+    (record { tree = is.tree; shallow = shallow }))
 
 pub returns-in_err-program-clause-syntax : goal.returns-in_err-program-clause-syntax
 returns-in_err-program-clause-syntax c = λ at same.
