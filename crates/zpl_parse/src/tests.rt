@@ -2,6 +2,7 @@ ghost use Rattle.std.specs.Prelude.{IfOk};
 ghost use Rattle.zpl_text.specs.Tokens.{IsTokens};
 
 mod every_form;
+mod nests;
 mod shown;
 
 use super::*;
@@ -50,25 +51,6 @@ fn with_body(alloc: Global, body: &[u8]) -> Result<Vec<u8>, Fail> {
     Ok(text)
 }
 
-/// Something, as often as it is to stand, before something else, and a third thing as often behind that.
-fn nest(
-    alloc: Global,
-    open: &[u8],
-    many: u32,
-    inside: &[u8],
-    close: &[u8],
-) -> Result<Vec<u8>, Fail> {
-    let mut text = Vec::new(alloc);
-    for _ in 0..many {
-        text.extend_from_slice(open)?;
-    }
-    text.extend_from_slice(inside)?;
-    for _ in 0..many {
-        text.extend_from_slice(close)?;
-    }
-    Ok(text)
-}
-
 /// Why the text of a body is refused, or nothing where it isn't.
 fn fault_of(rt: &impl Abort, alloc: Global, body: &[u8]) -> Result<Option<ParseFault>, Fail> {
     let text = with_body(alloc, body)?;
@@ -77,8 +59,14 @@ fn fault_of(rt: &impl Abort, alloc: Global, body: &[u8]) -> Result<Option<ParseF
 
 /// The place of a Syntax fault in a body, whose first byte stands at 32.
 fn syntax_at(rt: &impl Abort, alloc: Global, body: &[u8], at: u32) -> Result<(), Fail> {
-    let fault = fault_of(rt, alloc, body)?;
-    assert_eq!(rt; fault, Some(ParseFault::Syntax { at }), "{body:?}");
+    let text = with_body(alloc, body)?;
+    refuses_at(rt, alloc, &text, at)
+}
+
+/// The place of a Syntax fault in a whole text.
+fn refuses_at(rt: &impl Abort, alloc: Global, text: &[u8], at: u32) -> Result<(), Fail> {
+    let fault = printed(rt, alloc, text)?.err();
+    assert_eq!(rt; fault, Some(ParseFault::Syntax { at }), "{text:?}");
     Ok(())
 }
 
@@ -86,42 +74,6 @@ fn syntax_at(rt: &impl Abort, alloc: Global, body: &[u8], at: u32) -> Result<(),
 fn accepted(rt: &impl Abort, alloc: Global, body: &[u8]) -> Result<(), Fail> {
     let fault = fault_of(rt, alloc, body)?;
     assert_eq!(rt; fault, None, "{body:?}");
-    Ok(())
-}
-
-#[test]
-fn brackets_nest(rt: HostRuntime) -> Result<(), Fail> {
-    let alloc = rt.alloc();
-    for (many, deep) in [(0, false), (199, false), (200, true), (100000, true)] {
-        let nested = nest(alloc, b"(", many, b"1", b")")?;
-        let mut body = Vec::new(alloc);
-        body.extend_from_slice(b"x := ")?;
-        body.extend_from_slice(&nested)?;
-        body.extend_from_slice(b";")?;
-        let fault = fault_of(&rt, alloc, &body)?;
-        let wanted = if deep {
-            Some(ParseFault::TooDeep)
-        } else {
-            None
-        };
-        assert_eq!(rt; fault, wanted, "{many}");
-    }
-    Ok(())
-}
-
-#[test]
-fn blocks_nest(rt: HostRuntime) -> Result<(), Fail> {
-    let alloc = rt.alloc();
-    for (many, deep) in [(0, false), (198, false), (199, true), (10000, true)] {
-        let body = nest(alloc, b"begin ", many, b"x := 1;", b" end;")?;
-        let fault = fault_of(&rt, alloc, &body)?;
-        let wanted = if deep {
-            Some(ParseFault::TooDeep)
-        } else {
-            None
-        };
-        assert_eq!(rt; fault, wanted, "{many}");
-    }
     Ok(())
 }
 
@@ -136,6 +88,18 @@ fn places(rt: HostRuntime) -> Result<(), Fail> {
     syntax_at(&rt, alloc, b"if x then elsif y end;", 50)?;
     syntax_at(&rt, alloc, b"max := 1;", 32)?;
     Ok(())
+}
+
+#[test]
+fn comparisons_do_not_chain(rt: HostRuntime) -> Result<(), Fail> {
+    let alloc = rt.alloc();
+    syntax_at(&rt, alloc, b"x := a = b != c;", 43)?;
+    syntax_at(&rt, alloc, b"x := a != b < c;", 44)?;
+    syntax_at(&rt, alloc, b"x := a < b > c;", 43)?;
+    syntax_at(&rt, alloc, b"x := a > b <= c;", 43)?;
+    syntax_at(&rt, alloc, b"x := a <= b >= c;", 44)?;
+    syntax_at(&rt, alloc, b"x := a >= b = c;", 44)?;
+    accepted(&rt, alloc, b"x := (a = b) != c; x := a <= (b >= c);")
 }
 
 #[test]
@@ -238,6 +202,23 @@ fn keywords_are_no_names(rt: HostRuntime) -> Result<(), Fail> {
     Ok(())
 }
 
+#[test]
+fn no_name_is_a_keyword(rt: HostRuntime) -> Result<(), Fail> {
+    let alloc = rt.alloc();
+    refuses_at(&rt, alloc, b"program begin; procedure p(); begin end;", 8)?;
+    refuses_at(&rt, alloc, b"program p; procedure end(); begin end;", 21)?;
+    refuses_at(
+        &rt,
+        alloc,
+        b"program p; procedure f(of : integer); begin end;",
+        23,
+    )?;
+    refuses_at(&rt, alloc, b"program p; region max = [1..2];", 18)?;
+    refuses_at(&rt, alloc, b"program p; direction at = [1];", 21)?;
+    syntax_at(&rt, alloc, b"wrap by;", 37)?;
+    syntax_at(&rt, alloc, b"wrap A, to;", 40)
+}
+
 /// A text and what is printed of its tree, which is printed of that text too.
 fn prints(rt: &impl Abort, alloc: Global, text: &[u8], wanted: &[u8]) -> Result<(), Fail> {
     shows(rt, alloc, text, wanted)?;
@@ -250,6 +231,16 @@ fn shows(rt: &impl Abort, alloc: Global, text: &[u8], wanted: &[u8]) -> Result<(
         Err(fault) => assert!(rt; false, "{fault:?}"),
     }
     Ok(())
+}
+
+#[test]
+fn tokens_are_printed_apart(rt: HostRuntime) -> Result<(), Fail> {
+    prints(
+        &rt,
+        rt.alloc(),
+        b"program t;var x:integer;procedure t();begin x:=1+-2;end;",
+        b"program t ;\nvar x : integer ;\nprocedure t ( ) ;\nbegin x := 1 + - 2 ;\nend ;\n",
+    )
 }
 
 #[test]
@@ -393,56 +384,56 @@ fn first_statement<'a>(program: &Program<'a>) -> Option<&'a Stmt<'a>> {
     }
 }
 
-/// How many dimensions a statement's first prefix has, with the first and the last, or nothing where it has a region
-/// expression.
-fn dimensions(stmt: &Stmt<'_>) -> Option<(usize, Option<Dimension>, Option<Dimension>)> {
+/// What stands in a bracket: a region expression, or so many dimensions, with the first and the last.
+#[derive(Clone, Copy, Debug, PartialEq, Eq)]
+enum Inside {
+    Region,
+    Dimensions(usize, Dimension, Dimension),
+}
+
+/// What stands in a statement's first prefix, or nothing where it has no prefix.
+fn first_prefix(stmt: &Stmt<'_>) -> Option<Inside> {
     match stmt.prefixes.first()?.region {
-        Inner::Dims(dims) => Some((
-            dims.len(),
-            dims.first().map(dimension_of),
-            dims.last().map(dimension_of),
-        )),
-        Inner::Rexpr(_) => None,
+        Inner::Rexpr(_) => Some(Inside::Region),
+        Inner::Dims(dims) => {
+            let first = dimension_of(dims.first()?);
+            let last = dimension_of(dims.last()?);
+            Some(Inside::Dimensions(dims.len(), first, last))
+        }
     }
 }
 
-/// The first and the last dimension of the bracket that a body begins with, of so many.
-fn bracket(
-    rt: &impl Abort,
-    alloc: Global,
-    body: &[u8],
-    wanted: Option<(usize, Dimension, Dimension)>,
-) -> Result<(), Fail> {
+/// What stands in the bracket that a body begins with.
+fn bracket(rt: &impl Abort, alloc: Global, body: &[u8], wanted: Inside) -> Result<(), Fail> {
     let text = with_body(alloc, body)?;
     let tokens = tokens_of(rt, alloc, &text)?;
     let arena = Bump::new(alloc);
     let found = match parse(alloc, &arena, &tokens, &text) {
-        Ok(program) => first_statement(program).and_then(dimensions),
-        Err(_) => Some((0, None, None)),
+        Ok(program) => first_statement(program).and_then(first_prefix),
+        Err(_) => None,
     };
-    let wanted = wanted.map(|(many, first, last)| (many, Some(first), Some(last)));
-    assert_eq!(rt; found, wanted, "{body:?}");
+    assert_eq!(rt; found, Some(wanted), "{body:?}");
     Ok(())
 }
 
 /// The dimension of a bracket that has one.
-fn single(dimension: Dimension) -> Option<(usize, Dimension, Dimension)> {
-    Some((1, dimension, dimension))
+fn single(dimension: Dimension) -> Inside {
+    Inside::Dimensions(1, dimension, dimension)
 }
 
 #[test]
 fn brackets_have_their_trees(rt: HostRuntime) -> Result<(), Fail> {
     let alloc = rt.alloc();
-    bracket(&rt, alloc, b"[R] x := 1;", None)?;
-    bracket(&rt, alloc, b"[\"] x := 1;", None)?;
-    bracket(&rt, alloc, b"[d of R with m] x := 1;", None)?;
+    bracket(&rt, alloc, b"[R] x := 1;", Inside::Region)?;
+    bracket(&rt, alloc, b"[\"] x := 1;", Inside::Region)?;
+    bracket(&rt, alloc, b"[d of R with m] x := 1;", Inside::Region)?;
     bracket(&rt, alloc, b"[k + 1] x := 1;", single(Dimension::One(33)))?;
     bracket(&rt, alloc, b"[ ] x := 1;", single(Dimension::Blank(34)))?;
     bracket(
         &rt,
         alloc,
         b"[ , k] x := 1;",
-        Some((2, Dimension::Blank(34), Dimension::One(36))),
+        Inside::Dimensions(2, Dimension::Blank(34), Dimension::One(36)),
     )
 }
 
@@ -454,7 +445,13 @@ fn stars_have_their_trees(rt: HostRuntime) -> Result<(), Fail> {
         &rt,
         alloc,
         b"[*, 1..2 with m] x := 1;",
-        Some((2, Dimension::Star(33), Dimension::Span(36, 39))),
+        Inside::Dimensions(2, Dimension::Star(33), Dimension::Span(36, 39)),
+    )?;
+    bracket(
+        &rt,
+        alloc,
+        b"[* with m] x := 1;",
+        single(Dimension::Star(33)),
     )?;
     bracket(
         &rt,
