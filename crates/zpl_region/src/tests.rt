@@ -144,87 +144,85 @@ fn planes_and_spaces_of_a_plain_search(rt: HostRuntime) {
     }
 }
 
+/// What `d of`, `d in`, `at d` and `by d` give of a range, beside a flood dimension, for the component d.
+fn forms(rt: &impl Abort, dim: (i64, i64, i64, i64), d: i64, wanted: &[(i64, i64, i64, i64); 4]) {
+    let region = region(rt, 2, range(dim), Dim::Flood, PADDING);
+    let v = [d, d, d];
+    let [outside, inside, moved, strided] = *wanted;
+    for (given, want) in [
+        (region.of(v), outside),
+        (region.inside(v), inside),
+        (region.at(v), moved),
+        (region.by(v), strided),
+    ] {
+        let dims = [range(want), Dim::Flood, PADDING];
+        assert_eq!(rt; given, Ok(Region { rank: 2, dims }), "{dim:?} and {d}");
+    }
+}
+
 #[test]
 fn forms_of_a_line(rt: HostRuntime) {
-    // a range, the component d, and what `d of`, `d in`, `at d` and `by d` give
-    for (dim, d, outside, inside, moved, strided) in [
-        (
-            (0, 8, 3, 1),
-            2,
-            (9, 10, 3, 1),
-            (7, 8, 3, 1),
-            (2, 10, 3, 3),
-            (0, 8, 6, 1),
-        ),
-        (
-            (0, 8, 3, 1),
-            -2,
-            (-2, -1, 3, 1),
-            (0, 1, 3, 1),
-            (-2, 6, 3, -1),
-            (0, 8, 6, 7),
-        ),
-        (
-            (0, 8, 3, 1),
-            0,
-            (0, 8, 3, 1),
-            (0, 8, 3, 1),
-            (0, 8, 3, 1),
-            (0, 8, 3, 1),
-        ),
-        (
-            (5, 4, 2, 0),
-            3,
-            (5, 7, 2, 0),
-            (2, 4, 2, 0),
-            (8, 7, 2, 3),
-            (5, 4, 6, 5),
-        ),
-        (
-            (5, 4, 2, 0),
-            -3,
-            (2, 4, 2, 0),
-            (5, 7, 2, 0),
-            (2, 1, 2, -3),
-            (5, 4, 6, 4),
-        ),
-        (
-            (1, 2, 5, 0),
-            2,
-            (3, 4, 5, 0),
-            (1, 2, 5, 0),
-            (3, 4, 5, 2),
-            (1, 2, 10, 1),
-        ),
-        (
-            (1, 2, 5, 0),
-            -2,
-            (-1, 0, 5, 0),
-            (1, 2, 5, 0),
-            (-1, 0, 5, -2),
-            (1, 2, 10, 2),
-        ),
-        (
-            (4, 4, 7, -3),
-            7,
+    forms(
+        &rt,
+        (0, 8, 3, 1),
+        2,
+        &[(9, 10, 3, 1), (7, 8, 3, 1), (2, 10, 3, 3), (0, 8, 6, 1)],
+    );
+    forms(
+        &rt,
+        (0, 8, 3, 1),
+        -2,
+        &[(-2, -1, 3, 1), (0, 1, 3, 1), (-2, 6, 3, -1), (0, 8, 6, 7)],
+    );
+    forms(
+        &rt,
+        (0, 8, 3, 1),
+        0,
+        &[(0, 8, 3, 1), (0, 8, 3, 1), (0, 8, 3, 1), (0, 8, 3, 1)],
+    );
+}
+
+#[test]
+fn forms_of_an_empty_line(rt: HostRuntime) {
+    forms(
+        &rt,
+        (5, 4, 2, 0),
+        3,
+        &[(5, 7, 2, 0), (2, 4, 2, 0), (8, 7, 2, 3), (5, 4, 6, 5)],
+    );
+    forms(
+        &rt,
+        (5, 4, 2, 0),
+        -3,
+        &[(2, 4, 2, 0), (5, 7, 2, 0), (2, 1, 2, -3), (5, 4, 6, 4)],
+    );
+}
+
+#[test]
+fn forms_of_a_line_with_a_long_step(rt: HostRuntime) {
+    forms(
+        &rt,
+        (1, 2, 5, 0),
+        2,
+        &[(3, 4, 5, 0), (1, 2, 5, 0), (3, 4, 5, 2), (1, 2, 10, 1)],
+    );
+    forms(
+        &rt,
+        (1, 2, 5, 0),
+        -2,
+        &[(-1, 0, 5, 0), (1, 2, 5, 0), (-1, 0, 5, -2), (1, 2, 10, 2)],
+    );
+    forms(
+        &rt,
+        (4, 4, 7, -3),
+        7,
+        &[
             (5, 11, 7, -3),
             (-2, 4, 7, -3),
             (11, 11, 7, 4),
             (4, 4, 49, 4),
-        ),
-    ] {
-        let region = region(&rt, 2, range(dim), Dim::Flood, PADDING);
-        let v = [d, d, d];
-        for (given, want) in [
-            (region.of(v), outside),
-            (region.inside(v), inside),
-            (region.at(v), moved),
-            (region.by(v), strided),
-        ] {
-            let dims = [range(want), Dim::Flood, PADDING];
-            assert_eq!(rt; given, Ok(Region { rank: 2, dims }), "{dim:?} and {d}");
-        }
-    }
+        ],
+    );
 }
 
 #[test]
