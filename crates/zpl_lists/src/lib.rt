@@ -6,8 +6,8 @@
 ghost use Rattle.std.specs.Prelude.{List, [], ◌++◌};
 ghost use Rattle.zpl_lists.specs.Front.{IsFrontOf};
 
-/// A front of a front is a front, and so is a front behind the same list; a list has its empty front,
-/// itself and what it is appended to.
+/// A front of a front is a front, and so is a front behind the same list; a list has its empty
+/// front, itself and what it is appended to.
 pub fn fronts_join<T>()
     ensures empty { (a : List T) → IsFrontOf [] a }
     ensures whole { (a : List T) → IsFrontOf a a }

@@ -1,5 +1,7 @@
 -- Lemmas on joining, and on folds over lists.
-use Rattle.std.proofs.Common.{◌≡◌, ◌≢◌, ℕ, zero, suc, ◌<◌, Bool, true, false, ◌&&◌, ◌||◌, List, [], ◌∷◌, ◌++◌, map, length, get_or, set, length-set, eqb, w64, ℤ, pos, ◌+ℤ◌, ◌*ℤ◌, refl, sym, ◌∙◌, ap, inl, inr, arith}
+use Rattle.std.proofs.Common.{◌≡◌, ◌≢◌, ℕ, zero, suc, ◌<◌, Bool, true, false, ◌&&◌, ◌||◌, List, []}
+use Rattle.std.proofs.Common.{◌∷◌, ◌++◌, map, length, get_or, set, length-set, eqb, w64, ℤ, pos}
+use Rattle.std.proofs.Common.{◌+ℤ◌, ◌*ℤ◌, refl, sym, ◌∙◌, ap, inl, inr, arith}
 use Rattle.std.proofs.Math.Bool.{and_assoc, or_assoc, and_comm, or_comm}
 use Rattle.std.proofs.Math.IntN.{+ℤ_comm, *ℤ_comm, +ℤ_idl, *ℤ-one}
 use Rattle.std.proofs.lemmas.Int.{ints, clamps, int_wrap_fits}
@@ -16,10 +18,14 @@ use Rattle.zpl_nums.specs.declared.folds.Fold.{Fold as Operator}
 use Rattle.zpl_nums.specs.declared.folds.Fold.TheVariants.{Sum, Prod, Max, Min, All, Any}
 use Rattle.zpl_nums.specs.Integer.{wrapped, truth, is_true}
 use Rattle.zpl_nums.specs.Fold.{joined, unit_of, IsValueOf, folded}
-use Rattle.zpl_nums.proofs.IntegerLemmas.{is_true-truth, IsTruth-truth, int_max_assoc, int_min_assoc, wrapped-add_assoc, wrapped-mul_assoc, wrapped_zero, wrapped_one, IsInteger-wrapped, IsInteger-int_max, IsInteger-int_min}
+use Rattle.zpl_nums.proofs.IntegerLemmas.{is_true-truth, IsTruth-truth, int_max_assoc}
+use Rattle.zpl_nums.proofs.IntegerLemmas.{int_min_assoc, wrapped-add_assoc, wrapped-mul_assoc}
+use Rattle.zpl_nums.proofs.IntegerLemmas.{wrapped_zero, wrapped_one, IsInteger-wrapped}
+use Rattle.zpl_nums.proofs.IntegerLemmas.{IsInteger-int_max, IsInteger-int_min}
 
 -- ---- joining
-pub joined_assoc : (o : Operator) (a b c : ℤ) → joined o (joined o a b) c ≡ joined o a (joined o b c)
+pub joined_assoc : (o : Operator) (a b c : ℤ)
+    → joined o (joined o a b) c ≡ joined o a (joined o b c)
 joined_assoc Sum a b c = wrapped-add_assoc a b c
 joined_assoc Prod a b c = wrapped-mul_assoc a b c
 joined_assoc Max a b c = int_max_assoc a b c
@@ -42,11 +48,13 @@ joined_comm All a b = ap truth (and_comm (is_true a) (is_true b))
 joined_comm Any a b = ap truth (or_comm (is_true a) (is_true b))
 
 -- b moves to the front
-joined_left_comm : (o : Operator) (a b c : ℤ) → joined o a (joined o b c) ≡ joined o b (joined o a c)
+joined_left_comm : (o : Operator) (a b c : ℤ)
+    → joined o a (joined o b c) ≡ joined o b (joined o a c)
 joined_left_comm o a b c =
     sym (joined_assoc o a b c) ∙ (ap (λ x. joined o x c) (joined_comm o a b) ∙ joined_assoc o b a c)
 
--- ---- values that the unit leaves as they are: what a fold gives is one, also over values that the operator is not for
+-- ---- values that the unit leaves as they are: what a fold gives is one, also over values that the
+-- operator is not for
 abbrev pub IsSettled : Operator → ℤ → Type 0
 IsSettled o a = joined o (unit_of o) a ≡ a
 
@@ -61,7 +69,8 @@ unit_settled Any = refl
 settled-joined : (o : Operator) (a b : ℤ) → IsSettled o a → IsSettled o (joined o a b)
 settled-joined o a b h = sym (joined_assoc o (unit_of o) a b) ∙ ap (λ x. joined o x b) h
 
-settled-fold : (o : Operator) (a : ℤ) (xs : List ℤ) → IsSettled o a → IsSettled o (fold (joined o) a xs)
+settled-fold : (o : Operator) (a : ℤ) (xs : List ℤ) → IsSettled o a
+    → IsSettled o (fold (joined o) a xs)
 settled-fold o a [] h = h
 settled-fold o a (x ∷ xs) h = settled-fold o (joined o a x) xs (settled-joined o a x h)
 
@@ -72,7 +81,8 @@ pub settled_right : (o : Operator) (a : ℤ) → IsSettled o a → joined o a (u
 settled_right o a h = joined_comm o a (unit_of o) ∙ h
 
 -- a fold that begins at a joins a with the fold
-pub fold_from : (o : Operator) (a : ℤ) (xs : List ℤ) → IsSettled o a → fold (joined o) a xs ≡ joined o a (folded o xs)
+pub fold_from : (o : Operator) (a : ℤ) (xs : List ℤ) → IsSettled o a
+    → fold (joined o) a xs ≡ joined o a (folded o xs)
 fold_from o a [] h = sym (settled_right o a h)
 fold_from o a (x ∷ xs) h =
     let u = unit_of o in
@@ -81,14 +91,17 @@ fold_from o a (x ∷ xs) h =
     ∙ (ap (λ y. joined o (joined o y x) rest) (sym (settled_right o a h))
     ∙ (ap (λ y. joined o y rest) (joined_assoc o a u x)
     ∙ (joined_assoc o a (joined o u x) rest
-    ∙ ap (joined o a) (sym (fold_from o (joined o u x) xs (settled-joined o u x (unit_settled o)))))))
+    ∙ ap (joined o a)
+    (sym (fold_from o (joined o u x) xs (settled-joined o u x (unit_settled o)))))))
 
 -- ---- folds over lists
-pub folded-append : (o : Operator) (xs ys : List ℤ) → folded o (xs ++ ys) ≡ joined o (folded o xs) (folded o ys)
+pub folded-append : (o : Operator) (xs ys : List ℤ)
+    → folded o (xs ++ ys) ≡ joined o (folded o xs) (folded o ys)
 folded-append o xs ys =
     fold-append (joined o) (unit_of o) xs ys ∙ fold_from o (folded o xs) ys (settled-folded o xs)
 
-pub folded-cons : (o : Operator) (x : ℤ) (xs : List ℤ) → folded o (x ∷ xs) ≡ joined o x (folded o xs)
+pub folded-cons : (o : Operator) (x : ℤ) (xs : List ℤ)
+    → folded o (x ∷ xs) ≡ joined o x (folded o xs)
 folded-cons o x xs =
     let u = unit_of o in
     fold_from o (joined o u x) xs (settled-joined o u x (unit_settled o))
@@ -97,7 +110,8 @@ folded-cons o x xs =
     ∙ ap (joined o x) (settled-folded o xs)))
 
 -- the element at i, joined with the fold of the others
-folded-set : (o : Operator) (xs : List ℤ) (i : ℕ) (y : ℤ) → i < length xs → folded o (set xs i y) ≡ joined o y (folded o (set xs i (unit_of o)))
+folded-set : (o : Operator) (xs : List ℤ) (i : ℕ) (y : ℤ) → i < length xs
+    → folded o (set xs i y) ≡ joined o y (folded o (set xs i (unit_of o)))
 folded-set o [] i y h = absurd (omega arith)
 folded-set o (x ∷ xs) zero y h =
     folded-cons o y xs ∙ sym (ap (joined o y) (folded-cons o (unit_of o) xs ∙ settled-folded o xs))
@@ -109,15 +123,18 @@ folded-set o (x ∷ xs) (suc i) y h =
     ∙ ap (joined o y) (sym (folded-cons o x (set xs i u)))))
 
 -- two places of a list hold a and b, or b and a
-folded-set_two : (o : Operator) (xs : List ℤ) (i j : ℕ) (a b : ℤ) → i ≢ j → i < length xs → j < length xs
-    → folded o (set (set xs i a) j b) ≡ joined o b (joined o a (folded o (set (set xs j (unit_of o)) i (unit_of o))))
+folded-set_two : (o : Operator) (xs : List ℤ) (i j : ℕ) (a b : ℤ) → i ≢ j → i < length xs
+    → j < length xs
+    → folded o (set (set xs i a) j b) ≡ joined o b
+    (joined o a (folded o (set (set xs j (unit_of o)) i (unit_of o))))
 folded-set_two o xs i j a b other low high =
     let u = unit_of o in
     folded-set o (set xs i a) j b (omega (arith, length-set {A = ℤ}))
     ∙ ap (joined o b) (ap (folded o) (set_comm xs i j a u other)
     ∙ folded-set o (set xs j u) i a (omega (arith, length-set {A = ℤ})))
 
-folded-set_swapped : (o : Operator) (xs : List ℤ) (i j : ℕ) (a b : ℤ) → i ≢ j → i < length xs → j < length xs
+folded-set_swapped : (o : Operator) (xs : List ℤ) (i j : ℕ) (a b : ℤ) → i ≢ j → i < length xs
+    → j < length xs
     → folded o (set (set xs i a) j b) ≡ folded o (set (set xs i b) j a)
 folded-set_swapped o xs i j a b other low high =
     let rest = folded o (set (set xs j (unit_of o)) i (unit_of o)) in
@@ -125,7 +142,8 @@ folded-set_swapped o xs i j a b other low high =
     ∙ (joined_left_comm o b a rest
     ∙ sym (folded-set_two o xs i j b a other low high))
 
-folded-swap : (o : Operator) (xs : List ℤ) (i j : ℕ) → i < length xs → j < length xs → folded o (swap xs i j) ≡ folded o xs
+folded-swap : (o : Operator) (xs : List ℤ) (i j : ℕ) → i < length xs → j < length xs
+    → folded o (swap xs i j) ≡ folded o xs
 folded-swap o xs i j low high =
     ap (folded o) (sym (swap_is xs i j (pos 0) low high)) ∙ by_places (eqb i j) refl
   where
@@ -148,12 +166,15 @@ folded-swap o xs i j low high =
         let other : i ≢ j = grind (arith, nat_tests) in
         folded-set_swapped o xs i j b a other low high ∙ ap (folded o) (unchanged other)
 
-pub folded-IsPermutation : (o : Operator) (xs ys : List ℤ) → IsPermutation xs ys → folded o ys ≡ folded o xs
+pub folded-IsPermutation : (o : Operator) (xs ys : List ℤ) → IsPermutation xs ys
+    → folded o ys ≡ folded o xs
 folded-IsPermutation o xs ys h =
-    IsPermutation-keeps xs (λ l. folded o l ≡ folded o xs) refl (λ l i j p q e. folded-swap o l i j p q ∙ e) ys h
+    IsPermutation-keeps xs (λ l. folded o l ≡ folded o xs) refl
+    (λ l i j p q e. folded-swap o l i j p q ∙ e) ys h
 
 -- the parts of a list, folded apart
-pub folded-flat_map : (o : Operator) (parts : List (List ℤ)) → folded o (flat_map (λ part. part) parts) ≡ folded o (map (folded o) parts)
+pub folded-flat_map : (o : Operator) (parts : List (List ℤ))
+    → folded o (flat_map (λ part. part) parts) ≡ folded o (map (folded o) parts)
 folded-flat_map o [] = refl
 folded-flat_map o (part ∷ parts) =
     folded-append o part (flat_map (λ p. p) parts)
@@ -161,7 +182,8 @@ folded-flat_map o (part ∷ parts) =
     ∙ sym (folded-cons o (folded o part) (map (folded o) parts)))
 
 -- ---- the values that an operator is for
-pub IsValueOf-joined : (o : Operator) (a b : ℤ) → IsValueOf o a → IsValueOf o b → IsValueOf o (joined o a b)
+pub IsValueOf-joined : (o : Operator) (a b : ℤ) → IsValueOf o a → IsValueOf o b
+    → IsValueOf o (joined o a b)
 IsValueOf-joined Sum a b f g = IsInteger-wrapped (a +ℤ b)
 IsValueOf-joined Prod a b f g = IsInteger-wrapped (a *ℤ b)
 IsValueOf-joined Max a b f g = IsInteger-int_max a b f g
@@ -177,12 +199,15 @@ IsValueOf-unit_of Min = record { sfits = omega arith }
 IsValueOf-unit_of All = inr refl
 IsValueOf-unit_of Any = inl refl
 
-IsValueOf-fold : (o : Operator) (a : ℤ) (xs : List ℤ) → IsValueOf o a → ForAll (IsValueOf o) xs → IsValueOf o (fold (joined o) a xs)
+IsValueOf-fold : (o : Operator) (a : ℤ) (xs : List ℤ) → IsValueOf o a → ForAll (IsValueOf o) xs
+    → IsValueOf o (fold (joined o) a xs)
 IsValueOf-fold o a [] f g = f
 IsValueOf-fold o a (x ∷ xs) f g =
-    IsValueOf-fold o (joined o a x) xs (IsValueOf-joined o a x f (All-head (IsValueOf o) x xs g)) (All-tail (IsValueOf o) x xs g)
+    IsValueOf-fold o (joined o a x) xs (IsValueOf-joined o a x f (All-head (IsValueOf o) x xs g))
+    (All-tail (IsValueOf o) x xs g)
 
-pub IsValueOf-folded : (o : Operator) (xs : List ℤ) → ForAll (IsValueOf o) xs → IsValueOf o (folded o xs)
+pub IsValueOf-folded : (o : Operator) (xs : List ℤ) → ForAll (IsValueOf o) xs
+    → IsValueOf o (folded o xs)
 IsValueOf-folded o xs f = IsValueOf-fold o (unit_of o) xs (IsValueOf-unit_of o) f
 
 -- the unit is neutral on them

@@ -1,5 +1,6 @@
 -- The integers of the language, as mathematical integers: their range, wrapping, and truth values.
-use Rattle.std.specs.Prelude.{◌≡◌, ◌-◌, ◌^◌, Bool, true, false, not, ◌⊎◌, ℤ, pos, negsuc, ◌-ℤ◌, FitsSigned}
+use Rattle.std.specs.Prelude.{◌≡◌, ◌-◌, ◌^◌, Bool, true, false, not, ◌⊎◌}
+use Rattle.std.specs.Prelude.{ℤ, pos, negsuc, ◌-ℤ◌, FitsSigned}
 use Rattle.std.specs.Int.{int_wrap, int_max}
 use Rattle.std.specs.Ordering.{int_eq}
 use mir.Syntax.{w64}
@@ -32,7 +33,8 @@ is_true z = not (int_eq z (pos 0))
 abbrev pub IsTruth : ℤ → Type 0
 IsTruth z = (z ≡ pos 0) ⊎ (z ≡ pos 1)
 
--- the operators on one operand: negation, the absolute value (of the least integer itself), and `not` of a truth value
+-- the operators on one operand: negation, the absolute value (of the least integer itself), and
+-- `not` of a truth value
 abbrev pub negated : ℤ → ℤ
 negated z = wrapped (pos 0 -ℤ z)
 

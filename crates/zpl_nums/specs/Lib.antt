@@ -1,3 +1,4 @@
 pub mod Fold
 pub mod Integer
 pub mod Op
+pub mod UnaryOp

@@ -1,9 +1,12 @@
 -- What each binary operator gives.
-use Rattle.std.specs.Prelude.{◌≡◌, not, ◌&&◌, ◌||◌, ◌⊎◌, Option, Some, None, ℤ, pos, ◌+ℤ◌, ◌-ℤ◌, ◌*ℤ◌, int_lt, int_le, int_div, int_rem, if◌then◌else◌}
+use Rattle.std.specs.Prelude.{◌≡◌, ⊤, not, ◌&&◌, ◌||◌, ◌⊎◌, Option, Some, None, if◌then◌else◌}
+use Rattle.std.specs.Prelude.{ℤ, pos, ◌+ℤ◌, ◌-ℤ◌, ◌*ℤ◌, int_lt, int_le, int_div, int_rem}
 use Rattle.std.specs.Int.{int_max, int_min}
 use Rattle.std.specs.Ordering.{int_eq}
 use Rattle.zpl_nums.specs.declared.operators.Op.{Op}
-use Rattle.zpl_nums.specs.declared.operators.Op.TheVariants.{Add, Sub, Mul, Div, Rem, Eq, Ne, Lt, Le, Gt, Ge, And, Or, Max, Min}
+use Rattle.zpl_nums.specs.declared.operators.Op.TheVariants.{Add, Sub, Mul, Div, Rem}
+use Rattle.zpl_nums.specs.declared.operators.Op.TheVariants.{Eq, Ne, Lt, Le, Gt, Ge, And, Or, Max}
+use Rattle.zpl_nums.specs.declared.operators.Op.TheVariants.{Min}
 use Rattle.zpl_nums.specs.Integer.{wrapped, truth, is_true}
 
 -- `int_div` is truncated toward zero, and `int_rem` has the dividend's sign
@@ -35,13 +38,13 @@ Tests Sub = ⊥
 Tests Mul = ⊥
 Tests Div = ⊥
 Tests Rem = ⊥
-Tests Eq = Unit {0}
-Tests Ne = Unit {0}
-Tests Lt = Unit {0}
-Tests Le = Unit {0}
-Tests Gt = Unit {0}
-Tests Ge = Unit {0}
-Tests And = Unit {0}
-Tests Or = Unit {0}
+Tests Eq = ⊤
+Tests Ne = ⊤
+Tests Lt = ⊤
+Tests Le = ⊤
+Tests Gt = ⊤
+Tests Ge = ⊤
+Tests And = ⊤
+Tests Or = ⊤
 Tests Max = ⊥
 Tests Min = ⊥

@@ -16,4 +16,4 @@ pub use laws::{
     folds_stay_values, join_is_associative, join_is_commutative, operators_stay_in_range,
     unit_is_neutral, wrapping_is_modular,
 };
-pub use operators::{Op, apply};
+pub use operators::{Op, UnaryOp, apply, apply_unary};

@@ -1,6 +1,7 @@
-//! The binary operators of the language.
+//! The operators of the language on two operands and on one.
 ghost use Rattle.std.specs.Prelude.{◌≡◌, ◌↔◌, IsNone, pos};
 ghost use Rattle.zpl_nums.specs.Op.{applied, Divides};
+ghost use Rattle.zpl_nums.specs.UnaryOp.{applied_unary};
 
 /// A binary operator on integers. Comparisons and `And`, `Or` answer a truth value, 0 or 1.
 #[derive(Clone, Copy, Debug, PartialEq, Eq)]
@@ -64,9 +65,31 @@ pub fn apply(op: Op, a: i64, b: i64) -> Option<i64>
     Some(value)
 }
 
+/// An operator on one integer.
+#[derive(Clone, Copy, Debug, PartialEq, Eq)]
+pub enum UnaryOp {
+    /// The negation, wrapped into 64 bits: `-i64::MIN` is `i64::MIN`.
+    Neg,
+    /// Whether the operand is false, which is 0 alone; a truth value, 0 or 1.
+    Not,
+    /// The greater of the operand and its negation, for `i64::MIN` that number itself.
+    Abs,
+}
+
+/// The value of the operator on `value`.
+pub fn apply_unary(op: UnaryOp, value: i64) -> i64
+    ensures { result ≡ applied_unary op value }
+{
+    match op {
+        UnaryOp::Neg => value.wrapping_neg(),
+        UnaryOp::Not => i64::from(value == 0),
+        UnaryOp::Abs => value.wrapping_abs(),
+    }
+}
+
 #[cfg(test)]
 mod tests {
-    use super::{Op, apply};
+    use super::{Op, UnaryOp, apply, apply_unary};
 
     const LEAST: i64 = i64::MIN;
 
@@ -109,6 +132,23 @@ mod tests {
             (Op::Min, GREATEST, 1, Some(1)),
         ] {
             assert_eq!(rt; apply(op, a, b), want, "{op:?} of {a} and {b}");
+        }
+    }
+
+    #[test]
+    fn operators_on_one_operand_at_their_edges(rt: HostRuntime) {
+        for (op, value, want) in [
+            (UnaryOp::Neg, 7, -7),
+            (UnaryOp::Neg, LEAST, LEAST),
+            (UnaryOp::Neg, GREATEST, LEAST + 1),
+            (UnaryOp::Not, 0, 1),
+            (UnaryOp::Not, 1, 0),
+            (UnaryOp::Not, LEAST, 0),
+            (UnaryOp::Abs, -7, 7),
+            (UnaryOp::Abs, 7, 7),
+            (UnaryOp::Abs, LEAST, LEAST),
+        ] {
+            assert_eq!(rt; apply_unary(op, value), want, "{op:?} of {value}");
         }
     }
 }

@@ -1,7 +1,14 @@
 -- How each keyword is written.
 use Rattle.std.specs.Prelude.{ℕ, List, codes}
 use Rattle.zpl_tokens.specs.declared.keywords.Key.{Key}
-use Rattle.zpl_tokens.specs.declared.keywords.Key.TheVariants.{Program, Config, Var, Constant, Region, Direction, Procedure, Begin, End, If, Then, Elsif, Else, While, Do, Repeat, Until, For, To, Downto, By, Of, In, At, With, Without, Wrap, Reflect, Return, Integer, Boolean, True, False, Max, Min, Abs, Write, Writeln, Index1, Index2, Index3}
+use Rattle.zpl_tokens.specs.declared.keywords.Key.TheVariants.{Program, Config, Var, Constant}
+use Rattle.zpl_tokens.specs.declared.keywords.Key.TheVariants.{Region, Direction, Procedure, Begin}
+use Rattle.zpl_tokens.specs.declared.keywords.Key.TheVariants.{End, If, Then, Elsif, Else, While}
+use Rattle.zpl_tokens.specs.declared.keywords.Key.TheVariants.{Do, Repeat, Until, For, To, Downto}
+use Rattle.zpl_tokens.specs.declared.keywords.Key.TheVariants.{By, Of, In, At, With, Without, Wrap}
+use Rattle.zpl_tokens.specs.declared.keywords.Key.TheVariants.{Reflect, Return, Integer, Boolean}
+use Rattle.zpl_tokens.specs.declared.keywords.Key.TheVariants.{True, False, Max, Min, Abs, Write}
+use Rattle.zpl_tokens.specs.declared.keywords.Key.TheVariants.{Writeln, Index1, Index2, Index3}
 
 abbrev pub keyword_text : Key → List ℕ
 keyword_text Program = codes "program"

@@ -1,7 +1,15 @@
 -- How each symbol is written.
 use Rattle.std.specs.Prelude.{ℕ, List, codes}
 use Rattle.zpl_tokens.specs.declared.symbols.Sym.{Sym}
-use Rattle.zpl_tokens.specs.declared.symbols.Sym.TheVariants.{Assign, AddAssign, SubAssign, MulAssign, DivAssign, RemAssign, AndAssign, OrAssign, DotDot, Reduce, Flood, Scan, LessEqual, GreaterEqual, NotEqual, Equal, Less, Greater, Plus, Minus, Star, Slash, Percent, And, Or, Not, OpenParen, CloseParen, OpenBracket, CloseBracket, Comma, Semicolon, Colon, At, Hash, Caret}
+use Rattle.zpl_tokens.specs.declared.symbols.Sym.TheVariants.{Assign, AddAssign, SubAssign}
+use Rattle.zpl_tokens.specs.declared.symbols.Sym.TheVariants.{MulAssign, DivAssign, RemAssign}
+use Rattle.zpl_tokens.specs.declared.symbols.Sym.TheVariants.{AndAssign, OrAssign, DotDot, Reduce}
+use Rattle.zpl_tokens.specs.declared.symbols.Sym.TheVariants.{Flood, Scan, LessEqual, GreaterEqual}
+use Rattle.zpl_tokens.specs.declared.symbols.Sym.TheVariants.{NotEqual, Equal, Less, Greater, Plus}
+use Rattle.zpl_tokens.specs.declared.symbols.Sym.TheVariants.{Minus, Star, Slash, Percent, And, Or}
+use Rattle.zpl_tokens.specs.declared.symbols.Sym.TheVariants.{Not, OpenParen, CloseParen}
+use Rattle.zpl_tokens.specs.declared.symbols.Sym.TheVariants.{OpenBracket, CloseBracket, Comma}
+use Rattle.zpl_tokens.specs.declared.symbols.Sym.TheVariants.{Semicolon, Colon, At, Hash, Caret}
 
 abbrev pub symbol_text : Sym → List ℕ
 symbol_text Assign = codes ":="

@@ -1,4 +1,5 @@
-use Rattle.zpl_nums.proofs.OperatorLemmas.{IsInteger-applied, IsInteger-negated, IsInteger-absolute}
+use Rattle.zpl_nums.proofs.OperatorLemmas.{IsInteger-applied, IsInteger-negated}
+use Rattle.zpl_nums.proofs.OperatorLemmas.{IsInteger-absolute, IsInteger-applied_unary}
 use Rattle.zpl_nums.proofs.laws.operators_stay_in_range.Goals as goal
 
 pub returns-clause-binary : goal.returns-clause-binary
@@ -9,3 +10,6 @@ returns-clause-negation c = IsInteger-negated
 
 pub returns-clause-absolute_value : goal.returns-clause-absolute_value
 returns-clause-absolute_value c = IsInteger-absolute
+
+pub returns-clause-unary : goal.returns-clause-unary
+returns-clause-unary c = IsInteger-applied_unary
