@@ -22,7 +22,8 @@ last_has_risen : Rose 18446744073709551615 18446744073709551615
 last_has_risen = inr refl
 
 -- of two texts under one name the first is the one
-first_text : text_under (1 ∷ []) ((2 ∷ [], 5 ∷ []) ∷ (1 ∷ [], 6 ∷ []) ∷ (1 ∷ [], 7 ∷ []) ∷ []) ≡ Some (6 ∷ [])
+first_text : text_under (1 ∷ []) ((2 ∷ [], 5 ∷ []) ∷ (1 ∷ [], 6 ∷ []) ∷ (1 ∷ [], 7 ∷ []) ∷ [])
+    ≡ Some (6 ∷ [])
 first_text = refl
 
 no_text : text_under (1 ∷ []) ((2 ∷ [], 5 ∷ []) ∷ []) ≡ None

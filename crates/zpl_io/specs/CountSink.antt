@@ -20,4 +20,8 @@ tally_of bytes = record { total = length bytes % 2 ^ 64; hash = hash_of bytes }
 -- the number and the hash after more bytes
 abbrev pub tally_after : Tally → List ℕ → Tally
 tally_after tally bytes =
-    record { total = (tally.total + length bytes) % 2 ^ 64; hash = fold hash_after tally.hash bytes }
+    record {
+      total = (tally.total + length bytes) % 2 ^ 64;
+      hash =
+          fold hash_after tally.hash bytes;
+    }

@@ -30,5 +30,6 @@ FailsNext files name = Contains files.failing files.calls ⊎ (text_under name f
 abbrev pub files_after : KeptFiles → Fetched → KeptFiles
 files_after files Whole = record files { calls = count_after files.calls }
 files_after files TooLong = record files { calls = count_after files.calls }
-files_after files Failed = record files { calls = count_after files.calls; faults = count_after files.faults }
+files_after files Failed =
+    record files { calls = count_after files.calls; faults = count_after files.faults }
 files_after files NoMemory = files

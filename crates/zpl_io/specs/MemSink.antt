@@ -15,9 +15,12 @@ pub record KeptBytes : Type 0 where
 
 -- a put of the piece fails: its number is in the list, or the piece passes the room left
 abbrev pub FailsToPut : KeptBytes → List ℕ → Type 0
-FailsToPut sink piece = Contains sink.failing sink.calls ⊎ (sink.room < length sink.taken + length piece)
+FailsToPut sink piece = Contains sink.failing sink.calls
+    ⊎ (sink.room < length sink.taken + length piece)
 
 -- the sink after a put of the piece with that answer
 abbrev pub sink_after : KeptBytes → List ℕ → Put → KeptBytes
-sink_after sink piece Done = record sink { taken = sink.taken ++ piece; calls = count_after sink.calls }
-sink_after sink piece Failed = record sink { calls = count_after sink.calls; faults = count_after sink.faults }
+sink_after sink piece Done =
+    record sink { taken = sink.taken ++ piece; calls = count_after sink.calls }
+sink_after sink piece Failed =
+    record sink { calls = count_after sink.calls; faults = count_after sink.faults }

@@ -7,7 +7,8 @@ abbrev pub Takes : (List ℕ → Type 0) → List ℕ → (List ℕ → Type 0) 
 Takes before piece after = (taken : List ℕ) → before taken → after (taken ++ piece)
 
 -- the sink took some front of the piece
-pub record TakesFront (before : List ℕ → Type 0) (piece : List ℕ) (after : List ℕ → Type 0) : Type 0 where
-  pub front : List ℕ
-  pub is_front : IsFrontOf front piece
-  pub takes : Takes before front after
+pub record TakesFront (before : List ℕ → Type 0) (piece : List ℕ) (after : List ℕ → Type 0) : Type 0
+  where
+    pub front : List ℕ
+    pub is_front : IsFrontOf front piece
+    pub takes : Takes before front after

@@ -9,7 +9,7 @@ use std::marker::Model;
 /// Keeps the number and the hash of the bytes taken, both modulo 2^64, and never fails.
 ///
 /// The hash begins as 0, and each byte makes `31 * hash + byte` of it.
-#[derive(Debug, Drop)]
+#[derive(Drop)]
 pub struct CountSink {
     total: u64,
     hash: u64,
@@ -52,7 +52,8 @@ impl Sink for CountSink {
     ghost faults = { λ _. 0 };
 
     fn put(&mut self, bytes: &[u8]) -> Put
-        ensures done { Takes (λ taken. self.old ≡ tally_of taken) bytes.now (λ taken. self.new ≡ tally_of taken) }
+        ensures done { Takes
+            (λ taken. self.old ≡ tally_of taken) bytes.now (λ taken. self.new ≡ tally_of taken) }
         ensures counts { self.new ≡ tally_after self.old bytes.now }
         ensures never_fails { result ≡ Put.Done }
     {

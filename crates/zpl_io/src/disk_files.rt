@@ -88,6 +88,8 @@ impl<R: FileSystem> DiskFiles<R> {
 impl<R: FileSystem> Files for DiskFiles<R> {
     ghost tells = { λ _ _ _. ⊤ };
 
+    ghost may_fail = { λ _ _. ⊤ };
+
     ghost faults = { λ count. count };
 
     fn fetch(&mut self, _alloc: Global, name: &str, limit: u64, into: &mut Vec<u8>) -> Fetched {

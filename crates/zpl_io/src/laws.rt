@@ -1,9 +1,11 @@
 //! Laws of what files and sinks tell, and of counting.
 //!
 //! Each law is the contract of a function that does nothing: a call brings the law into a proof.
-ghost use Rattle.std.specs.Prelude.{◌≡◌, ◌↔◌, ℕ, List, [], ◌++◌};
+ghost use Rattle.std.specs.Prelude.{◌≡◌, ◌≤◌, ◌↔◌, ℕ, List, [], ◌++◌};
+ghost use Rattle.zpl_io.specs.Faults.{last_count, Rose};
+ghost use Rattle.zpl_io.specs.Files.{SameTexts};
 ghost use Rattle.zpl_io.specs.Sink.{Takes, TakesFront};
-ghost use Rattle.zpl_io.specs.MemFiles.{KeptFiles, HasText};
+ghost use Rattle.zpl_io.specs.MemFiles.{KeptFiles, HasText, FailsNext};
 ghost use Rattle.zpl_io.specs.MemSink.{KeptBytes};
 ghost use Rattle.zpl_io.specs.CountSink.{Tally, tally_of, tally_after};
 
@@ -26,7 +28,8 @@ pub fn puts_join<S: Sink>()
         Takes (S.tells before) x (S.tells between) → Takes (S.tells between) y (S.tells after) →
         Takes (S.tells before) (x ++ y) (S.tells after) }
     ensures front { (before between after : S) (x y : List ℕ) →
-        Takes (S.tells before) x (S.tells between) → TakesFront (S.tells between) y (S.tells after) →
+        Takes (S.tells before) x (S.tells between) →
+        TakesFront (S.tells between) y (S.tells after) →
         TakesFront (S.tells before) (x ++ y) (S.tells after) }
 {}
 
@@ -34,18 +37,41 @@ pub fn puts_join<S: Sink>()
 pub fn counting_goes_on()
     ensures begins { (x : List ℕ) → tally_after (tally_of []) x ≡ tally_of x }
     ensures lists { (x y : List ℕ) → tally_of (x ++ y) ≡ tally_after (tally_of x) y }
-    ensures pieces { (t : Tally) (x y : List ℕ) → tally_after t (x ++ y) ≡ tally_after (tally_after t x) y }
+    ensures pieces { (t : Tally) (x y : List ℕ) →
+        tally_after t (x ++ y) ≡ tally_after (tally_after t x) y }
 {}
 
-/// What each kind of files tells: in memory its own texts and no others, on a disk every text.
+/// Two calls in a row tell the same texts as one does, and a count that rose in one of them rose in
+/// both together.
+pub fn calls_join<F: Files>()
+    ensures none { (files : F) → SameTexts (F.tells files) (F.tells files) }
+    ensures texts { (before between after : F) →
+        SameTexts (F.tells before) (F.tells between) →
+        SameTexts (F.tells between) (F.tells after) →
+        SameTexts (F.tells before) (F.tells after) }
+    ensures first { (before between after : ℕ) →
+        Rose before between → between ≤ after → after ≤ last_count → Rose before after }
+    ensures second { (before between after : ℕ) →
+        before ≤ between → Rose between after → Rose before after }
+{}
+
+/// What each kind of files tells, and where its fetches may fail: in memory its own texts and no
+/// others, where the next call fails; sure files one text, never; on a disk every text, everywhere.
 pub fn files_tell()
     ensures memory { (files : KeptFiles) (name text : List ℕ) →
         ⟦<MemFiles as Files>⟧.tells files name text ↔ HasText files name text }
-    ensures memory_faults { (files : KeptFiles) → ⟦<MemFiles as Files>⟧.faults files ≡ files.faults }
-    ensures sure { (kept name text : List ℕ) → ⟦<SureFiles as Files>⟧.tells kept name text ↔ (text ≡ kept) }
+    ensures memory_fails { (files : KeptFiles) (name : List ℕ) →
+        ⟦<MemFiles as Files>⟧.may_fail files name ↔ FailsNext files name }
+    ensures memory_faults { (files : KeptFiles) →
+        ⟦<MemFiles as Files>⟧.faults files ≡ files.faults }
+    ensures sure { (kept name text : List ℕ) →
+        ⟦<SureFiles as Files>⟧.tells kept name text ↔ (text ≡ kept) }
+    ensures sure_fails { (kept name : List ℕ) → ¬ ⟦<SureFiles as Files>⟧.may_fail kept name }
     ensures sure_faults { (kept : List ℕ) → ⟦<SureFiles as Files>⟧.faults kept ≡ 0 }
     ensures disk { (count : ℕ) (name text : List ℕ) →
         ⟦<DiskFiles<HostRuntime> as Files>⟧.tells count name text }
+    ensures disk_fails { (count : ℕ) (name : List ℕ) →
+        ⟦<DiskFiles<HostRuntime> as Files>⟧.may_fail count name }
     ensures disk_faults { (count : ℕ) → ⟦<DiskFiles<HostRuntime> as Files>⟧.faults count ≡ count }
 {}
 

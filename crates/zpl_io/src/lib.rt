@@ -13,18 +13,18 @@ mod memory_files;
 mod memory_sink;
 mod numbers;
 mod outside;
+mod pieces;
 mod std_sink;
 mod sure_files;
-#[cfg(test)]
-mod tests;
 
 pub use byte_list::Bytes;
 pub use count_sink::CountSink;
 pub use disk_files::DiskFiles;
-pub use laws::{counting_goes_on, files_tell, puts_join, sinks_tell};
+pub use laws::{calls_join, counting_goes_on, files_tell, puts_join, sinks_tell};
 pub use memory_files::MemFiles;
 pub use memory_sink::MemSink;
 pub use numbers::write_number;
 pub use outside::{Fetched, Files, Put, Sink};
+pub use pieces::{PutFailed, put_piece};
 pub use std_sink::StdSink;
 pub use sure_files::SureFiles;

@@ -1,8 +1,9 @@
 //! Files in memory.
-ghost use Rattle.std.specs.Prelude.{◌≡◌, ◌≢◌, ◌↔◌, ℕ, ◌+◌, ◌^◌, ◌<◌, ◌≤◌, [], ◌∷◌, ◌++◌, length, IfOk, OnOk, OnErr};
+ghost use Rattle.std.specs.Prelude.{◌≡◌, ◌≢◌, ◌↔◌, ℕ, ◌+◌, ◌^◌, ◌<◌, ◌≤◌, [], ◌∷◌, ◌++◌};
+ghost use Rattle.std.specs.Prelude.{length, IfOk, OnOk, OnErr};
 ghost use Rattle.std.specs.Option.{option_copied};
 ghost use Rattle.std.specs.Str.{bytes_eq};
-ghost use Rattle.zpl_io.specs.Faults.{last_count};
+ghost use Rattle.zpl_io.specs.Faults.{last_count, CountsFaults};
 ghost use Rattle.zpl_io.specs.Files.{GainsWhole, GainsTooMuch};
 ghost use Rattle.zpl_io.specs.MemFiles.{text_under, HasText, FailsNext, files_after};
 
@@ -35,7 +36,7 @@ pub(crate) fn append_text(text: &[u8], limit: u64, into: &mut Vec<u8>) -> Fetche
 }
 
 /// A text and its name.
-#[derive(Debug, Drop)]
+#[derive(Drop)]
 struct Named {
     name: Vec<u8>,
     text: Vec<u8>,
@@ -78,7 +79,7 @@ impl Named {
 /// appends nothing. Of two texts under one name the first is fetched. Fetches are numbered from 0,
 /// those left out that memory was wanting for; the last number is `u64::MAX`, which every later
 /// fetch has too.
-#[derive(Debug, Drop)]
+#[derive(Drop)]
 pub struct MemFiles {
     named: Vec<Named>,
     failing: Vec<u64>,
@@ -91,8 +92,12 @@ impl Model for MemFiles {
 
     ghost Value = { KeptFiles };
 
-    ghost view = { λ a.
-        record { named = a.named.items; failing = a.failing.items; calls = a.calls; faults = a.faults } };
+    ghost view = { λ a. record {
+      named = a.named.items;
+      failing = a.failing.items;
+      calls = a.calls;
+      faults = a.faults;
+    } };
 }
 
 impl MemFiles {
@@ -160,7 +165,7 @@ impl MemFiles {
     /// Counts a fetch with this answer.
     fn count(&mut self, fetched: Fetched)
         ensures after { self.new ≡ files_after self.old fetched }
-        ensures never_falls { self.old.faults ≤ self.new.faults }
+        ensures counts { CountsFaults (fetched ≡ Fetched.Failed) self.old.faults self.new.faults }
         ensures bounded { self.new.faults ≤ last_count }
     {
         let faults = self.faults;
@@ -178,6 +183,8 @@ impl MemFiles {
 impl Files for MemFiles {
     ghost tells = { HasText };
 
+    ghost may_fail = { FailsNext };
+
     ghost faults = { λ files. files.faults };
 
     fn fetch(&mut self, _alloc: Global, name: &str, limit: u64, into: &mut Vec<u8>) -> Fetched
@@ -192,7 +199,7 @@ impl Files for MemFiles {
             (length into.new.items ≡ length into.old.items + limit + 1) }
         ensures fails_exactly { (result ≡ Fetched.Failed) ↔ FailsNext self.old name.now }
         ensures after { self.new ≡ files_after self.old result }
-        ensures never_falls { self.old.faults ≤ self.new.faults }
+        ensures counts { CountsFaults (result ≡ Fetched.Failed) self.old.faults self.new.faults }
         ensures bounded { self.new.faults ≤ last_count }
     {
         let fetched = self.answer(name, limit, into);

@@ -1,6 +1,6 @@
 //! A sink in memory.
 ghost use Rattle.std.specs.Prelude.{◌≡◌, ◌↔◌, ◌+◌, ◌≤◌, [], ◌∷◌, ◌++◌, IfOk, OnOk, OnErr};
-ghost use Rattle.zpl_io.specs.Faults.{last_count};
+ghost use Rattle.zpl_io.specs.Faults.{last_count, CountsFaults};
 ghost use Rattle.zpl_io.specs.MemSink.{FailsToPut, sink_after};
 
 use crate::outside::{Put, Sink};
@@ -12,7 +12,7 @@ use std::marker::Model;
 /// A put fails exactly where its number is in the list or its piece passes the room left; a failed
 /// put takes nothing. Puts are numbered from 0; the last number is `u64::MAX`, which every later
 /// put has too.
-#[derive(Debug, Drop)]
+#[derive(Drop)]
 pub struct MemSink {
     taken: Vec<u8>,
     room: u64,
@@ -79,7 +79,7 @@ impl Sink for MemSink {
 
     fn put(&mut self, bytes: &[u8]) -> Put
         ensures fails_exactly { (result ≡ Put.Failed) ↔ FailsToPut self.old bytes.now }
-        ensures never_falls { self.old.faults ≤ self.new.faults }
+        ensures counts { CountsFaults (result ≡ Put.Failed) self.old.faults self.new.faults }
         ensures bounded { self.new.faults ≤ last_count }
         ensures after { self.new ≡ sink_after self.old bytes.now result }
     {

@@ -1,13 +1,13 @@
 //! The traits of the outside: files that are fetched whole, and sinks that take pieces of bytes.
 ghost use Rattle.std.specs.Prelude.{◌≡◌, ◌↔◌, ℕ, ◌+◌, ◌^◌, ◌<◌, ◌≤◌, List, length};
-ghost use Rattle.zpl_io.specs.Faults.{last_count, Rose};
+ghost use Rattle.zpl_io.specs.Faults.{last_count, CountsFaults};
 ghost use Rattle.zpl_io.specs.Files.{GainsWhole, GainsTooMuch, GainsFront, SameTexts};
 ghost use Rattle.zpl_io.specs.Sink.{Takes, TakesFront};
 
 use std::alloc::Global;
 
 /// What came of a fetch.
-#[derive(Clone, Copy, Debug, PartialEq, Eq)]
+#[derive(Clone, Copy, Debug, PartialEq)]
 pub enum Fetched {
     /// The whole text was appended.
     Whole,
@@ -24,6 +24,10 @@ pub trait Files {
     /// The texts that the object tells by name. One that knows nothing of its texts, as a real
     /// disk, tells every text under every name.
     ghost tells: { Self → List ℕ → List ℕ → Type 0 };
+
+    /// Under which names the next fetch may fail. One that never fails has none, and one that knows
+    /// nothing of its texts has every name.
+    ghost may_fail: { Self → List ℕ → Type 0 };
 
     /// How many fetches failed; the count stands still at `u64::MAX`.
     ghost faults: { Self → ℕ };
@@ -44,16 +48,19 @@ pub trait Files {
         ensures too_long_exactly { (result ≡ Fetched.TooLong) ↔
             (length into.new.items ≡ length into.old.items + limit + 1) }
 
+        // It fails only where it may.
+        ensures cause { result ≡ Fetched.Failed → may_fail self.old name.now }
+
         // What becomes of the object.
         ensures same_texts { SameTexts (tells self.old) (tells self.new) }
-        ensures cause { result ≡ Fetched.Failed → Rose (faults self.old) (faults self.new) }
-        ensures never_falls { faults self.old ≤ faults self.new }
+        ensures counts { CountsFaults (result ≡ Fetched.Failed)
+            (faults self.old) (faults self.new) }
         ensures bounded { faults self.new ≤ last_count }
         ensures unchanged { result ≡ Fetched.NoMemory → self.new ≡ self.old };
 }
 
 /// What came of a put.
-#[derive(Clone, Copy, Debug, PartialEq, Eq)]
+#[derive(Clone, Copy, Debug, PartialEq)]
 pub enum Put {
     /// The whole piece was taken.
     Done,
@@ -75,10 +82,10 @@ pub trait Sink {
     fn put(&mut self, bytes: &[u8]) -> Put
         // What is taken, by the answer.
         ensures done { result ≡ Put.Done → Takes (tells self.old) bytes.now (tells self.new) }
-        ensures failed { result ≡ Put.Failed → TakesFront (tells self.old) bytes.now (tells self.new) }
+        ensures failed { result ≡ Put.Failed →
+            TakesFront (tells self.old) bytes.now (tells self.new) }
 
         // The count of faults.
-        ensures cause { result ≡ Put.Failed → Rose (faults self.old) (faults self.new) }
-        ensures never_falls { faults self.old ≤ faults self.new }
+        ensures counts { CountsFaults (result ≡ Put.Failed) (faults self.old) (faults self.new) }
         ensures bounded { faults self.new ≤ last_count };
 }

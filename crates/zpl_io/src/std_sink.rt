@@ -1,15 +1,15 @@
 //! A standard stream as a sink.
 ghost use Rattle.std.specs.Prelude.{◌≡◌, ◌≤◌, ⊤};
 ghost use Rattle.std.specs.Io.KnownBytes.{Appends};
-ghost use Rattle.zpl_io.specs.Faults.{last_count, Rose};
+ghost use Rattle.zpl_io.specs.Faults.{last_count, CountsFaults};
 ghost use Rattle.zpl_io.specs.StdSink.{WritesFront};
 
 use crate::outside::{Put, Sink};
 use std::io::Write;
 use std::marker::Model;
 
-/// Writes a piece, by as many writes as it takes, and flushes. An error ends it, and so does a write
-/// that takes nothing.
+/// Writes a piece, by as many writes as it takes, and flushes. An error ends it, and so does a
+/// write that takes nothing.
 fn write_piece<W: Write>(stream: &mut W, piece: &[u8]) -> Put
     ensures done { result ≡ Put.Done →
         Appends (W.contents stream.old) (W.contents stream.new) piece.now }
@@ -64,8 +64,7 @@ impl<W: Write> Sink for StdSink<W> {
             Appends (W.contents self.old.writer) (W.contents self.new.writer) bytes.now }
         ensures failed { result ≡ Put.Failed →
             WritesFront (W.contents self.old.writer) (W.contents self.new.writer) bytes.now }
-        ensures cause { result ≡ Put.Failed → Rose self.old.faults self.new.faults }
-        ensures never_falls { self.old.faults ≤ self.new.faults }
+        ensures counts { CountsFaults (result ≡ Put.Failed) self.old.faults self.new.faults }
         ensures bounded { self.new.faults ≤ last_count }
     {
         let faults = self.faults;

@@ -8,7 +8,7 @@ use std::alloc::Global;
 use std::marker::Model;
 
 /// Holds one text, which it tells under every name, and never fails.
-#[derive(Debug, Drop)]
+#[derive(Drop)]
 pub struct SureFiles {
     text: Vec<u8>,
 }
@@ -32,6 +32,8 @@ impl SureFiles {
 
 impl Files for SureFiles {
     ghost tells = { λ kept _ text. text ≡ kept };
+
+    ghost may_fail = { λ _ _. ⊥ };
 
     ghost faults = { λ _. 0 };
 

@@ -10,7 +10,6 @@ put-tells g c = record {
     is_front = record { rest = c.args.bytes.now; joins = refl };
     takes = λ _ _. tt;
   };
-  cause = c.ensures.cause;
-  never_falls = c.ensures.never_falls;
+  counts = c.ensures.counts;
   bounded = c.ensures.bounded;
 }

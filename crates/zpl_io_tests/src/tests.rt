@@ -1,7 +1,10 @@
-use super::*;
 use std::io::{ErrorKind, Write};
 use std::test::Fail;
 use std::{fs, io};
+use zpl_io::{
+    Bytes, CountSink, DiskFiles, Fetched, Files, MemFiles, MemSink, Put, PutFailed, Sink, StdSink,
+    SureFiles, put_piece, write_number,
+};
 
 const FIRST: &[u8] = b"first";
 
@@ -74,6 +77,25 @@ fn puts_into_memory(rt: HostRuntime) -> Result<(), Fail> {
     ];
     for (number, (piece, want, taken)) in calls.into_iter().enumerate() {
         assert_eq!(rt; sink.put(piece), want, "call {number}");
+        assert_eq!(rt; sink.taken(), taken, "call {number}");
+    }
+    Ok(())
+}
+
+#[test]
+fn puts_no_empty_piece(rt: HostRuntime) -> Result<(), Fail> {
+    let alloc = rt.alloc();
+    let mut sink = MemSink::new(alloc, 6)?;
+    sink.fail_at(alloc, 1)?;
+    let calls: [(&[u8], Result<(), PutFailed>, &[u8]); 5] = [
+        (b"", Ok(()), b""),
+        (b"abc", Ok(()), b"abc"),
+        (b"", Ok(()), b"abc"),
+        (b"def", Err(PutFailed), b"abc"),
+        (b"def", Ok(()), b"abcdef"),
+    ];
+    for (number, (piece, want, taken)) in calls.into_iter().enumerate() {
+        assert_eq!(rt; put_piece(&mut sink, piece), want, "call {number}");
         assert_eq!(rt; sink.taken(), taken, "call {number}");
     }
     Ok(())
