@@ -1,9 +1,11 @@
 -- How a token's bytes look, by its kind, and how its first byte tells kinds apart.
-use Rattle.std.proofs.Common.{◌≡◌, ℕ, ◌≤◌, Bool, true, false, not, ◌&&◌, leb, List, [], ◌∷◌, ◌++◌, length, refl, sym, subst, arith}
+use Rattle.std.proofs.Common.{◌≡◌, ℕ, ◌≤◌, Bool, true, false, not, ◌&&◌, leb, List, [], ◌∷◌, ◌++◌}
+use Rattle.std.proofs.Common.{length, refl, sym, subst, arith}
 use Rattle.std.specs.List.{list_all}
 use Rattle.std.specs.Char.{is_ascii_digit}
 use Rattle.std.specs.Prelude.{◌==◌}
-use Rattle.std.proofs.lemmas.Bool.{false≢true, and_parts, or_right, or_left, both_ways, not-true, leb-true}
+use Rattle.std.proofs.lemmas.Bool.{false≢true, and_parts, or_right, or_left, both_ways, not-true}
+use Rattle.std.proofs.lemmas.Bool.{leb-true}
 use Rattle.std.proofs.lemmas.Bool.Decides.{nat_tests}
 use Rattle.zpl_tokens.specs.declared.Kind.{Kind}
 use Rattle.zpl_tokens.specs.declared.Kind.TheVariants.{Name, Number, Str, Ditto, Symbol, Word, End}
@@ -83,20 +85,25 @@ pub apart_word_digit : (b : ℕ) → is_word_start b ≡ true → is_ascii_digit
 apart_word_digit b word digit = grind (arith, nat_tests)
 
 pub apart_word_quote : (b : ℕ) → is_word_start b ≡ true → b ≡ quote → ⊥
-apart_word_quote b word is = both_ways (is_word_start quote) refl (subst (λ (n : ℕ). is_word_start n ≡ true) is word)
+apart_word_quote b word is =
+    both_ways (is_word_start quote) refl (subst (λ (n : ℕ). is_word_start n ≡ true) is word)
 
 pub apart_digit_quote : (b : ℕ) → is_ascii_digit b ≡ true → b ≡ quote → ⊥
-apart_digit_quote b digit is = both_ways (is_ascii_digit quote) refl (subst (λ (n : ℕ). is_ascii_digit n ≡ true) is digit)
+apart_digit_quote b digit is =
+    both_ways (is_ascii_digit quote) refl (subst (λ (n : ℕ). is_ascii_digit n ≡ true) is digit)
 
 pub apart_mark_word : (b : ℕ) → is_mark b ≡ true → is_word_start b ≡ true → ⊥
 apart_mark_word b mark word =
     let parts = and_parts (not (is_word_byte b)) (not (b == quote)) mark in
-    both_ways (is_word_byte b) (not-true (is_word_byte b) parts.0) (or_left (is_word_start b) (is_ascii_digit b) word)
+    both_ways (is_word_byte b) (not-true (is_word_byte b) parts.0)
+    (or_left (is_word_start b) (is_ascii_digit b) word)
 
 pub apart_mark_digit : (b : ℕ) → is_mark b ≡ true → is_ascii_digit b ≡ true → ⊥
 apart_mark_digit b mark digit =
     let parts = and_parts (not (is_word_byte b)) (not (b == quote)) mark in
-    both_ways (is_word_byte b) (not-true (is_word_byte b) parts.0) (or_right (is_word_start b) (is_ascii_digit b) digit)
+    both_ways (is_word_byte b) (not-true (is_word_byte b) parts.0)
+    (or_right (is_word_start b) (is_ascii_digit b) digit)
 
 pub apart_mark_quote : (b : ℕ) → is_mark b ≡ true → b ≡ quote → ⊥
-apart_mark_quote b mark is = both_ways (is_mark quote) refl (subst (λ (n : ℕ). is_mark n ≡ true) is mark)
+apart_mark_quote b mark is =
+    both_ways (is_mark quote) refl (subst (λ (n : ℕ). is_mark n ≡ true) is mark)

@@ -1,5 +1,5 @@
 -- Bytes, and how lists of bytes begin.
-use Rattle.std.specs.Prelude.{◌≡◌, ℕ, Bool, ◌==◌, ◌||◌, List, [], ◌∷◌, ◌++◌, IsTrue}
+use Rattle.std.specs.Prelude.{⊤, ◌≡◌, ℕ, Bool, ◌==◌, ◌||◌, List, [], ◌∷◌, ◌++◌, IsTrue}
 use Rattle.std.specs.Char.{is_ascii_alphabetic, is_ascii_digit}
 
 -- the bytes that the rules name, apart from letters, digits and symbols
@@ -43,5 +43,5 @@ StandsIn part bytes = (front after : List ℕ) × (bytes ≡ front ++ (part ++ a
 
 -- the line ends here, by a newline or with the text
 abbrev pub EndsLine : List ℕ → Type 0
-EndsLine [] = Unit {0}
+EndsLine [] = ⊤
 EndsLine (b ∷ after) = b ≡ newline

@@ -25,9 +25,12 @@ pub record IsOpenComment (bytes : List ℕ) : Type 0 where
 -- Bytes begin with some white space and comments, or with none, and after is what follows.
 pub data Skips : List ℕ → List ℕ → Type 0 where
   nothing : {bytes : List ℕ} → Skips bytes bytes
-  white : {b : ℕ} {bytes after : List ℕ} → IsTrue (is_white b) → Skips bytes after → Skips (b ∷ bytes) after
-  line : {bytes next after : List ℕ} → IsLineComment bytes next → Skips next after → Skips bytes after
-  block : {bytes next after : List ℕ} → IsBlockComment bytes next → Skips next after → Skips bytes after
+  white : {b : ℕ} {bytes after : List ℕ} → IsTrue (is_white b) → Skips bytes after
+      → Skips (b ∷ bytes) after
+  line : {bytes next after : List ℕ} → IsLineComment bytes next → Skips next after
+      → Skips bytes after
+  block : {bytes next after : List ℕ} → IsBlockComment bytes next → Skips next after
+      → Skips bytes after
 
 -- Bytes begin with neither white space nor a comment.
 pub record IsPastGap (bytes : List ℕ) : Type 0 where

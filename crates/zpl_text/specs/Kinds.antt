@@ -23,11 +23,13 @@ IsNumeral (b ∷ after) = IsTrue (list_all is_ascii_digit (b ∷ after))
 -- what may stand between the quotes of a string: bytes that stand for themselves, and escapes
 pub data IsBody : List ℕ → Type 0 where
   nothing : IsBody []
-  plain : {b : ℕ} {after : List ℕ} → b ≢ quote → b ≢ newline → b ≢ backslash → IsBody after → IsBody (b ∷ after)
-  escape : {b : ℕ} {after : List ℕ} → IsTrue (is_escape b) → IsBody after → IsBody (backslash ∷ b ∷ after)
+  plain : {b : ℕ} {after : List ℕ} → b ≢ quote → b ≢ newline → b ≢ backslash → IsBody after
+      → IsBody (b ∷ after)
+  escape : {b : ℕ} {after : List ℕ} → IsTrue (is_escape b) → IsBody after
+      → IsBody (backslash ∷ b ∷ after)
 
--- The bytes, all of them, are a token of the kind. A number may have any size here: where tokens are cut
--- off, one over the greatest integer is a fault. The end is no bytes.
+-- The bytes, all of them, are a token of the kind. A number may have any size here: where tokens
+-- are cut off, one over the greatest integer is a fault. The end is no bytes.
 abbrev pub IsToken : List ℕ → Kind → Type 0
 IsToken bytes Name = IsWord bytes × ((k : Key) → bytes ≢ keyword_text k)
 IsToken bytes (Number n) = IsNumeral bytes × (n ≡ pos (digits_value 10 bytes))

@@ -1,7 +1,10 @@
 pub mod Bytes
-pub mod Kinds
-pub mod Gaps
 pub mod Cutting
+pub mod Escapes
+pub mod Faults
+pub mod Gaps
+pub mod Kinds
+pub mod Lines
 pub mod Scanning
 pub mod Spans
 pub mod Tokens

@@ -25,7 +25,8 @@ pub record IsWholeBody (bytes after : List ℕ) : Type 0 where
 
 -- where no three bars stand together, no symbol at the front has two bytes
 abbrev pub AllAreSingle : List ℕ → Type 0
-AllAreSingle bytes = ¬ BeginsWithBars bytes → (symbol : Sym) → BeginsWith (symbol_text symbol) bytes → length (symbol_text symbol) ≤ 1
+AllAreSingle bytes = ¬ BeginsWithBars bytes → (symbol : Sym) → BeginsWith (symbol_text symbol) bytes
+    → length (symbol_text symbol) ≤ 1
 
 -- no three bars stand together, and at the front is this symbol of two bytes
 pub record IsDoubleAt (bytes : List ℕ) (symbol : Sym) : Type 0 where

@@ -1,18 +1,16 @@
 -- Where tokens stand in a text.
-use Rattle.std.specs.Prelude.{◌≡◌, ℕ, ◌<◌, ◌≤◌, ◌≤ℤ◌, List, [], ◌∷◌, ◌++◌, length}
+use Rattle.std.specs.Prelude.{⊤, ◌≡◌, ℕ, ◌≤◌, ◌≤ℤ◌, List, [], ◌∷◌, ◌++◌, length}
 use Rattle.std.specs.List.{slice_range}
 use Rattle.zpl_tokens.specs.declared.Kind.{Kind}
 use Rattle.zpl_tokens.specs.declared.Kind.TheVariants.{Number}
 use Rattle.zpl_text.specs.declared.tokens.Token.{Token}
-use Rattle.zpl_text.specs.declared.faults.LexFault.{LexFault}
-use Rattle.zpl_text.specs.declared.faults.LexFault.TheVariants.{BadByte, OpenComment, OpenString, NumberTooLarge, FloatText, NoMemory}
 use Rattle.zpl_text.specs.Kinds.{IsToken}
 use Rattle.zpl_text.specs.Cutting.{greatest}
 
 -- a number is an integer of 64 bits
 abbrev pub IsWithinLimit : Kind → Type 0
 IsWithinLimit (Number n) = n ≤ℤ greatest
-IsWithinLimit _ = Unit {0}
+IsWithinLimit _ = ⊤
 
 -- the token stands in the text where it says, not before an offset
 pub record IsSpan (text : List ℕ) (at : ℕ) (t : Token) : Type 0 where
@@ -24,17 +22,8 @@ pub record IsSpan (text : List ℕ) (at : ℕ) (t : Token) : Type 0 where
 
 -- the tokens stand in the text in order, the first not before an offset
 abbrev pub AreSpans : List ℕ → ℕ → List Token → Type 0
-AreSpans text at [] = Unit {0}
+AreSpans text at [] = ⊤
 AreSpans text at (t ∷ tokens) = IsSpan text at t × AreSpans text t.to tokens
-
--- the place of a fault is that of a byte, of which there are n
-abbrev pub IsPlaceBelow : ℕ → LexFault → Type 0
-IsPlaceBelow n (BadByte at) = at < n
-IsPlaceBelow n (OpenComment at) = at < n
-IsPlaceBelow n (OpenString at) = at < n
-IsPlaceBelow n (NumberTooLarge at) = at < n
-IsPlaceBelow n (FloatText at) = at < n
-IsPlaceBelow n NoMemory = Unit {0}
 
 -- the tokens begin with those found
 abbrev pub BeginWith : List Token → List Token → Type 0

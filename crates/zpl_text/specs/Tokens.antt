@@ -26,7 +26,8 @@ pub record Takes (text : List ℕ) (here : Place) (token : Token) (next : Place)
 -- the tokens that are cut off from one place to another
 pub data Cuts (text : List ℕ) : Place → List Token → Place → Type 0 where
   nothing : {here : Place} → Cuts text here [] here
-  token : {here next there : Place} {t : Token} {tokens : List Token} → Takes text here t next → Cuts text next tokens there → Cuts text here (t ∷ tokens) there
+  token : {here next there : Place} {t : Token} {tokens : List Token} → Takes text here t next
+      → Cuts text next tokens there → Cuts text here (t ∷ tokens) there
 
 -- the whole text, where no quote is a ditto
 abbrev pub start : List ℕ → Place

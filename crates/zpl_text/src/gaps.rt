@@ -1,10 +1,12 @@
 //! White space and comments.
-ghost use Rattle.std.specs.Prelude.{◌≤◌, ◌<◌, ◌++◌, length, codes, MatchResult, MatchOption, IfSome, IsTrue, ◌↔◌};
+ghost use Rattle.std.specs.Prelude.{◌≤◌, ◌<◌, ◌++◌, length, codes, MatchResult, MatchOption};
+ghost use Rattle.std.specs.Prelude.{IfSome, IsTrue, ◌↔◌};
 ghost use Rattle.zpl_text.specs.Bytes.{is_white, FirstPasses};
-ghost use Rattle.zpl_text.specs.Gaps.{Skips, IsPastGap, IsLineComment, IsBlockComment, IsOpenComment};
+ghost use Rattle.zpl_text.specs.Gaps.{Skips, IsPastGap, IsLineComment, IsBlockComment};
+ghost use Rattle.zpl_text.specs.Gaps.{IsOpenComment};
 
-/// What is left behind the white space and the comments at the front. Where a comment among them isn't
-/// closed, what is left from it on is the error.
+/// What is left behind the white space and the comments at the front. Where a comment among them
+/// isn't closed, what is left from it on is the error.
 pub fn past_gap(bytes: &[u8]) -> Result<&[u8], &[u8]>
     ensures skipped { MatchResult result
         (λ rest. Skips bytes.now rest.now × IsPastGap rest.now)

@@ -1,8 +1,10 @@
 //! Numbers.
-ghost use Rattle.std.specs.Prelude.{◌≡◌, ◌≤◌, ◌<◌, ◌↔◌, pos, ◌<ℤ◌, ◌≤ℤ◌, Bool, length, IsTrue, MatchOption, MatchResult, IfOk};
+ghost use Rattle.std.specs.Prelude.{◌≡◌, ◌≤◌, ◌<◌, ◌↔◌, pos, ◌<ℤ◌, ◌≤ℤ◌, Bool, length, IsTrue};
+ghost use Rattle.std.specs.Prelude.{MatchOption, MatchResult, IfOk};
 ghost use Rattle.std.specs.List.{list_all, prefix_len};
 ghost use Rattle.std.specs.Char.{is_ascii_digit};
 ghost use Rattle.std.specs.Str.Parse.{digits_value};
+ghost use Rattle.zpl_text.specs.declared.TheConstants.{MOST_SOURCE};
 ghost use Rattle.zpl_text.specs.Bytes.{FirstPasses};
 ghost use Rattle.zpl_text.specs.Cutting.{IsCut, IsSound, IsWrong, IsFloatTail, greatest};
 
@@ -14,7 +16,7 @@ use zpl_tokens::Kind;
 pub fn number_at<'a>(text: &[u8], rest: &'a [u8]) -> Result<(Kind, &'a [u8]), LexFault>
     requires digit { FirstPasses is_ascii_digit rest.now }
     requires within { length rest.now ≤ length text.now }
-    requires limit { length text.now ≤ 1048576 }
+    requires limit { length text.now ≤ MOST_SOURCE }
     ensures cut { (ditto : Bool) → MatchResult result
         (λ found. IsCut ditto rest.now found.0 found.1.now × IsSound found.0 found.1.now)
         (λ fault. IsWrong text.now ditto rest.now fault) }
@@ -41,7 +43,8 @@ fn digit_count(bytes: &[u8]) -> usize
         .count()
 }
 
-/// Whether digits with this behind them are a float's: a `.` that no second one follows, or an exponent.
+/// Whether digits with this behind them are a float's: a `.` that no second one follows, or an
+/// exponent.
 fn is_float_tail(bytes: &[u8]) -> bool
     ensures { IsTrue result ↔ IsFloatTail bytes.now }
 {

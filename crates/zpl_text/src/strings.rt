@@ -1,5 +1,7 @@
 //! Strings.
-ghost use Rattle.std.specs.Prelude.{◌≤◌, ◌<◌, ◌↔◌, [], ◌∷◌, false, length, IsTrue, MatchResult, IfOk};
+ghost use Rattle.std.specs.Prelude.{◌≤◌, ◌<◌, ◌↔◌, [], ◌∷◌, false, length, IsTrue, MatchResult};
+ghost use Rattle.std.specs.Prelude.{IfOk};
+ghost use Rattle.zpl_text.specs.declared.TheConstants.{MOST_SOURCE};
 ghost use Rattle.zpl_text.specs.Scanning.{BeginsEscape, BeginsPlain, IsWholeBody};
 ghost use Rattle.zpl_text.specs.Bytes.{quote, BeginsWith, EndsLine};
 ghost use Rattle.zpl_text.specs.Cutting.{IsCut, IsSound, IsWrong};
@@ -12,7 +14,7 @@ use zpl_tokens::Kind;
 pub fn string_at<'a>(text: &[u8], rest: &'a [u8]) -> Result<(Kind, &'a [u8]), LexFault>
     requires quoted { BeginsWith (quote ∷ []) rest.now }
     requires within { length rest.now ≤ length text.now }
-    requires limit { length text.now ≤ 1048576 }
+    requires limit { length text.now ≤ MOST_SOURCE }
     ensures cut { MatchResult result
         (λ found. IsCut false rest.now found.0 found.1.now × IsSound found.0 found.1.now)
         (λ fault. IsWrong text.now false rest.now fault) }
@@ -35,8 +37,8 @@ fn ends_line(bytes: &[u8]) -> bool
     bytes.is_empty() || bytes[0] == b'\n'
 }
 
-/// What is left from the first byte on that doesn't belong to a string's body: a quote, the end of the
-/// line, or the backslash of an unknown escape.
+/// What is left from the first byte on that doesn't belong to a string's body: a quote, the end of
+/// the line, or the backslash of an unknown escape.
 fn past_body(bytes: &[u8]) -> &[u8]
     ensures body { IsWholeBody bytes.now result.now }
     ensures shorter { length result.now ≤ length bytes.now }

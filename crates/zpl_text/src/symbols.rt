@@ -12,8 +12,8 @@ use zpl_tokens::Sym;
 /// The symbol at the front, and what is left behind it.
 pub fn symbol_at(bytes: &[u8]) -> Option<(Sym, &[u8])>
     requires some { 0 < length bytes.now }
-    requires no_word { FirstPasses is_word_byte bytes.now → ⊥ }
-    requires no_quote { BeginsWith (quote ∷ []) bytes.now → ⊥ }
+    requires no_word { ¬ FirstPasses is_word_byte bytes.now }
+    requires no_quote { ¬ BeginsWith (quote ∷ []) bytes.now }
     ensures cut { MatchOption result
         (BeginsNoToken bytes.now)
         (λ found. (ditto : Bool) → IsCut ditto bytes.now (Symbol found.0) found.1.now) }

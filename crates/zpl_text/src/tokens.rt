@@ -1,5 +1,6 @@
 //! Tokens of a text.
 ghost use Rattle.std.specs.Prelude.{◌≡◌, ◌≤◌, length};
+ghost use Rattle.zpl_text.specs.declared.TheConstants.{MOST_SOURCE};
 ghost use Rattle.zpl_text.specs.Cutting.{offset_of};
 
 use zpl_tokens::Kind;
@@ -18,7 +19,7 @@ pub struct Token {
 /// How many bytes of the text stand before its rest.
 pub fn offset_of(text: &[u8], rest: &[u8]) -> u32
     requires within { length rest.now ≤ length text.now }
-    requires limit { length text.now ≤ 1048576 }
+    requires limit { length text.now ≤ MOST_SOURCE }
     ensures { result ≡ offset_of text.now rest.now }
 {
     (text.len() - rest.len()) as u32

@@ -5,19 +5,26 @@ use Rattle.zpl_text.proofs.numbers.value_of.Goals as goal
 
 pub returns-in_err-checked_mul : goal.returns-in_err-checked_mul
 returns-in_err-checked_mul c =
-    let more = digits_value_more 10 c.args.digits.now c.loop-digit.digit-index c.loop-digit-test.true in
+    let more = digits_value_more 10 c.args.digits.now c.loop-digit.digit-index
+    c.loop-digit-test.true in
     let over = c.in_err-checked_mul.ensures {u = tt} in
-    rw c.from_residual.ensures (over_greatest c.args.digits.now (c.loop-digit.digit-index + 1) (omega arith))
+    rw c.from_residual.ensures
+    (over_greatest c.args.digits.now (c.loop-digit.digit-index + 1) (omega arith))
 
 pub returns-in_err-value : goal.returns-in_err-value
 returns-in_err-value c =
-    let more = digits_value_more 10 c.args.digits.now c.loop-digit.digit-index c.loop-digit-test.true in
-    let digit = digit_at c.args.digits.now c.loop-digit.digit-index c.requires c.loop-digit-test.true in
+    let more = digits_value_more 10 c.args.digits.now c.loop-digit.digit-index
+    c.loop-digit-test.true in
+    let digit = digit_at c.args.digits.now c.loop-digit.digit-index c.requires
+    c.loop-digit-test.true in
     let over = c.in_err-value.ensures {u = tt} in
-    rw c.from_residual-in_err-value.ensures (over_greatest c.args.digits.now (c.loop-digit.digit-index + 1) (omega arith))
+    rw c.from_residual-in_err-value.ensures
+    (over_greatest c.args.digits.now (c.loop-digit.digit-index + 1) (omega arith))
 
 pub loop-digit-preserved : goal.loop-digit-preserved
 loop-digit-preserved c =
-    let more = digits_value_more 10 c.args.digits.now c.loop-digit.digit-index c.loop-digit-test.true in
-    let digit = digit_at c.args.digits.now c.loop-digit.digit-index c.requires c.loop-digit-test.true in
+    let more = digits_value_more 10 c.args.digits.now c.loop-digit.digit-index
+    c.loop-digit-test.true in
+    let digit = digit_at c.args.digits.now c.loop-digit.digit-index c.requires
+    c.loop-digit-test.true in
     omega arith

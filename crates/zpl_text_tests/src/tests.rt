@@ -1,4 +1,3 @@
-use super::*;
 use Key::*;
 use Kind::{Ditto, End, Name, Number, Str, Symbol, Word};
 use LexFault::*;
@@ -6,6 +5,7 @@ use Sym::*;
 use std::alloc::Global;
 use std::process::Abort;
 use std::test::Fail;
+use zpl_text::{Key, Kind, LexFault, Lines, Sym, Token, lex, line_at, unescape};
 
 /// A text, its tokens up to the end or the fault, and what `lex` answers.
 type Row = (
@@ -147,7 +147,8 @@ fn words(rt: HostRuntime) -> Result<(), Fail> {
             Ok(()),
         ),
         (
-            b"with without wrap reflect return integer boolean true false max min abs write writeln Index1 Index2 Index3",
+            b"with without wrap reflect return integer boolean true false max min abs write writeln \
+Index1 Index2 Index3",
             &[
                 (Word(With), 0, 4),
                 (Word(Without), 5, 12),
@@ -384,6 +385,74 @@ fn strings(rt: HostRuntime) -> Result<(), Fail> {
     ];
     for row in rows {
         expect(&rt, rt.alloc(), row)?;
+    }
+    Ok(())
+}
+
+#[test]
+fn faults_tell_their_names_and_places(rt: HostRuntime) {
+    for (fault, name, at) in [
+        (BadByte(7), "BadByte", 7),
+        (OpenComment(0), "OpenComment", 0),
+        (OpenString(1), "OpenString", 1),
+        (
+            NumberTooLarge(4_294_967_295),
+            "NumberTooLarge",
+            4_294_967_295,
+        ),
+        (FloatText(12), "FloatText", 12),
+        (NoMemory, "NoMemory", 0),
+    ] {
+        assert_eq!(rt; fault.name(), name);
+        assert_eq!(rt; fault.at(), at);
+    }
+}
+
+#[test]
+fn lines(rt: HostRuntime) {
+    let text = b"a\n\nb\n";
+    let mut lines = Lines::of(text);
+    assert!(rt; text.len() <= 1000);
+    for (at, line) in [
+        (0, 1),
+        (1, 1),
+        (2, 2),
+        (3, 3),
+        (5, 4),
+        (900, 4),
+        (1, 1),
+        (4, 3),
+    ] {
+        assert_eq!(rt; lines.line_at(at), Some(line), "byte {at}");
+        assert_eq!(rt; line_at(text, at), line, "byte {at}");
+    }
+}
+
+#[test]
+fn many_lines(rt: HostRuntime) -> Result<(), Fail> {
+    let text = vec![in rt.alloc(); b'\n'; 70_000]?;
+    let mut lines = Lines::of(text.as_slice());
+    assert_eq!(rt; lines.line_at(69_999), Some(70_000));
+    assert_eq!(rt; lines.line_at(4_294_967_295), Some(70_001));
+    Ok(())
+}
+
+#[test]
+fn strings_stand_for_bytes(rt: HostRuntime) -> Result<(), Fail> {
+    let rows: [(&[u8], &[u8]); 6] = [
+        (b"", b""),
+        (b"sum ", b"sum "),
+        (b"a\\n\\tb", b"a\n\tb"),
+        (b"\\\\n", b"\\n"),
+        (b"\\\"", b"\""),
+        (b"a\\", b"a"),
+    ];
+    for (string, text) in rows {
+        assert_eq!(rt;
+            unescape(rt.alloc(), string)?.as_slice(),
+            text,
+            "{string:?}"
+        );
     }
     Ok(())
 }
