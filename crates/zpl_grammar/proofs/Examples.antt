@@ -14,7 +14,8 @@ abbrev some : List Word
 some = Symbol OpenBracket ∷ Ditto ∷ Str (codes "a") ∷ Number (pos 12) ∷ Symbol Semicolon ∷ []
 
 abbrev some_words : List Word
-some_words = Symbol OpenBracket ∷ Ditto ∷ Str (codes "a") ∷ Number (pos 12) ∷ Symbol Semicolon ∷ End ∷ []
+some_words =
+    Symbol OpenBracket ∷ Ditto ∷ Str (codes "a") ∷ Number (pos 12) ∷ Symbol Semicolon ∷ End ∷ []
 
 some_printed : printed_text some_words ≡ codes "[ \" \"a\" 12 ;\n"
 unfolding written digits
@@ -26,12 +27,24 @@ some_writable = record {
   before = some;
   split = refl;
   each = (
-    record { token = refl; place = tt; limit = tt },
+    record { token = refl; stands = tt; limit = tt },
     (
-      record { token = refl; place = refl; limit = tt },
+      record { token = refl; stands = refl; limit = tt },
       (
-        record { token = (codes "a", plain (λ is. omega (arith, is)) (λ is. omega (arith, is)) (λ is. omega (arith, is)) nothing, refl); place = refl; limit = tt },
-        (record { token = (refl, refl); place = tt; limit = omega (arith, ints) }, (record { token = refl; place = tt; limit = tt }, tt)),
+        record {
+          token = (
+            codes "a",
+            plain (λ is. omega (arith, is)) (λ is. omega (arith, is)) (λ is. omega (arith, is))
+                nothing,
+            refl,
+          );
+          stands = refl;
+          limit = tt;
+        },
+        (
+          record { token = (refl, refl); stands = tt; limit = omega (arith, ints) },
+          (record { token = refl; stands = tt; limit = tt }, tt),
+        ),
       ),
     ),
   );
@@ -39,10 +52,10 @@ some_writable = record {
 
 -- a ditto stands behind no `=`, a string behind no bracket, and no keyword is a name
 ditto_misplaced : EachIsWritable false (Symbol Equal ∷ Ditto ∷ []) → ⊥
-ditto_misplaced each = false≢true each.1.0.place
+ditto_misplaced each = false≢true each.1.0.stands
 
 string_misplaced : EachIsWritable false (Symbol OpenBracket ∷ Str (codes "a") ∷ []) → ⊥
-string_misplaced each = true≢false each.1.0.place
+string_misplaced each = true≢false each.1.0.stands
 
 keyword_no_name : EachIsWritable false (Name (codes "end") ∷ []) → ⊥
 keyword_no_name each = each.0.token.1 key.End refl

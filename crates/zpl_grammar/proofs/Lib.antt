@@ -1,4 +1,5 @@
 mod Examples
+pub mod Faults
 pub mod OneWords
 pub mod ReadBack
 pub mod Respelled

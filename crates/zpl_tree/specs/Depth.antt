@@ -1,8 +1,9 @@
 -- How deep a tree is: a leaf has depth 1, and a node one more than its deepest part.
 use Rattle.std.specs.Prelude.{ℕ, ◌+◌, List, [], ◌∷◌, Option, Some, None, max}
-use Rattle.zpl_tree.specs.Syntax.{Expr, Number, Truth, Coord, Named, Shifted, Call, Paren, Neg, Not, Abs, Pair, Reduce, Scan, Flood, Exprs, NoExpr, ThenExpr, Dir, NamedDir, Vector, Inner, Rexpr, Dims, Bracket, NoBracket, Bracketed, Posts, NoPost, ThenPost, DimText, Blank, Star, One, Span, DimTexts, NoDim, ThenDim, Prefix, ForHead, Item, Str, Value, Stmt, Prefixed, Stmts, NoStmt, ThenStmt, Form, Assign, Invoke, Block, If, While, Repeat, For, Border, Write, Return, Arm, Tested, Arms, NoArm, ThenArm, Otherwise, NoElse, Else, Define, RegionDef, DirDef, VarDef, Param, Procedure, Decl, Config, Constant, Regions, Directions, Vars, Defined, Program}
+use Rattle.zpl_tree.specs.Syntax.{Expr, Number, Truth, Coord, Named, Shifted, Around, Remap, Call, Paren, Neg, Not, Abs, Pair, Reduce, Scan, Flood, Exprs, NoExpr, ThenExpr, Dir, NamedDir, Vector, Inner, Rexpr, Dims, Bracket, NoBracket, Bracketed, Posts, NoPost, ThenPost, DimText, Blank, Star, One, Span, DimTexts, NoDim, ThenDim, Prefix, ForHead, Item, Str, Value, Stmt, Prefixed, Stmts, NoStmt, ThenStmt, Form, Assign, Invoke, Block, If, While, Repeat, For, Border, Write, Return, Arm, Tested, Arms, NoArm, ThenArm, Otherwise, NoElse, Else, Define, RegionDef, DirDef, VarDef, Param, Procedure, Decl, Config, Constant, Regions, Directions, Vars, Defined, Program}
 
--- The actuals of a call, the components of a vector and the bounds in a bracket are parts of the expression that has
+-- The actuals of a call, the indices of a remap, the components of a vector and the bounds in a
+-- bracket are parts of the expression that has
 -- them; the vector and the bracket themselves are no nodes.
 abbrev mutual
   pub expr_depth : Expr → ℕ
@@ -11,6 +12,8 @@ abbrev mutual
   expr_depth (Coord at dimension) = 1
   expr_depth (Named at name) = 1
   expr_depth (Shifted at name shift) = 1 + dir_depth shift
+  expr_depth (Around at name shift) = 1 + dir_depth shift
+  expr_depth (Remap at name indices) = 1 + exprs_depth indices
   expr_depth (Call at name actuals) = 1 + exprs_depth actuals
   expr_depth (Paren at inside) = 1 + expr_depth inside
   expr_depth (Neg at operand) = 1 + expr_depth operand

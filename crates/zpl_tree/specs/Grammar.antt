@@ -1,7 +1,9 @@
 -- Which trees the grammar has, and everything that each of them may be written as.
 --
--- A tree says nearly all of how it is written. The grammar leaves two choices: a region that is defined by a name and
--- what is made of it may stand without brackets, and the local variables of a procedure may come in several `var` groups.
+-- A tree says nearly all of how it is written. The grammar leaves two choices: a region that is
+-- defined by a name and
+-- what is made of it may stand without brackets, and the local variables of a procedure may come in
+-- several `var` groups.
 use Rattle.std.specs.Prelude.{◌≡◌, ◌⊎◌, ℕ, ℤ, pos, int_le, nat_le, IsTrue, List, [], ◌∷◌, ◌++◌, Option, Some, None, ⊤}
 use Rattle.std.specs.List.{AllByRecursion}
 use Rattle.zpl_nums.specs.declared.operators.Op.{Op}
@@ -9,11 +11,12 @@ use Rattle.zpl_nums.specs.declared.operators.Op.TheVariants as op
 use Rattle.zpl_tokens.specs.declared.keywords.Key.TheVariants as key
 use Rattle.zpl_tokens.specs.declared.symbols.Sym.TheVariants as sym
 use Rattle.zpl_tree.specs.Spelling.{symbol, keyword, name_words, inner_words, stmt_words, var_words, region_words, heading_words, decl_words}
-use Rattle.zpl_tree.specs.Syntax.{Expr, Number, Truth, Coord, Named, Shifted, Call, Paren, Neg, Not, Abs, Pair, Reduce, Scan, Flood, Exprs, NoExpr, ThenExpr, Dir, NamedDir, Vector, Inner, Rexpr, Dims, Bracket, NoBracket, Bracketed, Posts, NoPost, ThenPost, DimText, Blank, Star, One, Span, DimTexts, NoDim, ThenDim, Prefix, ForHead, Item, Str, Value, Stmt, Prefixed, Stmts, NoStmt, ThenStmt, Form, Assign, Invoke, Block, If, While, Repeat, For, Border, Write, Return, Arm, Tested, Arms, NoArm, ThenArm, Otherwise, NoElse, Else, Define, RegionDef, DirDef, VarDef, Param, Procedure, Decl, Config, Constant, Regions, Directions, Vars, Defined, Program}
+use Rattle.zpl_tree.specs.Syntax.{Expr, Number, Truth, Coord, Named, Shifted, Around, Remap, Call, Paren, Neg, Not, Abs, Pair, Reduce, Scan, Flood, Exprs, NoExpr, ThenExpr, Dir, NamedDir, Vector, Inner, Rexpr, Dims, Bracket, NoBracket, Bracketed, Posts, NoPost, ThenPost, DimText, Blank, Star, One, Span, DimTexts, NoDim, ThenDim, Prefix, ForHead, Item, Str, Value, Stmt, Prefixed, Stmts, NoStmt, ThenStmt, Form, Assign, Invoke, Block, If, While, Repeat, For, Border, Write, Return, Arm, Tested, Arms, NoArm, ThenArm, Otherwise, NoElse, Else, Define, RegionDef, DirDef, VarDef, Param, Procedure, Decl, Config, Constant, Regions, Directions, Vars, Defined, Program}
 use Rattle.zpl_tree.specs.Word.{Word}
 use Rattle.zpl_tree.specs.Word as word
 
--- How tightly an expression binds. The grammar has a rule for each level, and a rule takes what the next one gives.
+-- How tightly an expression binds. The grammar has a rule for each level, and a rule takes what the
+-- next one gives.
 abbrev pub expr_level : ℕ
 expr_level = 0
 
@@ -39,7 +42,8 @@ primary_level = 6
 abbrev pub StandsAt : ℕ → ℕ → Type 0
 StandsAt wanted own = IsTrue (nat_le wanted own)
 
--- An operator's own level, and those of its operands. Operators of one level group to the left, but for comparisons, which
+-- An operator's own level, and those of its operands. Operators of one level group to the left, but
+-- for comparisons, which
 -- don't follow one another; `max` and `min` stand before their operands, in brackets.
 --   expr = conj { "|" conj }
 --   conj = comp { "&" comp }
@@ -133,9 +137,12 @@ abbrev mutual
   IsExpr level (Number at value) = IsNatural value
   IsExpr level (Truth at value) = ⊤
   IsExpr level (Coord at dimension) = IsTrue (nat_le 1 dimension) × IsTrue (nat_le dimension 3)
-  -- NAME [ "@" dir ] | NAME "(" [ expr { "," expr } ] ")"
+  -- NAME [ "@" [ "^" ] dir ] | NAME "#" "[" expr { "," expr } "]" | NAME "(" [ expr { "," expr } ]
+  -- ")"
   IsExpr level (Named at name) = ⊤
   IsExpr level (Shifted at name shift) = IsDir shift
+  IsExpr level (Around at name shift) = IsDir shift
+  IsExpr level (Remap at name indices) = HasExpr indices × AreExprs indices
   IsExpr level (Call at name actuals) = AreExprs actuals
   -- "(" expr ")"
   IsExpr level (Paren at inside) = IsExpr expr_level inside
@@ -152,7 +159,8 @@ abbrev mutual
       StandsAt level unary_level × IsBracket over × IsExpr unary_level operand
   IsExpr level (Scan at operator along operand) =
       StandsAt level unary_level × IsAlong along × IsExpr unary_level operand
-  IsExpr level (Flood at source operand) = StandsAt level unary_level × IsInner source × IsExpr unary_level operand
+  IsExpr level (Flood at source operand) = StandsAt level unary_level × IsInner source ×
+      IsExpr unary_level operand
 
   -- [ expr { "," expr } ]
   pub AreExprs : Exprs → Type 0
@@ -294,7 +302,8 @@ IsBody _ = ⊥
 -- procedure = heading { "var" vardef { vardef } } { prefix } block
 abbrev pub IsProcedure : Procedure → Type 0
 IsProcedure procedure =
-    AllByRecursion IsParam procedure.params × AllByRecursion IsVar procedure.locals × IsBody procedure.body
+    AllByRecursion IsParam procedure.params × AllByRecursion IsVar procedure.locals ×
+    IsBody procedure.body
 
 -- decl, each group with at least one definition
 abbrev pub IsDecl : Decl → Type 0
@@ -313,7 +322,8 @@ IsProgram program = AllByRecursion IsDecl program.decls
 abbrev pub SpellsEach : {A : Type 0} → (A → List Word → Type 0) → List A → List Word → Type 0
 SpellsEach Spells [] words = words ≡ []
 SpellsEach Spells (x ∷ xs) words =
-    (front : List Word) × (back : List Word) × Spells x front × SpellsEach Spells xs back × (words ≡ front ++ back)
+    (front : List Word) × (back : List Word) × Spells x front × SpellsEach Spells xs back ×
+    (words ≡ front ++ back)
 
 -- made of a name or the ditto, and nothing behind a bracket
 abbrev pub IsRexpr : Inner → Type 0
@@ -332,7 +342,8 @@ bare_words region =
 -- regiondef = NAME "=" ( bracket { post } | rexpr ) ";"
 abbrev pub SpellsRegion : RegionDef → List Word → Type 0
 SpellsRegion region words =
-    (words ≡ region_words region) ⊎ (IsRexpr region.body × HasNoPost region.posts × (words ≡ bare_words region))
+    (words ≡ region_words region) ⊎ (IsRexpr region.body × HasNoPost region.posts ×
+    (words ≡ bare_words region))
 
 -- { [ "var" ] vardef }, where each `var` begins a group
 abbrev pub SpellsMoreLocals : List VarDef → List Word → Type 0
@@ -345,7 +356,8 @@ SpellsMoreLocals (first ∷ rest) words =
 abbrev pub SpellsLocals : List VarDef → List Word → Type 0
 SpellsLocals [] words = words ≡ []
 SpellsLocals (first ∷ rest) words =
-    (others : List Word) × SpellsMoreLocals rest others × (words ≡ keyword key.Var ++ var_words first ++ others)
+    (others : List Word) × SpellsMoreLocals rest others ×
+    (words ≡ keyword key.Var ++ var_words first ++ others)
 
 -- procedure = heading { "var" vardef { vardef } } { prefix } block
 abbrev pub SpellsProcedure : Procedure → List Word → Type 0
@@ -356,7 +368,8 @@ SpellsProcedure procedure words =
 -- decl
 abbrev pub SpellsDecl : Decl → List Word → Type 0
 SpellsDecl (Regions regions) words =
-    (definitions : List Word) × SpellsEach SpellsRegion regions definitions × (words ≡ keyword key.Region ++ definitions)
+    (definitions : List Word) × SpellsEach SpellsRegion regions definitions ×
+    (words ≡ keyword key.Region ++ definitions)
 SpellsDecl (Defined procedure) words = SpellsProcedure procedure words
 SpellsDecl decl words = words ≡ decl_words decl
 
@@ -365,4 +378,5 @@ SpellsDecl decl words = words ≡ decl_words decl
 abbrev pub Spells : Program → List Word → Type 0
 Spells program words =
     (decls : List Word) × IsProgram program × SpellsEach SpellsDecl program.decls decls ×
-    (words ≡ keyword key.Program ++ name_words program.name ++ symbol sym.Semicolon ++ decls ++ word.End ∷ [])
+    (words ≡ keyword key.Program ++ name_words program.name ++ symbol sym.Semicolon ++ decls ++
+    word.End ∷ [])

@@ -1,7 +1,7 @@
 -- When two trees differ in offsets and source alone.
 use Rattle.std.specs.Prelude.{◌≡◌, [], map}
 use Rattle.std.specs.Option.{option_map}
-use Rattle.zpl_tree.specs.Syntax.{Name, Pre, RegionBase, NamedRegion, Ditto, Expr, Number, Truth, Coord, Named, Shifted, Call, Paren, Neg, Not, Abs, Pair, Reduce, Scan, Flood, Exprs, NoExpr, ThenExpr, Dir, NamedDir, Vector, Inner, Rexpr, Dims, Bracket, NoBracket, Bracketed, Posts, NoPost, ThenPost, DimText, Blank, Star, One, Span, DimTexts, NoDim, ThenDim, Mask, Prefix, ForHead, Item, Str, Value, Stmt, Prefixed, Stmts, NoStmt, ThenStmt, Form, Assign, Invoke, Block, If, While, Repeat, For, Border, Write, Return, Arm, Tested, Arms, NoArm, ThenArm, Otherwise, NoElse, Else, Base, Integer, Boolean, Other, Define, RegionDef, DirDef, VarDef, Param, Procedure, Decl, Config, Constant, Regions, Directions, Vars, Defined, Program}
+use Rattle.zpl_tree.specs.Syntax.{Name, Pre, RegionBase, NamedRegion, Ditto, Expr, Number, Truth, Coord, Named, Shifted, Around, Remap, Call, Paren, Neg, Not, Abs, Pair, Reduce, Scan, Flood, Exprs, NoExpr, ThenExpr, Dir, NamedDir, Vector, Inner, Rexpr, Dims, Bracket, NoBracket, Bracketed, Posts, NoPost, ThenPost, DimText, Blank, Star, One, Span, DimTexts, NoDim, ThenDim, Mask, Prefix, ForHead, Item, Str, Value, Stmt, Prefixed, Stmts, NoStmt, ThenStmt, Form, Assign, Invoke, Block, If, While, Repeat, For, Border, Write, Return, Arm, Tested, Arms, NoArm, ThenArm, Otherwise, NoElse, Else, Base, Integer, Boolean, Other, Define, RegionDef, DirDef, VarDef, Param, Procedure, Decl, Config, Constant, Regions, Directions, Vars, Defined, Program}
 
 -- The shape of a tree is the tree with each offset 0 and no source.
 abbrev pub name_shape : Name → Name
@@ -21,13 +21,16 @@ abbrev mutual
   expr_shape (Coord at dimension) = Coord 0 dimension
   expr_shape (Named at name) = Named 0 (name_shape name)
   expr_shape (Shifted at name shift) = Shifted 0 (name_shape name) (dir_shape shift)
+  expr_shape (Around at name shift) = Around 0 (name_shape name) (dir_shape shift)
+  expr_shape (Remap at name indices) = Remap 0 (name_shape name) (exprs_shape indices)
   expr_shape (Call at name actuals) = Call 0 (name_shape name) (exprs_shape actuals)
   expr_shape (Paren at inside) = Paren 0 (expr_shape inside)
   expr_shape (Neg at operand) = Neg 0 (expr_shape operand)
   expr_shape (Not at operand) = Not 0 (expr_shape operand)
   expr_shape (Abs at operand) = Abs 0 (expr_shape operand)
   expr_shape (Pair at op left right) = Pair 0 op (expr_shape left) (expr_shape right)
-  expr_shape (Reduce at operator over operand) = Reduce 0 operator (bracket_shape over) (expr_shape operand)
+  expr_shape (Reduce at operator over operand) =
+      Reduce 0 operator (bracket_shape over) (expr_shape operand)
   expr_shape (Scan at operator along operand) = Scan 0 operator along (expr_shape operand)
   expr_shape (Flood at source operand) = Flood 0 (inner_shape source) (expr_shape operand)
 
@@ -119,14 +122,28 @@ base_type_shape (Other name) = Other (name_shape name)
 
 abbrev pub define_shape : Define → Define
 define_shape define =
-    record { name = name_shape define.name; base = base_type_shape define.base; value = expr_shape define.value }
+    record {
+      name = name_shape define.name;
+      base = base_type_shape define.base;
+      value =
+          expr_shape define.value;
+    }
 
 abbrev pub region_shape : RegionDef → RegionDef
 region_shape region =
-    record { name = name_shape region.name; body = inner_shape region.body; posts = posts_shape region.posts }
+    record {
+      name = name_shape region.name;
+      body = inner_shape region.body;
+      posts =
+          posts_shape region.posts;
+    }
 
 abbrev pub direction_shape : DirDef → DirDef
-direction_shape direction = record { name = name_shape direction.name; parts = exprs_shape direction.parts }
+direction_shape direction = record {
+  name = name_shape direction.name;
+  parts =
+      exprs_shape direction.parts;
+}
 
 abbrev pub var_shape : VarDef → VarDef
 var_shape var = record {
@@ -161,7 +178,12 @@ decl_shape (Vars vars) = Vars (map var_shape vars)
 decl_shape (Defined procedure) = Defined (procedure_shape procedure)
 
 abbrev pub shape_of : Program → Program
-shape_of program = record { name = name_shape program.name; decls = map decl_shape program.decls; source = [] }
+shape_of program = record {
+  name = name_shape program.name;
+  decls =
+      map decl_shape program.decls;
+  source = [];
+}
 
 -- the trees differ in offsets and source alone
 abbrev pub SameShape : Program → Program → Type 0

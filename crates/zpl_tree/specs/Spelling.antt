@@ -1,7 +1,10 @@
--- The words that a tree is written as: a region definition in brackets, and one `var` group for a procedure's locals.
+-- The words that a tree is written as: a region definition in brackets, and one `var` group for a
+-- procedure's locals.
 --
--- Each definition stands below the line of the grammar that it is. There `{ x }` is any number of x and `[ x ]` at most
--- one; what the language writes is in quotes. Where a line has choices, the tree's form says which is taken.
+-- Each definition stands below the line of the grammar that it is. There `{ x }` is any number of x
+-- and `[ x ]` at most
+-- one; what the language writes is in quotes. Where a line has choices, the tree's form says which
+-- is taken.
 use Rattle.std.specs.Prelude.{ℕ, ◌==◌, ℤ, List, [], ◌∷◌, ◌++◌, Option, Some, None, if◌then◌else◌}
 use Rattle.std.specs.List.{flat_map}
 use Rattle.zpl_nums.specs.declared.operators.Op.{Op}
@@ -14,7 +17,7 @@ use Rattle.zpl_tokens.specs.declared.keywords.Key.{Key}
 use Rattle.zpl_tokens.specs.declared.keywords.Key.TheVariants as key
 use Rattle.zpl_tokens.specs.declared.symbols.Sym.{Sym}
 use Rattle.zpl_tokens.specs.declared.symbols.Sym.TheVariants as sym
-use Rattle.zpl_tree.specs.Syntax.{Name, Pre, RegionBase, NamedRegion, Ditto, Expr, Number, Truth, Coord, Named, Shifted, Call, Paren, Neg, Not, Abs, Pair, Reduce, Scan, Flood, Exprs, NoExpr, ThenExpr, Dir, NamedDir, Vector, Inner, Rexpr, Dims, Bracket, NoBracket, Bracketed, Posts, NoPost, ThenPost, DimText, Blank, Star, One, Span, DimTexts, NoDim, ThenDim, Mask, Prefix, ForHead, Item, Str, Value, Stmt, Prefixed, Stmts, NoStmt, ThenStmt, Form, Assign, Invoke, Block, If, While, Repeat, For, Border, Write, Return, Arm, Tested, Arms, NoArm, ThenArm, Otherwise, NoElse, Else, Base, Integer, Boolean, Other, Define, RegionDef, DirDef, VarDef, Param, Procedure, Decl, Config, Constant, Regions, Directions, Vars, Defined, Program}
+use Rattle.zpl_tree.specs.Syntax.{Name, Pre, RegionBase, NamedRegion, Ditto, Expr, Number, Truth, Coord, Named, Shifted, Around, Remap, Call, Paren, Neg, Not, Abs, Pair, Reduce, Scan, Flood, Exprs, NoExpr, ThenExpr, Dir, NamedDir, Vector, Inner, Rexpr, Dims, Bracket, NoBracket, Bracketed, Posts, NoPost, ThenPost, DimText, Blank, Star, One, Span, DimTexts, NoDim, ThenDim, Mask, Prefix, ForHead, Item, Str, Value, Stmt, Prefixed, Stmts, NoStmt, ThenStmt, Form, Assign, Invoke, Block, If, While, Repeat, For, Border, Write, Return, Arm, Tested, Arms, NoArm, ThenArm, Otherwise, NoElse, Else, Base, Integer, Boolean, Other, Define, RegionDef, DirDef, VarDef, Param, Procedure, Decl, Config, Constant, Regions, Directions, Vars, Defined, Program}
 use Rattle.zpl_tree.specs.Word.{Word}
 use Rattle.zpl_tree.specs.Word as word
 
@@ -49,9 +52,12 @@ fold_words fold.Any = symbol sym.Or
 
 -- "Index1" | "Index2" | "Index3"
 abbrev pub index_words : ℕ → List Word
-index_words k = if k == 1 then keyword key.Index1 else (if k == 2 then keyword key.Index2 else keyword key.Index3)
+index_words k =
+    if k == 1 then keyword key.Index1 else (if k == 2 then keyword key.Index2 else keyword
+    key.Index3)
 
--- what stands for the operator: "+" | "-" | "*" | "/" | "%" | "=" | "!=" | "<" | "<=" | ">" | ">=" | "&" | "|" | "max" | "min"
+-- what stands for the operator: "+" | "-" | "*" | "/" | "%" | "=" | "!=" | "<" | "<=" | ">" | ">="
+-- | "&" | "|" | "max" | "min"
 abbrev pub operator_words : Op → List Word
 operator_words op.Add = symbol sym.Plus
 operator_words op.Sub = symbol sym.Minus
@@ -69,7 +75,8 @@ operator_words op.Or = symbol sym.Or
 operator_words op.Max = keyword key.Max
 operator_words op.Min = keyword key.Min
 
--- conj { "|" conj }, comp { "&" comp }, sum [ ( "=" | .. | ">=" ) sum ], term { ( "+" | "-" ) term },
+-- conj { "|" conj }, comp { "&" comp }, sum [ ( "=" | .. | ">=" ) sum ], term { ( "+" | "-" ) term
+-- },
 -- unary { ( "*" | "/" | "%" ) unary } and ( "max" | "min" ) "(" expr "," expr ")"
 abbrev pub pair_words : Op → List Word → List Word → List Word
 pair_words op.Max left right = keyword key.Max ++ in_round (left ++ symbol sym.Comma ++ right)
@@ -96,9 +103,14 @@ abbrev mutual
   expr_words (Number at value) = number value
   expr_words (Truth at value) = if value then keyword key.True else keyword key.False
   expr_words (Coord at dimension) = index_words dimension
-  -- NAME [ "@" dir ] | NAME "(" [ expr { "," expr } ] ")"
+  -- NAME [ "@" [ "^" ] dir ] | NAME "#" "[" expr { "," expr } "]" | NAME "(" [ expr { "," expr } ]
+  -- ")"
   expr_words (Named at name) = name_words name
   expr_words (Shifted at name shift) = name_words name ++ symbol sym.At ++ dir_words shift
+  expr_words (Around at name shift) =
+      name_words name ++ symbol sym.At ++ symbol sym.Caret ++ dir_words shift
+  expr_words (Remap at name indices) =
+      name_words name ++ symbol sym.Hash ++ in_square (exprs_words indices)
   expr_words (Call at name actuals) = name_words name ++ in_round (exprs_words actuals)
   -- "(" expr ")"
   expr_words (Paren at inside) = in_round (expr_words inside)
@@ -115,7 +127,8 @@ abbrev mutual
   expr_words (Scan at operator along operand) =
       fold_words operator ++ symbol sym.Scan ++ along_words along ++ expr_words operand
   -- ">>" bracket unary
-  expr_words (Flood at source operand) = symbol sym.Flood ++ in_square (inner_words source) ++ expr_words operand
+  expr_words (Flood at source operand) = symbol sym.Flood ++ in_square (inner_words source) ++
+      expr_words operand
 
   -- [ expr { "," expr } ]
   pub exprs_words : Exprs → List Word
@@ -182,7 +195,8 @@ names_words names = separated (symbol sym.Comma) name_words names
 -- [ ( "with" | "without" ) NAME ]
 abbrev pub mask_words : Option Mask → List Word
 mask_words None = []
-mask_words (Some mask) = (if mask.without then keyword key.Without else keyword key.With) ++ name_words mask.name
+mask_words (Some mask) = (if mask.without then keyword key.Without else keyword key.With) ++
+    name_words mask.name
 
 -- prefix = "[" inner [ ( "with" | "without" ) NAME ] "]"
 abbrev pub prefix_words : Prefix → List Word
@@ -208,7 +222,8 @@ step_words (Some step) = keyword key.By ++ expr_words step
 abbrev pub head_words : ForHead → List Word
 head_words head =
     name_words head.name ++ symbol sym.Assign ++ expr_words head.first ++
-    (if head.down then keyword key.Downto else keyword key.To) ++ expr_words head.last ++ step_words head.step
+    (if head.down then keyword key.Downto else keyword key.To) ++ expr_words head.last ++
+    step_words head.step
 
 -- item = STRING | expr
 abbrev pub item_words : Item → List Word
@@ -242,7 +257,8 @@ abbrev mutual
   -- NAME assign expr ";" | NAME "(" [ expr { "," expr } ] ")" ";"
   form_words (Assign name op value) =
       name_words name ++ assign_words op ++ expr_words value ++ symbol sym.Semicolon
-  form_words (Invoke name actuals) = name_words name ++ in_round (exprs_words actuals) ++ symbol sym.Semicolon
+  form_words (Invoke name actuals) = name_words name ++ in_round (exprs_words actuals) ++
+      symbol sym.Semicolon
   -- "begin" { stmt } "end" ";"
   form_words (Block body) = keyword key.Begin ++ stmts_words body ++ end_words
   -- "if" expr "then" { stmt } { "elsif" expr "then" { stmt } } [ "else" { stmt } ] "end" ";"
@@ -252,7 +268,8 @@ abbrev mutual
       keyword key.While ++ expr_words test ++ keyword key.Do ++ stmts_words body ++ end_words
   -- "repeat" { stmt } "until" expr ";"
   form_words (Repeat body until test) =
-      keyword key.Repeat ++ stmts_words body ++ keyword key.Until ++ expr_words test ++ symbol sym.Semicolon
+      keyword key.Repeat ++ stmts_words body ++ keyword key.Until ++ expr_words test ++
+      symbol sym.Semicolon
   -- "for" NAME ":=" expr ( "to" | "downto" ) expr [ "by" expr ] "do" { stmt } "end" ";"
   form_words (For head body) =
       keyword key.For ++ head_words head ++ keyword key.Do ++ stmts_words body ++ end_words
@@ -299,13 +316,15 @@ define_words define =
 -- regiondef = NAME "=" ( bracket { post } | rexpr ) ";", of which this is the first choice
 abbrev pub region_words : RegionDef → List Word
 region_words region =
-    name_words region.name ++ symbol sym.Equal ++ in_square (inner_words region.body) ++ posts_words region.posts ++
+    name_words region.name ++ symbol sym.Equal ++ in_square (inner_words region.body) ++
+    posts_words region.posts ++
     symbol sym.Semicolon
 
 -- dirdef = NAME "=" vector ";"
 abbrev pub direction_words : DirDef → List Word
 direction_words direction =
-    name_words direction.name ++ symbol sym.Equal ++ in_square (exprs_words direction.parts) ++ symbol sym.Semicolon
+    name_words direction.name ++ symbol sym.Equal ++ in_square (exprs_words direction.parts) ++
+    symbol sym.Semicolon
 
 -- vardef = NAME { "," NAME } ":" [ bracket ] base ";"
 abbrev pub var_words : VarDef → List Word
@@ -345,7 +364,8 @@ abbrev pub procedure_words : Procedure → List Word
 procedure_words procedure =
     heading_words procedure ++ locals_words procedure.locals ++ stmt_words procedure.body
 
--- decl = "config" "var" define { define } | "constant" define { define } | "region" regiondef { regiondef }
+-- decl = "config" "var" define { define } | "constant" define { define } | "region" regiondef {
+-- regiondef }
 --      | "direction" dirdef { dirdef } | "var" vardef { vardef } | procedure
 abbrev pub decl_words : Decl → List Word
 decl_words (Config defines) = keyword key.Config ++ keyword key.Var ++ flat_map define_words defines
@@ -358,7 +378,8 @@ decl_words (Defined procedure) = procedure_words procedure
 -- "program" NAME ";" { decl }
 abbrev pub before_end : Program → List Word
 before_end program =
-    keyword key.Program ++ name_words program.name ++ symbol sym.Semicolon ++ flat_map decl_words program.decls
+    keyword key.Program ++ name_words program.name ++ symbol sym.Semicolon ++
+    flat_map decl_words program.decls
 
 -- program = "program" NAME ";" { decl } END
 abbrev pub program_words : Program → List Word

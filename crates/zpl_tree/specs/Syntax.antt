@@ -1,4 +1,5 @@
--- A program's tree as plain syntax: what the tree in the arena says, without its pointers and its lists in memory.
+-- A program's tree as plain syntax: what the tree in the arena says, without its pointers and its
+-- lists in memory.
 -- An `at` is an offset into the program's text.
 use Rattle.std.specs.Prelude.{ℕ, ℤ, Bool, List, Option}
 use Rattle.zpl_nums.specs.declared.operators.Op.{Op}
@@ -25,6 +26,8 @@ mutual
     Coord : (at : ℕ) (dimension : ℕ) → Expr
     Named : (at : ℕ) (name : Name) → Expr
     Shifted : (at : ℕ) (name : Name) (shift : Dir) → Expr
+    Around : (at : ℕ) (name : Name) (shift : Dir) → Expr
+    Remap : (at : ℕ) (name : Name) (indices : Exprs) → Expr
     Call : (at : ℕ) (name : Name) (actuals : Exprs) → Expr
     Paren : (at : ℕ) (inside : Expr) → Expr
     Neg : (at : ℕ) (operand : Expr) → Expr
@@ -67,6 +70,25 @@ mutual
   pub data DimTexts : Type 0 where
     NoDim : DimTexts
     ThenDim : (first : DimText) (rest : DimTexts) → DimTexts
+
+-- the offset of an expression
+abbrev pub at_of : Expr → ℕ
+at_of (Number at value) = at
+at_of (Truth at value) = at
+at_of (Coord at dimension) = at
+at_of (Named at name) = at
+at_of (Shifted at name shift) = at
+at_of (Around at name shift) = at
+at_of (Remap at name indices) = at
+at_of (Call at name actuals) = at
+at_of (Paren at inside) = at
+at_of (Neg at operand) = at
+at_of (Not at operand) = at
+at_of (Abs at operand) = at
+at_of (Pair at op left right) = at
+at_of (Reduce at operator over operand) = at
+at_of (Scan at operator along operand) = at
+at_of (Flood at source operand) = at
 
 pub record Mask : Type 0 where
   pub name : Name

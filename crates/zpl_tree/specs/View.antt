@@ -1,11 +1,12 @@
 -- The tree in the arena, seen as plain syntax.
 use Rattle.std.specs.Prelude.{ℕ, List, [], ◌∷◌, Option, Some, None, map}
+use Rattle.std.specs.Borrow.{Bor}
 use Rattle.std.specs.Option.{option_map}
 use Rattle.zpl_tree.specs.Syntax as plain
 use Rattle.zpl_tree.specs.declared.names.Name.{Name}
 use Rattle.zpl_tree.specs.declared.expressions.Expr.{Expr}
 use Rattle.zpl_tree.specs.declared.expressions.ExprForm.{ExprForm}
-use Rattle.zpl_tree.specs.declared.expressions.ExprForm.TheVariants.{Number, Truth, Coord, Named, Shifted, Call', Paren', Neg', Not', Abs', Pair', Reduce', Scan', Flood'}
+use Rattle.zpl_tree.specs.declared.expressions.ExprForm.TheVariants.{Number, Truth, Coord, Named, Shifted, Around, Remap', Call', Paren', Neg', Not', Abs', Pair', Reduce', Scan', Flood'}
 use Rattle.zpl_tree.specs.declared.expressions.ExprForm.TheBlock.{Row_of-Expr, end_of-Expr, more_of-Expr, Row_of-Post, end_of-Post, more_of-Post, Row_of-DimText, end_of-DimText, more_of-DimText, Held-ExprForm-Reduce-1, None', Some'}
 use Rattle.zpl_tree.specs.declared.regions.Inner.{Inner}
 use Rattle.zpl_tree.specs.declared.regions.Inner.TheVariants.{Rexpr as RexprInner, Dims'}
@@ -57,15 +58,21 @@ abbrev mutual
   form_of at (Coord dimension) = plain.Coord at dimension
   form_of at (Named name) = plain.Named at (name_of name)
   form_of at (Shifted name shift) = plain.Shifted at (name_of name) (dir_of shift)
+  form_of at (Around name shift) = plain.Around at (name_of name) (dir_of shift)
+  form_of at (Remap' name p n indices) = plain.Remap at (name_of name) (row_of_exprs indices)
   form_of at (Call' name p n actuals) = plain.Call at (name_of name) (row_of_exprs actuals)
   form_of at (Paren' p inside_at inside) = plain.Paren at (form_of inside_at inside)
   form_of at (Neg' p operand_at operand) = plain.Neg at (form_of operand_at operand)
   form_of at (Not' p operand_at operand) = plain.Not at (form_of operand_at operand)
   form_of at (Abs' p operand_at operand) = plain.Abs at (form_of operand_at operand)
-  form_of at (Pair' op p left_at left q right_at right) = plain.Pair at op (form_of left_at left) (form_of right_at right)
-  form_of at (Reduce' operator over p operand_at operand) = plain.Reduce at operator (held_of over) (form_of operand_at operand)
-  form_of at (Scan' operator along p operand_at operand) = plain.Scan at operator along (form_of operand_at operand)
-  form_of at (Flood' source p operand_at operand) = plain.Flood at (inner_of source) (form_of operand_at operand)
+  form_of at (Pair' op p left_at left q right_at right) =
+      plain.Pair at op (form_of left_at left) (form_of right_at right)
+  form_of at (Reduce' operator over p operand_at operand) =
+      plain.Reduce at operator (held_of over) (form_of operand_at operand)
+  form_of at (Scan' operator along p operand_at operand) =
+      plain.Scan at operator along (form_of operand_at operand)
+  form_of at (Flood' source p operand_at operand) =
+      plain.Flood at (inner_of source) (form_of operand_at operand)
 
   pub row_of_exprs : {n : _} → Row_of-Expr n → plain.Exprs
   row_of_exprs end_of-Expr = plain.NoExpr
@@ -80,7 +87,8 @@ abbrev mutual
   inner_of (Dims' p n dims) = plain.Dims (row_of_dims dims)
 
   pub rexpr_of : Rexpr → plain.Inner
-  rexpr_of (Rexpr' pre base p n post) = plain.Rexpr (map pre_of pre.now) (base_of base) (row_of_posts post)
+  rexpr_of (Rexpr' pre base p n post) =
+      plain.Rexpr (map pre_of pre.now) (base_of base) (row_of_posts post)
 
   pub held_of : Held-ExprForm-Reduce-1 → plain.Bracket
   held_of None' = plain.NoBracket
@@ -88,13 +96,15 @@ abbrev mutual
 
   pub row_of_posts : {n : _} → Row_of-Post n → plain.Posts
   row_of_posts end_of-Post = plain.NoPost
-  row_of_posts (more_of-Post stride dir rest) = plain.ThenPost stride (dir_of dir) (row_of_posts rest)
+  row_of_posts (more_of-Post stride dir rest) =
+      plain.ThenPost stride (dir_of dir) (row_of_posts rest)
 
   pub dim_of : DimText → plain.DimText
   dim_of (Blank at) = plain.Blank at
   dim_of (Star at) = plain.Star at
   dim_of (One' p index_at index) = plain.One (form_of index_at index)
-  dim_of (Span' p low_at low q high_at high) = plain.Span (form_of low_at low) (form_of high_at high)
+  dim_of (Span' p low_at low q high_at high) =
+      plain.Span (form_of low_at low) (form_of high_at high)
 
   pub row_of_dims : {n : _} → Row_of-DimText n → plain.DimTexts
   row_of_dims end_of-DimText = plain.NoDim
@@ -125,7 +135,12 @@ mask_of mask = record { name = name_of mask.name; without = mask.without }
 
 abbrev pub prefix_of : Prefix → plain.Prefix
 prefix_of prefix =
-    record { at = prefix.at; region = inner_of prefix.region; mask = option_map mask_of prefix.mask }
+    record {
+      at = prefix.at;
+      region = inner_of prefix.region;
+      mask =
+          option_map mask_of prefix.mask;
+    }
 
 abbrev pub head_of : ForHead → plain.ForHead
 head_of head = record {
@@ -147,7 +162,8 @@ abbrev mutual
   statement_of (Block' p n body) = plain.Block (row_of_stmts body)
   statement_of (If' p n arms otherwise) = plain.If (row_of_arms arms) (otherwise_of otherwise)
   statement_of (While' test p n body) = plain.While (expr_of test.now) (row_of_stmts body)
-  statement_of (Repeat' p n body until test) = plain.Repeat (row_of_stmts body) until (expr_of test.now)
+  statement_of (Repeat' p n body until test) =
+      plain.Repeat (row_of_stmts body) until (expr_of test.now)
   statement_of (For' head p n body) = plain.For (head_of head.now) (row_of_stmts body)
   statement_of (Border kind names) = plain.Border kind (map name_of names.now)
   statement_of (Write line items) = plain.Write line (map item_of items.now)
@@ -156,7 +172,8 @@ abbrev mutual
   pub row_of_stmts : {n : _} → Row_of-Stmt n → plain.Stmts
   row_of_stmts end_of-Stmt = plain.NoStmt
   row_of_stmts (more_of-Stmt at prefixes form rest) =
-      plain.ThenStmt (plain.Prefixed at (map prefix_of prefixes.now) (statement_of form)) (row_of_stmts rest)
+      plain.ThenStmt (plain.Prefixed at (map prefix_of prefixes.now) (statement_of form))
+      (row_of_stmts rest)
 
   pub row_of_arms : {n : _} → Row_of-Arm n → plain.Arms
   row_of_arms end_of-Arm = plain.NoArm
@@ -180,6 +197,11 @@ abbrev pub arms_of : List Arm → plain.Arms
 arms_of [] = plain.NoArm
 arms_of (first ∷ rest) = plain.ThenArm (arm_of first) (arms_of rest)
 
+-- the statements behind an `else`, as a slice shows them
+abbrev pub else_of : Option (Bor (List Stmt)) → plain.Otherwise
+else_of None = plain.NoElse
+else_of (Some body) = plain.Else (stmts_of body.now)
+
 abbrev pub base_type_of : Base → plain.Base
 base_type_of Integer = plain.Integer
 base_type_of Boolean = plain.Boolean
@@ -187,14 +209,28 @@ base_type_of (Other name) = plain.Other (name_of name)
 
 abbrev pub define_of : Define → plain.Define
 define_of define =
-    record { name = name_of define.name; base = base_type_of define.base; value = expr_of define.value.now }
+    record {
+      name = name_of define.name;
+      base = base_type_of define.base;
+      value =
+          expr_of define.value.now;
+    }
 
 abbrev pub region_of : RegionDef → plain.RegionDef
 region_of region =
-    record { name = name_of region.name; body = inner_of region.body; posts = posts_of region.posts.now }
+    record {
+      name = name_of region.name;
+      body = inner_of region.body;
+      posts =
+          posts_of region.posts.now;
+    }
 
 abbrev pub direction_of : DirDef → plain.DirDef
-direction_of direction = record { name = name_of direction.name; parts = exprs_of direction.parts.now }
+direction_of direction = record {
+  name = name_of direction.name;
+  parts =
+      exprs_of direction.parts.now;
+}
 
 abbrev pub var_of : VarDef → plain.VarDef
 var_of var = record {
@@ -231,4 +267,9 @@ decl_of (Defined procedure) = plain.Defined (procedure_of procedure.now)
 -- the whole program
 abbrev pub syntax_of : Program → plain.Program
 syntax_of program =
-    record { name = name_of program.name; decls = map decl_of program.decls.now; source = program.source.now }
+    record {
+      name = name_of program.name;
+      decls = map decl_of program.decls.now;
+      source =
+          program.source.now;
+    }

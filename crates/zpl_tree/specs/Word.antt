@@ -1,5 +1,5 @@
 -- The words of a program: its tokens, with the bytes of names and strings.
-use Rattle.std.specs.Prelude.{ℕ, ℤ, List, [], ◌++◌, codes}
+use Rattle.std.specs.Prelude.{◌≡◌, ℕ, ℤ, List, [], ◌++◌, codes}
 use Rattle.std.specs.Fmt.{signed_decimal}
 use Rattle.std.specs.List.{flat_map}
 use Rattle.zpl_tokens.specs.declared.Kind.{Kind}
@@ -40,7 +40,8 @@ word_text (Symbol symbol) = symbol_text symbol
 word_text (Keyword key) = keyword_text key
 word_text End = []
 
--- what the printer puts behind it: a newline behind a `;`, a space behind any other word, and nothing at the end
+-- what the printer puts behind it: a newline behind a `;`, a space behind any other word, and
+-- nothing at the end
 abbrev pub space_behind : Word → List ℕ
 space_behind (Symbol Semicolon) = codes "\n"
 space_behind End = []
@@ -53,3 +54,7 @@ written word = word_text word ++ space_behind word
 -- words in a row, as they are printed
 abbrev pub printed_text : List Word → List ℕ
 printed_text words = flat_map written words
+
+-- a text gains these words at its end, as they are printed
+abbrev pub Gains : List ℕ → List ℕ → List Word → Type 0
+Gains old new words = new ≡ old ++ printed_text words

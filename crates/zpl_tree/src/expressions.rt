@@ -27,6 +27,10 @@ pub enum ExprForm<'a> {
     Named(Name<'a>),
     /// An array, shifted: `A@d`.
     Shifted(Name<'a>, Dir<'a>),
+    /// An array, read as if its first index followed its last one: `A@^d`.
+    Around(Name<'a>, Dir<'a>),
+    /// An array, read at a tuple of computed indices, of which there is at least one: `A#[I, J]`.
+    Remap(Name<'a>, &'a [Expr<'a>]),
     /// A call with its actuals.
     Call(Name<'a>, &'a [Expr<'a>]),
     /// An expression in round brackets.

@@ -12,7 +12,7 @@ mod statements;
 
 pub use declarations::{Base, Decl, Define, DirDef, Param, Procedure, Program, RegionDef, VarDef};
 pub use expressions::{Expr, ExprForm};
-pub use laws::printed_words_are_a_spelling;
+pub use laws::{nodes_are_seen_with_their_lists, printed_words_are_a_spelling};
 pub use names::Name;
 pub use placing::{place_expr, place_list, place_procedure, place_program};
 pub use printing::print_tree;

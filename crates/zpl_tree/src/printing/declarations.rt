@@ -4,7 +4,7 @@ ghost use Rattle.std.specs.List.{flat_map};
 ghost use Rattle.std.specs.Option.{option_map};
 ghost use Rattle.zpl_tree.specs.Spelling.{decl_words, define_words, direction_words, heading_words, in_round, locals_words, param_words, params_words, procedure_words, region_words, result_words, type_words, var_words};
 ghost use Rattle.zpl_tree.specs.View.{base_type_of, decl_of, define_of, direction_of, param_of, procedure_of, region_of, var_of};
-ghost use Rattle.zpl_tree.specs.Word.{printed_text};
+ghost use Rattle.zpl_tree.specs.Word.{Gains};
 
 use super::expressions::{print_bracket, print_expr, print_exprs, print_in_square, print_posts};
 use super::statements::{print_names, print_stmt};
@@ -14,7 +14,7 @@ use std::alloc::AllocError;
 use zpl_tokens::{Key, Sym};
 
 pub fn print_decl(text: &mut Vec<u8>, decl: &Decl<'_>) -> Result<(), AllocError>
-    ensures { OnOk result (text.new.items ≡ text.old.items ++ printed_text (decl_words (decl_of decl.now))) }
+    ensures { OnOk result (Gains text.old.items text.new.items (decl_words (decl_of decl.now))) }
 {
     match decl {
         Decl::Config(defines) => {
@@ -43,7 +43,8 @@ pub fn print_decl(text: &mut Vec<u8>, decl: &Decl<'_>) -> Result<(), AllocError>
 }
 
 fn print_defines(text: &mut Vec<u8>, defines: &[Define<'_>]) -> Result<(), AllocError>
-    ensures { OnOk result (text.new.items ≡ text.old.items ++ printed_text (flat_map define_words (map define_of defines.now))) }
+    ensures { OnOk result (Gains text.old.items text.new.items
+        (flat_map define_words (map define_of defines.now))) }
 {
     for define in defines {
         print_define(text, define)?;
@@ -52,7 +53,8 @@ fn print_defines(text: &mut Vec<u8>, defines: &[Define<'_>]) -> Result<(), Alloc
 }
 
 fn print_define(text: &mut Vec<u8>, define: &Define<'_>) -> Result<(), AllocError>
-    ensures { OnOk result (text.new.items ≡ text.old.items ++ printed_text (define_words (define_of define.now))) }
+    ensures { OnOk result (Gains text.old.items text.new.items
+        (define_words (define_of define.now))) }
 {
     put_name(text, &define.name)?;
     put_symbol(text, Sym::Colon)?;
@@ -63,7 +65,8 @@ fn print_define(text: &mut Vec<u8>, define: &Define<'_>) -> Result<(), AllocErro
 }
 
 fn print_regions(text: &mut Vec<u8>, regions: &[RegionDef<'_>]) -> Result<(), AllocError>
-    ensures { OnOk result (text.new.items ≡ text.old.items ++ printed_text (flat_map region_words (map region_of regions.now))) }
+    ensures { OnOk result (Gains text.old.items text.new.items
+        (flat_map region_words (map region_of regions.now))) }
 {
     for region in regions {
         print_region(text, region)?;
@@ -72,7 +75,8 @@ fn print_regions(text: &mut Vec<u8>, regions: &[RegionDef<'_>]) -> Result<(), Al
 }
 
 fn print_region(text: &mut Vec<u8>, region: &RegionDef<'_>) -> Result<(), AllocError>
-    ensures { OnOk result (text.new.items ≡ text.old.items ++ printed_text (region_words (region_of region.now))) }
+    ensures { OnOk result (Gains text.old.items text.new.items
+        (region_words (region_of region.now))) }
 {
     put_name(text, &region.name)?;
     put_symbol(text, Sym::Equal)?;
@@ -82,7 +86,8 @@ fn print_region(text: &mut Vec<u8>, region: &RegionDef<'_>) -> Result<(), AllocE
 }
 
 fn print_directions(text: &mut Vec<u8>, directions: &[DirDef<'_>]) -> Result<(), AllocError>
-    ensures { OnOk result (text.new.items ≡ text.old.items ++ printed_text (flat_map direction_words (map direction_of directions.now))) }
+    ensures { OnOk result (Gains text.old.items text.new.items
+        (flat_map direction_words (map direction_of directions.now))) }
 {
     for direction in directions {
         print_direction(text, direction)?;
@@ -91,7 +96,8 @@ fn print_directions(text: &mut Vec<u8>, directions: &[DirDef<'_>]) -> Result<(),
 }
 
 fn print_direction(text: &mut Vec<u8>, direction: &DirDef<'_>) -> Result<(), AllocError>
-    ensures { OnOk result (text.new.items ≡ text.old.items ++ printed_text (direction_words (direction_of direction.now))) }
+    ensures { OnOk result (Gains text.old.items text.new.items
+        (direction_words (direction_of direction.now))) }
 {
     put_name(text, &direction.name)?;
     put_symbol(text, Sym::Equal)?;
@@ -102,7 +108,8 @@ fn print_direction(text: &mut Vec<u8>, direction: &DirDef<'_>) -> Result<(), All
 }
 
 fn print_vars(text: &mut Vec<u8>, vars: &[VarDef<'_>]) -> Result<(), AllocError>
-    ensures { OnOk result (text.new.items ≡ text.old.items ++ printed_text (flat_map var_words (map var_of vars.now))) }
+    ensures { OnOk result (Gains text.old.items text.new.items
+        (flat_map var_words (map var_of vars.now))) }
 {
     for var in vars {
         print_var(text, var)?;
@@ -111,7 +118,7 @@ fn print_vars(text: &mut Vec<u8>, vars: &[VarDef<'_>]) -> Result<(), AllocError>
 }
 
 fn print_var(text: &mut Vec<u8>, var: &VarDef<'_>) -> Result<(), AllocError>
-    ensures { OnOk result (text.new.items ≡ text.old.items ++ printed_text (var_words (var_of var.now))) }
+    ensures { OnOk result (Gains text.old.items text.new.items (var_words (var_of var.now))) }
 {
     print_names(text, var.names)?;
     put_symbol(text, Sym::Colon)?;
@@ -121,7 +128,8 @@ fn print_var(text: &mut Vec<u8>, var: &VarDef<'_>) -> Result<(), AllocError>
 }
 
 fn print_type(text: &mut Vec<u8>, base: &Base<'_>) -> Result<(), AllocError>
-    ensures { OnOk result (text.new.items ≡ text.old.items ++ printed_text (type_words (base_type_of base.now))) }
+    ensures { OnOk result (Gains text.old.items text.new.items
+        (type_words (base_type_of base.now))) }
 {
     match base {
         Base::Integer => put_keyword(text, Key::Integer),
@@ -131,7 +139,8 @@ fn print_type(text: &mut Vec<u8>, base: &Base<'_>) -> Result<(), AllocError>
 }
 
 fn print_procedure(text: &mut Vec<u8>, procedure: &Procedure<'_>) -> Result<(), AllocError>
-    ensures { OnOk result (text.new.items ≡ text.old.items ++ printed_text (procedure_words (procedure_of procedure.now))) }
+    ensures { OnOk result (Gains text.old.items text.new.items
+        (procedure_words (procedure_of procedure.now))) }
 {
     print_heading(text, procedure)?;
     print_locals(text, procedure.locals)?;
@@ -139,7 +148,8 @@ fn print_procedure(text: &mut Vec<u8>, procedure: &Procedure<'_>) -> Result<(), 
 }
 
 fn print_heading(text: &mut Vec<u8>, procedure: &Procedure<'_>) -> Result<(), AllocError>
-    ensures { OnOk result (text.new.items ≡ text.old.items ++ printed_text (heading_words (procedure_of procedure.now))) }
+    ensures { OnOk result (Gains text.old.items text.new.items
+        (heading_words (procedure_of procedure.now))) }
 {
     put_keyword(text, Key::Procedure)?;
     put_name(text, &procedure.name)?;
@@ -150,7 +160,8 @@ fn print_heading(text: &mut Vec<u8>, procedure: &Procedure<'_>) -> Result<(), Al
 
 // The parameters in their brackets.
 fn print_formals(text: &mut Vec<u8>, params: &[Param<'_>]) -> Result<(), AllocError>
-    ensures { OnOk result (text.new.items ≡ text.old.items ++ printed_text (in_round (params_words (map param_of params.now)))) }
+    ensures { OnOk result (Gains text.old.items text.new.items
+        (in_round (params_words (map param_of params.now)))) }
 {
     put_symbol(text, Sym::OpenParen)?;
     print_params(text, params)?;
@@ -158,7 +169,8 @@ fn print_formals(text: &mut Vec<u8>, params: &[Param<'_>]) -> Result<(), AllocEr
 }
 
 fn print_params(text: &mut Vec<u8>, params: &[Param<'_>]) -> Result<(), AllocError>
-    ensures { OnOk result (text.new.items ≡ text.old.items ++ printed_text (params_words (map param_of params.now))) }
+    ensures { OnOk result (Gains text.old.items text.new.items
+        (params_words (map param_of params.now))) }
 {
     let Some((first, rest)) = params.split_first() else {
         return Ok(());
@@ -172,7 +184,7 @@ fn print_params(text: &mut Vec<u8>, params: &[Param<'_>]) -> Result<(), AllocErr
 }
 
 fn print_param(text: &mut Vec<u8>, param: &Param<'_>) -> Result<(), AllocError>
-    ensures { OnOk result (text.new.items ≡ text.old.items ++ printed_text (param_words (param_of param.now))) }
+    ensures { OnOk result (Gains text.old.items text.new.items (param_words (param_of param.now))) }
 {
     if param.by_ref {
         put_keyword(text, Key::Var)?;
@@ -184,7 +196,8 @@ fn print_param(text: &mut Vec<u8>, param: &Param<'_>) -> Result<(), AllocError>
 }
 
 fn print_result(text: &mut Vec<u8>, base: &Option<Base<'_>>) -> Result<(), AllocError>
-    ensures { OnOk result (text.new.items ≡ text.old.items ++ printed_text (result_words (option_map base_type_of base.now))) }
+    ensures { OnOk result (Gains text.old.items text.new.items
+        (result_words (option_map base_type_of base.now))) }
 {
     let Some(base) = base else {
         return Ok(());
@@ -194,7 +207,8 @@ fn print_result(text: &mut Vec<u8>, base: &Option<Base<'_>>) -> Result<(), Alloc
 }
 
 fn print_locals(text: &mut Vec<u8>, locals: &[VarDef<'_>]) -> Result<(), AllocError>
-    ensures { OnOk result (text.new.items ≡ text.old.items ++ printed_text (locals_words (map var_of locals.now))) }
+    ensures { OnOk result (Gains text.old.items text.new.items
+        (locals_words (map var_of locals.now))) }
 {
     if locals.is_empty() {
         return Ok(());

@@ -4,7 +4,7 @@ ghost use Rattle.std.specs.List.{flat_map};
 ghost use Rattle.zpl_tokens.specs.declared.symbols.Sym.TheVariants as sym;
 ghost use Rattle.zpl_tree.specs.Spelling.{along_words, base_words, bracket_words, dim_words, dims_words, dir_words, expr_words, exprs_words, fold_words, in_round, in_square, inner_words, name_words, pair_words, posts_words, pre_words, symbol};
 ghost use Rattle.zpl_tree.specs.View.{base_of, bracket_of, dim_of, dims_of, dir_of, expr_of, exprs_of, inner_of, name_of, posts_of, pre_of};
-ghost use Rattle.zpl_tree.specs.Word.{printed_text};
+ghost use Rattle.zpl_tree.specs.Word.{Gains};
 
 use super::words::{
     put_ditto, put_fold, put_index, put_keyword, put_name, put_number, put_operator, put_symbol,
@@ -18,7 +18,7 @@ use zpl_tokens::{Key, Sym};
 
 #[cycle(print_expression)]
 pub fn print_expr(text: &mut Vec<u8>, expr: &Expr<'_>) -> Result<(), AllocError>
-    ensures { OnOk result (text.new.items ≡ text.old.items ++ printed_text (expr_words (expr_of expr.now))) }
+    ensures { OnOk result (Gains text.old.items text.new.items (expr_words (expr_of expr.now))) }
 {
     match &expr.form {
         ExprForm::Number(value) => put_number(text, *value),
@@ -31,6 +31,13 @@ pub fn print_expr(text: &mut Vec<u8>, expr: &Expr<'_>) -> Result<(), AllocError>
             put_symbol(text, Sym::At)?;
             print_dir(text, shift)
         }
+        ExprForm::Around(name, shift) => {
+            put_name(text, name)?;
+            put_symbol(text, Sym::At)?;
+            put_symbol(text, Sym::Caret)?;
+            print_dir(text, shift)
+        }
+        ExprForm::Remap(name, indices) => print_remap(text, name, indices),
         ExprForm::Call(name, actuals) => print_call(text, name, actuals),
         ExprForm::Paren(inside) => print_in_round(text, inside),
         ExprForm::Neg(operand) => {
@@ -63,7 +70,8 @@ pub fn print_call(
     name: &Name<'_>,
     actuals: &[Expr<'_>],
 ) -> Result<(), AllocError>
-    ensures { OnOk result (text.new.items ≡ text.old.items ++ printed_text (name_words (name_of name.now) ++ in_round (exprs_words (exprs_of actuals.now)))) }
+    ensures { OnOk result (Gains text.old.items text.new.items
+        (name_words (name_of name.now) ++ in_round (exprs_words (exprs_of actuals.now)))) }
 {
     put_name(text, name)?;
     put_symbol(text, Sym::OpenParen)?;
@@ -71,10 +79,25 @@ pub fn print_call(
     put_symbol(text, Sym::CloseParen)
 }
 
+// An array at computed indices: the name, and the indices in square brackets.
+#[cycle(print_expression)]
+fn print_remap(text: &mut Vec<u8>, name: &Name<'_>, indices: &[Expr<'_>]) -> Result<(), AllocError>
+    ensures { OnOk result (Gains text.old.items text.new.items
+        (name_words (name_of name.now) ++ symbol sym.Hash
+        ++ in_square (exprs_words (exprs_of indices.now)))) }
+{
+    put_name(text, name)?;
+    put_symbol(text, Sym::Hash)?;
+    put_symbol(text, Sym::OpenBracket)?;
+    print_exprs(text, indices)?;
+    put_symbol(text, Sym::CloseBracket)
+}
+
 // An expression in round brackets.
 #[cycle(print_expression)]
 fn print_in_round(text: &mut Vec<u8>, inside: &Expr<'_>) -> Result<(), AllocError>
-    ensures { OnOk result (text.new.items ≡ text.old.items ++ printed_text (in_round (expr_words (expr_of inside.now)))) }
+    ensures { OnOk result (Gains text.old.items text.new.items
+        (in_round (expr_words (expr_of inside.now)))) }
 {
     put_symbol(text, Sym::OpenParen)?;
     print_expr(text, inside)?;
@@ -89,7 +112,8 @@ fn print_pair(
     left: &Expr<'_>,
     right: &Expr<'_>,
 ) -> Result<(), AllocError>
-    ensures { OnOk result (text.new.items ≡ text.old.items ++ printed_text (pair_words op (expr_words (expr_of left.now)) (expr_words (expr_of right.now)))) }
+    ensures { OnOk result (Gains text.old.items text.new.items
+        (pair_words op (expr_words (expr_of left.now)) (expr_words (expr_of right.now)))) }
 {
     match op {
         Op::Max | Op::Min => {
@@ -116,7 +140,9 @@ fn print_reduce(
     over: &Option<Inner<'_>>,
     operand: &Expr<'_>,
 ) -> Result<(), AllocError>
-    ensures { OnOk result (text.new.items ≡ text.old.items ++ printed_text (fold_words fold ++ symbol sym.Reduce ++ bracket_words (bracket_of over.now) ++ expr_words (expr_of operand.now))) }
+    ensures { OnOk result (Gains text.old.items text.new.items
+        (fold_words fold ++ symbol sym.Reduce ++ bracket_words (bracket_of over.now)
+        ++ expr_words (expr_of operand.now))) }
 {
     put_fold(text, fold)?;
     put_symbol(text, Sym::Reduce)?;
@@ -132,7 +158,9 @@ fn print_scan(
     along: Option<i64>,
     operand: &Expr<'_>,
 ) -> Result<(), AllocError>
-    ensures { OnOk result (text.new.items ≡ text.old.items ++ printed_text (fold_words fold ++ symbol sym.Scan ++ along_words along ++ expr_words (expr_of operand.now))) }
+    ensures { OnOk result (Gains text.old.items text.new.items
+        (fold_words fold ++ symbol sym.Scan ++ along_words along
+        ++ expr_words (expr_of operand.now))) }
 {
     put_fold(text, fold)?;
     put_symbol(text, Sym::Scan)?;
@@ -143,7 +171,7 @@ fn print_scan(
 /// Appends expressions with commas between them.
 #[cycle(print_expression)]
 pub fn print_exprs(text: &mut Vec<u8>, exprs: &[Expr<'_>]) -> Result<(), AllocError>
-    ensures { OnOk result (text.new.items ≡ text.old.items ++ printed_text (exprs_words (exprs_of exprs.now))) }
+    ensures { OnOk result (Gains text.old.items text.new.items (exprs_words (exprs_of exprs.now))) }
 {
     let Some((first, rest)) = exprs.split_first() else {
         return Ok(());
@@ -158,7 +186,7 @@ pub fn print_exprs(text: &mut Vec<u8>, exprs: &[Expr<'_>]) -> Result<(), AllocEr
 
 #[cycle(print_expression)]
 fn print_dir(text: &mut Vec<u8>, dir: &Dir<'_>) -> Result<(), AllocError>
-    ensures { OnOk result (text.new.items ≡ text.old.items ++ printed_text (dir_words (dir_of dir.now))) }
+    ensures { OnOk result (Gains text.old.items text.new.items (dir_words (dir_of dir.now))) }
 {
     match dir {
         Dir::Named(name) => put_name(text, name),
@@ -173,7 +201,8 @@ fn print_dir(text: &mut Vec<u8>, dir: &Dir<'_>) -> Result<(), AllocError>
 /// Appends a region in its brackets, if there is one.
 #[cycle(print_expression)]
 pub fn print_bracket(text: &mut Vec<u8>, bracket: &Option<Inner<'_>>) -> Result<(), AllocError>
-    ensures { OnOk result (text.new.items ≡ text.old.items ++ printed_text (bracket_words (bracket_of bracket.now))) }
+    ensures { OnOk result (Gains text.old.items text.new.items
+        (bracket_words (bracket_of bracket.now))) }
 {
     match bracket {
         None => Ok(()),
@@ -184,7 +213,8 @@ pub fn print_bracket(text: &mut Vec<u8>, bracket: &Option<Inner<'_>>) -> Result<
 /// Appends a region in its brackets.
 #[cycle(print_expression)]
 pub fn print_in_square(text: &mut Vec<u8>, inner: &Inner<'_>) -> Result<(), AllocError>
-    ensures { OnOk result (text.new.items ≡ text.old.items ++ printed_text (in_square (inner_words (inner_of inner.now)))) }
+    ensures { OnOk result (Gains text.old.items text.new.items
+        (in_square (inner_words (inner_of inner.now)))) }
 {
     put_symbol(text, Sym::OpenBracket)?;
     print_inner(text, inner)?;
@@ -193,7 +223,7 @@ pub fn print_in_square(text: &mut Vec<u8>, inner: &Inner<'_>) -> Result<(), Allo
 
 #[cycle(print_expression)]
 pub fn print_inner(text: &mut Vec<u8>, inner: &Inner<'_>) -> Result<(), AllocError>
-    ensures { OnOk result (text.new.items ≡ text.old.items ++ printed_text (inner_words (inner_of inner.now))) }
+    ensures { OnOk result (Gains text.old.items text.new.items (inner_words (inner_of inner.now))) }
 {
     match inner {
         Inner::Rexpr(rexpr) => {
@@ -207,7 +237,7 @@ pub fn print_inner(text: &mut Vec<u8>, inner: &Inner<'_>) -> Result<(), AllocErr
 
 #[cycle(print_expression)]
 pub fn print_posts(text: &mut Vec<u8>, posts: &[Post<'_>]) -> Result<(), AllocError>
-    ensures { OnOk result (text.new.items ≡ text.old.items ++ printed_text (posts_words (posts_of posts.now))) }
+    ensures { OnOk result (Gains text.old.items text.new.items (posts_words (posts_of posts.now))) }
 {
     for post in posts {
         put_keyword(text, if post.stride { Key::By } else { Key::At })?;
@@ -218,7 +248,7 @@ pub fn print_posts(text: &mut Vec<u8>, posts: &[Post<'_>]) -> Result<(), AllocEr
 
 #[cycle(print_expression)]
 fn print_dims(text: &mut Vec<u8>, dims: &[DimText<'_>]) -> Result<(), AllocError>
-    ensures { OnOk result (text.new.items ≡ text.old.items ++ printed_text (dims_words (dims_of dims.now))) }
+    ensures { OnOk result (Gains text.old.items text.new.items (dims_words (dims_of dims.now))) }
 {
     let Some((first, rest)) = dims.split_first() else {
         return Ok(());
@@ -233,7 +263,7 @@ fn print_dims(text: &mut Vec<u8>, dims: &[DimText<'_>]) -> Result<(), AllocError
 
 #[cycle(print_expression)]
 fn print_dim(text: &mut Vec<u8>, dim: &DimText<'_>) -> Result<(), AllocError>
-    ensures { OnOk result (text.new.items ≡ text.old.items ++ printed_text (dim_words (dim_of dim.now))) }
+    ensures { OnOk result (Gains text.old.items text.new.items (dim_words (dim_of dim.now))) }
 {
     match dim {
         DimText::Blank(_) => Ok(()),
@@ -249,7 +279,8 @@ fn print_dim(text: &mut Vec<u8>, dim: &DimText<'_>) -> Result<(), AllocError>
 
 // What stands before a region: directions with their `of` and `in`.
 fn print_pres(text: &mut Vec<u8>, pres: &[Pre<'_>]) -> Result<(), AllocError>
-    ensures { OnOk result (text.new.items ≡ text.old.items ++ printed_text (flat_map pre_words (map pre_of pres.now))) }
+    ensures { OnOk result (Gains text.old.items text.new.items
+        (flat_map pre_words (map pre_of pres.now))) }
 {
     for pre in pres {
         put_name(text, &pre.dir)?;
@@ -260,7 +291,7 @@ fn print_pres(text: &mut Vec<u8>, pres: &[Pre<'_>]) -> Result<(), AllocError>
 
 // The region that a region expression begins with.
 fn print_base(text: &mut Vec<u8>, base: &RegionBase<'_>) -> Result<(), AllocError>
-    ensures { OnOk result (text.new.items ≡ text.old.items ++ printed_text (base_words (base_of base.now))) }
+    ensures { OnOk result (Gains text.old.items text.new.items (base_words (base_of base.now))) }
 {
     match base {
         RegionBase::Named(name) => put_name(text, name),
@@ -270,7 +301,7 @@ fn print_base(text: &mut Vec<u8>, base: &RegionBase<'_>) -> Result<(), AllocErro
 
 // The dimension that a scan runs along, if it is written.
 fn print_along(text: &mut Vec<u8>, along: Option<i64>) -> Result<(), AllocError>
-    ensures { OnOk result (text.new.items ≡ text.old.items ++ printed_text (along_words along)) }
+    ensures { OnOk result (Gains text.old.items text.new.items (along_words along)) }
 {
     let Some(dimension) = along else {
         return Ok(());

@@ -7,7 +7,7 @@ ghost use Rattle.zpl_tokens.specs.declared.symbols.Sym.TheVariants as sym;
 ghost use Rattle.zpl_tree.specs.Spelling.{arm_words, arms_words, assign_words, border_words, end_words, expr_words, form_words, head_words, item_words, items_words, keyword, mask_words, names_words, prefix_words, step_words, stmt_words, stmts_words, symbol};
 ghost use Rattle.zpl_tree.specs.Syntax as plain;
 ghost use Rattle.zpl_tree.specs.View.{arm_of, arms_of, expr_of, exprs_of, head_of, item_of, mask_of, name_of, prefix_of, statement_of, stmt_of, stmts_of};
-ghost use Rattle.zpl_tree.specs.Word.{printed_text};
+ghost use Rattle.zpl_tree.specs.Word.{Gains};
 
 use super::expressions::{print_call, print_expr, print_inner};
 use super::words::{put_keyword, put_name, put_string, put_symbol};
@@ -20,7 +20,7 @@ use zpl_tokens::{Key, Sym};
 
 #[cycle(print_statement)]
 pub fn print_stmt(text: &mut Vec<u8>, stmt: &Stmt<'_>) -> Result<(), AllocError>
-    ensures { OnOk result (text.new.items ≡ text.old.items ++ printed_text (stmt_words (stmt_of stmt.now))) }
+    ensures { OnOk result (Gains text.old.items text.new.items (stmt_words (stmt_of stmt.now))) }
 {
     print_prefixes(text, stmt.prefixes)?;
     print_form(text, &stmt.form)
@@ -28,7 +28,7 @@ pub fn print_stmt(text: &mut Vec<u8>, stmt: &Stmt<'_>) -> Result<(), AllocError>
 
 #[cycle(print_statement)]
 fn print_stmts(text: &mut Vec<u8>, stmts: &[Stmt<'_>]) -> Result<(), AllocError>
-    ensures { OnOk result (text.new.items ≡ text.old.items ++ printed_text (stmts_words (stmts_of stmts.now))) }
+    ensures { OnOk result (Gains text.old.items text.new.items (stmts_words (stmts_of stmts.now))) }
 {
     for stmt in stmts {
         print_stmt(text, stmt)?;
@@ -38,7 +38,8 @@ fn print_stmts(text: &mut Vec<u8>, stmts: &[Stmt<'_>]) -> Result<(), AllocError>
 
 #[cycle(print_statement)]
 fn print_form(text: &mut Vec<u8>, form: &Form<'_>) -> Result<(), AllocError>
-    ensures { OnOk result (text.new.items ≡ text.old.items ++ printed_text (form_words (statement_of form.now))) }
+    ensures { OnOk result (Gains text.old.items text.new.items
+        (form_words (statement_of form.now))) }
 {
     match form {
         Form::Assign(name, op, value) => print_assign(text, name, *op, value),
@@ -79,7 +80,8 @@ fn print_form(text: &mut Vec<u8>, form: &Form<'_>) -> Result<(), AllocError>
 // The body of a `while` or a `for`.
 #[cycle(print_statement)]
 fn print_do(text: &mut Vec<u8>, body: &[Stmt<'_>]) -> Result<(), AllocError>
-    ensures { OnOk result (text.new.items ≡ text.old.items ++ printed_text (keyword key.Do ++ stmts_words (stmts_of body.now) ++ end_words)) }
+    ensures { OnOk result (Gains text.old.items text.new.items
+        (keyword key.Do ++ stmts_words (stmts_of body.now) ++ end_words)) }
 {
     put_keyword(text, Key::Do)?;
     print_stmts(text, body)?;
@@ -89,7 +91,8 @@ fn print_do(text: &mut Vec<u8>, body: &[Stmt<'_>]) -> Result<(), AllocError>
 // The last statements of an `if`, behind `else`.
 #[cycle(print_statement)]
 fn print_else(text: &mut Vec<u8>, body: &[Stmt<'_>]) -> Result<(), AllocError>
-    ensures { OnOk result (text.new.items ≡ text.old.items ++ printed_text (keyword key.Else ++ stmts_words (stmts_of body.now) ++ end_words)) }
+    ensures { OnOk result (Gains text.old.items text.new.items
+        (keyword key.Else ++ stmts_words (stmts_of body.now) ++ end_words)) }
 {
     put_keyword(text, Key::Else)?;
     print_stmts(text, body)?;
@@ -99,7 +102,7 @@ fn print_else(text: &mut Vec<u8>, body: &[Stmt<'_>]) -> Result<(), AllocError>
 // The arms of an `if`, the first behind `if` and the others behind `elsif`.
 #[cycle(print_statement)]
 fn print_arms(text: &mut Vec<u8>, arms: &[Arm<'_>]) -> Result<(), AllocError>
-    ensures { OnOk result (text.new.items ≡ text.old.items ++ printed_text (arms_words (arms_of arms.now))) }
+    ensures { OnOk result (Gains text.old.items text.new.items (arms_words (arms_of arms.now))) }
 {
     let Some((first, rest)) = arms.split_first() else {
         return Ok(());
@@ -115,7 +118,7 @@ fn print_arms(text: &mut Vec<u8>, arms: &[Arm<'_>]) -> Result<(), AllocError>
 
 #[cycle(print_statement)]
 fn print_arm(text: &mut Vec<u8>, arm: &Arm<'_>) -> Result<(), AllocError>
-    ensures { OnOk result (text.new.items ≡ text.old.items ++ printed_text (arm_words (arm_of arm.now))) }
+    ensures { OnOk result (Gains text.old.items text.new.items (arm_words (arm_of arm.now))) }
 {
     print_expr(text, arm.test)?;
     put_keyword(text, Key::Then)?;
@@ -128,7 +131,8 @@ fn print_assign(
     op: Option<Op>,
     value: &Expr<'_>,
 ) -> Result<(), AllocError>
-    ensures { OnOk result (text.new.items ≡ text.old.items ++ printed_text (form_words (plain.Assign (name_of name.now) op (expr_of value.now)))) }
+    ensures { OnOk result (Gains text.old.items text.new.items
+        (form_words (plain.Assign (name_of name.now) op (expr_of value.now)))) }
 {
     put_name(text, name)?;
     put_assign(text, op)?;
@@ -141,14 +145,16 @@ fn print_invocation(
     name: &Name<'_>,
     actuals: &[Expr<'_>],
 ) -> Result<(), AllocError>
-    ensures { OnOk result (text.new.items ≡ text.old.items ++ printed_text (form_words (plain.Invoke (name_of name.now) (exprs_of actuals.now)))) }
+    ensures { OnOk result (Gains text.old.items text.new.items
+        (form_words (plain.Invoke (name_of name.now) (exprs_of actuals.now)))) }
 {
     print_call(text, name, actuals)?;
     put_symbol(text, Sym::Semicolon)
 }
 
 fn print_border(text: &mut Vec<u8>, kind: Border, names: &[Name<'_>]) -> Result<(), AllocError>
-    ensures { OnOk result (text.new.items ≡ text.old.items ++ printed_text (form_words (plain.Border kind (map name_of names.now)))) }
+    ensures { OnOk result (Gains text.old.items text.new.items
+        (form_words (plain.Border kind (map name_of names.now)))) }
 {
     put_border(text, kind)?;
     print_names(text, names)?;
@@ -156,7 +162,8 @@ fn print_border(text: &mut Vec<u8>, kind: Border, names: &[Name<'_>]) -> Result<
 }
 
 fn print_write(text: &mut Vec<u8>, line: bool, items: &[Item<'_>]) -> Result<(), AllocError>
-    ensures { OnOk result (text.new.items ≡ text.old.items ++ printed_text (form_words (plain.Write line (map item_of items.now)))) }
+    ensures { OnOk result (Gains text.old.items text.new.items
+        (form_words (plain.Write line (map item_of items.now)))) }
 {
     put_keyword(text, if line { Key::Writeln } else { Key::Write })?;
     put_symbol(text, Sym::OpenParen)?;
@@ -166,7 +173,8 @@ fn print_write(text: &mut Vec<u8>, line: bool, items: &[Item<'_>]) -> Result<(),
 }
 
 fn print_return(text: &mut Vec<u8>, value: &Expr<'_>) -> Result<(), AllocError>
-    ensures { OnOk result (text.new.items ≡ text.old.items ++ printed_text (form_words (plain.Return (expr_of value.now)))) }
+    ensures { OnOk result (Gains text.old.items text.new.items
+        (form_words (plain.Return (expr_of value.now)))) }
 {
     put_keyword(text, Key::Return)?;
     print_expr(text, value)?;
@@ -175,7 +183,8 @@ fn print_return(text: &mut Vec<u8>, value: &Expr<'_>) -> Result<(), AllocError>
 
 // The condition of a `repeat`, behind its statements.
 fn print_until(text: &mut Vec<u8>, test: &Expr<'_>) -> Result<(), AllocError>
-    ensures { OnOk result (text.new.items ≡ text.old.items ++ printed_text (keyword key.Until ++ expr_words (expr_of test.now) ++ symbol sym.Semicolon)) }
+    ensures { OnOk result (Gains text.old.items text.new.items
+        (keyword key.Until ++ expr_words (expr_of test.now) ++ symbol sym.Semicolon)) }
 {
     put_keyword(text, Key::Until)?;
     print_expr(text, test)?;
@@ -183,7 +192,8 @@ fn print_until(text: &mut Vec<u8>, test: &Expr<'_>) -> Result<(), AllocError>
 }
 
 fn print_prefixes(text: &mut Vec<u8>, prefixes: &[Prefix<'_>]) -> Result<(), AllocError>
-    ensures { OnOk result (text.new.items ≡ text.old.items ++ printed_text (flat_map prefix_words (map prefix_of prefixes.now))) }
+    ensures { OnOk result (Gains text.old.items text.new.items
+        (flat_map prefix_words (map prefix_of prefixes.now))) }
 {
     for prefix in prefixes {
         put_symbol(text, Sym::OpenBracket)?;
@@ -195,7 +205,8 @@ fn print_prefixes(text: &mut Vec<u8>, prefixes: &[Prefix<'_>]) -> Result<(), All
 }
 
 fn print_mask(text: &mut Vec<u8>, mask: &Option<Mask<'_>>) -> Result<(), AllocError>
-    ensures { OnOk result (text.new.items ≡ text.old.items ++ printed_text (mask_words (option_map mask_of mask.now))) }
+    ensures { OnOk result (Gains text.old.items text.new.items
+        (mask_words (option_map mask_of mask.now))) }
 {
     let Some(mask) = mask else {
         return Ok(());
@@ -212,7 +223,7 @@ fn print_mask(text: &mut Vec<u8>, mask: &Option<Mask<'_>>) -> Result<(), AllocEr
 }
 
 fn print_head(text: &mut Vec<u8>, head: &ForHead<'_>) -> Result<(), AllocError>
-    ensures { OnOk result (text.new.items ≡ text.old.items ++ printed_text (head_words (head_of head.now))) }
+    ensures { OnOk result (Gains text.old.items text.new.items (head_words (head_of head.now))) }
 {
     put_name(text, &head.name)?;
     put_symbol(text, Sym::Assign)?;
@@ -223,7 +234,8 @@ fn print_head(text: &mut Vec<u8>, head: &ForHead<'_>) -> Result<(), AllocError>
 }
 
 fn print_step(text: &mut Vec<u8>, step: Option<&Expr<'_>>) -> Result<(), AllocError>
-    ensures { OnOk result (text.new.items ≡ text.old.items ++ printed_text (step_words (option_map (λ step. expr_of step.now) step.entry))) }
+    ensures { OnOk result (Gains text.old.items text.new.items
+        (step_words (option_map (λ step. expr_of step.now) step.entry))) }
 {
     let Some(step) = step else {
         return Ok(());
@@ -234,7 +246,8 @@ fn print_step(text: &mut Vec<u8>, step: Option<&Expr<'_>>) -> Result<(), AllocEr
 
 /// Appends names with commas between them.
 pub fn print_names(text: &mut Vec<u8>, names: &[Name<'_>]) -> Result<(), AllocError>
-    ensures { OnOk result (text.new.items ≡ text.old.items ++ printed_text (names_words (map name_of names.now))) }
+    ensures { OnOk result (Gains text.old.items text.new.items
+        (names_words (map name_of names.now))) }
 {
     let Some((first, rest)) = names.split_first() else {
         return Ok(());
@@ -248,7 +261,8 @@ pub fn print_names(text: &mut Vec<u8>, names: &[Name<'_>]) -> Result<(), AllocEr
 }
 
 fn print_items(text: &mut Vec<u8>, items: &[Item<'_>]) -> Result<(), AllocError>
-    ensures { OnOk result (text.new.items ≡ text.old.items ++ printed_text (items_words (map item_of items.now))) }
+    ensures { OnOk result (Gains text.old.items text.new.items
+        (items_words (map item_of items.now))) }
 {
     let Some((first, rest)) = items.split_first() else {
         return Ok(());
@@ -262,7 +276,7 @@ fn print_items(text: &mut Vec<u8>, items: &[Item<'_>]) -> Result<(), AllocError>
 }
 
 fn print_item(text: &mut Vec<u8>, item: &Item<'_>) -> Result<(), AllocError>
-    ensures { OnOk result (text.new.items ≡ text.old.items ++ printed_text (item_words (item_of item.now))) }
+    ensures { OnOk result (Gains text.old.items text.new.items (item_words (item_of item.now))) }
 {
     match item {
         Item::Str(bytes) => put_string(text, bytes),
@@ -271,7 +285,7 @@ fn print_item(text: &mut Vec<u8>, item: &Item<'_>) -> Result<(), AllocError>
 }
 
 fn put_assign(text: &mut Vec<u8>, op: Option<Op>) -> Result<(), AllocError>
-    ensures { OnOk result (text.new.items ≡ text.old.items ++ printed_text (assign_words op)) }
+    ensures { OnOk result (Gains text.old.items text.new.items (assign_words op)) }
 {
     match op {
         Some(Op::Add) => put_symbol(text, Sym::AddAssign),
@@ -286,7 +300,7 @@ fn put_assign(text: &mut Vec<u8>, op: Option<Op>) -> Result<(), AllocError>
 }
 
 fn put_border(text: &mut Vec<u8>, kind: Border) -> Result<(), AllocError>
-    ensures { OnOk result (text.new.items ≡ text.old.items ++ printed_text (border_words kind)) }
+    ensures { OnOk result (Gains text.old.items text.new.items (border_words kind)) }
 {
     match kind {
         Border::Wrap => put_keyword(text, Key::Wrap),
@@ -295,7 +309,7 @@ fn put_border(text: &mut Vec<u8>, kind: Border) -> Result<(), AllocError>
 }
 
 fn put_end(text: &mut Vec<u8>) -> Result<(), AllocError>
-    ensures { OnOk result (text.new.items ≡ text.old.items ++ printed_text end_words) }
+    ensures { OnOk result (Gains text.old.items text.new.items end_words) }
 {
     put_keyword(text, Key::End)?;
     put_symbol(text, Sym::Semicolon)

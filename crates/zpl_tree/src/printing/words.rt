@@ -2,7 +2,7 @@
 ghost use Rattle.std.specs.Prelude.{◌≡◌, ◌++◌, ◌∷◌, [], OnOk};
 ghost use Rattle.zpl_tree.specs.Spelling.{fold_words, operator_words, name_words, index_words};
 ghost use Rattle.zpl_tree.specs.View.{name_of};
-ghost use Rattle.zpl_tree.specs.Word.{written, printed_text};
+ghost use Rattle.zpl_tree.specs.Word.{Gains, written};
 ghost use Rattle.zpl_tree.specs.Word as word;
 
 use crate::names::Name;
@@ -40,7 +40,7 @@ pub fn put_keyword(text: &mut Vec<u8>, key: Key) -> Result<(), AllocError>
 
 #[tactic(auto, unfolding(crate::specs::Word::written))]
 pub fn put_name(text: &mut Vec<u8>, name: &Name<'_>) -> Result<(), AllocError>
-    ensures { OnOk result (text.new.items ≡ text.old.items ++ printed_text (name_words (name_of name.now))) }
+    ensures { OnOk result (Gains text.old.items text.new.items (name_words (name_of name.now))) }
 {
     put(text, name.text, b' ')
 }
@@ -70,7 +70,7 @@ pub fn put_ditto(text: &mut Vec<u8>) -> Result<(), AllocError>
 }
 
 pub fn put_index(text: &mut Vec<u8>, dimension: u8) -> Result<(), AllocError>
-    ensures { OnOk result (text.new.items ≡ text.old.items ++ printed_text (index_words dimension)) }
+    ensures { OnOk result (Gains text.old.items text.new.items (index_words dimension)) }
 {
     let key = match dimension {
         1 => Key::Index1,
@@ -81,7 +81,7 @@ pub fn put_index(text: &mut Vec<u8>, dimension: u8) -> Result<(), AllocError>
 }
 
 pub fn put_fold(text: &mut Vec<u8>, fold: Fold) -> Result<(), AllocError>
-    ensures { OnOk result (text.new.items ≡ text.old.items ++ printed_text (fold_words fold)) }
+    ensures { OnOk result (Gains text.old.items text.new.items (fold_words fold)) }
 {
     match fold {
         Fold::Sum => put_symbol(text, Sym::Plus),
@@ -94,7 +94,7 @@ pub fn put_fold(text: &mut Vec<u8>, fold: Fold) -> Result<(), AllocError>
 }
 
 pub fn put_operator(text: &mut Vec<u8>, op: Op) -> Result<(), AllocError>
-    ensures { OnOk result (text.new.items ≡ text.old.items ++ printed_text (operator_words op)) }
+    ensures { OnOk result (Gains text.old.items text.new.items (operator_words op)) }
 {
     match op {
         Op::Add => put_symbol(text, Sym::Plus),

@@ -8,5 +8,6 @@ use Rattle.zpl_tree.proofs.printing.declarations.print_defines.Given as goal
 -- what is printed and what is left to print are the whole
 abbrev pub invariant-loop-define : goal.invariant-loop-define
 invariant-loop-define l =
-    l.text.items ++ printed_text (flat_map define_words (map define_of (drop l.define-index l.defines)))
+    l.text.items ++
+    printed_text (flat_map define_words (map define_of (drop l.define-index l.defines)))
     ≡ l.initial.text.items ++ printed_text (flat_map define_words (map define_of l.defines))

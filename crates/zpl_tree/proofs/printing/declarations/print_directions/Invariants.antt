@@ -8,5 +8,8 @@ use Rattle.zpl_tree.proofs.printing.declarations.print_directions.Given as goal
 -- what is printed and what is left to print are the whole
 abbrev pub invariant-loop-direction : goal.invariant-loop-direction
 invariant-loop-direction l =
-    l.text.items ++ printed_text (flat_map direction_words (map direction_of (drop l.direction-index l.directions)))
-    ≡ l.initial.text.items ++ printed_text (flat_map direction_words (map direction_of l.directions))
+    l.text.items ++
+    printed_text
+    (flat_map direction_words (map direction_of (drop l.direction-index l.directions)))
+    ≡ l.initial.text.items ++
+    printed_text (flat_map direction_words (map direction_of l.directions))

@@ -8,5 +8,8 @@ use Rattle.zpl_tree.proofs.printing.declarations.print_params.Given as goal
 -- what is printed and what is left to print are the whole
 abbrev pub invariant-loop-param : goal.invariant-loop-param
 invariant-loop-param l =
-    l.text.items ++ printed_text (each_after (symbol sym.Semicolon) param_words (map param_of (drop l.param-index l.rest)))
-    ≡ l.initial.text.items ++ printed_text (each_after (symbol sym.Semicolon) param_words (map param_of l.rest))
+    l.text.items ++
+    printed_text (each_after (symbol sym.Semicolon) param_words
+    (map param_of (drop l.param-index l.rest)))
+    ≡ l.initial.text.items ++
+    printed_text (each_after (symbol sym.Semicolon) param_words (map param_of l.rest))

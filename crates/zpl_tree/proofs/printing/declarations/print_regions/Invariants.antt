@@ -8,5 +8,6 @@ use Rattle.zpl_tree.proofs.printing.declarations.print_regions.Given as goal
 -- what is printed and what is left to print are the whole
 abbrev pub invariant-loop-region : goal.invariant-loop-region
 invariant-loop-region l =
-    l.text.items ++ printed_text (flat_map region_words (map region_of (drop l.region-index l.regions)))
+    l.text.items ++
+    printed_text (flat_map region_words (map region_of (drop l.region-index l.regions)))
     ≡ l.initial.text.items ++ printed_text (flat_map region_words (map region_of l.regions))

@@ -1,4 +1,5 @@
--- How deep what is printed is, and then how far a function stands above those that it passes the same.
+-- How deep what is printed is, and then how far a function stands above those that it passes the
+-- same.
 use Rattle.std.proofs.Common.{◌≡◌, ◌++◌, ◌+◌, ◌*◌, drop, max}
 use Rattle.zpl_tree.specs.declared.expressions.Expr.{size-Expr}
 use Rattle.zpl_tree.specs.Spelling.{more_exprs, more_dims, posts_words}
@@ -26,6 +27,9 @@ decreases-print_dim l = 8 * goal.size-print_dim l + 1
 
 abbrev pub decreases-print_call : goal.decreases-print_call
 decreases-print_call l = 8 * goal.size-print_call l + 2
+
+abbrev pub decreases-print_remap : goal.decreases-print_remap
+decreases-print_remap l = 8 * goal.size-print_remap l + 2
 
 abbrev pub decreases-print_dir : goal.decreases-print_dir
 decreases-print_dir l = 8 * goal.size-print_dir l + 2

@@ -10,10 +10,13 @@ use Rattle.zpl_tree.proofs.printing.statements.+print_statement.Goals as goal
 pub print_arm-returns : goal.print_arm-returns
 print_arm-returns t c =
     let parts = out-Arm c.args.arm.now in
-    let is : arm_of c.args.arm.now ≡ plain.Tested parts.at (expr_of parts.test.now) (stmts_of parts.body.now) = arm_of-parts c.args.arm.now in
+    let is : arm_of c.args.arm.now
+    ≡ plain.Tested parts.at (expr_of parts.test.now) (stmts_of parts.body.now) =
+    arm_of-parts c.args.arm.now in
     grind (arith, common_steps)
 
-pub print_form-returns-in_ok-print_stmts-in-Block : goal.print_form-returns-in_ok-print_stmts-in-Block
+pub print_form-returns-in_ok-print_stmts-in-Block :
+    goal.print_form-returns-in_ok-print_stmts-in-Block
 print_form-returns-in_ok-print_stmts-in-Block t c =
     let is : statement_of c.args.form.now ≡ plain.Block (stmts_of c.in-Block.body.now) =
     ap statement_of c.in-Block.is ∙ statement_of-Block c.in-Block.body in
@@ -21,30 +24,39 @@ print_form-returns-in_ok-print_stmts-in-Block t c =
 
 pub print_form-returns-in_ok-print_expr-in-While : goal.print_form-returns-in_ok-print_expr-in-While
 print_form-returns-in_ok-print_expr-in-While t c =
-    let is : statement_of c.args.form.now ≡ plain.While (expr_of c.in-While.test.now) (stmts_of c.in-While.body.now) =
+    let is : statement_of c.args.form.now
+    ≡ plain.While (expr_of c.in-While.test.now) (stmts_of c.in-While.body.now) =
     ap statement_of c.in-While.is ∙ statement_of-While c.in-While.test c.in-While.body in
     grind (arith, common_steps)
 
-pub print_form-returns-in_ok-print_stmts-in-Repeat : goal.print_form-returns-in_ok-print_stmts-in-Repeat
+pub print_form-returns-in_ok-print_stmts-in-Repeat :
+    goal.print_form-returns-in_ok-print_stmts-in-Repeat
 print_form-returns-in_ok-print_stmts-in-Repeat t c =
-    let is : statement_of c.args.form.now ≡ plain.Repeat (stmts_of c.in-Repeat.body.now) c.in-Repeat.field-1 (expr_of c.in-Repeat.test.now) =
-    ap statement_of c.in-Repeat.is ∙ statement_of-Repeat c.in-Repeat.body c.in-Repeat.field-1 c.in-Repeat.test in
+    let is : statement_of c.args.form.now
+    ≡ plain.Repeat (stmts_of c.in-Repeat.body.now) c.in-Repeat.field-1
+    (expr_of c.in-Repeat.test.now) =
+    ap statement_of c.in-Repeat.is
+    ∙ statement_of-Repeat c.in-Repeat.body c.in-Repeat.field-1 c.in-Repeat.test in
     grind (arith, common_steps)
 
 pub print_form-returns-in_ok-print_head-in-For : goal.print_form-returns-in_ok-print_head-in-For
 print_form-returns-in_ok-print_head-in-For t c =
-    let is : statement_of c.args.form.now ≡ plain.For (head_of c.in-For.head.now) (stmts_of c.in-For.body.now) =
+    let is : statement_of c.args.form.now
+    ≡ plain.For (head_of c.in-For.head.now) (stmts_of c.in-For.body.now) =
     ap statement_of c.in-For.is ∙ statement_of-For c.in-For.head c.in-For.body in
     grind (arith, common_steps)
 
 pub print_form-returns-in-None : goal.print_form-returns-in-None
 print_form-returns-in-None t c =
     let is : statement_of c.args.form.now ≡ plain.If (arms_of c.in-If.arms.now) plain.NoElse =
-    ap statement_of (c.in-If.is ∙ ap (If c.in-If.arms) c.in-None.is) ∙ statement_of-If c.in-If.arms in
+    ap statement_of (c.in-If.is ∙ ap (If c.in-If.arms) c.in-None.is)
+    ∙ statement_of-If c.in-If.arms in
     grind (arith, common_steps)
 
 pub print_form-returns-in-Some : goal.print_form-returns-in-Some
 print_form-returns-in-Some t c =
-    let is : statement_of c.args.form.now ≡ plain.If (arms_of c.in-If.arms.now) (plain.Else (stmts_of c.in-Some.body.now)) =
-    ap statement_of (c.in-If.is ∙ ap (If c.in-If.arms) c.in-Some.is) ∙ statement_of-If_else c.in-If.arms c.in-Some.body in
+    let is : statement_of c.args.form.now
+    ≡ plain.If (arms_of c.in-If.arms.now) (plain.Else (stmts_of c.in-Some.body.now)) =
+    ap statement_of (c.in-If.is ∙ ap (If c.in-If.arms) c.in-Some.is)
+    ∙ statement_of-If_else c.in-If.arms c.in-Some.body in
     grind (arith, common_steps)

@@ -8,5 +8,8 @@ use Rattle.zpl_tree.proofs.printing.statements.print_items.Given as goal
 -- what is printed and what is left to print are the whole
 abbrev pub invariant-loop-item : goal.invariant-loop-item
 invariant-loop-item l =
-    l.text.items ++ printed_text (each_after (symbol sym.Comma) item_words (map item_of (drop l.item-index l.rest)))
-    ≡ l.initial.text.items ++ printed_text (each_after (symbol sym.Comma) item_words (map item_of l.rest))
+    l.text.items ++
+    printed_text (each_after (symbol sym.Comma) item_words
+    (map item_of (drop l.item-index l.rest)))
+    ≡ l.initial.text.items ++
+    printed_text (each_after (symbol sym.Comma) item_words (map item_of l.rest))

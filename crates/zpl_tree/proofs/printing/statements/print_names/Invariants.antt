@@ -8,5 +8,8 @@ use Rattle.zpl_tree.proofs.printing.statements.print_names.Given as goal
 -- what is printed and what is left to print are the whole
 abbrev pub invariant-loop-name : goal.invariant-loop-name
 invariant-loop-name l =
-    l.text.items ++ printed_text (each_after (symbol sym.Comma) name_words (map name_of (drop l.name-index l.rest)))
-    ≡ l.initial.text.items ++ printed_text (each_after (symbol sym.Comma) name_words (map name_of l.rest))
+    l.text.items ++
+    printed_text (each_after (symbol sym.Comma) name_words
+    (map name_of (drop l.name-index l.rest)))
+    ≡ l.initial.text.items ++
+    printed_text (each_after (symbol sym.Comma) name_words (map name_of l.rest))

@@ -8,5 +8,6 @@ use Rattle.zpl_tree.proofs.printing.statements.print_prefixes.Given as goal
 -- what is printed and what is left to print are the whole
 abbrev pub invariant-loop-prefix : goal.invariant-loop-prefix
 invariant-loop-prefix l =
-    l.text.items ++ printed_text (flat_map prefix_words (map prefix_of (drop l.prefix-index l.prefixes)))
+    l.text.items ++
+    printed_text (flat_map prefix_words (map prefix_of (drop l.prefix-index l.prefixes)))
     ≡ l.initial.text.items ++ printed_text (flat_map prefix_words (map prefix_of l.prefixes))

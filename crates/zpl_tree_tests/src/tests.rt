@@ -1,14 +1,11 @@
-use super::print_tree;
-use crate::declarations::{
-    Base, Decl, Define, DirDef, Param, Procedure, Program, RegionDef, VarDef,
-};
-use crate::expressions::{Expr, ExprForm};
-use crate::names::Name;
-use crate::regions::{DimText, Dir, Inner, Post, Pre, RegionBase, Rexpr};
-use crate::statements::{Arm, ForHead, Form, Item, Mask, Prefix, Stmt};
 use std::alloc::{AllocError, Global};
 use std::test::Fail;
 use zpl_nums::{Border, Fold, Op};
+use zpl_tree::{
+    Arm, Base, Decl, Define, DimText, Dir, DirDef, Expr, ExprForm, ForHead, Form, Inner, Item,
+    Mask, Name, Param, Post, Pre, Prefix, Procedure, Program, RegionBase, RegionDef, Rexpr, Stmt,
+    VarDef, print_tree,
+};
 
 macro_rules! name {
     ($text:literal) => {
@@ -124,6 +121,10 @@ const EXPRESSIONS: Program<'static> = program!(&[procedure!(&[stmt!(Form::Write(
         value!(ExprForm::Coord(3)),
         value!(ExprForm::Shifted(name!(b"A"), Dir::Named(name!(b"d")))),
         value!(ExprForm::Shifted(name!(b"A"), Dir::Vector(&[ONE, X]))),
+        value!(ExprForm::Around(name!(b"A"), Dir::Named(name!(b"d")))),
+        value!(ExprForm::Around(name!(b"A"), Dir::Vector(&[ONE, X]))),
+        value!(ExprForm::Remap(name!(b"A"), &[X])),
+        value!(ExprForm::Remap(name!(b"A"), &[ONE, X])),
         value!(ExprForm::Call(name!(b"p"), &[])),
         value!(ExprForm::Call(name!(b"p"), &[ONE, X])),
         value!(ExprForm::Paren(&X)),
@@ -356,8 +357,16 @@ fn prints_a_sum(rt: HostRuntime) -> Result<(), Fail> {
 #[test]
 fn prints_each_operator(rt: HostRuntime) -> Result<(), Fail> {
     let text = printed(rt.alloc(), &OPERATORS)?;
-    let expected =
-        "program t ;\nprocedure t ( ) ;\nbegin write ( x + 1 , x - 1 , x * 1 , x / 1 , x % 1 , x = 1 , x != 1 , x < 1 , x <= 1 , x > 1 , x >= 1 , x & 1 , x | 1 , max ( x , 1 ) , min ( x , 1 ) ) ;\nend ;\n";
+    let parts = [
+        "program t ;\nprocedure t ( ) ;\nbegin write ( ",
+        "x + 1 , x - 1 , x * 1 , x / 1 , x % 1 , ",
+        "x = 1 , x != 1 , x < 1 , x <= 1 , x > 1 , x >= 1 , ",
+        "x & 1 , x | 1 , max ( x , 1 ) , min ( x , 1 ) ) ;\nend ;\n",
+    ];
+    let mut expected = String::new(rt.alloc());
+    for part in parts {
+        expected.push_str(part)?;
+    }
     assert_eq!(rt; text.as_slice(), expected.as_bytes());
     Ok(())
 }
@@ -365,16 +374,17 @@ fn prints_each_operator(rt: HostRuntime) -> Result<(), Fail> {
 #[test]
 fn prints_each_expression(rt: HostRuntime) -> Result<(), Fail> {
     let text = printed(rt.alloc(), &EXPRESSIONS)?;
-    let lines = [
-        "program t ;",
-        "procedure t ( ) ;",
-        "begin writeln ( \"a\\n\" , 9223372036854775807 , true , false , Index1 , Index2 , Index3 , A @ d , A @ [ 1 , x ] , p ( ) , p ( 1 , x ) , ( x ) , ! x , abs ( x ) , + << x , * << [ R ] x , & << x , max || x , min || [ 2 ] x , | || x , >> [ 1 .. x , * , , x ] x ) ;",
-        "end ;",
+    let parts = [
+        "program t ;\nprocedure t ( ) ;\nbegin writeln ( \"a\\n\" , ",
+        "9223372036854775807 , true , false , Index1 , Index2 , Index3 , ",
+        "A @ d , A @ [ 1 , x ] , A @ ^ d , A @ ^ [ 1 , x ] , A # [ x ] , A # [ 1 , x ] , ",
+        "p ( ) , p ( 1 , x ) , ( x ) , ! x , abs ( x ) , ",
+        "+ << x , * << [ R ] x , & << x , max || x , min || [ 2 ] x , | || x , ",
+        ">> [ 1 .. x , * , , x ] x ) ;\nend ;\n",
     ];
     let mut expected = String::new(rt.alloc());
-    for line in lines {
-        expected.push_str(line)?;
-        expected.push('\n')?;
+    for part in parts {
+        expected.push_str(part)?;
     }
     assert_eq!(rt; text.as_slice(), expected.as_bytes());
     Ok(())
