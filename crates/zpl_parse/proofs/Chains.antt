@@ -1,225 +1,214 @@
 -- Chains of operators: what stands to the left is what the rule has made so far.
-use Rattle.std.proofs.Common.{◌≡◌, ℕ, suc, zero, ◌<◌, ◌≤◌, ◌-◌, if◌then◌else◌, Bool, true, false, nat_le, List, ◌∷◌, Option, Some, None, refl, sym, ap, subst, ◌∙◌, arith}
+use Rattle.std.proofs.Common.{◌≡◌, ℕ, suc, zero, ◌<◌, ◌≤◌, ◌-◌, Bool, true, false, nat_le, List, ◌∷◌, Option, Some, None, refl, sym, ap, subst, ◌∙◌, arith}
 use Rattle.std.proofs.lemmas.Bool.{le-leb, lt-leb}
 use Rattle.zpl_nums.specs.declared.operators.Op.{Op}
 use Rattle.zpl_tokens.specs.declared.Kind.{Kind}
-use Rattle.zpl_tree.specs.Syntax as plain
 use Rattle.zpl_tree.specs.Syntax.{Expr, Pair}
 use Rattle.zpl_tree.specs.Depth.{expr_depth}
-use Rattle.zpl_tree.specs.View.{form_of}
-use Rattle.zpl_tree.specs.declared.expressions.ExprForm.{ExprForm}
-use Rattle.zpl_tree.specs.declared.expressions.ExprForm.TheVariants.{Number, Truth, Coord, Named, Shifted, Call', Paren', Neg', Not', Abs', Pair', Reduce', Scan', Flood'}
 use Rattle.zpl_parse.specs.declared.faults.ParseFault.{ParseFault}
-use Rattle.zpl_parse.specs.declared.faults.ParseFault.TheVariants.{TooDeep, Syntax}
+use Rattle.zpl_parse.specs.declared.faults.ParseFault.TheVariants.{TooDeep}
 use Rattle.zpl_text.specs.declared.tokens.Token.{Token}
 use Rattle.zpl_parse.specs.declared.classes.Opening.{Opening}
-use Rattle.zpl_parse.specs.Classes.{or_op, and_op, comp_op, sum_op, term_op, begins_expr, opening_of}
-use Rattle.zpl_parse.specs.Lexeme.{Lexeme, head_kind, behind, head_at, lexeme_of, lexemes_of}
+use Rattle.zpl_parse.specs.declared.classes.Level.{Level}
+use Rattle.zpl_parse.specs.declared.classes.Level.TheVariants as level
+use Rattle.zpl_parse.specs.Classes.{and_op, comp_op, sum_op, term_op, begins_expr, opening_of}
+use Rattle.zpl_grammar.specs.Lexeme.{Lexeme, head_kind, behind, lexeme_of, lexemes_of}
 use Rattle.zpl_parse.specs.Outcome.{Outcome, Done, Wrong, Deep, Reader, and_then, made, too_deep}
 use Rattle.zpl_parse.specs.Expressions.{at_of, chain, once, levels, no_expr, unary_over, unary_by}
+use Rattle.zpl_parse.specs.Operators.{operator_of, of_level, below_of, operand_of, is_alone}
 use Rattle.zpl_parse.specs.Following.{IsFaultOf}
-use Rattle.zpl_parse.proofs.Follows.{fault_then, fault_made, too_deep_here}
+use Rattle.zpl_parse.proofs.Follows.{fault_then, fault_made}
 
--- the offset of an expression in the arena is that of its tree
-pub at_of-form : (at : ℕ) (form : ExprForm) → at_of (form_of at form) ≡ at
-at_of-form at (Number value) = refl
-at_of-form at (Truth value) = refl
-at_of-form at (Coord dimension) = refl
-at_of-form at (Named name) = refl
-at_of-form at (Shifted name shift) = refl
-at_of-form at (Call' name p n actuals) = refl
-at_of-form at (Paren' p inside_at inside) = refl
-at_of-form at (Neg' p operand_at operand) = refl
-at_of-form at (Not' p operand_at operand) = refl
-at_of-form at (Abs' p operand_at operand) = refl
-at_of-form at (Pair' op p left_at left q right_at right) = refl
-at_of-form at (Reduce' operator over p operand_at operand) = refl
-at_of-form at (Scan' operator along p operand_at operand) = refl
-at_of-form at (Flood' source p operand_at operand) = refl
+-- where one operator alone may stand, that or nothing, and else a chain
+abbrev pub further : Bool → ℕ → ℕ → (Kind → Option Op) → Reader Expr → Expr → Reader Expr
+further true less = once
+further false less = chain less
 
--- no expression has depth 0
-pub expr_depth-some : (e : Expr) → 1 ≤ expr_depth e
-expr_depth-some (plain.Number at value) = omega arith
-expr_depth-some (plain.Truth at value) = omega arith
-expr_depth-some (plain.Coord at dimension) = omega arith
-expr_depth-some (plain.Named at name) = omega arith
-expr_depth-some (plain.Shifted at name shift) = omega arith
-expr_depth-some (plain.Call at name actuals) = omega arith
-expr_depth-some (plain.Paren at inside) = omega arith
-expr_depth-some (plain.Neg at operand) = omega arith
-expr_depth-some (plain.Not at operand) = omega arith
-expr_depth-some (plain.Abs at operand) = omega arith
-expr_depth-some (plain.Pair at op left right) = omega arith
-expr_depth-some (plain.Reduce at operator over operand) = omega arith
-expr_depth-some (plain.Scan at operator along operand) = omega arith
-expr_depth-some (plain.Flood at source operand) = omega arith
-
--- the rest of the whole is a chain with so much fuel, and so many tokens are left
-pub record IsChained (whole : Outcome Expr) (deep : ℕ) (op_of : Kind → Option Op) (operand : Reader Expr) (left : Expr) (rest : List Lexeme) (count : ℕ) : Type 0 where
+-- the rest of the whole goes on with so much fuel, and so many tokens are left
+pub record IsFurther (alone : Bool) (whole : Outcome Expr) (deep : ℕ) (op_of : Kind → Option Op) (operand : Reader Expr) (left : Expr) (rest : List Lexeme) (count : ℕ) : Type 0 where
   pub less : ℕ
   pub enough : count < less
-  pub is : whole ≡ chain less deep op_of operand left rest
+  pub is : whole ≡ further alone less deep op_of operand left rest
+
+-- what follows an operator
+abbrev next_by : Bool → ℕ → ℕ → (Kind → Option Op) → Reader Expr → Expr → Op → Reader Expr
+next_by true less deep op_of operand left op lexemes = made (Pair (at_of left) op left) (operand lexemes)
+next_by false less deep op_of operand left op lexemes = and_then (operand lexemes) (λ right after. chain less deep op_of operand (Pair (at_of left) op left right) after)
+
+abbrev shallow_by : Bool → Outcome Expr → List Lexeme → Outcome Expr
+shallow_by fits next behind_op = elim fits [ false ↦ Deep behind_op | true ↦ next ]
+
+abbrev found_by : Option Op → Bool → ℕ → ℕ → (Kind → Option Op) → Reader Expr → Expr → Reader Expr
+found_by None alone less deep op_of operand left rest = Done left rest
+found_by (Some op) alone less deep op_of operand left rest = shallow_by (nat_le (expr_depth left) deep) (next_by alone less deep op_of operand left op (behind rest)) (behind rest)
+
+-- what is further, by the operator that is found
+by_operator : (alone : Bool) (less deep : ℕ) (op_of : Kind → Option Op) (operand : Reader Expr) (left : Expr) (rest : List Lexeme) →
+    further alone (suc less) deep op_of operand left rest ≡ found_by (op_of (head_kind rest)) alone less deep op_of operand left rest
+by_operator true less deep op_of operand left rest = by_once (op_of (head_kind rest))
+  where
+    by_once : (o : Option Op) → elim o [ None ↦ Done left rest | Some op ↦ elim (nat_le (expr_depth left) deep) [ false ↦ Deep (behind rest) | true ↦ made (Pair (at_of left) op left) (operand (behind rest)) ] ] ≡ found_by o true less deep op_of operand left rest
+    by_once None = refl
+    by_once (Some op) = refl
+by_operator false less deep op_of operand left rest = by_chain (op_of (head_kind rest))
+  where
+    by_chain : (o : Option Op) → elim o [ None ↦ Done left rest | Some op ↦ elim (nat_le (expr_depth left) deep) [ false ↦ Deep (behind rest) | true ↦ and_then (operand (behind rest)) (λ right after. chain less deep op_of operand (Pair (at_of left) op left right) after) ] ] ≡ found_by o false less deep op_of operand left rest
+    by_chain None = refl
+    by_chain (Some op) = refl
+
+found_end : (alone : Bool) (less deep : ℕ) (op_of : Kind → Option Op) (operand : Reader Expr) (left : Expr) (rest : List Lexeme) → op_of (head_kind rest) ≡ None →
+    further alone (suc less) deep op_of operand left rest ≡ Done left rest
+found_end alone less deep op_of operand left rest is =
+    by_operator alone less deep op_of operand left rest ∙ ap (λ o. found_by o alone less deep op_of operand left rest) is
+
+found_deep : (alone : Bool) (less deep : ℕ) (op_of : Kind → Option Op) (operand : Reader Expr) (left : Expr) (rest : List Lexeme) (op : Op) → op_of (head_kind rest) ≡ Some op → deep < expr_depth left →
+    further alone (suc less) deep op_of operand left rest ≡ Deep (behind rest)
+found_deep alone less deep op_of operand left rest op is above =
+    by_operator alone less deep op_of operand left rest ∙ ap (λ o. found_by o alone less deep op_of operand left rest) is
+    ∙ ap (λ fits. shallow_by fits (next_by alone less deep op_of operand left op (behind rest)) (behind rest)) (lt-leb (expr_depth left) deep above)
 
 -- where an operator stands, and what is left of it isn't too deep
-chain_on : (less deep : ℕ) (op_of : Kind → Option Op) (operand : Reader Expr) (left : Expr) (rest : List Lexeme) (op : Op) → op_of (head_kind rest) ≡ Some op → expr_depth left ≤ deep →
-    chain (suc less) deep op_of operand left rest ≡ and_then (operand (behind rest)) (λ right after. chain less deep op_of operand (Pair (at_of left) op left right) after)
-chain_on less deep op_of operand left rest op is shallow =
-    ap (λ o. elim o [ None ↦ Done left rest | Some op ↦ elim (nat_le (expr_depth left) deep) [ false ↦ Deep (behind rest) | true ↦ and_then (operand (behind rest)) (λ right after. chain less deep op_of operand (Pair (at_of left) op left right) after) ] ]) is
-    ∙ ap (λ b. elim b [ false ↦ Deep (behind rest) | true ↦ and_then (operand (behind rest)) (λ right after. chain less deep op_of operand (Pair (at_of left) op left right) after) ]) (le-leb (expr_depth left) deep shallow)
+found_next : (alone : Bool) (less deep : ℕ) (op_of : Kind → Option Op) (operand : Reader Expr) (left : Expr) (rest : List Lexeme) (op : Op) → op_of (head_kind rest) ≡ Some op → expr_depth left ≤ deep →
+    further alone (suc less) deep op_of operand left rest ≡ next_by alone less deep op_of operand left op (behind rest)
+found_next alone less deep op_of operand left rest op is shallow =
+    by_operator alone less deep op_of operand left rest ∙ ap (λ o. found_by o alone less deep op_of operand left rest) is
+    ∙ ap (λ fits. shallow_by fits (next_by alone less deep op_of operand left op (behind rest)) (behind rest)) (le-leb (expr_depth left) deep shallow)
 
-pub chain_more : (whole : Outcome Expr) (deep : ℕ) (op_of : Kind → Option Op) (operand : Reader Expr) (left : Expr) (rest : List Lexeme) (count : ℕ) (op : Op) (right : Expr) (after : List Lexeme) (fewer : ℕ) →
-    IsChained whole deep op_of operand left rest count → fewer < count → op_of (head_kind rest) ≡ Some op → expr_depth left ≤ deep → operand (behind rest) ≡ Done right after →
-    IsChained whole deep op_of operand (Pair (at_of left) op left right) after fewer
-chain_more whole deep op_of operand left rest count op right after fewer h shorter is shallow read = go h.less h.enough h.is
+next_fault : (alone : Bool) (less deep : ℕ) (op_of : Kind → Option Op) (operand : Reader Expr) (left : Expr) (op : Op) (lexemes : List Lexeme) (fault : ParseFault) → IsFaultOf fault (operand lexemes) →
+    IsFaultOf fault (next_by alone less deep op_of operand left op lexemes)
+next_fault true less deep op_of operand left op lexemes fault h = fault_made fault (Pair (at_of left) op left) (operand lexemes) h
+next_fault false less deep op_of operand left op lexemes fault h = fault_then fault (operand lexemes) (λ right after. chain less deep op_of operand (Pair (at_of left) op left right) after) h
+
+pub further_end : (alone : Bool) (whole : Outcome Expr) (deep : ℕ) (op_of : Kind → Option Op) (operand : Reader Expr) (left : Expr) (rest : List Lexeme) (count : ℕ) →
+    IsFurther alone whole deep op_of operand left rest count → op_of (head_kind rest) ≡ None → whole ≡ Done left rest
+further_end alone whole deep op_of operand left rest count h is = go h.less h.enough h.is
   where
-    go : (less : ℕ) → count < less → whole ≡ chain less deep op_of operand left rest → IsChained whole deep op_of operand (Pair (at_of left) op left right) after fewer
+    go : (less : ℕ) → count < less → whole ≡ further alone less deep op_of operand left rest → whole ≡ Done left rest
+    go zero enough same = absurd (omega arith)
+    go (suc less) enough same = same ∙ found_end alone less deep op_of operand left rest is
+
+pub further_deep : (alone : Bool) (whole : Outcome Expr) (deep : ℕ) (op_of : Kind → Option Op) (operand : Reader Expr) (left : Expr) (rest : List Lexeme) (count : ℕ) (op : Op) →
+    IsFurther alone whole deep op_of operand left rest count → op_of (head_kind rest) ≡ Some op → deep < expr_depth left → IsFaultOf TooDeep whole
+further_deep alone whole deep op_of operand left rest count op h is above = go h.less h.enough h.is
+  where
+    go : (less : ℕ) → count < less → whole ≡ further alone less deep op_of operand left rest → IsFaultOf TooDeep whole
+    go zero enough same = absurd (omega arith)
+    go (suc less) enough same = record { rest = behind rest; is = same ∙ found_deep alone less deep op_of operand left rest op is above }
+
+pub further_fault : (alone : Bool) (whole : Outcome Expr) (deep : ℕ) (op_of : Kind → Option Op) (operand : Reader Expr) (left : Expr) (rest : List Lexeme) (count : ℕ) (op : Op) (fault : ParseFault) →
+    IsFurther alone whole deep op_of operand left rest count → op_of (head_kind rest) ≡ Some op → expr_depth left ≤ deep → IsFaultOf fault (operand (behind rest)) → IsFaultOf fault whole
+further_fault alone whole deep op_of operand left rest count op fault h is shallow found = go h.less h.enough h.is
+  where
+    go : (less : ℕ) → count < less → whole ≡ further alone less deep op_of operand left rest → IsFaultOf fault whole
+    go zero enough same = absurd (omega arith)
+    go (suc less) enough same = subst (IsFaultOf fault) (sym (same ∙ found_next alone less deep op_of operand left rest op is shallow))
+        (next_fault alone less deep op_of operand left op (behind rest) fault found)
+
+-- one operator alone, and its right operand
+pub further_once : (alone : Bool) (whole : Outcome Expr) (deep : ℕ) (op_of : Kind → Option Op) (operand : Reader Expr) (left : Expr) (rest : List Lexeme) (count : ℕ) (op : Op) (right : Expr) (after : List Lexeme) →
+    alone ≡ true → IsFurther alone whole deep op_of operand left rest count → op_of (head_kind rest) ≡ Some op → expr_depth left ≤ deep → operand (behind rest) ≡ Done right after →
+    whole ≡ Done (Pair (at_of left) op left right) after
+further_once false whole deep op_of operand left rest count op right after bad h is shallow read = absurd cc
+further_once true whole deep op_of operand left rest count op right after one h is shallow read = go h.less h.enough h.is
+  where
+    go : (less : ℕ) → count < less → whole ≡ further true less deep op_of operand left rest → whole ≡ Done (Pair (at_of left) op left right) after
+    go zero enough same = absurd (omega arith)
+    go (suc less) enough same = same ∙ found_next true less deep op_of operand left rest op is shallow ∙ ap (made (Pair (at_of left) op left)) read
+
+-- one operator more of a chain
+pub further_more : (alone : Bool) (whole : Outcome Expr) (deep : ℕ) (op_of : Kind → Option Op) (operand : Reader Expr) (left : Expr) (rest : List Lexeme) (count : ℕ) (op : Op) (right : Expr) (after : List Lexeme) (fewer : ℕ) →
+    alone ≡ false → IsFurther alone whole deep op_of operand left rest count → fewer < count → op_of (head_kind rest) ≡ Some op → expr_depth left ≤ deep → operand (behind rest) ≡ Done right after →
+    IsFurther alone whole deep op_of operand (Pair (at_of left) op left right) after fewer
+further_more true whole deep op_of operand left rest count op right after fewer bad h shorter is shallow read = absurd cc
+further_more false whole deep op_of operand left rest count op right after fewer more h shorter is shallow read = go h.less h.enough h.is
+  where
+    go : (less : ℕ) → count < less → whole ≡ further false less deep op_of operand left rest → IsFurther false whole deep op_of operand (Pair (at_of left) op left right) after fewer
     go zero enough same = absurd (omega arith)
     go (suc less) enough same = record {
       less = less;
       enough = omega arith;
-      is = same ∙ chain_on less deep op_of operand left rest op is shallow ∙ ap (λ o. and_then o (λ right after. chain less deep op_of operand (Pair (at_of left) op left right) after)) read;
+      is = same ∙ found_next false less deep op_of operand left rest op is shallow ∙ ap (λ o. and_then o (λ right after. chain less deep op_of operand (Pair (at_of left) op left right) after)) read;
     }
-
-pub chain_end : (whole : Outcome Expr) (deep : ℕ) (op_of : Kind → Option Op) (operand : Reader Expr) (left : Expr) (rest : List Lexeme) (count : ℕ) →
-    IsChained whole deep op_of operand left rest count → op_of (head_kind rest) ≡ None → whole ≡ Done left rest
-chain_end whole deep op_of operand left rest count h is = go h.less h.enough h.is
-  where
-    go : (less : ℕ) → count < less → whole ≡ chain less deep op_of operand left rest → whole ≡ Done left rest
-    go zero enough same = absurd (omega arith)
-    go (suc less) enough same = same ∙
-        ap (λ o. elim o [ None ↦ Done left rest | Some op ↦ elim (nat_le (expr_depth left) deep) [ false ↦ Deep (behind rest) | true ↦ and_then (operand (behind rest)) (λ right after. chain less deep op_of operand (Pair (at_of left) op left right) after) ] ]) is
-
-pub chain_deep : (whole : Outcome Expr) (deep : ℕ) (op_of : Kind → Option Op) (operand : Reader Expr) (left : Expr) (rest : List Lexeme) (count : ℕ) (op : Op) →
-    IsChained whole deep op_of operand left rest count → op_of (head_kind rest) ≡ Some op → deep < expr_depth left → IsFaultOf TooDeep whole
-chain_deep whole deep op_of operand left rest count op h is above = go h.less h.enough h.is
-  where
-    go : (less : ℕ) → count < less → whole ≡ chain less deep op_of operand left rest → IsFaultOf TooDeep whole
-    go zero enough same = absurd (omega arith)
-    go (suc less) enough same = record {
-      rest = behind rest;
-      is = same ∙
-          ap (λ o. elim o [ None ↦ Done left rest | Some op ↦ elim (nat_le (expr_depth left) deep) [ false ↦ Deep (behind rest) | true ↦ and_then (operand (behind rest)) (λ right after. chain less deep op_of operand (Pair (at_of left) op left right) after) ] ]) is
-          ∙ ap (λ b. elim b [ false ↦ Deep (behind rest) | true ↦ and_then (operand (behind rest)) (λ right after. chain less deep op_of operand (Pair (at_of left) op left right) after) ]) (lt-leb (expr_depth left) deep above);
-    }
-
-pub chain_fault : (whole : Outcome Expr) (deep : ℕ) (op_of : Kind → Option Op) (operand : Reader Expr) (left : Expr) (rest : List Lexeme) (count : ℕ) (op : Op) (fault : ParseFault) →
-    IsChained whole deep op_of operand left rest count → op_of (head_kind rest) ≡ Some op → expr_depth left ≤ deep → IsFaultOf fault (operand (behind rest)) → IsFaultOf fault whole
-chain_fault whole deep op_of operand left rest count op fault h is shallow found = go h.less h.enough h.is
-  where
-    go : (less : ℕ) → count < less → whole ≡ chain less deep op_of operand left rest → IsFaultOf fault whole
-    go zero enough same = absurd (omega arith)
-    go (suc less) enough same = subst (IsFaultOf fault) (sym (same ∙ chain_on less deep op_of operand left rest op is shallow))
-        (fault_then fault (operand (behind rest)) (λ right after. chain less deep op_of operand (Pair (at_of left) op left right) after) found)
 
 -- at depth 0 nothing is read
-never : {A : Type 0} (b : Bool) (lexemes : List Lexeme) (o : Outcome A → Outcome A) (tree : A) (rest : List Lexeme) → ((rest : List Lexeme) → o (Deep rest) ≡ Deep rest) → ((rest : List Lexeme) → o (Wrong rest) ≡ Wrong rest) → o (too_deep b lexemes) ≡ Done tree rest → ⊥
-never true lexemes o tree rest deep wrong e = let bad : Deep (behind lexemes) ≡ Done tree rest = sym (deep (behind lexemes)) ∙ e in cc
-never false lexemes o tree rest deep wrong e = let bad : Wrong lexemes ≡ Done tree rest = sym (wrong lexemes) ∙ e in cc
+never_deep : {A : Type 0} (b : Bool) (lexemes : List Lexeme) (tree : A) (rest : List Lexeme) → too_deep b lexemes ≡ Done tree rest → ⊥
+never_deep true lexemes tree rest e = let bad : Deep (behind lexemes) ≡ Done tree rest = e in cc
+never_deep false lexemes tree rest e = let bad : Wrong lexemes ≡ Done tree rest = e in cc
 
-unary_never : (most : ℕ) (lexemes rest : List Lexeme) (tree : Expr) → (levels most 0).unary lexemes ≡ Done tree rest → ⊥
-unary_never most lexemes rest tree e = never (begins_expr (head_kind lexemes)) lexemes (λ o. o) tree rest (λ rest. refl) (λ rest. refl) e
+never_then : {A B : Type 0} (o : Outcome A) (k : A → Reader B) → ((tree : A) (rest : List Lexeme) → o ≡ Done tree rest → ⊥) → (tree : B) (rest : List Lexeme) → and_then o k ≡ Done tree rest → ⊥
+never_then (Done x after) k never tree rest e = never x after refl
+never_then (Wrong after) k never tree rest e = let bad : Wrong after ≡ Done tree rest = e in cc
+never_then (Deep after) k never tree rest e = let bad : Deep after ≡ Done tree rest = e in cc
 
-term_never : (most : ℕ) (lexemes rest : List Lexeme) (tree : Expr) → (levels most 0).term lexemes ≡ Done tree rest → ⊥
-term_never most lexemes rest tree e = never (begins_expr (head_kind lexemes)) lexemes (λ o. and_then (o) (chain most 0 term_op no_expr)) tree rest (λ rest. refl) (λ rest. refl) e
+unary_never : (most : ℕ) (lexemes : List Lexeme) (tree : Expr) (rest : List Lexeme) → (levels most 0).unary lexemes ≡ Done tree rest → ⊥
+unary_never most lexemes = never_deep (begins_expr (head_kind lexemes)) lexemes
 
-sum_never : (most : ℕ) (lexemes rest : List Lexeme) (tree : Expr) → (levels most 0).sum lexemes ≡ Done tree rest → ⊥
-sum_never most lexemes rest tree e = never (begins_expr (head_kind lexemes)) lexemes (λ o. and_then (and_then (o) (chain most 0 term_op no_expr)) (chain most 0 sum_op no_expr)) tree rest (λ rest. refl) (λ rest. refl) e
+term_never : (most : ℕ) (lexemes : List Lexeme) (tree : Expr) (rest : List Lexeme) → (levels most 0).term lexemes ≡ Done tree rest → ⊥
+term_never most lexemes = never_then ((levels most 0).unary lexemes) (chain most 0 term_op no_expr) (unary_never most lexemes)
 
-comp_never : (most : ℕ) (lexemes rest : List Lexeme) (tree : Expr) → (levels most 0).comp lexemes ≡ Done tree rest → ⊥
-comp_never most lexemes rest tree e = never (begins_expr (head_kind lexemes)) lexemes (λ o. and_then (and_then (and_then (o) (chain most 0 term_op no_expr)) (chain most 0 sum_op no_expr)) (once 0 comp_op no_expr)) tree rest (λ rest. refl) (λ rest. refl) e
+sum_never : (most : ℕ) (lexemes : List Lexeme) (tree : Expr) (rest : List Lexeme) → (levels most 0).sum lexemes ≡ Done tree rest → ⊥
+sum_never most lexemes = never_then ((levels most 0).term lexemes) (chain most 0 sum_op no_expr) (term_never most lexemes)
 
-conj_never : (most : ℕ) (lexemes rest : List Lexeme) (tree : Expr) → (levels most 0).conj lexemes ≡ Done tree rest → ⊥
-conj_never most lexemes rest tree e = never (begins_expr (head_kind lexemes)) lexemes (λ o. and_then (and_then (and_then (and_then (o) (chain most 0 term_op no_expr)) (chain most 0 sum_op no_expr)) (once 0 comp_op no_expr)) (chain most 0 and_op no_expr)) tree rest (λ rest. refl) (λ rest. refl) e
+comp_never : (most : ℕ) (lexemes : List Lexeme) (tree : Expr) (rest : List Lexeme) → (levels most 0).comp lexemes ≡ Done tree rest → ⊥
+comp_never most lexemes = never_then ((levels most 0).sum lexemes) (once 0 comp_op no_expr) (sum_never most lexemes)
 
-expr_never : (most : ℕ) (lexemes rest : List Lexeme) (tree : Expr) → (levels most 0).expr lexemes ≡ Done tree rest → ⊥
-expr_never most lexemes rest tree e = never (begins_expr (head_kind lexemes)) lexemes (λ o. and_then (and_then (and_then (and_then (and_then (o) (chain most 0 term_op no_expr)) (chain most 0 sum_op no_expr)) (once 0 comp_op no_expr)) (chain most 0 and_op no_expr)) (chain most 0 or_op no_expr)) tree rest (λ rest. refl) (λ rest. refl) e
+conj_never : (most : ℕ) (lexemes : List Lexeme) (tree : Expr) (rest : List Lexeme) → (levels most 0).conj lexemes ≡ Done tree rest → ⊥
+conj_never most lexemes = never_then ((levels most 0).comp lexemes) (chain most 0 and_op no_expr) (comp_never most lexemes)
 
--- behind what the rule below has read, a chain
-pub term_chain : (most deep : ℕ) (lexemes rest : List Lexeme) (left : Expr) → (levels most deep).unary lexemes ≡ Done left rest → (levels most deep).term lexemes ≡ chain most (deep - 1) term_op (levels most (deep - 1)).unary left rest
-term_chain most zero lexemes rest left e = absurd (unary_never most lexemes rest left e)
-term_chain most (suc deep) lexemes rest left e =
+operand_never : (level : Level) (most : ℕ) (lexemes : List Lexeme) (tree : Expr) (rest : List Lexeme) → operand_of level (levels most 0) lexemes ≡ Done tree rest → ⊥
+operand_never level.Or most lexemes = conj_never most lexemes
+operand_never level.And most lexemes = comp_never most lexemes
+operand_never level.Comparison most lexemes = sum_never most lexemes
+operand_never level.Sum most lexemes = term_never most lexemes
+operand_never level.Term most lexemes = unary_never most lexemes
+
+-- a level, behind its first operand
+level_is : (level : Level) (most deep : ℕ) (lexemes : List Lexeme) → of_level level (levels most (suc deep)) lexemes
+    ≡ and_then (operand_of level (levels most (suc deep)) lexemes) (further (is_alone level) most deep (operator_of level) (operand_of level (levels most deep)))
+level_is level.Or most deep lexemes = refl
+level_is level.And most deep lexemes = refl
+level_is level.Comparison most deep lexemes = refl
+level_is level.Sum most deep lexemes = refl
+level_is level.Term most deep lexemes = refl
+
+level_at_0 : (level : Level) (most : ℕ) (lexemes : List Lexeme) → of_level level (levels most 0) lexemes
+    ≡ and_then (operand_of level (levels most 0) lexemes) (further (is_alone level) most 0 (operator_of level) no_expr)
+level_at_0 level.Or most lexemes = refl
+level_at_0 level.And most lexemes = refl
+level_at_0 level.Comparison most lexemes = refl
+level_at_0 level.Sum most lexemes = refl
+level_at_0 level.Term most lexemes = refl
+
+-- behind its first operand a level goes on
+pub level_begun : (level : Level) (most deep : ℕ) (lexemes rest : List Lexeme) (left : Expr) (count : ℕ) → count < most → operand_of level (levels most deep) lexemes ≡ Done left rest →
+    IsFurther (is_alone level) (of_level level (levels most deep) lexemes) (deep - 1) (operator_of level) (operand_of level (levels most (deep - 1))) left rest count
+level_begun level most zero lexemes rest left count enough e = absurd (operand_never level most lexemes left rest e)
+level_begun level most (suc deep) lexemes rest left count enough e =
     let one : deep ≡ suc deep - 1 = omega arith in
-    subst (λ n. (levels most (suc deep)).term lexemes ≡ chain most n term_op (levels most n).unary left rest) one
-    (ap (λ o. and_then o (chain most deep term_op (levels most deep).unary)) e)
+    let is : of_level level (levels most (suc deep)) lexemes ≡ further (is_alone level) most deep (operator_of level) (operand_of level (levels most deep)) left rest =
+    level_is level most deep lexemes ∙ ap (λ o. and_then o (further (is_alone level) most deep (operator_of level) (operand_of level (levels most deep)))) e in
+    subst (λ n. IsFurther (is_alone level) (of_level level (levels most (suc deep)) lexemes) n (operator_of level) (operand_of level (levels most n)) left rest count) one
+    (record { less = most; enough = enough; is = is })
 
-pub term_fault : (most deep : ℕ) (lexemes : List Lexeme) (fault : ParseFault) → IsFaultOf fault ((levels most deep).unary lexemes) → IsFaultOf fault ((levels most deep).term lexemes)
-term_fault most zero lexemes fault h = fault_then fault _ (chain most 0 term_op no_expr) h
-term_fault most (suc deep) lexemes fault h = fault_then fault _ (chain most deep term_op (levels most deep).unary) h
+-- a fault of its first operand is one of the level
+pub level_fault : (level : Level) (most deep : ℕ) (lexemes : List Lexeme) (fault : ParseFault) → IsFaultOf fault (operand_of level (levels most deep) lexemes) → IsFaultOf fault (of_level level (levels most deep) lexemes)
+level_fault level most zero lexemes fault h = subst (IsFaultOf fault) (sym (level_at_0 level most lexemes)) (fault_then fault _ (further (is_alone level) most 0 (operator_of level) no_expr) h)
+level_fault level most (suc deep) lexemes fault h = subst (IsFaultOf fault) (sym (level_is level most deep lexemes)) (fault_then fault _ (further (is_alone level) most deep (operator_of level) (operand_of level (levels most deep))) h)
 
--- behind what the rule below has read, a chain
-pub sum_chain : (most deep : ℕ) (lexemes rest : List Lexeme) (left : Expr) → (levels most deep).term lexemes ≡ Done left rest → (levels most deep).sum lexemes ≡ chain most (deep - 1) sum_op (levels most (deep - 1)).term left rest
-sum_chain most zero lexemes rest left e = absurd (term_never most lexemes rest left e)
-sum_chain most (suc deep) lexemes rest left e =
-    let one : deep ≡ suc deep - 1 = omega arith in
-    subst (λ n. (levels most (suc deep)).sum lexemes ≡ chain most n sum_op (levels most n).term left rest) one
-    (ap (λ o. and_then o (chain most deep sum_op (levels most deep).term)) e)
+-- how far a level stands above unary
+abbrev pub height : Level → ℕ
+height level.Or = 5
+height level.And = 4
+height level.Comparison = 3
+height level.Sum = 2
+height level.Term = 1
 
-pub sum_fault : (most deep : ℕ) (lexemes : List Lexeme) (fault : ParseFault) → IsFaultOf fault ((levels most deep).term lexemes) → IsFaultOf fault ((levels most deep).sum lexemes)
-sum_fault most zero lexemes fault h = fault_then fault _ (chain most 0 sum_op no_expr) h
-sum_fault most (suc deep) lexemes fault h = fault_then fault _ (chain most deep sum_op (levels most deep).term) h
-
--- behind what the rule below has read, a chain
-pub conj_chain : (most deep : ℕ) (lexemes rest : List Lexeme) (left : Expr) → (levels most deep).comp lexemes ≡ Done left rest → (levels most deep).conj lexemes ≡ chain most (deep - 1) and_op (levels most (deep - 1)).comp left rest
-conj_chain most zero lexemes rest left e = absurd (comp_never most lexemes rest left e)
-conj_chain most (suc deep) lexemes rest left e =
-    let one : deep ≡ suc deep - 1 = omega arith in
-    subst (λ n. (levels most (suc deep)).conj lexemes ≡ chain most n and_op (levels most n).comp left rest) one
-    (ap (λ o. and_then o (chain most deep and_op (levels most deep).comp)) e)
-
-pub conj_fault : (most deep : ℕ) (lexemes : List Lexeme) (fault : ParseFault) → IsFaultOf fault ((levels most deep).comp lexemes) → IsFaultOf fault ((levels most deep).conj lexemes)
-conj_fault most zero lexemes fault h = fault_then fault _ (chain most 0 and_op no_expr) h
-conj_fault most (suc deep) lexemes fault h = fault_then fault _ (chain most deep and_op (levels most deep).comp) h
-
--- behind what the rule below has read, a chain
-pub expr_chain : (most deep : ℕ) (lexemes rest : List Lexeme) (left : Expr) → (levels most deep).conj lexemes ≡ Done left rest → (levels most deep).expr lexemes ≡ chain most (deep - 1) or_op (levels most (deep - 1)).conj left rest
-expr_chain most zero lexemes rest left e = absurd (conj_never most lexemes rest left e)
-expr_chain most (suc deep) lexemes rest left e =
-    let one : deep ≡ suc deep - 1 = omega arith in
-    subst (λ n. (levels most (suc deep)).expr lexemes ≡ chain most n or_op (levels most n).conj left rest) one
-    (ap (λ o. and_then o (chain most deep or_op (levels most deep).conj)) e)
-
-pub expr_fault : (most deep : ℕ) (lexemes : List Lexeme) (fault : ParseFault) → IsFaultOf fault ((levels most deep).conj lexemes) → IsFaultOf fault ((levels most deep).expr lexemes)
-expr_fault most zero lexemes fault h = fault_then fault _ (chain most 0 or_op no_expr) h
-expr_fault most (suc deep) lexemes fault h = fault_then fault _ (chain most deep or_op (levels most deep).conj) h
-
-pub comp_once : (most deep : ℕ) (lexemes rest : List Lexeme) (left : Expr) → (levels most deep).sum lexemes ≡ Done left rest → (levels most deep).comp lexemes ≡ once (deep - 1) comp_op (levels most (deep - 1)).sum left rest
-comp_once most zero lexemes rest left e = absurd (sum_never most lexemes rest left e)
-comp_once most (suc deep) lexemes rest left e =
-    let one : deep ≡ suc deep - 1 = omega arith in
-    subst (λ n. (levels most (suc deep)).comp lexemes ≡ once n comp_op (levels most n).sum left rest) one
-    (ap (λ o. and_then o (once deep comp_op (levels most deep).sum)) e)
-
-pub comp_fault : (most deep : ℕ) (lexemes : List Lexeme) (fault : ParseFault) → IsFaultOf fault ((levels most deep).sum lexemes) → IsFaultOf fault ((levels most deep).comp lexemes)
-comp_fault most zero lexemes fault h = fault_then fault _ (once 0 comp_op no_expr) h
-comp_fault most (suc deep) lexemes fault h = fault_then fault _ (once deep comp_op (levels most deep).sum) h
-
--- a comparison, or none
-once_on : (deep : ℕ) (op_of : Kind → Option Op) (operand : Reader Expr) (left : Expr) (rest : List Lexeme) (op : Op) → op_of (head_kind rest) ≡ Some op → expr_depth left ≤ deep →
-    once deep op_of operand left rest ≡ made (Pair (at_of left) op left) (operand (behind rest))
-once_on deep op_of operand left rest op is shallow =
-    ap (λ o. elim o [ None ↦ Done left rest | Some op ↦ elim (nat_le (expr_depth left) deep) [ false ↦ Deep (behind rest) | true ↦ made (Pair (at_of left) op left) (operand (behind rest)) ] ]) is
-    ∙ ap (λ b. elim b [ false ↦ Deep (behind rest) | true ↦ made (Pair (at_of left) op left) (operand (behind rest)) ]) (le-leb (expr_depth left) deep shallow)
-
-pub once_end : (deep : ℕ) (op_of : Kind → Option Op) (operand : Reader Expr) (left : Expr) (rest : List Lexeme) → op_of (head_kind rest) ≡ None → once deep op_of operand left rest ≡ Done left rest
-once_end deep op_of operand left rest is =
-    ap (λ o. elim o [ None ↦ Done left rest | Some op ↦ elim (nat_le (expr_depth left) deep) [ false ↦ Deep (behind rest) | true ↦ made (Pair (at_of left) op left) (operand (behind rest)) ] ]) is
-
-pub once_deep : (deep : ℕ) (op_of : Kind → Option Op) (operand : Reader Expr) (left : Expr) (rest : List Lexeme) (op : Op) → op_of (head_kind rest) ≡ Some op → deep < expr_depth left → IsFaultOf TooDeep (once deep op_of operand left rest)
-once_deep deep op_of operand left rest op is above = record {
-  rest = behind rest;
-  is =
-      ap (λ o. elim o [ None ↦ Done left rest | Some op ↦ elim (nat_le (expr_depth left) deep) [ false ↦ Deep (behind rest) | true ↦ made (Pair (at_of left) op left) (operand (behind rest)) ] ]) is
-      ∙ ap (λ b. elim b [ false ↦ Deep (behind rest) | true ↦ made (Pair (at_of left) op left) (operand (behind rest)) ]) (lt-leb (expr_depth left) deep above);
-}
-
-pub once_more : (deep : ℕ) (op_of : Kind → Option Op) (operand : Reader Expr) (left : Expr) (rest : List Lexeme) (op : Op) (right : Expr) (after : List Lexeme) → op_of (head_kind rest) ≡ Some op → expr_depth left ≤ deep → operand (behind rest) ≡ Done right after →
-    once deep op_of operand left rest ≡ Done (Pair (at_of left) op left right) after
-once_more deep op_of operand left rest op right after is shallow read = once_on deep op_of operand left rest op is shallow ∙ ap (made (Pair (at_of left) op left)) read
-
-pub once_fault : (deep : ℕ) (op_of : Kind → Option Op) (operand : Reader Expr) (left : Expr) (rest : List Lexeme) (op : Op) (fault : ParseFault) → op_of (head_kind rest) ≡ Some op → expr_depth left ≤ deep → IsFaultOf fault (operand (behind rest)) →
-    IsFaultOf fault (once deep op_of operand left rest)
-once_fault deep op_of operand left rest op fault is shallow found =
-    subst (IsFaultOf fault) (sym (once_on deep op_of operand left rest op is shallow)) (fault_made fault (Pair (at_of left) op left) (operand (behind rest)) found)
+pub height-below : (level below : Level) → below_of level ≡ Some below → height below < height level
+height-below level.Or below is = let e : level.And ≡ below = cc in subst (λ b. height b < 5) e (omega arith)
+height-below level.And below is = let e : level.Comparison ≡ below = cc in subst (λ b. height b < 4) e (omega arith)
+height-below level.Comparison below is = let e : level.Sum ≡ below = cc in subst (λ b. height b < 3) e (omega arith)
+height-below level.Sum below is = let e : level.Term ≡ below = cc in subst (λ b. height b < 2) e (omega arith)
+height-below level.Term below is = absurd cc
 
 -- a unary expression, where one may stand
 pub unary_some : (most deep : ℕ) (lexemes : List Lexeme) → 0 < deep → (levels most deep).unary lexemes ≡ unary_over most (levels most (deep - 1)) lexemes
@@ -227,10 +216,6 @@ unary_some most zero lexemes h = absurd (omega arith)
 unary_some most (suc deep) lexemes h =
     let one : deep ≡ suc deep - 1 = omega arith in
     subst (λ n. (levels most (suc deep)).unary lexemes ≡ unary_over most (levels most n) lexemes) one refl
-
-pub unary_none : (most deep : ℕ) (lexemes : List Lexeme) (fault : ParseFault) → deep ≡ 0 → fault ≡ (if begins_expr (head_kind lexemes) then TooDeep else Syntax (head_at lexemes)) → IsFaultOf fault ((levels most deep).unary lexemes)
-unary_none most zero lexemes fault e is = too_deep_here _ (begins_expr (head_kind lexemes)) lexemes fault is
-unary_none most (suc deep) lexemes fault e is = absurd (omega (arith, e))
 
 -- what the first lexeme opens
 pub unary_opens : (most deep : ℕ) (text : List ℕ) (tokens : List Token) (first : Token) (rest : List Token) (o : Opening) → 0 < deep → tokens ≡ first ∷ rest → opening_of first.kind ≡ Some o →

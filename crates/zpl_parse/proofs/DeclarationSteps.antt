@@ -8,7 +8,7 @@ use Rattle.zpl_tokens.specs.declared.symbols.Sym.TheVariants as symbols
 use Rattle.zpl_tokens.specs.declared.keywords.Key.TheVariants as key
 use Rattle.zpl_tree.specs.Syntax.{Name, Expr, VarDef, Param, Decl}
 use Rattle.zpl_parse.specs.declared.faults.ParseFault.{ParseFault}
-use Rattle.zpl_parse.specs.Lexeme.{Lexeme, lexemes_of, lexeme_of, behind, head_kind}
+use Rattle.zpl_grammar.specs.Lexeme.{Lexeme, lexemes_of, lexeme_of, behind, head_kind}
 use Rattle.zpl_parse.specs.Outcome.{Outcome, Done, Wrong, Deep, Reader, and_then, made}
 use Rattle.zpl_parse.specs.Following.{IsFaultOf}
 use Rattle.zpl_parse.specs.Tokens.{next_is, name_of_kind, names}

@@ -3,8 +3,8 @@ use Rattle.std.proofs.Common.{◌≡◌, Bool, true, false, if◌then◌else◌,
 use Rattle.std.specs.Result.{IsErrAnd}
 use Rattle.zpl_parse.specs.declared.faults.ParseFault.{ParseFault}
 use Rattle.zpl_parse.specs.declared.faults.ParseFault.TheVariants.{Syntax, TooDeep, NoMemory}
-use Rattle.zpl_parse.specs.Lexeme.{Lexeme, head_at, behind}
-use Rattle.zpl_parse.specs.Outcome.{Outcome, Done, Wrong, Deep, Reader, and_then, made, too_deep}
+use Rattle.zpl_grammar.specs.Lexeme.{Lexeme, head_at, behind}
+use Rattle.zpl_parse.specs.Outcome.{Outcome, Wrong, Deep, Reader, and_then, made, too_deep}
 use Rattle.zpl_parse.specs.Following.{IsFaultOf, Follows}
 
 -- a fault is passed on as it is
@@ -23,14 +23,6 @@ pub fault_made : {A B : Type 0} (fault : ParseFault) (f : A → B) (o : Outcome 
 fault_made (Syntax at) f o h = record { rest = h.rest; is = ap (made f) h.is; place = h.place }
 fault_made TooDeep f o h = record { rest = h.rest; is = ap (made f) h.is }
 fault_made NoMemory f o h = tt
-
--- a lexeme that can't stand here
-pub refused_here : {A : Type 0} (fault : ParseFault) (rest : List Lexeme) (o : Outcome A) → fault ≡ Syntax (head_at rest) → o ≡ Wrong rest → IsFaultOf fault o
-refused_here fault rest o e is = subst (λ f. IsFaultOf f o) (sym e) (record { rest = rest; is = is; place = refl })
-
--- the second rule's answer is that of both, where the first is done
-pub follows_then : {V A B : Type 0} (r : Result V ParseFault) (done : V → Outcome B) (o : Outcome A) (k : A → Reader B) (x : A) (rest : List Lexeme) → o ≡ Done x rest → Follows r done (k x rest) → Follows r done (and_then o k)
-follows_then r done o k x rest e h = subst (λ o. Follows r done (and_then o k)) (sym e) h
 
 -- where no deeper tree may stand
 pub too_deep_here : (A : Type 0) (b : Bool) (rest : List Lexeme) (fault : ParseFault) → fault ≡ (if b then TooDeep else Syntax (head_at rest)) → IsFaultOf {A = A} fault (too_deep b rest)

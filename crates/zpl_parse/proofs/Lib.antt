@@ -4,44 +4,16 @@ pub mod Loops
 pub mod Lists
 pub mod Chains
 pub mod RegionBase
-mod Examples
-mod EveryForm
-pub mod SoundBase
-pub mod SoundTokens
-pub mod SoundClasses
-pub mod SoundExprs
-pub mod SoundStmts
-pub mod SoundDecls
-pub mod SoundProgram
+mod Rows
+pub mod Sound
 pub mod Local
-pub mod LocalTokens
-pub mod LocalExpressions
-pub mod LocalStatements
-pub mod LocalDeclarations
-pub mod PlainWords
-pub mod ViableBase
-pub mod ViableExprs
-pub mod ViableStmts
-pub mod ViableDecls
-pub mod AtBase
-pub mod AtExprs
-pub mod AtStmts
-pub mod AtDecls
-mod PlaceExamples
-pub mod CompleteBase
-pub mod CompleteLevels
-pub mod CompleteOpens
-pub mod CompleteParts
-pub mod CompleteExprs
-pub mod CompleteHere
-pub mod CompleteStatements
-pub mod CompleteDeclarations
-pub mod CompleteProgram
-pub mod OffsetsExprs
-pub mod OffsetsStmts
-pub mod OffsetsDecls
+pub mod Viable
+pub mod Placed
+pub mod Complete
+pub mod Once
 pub mod OneTree
 pub mod Whole
 pub mod StatementBase
 pub mod Answering
+pub mod Steady
 pub mod DeclarationSteps

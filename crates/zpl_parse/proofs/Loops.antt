@@ -1,7 +1,7 @@
 -- Loops that gather a list: what was found before what the rule makes of the rest is the whole.
 use Rattle.std.proofs.Common.{◌≡◌, ℕ, suc, zero, ◌<◌, List, [], ◌∷◌, ◌++◌, map, refl, sym, ap, subst, ◌∙◌, arith}
 use Rattle.zpl_parse.specs.declared.faults.ParseFault.{ParseFault}
-use Rattle.zpl_parse.specs.Lexeme.{Lexeme}
+use Rattle.zpl_grammar.specs.Lexeme.{Lexeme}
 use Rattle.zpl_parse.specs.Outcome.{Outcome, Done, Wrong, Deep, Reader, made}
 use Rattle.zpl_parse.specs.Following.{IsFaultOf}
 use Rattle.zpl_parse.proofs.Follows.{fault_made}

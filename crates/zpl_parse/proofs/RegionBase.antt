@@ -1,19 +1,12 @@
 -- Rules of directions and regions behind the parts that are already read.
-use Rattle.std.proofs.Common.{◌≡◌, ◌<◌, ℕ, suc, Bool, true, false, List, [], ◌∷◌, length, map, Option, Some, None, sym, ap, subst, ◌∙◌, arith}
-use Rattle.std.specs.Borrow.{Bor}
+use Rattle.std.proofs.Common.{◌≡◌, ◌<◌, ℕ, suc, Bool, true, false, List, [], ◌∷◌, length, Option, Some, None, sym, ap, subst, ◌∙◌, arith}
 use Rattle.zpl_text.specs.declared.tokens.Token.{Token}
 use Rattle.zpl_tokens.specs.declared.Kind.TheVariants as kind
 use Rattle.zpl_tokens.specs.declared.symbols.Sym.TheVariants as sym
 use Rattle.zpl_tree.specs.Syntax.{Expr, Pre, RegionBase, Dir, NamedDir, Vector, Inner, Rexpr, Dims, Posts, NoPost, ThenPost, DimText, DimTexts, NoDim, ThenDim}
-use Rattle.zpl_tree.specs.View.{pre_of, base_of, posts_of, rexpr_of}
-use Rattle.zpl_tree.specs.declared.regions.Pre.{Pre as PreNode}
-use Rattle.zpl_tree.specs.declared.regions.Post.{Post}
-use Rattle.zpl_tree.specs.declared.regions.RegionBase.{RegionBase as BaseNode}
-use Rattle.zpl_tree.specs.declared.regions.Rexpr.{roll-Rexpr}
-use Rattle.zpl_tree.proofs.Views.{posts_of_slice}
 use Rattle.zpl_parse.specs.declared.faults.ParseFault.{ParseFault}
 use Rattle.zpl_parse.specs.Classes.{stride_of, closes_region}
-use Rattle.zpl_parse.specs.Lexeme.{Lexeme, lexemes_of, head_kind, second_kind, behind}
+use Rattle.zpl_grammar.specs.Lexeme.{Lexeme, lexemes_of, head_kind, second_kind, behind}
 use Rattle.zpl_parse.specs.Outcome.{Outcome, Done, Wrong, Reader, and_then, made}
 use Rattle.zpl_parse.specs.Tokens.{name, next_is}
 use Rattle.zpl_parse.specs.Expressions.{components, dir, posts, region_base, rexpr, dim_text, dim_texts, begins_region, inner}
@@ -112,9 +105,3 @@ posts_more less expr lexemes after rest stride way is behind_is read =
 pub strides_some : (text : List ℕ) (tokens : List Token) (stride : Bool) → stride_of (head_kind (lexemes_of text tokens)) ≡ Some stride → 0 < length tokens
 strides_some text [] stride is = absurd (cc)
 strides_some text (token ∷ tokens) stride is = omega arith
-
--- a region expression of these parts, as it is seen
-pub rexpr_of-made : (pre : Bor (List PreNode)) (base : BaseNode) (post : Bor (List Post)) →
-    rexpr_of (roll-Rexpr (record { pre = pre; base = base; post = post })) ≡ Rexpr (map pre_of pre.now) (base_of base) (posts_of post.now)
-unfolding roll-Rexpr denote.Hole.Carrier.roll
-rexpr_of-made pre base post = ap (Rexpr (map pre_of pre.now) (base_of base)) (posts_of_slice post.now)

@@ -1,24 +1,17 @@
 -- Rules of statements behind the parts that are already read.
-use Rattle.std.proofs.Common.{◌≡◌, ℕ, zero, suc, ◌-◌, ◌<◌, Bool, true, false, List, [], ◌∷◌, Option, Some, None, Result, Bor, refl, sym, ap, subst, ◌∙◌, arith}
+use Rattle.std.proofs.Common.{◌≡◌, ℕ, zero, suc, ◌-◌, ◌<◌, Bool, true, false, List, [], ◌∷◌, Option, None, Result, refl, sym, ap, subst, ◌∙◌, arith}
 use Rattle.zpl_tokens.specs.declared.Kind.TheVariants as kind
 use Rattle.zpl_tokens.specs.declared.keywords.Key.TheVariants as key
 use Rattle.zpl_tokens.specs.declared.symbols.Sym.TheVariants as sym
 use Rattle.zpl_tree.specs.Syntax.{Name, Expr, Mask, Prefix, Inner, Form, Invoke, If, While, Repeat, For, ForHead, Stmt, Prefixed, Stmts, NoStmt, ThenStmt, Arm, Tested, Arms, NoArm, ThenArm, Otherwise, NoElse, Else}
-use Rattle.zpl_tree.specs.View.{expr_of, stmts_of, arm_of, arms_of, statement_of}
-use Rattle.zpl_tree.specs.declared.expressions.Expr.{Expr as TreeExpr}
-use Rattle.zpl_tree.specs.declared.statements.Stmt.{Stmt as TreeStmt}
-use Rattle.zpl_tree.specs.declared.statements.Arm.{Arm as TreeArm, roll-Arm}
-use Rattle.zpl_tree.specs.declared.statements.Form.TheVariants.{If as TreeIf}
-use Rattle.zpl_tree.proofs.Views.{stmts_of_slice, statement_of-If, statement_of-If_else}
 use Rattle.zpl_parse.specs.declared.classes.Start.{Start}
 use Rattle.zpl_parse.specs.declared.faults.ParseFault.{ParseFault}
 use Rattle.zpl_parse.specs.Following.{Follows}
 use Rattle.zpl_parse.specs.Classes.{assigning, begins_stmt, start_of}
-use Rattle.zpl_parse.specs.Lexeme.{Lexeme, head_kind, head_at, behind}
+use Rattle.zpl_grammar.specs.Lexeme.{Lexeme, head_kind, head_at, behind}
 use Rattle.zpl_parse.specs.Outcome.{Outcome, Done, Reader, and_then, made}
 use Rattle.zpl_parse.specs.Tokens.{symbol, keyword, closing, next_is}
 use Rattle.zpl_parse.specs.Expressions.{actuals, inner}
-use Rattle.zpl_parse.specs.Whole.{else_of}
 use Rattle.zpl_parse.specs.Statements.{assign_or_call, prefix, prefixes, mask, stmts, arm, arms, choice, otherwise, body_end, while_loop, repeat_loop, for_head, for_loop, form_by, stmt_over, stmt}
 
 pub call_is : (few : ℕ) (expr : Reader Expr) (target : Name) (lexemes rest : List Lexeme) (at : ℕ) →
@@ -166,17 +159,6 @@ stmt_form few expr body lexemes rest before is =
 pub started : (few : ℕ) (expr : Reader Expr) (body : Reader Stmts) (lexemes : List Lexeme) (start : Option Start) → start_of (head_kind lexemes) ≡ start →
     form_by few expr body (start_of (head_kind lexemes)) lexemes ≡ form_by few expr body start lexemes
 started few expr body lexemes start is = ap (λ s. form_by few expr body s lexemes) is
-
--- what the nodes are seen as
-pub arm_of-made : (at : ℕ) (test : Bor TreeExpr) (body : Bor (List TreeStmt)) →
-    arm_of (roll-Arm (record { at = at; test = test; body = body })) ≡ Tested at (expr_of test.now) (stmts_of body.now)
-unfolding roll-Arm denote.Hole.Carrier.roll
-arm_of-made at test body = ap (Tested at (expr_of test.now)) (stmts_of_slice body.now)
-
-pub statement_of-Choice : (arms : Bor (List TreeArm)) (otherwise : Option (Bor (List TreeStmt))) →
-    statement_of (TreeIf arms otherwise) ≡ If (arms_of arms.now) (else_of otherwise)
-statement_of-Choice arms None = statement_of-If arms
-statement_of-Choice arms (Some body) = statement_of-If_else arms body
 
 -- an outcome by another name
 pub follows_same : {V A : Type 0} (result : Result V ParseFault) (done : V → Outcome A) (whole same : Outcome A) → whole ≡ same → Follows result done same → Follows result done whole

@@ -1,5 +1,5 @@
 -- What a parser's answer says.
-use Rattle.std.specs.Prelude.{Result, Ok, Err}
+use Rattle.std.specs.Prelude.{Result, Ok, Err, ⊤}
 use Rattle.zpl_parse.specs.declared.faults.ParseFault.{ParseFault}
 use Rattle.zpl_parse.specs.declared.faults.ParseFault.TheVariants.{Syntax, TooDeep, NoMemory}
 
@@ -7,7 +7,7 @@ use Rattle.zpl_parse.specs.declared.faults.ParseFault.TheVariants.{Syntax, TooDe
 abbrev pub WantsMemory : ParseFault → Type 0
 WantsMemory (Syntax at) = ⊥
 WantsMemory TooDeep = ⊥
-WantsMemory NoMemory = Unit {0}
+WantsMemory NoMemory = ⊤
 
 -- The answer is something of which the fact holds, or memory ran out.
 abbrev pub Reads : {A : Type 0} → Result A ParseFault → (A → Type 0) → Type 0

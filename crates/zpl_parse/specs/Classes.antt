@@ -15,6 +15,8 @@ use Rattle.zpl_parse.specs.declared.classes.Opening.{Opening}
 use Rattle.zpl_parse.specs.declared.classes.Opening.TheVariants as opening
 use Rattle.zpl_parse.specs.declared.classes.Folding.{Folding}
 use Rattle.zpl_parse.specs.declared.classes.Folding.TheVariants as folding
+use Rattle.zpl_parse.specs.declared.classes.Suffix.{Suffix}
+use Rattle.zpl_parse.specs.declared.classes.Suffix.TheVariants as suffix
 use Rattle.zpl_parse.specs.declared.classes.Start.{Start}
 use Rattle.zpl_parse.specs.declared.classes.Start.TheVariants as start
 use Rattle.zpl_parse.specs.declared.classes.Part.{Part}
@@ -109,6 +111,13 @@ is_some None = false
 -- what may begin an expression
 abbrev pub begins_expr : Kind → Bool
 begins_expr kind = is_some (opening_of kind)
+
+-- what goes on behind a name: "@" | "#" | "("
+abbrev pub suffix_of : Kind → Option Suffix
+suffix_of (Symbol sym.At) = Some suffix.Shift
+suffix_of (Symbol sym.Hash) = Some suffix.Remap
+suffix_of (Symbol sym.OpenParen) = Some suffix.Call
+suffix_of _ = None
 
 -- what stands behind an operator that folds: "<<" | "||", and behind "max" and "min" also "("
 abbrev pub folding_of : Fold → Kind → Option Folding

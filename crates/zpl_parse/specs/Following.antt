@@ -1,11 +1,11 @@
 -- What it means that a function of the parser follows a rule of the grammar.
-use Rattle.std.specs.Prelude.{◌≡◌, ℕ, List, [], ◌∷◌, Result, Ok, Err}
+use Rattle.std.specs.Prelude.{◌≡◌, ℕ, List, [], ◌∷◌, Result, Ok, Err, ⊤}
 use Rattle.zpl_text.specs.declared.tokens.Token.{Token}
 use Rattle.zpl_tokens.specs.declared.Kind.{Kind}
 use Rattle.zpl_tokens.specs.declared.Kind.TheVariants as kind
 use Rattle.zpl_parse.specs.declared.faults.ParseFault.{ParseFault}
 use Rattle.zpl_parse.specs.declared.faults.ParseFault.TheVariants.{Syntax, TooDeep, NoMemory}
-use Rattle.zpl_parse.specs.Lexeme.{Lexeme, head_at}
+use Rattle.zpl_grammar.specs.Lexeme.{Lexeme, head_at}
 use Rattle.zpl_parse.specs.Outcome.{Outcome, Wrong, Deep}
 
 -- the rule meets a lexeme that can't stand where it does, and it stands here
@@ -23,7 +23,7 @@ pub record IsDeep {A : Type 0} (outcome : Outcome A) : Type 0 where
 abbrev pub IsFaultOf : {A : Type 0} → ParseFault → Outcome A → Type 0
 IsFaultOf (Syntax at) outcome = IsWrongAt at outcome
 IsFaultOf TooDeep outcome = IsDeep outcome
-IsFaultOf NoMemory outcome = Unit {0}
+IsFaultOf NoMemory outcome = ⊤
 
 -- the answer is what the rule's outcome says, where what was read is done so, or memory ran out
 abbrev pub Follows : {V A : Type 0} → Result V ParseFault → (V → Outcome A) → Outcome A → Type 0
@@ -33,7 +33,7 @@ Follows (Err fault) done outcome = IsFaultOf fault outcome
 -- kinds that have no value of their own
 abbrev pub HasNoValue : Kind → Type 0
 HasNoValue (kind.Number value) = ⊥
-HasNoValue _ = Unit {0}
+HasNoValue _ = ⊤
 
 -- the first token is of the kind
 abbrev pub BeginsWith : Kind → List Token → Type 0

@@ -1,14 +1,12 @@
-pub mod Lexeme
 pub mod Written
 pub mod Outcome
 pub mod Classes
-pub mod Same
 pub mod Tokens
 pub mod Expressions
+pub mod Operators
 pub mod Statements
 pub mod Declarations
 pub mod Following
-pub mod Places
-pub mod Placed
 pub mod Whole
+pub mod Reading
 pub mod Answers

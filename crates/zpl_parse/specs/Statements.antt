@@ -1,4 +1,5 @@
--- Rules of statements. `expr` is the rule of expressions, and `most` bounds the length of each list.
+-- Rules of statements. `expr` is the rule of expressions, and `most` bounds the length of each
+-- list.
 use Rattle.std.specs.Prelude.{ℕ, suc, zero, Bool, true, false, List, [], ◌∷◌, Option, Some, None}
 use Rattle.zpl_tokens.specs.declared.Kind.TheVariants as kind
 use Rattle.zpl_tokens.specs.declared.keywords.Key.TheVariants as key
@@ -7,7 +8,7 @@ use Rattle.zpl_tree.specs.Syntax.{Name, Expr, Mask, Prefix, ForHead, Item, Str, 
 use Rattle.zpl_parse.specs.declared.classes.Start.{Start}
 use Rattle.zpl_parse.specs.declared.classes.Start.TheVariants as start
 use Rattle.zpl_parse.specs.Classes.{assigning, start_of, begins_stmt, without_of, down_of}
-use Rattle.zpl_parse.specs.Lexeme.{head_kind, head_at, behind}
+use Rattle.zpl_grammar.specs.Lexeme.{head_kind, head_at, behind}
 use Rattle.zpl_parse.specs.Outcome.{Done, Wrong, Reader, and_then, made, too_deep}
 use Rattle.zpl_parse.specs.Tokens.{next_is, symbol, keyword, name, names, string_of, closing}
 use Rattle.zpl_parse.specs.Expressions.{actuals, inner}
@@ -17,7 +18,8 @@ abbrev pub mask : Reader (Option Mask)
 mask lexemes =
     elim (without_of (head_kind lexemes)) [
       | None ↦ Done None lexemes
-      | Some without ↦ made (λ name. Some (record { name = name; without = without })) (name (behind lexemes))
+      | Some without ↦
+          made (λ name. Some (record { name = name; without = without })) (name (behind lexemes))
     ]
 
 -- prefix = "[" inner [ ( "with" | "without" ) NAME ] "]"
@@ -25,7 +27,8 @@ abbrev pub prefix : ℕ → Reader Expr → Reader Prefix
 prefix most expr lexemes = and_then (symbol sym.OpenBracket lexemes) (λ at rest.
     and_then (inner most expr rest) (λ region after.
     and_then (mask after) (λ masked last.
-    made (λ end. record { at = at; region = region; mask = masked }) (symbol sym.CloseBracket last))))
+    made (λ end. record { at = at; region = region; mask = masked })
+    (symbol sym.CloseBracket last))))
 
 -- { prefix }
 abbrev pub prefixes : ℕ → Reader Expr → Reader (List Prefix)
@@ -33,7 +36,8 @@ prefixes zero expr lexemes = Wrong lexemes
 prefixes (suc most) expr lexemes =
     elim (next_is (kind.Symbol sym.OpenBracket) lexemes) [
       | false ↦ Done [] lexemes
-      | true ↦ and_then (prefix most expr lexemes) (λ first rest. made (λ others. first ∷ others) (prefixes most expr rest))
+      | true ↦ and_then (prefix most expr lexemes) (λ first rest.
+          made (λ others. first ∷ others) (prefixes most expr rest))
     ]
 
 -- { stmt }
@@ -67,16 +71,21 @@ abbrev pub items : ℕ → Reader Expr → Reader (List Item)
 items most expr lexemes =
     elim (next_is (kind.Symbol sym.CloseParen) lexemes) [
       | true ↦ Done [] (behind lexemes)
-      | false ↦ and_then (some_items most expr lexemes) (λ those rest. made (λ at. those) (symbol sym.CloseParen rest))
+      | false ↦
+          and_then (some_items most expr lexemes) (λ those rest.
+          made (λ at. those) (symbol sym.CloseParen rest))
     ]
 
 -- what is behind a name: assign expr ";" | "(" [ expr { "," expr } ] ")" ";"
 abbrev pub assign_or_call : ℕ → Reader Expr → Name → Reader Form
 assign_or_call most expr target lexemes =
     elim (assigning (head_kind lexemes)) [
-      | Some op ↦ and_then (expr (behind lexemes)) (λ value rest. made (λ at. Assign target op value) (symbol sym.Semicolon rest))
+      | Some op ↦
+          and_then (expr (behind lexemes)) (λ value rest.
+          made (λ at. Assign target op value) (symbol sym.Semicolon rest))
       | None ↦ and_then (symbol sym.OpenParen lexemes) (λ at rest.
-          and_then (actuals most expr rest) (λ those after. made (λ end. Invoke target those) (symbol sym.Semicolon after)))
+          and_then (actuals most expr rest) (λ those after.
+          made (λ end. Invoke target those) (symbol sym.Semicolon after)))
     ]
 
 -- { stmt } "end" ";"
@@ -119,7 +128,8 @@ while_loop expr body lexemes = and_then (expr lexemes) (λ test rest.
 abbrev pub repeat_loop : Reader Expr → Reader Stmts → Reader Form
 repeat_loop expr body lexemes = and_then (body lexemes) (λ those rest.
     and_then (keyword key.Until rest) (λ until after.
-    and_then (expr after) (λ test last. made (λ end. Repeat those until test) (symbol sym.Semicolon last))))
+    and_then (expr after) (λ test last. made (λ end. Repeat those until test)
+    (symbol sym.Semicolon last))))
 
 -- [ "by" expr ]
 abbrev pub step : Reader Expr → Reader (Option Expr)
@@ -144,7 +154,9 @@ for_head expr lexemes = and_then (name lexemes) (λ counter rest.
     and_then (expr after) (λ first to.
     and_then (way_down to) (λ down behind_to.
     and_then (expr behind_to) (λ last by.
-    made (λ stride. record { name = counter; first = first; down = down; last = last; step = stride }) (step expr by))))))
+    made (λ stride.
+    record { name = counter; first = first; down = down; last = last; step = stride })
+    (step expr by))))))
 
 -- NAME ":=" expr ( "to" | "downto" ) expr [ "by" expr ] "do" { stmt } "end" ";", behind a "for"
 abbrev pub for_loop : Reader Expr → Reader Stmts → Reader Form
@@ -153,16 +165,21 @@ for_loop expr body lexemes = and_then (for_head expr lexemes) (λ head rest.
 
 -- a statement behind its prefixes, by its first lexeme
 abbrev pub form_by : ℕ → Reader Expr → Reader Stmts → Option Start → Reader Form
-form_by most expr body (Some start.Name) lexemes = and_then (name lexemes) (assign_or_call most expr)
+form_by most expr body (Some start.Name) lexemes =
+    and_then (name lexemes) (assign_or_call most expr)
 form_by most expr body (Some start.Block) lexemes = made Block (body_end body (behind lexemes))
-form_by most expr body (Some start.If) lexemes = choice most expr body (head_at lexemes) (behind lexemes)
+form_by most expr body (Some start.If) lexemes =
+    choice most expr body (head_at lexemes) (behind lexemes)
 form_by most expr body (Some start.While) lexemes = while_loop expr body (behind lexemes)
 form_by most expr body (Some start.Repeat) lexemes = repeat_loop expr body (behind lexemes)
 form_by most expr body (Some start.For) lexemes = for_loop expr body (behind lexemes)
-form_by most expr body (Some (start.Border kind)) lexemes = and_then (names most (behind lexemes)) (λ those rest.
+form_by most expr body (Some (start.Border kind)) lexemes =
+    and_then (names most (behind lexemes)) (λ those rest.
     made (λ at. Border kind those) (symbol sym.Semicolon rest))
-form_by most expr body (Some (start.Write line)) lexemes = and_then (symbol sym.OpenParen (behind lexemes)) (λ at rest.
-    and_then (items most expr rest) (λ those after. made (λ end. Write line those) (symbol sym.Semicolon after)))
+form_by most expr body (Some (start.Write line)) lexemes =
+    and_then (symbol sym.OpenParen (behind lexemes)) (λ at rest.
+    and_then (items most expr rest) (λ those after.
+    made (λ end. Write line those) (symbol sym.Semicolon after)))
 form_by most expr body (Some start.Return) lexemes = and_then (expr (behind lexemes)) (λ value rest.
     made (λ at. Return value) (symbol sym.Semicolon rest))
 form_by most expr body None lexemes = Wrong lexemes

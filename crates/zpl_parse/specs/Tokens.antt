@@ -6,18 +6,14 @@ use Rattle.zpl_tokens.specs.declared.keywords.Key.{Key}
 use Rattle.zpl_tokens.specs.declared.keywords.Key.TheVariants as key
 use Rattle.zpl_tokens.specs.declared.symbols.Sym.{Sym}
 use Rattle.zpl_tokens.specs.declared.symbols.Sym.TheVariants as sym
-use Rattle.zpl_parse.specs.Same.{same}
+use Rattle.zpl_grammar.specs.Same.{same}
 use Rattle.zpl_tree.specs.Syntax.{Name}
 use Rattle.zpl_parse.specs.Classes.{opening_of}
 use Rattle.zpl_parse.specs.declared.classes.Opening.{Opening}
 use Rattle.zpl_parse.specs.declared.classes.Opening.TheVariants as opening
-use Rattle.zpl_parse.specs.Lexeme.{Lexeme, head_kind, behind}
+use Rattle.zpl_grammar.specs.Lexeme.{Lexeme, head_kind, behind}
+pub use Rattle.zpl_grammar.specs.Lexeme.{next_is}
 use Rattle.zpl_parse.specs.Outcome.{Outcome, Done, Wrong, Reader, and_then, made}
-
--- the first lexeme is of the kind
-abbrev pub next_is : Kind → List Lexeme → Bool
-next_is wanted [] = false
-next_is wanted (first ∷ rest) = same first.kind wanted
 
 -- one of this kind, whose offset it is
 abbrev pub taken : Bool → Lexeme → List Lexeme → Outcome ℕ

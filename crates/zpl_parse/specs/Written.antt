@@ -1,8 +1,8 @@
 -- How lexemes are the words of a tree.
-use Rattle.std.specs.Prelude.{◌≡◌, List, [], ◌∷◌}
+use Rattle.std.specs.Prelude.{◌≡◌, List, [], ◌∷◌, ⊤}
 use Rattle.zpl_tree.specs.Word.{Word, kind_of}
 use Rattle.zpl_grammar.specs.Written.{HasBytes}
-use Rattle.zpl_parse.specs.Lexeme.{Lexeme}
+use Rattle.zpl_grammar.specs.Lexeme.{Lexeme}
 
 -- The lexeme is the word.
 pub record IsLexeme (lexeme : Lexeme) (word : Word) : Type 0 where
@@ -11,7 +11,7 @@ pub record IsLexeme (lexeme : Lexeme) (word : Word) : Type 0 where
 
 -- The lexemes are the words, one by one.
 abbrev pub AreLexemes : List Lexeme → List Word → Type 0
-AreLexemes [] [] = Unit {0}
+AreLexemes [] [] = ⊤
 AreLexemes [] (word ∷ words) = ⊥
 AreLexemes (lexeme ∷ lexemes) [] = ⊥
 AreLexemes (lexeme ∷ lexemes) (word ∷ words) = IsLexeme lexeme word × AreLexemes lexemes words

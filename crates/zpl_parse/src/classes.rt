@@ -2,13 +2,18 @@
 ghost use Rattle.std.specs.Prelude.{◌≡◌};
 ghost use Rattle.zpl_tokens.specs.declared.Kind.TheVariants.{Symbol};
 ghost use Rattle.zpl_tokens.specs.declared.symbols.Sym.TheVariants.{OpenParen};
-ghost use Rattle.zpl_parse.specs.Classes.{opening_of, opening_symbol_of, opening_keyword_of, or_op, and_op, comp_op, sum_op, term_op, folding_of, assigning, start_of, start_keyword, begins_stmt, part_of, outside_of, stride_of, without_of, down_of, closes_region, closes_dim, follows_region};
+ghost use Rattle.zpl_parse.specs.Classes.{opening_of, opening_symbol_of, opening_keyword_of};
+ghost use Rattle.zpl_parse.specs.Classes.{or_op, and_op, comp_op, sum_op, term_op, folding_of};
+ghost use Rattle.zpl_parse.specs.Classes.{assigning, start_of, start_keyword, begins_stmt, part_of};
+ghost use Rattle.zpl_parse.specs.Classes.{outside_of, stride_of, without_of, down_of};
+ghost use Rattle.zpl_parse.specs.Classes.{closes_region, closes_dim, follows_region, suffix_of};
+ghost use Rattle.zpl_parse.specs.Operators.{operator_of, below_of, is_alone};
 
 use zpl_nums::{Border, Fold, Op};
 use zpl_tokens::{Key, Kind, Sym};
 
 /// What the first token of an expression begins.
-#[derive(Clone, Copy, Debug, PartialEq, Eq)]
+#[derive(Clone, Copy)]
 pub enum Opening {
     /// A number.
     Number(i64),
@@ -32,8 +37,23 @@ pub enum Opening {
     Flood,
 }
 
+/// The levels of operators between two operands, from the one that binds weakest.
+#[derive(Clone, Copy)]
+pub enum Level {
+    /// `|`.
+    Or,
+    /// `&`.
+    And,
+    /// A comparison, of which one alone stands between two operands.
+    Comparison,
+    /// `+` and `-`.
+    Sum,
+    /// `*`, `/` and `%`.
+    Term,
+}
+
 /// What stands behind an operator that folds.
-#[derive(Clone, Copy, Debug, PartialEq, Eq)]
+#[derive(Clone, Copy)]
 pub enum Folding {
     /// `<<`, of a reduction.
     Reduce,
@@ -44,7 +64,7 @@ pub enum Folding {
 }
 
 /// What the first token of a statement behind its prefixes begins.
-#[derive(Clone, Copy, Debug, PartialEq, Eq)]
+#[derive(Clone, Copy)]
 pub enum Start {
     /// An assignment or a call.
     Name,
@@ -67,7 +87,7 @@ pub enum Start {
 }
 
 /// What the first token of a declaration begins.
-#[derive(Clone, Copy, Debug, PartialEq, Eq)]
+#[derive(Clone, Copy)]
 pub enum Part {
     /// Configs.
     Config,
@@ -81,6 +101,17 @@ pub enum Part {
     Var,
     /// A procedure.
     Procedure,
+}
+
+/// What stands behind a name.
+#[derive(Clone, Copy)]
+pub enum Suffix {
+    /// `@`, of a shift or of a read that wraps round.
+    Shift,
+    /// `#`, of a remap.
+    Remap,
+    /// `(`, of a call.
+    Call,
 }
 
 /// What a token begins as the first one of an expression.
@@ -130,8 +161,53 @@ fn opening_keyword(key: Key) -> Option<Opening>
     }
 }
 
+/// What a token begins as the first one behind a name.
+pub fn suffixed_by(kind: Kind) -> Option<Suffix>
+    ensures { result ≡ suffix_of kind }
+{
+    match kind {
+        Kind::Symbol(Sym::At) => Some(Suffix::Shift),
+        Kind::Symbol(Sym::Hash) => Some(Suffix::Remap),
+        Kind::Symbol(Sym::OpenParen) => Some(Suffix::Call),
+        _ => None,
+    }
+}
+
+/// The operator of a level that a token is.
+pub fn operator(level: Level, kind: Kind) -> Option<Op>
+    ensures { result ≡ operator_of level kind }
+{
+    match level {
+        Level::Or => or_operator(kind),
+        Level::And => and_operator(kind),
+        Level::Comparison => comparison(kind),
+        Level::Sum => sum_operator(kind),
+        Level::Term => term_operator(kind),
+    }
+}
+
+/// The level of what stands between the operators of a level, or none where that is unary.
+pub fn below(level: Level) -> Option<Level>
+    ensures { result ≡ below_of level }
+{
+    match level {
+        Level::Or => Some(Level::And),
+        Level::And => Some(Level::Comparison),
+        Level::Comparison => Some(Level::Sum),
+        Level::Sum => Some(Level::Term),
+        Level::Term => None,
+    }
+}
+
+/// Whether one operator of a level alone stands between two operands.
+pub fn stands_alone(level: Level) -> bool
+    ensures { result ≡ is_alone level }
+{
+    matches!(level, Level::Comparison)
+}
+
 /// `|`.
-pub fn or_operator(kind: Kind) -> Option<Op>
+fn or_operator(kind: Kind) -> Option<Op>
     ensures { result ≡ or_op kind }
 {
     match kind {
@@ -141,7 +217,7 @@ pub fn or_operator(kind: Kind) -> Option<Op>
 }
 
 /// `&`.
-pub fn and_operator(kind: Kind) -> Option<Op>
+fn and_operator(kind: Kind) -> Option<Op>
     ensures { result ≡ and_op kind }
 {
     match kind {
@@ -151,7 +227,7 @@ pub fn and_operator(kind: Kind) -> Option<Op>
 }
 
 /// A comparison.
-pub fn comparison(kind: Kind) -> Option<Op>
+fn comparison(kind: Kind) -> Option<Op>
     ensures { result ≡ comp_op kind }
 {
     match kind {
@@ -166,7 +242,7 @@ pub fn comparison(kind: Kind) -> Option<Op>
 }
 
 /// `+` or `-`.
-pub fn sum_operator(kind: Kind) -> Option<Op>
+fn sum_operator(kind: Kind) -> Option<Op>
     ensures { result ≡ sum_op kind }
 {
     match kind {
@@ -177,7 +253,7 @@ pub fn sum_operator(kind: Kind) -> Option<Op>
 }
 
 /// `*`, `/` or `%`.
-pub fn term_operator(kind: Kind) -> Option<Op>
+fn term_operator(kind: Kind) -> Option<Op>
     ensures { result ≡ term_op kind }
 {
     match kind {

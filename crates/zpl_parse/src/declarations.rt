@@ -1,16 +1,17 @@
 //! Rules of declarations.
 ghost use Rattle.std.specs.Prelude.{◌<◌, ◌≤◌, ℕ, map, length, IfOk};
 ghost use Rattle.std.specs.Option.{option_map};
-ghost use Rattle.zpl_tree.specs.View.{name_of, base_type_of, define_of, region_of, direction_of, var_of, param_of, procedure_of, decl_of, stmt_of};
+ghost use Rattle.zpl_tree.specs.View.{name_of, base_type_of, define_of, region_of, direction_of};
+ghost use Rattle.zpl_tree.specs.View.{var_of, param_of, procedure_of, decl_of, stmt_of};
 ghost use Rattle.zpl_parse.specs.Classes.{part_of};
-ghost use Rattle.zpl_parse.specs.Following.{Follows};
-ghost use Rattle.zpl_parse.specs.Lexeme.{lexemes_of, head_kind};
-ghost use Rattle.zpl_parse.specs.Outcome.{Done};
+ghost use Rattle.zpl_parse.specs.Reading.{IsRead};
+ghost use Rattle.zpl_grammar.specs.Lexeme.{head_kind};
 ghost use Rattle.zpl_parse.specs.Whole.{any_expr, most_nested};
-ghost use Rattle.zpl_parse.specs.Declarations.{base as base_rule, group, define as define_rule, region_body as region_body_rule, region as region_rule, direction as direction_rule, variables as variable_rule, formals as formals_rule, param as param_rule, some_params as some_params_rule, params as params_rule, result as result_rule, locals as locals_rule, body as body_rule, procedure as procedure_rule, decl_by, decls as decls_rule};
+ghost use Rattle.zpl_parse.specs.Declarations as rule;
 
 use crate::classes::{Part, declared_by};
 use crate::expressions::components;
+use crate::groups::group;
 use crate::placing::{placed_list, placed_procedure};
 use crate::regions::{bracket, in_bracket, posts, rexpr};
 use crate::statements::{MOST_DEEP, body_end, prefixes, value};
@@ -31,7 +32,8 @@ pub fn decls<'a, 't>(
     tokens: &'t [Token],
 ) -> Read<'t, &'a [Decl<'a>]>
     ensures { (few most : ℕ) → length tokens.now < few → length tokens.now < most
-        → Follows result (λ r. Done (map decl_of r.0.now) (lexemes_of bytes.now r.1.now)) (decls_rule few (any_expr most) most_nested (lexemes_of bytes.now tokens.now)) }
+        → IsRead result (rule.decls few (any_expr most) most_nested) (λ read. map decl_of read.now)
+        bytes.now tokens.now }
 {
     let mut decls = Vec::new(alloc);
     let mut rest = tokens;
@@ -44,8 +46,9 @@ pub fn decls<'a, 't>(
     Ok((decls, behind(rest)))
 }
 
-/// decl = "config" "var" define { define } | "constant" define { define } | "region" regiondef { regiondef }
-/// | "direction" dirdef { dirdef } | "var" vardef { vardef } | procedure.
+/// decl = "config" "var" define { define } | "constant" define { define }
+/// | "region" regiondef { regiondef } | "direction" dirdef { dirdef }
+/// | "var" vardef { vardef } | procedure.
 fn decl<'a, 't>(
     alloc: Global,
     arena: &'a Bump<Global>,
@@ -53,7 +56,10 @@ fn decl<'a, 't>(
     tokens: &'t [Token],
 ) -> Read<'t, Decl<'a>>
     ensures follows { (few most : ℕ) → length tokens.now ≤ few → length tokens.now < most
-        → Follows result (λ r. Done (decl_of r.0) (lexemes_of bytes.now r.1.now)) (decl_by few (any_expr most) most_nested (part_of (head_kind (lexemes_of bytes.now tokens.now))) (lexemes_of bytes.now tokens.now)) }
+        → IsRead result
+        (λ lexemes. rule.decl_by few (any_expr most) most_nested
+        (part_of (head_kind lexemes)) lexemes)
+        decl_of bytes.now tokens.now }
     ensures shorter { IfOk result (λ r. length r.1.now < length tokens.now) }
 {
     let Some(part) = declared_by(first_kind(tokens)) else {
@@ -63,23 +69,23 @@ fn decl<'a, 't>(
     match part {
         Part::Config => {
             let (_, rest) = keyword(rest, Key::Var)?;
-            let (those, rest) = defines(alloc, arena, bytes, rest)?;
+            let (those, rest) = group(alloc, arena, bytes, rest)?;
             Ok((Decl::Config(those), rest))
         }
         Part::Constant => {
-            let (those, rest) = defines(alloc, arena, bytes, rest)?;
+            let (those, rest) = group(alloc, arena, bytes, rest)?;
             Ok((Decl::Constant(those), rest))
         }
         Part::Region => {
-            let (those, rest) = regions(alloc, arena, bytes, rest)?;
+            let (those, rest) = group(alloc, arena, bytes, rest)?;
             Ok((Decl::Regions(those), rest))
         }
         Part::Direction => {
-            let (those, rest) = directions(alloc, arena, bytes, rest)?;
+            let (those, rest) = group(alloc, arena, bytes, rest)?;
             Ok((Decl::Directions(those), rest))
         }
         Part::Var => {
-            let (those, rest) = variables(alloc, arena, bytes, rest)?;
+            let (those, rest) = group(alloc, arena, bytes, rest)?;
             Ok((Decl::Vars(those), rest))
         }
         Part::Procedure => {
@@ -90,39 +96,15 @@ fn decl<'a, 't>(
     }
 }
 
-/// define { define }.
-fn defines<'a, 't>(
-    alloc: Global,
-    arena: &'a Bump<Global>,
-    bytes: &'a [u8],
-    tokens: &'t [Token],
-) -> Read<'t, &'a [Define<'a>]>
-    ensures follows { (few most : ℕ) → length tokens.now < few → length tokens.now < most
-        → Follows result (λ r. Done (map define_of r.0.now) (lexemes_of bytes.now r.1.now)) (group few (define_rule (any_expr most)) (lexemes_of bytes.now tokens.now)) }
-    ensures shorter { IfOk result (λ r. length r.1.now < length tokens.now) }
-{
-    let mut defines = Vec::new(alloc);
-    let mut rest = tokens;
-    loop {
-        let (next, after) = define(alloc, arena, bytes, rest)?;
-        defines.push(next)?;
-        if !begins_with(after, Kind::Name) {
-            let defines = placed_list(arena, defines.as_slice())?;
-            return Ok((defines, after));
-        }
-        rest = after;
-    }
-}
-
 /// define = NAME ":" base "=" expr ";".
-fn define<'a, 't>(
+pub fn define<'a, 't>(
     alloc: Global,
     arena: &'a Bump<Global>,
     bytes: &'a [u8],
     tokens: &'t [Token],
 ) -> Read<'t, Define<'a>>
     ensures follows { (most : ℕ) → length tokens.now < most
-        → Follows result (λ r. Done (define_of r.0) (lexemes_of bytes.now r.1.now)) (define_rule (any_expr most) (lexemes_of bytes.now tokens.now)) }
+        → IsRead result (rule.define (any_expr most)) define_of bytes.now tokens.now }
     ensures shorter { IfOk result (λ r. length r.1.now < length tokens.now) }
 {
     let (name, rest) = name(bytes, tokens)?;
@@ -136,7 +118,7 @@ fn define<'a, 't>(
 
 /// base = "integer" | "boolean" | NAME.
 fn base<'a, 't>(bytes: &'a [u8], tokens: &'t [Token]) -> Read<'t, Base<'a>>
-    ensures follows { Follows result (λ r. Done (base_type_of r.0) (lexemes_of bytes.now r.1.now)) (base_rule (lexemes_of bytes.now tokens.now)) }
+    ensures follows { IsRead result rule.base base_type_of bytes.now tokens.now }
     ensures shorter { IfOk result (λ r. length r.1.now < length tokens.now) }
 {
     if begins_with(tokens, Kind::Word(Key::Integer)) {
@@ -149,39 +131,15 @@ fn base<'a, 't>(bytes: &'a [u8], tokens: &'t [Token]) -> Read<'t, Base<'a>>
     Ok((Base::Other(name), rest))
 }
 
-/// regiondef { regiondef }.
-fn regions<'a, 't>(
-    alloc: Global,
-    arena: &'a Bump<Global>,
-    bytes: &'a [u8],
-    tokens: &'t [Token],
-) -> Read<'t, &'a [RegionDef<'a>]>
-    ensures follows { (few most : ℕ) → length tokens.now < few → length tokens.now < most
-        → Follows result (λ r. Done (map region_of r.0.now) (lexemes_of bytes.now r.1.now)) (group few (region_rule few (any_expr most)) (lexemes_of bytes.now tokens.now)) }
-    ensures shorter { IfOk result (λ r. length r.1.now < length tokens.now) }
-{
-    let mut regions = Vec::new(alloc);
-    let mut rest = tokens;
-    loop {
-        let (next, after) = region(alloc, arena, bytes, rest)?;
-        regions.push(next)?;
-        if !begins_with(after, Kind::Name) {
-            let regions = placed_list(arena, regions.as_slice())?;
-            return Ok((regions, after));
-        }
-        rest = after;
-    }
-}
-
 /// regiondef = NAME "=" ( bracket { post } | rexpr ) ";".
-fn region<'a, 't>(
+pub fn region<'a, 't>(
     alloc: Global,
     arena: &'a Bump<Global>,
     bytes: &'a [u8],
     tokens: &'t [Token],
 ) -> Read<'t, RegionDef<'a>>
     ensures follows { (few most : ℕ) → length tokens.now < few → length tokens.now < most
-        → Follows result (λ r. Done (region_of r.0) (lexemes_of bytes.now r.1.now)) (region_rule few (any_expr most) (lexemes_of bytes.now tokens.now)) }
+        → IsRead result (rule.region few (any_expr most)) region_of bytes.now tokens.now }
     ensures shorter { IfOk result (λ r. length r.1.now < length tokens.now) }
 {
     let (name, rest) = name(bytes, tokens)?;
@@ -200,7 +158,8 @@ fn region_body<'a, 't>(
     tokens: &'t [Token],
 ) -> Read<'t, RegionDef<'a>>
     ensures follows { (few most : ℕ) → length tokens.now < few → length tokens.now < most
-        → Follows result (λ r. Done (region_of r.0) (lexemes_of bytes.now r.1.now)) (region_body_rule few (any_expr most) (name_of name.entry) (lexemes_of bytes.now tokens.now)) }
+        → IsRead result (rule.region_body few (any_expr most) (name_of name.entry)) region_of
+        bytes.now tokens.now }
     ensures shorter { IfOk result (λ r. length r.1.now ≤ length tokens.now) }
 {
     if !begins_with(tokens, Kind::Symbol(Sym::OpenBracket)) {
@@ -213,39 +172,15 @@ fn region_body<'a, 't>(
     Ok((RegionDef { name, body, posts }, rest))
 }
 
-/// dirdef { dirdef }.
-fn directions<'a, 't>(
-    alloc: Global,
-    arena: &'a Bump<Global>,
-    bytes: &'a [u8],
-    tokens: &'t [Token],
-) -> Read<'t, &'a [DirDef<'a>]>
-    ensures follows { (few most : ℕ) → length tokens.now < few → length tokens.now < most
-        → Follows result (λ r. Done (map direction_of r.0.now) (lexemes_of bytes.now r.1.now)) (group few (direction_rule few (any_expr most)) (lexemes_of bytes.now tokens.now)) }
-    ensures shorter { IfOk result (λ r. length r.1.now < length tokens.now) }
-{
-    let mut directions = Vec::new(alloc);
-    let mut rest = tokens;
-    loop {
-        let (next, after) = direction(alloc, arena, bytes, rest)?;
-        directions.push(next)?;
-        if !begins_with(after, Kind::Name) {
-            let directions = placed_list(arena, directions.as_slice())?;
-            return Ok((directions, after));
-        }
-        rest = after;
-    }
-}
-
 /// dirdef = NAME "=" vector ";".
-fn direction<'a, 't>(
+pub fn direction<'a, 't>(
     alloc: Global,
     arena: &'a Bump<Global>,
     bytes: &'a [u8],
     tokens: &'t [Token],
 ) -> Read<'t, DirDef<'a>>
     ensures follows { (few most : ℕ) → length tokens.now < few → length tokens.now < most
-        → Follows result (λ r. Done (direction_of r.0) (lexemes_of bytes.now r.1.now)) (direction_rule few (any_expr most) (lexemes_of bytes.now tokens.now)) }
+        → IsRead result (rule.direction few (any_expr most)) direction_of bytes.now tokens.now }
     ensures shorter { IfOk result (λ r. length r.1.now < length tokens.now) }
 {
     let (name, rest) = name(bytes, tokens)?;
@@ -256,39 +191,15 @@ fn direction<'a, 't>(
     Ok((DirDef { name, parts }, rest))
 }
 
-/// vardef { vardef }.
-fn variables<'a, 't>(
-    alloc: Global,
-    arena: &'a Bump<Global>,
-    bytes: &'a [u8],
-    tokens: &'t [Token],
-) -> Read<'t, &'a [VarDef<'a>]>
-    ensures follows { (few most : ℕ) → length tokens.now < few → length tokens.now < most
-        → Follows result (λ r. Done (map var_of r.0.now) (lexemes_of bytes.now r.1.now)) (group few (variable_rule few (any_expr most)) (lexemes_of bytes.now tokens.now)) }
-    ensures shorter { IfOk result (λ r. length r.1.now < length tokens.now) }
-{
-    let mut variables = Vec::new(alloc);
-    let mut rest = tokens;
-    loop {
-        let (next, after) = variable(alloc, arena, bytes, rest)?;
-        variables.push(next)?;
-        if !begins_with(after, Kind::Name) {
-            let variables = placed_list(arena, variables.as_slice())?;
-            return Ok((variables, after));
-        }
-        rest = after;
-    }
-}
-
 /// vardef = NAME { "," NAME } ":" [ bracket ] base ";".
-fn variable<'a, 't>(
+pub fn variable<'a, 't>(
     alloc: Global,
     arena: &'a Bump<Global>,
     bytes: &'a [u8],
     tokens: &'t [Token],
 ) -> Read<'t, VarDef<'a>>
     ensures follows { (few most : ℕ) → length tokens.now < few → length tokens.now < most
-        → Follows result (λ r. Done (var_of r.0) (lexemes_of bytes.now r.1.now)) (variable_rule few (any_expr most) (lexemes_of bytes.now tokens.now)) }
+        → IsRead result (rule.variables few (any_expr most)) var_of bytes.now tokens.now }
     ensures shorter { IfOk result (λ r. length r.1.now < length tokens.now) }
 {
     let (names, rest) = names(alloc, arena, bytes, tokens)?;
@@ -299,8 +210,8 @@ fn variable<'a, 't>(
     Ok((VarDef { names, shape, base }, rest))
 }
 
-/// NAME "(" [ param { ";" param } ] ")" [ ":" base ] ";" { "var" vardef { vardef } } { prefix } block, behind a
-/// "procedure".
+/// NAME "(" [ param { ";" param } ] ")" [ ":" base ] ";" { "var" vardef { vardef } }
+/// { prefix } block, behind a "procedure".
 fn procedure<'a, 't>(
     alloc: Global,
     arena: &'a Bump<Global>,
@@ -308,7 +219,8 @@ fn procedure<'a, 't>(
     tokens: &'t [Token],
 ) -> Read<'t, Procedure<'a>>
     ensures follows { (few most : ℕ) → length tokens.now < few → length tokens.now < most
-        → Follows result (λ r. Done (procedure_of r.0) (lexemes_of bytes.now r.1.now)) (procedure_rule few (any_expr most) most_nested (lexemes_of bytes.now tokens.now)) }
+        → IsRead result (rule.procedure few (any_expr most) most_nested) procedure_of
+        bytes.now tokens.now }
     ensures shorter { IfOk result (λ r. length r.1.now < length tokens.now) }
 {
     let (name, rest) = name(bytes, tokens)?;
@@ -336,7 +248,8 @@ fn params<'a, 't>(
     tokens: &'t [Token],
 ) -> Read<'t, &'a [Param<'a>]>
     ensures follows { (few most : ℕ) → length tokens.now < few → length tokens.now < most
-        → Follows result (λ r. Done (map param_of r.0.now) (lexemes_of bytes.now r.1.now)) (params_rule few (any_expr most) (lexemes_of bytes.now tokens.now)) }
+        → IsRead result (rule.params few (any_expr most)) (λ read. map param_of read.now)
+        bytes.now tokens.now }
     ensures shorter { IfOk result (λ r. length r.1.now ≤ length tokens.now) }
 {
     if begins_with(tokens, Kind::Symbol(Sym::CloseParen)) {
@@ -355,7 +268,8 @@ fn some_params<'a, 't>(
     tokens: &'t [Token],
 ) -> Read<'t, &'a [Param<'a>]>
     ensures follows { (few most : ℕ) → length tokens.now < few → length tokens.now < most
-        → Follows result (λ r. Done (map param_of r.0.now) (lexemes_of bytes.now r.1.now)) (some_params_rule few (any_expr most) (lexemes_of bytes.now tokens.now)) }
+        → IsRead result (rule.some_params few (any_expr most)) (λ read. map param_of read.now)
+        bytes.now tokens.now }
     ensures shorter { IfOk result (λ r. length r.1.now < length tokens.now) }
 {
     let mut params = Vec::new(alloc);
@@ -379,7 +293,7 @@ fn param<'a, 't>(
     tokens: &'t [Token],
 ) -> Read<'t, Param<'a>>
     ensures follows { (few most : ℕ) → length tokens.now ≤ few → length tokens.now < most
-        → Follows result (λ r. Done (param_of r.0) (lexemes_of bytes.now r.1.now)) (param_rule few (any_expr most) (lexemes_of bytes.now tokens.now)) }
+        → IsRead result (rule.param few (any_expr most)) param_of bytes.now tokens.now }
     ensures shorter { IfOk result (λ r. length r.1.now < length tokens.now) }
 {
     if begins_with(tokens, Kind::Word(Key::Var)) {
@@ -398,7 +312,7 @@ fn formals<'a, 't>(
     tokens: &'t [Token],
 ) -> Read<'t, Param<'a>>
     ensures follows { (few most : ℕ) → length tokens.now ≤ few → length tokens.now < most
-        → Follows result (λ r. Done (param_of r.0) (lexemes_of bytes.now r.1.now)) (formals_rule few (any_expr most) by_ref (lexemes_of bytes.now tokens.now)) }
+        → IsRead result (rule.formals few (any_expr most) by_ref) param_of bytes.now tokens.now }
     ensures shorter { IfOk result (λ r. length r.1.now < length tokens.now) }
 {
     let (names, rest) = names(alloc, arena, bytes, tokens)?;
@@ -416,7 +330,7 @@ fn formals<'a, 't>(
 
 /// [ ":" base ].
 fn result_type<'a, 't>(bytes: &'a [u8], tokens: &'t [Token]) -> Read<'t, Option<Base<'a>>>
-    ensures follows { Follows result (λ r. Done (option_map base_type_of r.0) (lexemes_of bytes.now r.1.now)) (result_rule (lexemes_of bytes.now tokens.now)) }
+    ensures follows { IsRead result rule.result (option_map base_type_of) bytes.now tokens.now }
     ensures shorter { IfOk result (λ r. length r.1.now ≤ length tokens.now) }
 {
     if !begins_with(tokens, Kind::Symbol(Sym::Colon)) {
@@ -434,13 +348,14 @@ fn locals<'a, 't>(
     tokens: &'t [Token],
 ) -> Read<'t, &'a [VarDef<'a>]>
     ensures follows { (few most : ℕ) → length tokens.now < few → length tokens.now < most
-        → Follows result (λ r. Done (map var_of r.0.now) (lexemes_of bytes.now r.1.now)) (locals_rule few (any_expr most) (lexemes_of bytes.now tokens.now)) }
+        → IsRead result (rule.locals few (any_expr most)) (λ read. map var_of read.now)
+        bytes.now tokens.now }
     ensures shorter { IfOk result (λ r. length r.1.now ≤ length tokens.now) }
 {
     let mut locals = Vec::new(alloc);
     let mut rest = tokens;
     while begins_with(rest, Kind::Word(Key::Var)) {
-        let (more, after) = variables(alloc, arena, bytes, behind(rest))?;
+        let (more, after): (&[VarDef], _) = group(alloc, arena, bytes, behind(rest))?;
         locals.extend_from_slice(more)?;
         rest = after;
     }
@@ -456,7 +371,7 @@ fn body<'a, 't>(
     tokens: &'t [Token],
 ) -> Read<'t, Stmt<'a>>
     ensures follows { (few most : ℕ) → length tokens.now < few → length tokens.now < most
-        → Follows result (λ r. Done (stmt_of r.0) (lexemes_of bytes.now r.1.now)) (body_rule few (any_expr most) most_nested (lexemes_of bytes.now tokens.now)) }
+        → IsRead result (rule.body few (any_expr most) most_nested) stmt_of bytes.now tokens.now }
     ensures shorter { IfOk result (λ r. length r.1.now < length tokens.now) }
 {
     let (prefixes, rest) = prefixes(alloc, arena, bytes, tokens)?;

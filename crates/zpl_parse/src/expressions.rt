@@ -6,14 +6,15 @@ ghost use Rattle.zpl_tree.specs.View.{expr_of, exprs_of, form_of, name_of};
 ghost use Rattle.zpl_parse.specs.declared.classes.Opening.TheVariants as opening;
 ghost use Rattle.zpl_parse.specs.declared.faults.ParseFault.TheVariants.{NoMemory};
 ghost use Rattle.zpl_parse.specs.Classes.{folding_of};
-ghost use Rattle.zpl_parse.specs.Following.{Follows};
-ghost use Rattle.zpl_parse.specs.Lexeme.{lexemes_of, lexeme_of, head_kind};
-ghost use Rattle.zpl_parse.specs.Outcome.{Done};
-ghost use Rattle.zpl_parse.specs.Expressions.{levels, unary_by, behind_name as behind_name_rule, folded as folded_rule, both as both_rule, inside as inside_rule, actuals as actuals_rule, components as components_rule, exprs as exprs_rule};
+ghost use Rattle.zpl_parse.specs.Reading.{IsReadDeep};
+ghost use Rattle.zpl_parse.specs.Operators.{of_level, operand_of};
+ghost use Rattle.zpl_grammar.specs.Lexeme.{lexeme_of, head_kind};
+ghost use Rattle.zpl_parse.specs.Expressions.{levels};
+ghost use Rattle.zpl_parse.specs.Expressions as rule;
 
 use crate::classes::{
-    Folding, Opening, and_operator, comparison, folded_by, opened_by, or_operator, sum_operator,
-    term_operator,
+    Folding, Level, Opening, Suffix, below, folded_by, opened_by, operator, stands_alone,
+    suffixed_by,
 };
 use crate::faults::ParseFault;
 use crate::placing::{placed, placed_list};
@@ -28,7 +29,7 @@ use zpl_text::Token;
 use zpl_tokens::{Kind, Sym};
 use zpl_tree::{Expr, ExprForm, Name};
 
-/// expr = conj { "|" conj }, of depth `deep` at most.
+/// An expression, of depth `deep` at most.
 #[cycle(expression)]
 pub fn expr<'a, 't>(
     alloc: Global,
@@ -38,137 +39,75 @@ pub fn expr<'a, 't>(
     deep: u32,
 ) -> ReadDeep<'t, Expr<'a>>
     ensures follows { (most : ℕ) → length tokens.now < most
-        → Follows result (λ r. Done (expr_of r.0) (lexemes_of bytes.now r.2.now)) ((levels most deep).expr (lexemes_of bytes.now tokens.now)) }
+        → IsReadDeep result (levels most deep).expr expr_of bytes.now tokens.now }
     ensures shorter { IfOk result (λ r. length r.2.now < length tokens.now) }
     ensures depth { IfOk result (λ r. r.1 ≡ expr_depth (expr_of r.0)) }
     ensures within { IfOk result (λ r. r.1 ≤ deep) }
 {
-    let (mut left, mut depth, mut rest) = conj(alloc, arena, bytes, tokens, deep)?;
-    while let Some(op) = or_operator(first_kind(rest)) {
-        if depth >= deep {
-            return Err(ParseFault::TooDeep);
-        }
-        let (right, right_depth, after) = conj(alloc, arena, bytes, behind(rest), deep - 1)?;
-        left = pair(arena, left.at, op, left, right)?;
-        depth = 1 + depth.max(right_depth);
-        rest = after;
-    }
-    Ok((left, depth, rest))
+    operations(alloc, arena, bytes, Level::Or, tokens, deep)
 }
 
-/// conj = comp { "&" comp }.
+/// Operands with the operators of a level between them, which group to the left:
+///
+/// expr = conj { "|" conj }; conj = comp { "&" comp };
+/// comp = sum [ ( "=" | "!=" | "<" | "<=" | ">" | ">=" ) sum ];
+/// sum = term { ( "+" | "-" ) term }; term = unary { ( "*" | "/" | "%" ) unary }.
 #[cycle(expression)]
-fn conj<'a, 't>(
+fn operations<'a, 't>(
     alloc: Global,
     arena: &'a Bump<Global>,
     bytes: &'a [u8],
+    level: Level,
     tokens: &'t [Token],
     deep: u32,
 ) -> ReadDeep<'t, Expr<'a>>
     ensures follows { (most : ℕ) → length tokens.now < most
-        → Follows result (λ r. Done (expr_of r.0) (lexemes_of bytes.now r.2.now)) ((levels most deep).conj (lexemes_of bytes.now tokens.now)) }
+        → IsReadDeep result (of_level level (levels most deep)) expr_of bytes.now tokens.now }
     ensures shorter { IfOk result (λ r. length r.2.now < length tokens.now) }
     ensures depth { IfOk result (λ r. r.1 ≡ expr_depth (expr_of r.0)) }
     ensures within { IfOk result (λ r. r.1 ≤ deep) }
 {
-    let (mut left, mut depth, mut rest) = comp(alloc, arena, bytes, tokens, deep)?;
-    while let Some(op) = and_operator(first_kind(rest)) {
+    let (mut left, mut depth, mut rest) = operand(alloc, arena, bytes, level, tokens, deep)?;
+    while let Some(op) = operator(level, first_kind(rest)) {
         if depth >= deep {
             return Err(ParseFault::TooDeep);
         }
-        let (right, right_depth, after) = comp(alloc, arena, bytes, behind(rest), deep - 1)?;
+        let next = behind(rest);
+        let (right, right_depth, after) = operand(alloc, arena, bytes, level, next, deep - 1)?;
         left = pair(arena, left.at, op, left, right)?;
         depth = 1 + depth.max(right_depth);
         rest = after;
+        if stands_alone(level) {
+            return Ok((left, depth, rest));
+        }
     }
     Ok((left, depth, rest))
 }
 
-/// comp = sum [ ( "=" | "!=" | "<" | "<=" | ">" | ">=" ) sum ].
+/// What stands between the operators of a level.
 #[cycle(expression)]
-fn comp<'a, 't>(
+fn operand<'a, 't>(
     alloc: Global,
     arena: &'a Bump<Global>,
     bytes: &'a [u8],
+    level: Level,
     tokens: &'t [Token],
     deep: u32,
 ) -> ReadDeep<'t, Expr<'a>>
     ensures follows { (most : ℕ) → length tokens.now < most
-        → Follows result (λ r. Done (expr_of r.0) (lexemes_of bytes.now r.2.now)) ((levels most deep).comp (lexemes_of bytes.now tokens.now)) }
+        → IsReadDeep result (operand_of level (levels most deep)) expr_of bytes.now tokens.now }
     ensures shorter { IfOk result (λ r. length r.2.now < length tokens.now) }
     ensures depth { IfOk result (λ r. r.1 ≡ expr_depth (expr_of r.0)) }
     ensures within { IfOk result (λ r. r.1 ≤ deep) }
 {
-    let (left, depth, rest) = sum(alloc, arena, bytes, tokens, deep)?;
-    let Some(op) = comparison(first_kind(rest)) else {
-        return Ok((left, depth, rest));
-    };
-    if depth >= deep {
-        return Err(ParseFault::TooDeep);
+    match below(level) {
+        Some(level) => operations(alloc, arena, bytes, level, tokens, deep),
+        None => unary(alloc, arena, bytes, tokens, deep),
     }
-    let (right, right_depth, after) = sum(alloc, arena, bytes, behind(rest), deep - 1)?;
-    let compared = pair(arena, left.at, op, left, right)?;
-    Ok((compared, 1 + depth.max(right_depth), after))
 }
 
-/// sum = term { ( "+" | "-" ) term }.
-#[cycle(expression)]
-fn sum<'a, 't>(
-    alloc: Global,
-    arena: &'a Bump<Global>,
-    bytes: &'a [u8],
-    tokens: &'t [Token],
-    deep: u32,
-) -> ReadDeep<'t, Expr<'a>>
-    ensures follows { (most : ℕ) → length tokens.now < most
-        → Follows result (λ r. Done (expr_of r.0) (lexemes_of bytes.now r.2.now)) ((levels most deep).sum (lexemes_of bytes.now tokens.now)) }
-    ensures shorter { IfOk result (λ r. length r.2.now < length tokens.now) }
-    ensures depth { IfOk result (λ r. r.1 ≡ expr_depth (expr_of r.0)) }
-    ensures within { IfOk result (λ r. r.1 ≤ deep) }
-{
-    let (mut left, mut depth, mut rest) = term(alloc, arena, bytes, tokens, deep)?;
-    while let Some(op) = sum_operator(first_kind(rest)) {
-        if depth >= deep {
-            return Err(ParseFault::TooDeep);
-        }
-        let (right, right_depth, after) = term(alloc, arena, bytes, behind(rest), deep - 1)?;
-        left = pair(arena, left.at, op, left, right)?;
-        depth = 1 + depth.max(right_depth);
-        rest = after;
-    }
-    Ok((left, depth, rest))
-}
-
-/// term = unary { ( "*" | "/" | "%" ) unary }.
-#[cycle(expression)]
-fn term<'a, 't>(
-    alloc: Global,
-    arena: &'a Bump<Global>,
-    bytes: &'a [u8],
-    tokens: &'t [Token],
-    deep: u32,
-) -> ReadDeep<'t, Expr<'a>>
-    ensures follows { (most : ℕ) → length tokens.now < most
-        → Follows result (λ r. Done (expr_of r.0) (lexemes_of bytes.now r.2.now)) ((levels most deep).term (lexemes_of bytes.now tokens.now)) }
-    ensures shorter { IfOk result (λ r. length r.2.now < length tokens.now) }
-    ensures depth { IfOk result (λ r. r.1 ≡ expr_depth (expr_of r.0)) }
-    ensures within { IfOk result (λ r. r.1 ≤ deep) }
-{
-    let (mut left, mut depth, mut rest) = unary(alloc, arena, bytes, tokens, deep)?;
-    while let Some(op) = term_operator(first_kind(rest)) {
-        if depth >= deep {
-            return Err(ParseFault::TooDeep);
-        }
-        let (right, right_depth, after) = unary(alloc, arena, bytes, behind(rest), deep - 1)?;
-        left = pair(arena, left.at, op, left, right)?;
-        depth = 1 + depth.max(right_depth);
-        rest = after;
-    }
-    Ok((left, depth, rest))
-}
-
-/// unary = ( "-" | "!" ) unary | foldop "<<" [ bracket ] unary | foldop "||" [ "[" NUMBER "]" ] unary
-/// | ">>" bracket unary | primary.
+/// unary = ( "-" | "!" ) unary | foldop "<<" [ bracket ] unary
+/// | foldop "||" [ "[" NUMBER "]" ] unary | ">>" bracket unary | primary.
 #[cycle(expression)]
 fn unary<'a, 't>(
     alloc: Global,
@@ -178,7 +117,7 @@ fn unary<'a, 't>(
     deep: u32,
 ) -> ReadDeep<'t, Expr<'a>>
     ensures follows { (most : ℕ) → length tokens.now < most
-        → Follows result (λ r. Done (expr_of r.0) (lexemes_of bytes.now r.2.now)) ((levels most deep).unary (lexemes_of bytes.now tokens.now)) }
+        → IsReadDeep result (levels most deep).unary expr_of bytes.now tokens.now }
     ensures shorter { IfOk result (λ r. length r.2.now < length tokens.now) }
     ensures depth { IfOk result (λ r. r.1 ≡ expr_depth (expr_of r.0)) }
     ensures within { IfOk result (λ r. r.1 ≤ deep) }
@@ -209,7 +148,10 @@ fn opened<'a, 't>(
 ) -> ReadDeep<'t, Expr<'a>>
     requires { 0 < deep }
     ensures follows { (most : ℕ) → length tokens.now < most
-        → Follows result (λ r. Done (expr_of r.0) (lexemes_of bytes.now r.2.now)) (unary_by most (levels most (deep - 1)) (Some opening) (lexeme_of bytes.now first.now) (lexemes_of bytes.now tokens.now)) }
+        → IsReadDeep result
+        (rule.unary_by most (levels most (deep - 1)) (Some opening)
+        (lexeme_of bytes.now first.now))
+        expr_of bytes.now tokens.now }
     ensures shorter { IfOk result (λ r. length r.2.now ≤ length tokens.now) }
     ensures depth { IfOk result (λ r. r.1 ≡ expr_depth (expr_of r.0)) }
     ensures within { IfOk result (λ r. r.1 ≤ deep) }
@@ -253,7 +195,10 @@ fn absolute<'a, 't>(
 ) -> ReadDeep<'t, Expr<'a>>
     requires { 0 < deep }
     ensures follows { (most : ℕ) → length tokens.now < most
-        → Follows result (λ r. Done (expr_of r.0) (lexemes_of bytes.now r.2.now)) (unary_by most (levels most (deep - 1)) (Some opening.Abs) (lexeme_of bytes.now first.now) (lexemes_of bytes.now tokens.now)) }
+        → IsReadDeep result
+        (rule.unary_by most (levels most (deep - 1)) (Some opening.Abs)
+        (lexeme_of bytes.now first.now))
+        expr_of bytes.now tokens.now }
     ensures shorter { IfOk result (λ r. length r.2.now < length tokens.now) }
     ensures depth { IfOk result (λ r. r.1 ≡ expr_depth (expr_of r.0)) }
     ensures within { IfOk result (λ r. r.1 ≤ deep) }
@@ -276,7 +221,10 @@ fn flood<'a, 't>(
 ) -> ReadDeep<'t, Expr<'a>>
     requires { 0 < deep }
     ensures follows { (most : ℕ) → length tokens.now < most
-        → Follows result (λ r. Done (expr_of r.0) (lexemes_of bytes.now r.2.now)) (unary_by most (levels most (deep - 1)) (Some opening.Flood) (lexeme_of bytes.now first.now) (lexemes_of bytes.now tokens.now)) }
+        → IsReadDeep result
+        (rule.unary_by most (levels most (deep - 1)) (Some opening.Flood)
+        (lexeme_of bytes.now first.now))
+        expr_of bytes.now tokens.now }
     ensures shorter { IfOk result (λ r. length r.2.now < length tokens.now) }
     ensures depth { IfOk result (λ r. r.1 ≡ expr_depth (expr_of r.0)) }
     ensures within { IfOk result (λ r. r.1 ≤ deep) }
@@ -288,7 +236,8 @@ fn flood<'a, 't>(
     Ok((leaf(first.from, form), 1 + depth.max(source_depth), rest))
 }
 
-/// What stands behind a name: [ "@" dir ] or "(" [ expr { "," expr } ] ")".
+/// What stands behind a name: [ "@" [ "^" ] dir ] | "#" "[" expr { "," expr } "]"
+/// | "(" [ expr { "," expr } ] ")".
 #[cycle(expression)]
 fn behind_name<'a, 't>(
     alloc: Global,
@@ -300,25 +249,80 @@ fn behind_name<'a, 't>(
 ) -> ReadDeep<'t, Expr<'a>>
     requires { 0 < deep }
     ensures follows { (most : ℕ) → length tokens.now < most
-        → Follows result (λ r. Done (expr_of r.0) (lexemes_of bytes.now r.2.now)) (behind_name_rule most (levels most (deep - 1)) (name_of name.entry) (lexemes_of bytes.now tokens.now)) }
+        → IsReadDeep result (rule.behind_name most (levels most (deep - 1)) (name_of name.entry))
+        expr_of bytes.now tokens.now }
     ensures shorter { IfOk result (λ r. length r.2.now ≤ length tokens.now) }
     ensures depth { IfOk result (λ r. r.1 ≡ expr_depth (expr_of r.0)) }
     ensures within { IfOk result (λ r. r.1 ≤ deep) }
 {
     let at = name.at;
-    if begins_with(tokens, Kind::Symbol(Sym::At)) {
-        let (shift, depth, rest) = dir(alloc, arena, bytes, behind(tokens), deep - 1)?;
-        Ok((leaf(at, ExprForm::Shifted(name, shift)), 1 + depth, rest))
-    } else if begins_with(tokens, Kind::Symbol(Sym::OpenParen)) {
-        let (those, depth, rest) = actuals(alloc, arena, bytes, behind(tokens), deep - 1)?;
-        Ok((leaf(at, ExprForm::Call(name, those)), 1 + depth, rest))
-    } else {
-        Ok((leaf(at, ExprForm::Named(name)), 1, tokens))
+    let Some(suffix) = suffixed_by(first_kind(tokens)) else {
+        return Ok((leaf(at, ExprForm::Named(name)), 1, tokens));
+    };
+    let rest = behind(tokens);
+    match suffix {
+        Suffix::Shift => shifted(alloc, arena, bytes, name, rest, deep),
+        Suffix::Remap => remapped(alloc, arena, bytes, name, rest, deep),
+        Suffix::Call => {
+            let (those, depth, rest) = actuals(alloc, arena, bytes, rest, deep - 1)?;
+            Ok((leaf(at, ExprForm::Call(name, those)), 1 + depth, rest))
+        }
     }
 }
 
-/// What stands behind an operator that folds: "<<" [ bracket ] unary | "||" [ "[" NUMBER "]" ] unary, and for two of
-/// them "(" expr "," expr ")".
+/// [ "^" ] dir, behind a name and an "@".
+#[cycle(expression)]
+fn shifted<'a, 't>(
+    alloc: Global,
+    arena: &'a Bump<Global>,
+    bytes: &'a [u8],
+    name: Name<'a>,
+    tokens: &'t [Token],
+    deep: u32,
+) -> ReadDeep<'t, Expr<'a>>
+    requires { 0 < deep }
+    ensures follows { (most : ℕ) → length tokens.now < most
+        → IsReadDeep result (rule.shifted most (levels most (deep - 1)) (name_of name.entry))
+        expr_of bytes.now tokens.now }
+    ensures shorter { IfOk result (λ r. length r.2.now < length tokens.now) }
+    ensures depth { IfOk result (λ r. r.1 ≡ expr_depth (expr_of r.0)) }
+    ensures within { IfOk result (λ r. r.1 ≤ deep) }
+{
+    let at = name.at;
+    if begins_with(tokens, Kind::Symbol(Sym::Caret)) {
+        let (way, depth, rest) = dir(alloc, arena, bytes, behind(tokens), deep - 1)?;
+        return Ok((leaf(at, ExprForm::Around(name, way)), 1 + depth, rest));
+    }
+    let (way, depth, rest) = dir(alloc, arena, bytes, tokens, deep - 1)?;
+    Ok((leaf(at, ExprForm::Shifted(name, way)), 1 + depth, rest))
+}
+
+/// "[" expr { "," expr } "]", behind a name and a "#".
+#[cycle(expression)]
+fn remapped<'a, 't>(
+    alloc: Global,
+    arena: &'a Bump<Global>,
+    bytes: &'a [u8],
+    name: Name<'a>,
+    tokens: &'t [Token],
+    deep: u32,
+) -> ReadDeep<'t, Expr<'a>>
+    requires { 0 < deep }
+    ensures follows { (most : ℕ) → length tokens.now < most
+        → IsReadDeep result (rule.remapped most (levels most (deep - 1)) (name_of name.entry))
+        expr_of bytes.now tokens.now }
+    ensures shorter { IfOk result (λ r. length r.2.now < length tokens.now) }
+    ensures depth { IfOk result (λ r. r.1 ≡ expr_depth (expr_of r.0)) }
+    ensures within { IfOk result (λ r. r.1 ≤ deep) }
+{
+    let at = name.at;
+    let (_, rest) = symbol(tokens, Sym::OpenBracket)?;
+    let (indices, depth, rest) = components(alloc, arena, bytes, rest, deep - 1)?;
+    Ok((leaf(at, ExprForm::Remap(name, indices)), 1 + depth, rest))
+}
+
+/// What stands behind an operator that folds: "<<" [ bracket ] unary
+/// | "||" [ "[" NUMBER "]" ] unary, and for two of them "(" expr "," expr ")".
 #[cycle(expression)]
 fn folded<'a, 't>(
     alloc: Global,
@@ -331,7 +335,10 @@ fn folded<'a, 't>(
 ) -> ReadDeep<'t, Expr<'a>>
     requires { 0 < deep }
     ensures follows { (most : ℕ) → length tokens.now < most
-        → Follows result (λ r. Done (expr_of r.0) (lexemes_of bytes.now r.2.now)) (folded_rule most at operator (levels most (deep - 1)) (folding_of operator (head_kind (lexemes_of bytes.now tokens.now))) (lexemes_of bytes.now tokens.now)) }
+        → IsReadDeep result
+        (λ lexemes. rule.folded most at operator (levels most (deep - 1))
+        (folding_of operator (head_kind lexemes)) lexemes)
+        expr_of bytes.now tokens.now }
     ensures shorter { IfOk result (λ r. length r.2.now ≤ length tokens.now) }
     ensures depth { IfOk result (λ r. r.1 ≡ expr_depth (expr_of r.0)) }
     ensures within { IfOk result (λ r. r.1 ≤ deep) }
@@ -375,7 +382,8 @@ fn both<'a, 't>(
 ) -> ReadDeep<'t, Expr<'a>>
     requires { 0 < deep }
     ensures follows { (most : ℕ) → length tokens.now < most
-        → Follows result (λ r. Done (expr_of r.0) (lexemes_of bytes.now r.2.now)) (both_rule at op (levels most (deep - 1)) (lexemes_of bytes.now tokens.now)) }
+        → IsReadDeep result (rule.both at op (levels most (deep - 1))) expr_of
+        bytes.now tokens.now }
     ensures shorter { IfOk result (λ r. length r.2.now < length tokens.now) }
     ensures depth { IfOk result (λ r. r.1 ≡ expr_depth (expr_of r.0)) }
     ensures within { IfOk result (λ r. r.1 ≤ deep) }
@@ -397,7 +405,7 @@ fn inside<'a, 't>(
     deep: u32,
 ) -> ReadDeep<'t, Expr<'a>>
     ensures follows { (most : ℕ) → length tokens.now < most
-        → Follows result (λ r. Done (expr_of r.0) (lexemes_of bytes.now r.2.now)) (inside_rule (levels most deep) (lexemes_of bytes.now tokens.now)) }
+        → IsReadDeep result (rule.inside (levels most deep)) expr_of bytes.now tokens.now }
     ensures shorter { IfOk result (λ r. length r.2.now < length tokens.now) }
     ensures depth { IfOk result (λ r. r.1 ≡ expr_depth (expr_of r.0)) }
     ensures within { IfOk result (λ r. r.1 ≤ deep) }
@@ -417,7 +425,8 @@ pub fn actuals<'a, 't>(
     deep: u32,
 ) -> ReadDeep<'t, &'a [Expr<'a>]>
     ensures follows { (few most : ℕ) → length tokens.now < few → length tokens.now < most
-        → Follows result (λ r. Done (exprs_of r.0.now) (lexemes_of bytes.now r.2.now)) (actuals_rule few (levels most deep).expr (lexemes_of bytes.now tokens.now)) }
+        → IsReadDeep result (rule.actuals few (levels most deep).expr) (λ read. exprs_of read.now)
+        bytes.now tokens.now }
     ensures shorter { IfOk result (λ r. length r.2.now ≤ length tokens.now) }
     ensures depth { IfOk result (λ r. r.1 ≡ exprs_depth (exprs_of r.0.now)) }
     ensures within { IfOk result (λ r. r.1 ≤ deep) }
@@ -440,7 +449,8 @@ pub fn components<'a, 't>(
     deep: u32,
 ) -> ReadDeep<'t, &'a [Expr<'a>]>
     ensures follows { (few most : ℕ) → length tokens.now < few → length tokens.now < most
-        → Follows result (λ r. Done (exprs_of r.0.now) (lexemes_of bytes.now r.2.now)) (components_rule few (levels most deep).expr (lexemes_of bytes.now tokens.now)) }
+        → IsReadDeep result (rule.components few (levels most deep).expr)
+        (λ read. exprs_of read.now) bytes.now tokens.now }
     ensures shorter { IfOk result (λ r. length r.2.now < length tokens.now) }
     ensures depth { IfOk result (λ r. r.1 ≡ exprs_depth (exprs_of r.0.now)) }
     ensures within { IfOk result (λ r. r.1 ≤ deep) }
@@ -460,7 +470,8 @@ fn exprs<'a, 't>(
     deep: u32,
 ) -> ReadDeep<'t, &'a [Expr<'a>]>
     ensures follows { (few most : ℕ) → length tokens.now < few → length tokens.now < most
-        → Follows result (λ r. Done (exprs_of r.0.now) (lexemes_of bytes.now r.2.now)) (exprs_rule few (levels most deep).expr (lexemes_of bytes.now tokens.now)) }
+        → IsReadDeep result (rule.exprs few (levels most deep).expr) (λ read. exprs_of read.now)
+        bytes.now tokens.now }
     ensures shorter { IfOk result (λ r. length r.2.now < length tokens.now) }
     ensures depth { IfOk result (λ r. r.1 ≡ exprs_depth (exprs_of r.0.now)) }
     ensures within { IfOk result (λ r. r.1 ≤ deep) }

@@ -7,12 +7,14 @@ use std::alloc::{AllocError, AllocFailed};
 /// Why no tree is given.
 #[derive(Clone, Copy, Debug, PartialEq, Eq)]
 pub enum ParseFault {
-    /// The token at `at` is the first with which, behind those before it, no text of the grammar begins.
+    /// The token at `at` is the first with which, behind those before it, no text of the grammar
+    /// begins.
     Syntax {
         /// The offset of that token.
         at: u32,
     },
-    /// Some front of the tokens begins texts of the grammar, and each of their trees is deeper than 200.
+    /// Some front of the tokens begins texts of the grammar, and each of their trees is deeper
+    /// than 200.
     TooDeep,
     /// There was no memory for the tree.
     NoMemory,

@@ -7,6 +7,7 @@ mod classes;
 mod declarations;
 mod expressions;
 mod faults;
+mod groups;
 mod laws;
 mod placing;
 mod programs;
@@ -15,8 +16,8 @@ mod statements;
 mod tokens;
 
 pub use faults::ParseFault;
-pub use laws::{printed_trees_are_parsed_again, texts_have_one_tree};
+pub use laws::{
+    printed_trees_are_parsed_again, rules_tell_trees_and_faults, texts_are_read_or_refused,
+    texts_have_one_tree,
+};
 pub use programs::parse;
-
-#[cfg(test)]
-mod tests;

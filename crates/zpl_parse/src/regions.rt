@@ -1,11 +1,12 @@
 //! Rules of directions and regions.
 ghost use Rattle.std.specs.Prelude.{◌≡◌, ◌<◌, ◌≤◌, ℕ, map, length, IfOk};
-ghost use Rattle.zpl_tree.specs.Depth.{dir_depth, posts_depth, inner_depth, bracket_depth, dims_depth, dim_depth};
-ghost use Rattle.zpl_tree.specs.View.{pre_of, base_of, dir_of, posts_of, inner_of, bracket_of, dims_of, dim_of};
-ghost use Rattle.zpl_parse.specs.Following.{Follows};
-ghost use Rattle.zpl_parse.specs.Lexeme.{lexemes_of};
-ghost use Rattle.zpl_parse.specs.Outcome.{Done};
-ghost use Rattle.zpl_parse.specs.Expressions.{levels, begins_region as begins_region_rule, dir as dir_rule, posts as posts_rule, in_bracket as in_bracket_rule, bracket as bracket_rule, inner as inner_rule, rexpr as rexpr_rule, dim_texts as dim_texts_rule, dim_text as dim_text_rule, bounds as bounds_rule, region_base as region_base_rule};
+ghost use Rattle.zpl_tree.specs.Depth.{dir_depth, posts_depth, inner_depth, bracket_depth};
+ghost use Rattle.zpl_tree.specs.Depth.{dims_depth, dim_depth};
+ghost use Rattle.zpl_tree.specs.View.{pre_of, base_of, dir_of, posts_of, inner_of, bracket_of};
+ghost use Rattle.zpl_tree.specs.View.{dims_of, dim_of};
+ghost use Rattle.zpl_parse.specs.Reading.{IsRead, IsReadDeep};
+ghost use Rattle.zpl_parse.specs.Expressions.{levels};
+ghost use Rattle.zpl_parse.specs.Expressions as rule;
 
 use crate::classes::{ends_dimension, ends_region, goes_on_region, outside, stride};
 use crate::expressions::{components, expr};
@@ -30,7 +31,7 @@ pub fn dir<'a, 't>(
     deep: u32,
 ) -> ReadDeep<'t, Dir<'a>>
     ensures follows { (few most : ℕ) → length tokens.now < few → length tokens.now < most
-        → Follows result (λ r. Done (dir_of r.0) (lexemes_of bytes.now r.2.now)) (dir_rule few (levels most deep).expr (lexemes_of bytes.now tokens.now)) }
+        → IsReadDeep result (rule.dir few (levels most deep).expr) dir_of bytes.now tokens.now }
     ensures shorter { IfOk result (λ r. length r.2.now < length tokens.now) }
     ensures depth { IfOk result (λ r. r.1 ≡ dir_depth (dir_of r.0)) }
     ensures within { IfOk result (λ r. r.1 ≤ deep) }
@@ -53,7 +54,8 @@ pub fn posts<'a, 't>(
     deep: u32,
 ) -> ReadDeep<'t, &'a [Post<'a>]>
     ensures follows { (few most : ℕ) → length tokens.now < few → length tokens.now < most
-        → Follows result (λ r. Done (posts_of r.0.now) (lexemes_of bytes.now r.2.now)) (posts_rule few (levels most deep).expr (lexemes_of bytes.now tokens.now)) }
+        → IsReadDeep result (rule.posts few (levels most deep).expr) (λ read. posts_of read.now)
+        bytes.now tokens.now }
     ensures shorter { IfOk result (λ r. length r.2.now ≤ length tokens.now) }
     ensures depth { IfOk result (λ r. r.1 ≡ posts_depth (posts_of r.0.now)) }
     ensures within { IfOk result (λ r. r.1 ≤ deep) }
@@ -81,7 +83,8 @@ pub fn in_bracket<'a, 't>(
     deep: u32,
 ) -> ReadDeep<'t, Inner<'a>>
     ensures follows { (few most : ℕ) → length tokens.now < few → length tokens.now < most
-        → Follows result (λ r. Done (inner_of r.0) (lexemes_of bytes.now r.2.now)) (in_bracket_rule few (levels most deep).expr (lexemes_of bytes.now tokens.now)) }
+        → IsReadDeep result (rule.in_bracket few (levels most deep).expr) inner_of
+        bytes.now tokens.now }
     ensures shorter { IfOk result (λ r. length r.2.now < length tokens.now) }
     ensures depth { IfOk result (λ r. r.1 ≡ inner_depth (inner_of r.0)) }
     ensures within { IfOk result (λ r. r.1 ≤ deep) }
@@ -102,7 +105,8 @@ pub fn bracket<'a, 't>(
     deep: u32,
 ) -> ReadDeep<'t, Option<Inner<'a>>>
     ensures follows { (few most : ℕ) → length tokens.now < few → length tokens.now < most
-        → Follows result (λ r. Done (bracket_of r.0) (lexemes_of bytes.now r.2.now)) (bracket_rule few (levels most deep).expr (lexemes_of bytes.now tokens.now)) }
+        → IsReadDeep result (rule.bracket few (levels most deep).expr) bracket_of
+        bytes.now tokens.now }
     ensures shorter { IfOk result (λ r. length r.2.now ≤ length tokens.now) }
     ensures depth { IfOk result (λ r. r.1 ≡ bracket_depth (bracket_of r.0)) }
     ensures within { IfOk result (λ r. r.1 ≤ deep) }
@@ -124,7 +128,7 @@ pub fn inner<'a, 't>(
     deep: u32,
 ) -> ReadDeep<'t, Inner<'a>>
     ensures follows { (few most : ℕ) → length tokens.now < few → length tokens.now < most
-        → Follows result (λ r. Done (inner_of r.0) (lexemes_of bytes.now r.2.now)) (inner_rule few (levels most deep).expr (lexemes_of bytes.now tokens.now)) }
+        → IsReadDeep result (rule.inner few (levels most deep).expr) inner_of bytes.now tokens.now }
     ensures shorter { IfOk result (λ r. length r.2.now ≤ length tokens.now) }
     ensures depth { IfOk result (λ r. r.1 ≡ inner_depth (inner_of r.0)) }
     ensures within { IfOk result (λ r. r.1 ≤ deep) }
@@ -149,7 +153,7 @@ pub fn rexpr<'a, 't>(
     deep: u32,
 ) -> ReadDeep<'t, Inner<'a>>
     ensures follows { (few most : ℕ) → length tokens.now < few → length tokens.now < most
-        → Follows result (λ r. Done (inner_of r.0) (lexemes_of bytes.now r.2.now)) (rexpr_rule few (levels most deep).expr (lexemes_of bytes.now tokens.now)) }
+        → IsReadDeep result (rule.rexpr few (levels most deep).expr) inner_of bytes.now tokens.now }
     ensures shorter { IfOk result (λ r. length r.2.now ≤ length tokens.now) }
     ensures depth { IfOk result (λ r. r.1 ≡ inner_depth (inner_of r.0)) }
     ensures within { IfOk result (λ r. r.1 ≤ deep) }
@@ -169,7 +173,8 @@ fn dim_texts<'a, 't>(
     deep: u32,
 ) -> ReadDeep<'t, &'a [DimText<'a>]>
     ensures follows { (few most : ℕ) → length tokens.now < few → length tokens.now < most
-        → Follows result (λ r. Done (dims_of r.0.now) (lexemes_of bytes.now r.2.now)) (dim_texts_rule few (levels most deep).expr (lexemes_of bytes.now tokens.now)) }
+        → IsReadDeep result (rule.dim_texts few (levels most deep).expr) (λ read. dims_of read.now)
+        bytes.now tokens.now }
     ensures shorter { IfOk result (λ r. length r.2.now ≤ length tokens.now) }
     ensures depth { IfOk result (λ r. r.1 ≡ dims_depth (dims_of r.0.now)) }
     ensures within { IfOk result (λ r. r.1 ≤ deep) }
@@ -199,7 +204,7 @@ fn dim_text<'a, 't>(
     deep: u32,
 ) -> ReadDeep<'t, DimText<'a>>
     ensures follows { (most : ℕ) → length tokens.now < most
-        → Follows result (λ r. Done (dim_of r.0) (lexemes_of bytes.now r.2.now)) (dim_text_rule (levels most deep).expr (lexemes_of bytes.now tokens.now)) }
+        → IsReadDeep result (rule.dim_text (levels most deep).expr) dim_of bytes.now tokens.now }
     ensures shorter { IfOk result (λ r. length r.2.now ≤ length tokens.now) }
     ensures depth { IfOk result (λ r. r.1 ≡ dim_depth (dim_of r.0)) }
     ensures within { IfOk result (λ r. r.1 ≤ deep) }
@@ -223,7 +228,7 @@ fn bounds<'a, 't>(
     deep: u32,
 ) -> ReadDeep<'t, DimText<'a>>
     ensures follows { (most : ℕ) → length tokens.now < most
-        → Follows result (λ r. Done (dim_of r.0) (lexemes_of bytes.now r.2.now)) (bounds_rule (levels most deep).expr (lexemes_of bytes.now tokens.now)) }
+        → IsReadDeep result (rule.bounds (levels most deep).expr) dim_of bytes.now tokens.now }
     ensures shorter { IfOk result (λ r. length r.2.now ≤ length tokens.now) }
     ensures depth { IfOk result (λ r. r.1 ≡ dim_depth (dim_of r.0)) }
     ensures within { IfOk result (λ r. r.1 ≤ deep) }
@@ -246,7 +251,8 @@ fn region_base<'a, 't>(
     tokens: &'t [Token],
 ) -> Read<'t, (&'a [Pre<'a>], RegionBase<'a>)>
     ensures follows { (most : ℕ) → length tokens.now < most
-        → Follows result (λ r. Done (map pre_of r.0.0.now, base_of r.0.1) (lexemes_of bytes.now r.1.now)) (region_base_rule most (lexemes_of bytes.now tokens.now)) }
+        → IsRead result (rule.region_base most) (λ read. (map pre_of read.0.now, base_of read.1))
+        bytes.now tokens.now }
     ensures shorter { IfOk result (λ r. length r.1.now ≤ length tokens.now) }
 {
     let mut pre = Vec::new(alloc);
@@ -269,9 +275,10 @@ fn region_base<'a, 't>(
     }
 }
 
-/// Whether two tokens begin a region expression: a ditto, or a name behind which no dimension goes on.
+/// Whether two tokens begin a region expression: a ditto, or a name behind which no dimension
+/// goes on.
 fn begins_region(first: Kind, second: Kind) -> bool
-    ensures { result ≡ begins_region_rule first second }
+    ensures { result ≡ rule.begins_region first second }
 {
     match first {
         Kind::Ditto => true,

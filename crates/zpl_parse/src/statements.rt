@@ -1,14 +1,16 @@
 //! Rules of statements. Expressions may be `MOST_DEEP` deep.
 ghost use Rattle.std.specs.Prelude.{◌≡◌, ◌<◌, ◌≤◌, ℕ, List, map, length, IfOk};
 ghost use Rattle.std.specs.Option.{option_map};
-ghost use Rattle.zpl_tree.specs.View.{name_of, expr_of, mask_of, prefix_of, head_of, item_of, statement_of, stmt_of, stmts_of, arm_of, arms_of};
+ghost use Rattle.zpl_tree.specs.View.{name_of, expr_of, mask_of, prefix_of, head_of, item_of};
+ghost use Rattle.zpl_tree.specs.View.{statement_of, stmt_of, stmts_of, arm_of, arms_of};
 ghost use Rattle.zpl_parse.specs.Classes.{assigning, start_of};
-ghost use Rattle.zpl_parse.specs.Following.{Follows};
-ghost use Rattle.zpl_parse.specs.Lexeme.{lexemes_of, head_kind, head_at, behind as behind_of};
-ghost use Rattle.zpl_parse.specs.Outcome.{Done, and_then};
+ghost use Rattle.zpl_parse.specs.Reading.{IsRead, nested};
+ghost use Rattle.zpl_grammar.specs.Lexeme.{lexemes_of, head_kind, head_at, behind as behind_of};
+ghost use Rattle.zpl_parse.specs.Outcome.{and_then};
 ghost use Rattle.zpl_parse.specs.Tokens.{name as name_rule};
-ghost use Rattle.zpl_parse.specs.Whole.{any_expr, else_of};
-ghost use Rattle.zpl_parse.specs.Statements.{mask as mask_rule, prefix as prefix_rule, prefixes as prefixes_rule, stmts as stmts_rule, item as item_rule, some_items as some_items_rule, items as items_rule, assign_or_call as assign_or_call_rule, body_end as body_end_rule, arm as arm_rule, arms as arms_rule, otherwise as otherwise_rule, choice as choice_rule, while_loop as while_rule, repeat_loop as repeat_rule, step as step_rule, way_down as way_down_rule, for_head as for_head_rule, for_loop as for_rule, form_by, stmt as stmt_rule};
+ghost use Rattle.zpl_tree.specs.View.{else_of};
+ghost use Rattle.zpl_parse.specs.Whole.{any_expr};
+ghost use Rattle.zpl_parse.specs.Statements as rule;
 
 use crate::classes::{Start, assignment, begins_statement, downwards, started_by, without};
 use crate::expressions::{actuals, expr};
@@ -36,7 +38,7 @@ pub fn value<'a, 't>(
     tokens: &'t [Token],
 ) -> Read<'t, &'a Expr<'a>>
     ensures follows { (most : ℕ) → length tokens.now < most
-        → Follows result (λ r. Done (expr_of r.0.now) (lexemes_of bytes.now r.1.now)) (any_expr most (lexemes_of bytes.now tokens.now)) }
+        → IsRead result (any_expr most) (λ read. expr_of read.now) bytes.now tokens.now }
     ensures shorter { IfOk result (λ r. length r.1.now < length tokens.now) }
 {
     let (value, _, rest) = expr(alloc, arena, bytes, tokens, MOST_DEEP)?;
@@ -54,7 +56,7 @@ pub fn stmt<'a, 't>(
     deep: u32,
 ) -> Read<'t, Stmt<'a>>
     ensures follows { (few most : ℕ) → length tokens.now < few → length tokens.now < most
-        → Follows result (λ r. Done (stmt_of r.0) (lexemes_of bytes.now r.1.now)) (stmt_rule few (any_expr most) deep (lexemes_of bytes.now tokens.now)) }
+        → IsRead result (rule.stmt few (any_expr most) deep) stmt_of bytes.now tokens.now }
     ensures shorter { IfOk result (λ r. length r.1.now < length tokens.now) }
 {
     if deep == 0 {
@@ -76,7 +78,10 @@ fn form<'a, 't>(
     deep: u32,
 ) -> Read<'t, Form<'a>>
     ensures follows { (few most : ℕ) → length tokens.now < few → length tokens.now < most
-        → Follows result (λ r. Done (statement_of r.0) (lexemes_of bytes.now r.1.now)) (form_by few (any_expr most) (stmts_rule few (stmt_rule few (any_expr most) deep)) (start_of (head_kind (lexemes_of bytes.now tokens.now))) (lexemes_of bytes.now tokens.now)) }
+        → IsRead result
+        (λ lexemes. rule.form_by few (any_expr most) (nested few most deep)
+        (start_of (head_kind lexemes)) lexemes)
+        statement_of bytes.now tokens.now }
     ensures shorter { IfOk result (λ r. length r.1.now < length tokens.now) }
 {
     let Some(start) = started_by(first_kind(tokens)) else {
@@ -120,7 +125,9 @@ fn assign_or_call<'a, 't>(
     tokens: &'t [Token],
 ) -> Read<'t, Form<'a>>
     ensures follows { (few most : ℕ) → length tokens.now < few → length tokens.now < most
-        → Follows result (λ r. Done (statement_of r.0) (lexemes_of bytes.now r.1.now)) (and_then (name_rule (lexemes_of bytes.now tokens.now)) (assign_or_call_rule few (any_expr most))) }
+        → IsRead result
+        (λ lexemes. and_then (name_rule lexemes) (rule.assign_or_call few (any_expr most)))
+        statement_of bytes.now tokens.now }
     ensures shorter { IfOk result (λ r. length r.1.now < length tokens.now) }
 {
     let (target, rest) = name(bytes, tokens)?;
@@ -141,7 +148,9 @@ fn invocation<'a, 't>(
     tokens: &'t [Token],
 ) -> Read<'t, Form<'a>>
     ensures follows { (few most : ℕ) → length tokens.now < few → length tokens.now < most
-        → assigning (head_kind (lexemes_of bytes.now tokens.now)) ≡ None → Follows result (λ r. Done (statement_of r.0) (lexemes_of bytes.now r.1.now)) (assign_or_call_rule few (any_expr most) (name_of target.entry) (lexemes_of bytes.now tokens.now)) }
+        → assigning (head_kind (lexemes_of bytes.now tokens.now)) ≡ None
+        → IsRead result (rule.assign_or_call few (any_expr most) (name_of target.entry))
+        statement_of bytes.now tokens.now }
     ensures shorter { IfOk result (λ r. length r.1.now < length tokens.now) }
 {
     let (_, rest) = symbol(tokens, Sym::OpenParen)?;
@@ -160,7 +169,8 @@ pub fn body_end<'a, 't>(
     deep: u32,
 ) -> Read<'t, &'a [Stmt<'a>]>
     ensures follows { (few most : ℕ) → length tokens.now < few → length tokens.now < most
-        → Follows result (λ r. Done (stmts_of r.0.now) (lexemes_of bytes.now r.1.now)) (body_end_rule (stmts_rule few (stmt_rule few (any_expr most) deep)) (lexemes_of bytes.now tokens.now)) }
+        → IsRead result (rule.body_end (nested few most deep)) (λ read. stmts_of read.now)
+        bytes.now tokens.now }
     ensures shorter { IfOk result (λ r. length r.1.now < length tokens.now) }
 {
     let (body, rest) = stmts(alloc, arena, bytes, tokens, deep)?;
@@ -178,7 +188,7 @@ fn stmts<'a, 't>(
     deep: u32,
 ) -> Read<'t, &'a [Stmt<'a>]>
     ensures follows { (few most : ℕ) → length tokens.now < few → length tokens.now < most
-        → Follows result (λ r. Done (stmts_of r.0.now) (lexemes_of bytes.now r.1.now)) (stmts_rule few (stmt_rule few (any_expr most) deep) (lexemes_of bytes.now tokens.now)) }
+        → IsRead result (nested few most deep) (λ read. stmts_of read.now) bytes.now tokens.now }
     ensures shorter { IfOk result (λ r. length r.1.now ≤ length tokens.now) }
 {
     let mut stmts = Vec::new(alloc);
@@ -202,7 +212,10 @@ fn choice<'a, 't>(
     deep: u32,
 ) -> Read<'t, Form<'a>>
     ensures follows { (few most : ℕ) → length tokens.now < few → length tokens.now < most
-        → Follows result (λ r. Done (statement_of r.0) (lexemes_of bytes.now r.1.now)) (choice_rule few (any_expr most) (stmts_rule few (stmt_rule few (any_expr most) deep)) (head_at (lexemes_of bytes.now tokens.now)) (behind_of (lexemes_of bytes.now tokens.now))) }
+        → IsRead result
+        (λ lexemes. rule.choice few (any_expr most) (nested few most deep)
+        (head_at lexemes) (behind_of lexemes))
+        statement_of bytes.now tokens.now }
     ensures shorter { IfOk result (λ r. length r.1.now < length tokens.now) }
 {
     let (arms, rest) = arms(alloc, arena, bytes, tokens, deep)?;
@@ -221,7 +234,10 @@ fn arms<'a, 't>(
     deep: u32,
 ) -> Read<'t, &'a [Arm<'a>]>
     ensures follows { (few most : ℕ) → length tokens.now < few → length tokens.now < most
-        → Follows result (λ r. Done (arms_of r.0.now) (lexemes_of bytes.now r.1.now)) (arms_rule few (any_expr most) (stmts_rule few (stmt_rule few (any_expr most) deep)) (head_at (lexemes_of bytes.now tokens.now)) (behind_of (lexemes_of bytes.now tokens.now))) }
+        → IsRead result
+        (λ lexemes. rule.arms few (any_expr most) (nested few most deep)
+        (head_at lexemes) (behind_of lexemes))
+        (λ read. arms_of read.now) bytes.now tokens.now }
     ensures shorter { IfOk result (λ r. length r.1.now < length tokens.now) }
 {
     let mut arms = Vec::new(alloc);
@@ -247,7 +263,10 @@ fn arm<'a, 't>(
     deep: u32,
 ) -> Read<'t, Arm<'a>>
     ensures follows { (few most : ℕ) → length tokens.now < few → length tokens.now < most
-        → Follows result (λ r. Done (arm_of r.0) (lexemes_of bytes.now r.1.now)) (arm_rule (any_expr most) (stmts_rule few (stmt_rule few (any_expr most) deep)) (head_at (lexemes_of bytes.now tokens.now)) (behind_of (lexemes_of bytes.now tokens.now))) }
+        → IsRead result
+        (λ lexemes. rule.arm (any_expr most) (nested few most deep)
+        (head_at lexemes) (behind_of lexemes))
+        arm_of bytes.now tokens.now }
     ensures shorter { IfOk result (λ r. length r.1.now < length tokens.now) }
 {
     let at = offset(tokens);
@@ -267,7 +286,7 @@ fn otherwise<'a, 't>(
     deep: u32,
 ) -> Read<'t, Option<&'a [Stmt<'a>]>>
     ensures follows { (few most : ℕ) → length tokens.now < few → length tokens.now < most
-        → Follows result (λ r. Done (else_of r.0) (lexemes_of bytes.now r.1.now)) (otherwise_rule (stmts_rule few (stmt_rule few (any_expr most) deep)) (lexemes_of bytes.now tokens.now)) }
+        → IsRead result (rule.otherwise (nested few most deep)) else_of bytes.now tokens.now }
     ensures shorter { IfOk result (λ r. length r.1.now ≤ length tokens.now) }
 {
     if !begins_with(tokens, Kind::Word(Key::Else)) {
@@ -287,7 +306,8 @@ fn while_loop<'a, 't>(
     deep: u32,
 ) -> Read<'t, Form<'a>>
     ensures follows { (few most : ℕ) → length tokens.now < few → length tokens.now < most
-        → Follows result (λ r. Done (statement_of r.0) (lexemes_of bytes.now r.1.now)) (while_rule (any_expr most) (stmts_rule few (stmt_rule few (any_expr most) deep)) (lexemes_of bytes.now tokens.now)) }
+        → IsRead result (rule.while_loop (any_expr most) (nested few most deep)) statement_of
+        bytes.now tokens.now }
     ensures shorter { IfOk result (λ r. length r.1.now < length tokens.now) }
 {
     let (test, rest) = value(alloc, arena, bytes, tokens)?;
@@ -306,7 +326,8 @@ fn repeat_loop<'a, 't>(
     deep: u32,
 ) -> Read<'t, Form<'a>>
     ensures follows { (few most : ℕ) → length tokens.now < few → length tokens.now < most
-        → Follows result (λ r. Done (statement_of r.0) (lexemes_of bytes.now r.1.now)) (repeat_rule (any_expr most) (stmts_rule few (stmt_rule few (any_expr most) deep)) (lexemes_of bytes.now tokens.now)) }
+        → IsRead result (rule.repeat_loop (any_expr most) (nested few most deep)) statement_of
+        bytes.now tokens.now }
     ensures shorter { IfOk result (λ r. length r.1.now < length tokens.now) }
 {
     let (body, rest) = stmts(alloc, arena, bytes, tokens, deep)?;
@@ -326,7 +347,8 @@ fn for_loop<'a, 't>(
     deep: u32,
 ) -> Read<'t, Form<'a>>
     ensures follows { (few most : ℕ) → length tokens.now < few → length tokens.now < most
-        → Follows result (λ r. Done (statement_of r.0) (lexemes_of bytes.now r.1.now)) (for_rule (any_expr most) (stmts_rule few (stmt_rule few (any_expr most) deep)) (lexemes_of bytes.now tokens.now)) }
+        → IsRead result (rule.for_loop (any_expr most) (nested few most deep)) statement_of
+        bytes.now tokens.now }
     ensures shorter { IfOk result (λ r. length r.1.now < length tokens.now) }
 {
     let (head, rest) = for_head(alloc, arena, bytes, tokens)?;
@@ -344,7 +366,7 @@ fn for_head<'a, 't>(
     tokens: &'t [Token],
 ) -> Read<'t, ForHead<'a>>
     ensures follows { (most : ℕ) → length tokens.now < most
-        → Follows result (λ r. Done (head_of r.0) (lexemes_of bytes.now r.1.now)) (for_head_rule (any_expr most) (lexemes_of bytes.now tokens.now)) }
+        → IsRead result (rule.for_head (any_expr most)) head_of bytes.now tokens.now }
     ensures shorter { IfOk result (λ r. length r.1.now < length tokens.now) }
 {
     let (name, rest) = name(bytes, tokens)?;
@@ -365,7 +387,7 @@ fn for_head<'a, 't>(
 
 /// "to" | "downto".
 fn way_down(tokens: &[Token]) -> Read<'_, bool>
-    ensures follows { (text : List ℕ) → Follows result (λ r. Done r.0 (lexemes_of text r.1.now)) (way_down_rule (lexemes_of text tokens.now)) }
+    ensures follows { (text : List ℕ) → IsRead result rule.way_down (λ read. read) text tokens.now }
     ensures shorter { IfOk result (λ r. length r.1.now ≤ length tokens.now) }
 {
     match downwards(first_kind(tokens)) {
@@ -382,7 +404,8 @@ fn step<'a, 't>(
     tokens: &'t [Token],
 ) -> Read<'t, Option<&'a Expr<'a>>>
     ensures follows { (most : ℕ) → length tokens.now < most
-        → Follows result (λ r. Done (option_map (λ step. expr_of step.now) r.0) (lexemes_of bytes.now r.1.now)) (step_rule (any_expr most) (lexemes_of bytes.now tokens.now)) }
+        → IsRead result (rule.step (any_expr most))
+        (λ read. option_map (λ step. expr_of step.now) read) bytes.now tokens.now }
     ensures shorter { IfOk result (λ r. length r.1.now ≤ length tokens.now) }
 {
     if !begins_with(tokens, Kind::Word(Key::By)) {
@@ -400,7 +423,8 @@ fn items<'a, 't>(
     tokens: &'t [Token],
 ) -> Read<'t, &'a [Item<'a>]>
     ensures follows { (few most : ℕ) → length tokens.now < few → length tokens.now < most
-        → Follows result (λ r. Done (map item_of r.0.now) (lexemes_of bytes.now r.1.now)) (items_rule few (any_expr most) (lexemes_of bytes.now tokens.now)) }
+        → IsRead result (rule.items few (any_expr most)) (λ read. map item_of read.now)
+        bytes.now tokens.now }
     ensures shorter { IfOk result (λ r. length r.1.now ≤ length tokens.now) }
 {
     if begins_with(tokens, Kind::Symbol(Sym::CloseParen)) {
@@ -419,7 +443,8 @@ fn some_items<'a, 't>(
     tokens: &'t [Token],
 ) -> Read<'t, &'a [Item<'a>]>
     ensures follows { (few most : ℕ) → length tokens.now < few → length tokens.now < most
-        → Follows result (λ r. Done (map item_of r.0.now) (lexemes_of bytes.now r.1.now)) (some_items_rule few (any_expr most) (lexemes_of bytes.now tokens.now)) }
+        → IsRead result (rule.some_items few (any_expr most)) (λ read. map item_of read.now)
+        bytes.now tokens.now }
     ensures shorter { IfOk result (λ r. length r.1.now < length tokens.now) }
 {
     let mut items = Vec::new(alloc);
@@ -443,7 +468,7 @@ fn item<'a, 't>(
     tokens: &'t [Token],
 ) -> Read<'t, Item<'a>>
     ensures follows { (most : ℕ) → length tokens.now < most
-        → Follows result (λ r. Done (item_of r.0) (lexemes_of bytes.now r.1.now)) (item_rule (any_expr most) (lexemes_of bytes.now tokens.now)) }
+        → IsRead result (rule.item (any_expr most)) item_of bytes.now tokens.now }
     ensures shorter { IfOk result (λ r. length r.1.now < length tokens.now) }
 {
     if begins_with(tokens, Kind::Str) {
@@ -462,7 +487,8 @@ pub fn prefixes<'a, 't>(
     tokens: &'t [Token],
 ) -> Read<'t, &'a [Prefix<'a>]>
     ensures follows { (few most : ℕ) → length tokens.now < few → length tokens.now < most
-        → Follows result (λ r. Done (map prefix_of r.0.now) (lexemes_of bytes.now r.1.now)) (prefixes_rule few (any_expr most) (lexemes_of bytes.now tokens.now)) }
+        → IsRead result (rule.prefixes few (any_expr most)) (λ read. map prefix_of read.now)
+        bytes.now tokens.now }
     ensures shorter { IfOk result (λ r. length r.1.now ≤ length tokens.now) }
 {
     let mut prefixes = Vec::new(alloc);
@@ -484,7 +510,7 @@ fn prefix<'a, 't>(
     tokens: &'t [Token],
 ) -> Read<'t, Prefix<'a>>
     ensures follows { (few most : ℕ) → length tokens.now ≤ few → length tokens.now < most
-        → Follows result (λ r. Done (prefix_of r.0) (lexemes_of bytes.now r.1.now)) (prefix_rule few (any_expr most) (lexemes_of bytes.now tokens.now)) }
+        → IsRead result (rule.prefix few (any_expr most)) prefix_of bytes.now tokens.now }
     ensures shorter { IfOk result (λ r. length r.1.now < length tokens.now) }
 {
     let (at, rest) = symbol(tokens, Sym::OpenBracket)?;
@@ -496,7 +522,7 @@ fn prefix<'a, 't>(
 
 /// [ ( "with" | "without" ) NAME ].
 fn mask<'a, 't>(bytes: &'a [u8], tokens: &'t [Token]) -> Read<'t, Option<Mask<'a>>>
-    ensures follows { Follows result (λ r. Done (option_map mask_of r.0) (lexemes_of bytes.now r.1.now)) (mask_rule (lexemes_of bytes.now tokens.now)) }
+    ensures follows { IsRead result rule.mask (option_map mask_of) bytes.now tokens.now }
     ensures shorter { IfOk result (λ r. length r.1.now ≤ length tokens.now) }
 {
     let Some(without) = without(first_kind(tokens)) else {

@@ -1,13 +1,16 @@
 //! Rules of single tokens, at the front of those that are left.
-ghost use Rattle.std.specs.Prelude.{◌≡◌, ◌<◌, ◌≤◌, ◌-◌, ◌↔◌, if◌then◌else◌, ℕ, List, map, length, IfOk, IsTrue};
+ghost use Rattle.std.specs.Prelude.{◌≡◌, ◌<◌, ◌≤◌, ◌-◌, ◌↔◌, if◌then◌else◌};
+ghost use Rattle.std.specs.Prelude.{ℕ, List, map, length, IfOk, IsTrue};
 ghost use Rattle.zpl_tree.specs.View.{name_of};
 ghost use Rattle.zpl_grammar.specs.Written.{token_text};
 ghost use Rattle.zpl_parse.specs.declared.faults.ParseFault.TheVariants.{Syntax, TooDeep};
-ghost use Rattle.zpl_parse.specs.Following.{BeginsWith, Follows, HasNoValue};
-ghost use Rattle.zpl_parse.specs.Lexeme.{lexemes_of, head_kind, second_kind, head_at, behind as behind_of};
-ghost use Rattle.zpl_parse.specs.Outcome.{Done};
+ghost use Rattle.zpl_parse.specs.Following.{BeginsWith, HasNoValue};
+ghost use Rattle.zpl_grammar.specs.Lexeme.{lexemes_of, head_kind, second_kind, head_at};
+ghost use Rattle.zpl_grammar.specs.Lexeme.{behind as behind_of};
 ghost use Rattle.zpl_parse.specs.Expressions.{along as along_rule};
-ghost use Rattle.zpl_parse.specs.Tokens.{next_is, expect as expect_rule, symbol as symbol_rule, keyword as keyword_rule, name as name_rule, natural as natural_rule, names as names_rule, closing as closing_rule, string_of, in_quotes};
+ghost use Rattle.zpl_parse.specs.Reading.{IsRead};
+ghost use Rattle.zpl_parse.specs.Tokens.{next_is, string_of, in_quotes};
+ghost use Rattle.zpl_parse.specs.Tokens as rule;
 
 use crate::classes::{Opening, opened_by};
 use crate::faults::ParseFault;
@@ -75,7 +78,8 @@ pub fn offset(tokens: &[Token]) -> u32
 
 /// The tokens behind the first.
 pub fn behind(tokens: &[Token]) -> &[Token]
-    ensures rest { (text : List ℕ) → lexemes_of text result.now ≡ behind_of (lexemes_of text tokens.now) }
+    ensures rest { (text : List ℕ)
+        → lexemes_of text result.now ≡ behind_of (lexemes_of text tokens.now) }
     ensures shorter { length result.now ≡ length tokens.now - 1 }
 {
     match tokens {
@@ -91,9 +95,11 @@ pub fn refused(tokens: &[Token]) -> ParseFault
     ParseFault::Syntax { at: offset(tokens) }
 }
 
-/// The fault where no depth is left: too deep at a token that may begin a tree, and a fault of syntax at any other.
+/// The fault where no depth is left: too deep at a token that may begin a tree, and a fault of
+/// syntax at any other.
 pub fn too_deep(begins: bool, tokens: &[Token]) -> ParseFault
-    ensures { (text : List ℕ) → result ≡ (if begins then TooDeep else Syntax (head_at (lexemes_of text tokens.now))) }
+    ensures { (text : List ℕ)
+        → result ≡ (if begins then TooDeep else Syntax (head_at (lexemes_of text tokens.now))) }
 {
     if begins {
         ParseFault::TooDeep
@@ -105,7 +111,8 @@ pub fn too_deep(begins: bool, tokens: &[Token]) -> ParseFault
 /// A token of a kind, and its offset.
 pub fn expect(tokens: &[Token], wanted: Kind) -> Read<'_, u32>
     requires { HasNoValue wanted }
-    ensures follows { (text : List ℕ) → Follows result (λ r. Done r.0 (lexemes_of text r.1.now)) (expect_rule wanted (lexemes_of text tokens.now)) }
+    ensures follows { (text : List ℕ)
+        → IsRead result (rule.expect wanted) (λ read. read) text tokens.now }
     ensures shorter { IfOk result (λ r. length r.1.now < length tokens.now) }
 {
     if begins_with(tokens, wanted) {
@@ -117,7 +124,8 @@ pub fn expect(tokens: &[Token], wanted: Kind) -> Read<'_, u32>
 
 /// A symbol.
 pub fn symbol(tokens: &[Token], symbol: Sym) -> Read<'_, u32>
-    ensures follows { (text : List ℕ) → Follows result (λ r. Done r.0 (lexemes_of text r.1.now)) (symbol_rule symbol (lexemes_of text tokens.now)) }
+    ensures follows { (text : List ℕ)
+        → IsRead result (rule.symbol symbol) (λ read. read) text tokens.now }
     ensures shorter { IfOk result (λ r. length r.1.now < length tokens.now) }
 {
     expect(tokens, Kind::Symbol(symbol))
@@ -125,7 +133,8 @@ pub fn symbol(tokens: &[Token], symbol: Sym) -> Read<'_, u32>
 
 /// A keyword.
 pub fn keyword(tokens: &[Token], keyword: Key) -> Read<'_, u32>
-    ensures follows { (text : List ℕ) → Follows result (λ r. Done r.0 (lexemes_of text r.1.now)) (keyword_rule keyword (lexemes_of text tokens.now)) }
+    ensures follows { (text : List ℕ)
+        → IsRead result (rule.keyword keyword) (λ read. read) text tokens.now }
     ensures shorter { IfOk result (λ r. length r.1.now < length tokens.now) }
 {
     expect(tokens, Kind::Word(keyword))
@@ -133,7 +142,7 @@ pub fn keyword(tokens: &[Token], keyword: Key) -> Read<'_, u32>
 
 /// NAME.
 pub fn name<'a, 't>(bytes: &'a [u8], tokens: &'t [Token]) -> Read<'t, Name<'a>>
-    ensures follows { Follows result (λ r. Done (name_of r.0) (lexemes_of bytes.now r.1.now)) (name_rule (lexemes_of bytes.now tokens.now)) }
+    ensures follows { IsRead result rule.name name_of bytes.now tokens.now }
     ensures shorter { IfOk result (λ r. length r.1.now < length tokens.now) }
 {
     let Some((first, rest)) = tokens.split_first() else {
@@ -157,7 +166,7 @@ pub fn named<'a>(bytes: &'a [u8], token: &Token) -> Name<'a>
 
 /// NUMBER.
 pub fn natural(tokens: &[Token]) -> Read<'_, i64>
-    ensures follows { (text : List ℕ) → Follows result (λ r. Done r.0 (lexemes_of text r.1.now)) (natural_rule (lexemes_of text tokens.now)) }
+    ensures follows { (text : List ℕ) → IsRead result rule.natural (λ read. read) text tokens.now }
     ensures shorter { IfOk result (λ r. length r.1.now < length tokens.now) }
 {
     let Some((first, rest)) = tokens.split_first() else {
@@ -177,7 +186,7 @@ pub fn names<'a, 't>(
     tokens: &'t [Token],
 ) -> Read<'t, &'a [Name<'a>]>
     ensures follows { (most : ℕ) → length tokens.now < most
-        → Follows result (λ r. Done (map name_of r.0.now) (lexemes_of bytes.now r.1.now)) (names_rule most (lexemes_of bytes.now tokens.now)) }
+        → IsRead result (rule.names most) (λ read. map name_of read.now) bytes.now tokens.now }
     ensures shorter { IfOk result (λ r. length r.1.now < length tokens.now) }
 {
     let mut names = Vec::new(alloc);
@@ -195,7 +204,7 @@ pub fn names<'a, 't>(
 
 /// "end" ";".
 pub fn closing(tokens: &[Token]) -> Read<'_, u32>
-    ensures follows { (text : List ℕ) → Follows result (λ r. Done r.0 (lexemes_of text r.1.now)) (closing_rule (lexemes_of text tokens.now)) }
+    ensures follows { (text : List ℕ) → IsRead result rule.closing (λ read. read) text tokens.now }
     ensures shorter { IfOk result (λ r. length r.1.now < length tokens.now) }
 {
     let (_, rest) = keyword(tokens, Key::End)?;
@@ -204,7 +213,7 @@ pub fn closing(tokens: &[Token]) -> Read<'_, u32>
 
 /// What stands between the quotes of the first token.
 pub fn string<'a, 't>(bytes: &'a [u8], tokens: &'t [Token]) -> Read<'t, &'a [u8]>
-    ensures follows { Follows result (λ r. Done r.0.now (lexemes_of bytes.now r.1.now)) (string_of (lexemes_of bytes.now tokens.now)) }
+    ensures follows { IsRead result string_of (λ read. read.now) bytes.now tokens.now }
     ensures shorter { IfOk result (λ r. length r.1.now < length tokens.now) }
 {
     match tokens.split_first() {
@@ -235,7 +244,7 @@ pub fn text_of<'a>(bytes: &'a [u8], token: &Token) -> &'a [u8]
 
 /// [ "[" NUMBER "]" ].
 pub fn along(tokens: &[Token]) -> Read<'_, Option<i64>>
-    ensures follows { (text : List ℕ) → Follows result (λ r. Done r.0 (lexemes_of text r.1.now)) (along_rule (lexemes_of text tokens.now)) }
+    ensures follows { (text : List ℕ) → IsRead result along_rule (λ read. read) text tokens.now }
     ensures shorter { IfOk result (λ r. length r.1.now ≤ length tokens.now) }
 {
     if !begins_with(tokens, Kind::Symbol(Sym::OpenBracket)) {

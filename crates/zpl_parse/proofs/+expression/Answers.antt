@@ -6,320 +6,105 @@ use Rattle.zpl_tree.specs.Depth.{expr_depth, exprs_depth, dir_depth, inner_depth
 use Rattle.zpl_tree.specs.Syntax as plain
 use Rattle.zpl_tree.specs.Syntax.{Pair}
 use Rattle.zpl_tree.specs.View.{expr_of, exprs_of, dir_of, dims_of, name_of, pre_of, base_of, dim_of}
-use Rattle.zpl_tree.proofs.Views.{form_of-Call, dir_of-Vector, inner_of-Dims}
-use Rattle.zpl_parse.specs.Classes.{or_op, and_op, comp_op, sum_op, term_op, stride_of, opening_of, closes_region}
-use Rattle.zpl_parse.specs.Following.{IsFaultOf, IsDeep}
-use Rattle.zpl_parse.specs.Lexeme.{lexemes_of, head_kind, second_kind}
+use Rattle.zpl_tree.proofs.Depths.{expr_depth-some}
+use Rattle.zpl_tree.proofs.Views.{form_of-Call, form_of-Remap, at_of-form, rexpr_of-made, dir_of-Vector, inner_of-Dims}
+use Rattle.zpl_parse.specs.declared.classes.Suffix.TheVariants as suffix
+use Rattle.zpl_parse.specs.Classes.{stride_of, opening_of, suffix_of, closes_region}
+use Rattle.zpl_parse.specs.Following.{IsFaultOf}
+use Rattle.zpl_grammar.specs.Lexeme.{lexemes_of, head_kind, second_kind}
 use Rattle.zpl_parse.specs.Outcome.{Done, made}
 use Rattle.zpl_parse.specs.Tokens.{next_is}
 use Rattle.zpl_parse.specs.Expressions.{levels, exprs, at_of, begins_region}
 use Rattle.zpl_parse.proofs.Follows.{passed, fault_then, follows_same}
 use Rattle.zpl_parse.proofs.Loops.{gathered_none, gathered_more, gathered_last, gathered_done, gathered_fault}
 use Rattle.zpl_parse.proofs.Lists.{exprs-prepended, posts-prepended, dims-prepended, exprs_depth-append, posts_depth-append, dims_depth-append}
-use Rattle.zpl_parse.proofs.Chains.{IsChained, at_of-form, expr_depth-some, chain_more, chain_end, chain_deep, chain_fault, term_chain, term_fault, sum_chain, sum_fault, conj_chain, conj_fault, expr_chain, expr_fault, comp_once, comp_fault, once_end, once_deep, once_more, once_fault, unary_opens}
-use Rattle.zpl_parse.proofs.RegionBase.{fault_is, dir_vector, posts_go, posts_end, posts_more, strides_some, inner_ends, rexpr_based, rexpr_of-made, dims_go, dims_end}
+use Rattle.zpl_parse.specs.Operators.{operator_of, of_level, below_of, operand_of, is_alone}
+use Rattle.zpl_parse.proofs.Chains.{IsFurther, level_begun, level_fault, further_end, further_deep, further_more, further_once, further_fault, height-below, unary_opens}
+use Rattle.zpl_parse.proofs.RegionBase.{fault_is, dir_vector, posts_go, posts_end, posts_more, strides_some, inner_ends, rexpr_based, dims_go, dims_end}
 use Rattle.zpl_parse.proofs.+expression.Goals as goal
 
--- ---- term
+-- ---- the levels of operators
 
-pub expressions::term-returns-in_err-left-clause-follows : goal.expressions::term-returns-in_err-left-clause-follows
-expressions::term-returns-in_err-left-clause-follows t c = λ most enough.
-    passed _ _ _ _ c.from_residual.ensures.1 (term_fault most c.args.deep _ _ ((c.in_err-left.ensures {u = tt}).follows most enough))
+pub expressions::operand-operations-requires : goal.expressions::operand-operations-requires
+expressions::operand-operations-requires t c =
+    let is : below_of c.args.level ≡ Some c.in-Some.level = search rules in
+    (omega (arith, height-below c.args.level c.in-Some.level is, c.decreases), tt)
 
-pub expressions::term-loop-op-init : goal.expressions::term-loop-op-init
-expressions::term-loop-op-init t c = record {
+pub expressions::operations-returns-in_err-left-clause-follows : goal.expressions::operations-returns-in_err-left-clause-follows
+expressions::operations-returns-in_err-left-clause-follows t c = λ most enough.
+    passed _ _ _ _ c.from_residual.ensures.1 (level_fault c.args.level most c.args.deep _ _ ((c.in_err-left.ensures {u = tt}).follows most enough))
+
+pub expressions::operations-loop-op-init : goal.expressions::operations-loop-op-init
+expressions::operations-loop-op-init t c = record {
   within = c.in_ok-left.ensures.shorter;
   depth = c.in_ok-left.ensures.depth;
   shallow = c.in_ok-left.ensures.within;
-  chained = λ most enough. record {
-    less = most;
-    enough = omega (arith, c.in_ok-left.ensures.shorter);
-    is = term_chain most c.args.deep _ _ _ (c.in_ok-left.ensures.follows most enough);
-  };
+  further = λ most enough. level_begun c.args.level most c.args.deep _ _ _ _ (omega (arith, c.in_ok-left.ensures.shorter)) (c.in_ok-left.ensures.follows most enough);
 }
 
-pub expressions::term-returns-then-depth-deep-clause-follows : goal.expressions::term-returns-then-depth-deep-clause-follows
-expressions::term-returns-then-depth-deep-clause-follows t c = λ most enough.
+pub expressions::operations-returns-then-depth-deep-clause-follows : goal.expressions::operations-returns-then-depth-deep-clause-follows
+expressions::operations-returns-then-depth-deep-clause-follows t c = λ most enough.
     let text = c.args.bytes.now in
-    let some : term_op (head_kind (lexemes_of text c.loop-op.rest.now)) ≡ Some c.in-Some.op = search (rules, c.first_kind.ensures text) in
-    chain_deep _ _ _ _ _ _ _ c.in-Some.op (c.loop-op.invariant.chained most enough) some (omega (arith, expr_depth-some (expr_of c.loop-op.left)))
+    let some : operator_of c.args.level (head_kind (lexemes_of text c.loop-op.rest.now)) ≡ Some c.in-Some.op = search (rules, c.first_kind.ensures text) in
+    further_deep _ _ _ _ _ _ _ _ c.in-Some.op (c.loop-op.invariant.further most enough) some (omega (arith, expr_depth-some (expr_of c.loop-op.left)))
 
-pub expressions::term-returns-in_err-right-clause-follows : goal.expressions::term-returns-in_err-right-clause-follows
-expressions::term-returns-in_err-right-clause-follows t c = λ most enough.
+pub expressions::operations-returns-in_err-right-clause-follows : goal.expressions::operations-returns-in_err-right-clause-follows
+expressions::operations-returns-in_err-right-clause-follows t c = λ most enough.
     let text = c.args.bytes.now in
-    let some : term_op (head_kind (lexemes_of text c.loop-op.rest.now)) ≡ Some c.in-Some.op = search (rules, c.first_kind.ensures text) in
+    let some : operator_of c.args.level (head_kind (lexemes_of text c.loop-op.rest.now)) ≡ Some c.in-Some.op = search (rules, c.first_kind.ensures text) in
     let fault = c.in_err-right.field-0.0 in
-    let there : length c.behind.result.now < most = omega (arith, c.behind.ensures.shorter) in
-    let found : IsFaultOf fault ((levels most (c.args.deep - 1)).unary (lexemes_of text c.behind.result.now)) = (c.in_err-right.ensures {u = tt}).follows most there in
+    let below = operand_of c.args.level (levels most (c.args.deep - 1)) in
+    let there : length c.behind-next.result.now < most = omega (arith, c.behind-next.ensures.shorter) in
+    let found : IsFaultOf fault (below (lexemes_of text c.behind-next.result.now)) = (c.in_err-right.ensures {u = tt}).follows most there in
     passed _ _ _ _ c.from_residual-in_err-right.ensures.1
-    (chain_fault _ _ _ _ _ _ _ c.in-Some.op fault (c.loop-op.invariant.chained most enough) some (omega arith)
-    (subst (λ l. IsFaultOf fault ((levels most (c.args.deep - 1)).unary l)) (c.behind.ensures.rest text) found))
+    (further_fault _ _ _ _ _ _ _ _ c.in-Some.op fault (c.loop-op.invariant.further most enough) some (omega arith)
+    (subst (λ l. IsFaultOf fault (below l)) (c.behind-next.ensures.rest text) found))
 
-pub expressions::term-loop-op-preserved : goal.expressions::term-loop-op-preserved
-expressions::term-loop-op-preserved t c =
+pub expressions::operations-returns-then-stands_alone-clause-follows : goal.expressions::operations-returns-then-stands_alone-clause-follows
+expressions::operations-returns-then-stands_alone-clause-follows t c = λ most enough.
     let text = c.args.bytes.now in
-    let some : term_op (head_kind (lexemes_of text c.loop-op.rest.now)) ≡ Some c.in-Some.op = search (rules, c.first_kind.ensures text) in
+    let some : operator_of c.args.level (head_kind (lexemes_of text c.loop-op.rest.now)) ≡ Some c.in-Some.op = search (rules, c.first_kind.ensures text) in
+    let alone : is_alone c.args.level ≡ true = search rules in
     let left = expr_of c.loop-op.left in
     let right = expr_of c.in_ok-right.right in
     let made : expr_of c.in_ok-left-2.left ≡ Pair (at_of left) c.in-Some.op left right =
     c.in_ok-left-2.ensures {u = tt} ∙ ap (λ at. Pair at c.in-Some.op left right) (sym (at_of-form c.loop-op.left.at c.loop-op.left.form)) in
-    let deepest : c.max-depth.result ≡ max (expr_depth left) (expr_depth right) = omega (arith, c.max-depth.ensures, c.in_ok-right.ensures.depth) in
-    let shorter : length c.in_ok-right.after.now < length c.loop-op.rest.now = omega (arith, c.in_ok-right.ensures.shorter, c.behind.ensures.shorter) in
-    record {
-      within = omega arith;
-      depth = subst (λ e. 1 + c.max-depth.result ≡ expr_depth e) (sym made) (ap (λ n. 1 + n) deepest);
-      shallow = omega (arith, c.max-depth.ensures, c.in_ok-right.ensures.within);
-      chained = λ most enough.
-          let there : length c.behind.result.now < most = omega (arith, c.behind.ensures.shorter) in
-          let read : (levels most (c.args.deep - 1)).unary (lexemes_of text c.behind.result.now) ≡ Done right (lexemes_of text c.in_ok-right.after.now) = c.in_ok-right.ensures.follows most there in
-          subst (λ e. IsChained ((levels most c.args.deep).term (lexemes_of text c.args.tokens.now)) (c.args.deep - 1) term_op (levels most (c.args.deep - 1)).unary e (lexemes_of text c.in_ok-right.after.now) (length c.in_ok-right.after.now)) (sym made)
-          (chain_more _ _ _ _ _ _ _ c.in-Some.op right _ _ (c.loop-op.invariant.chained most enough) shorter some (omega arith)
-          (subst (λ l. (levels most (c.args.deep - 1)).unary l ≡ Done right (lexemes_of text c.in_ok-right.after.now)) (c.behind.ensures.rest text) read));
-    }
-
-pub expressions::term-returns-clause-follows : goal.expressions::term-returns-clause-follows
-expressions::term-returns-clause-follows t c = λ most enough.
-    let text = c.args.bytes.now in
-    let none : term_op (head_kind (lexemes_of text c.loop-op.rest.now)) ≡ None = search (rules, c.first_kind.ensures text) in
-    chain_end _ _ _ _ _ _ _ (c.loop-op.invariant.chained most enough) none
-
--- ---- sum
-
-pub expressions::sum-returns-in_err-left-clause-follows : goal.expressions::sum-returns-in_err-left-clause-follows
-expressions::sum-returns-in_err-left-clause-follows t c = λ most enough.
-    passed _ _ _ _ c.from_residual.ensures.1 (sum_fault most c.args.deep _ _ ((c.in_err-left.ensures {u = tt}).follows most enough))
-
-pub expressions::sum-loop-op-init : goal.expressions::sum-loop-op-init
-expressions::sum-loop-op-init t c = record {
-  within = c.in_ok-left.ensures.shorter;
-  depth = c.in_ok-left.ensures.depth;
-  shallow = c.in_ok-left.ensures.within;
-  chained = λ most enough. record {
-    less = most;
-    enough = omega (arith, c.in_ok-left.ensures.shorter);
-    is = sum_chain most c.args.deep _ _ _ (c.in_ok-left.ensures.follows most enough);
-  };
-}
-
-pub expressions::sum-returns-then-depth-deep-clause-follows : goal.expressions::sum-returns-then-depth-deep-clause-follows
-expressions::sum-returns-then-depth-deep-clause-follows t c = λ most enough.
-    let text = c.args.bytes.now in
-    let some : sum_op (head_kind (lexemes_of text c.loop-op.rest.now)) ≡ Some c.in-Some.op = search (rules, c.first_kind.ensures text) in
-    chain_deep _ _ _ _ _ _ _ c.in-Some.op (c.loop-op.invariant.chained most enough) some (omega (arith, expr_depth-some (expr_of c.loop-op.left)))
-
-pub expressions::sum-returns-in_err-right-clause-follows : goal.expressions::sum-returns-in_err-right-clause-follows
-expressions::sum-returns-in_err-right-clause-follows t c = λ most enough.
-    let text = c.args.bytes.now in
-    let some : sum_op (head_kind (lexemes_of text c.loop-op.rest.now)) ≡ Some c.in-Some.op = search (rules, c.first_kind.ensures text) in
-    let fault = c.in_err-right.field-0.0 in
-    let there : length c.behind.result.now < most = omega (arith, c.behind.ensures.shorter) in
-    let found : IsFaultOf fault ((levels most (c.args.deep - 1)).term (lexemes_of text c.behind.result.now)) = (c.in_err-right.ensures {u = tt}).follows most there in
-    passed _ _ _ _ c.from_residual-in_err-right.ensures.1
-    (chain_fault _ _ _ _ _ _ _ c.in-Some.op fault (c.loop-op.invariant.chained most enough) some (omega arith)
-    (subst (λ l. IsFaultOf fault ((levels most (c.args.deep - 1)).term l)) (c.behind.ensures.rest text) found))
-
-pub expressions::sum-loop-op-preserved : goal.expressions::sum-loop-op-preserved
-expressions::sum-loop-op-preserved t c =
-    let text = c.args.bytes.now in
-    let some : sum_op (head_kind (lexemes_of text c.loop-op.rest.now)) ≡ Some c.in-Some.op = search (rules, c.first_kind.ensures text) in
-    let left = expr_of c.loop-op.left in
-    let right = expr_of c.in_ok-right.right in
-    let made : expr_of c.in_ok-left-2.left ≡ Pair (at_of left) c.in-Some.op left right =
-    c.in_ok-left-2.ensures {u = tt} ∙ ap (λ at. Pair at c.in-Some.op left right) (sym (at_of-form c.loop-op.left.at c.loop-op.left.form)) in
-    let deepest : c.max-depth.result ≡ max (expr_depth left) (expr_depth right) = omega (arith, c.max-depth.ensures, c.in_ok-right.ensures.depth) in
-    let shorter : length c.in_ok-right.after.now < length c.loop-op.rest.now = omega (arith, c.in_ok-right.ensures.shorter, c.behind.ensures.shorter) in
-    record {
-      within = omega arith;
-      depth = subst (λ e. 1 + c.max-depth.result ≡ expr_depth e) (sym made) (ap (λ n. 1 + n) deepest);
-      shallow = omega (arith, c.max-depth.ensures, c.in_ok-right.ensures.within);
-      chained = λ most enough.
-          let there : length c.behind.result.now < most = omega (arith, c.behind.ensures.shorter) in
-          let read : (levels most (c.args.deep - 1)).term (lexemes_of text c.behind.result.now) ≡ Done right (lexemes_of text c.in_ok-right.after.now) = c.in_ok-right.ensures.follows most there in
-          subst (λ e. IsChained ((levels most c.args.deep).sum (lexemes_of text c.args.tokens.now)) (c.args.deep - 1) sum_op (levels most (c.args.deep - 1)).term e (lexemes_of text c.in_ok-right.after.now) (length c.in_ok-right.after.now)) (sym made)
-          (chain_more _ _ _ _ _ _ _ c.in-Some.op right _ _ (c.loop-op.invariant.chained most enough) shorter some (omega arith)
-          (subst (λ l. (levels most (c.args.deep - 1)).term l ≡ Done right (lexemes_of text c.in_ok-right.after.now)) (c.behind.ensures.rest text) read));
-    }
-
-pub expressions::sum-returns-clause-follows : goal.expressions::sum-returns-clause-follows
-expressions::sum-returns-clause-follows t c = λ most enough.
-    let text = c.args.bytes.now in
-    let none : sum_op (head_kind (lexemes_of text c.loop-op.rest.now)) ≡ None = search (rules, c.first_kind.ensures text) in
-    chain_end _ _ _ _ _ _ _ (c.loop-op.invariant.chained most enough) none
-
--- ---- conj
-
-pub expressions::conj-returns-in_err-left-clause-follows : goal.expressions::conj-returns-in_err-left-clause-follows
-expressions::conj-returns-in_err-left-clause-follows t c = λ most enough.
-    passed _ _ _ _ c.from_residual.ensures.1 (conj_fault most c.args.deep _ _ ((c.in_err-left.ensures {u = tt}).follows most enough))
-
-pub expressions::conj-loop-op-init : goal.expressions::conj-loop-op-init
-expressions::conj-loop-op-init t c = record {
-  within = c.in_ok-left.ensures.shorter;
-  depth = c.in_ok-left.ensures.depth;
-  shallow = c.in_ok-left.ensures.within;
-  chained = λ most enough. record {
-    less = most;
-    enough = omega (arith, c.in_ok-left.ensures.shorter);
-    is = conj_chain most c.args.deep _ _ _ (c.in_ok-left.ensures.follows most enough);
-  };
-}
-
-pub expressions::conj-returns-then-depth-deep-clause-follows : goal.expressions::conj-returns-then-depth-deep-clause-follows
-expressions::conj-returns-then-depth-deep-clause-follows t c = λ most enough.
-    let text = c.args.bytes.now in
-    let some : and_op (head_kind (lexemes_of text c.loop-op.rest.now)) ≡ Some c.in-Some.op = search (rules, c.first_kind.ensures text) in
-    chain_deep _ _ _ _ _ _ _ c.in-Some.op (c.loop-op.invariant.chained most enough) some (omega (arith, expr_depth-some (expr_of c.loop-op.left)))
-
-pub expressions::conj-returns-in_err-right-clause-follows : goal.expressions::conj-returns-in_err-right-clause-follows
-expressions::conj-returns-in_err-right-clause-follows t c = λ most enough.
-    let text = c.args.bytes.now in
-    let some : and_op (head_kind (lexemes_of text c.loop-op.rest.now)) ≡ Some c.in-Some.op = search (rules, c.first_kind.ensures text) in
-    let fault = c.in_err-right.field-0.0 in
-    let there : length c.behind.result.now < most = omega (arith, c.behind.ensures.shorter) in
-    let found : IsFaultOf fault ((levels most (c.args.deep - 1)).comp (lexemes_of text c.behind.result.now)) = (c.in_err-right.ensures {u = tt}).follows most there in
-    passed _ _ _ _ c.from_residual-in_err-right.ensures.1
-    (chain_fault _ _ _ _ _ _ _ c.in-Some.op fault (c.loop-op.invariant.chained most enough) some (omega arith)
-    (subst (λ l. IsFaultOf fault ((levels most (c.args.deep - 1)).comp l)) (c.behind.ensures.rest text) found))
-
-pub expressions::conj-loop-op-preserved : goal.expressions::conj-loop-op-preserved
-expressions::conj-loop-op-preserved t c =
-    let text = c.args.bytes.now in
-    let some : and_op (head_kind (lexemes_of text c.loop-op.rest.now)) ≡ Some c.in-Some.op = search (rules, c.first_kind.ensures text) in
-    let left = expr_of c.loop-op.left in
-    let right = expr_of c.in_ok-right.right in
-    let made : expr_of c.in_ok-left-2.left ≡ Pair (at_of left) c.in-Some.op left right =
-    c.in_ok-left-2.ensures {u = tt} ∙ ap (λ at. Pair at c.in-Some.op left right) (sym (at_of-form c.loop-op.left.at c.loop-op.left.form)) in
-    let deepest : c.max-depth.result ≡ max (expr_depth left) (expr_depth right) = omega (arith, c.max-depth.ensures, c.in_ok-right.ensures.depth) in
-    let shorter : length c.in_ok-right.after.now < length c.loop-op.rest.now = omega (arith, c.in_ok-right.ensures.shorter, c.behind.ensures.shorter) in
-    record {
-      within = omega arith;
-      depth = subst (λ e. 1 + c.max-depth.result ≡ expr_depth e) (sym made) (ap (λ n. 1 + n) deepest);
-      shallow = omega (arith, c.max-depth.ensures, c.in_ok-right.ensures.within);
-      chained = λ most enough.
-          let there : length c.behind.result.now < most = omega (arith, c.behind.ensures.shorter) in
-          let read : (levels most (c.args.deep - 1)).comp (lexemes_of text c.behind.result.now) ≡ Done right (lexemes_of text c.in_ok-right.after.now) = c.in_ok-right.ensures.follows most there in
-          subst (λ e. IsChained ((levels most c.args.deep).conj (lexemes_of text c.args.tokens.now)) (c.args.deep - 1) and_op (levels most (c.args.deep - 1)).comp e (lexemes_of text c.in_ok-right.after.now) (length c.in_ok-right.after.now)) (sym made)
-          (chain_more _ _ _ _ _ _ _ c.in-Some.op right _ _ (c.loop-op.invariant.chained most enough) shorter some (omega arith)
-          (subst (λ l. (levels most (c.args.deep - 1)).comp l ≡ Done right (lexemes_of text c.in_ok-right.after.now)) (c.behind.ensures.rest text) read));
-    }
-
-pub expressions::conj-returns-clause-follows : goal.expressions::conj-returns-clause-follows
-expressions::conj-returns-clause-follows t c = λ most enough.
-    let text = c.args.bytes.now in
-    let none : and_op (head_kind (lexemes_of text c.loop-op.rest.now)) ≡ None = search (rules, c.first_kind.ensures text) in
-    chain_end _ _ _ _ _ _ _ (c.loop-op.invariant.chained most enough) none
-
--- ---- expr
-
-pub expressions::expr-returns-in_err-left-clause-follows : goal.expressions::expr-returns-in_err-left-clause-follows
-expressions::expr-returns-in_err-left-clause-follows t c = λ most enough.
-    passed _ _ _ _ c.from_residual.ensures.1 (expr_fault most c.args.deep _ _ ((c.in_err-left.ensures {u = tt}).follows most enough))
-
-pub expressions::expr-loop-op-init : goal.expressions::expr-loop-op-init
-expressions::expr-loop-op-init t c = record {
-  within = c.in_ok-left.ensures.shorter;
-  depth = c.in_ok-left.ensures.depth;
-  shallow = c.in_ok-left.ensures.within;
-  chained = λ most enough. record {
-    less = most;
-    enough = omega (arith, c.in_ok-left.ensures.shorter);
-    is = expr_chain most c.args.deep _ _ _ (c.in_ok-left.ensures.follows most enough);
-  };
-}
-
-pub expressions::expr-returns-then-depth-deep-clause-follows : goal.expressions::expr-returns-then-depth-deep-clause-follows
-expressions::expr-returns-then-depth-deep-clause-follows t c = λ most enough.
-    let text = c.args.bytes.now in
-    let some : or_op (head_kind (lexemes_of text c.loop-op.rest.now)) ≡ Some c.in-Some.op = search (rules, c.first_kind.ensures text) in
-    chain_deep _ _ _ _ _ _ _ c.in-Some.op (c.loop-op.invariant.chained most enough) some (omega (arith, expr_depth-some (expr_of c.loop-op.left)))
-
-pub expressions::expr-returns-in_err-right-clause-follows : goal.expressions::expr-returns-in_err-right-clause-follows
-expressions::expr-returns-in_err-right-clause-follows t c = λ most enough.
-    let text = c.args.bytes.now in
-    let some : or_op (head_kind (lexemes_of text c.loop-op.rest.now)) ≡ Some c.in-Some.op = search (rules, c.first_kind.ensures text) in
-    let fault = c.in_err-right.field-0.0 in
-    let there : length c.behind.result.now < most = omega (arith, c.behind.ensures.shorter) in
-    let found : IsFaultOf fault ((levels most (c.args.deep - 1)).conj (lexemes_of text c.behind.result.now)) = (c.in_err-right.ensures {u = tt}).follows most there in
-    passed _ _ _ _ c.from_residual-in_err-right.ensures.1
-    (chain_fault _ _ _ _ _ _ _ c.in-Some.op fault (c.loop-op.invariant.chained most enough) some (omega arith)
-    (subst (λ l. IsFaultOf fault ((levels most (c.args.deep - 1)).conj l)) (c.behind.ensures.rest text) found))
-
-pub expressions::expr-loop-op-preserved : goal.expressions::expr-loop-op-preserved
-expressions::expr-loop-op-preserved t c =
-    let text = c.args.bytes.now in
-    let some : or_op (head_kind (lexemes_of text c.loop-op.rest.now)) ≡ Some c.in-Some.op = search (rules, c.first_kind.ensures text) in
-    let left = expr_of c.loop-op.left in
-    let right = expr_of c.in_ok-right.right in
-    let made : expr_of c.in_ok-left-2.left ≡ Pair (at_of left) c.in-Some.op left right =
-    c.in_ok-left-2.ensures {u = tt} ∙ ap (λ at. Pair at c.in-Some.op left right) (sym (at_of-form c.loop-op.left.at c.loop-op.left.form)) in
-    let deepest : c.max-depth.result ≡ max (expr_depth left) (expr_depth right) = omega (arith, c.max-depth.ensures, c.in_ok-right.ensures.depth) in
-    let shorter : length c.in_ok-right.after.now < length c.loop-op.rest.now = omega (arith, c.in_ok-right.ensures.shorter, c.behind.ensures.shorter) in
-    record {
-      within = omega arith;
-      depth = subst (λ e. 1 + c.max-depth.result ≡ expr_depth e) (sym made) (ap (λ n. 1 + n) deepest);
-      shallow = omega (arith, c.max-depth.ensures, c.in_ok-right.ensures.within);
-      chained = λ most enough.
-          let there : length c.behind.result.now < most = omega (arith, c.behind.ensures.shorter) in
-          let read : (levels most (c.args.deep - 1)).conj (lexemes_of text c.behind.result.now) ≡ Done right (lexemes_of text c.in_ok-right.after.now) = c.in_ok-right.ensures.follows most there in
-          subst (λ e. IsChained ((levels most c.args.deep).expr (lexemes_of text c.args.tokens.now)) (c.args.deep - 1) or_op (levels most (c.args.deep - 1)).conj e (lexemes_of text c.in_ok-right.after.now) (length c.in_ok-right.after.now)) (sym made)
-          (chain_more _ _ _ _ _ _ _ c.in-Some.op right _ _ (c.loop-op.invariant.chained most enough) shorter some (omega arith)
-          (subst (λ l. (levels most (c.args.deep - 1)).conj l ≡ Done right (lexemes_of text c.in_ok-right.after.now)) (c.behind.ensures.rest text) read));
-    }
-
-pub expressions::expr-returns-clause-follows : goal.expressions::expr-returns-clause-follows
-expressions::expr-returns-clause-follows t c = λ most enough.
-    let text = c.args.bytes.now in
-    let none : or_op (head_kind (lexemes_of text c.loop-op.rest.now)) ≡ None = search (rules, c.first_kind.ensures text) in
-    chain_end _ _ _ _ _ _ _ (c.loop-op.invariant.chained most enough) none
-
--- ---- comp
-
-pub expressions::comp-returns-in_err-left-clause-follows : goal.expressions::comp-returns-in_err-left-clause-follows
-expressions::comp-returns-in_err-left-clause-follows t c = λ most enough.
-    passed _ _ _ _ c.from_residual.ensures.1 (comp_fault most c.args.deep _ _ ((c.in_err-left.ensures {u = tt}).follows most enough))
-
-pub expressions::comp-returns-in_default-clause-follows : goal.expressions::comp-returns-in_default-clause-follows
-expressions::comp-returns-in_default-clause-follows t c = λ most enough.
-    let text = c.args.bytes.now in
-    let none : comp_op (head_kind (lexemes_of text c.in_ok-left.rest.now)) ≡ None = search (rules, c.first_kind.ensures text) in
-    comp_once most c.args.deep _ _ _ (c.in_ok-left.ensures.follows most enough) ∙ once_end (c.args.deep - 1) comp_op (levels most (c.args.deep - 1)).sum (expr_of c.in_ok-left.left) (lexemes_of text c.in_ok-left.rest.now) none
-
-pub expressions::comp-returns-then-depth-deep-clause-follows : goal.expressions::comp-returns-then-depth-deep-clause-follows
-expressions::comp-returns-then-depth-deep-clause-follows t c = λ most enough.
-    let text = c.args.bytes.now in
-    let once = comp_once most c.args.deep _ _ _ (c.in_ok-left.ensures.follows most enough) in
-    let some : comp_op (head_kind (lexemes_of text c.in_ok-left.rest.now)) ≡ Some c.in-Some.op = search (rules, c.first_kind.ensures text) in
-    let above = expr_depth-some (expr_of c.in_ok-left.left) in
-    subst IsDeep (sym once) (once_deep (c.args.deep - 1) comp_op (levels most (c.args.deep - 1)).sum (expr_of c.in_ok-left.left) (lexemes_of text c.in_ok-left.rest.now) c.in-Some.op some (omega (arith, c.in_ok-left.ensures.depth, c.in_ok-left.ensures.within)))
-
-pub expressions::comp-returns-in_err-right-clause-follows : goal.expressions::comp-returns-in_err-right-clause-follows
-expressions::comp-returns-in_err-right-clause-follows t c = λ most enough.
-    let text = c.args.bytes.now in
-    let once = comp_once most c.args.deep _ _ _ (c.in_ok-left.ensures.follows most enough) in
-    let some : comp_op (head_kind (lexemes_of text c.in_ok-left.rest.now)) ≡ Some c.in-Some.op = search (rules, c.first_kind.ensures text) in
-    let above = expr_depth-some (expr_of c.in_ok-left.left) in
-    let fault = c.in_err-right.field-0.0 in
-    let there : length c.behind.result.now < most = omega (arith, c.behind.ensures.shorter, c.in_ok-left.ensures.shorter) in
-    let found : IsFaultOf fault ((levels most (c.args.deep - 1)).sum (lexemes_of text c.behind.result.now)) = (c.in_err-right.ensures {u = tt}).follows most there in
-    passed _ _ _ _ c.from_residual-in_err-right.ensures.1
-    (subst (IsFaultOf fault) (sym once) (once_fault (c.args.deep - 1) comp_op (levels most (c.args.deep - 1)).sum (expr_of c.in_ok-left.left) (lexemes_of text c.in_ok-left.rest.now) c.in-Some.op fault some (omega (arith, c.in_ok-left.ensures.depth))
-    (subst (λ l. IsFaultOf fault ((levels most (c.args.deep - 1)).sum l)) (c.behind.ensures.rest text) found)))
-
-pub expressions::comp-returns-clause-follows : goal.expressions::comp-returns-clause-follows
-expressions::comp-returns-clause-follows t c = λ most enough.
-    let text = c.args.bytes.now in
-    let once = comp_once most c.args.deep _ _ _ (c.in_ok-left.ensures.follows most enough) in
-    let some : comp_op (head_kind (lexemes_of text c.in_ok-left.rest.now)) ≡ Some c.in-Some.op = search (rules, c.first_kind.ensures text) in
-    let above = expr_depth-some (expr_of c.in_ok-left.left) in
-    let left = expr_of c.in_ok-left.left in
-    let right = expr_of c.in_ok-right.right in
-    let made : expr_of c.in_ok-compared.compared ≡ Pair (at_of left) c.in-Some.op left right =
-    c.in_ok-compared.ensures {u = tt} ∙ ap (λ at. Pair at c.in-Some.op left right) (sym (at_of-form c.in_ok-left.left.at c.in_ok-left.left.form)) in
-    let there : length c.behind.result.now < most = omega (arith, c.behind.ensures.shorter, c.in_ok-left.ensures.shorter) in
-    let read : (levels most (c.args.deep - 1)).sum (lexemes_of text c.behind.result.now) ≡ Done right (lexemes_of text c.in_ok-right.after.now) = c.in_ok-right.ensures.follows most there in
-    once ∙ once_more (c.args.deep - 1) comp_op (levels most (c.args.deep - 1)).sum (expr_of c.in_ok-left.left) (lexemes_of text c.in_ok-left.rest.now) c.in-Some.op right _ some (omega (arith, c.in_ok-left.ensures.depth))
-    (subst (λ l. (levels most (c.args.deep - 1)).sum l ≡ Done right (lexemes_of text c.in_ok-right.after.now)) (c.behind.ensures.rest text) read)
+    let below = operand_of c.args.level (levels most (c.args.deep - 1)) in
+    let there : length c.behind-next.result.now < most = omega (arith, c.behind-next.ensures.shorter) in
+    let read : below (lexemes_of text c.behind-next.result.now) ≡ Done right (lexemes_of text c.in_ok-right.after.now) = c.in_ok-right.ensures.follows most there in
+    further_once _ _ _ _ _ _ _ _ c.in-Some.op right _ alone (c.loop-op.invariant.further most enough) some (omega arith)
+    (subst (λ l. below l ≡ Done right (lexemes_of text c.in_ok-right.after.now)) (c.behind-next.ensures.rest text) read)
     ∙ ap (λ e. Done e (lexemes_of text c.in_ok-right.after.now)) (sym made)
+
+pub expressions::operations-loop-op-preserved : goal.expressions::operations-loop-op-preserved
+expressions::operations-loop-op-preserved t c =
+    let text = c.args.bytes.now in
+    let some : operator_of c.args.level (head_kind (lexemes_of text c.loop-op.rest.now)) ≡ Some c.in-Some.op = search (rules, c.first_kind.ensures text) in
+    let chains : is_alone c.args.level ≡ false = search rules in
+    let left = expr_of c.loop-op.left in
+    let right = expr_of c.in_ok-right.right in
+    let made : expr_of c.in_ok-left-2.left ≡ Pair (at_of left) c.in-Some.op left right =
+    c.in_ok-left-2.ensures {u = tt} ∙ ap (λ at. Pair at c.in-Some.op left right) (sym (at_of-form c.loop-op.left.at c.loop-op.left.form)) in
+    let deepest : c.max-depth.result ≡ max (expr_depth left) (expr_depth right) = omega (arith, c.max-depth.ensures, c.in_ok-right.ensures.depth) in
+    let shorter : length c.in_ok-right.after.now < length c.loop-op.rest.now = omega (arith, c.in_ok-right.ensures.shorter, c.behind-next.ensures.shorter) in
+    record {
+      within = omega arith;
+      depth = subst (λ e. 1 + c.max-depth.result ≡ expr_depth e) (sym made) (ap (λ n. 1 + n) deepest);
+      shallow = omega (arith, c.max-depth.ensures, c.in_ok-right.ensures.within);
+      further = λ most enough.
+          let below = operand_of c.args.level (levels most (c.args.deep - 1)) in
+          let there : length c.behind-next.result.now < most = omega (arith, c.behind-next.ensures.shorter) in
+          let read : below (lexemes_of text c.behind-next.result.now) ≡ Done right (lexemes_of text c.in_ok-right.after.now) = c.in_ok-right.ensures.follows most there in
+          subst (λ e. IsFurther (is_alone c.args.level) (of_level c.args.level (levels most c.args.deep) (lexemes_of text c.args.tokens.now)) (c.args.deep - 1) (operator_of c.args.level) below e (lexemes_of text c.in_ok-right.after.now) (length c.in_ok-right.after.now)) (sym made)
+          (further_more _ _ _ _ _ _ _ _ c.in-Some.op right _ _ chains (c.loop-op.invariant.further most enough) shorter some (omega arith)
+          (subst (λ l. below l ≡ Done right (lexemes_of text c.in_ok-right.after.now)) (c.behind-next.ensures.rest text) read));
+    }
+
+pub expressions::operations-returns-clause-follows : goal.expressions::operations-returns-clause-follows
+expressions::operations-returns-clause-follows t c = λ most enough.
+    let text = c.args.bytes.now in
+    let none : operator_of c.args.level (head_kind (lexemes_of text c.loop-op.rest.now)) ≡ None = search (rules, c.first_kind.ensures text) in
+    further_end _ _ _ _ _ _ _ _ (c.loop-op.invariant.further most enough) none
 
 -- ---- exprs
 
@@ -377,24 +162,38 @@ expressions::exprs-loop-exprs-preserved t c =
 called : (made depth : ℕ) (e : plain.Expr) (at : ℕ) (name : plain.Name) (those : plain.Exprs) → e ≡ plain.Call at name those → depth ≡ exprs_depth those → 1 + depth ≡ expr_depth e
 called made depth e at name those is deep = ap (λ n. 1 + n) deep ∙ sym (ap expr_depth is)
 
-pub expressions::behind_name-returns-in_ok-those-clause-follows : goal.expressions::behind_name-returns-in_ok-those-clause-follows
-expressions::behind_name-returns-in_ok-those-clause-follows t c = λ most enough.
+remapped : (made depth : ℕ) (e : plain.Expr) (at : ℕ) (name : plain.Name) (those : plain.Exprs) → e ≡ plain.Remap at name those → depth ≡ exprs_depth those → 1 + depth ≡ expr_depth e
+remapped made depth e at name those is deep = ap (λ n. 1 + n) deep ∙ sym (ap expr_depth is)
+
+pub expressions::behind_name-returns-in_ok-those-in-Call-clause-follows : goal.expressions::behind_name-returns-in_ok-those-in-Call-clause-follows
+expressions::behind_name-returns-in_ok-those-in-Call-clause-follows t c = λ most enough.
     let text = c.args.bytes.now in
     let tokens = c.args.tokens.now in
-    let not : c.begins_with.result ≡ false = search rules in
-    let is : c.begins_with-else-begins_with.result ≡ true = search rules in
-    let shifted : next_is (kind.Symbol sym.At) (lexemes_of text tokens) ≡ false = sym (c.begins_with.ensures.is text) ∙ not in
-    let called : next_is (kind.Symbol sym.OpenParen) (lexemes_of text tokens) ≡ true = sym (c.begins_with-else-begins_with.ensures.is text) ∙ is in
-    let there : length c.behind-then-begins_with-2.result.now < most = omega (arith, c.behind-then-begins_with-2.ensures.shorter) in
-    let made : expr_of c.leaf-then-begins_with-2.result ≡ plain.Call c.args.name.at (name_of c.args.name) (exprs_of c.in_ok-those.those.now) =
-    c.leaf-then-begins_with-2.ensures ∙ form_of-Call c.args.name.at c.args.name c.in_ok-those.those in
-    search (rules, shifted, called, c.behind-then-begins_with-2.ensures.rest text, c.in_ok-those.ensures.follows most most there there, made)
+    let suffix : suffix_of (head_kind (lexemes_of text tokens)) ≡ Some suffix.Call = search (rules, c.first_kind.ensures text) in
+    let there : length c.behind-rest.result.now < most = omega (arith, c.behind-rest.ensures.shorter) in
+    let made : expr_of c.leaf-in-Call.result ≡ plain.Call c.args.name.at (name_of c.args.name) (exprs_of c.in_ok-those-in-Call.those.now) =
+    c.leaf-in-Call.ensures ∙ form_of-Call c.args.name.at c.args.name c.in_ok-those-in-Call.those in
+    search (rules, suffix, c.behind-rest.ensures.rest text, c.in_ok-those-in-Call.ensures.follows most most there there, made)
 
-pub expressions::behind_name-returns-in_ok-those-clause-depth : goal.expressions::behind_name-returns-in_ok-those-clause-depth
-expressions::behind_name-returns-in_ok-those-clause-depth t c =
-    let made : expr_of c.leaf-then-begins_with-2.result ≡ plain.Call c.args.name.at (name_of c.args.name) (exprs_of c.in_ok-those.those.now) =
-    c.leaf-then-begins_with-2.ensures ∙ form_of-Call c.args.name.at c.args.name c.in_ok-those.those in
-    called 0 _ _ _ _ _ made c.in_ok-those.ensures.depth
+pub expressions::behind_name-returns-in_ok-those-in-Call-clause-depth : goal.expressions::behind_name-returns-in_ok-those-in-Call-clause-depth
+expressions::behind_name-returns-in_ok-those-in-Call-clause-depth t c =
+    let made : expr_of c.leaf-in-Call.result ≡ plain.Call c.args.name.at (name_of c.args.name) (exprs_of c.in_ok-those-in-Call.those.now) =
+    c.leaf-in-Call.ensures ∙ form_of-Call c.args.name.at c.args.name c.in_ok-those-in-Call.those in
+    called 0 _ _ _ _ _ made c.in_ok-those-in-Call.ensures.depth
+
+pub expressions::remapped-returns-clause-follows : goal.expressions::remapped-returns-clause-follows
+expressions::remapped-returns-clause-follows t c = λ most enough.
+    let text = c.args.bytes.now in
+    let there : length c.in_ok-rest.rest.now < most = omega (arith, c.in_ok-rest.ensures.shorter) in
+    let made : expr_of c.leaf.result ≡ plain.Remap c.args.name.at (name_of c.args.name) (exprs_of c.in_ok-indices.indices.now) =
+    c.leaf.ensures ∙ form_of-Remap c.args.name.at c.args.name c.in_ok-indices.indices in
+    search (rules, c.in_ok-rest.ensures.follows text, c.in_ok-indices.ensures.follows most most there there, made)
+
+pub expressions::remapped-returns-clause-depth : goal.expressions::remapped-returns-clause-depth
+expressions::remapped-returns-clause-depth t c =
+    let made : expr_of c.leaf.result ≡ plain.Remap c.args.name.at (name_of c.args.name) (exprs_of c.in_ok-indices.indices.now) =
+    c.leaf.ensures ∙ form_of-Remap c.args.name.at c.args.name c.in_ok-indices.indices in
+    remapped 0 _ _ _ _ _ made c.in_ok-indices.ensures.depth
 
 -- ---- unary
 

@@ -2,136 +2,100 @@
 use Rattle.std.proofs.Common.{◌≡◌, ℕ, ◌+◌, ◌*◌, ◌-◌, ◌<◌, ◌≤◌, length}
 use Rattle.zpl_tree.specs.Depth.{expr_depth, exprs_depth, posts_depth, dims_depth}
 use Rattle.zpl_tree.specs.View.{expr_of, exprs_of, posts_of, dims_of}
-use Rattle.zpl_parse.specs.Classes.{or_op, and_op, sum_op, term_op}
-use Rattle.zpl_parse.specs.Lexeme.{lexemes_of}
+use Rattle.zpl_grammar.specs.Lexeme.{lexemes_of}
 use Rattle.zpl_parse.specs.Expressions.{levels, exprs, posts, dim_texts}
-use Rattle.zpl_parse.proofs.Chains.{IsChained}
+use Rattle.zpl_parse.specs.Operators.{operator_of, of_level, operand_of, is_alone}
+use Rattle.zpl_parse.proofs.Chains.{IsFurther, height}
 use Rattle.zpl_parse.proofs.Loops.{IsGathered}
 use Rattle.zpl_parse.proofs.Lists.{put_expr, put_post, put_dim}
 use Rattle.zpl_parse.proofs.+expression.Given as goal
 
 abbrev pub decreases-expressions::both : goal.decreases-expressions::both
-decreases-expressions::both l = 17 * l.deep
+decreases-expressions::both l = 23 * l.deep
 
 abbrev pub decreases-expressions::behind_name : goal.decreases-expressions::behind_name
-decreases-expressions::behind_name l = 17 * l.deep
+decreases-expressions::behind_name l = 23 * l.deep + 1
+
+abbrev pub decreases-expressions::shifted : goal.decreases-expressions::shifted
+decreases-expressions::shifted l = 23 * l.deep
+
+abbrev pub decreases-expressions::remapped : goal.decreases-expressions::remapped
+decreases-expressions::remapped l = 23 * l.deep
 
 abbrev pub decreases-expressions::absolute : goal.decreases-expressions::absolute
-decreases-expressions::absolute l = 17 * l.deep
+decreases-expressions::absolute l = 23 * l.deep
 
 abbrev pub decreases-expressions::flood : goal.decreases-expressions::flood
-decreases-expressions::flood l = 17 * l.deep
+decreases-expressions::flood l = 23 * l.deep
 
 abbrev pub decreases-expressions::folded : goal.decreases-expressions::folded
-decreases-expressions::folded l = 17 * l.deep + 1
+decreases-expressions::folded l = 23 * l.deep + 1
 
 abbrev pub decreases-expressions::opened : goal.decreases-expressions::opened
-decreases-expressions::opened l = 17 * l.deep + 2
+decreases-expressions::opened l = 23 * l.deep + 2
 
 abbrev pub decreases-expressions::unary : goal.decreases-expressions::unary
-decreases-expressions::unary l = 17 * l.deep + 3
+decreases-expressions::unary l = 23 * l.deep + 3
 
-abbrev pub decreases-expressions::term : goal.decreases-expressions::term
-decreases-expressions::term l = 17 * l.deep + 4
+abbrev pub decreases-expressions::operand : goal.decreases-expressions::operand
+decreases-expressions::operand l = 23 * l.deep + 2 * height l.level + 2
 
-abbrev pub decreases-expressions::sum : goal.decreases-expressions::sum
-decreases-expressions::sum l = 17 * l.deep + 5
-
-abbrev pub decreases-expressions::comp : goal.decreases-expressions::comp
-decreases-expressions::comp l = 17 * l.deep + 6
-
-abbrev pub decreases-expressions::conj : goal.decreases-expressions::conj
-decreases-expressions::conj l = 17 * l.deep + 7
+abbrev pub decreases-expressions::operations : goal.decreases-expressions::operations
+decreases-expressions::operations l = 23 * l.deep + 2 * height l.level + 3
 
 abbrev pub decreases-expressions::expr : goal.decreases-expressions::expr
-decreases-expressions::expr l = 17 * l.deep + 8
+decreases-expressions::expr l = 23 * l.deep + 14
 
 abbrev pub decreases-expressions::inside : goal.decreases-expressions::inside
-decreases-expressions::inside l = 17 * l.deep + 9
+decreases-expressions::inside l = 23 * l.deep + 15
 
 abbrev pub decreases-expressions::exprs : goal.decreases-expressions::exprs
-decreases-expressions::exprs l = 17 * l.deep + 9
+decreases-expressions::exprs l = 23 * l.deep + 15
 
 abbrev pub decreases-regions::bounds : goal.decreases-regions::bounds
-decreases-regions::bounds l = 17 * l.deep + 9
+decreases-regions::bounds l = 23 * l.deep + 15
 
 abbrev pub decreases-expressions::actuals : goal.decreases-expressions::actuals
-decreases-expressions::actuals l = 17 * l.deep + 10
+decreases-expressions::actuals l = 23 * l.deep + 16
 
 abbrev pub decreases-expressions::components : goal.decreases-expressions::components
-decreases-expressions::components l = 17 * l.deep + 10
+decreases-expressions::components l = 23 * l.deep + 16
 
 abbrev pub decreases-regions::dim_text : goal.decreases-regions::dim_text
-decreases-regions::dim_text l = 17 * l.deep + 10
+decreases-regions::dim_text l = 23 * l.deep + 16
 
 abbrev pub decreases-regions::dir : goal.decreases-regions::dir
-decreases-regions::dir l = 17 * l.deep + 11
+decreases-regions::dir l = 23 * l.deep + 17
 
 abbrev pub decreases-regions::dim_texts : goal.decreases-regions::dim_texts
-decreases-regions::dim_texts l = 17 * l.deep + 11
+decreases-regions::dim_texts l = 23 * l.deep + 17
 
 abbrev pub decreases-regions::posts : goal.decreases-regions::posts
-decreases-regions::posts l = 17 * l.deep + 12
+decreases-regions::posts l = 23 * l.deep + 18
 
 abbrev pub decreases-regions::rexpr : goal.decreases-regions::rexpr
-decreases-regions::rexpr l = 17 * l.deep + 13
+decreases-regions::rexpr l = 23 * l.deep + 19
 
 abbrev pub decreases-regions::inner : goal.decreases-regions::inner
-decreases-regions::inner l = 17 * l.deep + 14
+decreases-regions::inner l = 23 * l.deep + 20
 
 abbrev pub decreases-regions::in_bracket : goal.decreases-regions::in_bracket
-decreases-regions::in_bracket l = 17 * l.deep + 15
+decreases-regions::in_bracket l = 23 * l.deep + 21
 
 abbrev pub decreases-regions::bracket : goal.decreases-regions::bracket
-decreases-regions::bracket l = 17 * l.deep + 16
+decreases-regions::bracket l = 23 * l.deep + 22
 
-abbrev pub invariant-expressions::term-loop-op : goal.invariant-expressions::term-loop-op
-invariant-expressions::term-loop-op l = record {
+abbrev pub invariant-expressions::operations-loop-op : goal.invariant-expressions::operations-loop-op
+invariant-expressions::operations-loop-op l = record {
   within : length l.rest < length l.fn.tokens;
   depth : l.depth ≡ expr_depth (expr_of l.left);
   shallow : l.depth ≤ l.deep;
-  chained : (most : ℕ) → length l.fn.tokens < most
-      → IsChained ((levels most l.deep).term (lexemes_of l.bytes l.fn.tokens)) (l.deep - 1) term_op (levels most (l.deep - 1)).unary (expr_of l.left) (lexemes_of l.bytes l.rest) (length l.rest);
+  further : (most : ℕ) → length l.fn.tokens < most
+      → IsFurther (is_alone l.level) (of_level l.level (levels most l.deep) (lexemes_of l.bytes l.fn.tokens)) (l.deep - 1) (operator_of l.level) (operand_of l.level (levels most (l.deep - 1))) (expr_of l.left) (lexemes_of l.bytes l.rest) (length l.rest);
 }
 
-abbrev pub decreases-expressions::term-loop-op : goal.decreases-expressions::term-loop-op
-decreases-expressions::term-loop-op l = length l.rest
-
-abbrev pub invariant-expressions::sum-loop-op : goal.invariant-expressions::sum-loop-op
-invariant-expressions::sum-loop-op l = record {
-  within : length l.rest < length l.fn.tokens;
-  depth : l.depth ≡ expr_depth (expr_of l.left);
-  shallow : l.depth ≤ l.deep;
-  chained : (most : ℕ) → length l.fn.tokens < most
-      → IsChained ((levels most l.deep).sum (lexemes_of l.bytes l.fn.tokens)) (l.deep - 1) sum_op (levels most (l.deep - 1)).term (expr_of l.left) (lexemes_of l.bytes l.rest) (length l.rest);
-}
-
-abbrev pub decreases-expressions::sum-loop-op : goal.decreases-expressions::sum-loop-op
-decreases-expressions::sum-loop-op l = length l.rest
-
-abbrev pub invariant-expressions::conj-loop-op : goal.invariant-expressions::conj-loop-op
-invariant-expressions::conj-loop-op l = record {
-  within : length l.rest < length l.fn.tokens;
-  depth : l.depth ≡ expr_depth (expr_of l.left);
-  shallow : l.depth ≤ l.deep;
-  chained : (most : ℕ) → length l.fn.tokens < most
-      → IsChained ((levels most l.deep).conj (lexemes_of l.bytes l.fn.tokens)) (l.deep - 1) and_op (levels most (l.deep - 1)).comp (expr_of l.left) (lexemes_of l.bytes l.rest) (length l.rest);
-}
-
-abbrev pub decreases-expressions::conj-loop-op : goal.decreases-expressions::conj-loop-op
-decreases-expressions::conj-loop-op l = length l.rest
-
-abbrev pub invariant-expressions::expr-loop-op : goal.invariant-expressions::expr-loop-op
-invariant-expressions::expr-loop-op l = record {
-  within : length l.rest < length l.fn.tokens;
-  depth : l.depth ≡ expr_depth (expr_of l.left);
-  shallow : l.depth ≤ l.deep;
-  chained : (most : ℕ) → length l.fn.tokens < most
-      → IsChained ((levels most l.deep).expr (lexemes_of l.bytes l.fn.tokens)) (l.deep - 1) or_op (levels most (l.deep - 1)).conj (expr_of l.left) (lexemes_of l.bytes l.rest) (length l.rest);
-}
-
-abbrev pub decreases-expressions::expr-loop-op : goal.decreases-expressions::expr-loop-op
-decreases-expressions::expr-loop-op l = length l.rest
+abbrev pub decreases-expressions::operations-loop-op : goal.decreases-expressions::operations-loop-op
+decreases-expressions::operations-loop-op l = length l.rest
 
 abbrev pub invariant-expressions::exprs-loop-exprs : goal.invariant-expressions::exprs-loop-exprs
 invariant-expressions::exprs-loop-exprs l = record {

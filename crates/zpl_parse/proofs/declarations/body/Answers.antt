@@ -4,7 +4,7 @@ use Rattle.zpl_tree.specs.View.{prefix_of, stmts_of}
 use Rattle.zpl_tree.proofs.Views.{statement_of-Block}
 use Rattle.zpl_parse.specs.Following.{IsFaultOf}
 use Rattle.zpl_parse.specs.Outcome.{Done}
-use Rattle.zpl_parse.specs.Lexeme.{lexemes_of}
+use Rattle.zpl_grammar.specs.Lexeme.{lexemes_of}
 use Rattle.zpl_parse.specs.Statements.{body_end, stmts, stmt}
 use Rattle.zpl_parse.specs.Whole.{any_expr}
 use Rattle.zpl_parse.proofs.Follows.{passed, fault_made}

@@ -2,7 +2,7 @@ use Rattle.std.proofs.Common.{◌≡◌, ◌<◌, [], length, true, false, is_ok
 use Rattle.std.proofs.ResultArms.{chosen}
 use Rattle.zpl_tokens.specs.declared.Kind.TheVariants as kind
 use Rattle.zpl_tree.specs.View.{decl_of}
-use Rattle.zpl_parse.specs.Lexeme.{lexemes_of}
+use Rattle.zpl_grammar.specs.Lexeme.{lexemes_of}
 use Rattle.zpl_parse.specs.Outcome.{Done}
 use Rattle.zpl_parse.specs.Tokens.{next_is}
 use Rattle.zpl_parse.specs.Whole.{any_expr, most_nested}

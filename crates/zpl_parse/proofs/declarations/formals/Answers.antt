@@ -3,7 +3,7 @@ use Rattle.zpl_tree.specs.View.{name_of, bracket_of}
 use Rattle.zpl_parse.specs.Following.{IsFaultOf}
 use Rattle.zpl_parse.specs.Outcome.{Done}
 use Rattle.zpl_parse.specs.Expressions.{bracket}
-use Rattle.zpl_parse.specs.Lexeme.{lexemes_of}
+use Rattle.zpl_grammar.specs.Lexeme.{lexemes_of}
 use Rattle.zpl_parse.specs.Tokens.{names}
 use Rattle.zpl_parse.specs.Whole.{any_expr}
 use Rattle.zpl_parse.proofs.Follows.{passed, fault_then, fault_made}

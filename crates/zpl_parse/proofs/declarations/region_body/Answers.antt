@@ -4,7 +4,7 @@ use Rattle.zpl_tokens.specs.declared.symbols.Sym.TheVariants as symbols
 use Rattle.zpl_tree.specs.View.{inner_of, posts_of}
 use Rattle.zpl_parse.specs.Outcome.{Done}
 use Rattle.zpl_parse.specs.Expressions.{in_bracket, posts, rexpr}
-use Rattle.zpl_parse.specs.Lexeme.{lexemes_of}
+use Rattle.zpl_grammar.specs.Lexeme.{lexemes_of}
 use Rattle.zpl_parse.specs.Tokens.{next_is}
 use Rattle.zpl_parse.specs.Whole.{any_expr}
 use Rattle.zpl_parse.proofs.Follows.{passed, fault_then, fault_made}

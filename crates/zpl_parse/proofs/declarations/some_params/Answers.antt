@@ -3,7 +3,7 @@ use Rattle.std.proofs.ResultArms.{chosen}
 use Rattle.zpl_tokens.specs.declared.Kind.TheVariants as kind
 use Rattle.zpl_tokens.specs.declared.symbols.Sym.TheVariants as symbols
 use Rattle.zpl_tree.specs.View.{param_of}
-use Rattle.zpl_parse.specs.Lexeme.{lexemes_of}
+use Rattle.zpl_grammar.specs.Lexeme.{lexemes_of}
 use Rattle.zpl_parse.specs.Outcome.{made}
 use Rattle.zpl_parse.specs.Tokens.{next_is}
 use Rattle.zpl_parse.specs.Whole.{any_expr}

@@ -2,7 +2,7 @@ use Rattle.std.proofs.Common.{◌≡◌, ◌<◌, length, arith}
 use Rattle.zpl_tree.specs.View.{bracket_of}
 use Rattle.zpl_parse.specs.Outcome.{Done}
 use Rattle.zpl_parse.specs.Expressions.{bracket}
-use Rattle.zpl_parse.specs.Lexeme.{lexemes_of}
+use Rattle.zpl_grammar.specs.Lexeme.{lexemes_of}
 use Rattle.zpl_parse.specs.Whole.{any_expr}
 use Rattle.zpl_parse.proofs.Follows.{passed, fault_then, fault_made}
 use Rattle.zpl_parse.proofs.DeclarationSteps.{fault_next, done_next, done_made}

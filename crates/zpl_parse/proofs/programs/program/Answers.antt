@@ -2,7 +2,7 @@ use Rattle.std.proofs.Common.{ℕ, ◌<◌, ◌∙◌, List, length, sym, ap, su
 use Rattle.zpl_tree.specs.Syntax.{Name, Decl, Program}
 use Rattle.zpl_tree.specs.View.{name_of}
 use Rattle.zpl_parse.specs.Following.{IsFaultOf}
-use Rattle.zpl_parse.specs.Lexeme.{lexemes_of}
+use Rattle.zpl_grammar.specs.Lexeme.{lexemes_of}
 use Rattle.zpl_parse.specs.Outcome.{made}
 use Rattle.zpl_parse.specs.Declarations.{decls}
 use Rattle.zpl_parse.specs.Whole.{any_expr, most_nested}

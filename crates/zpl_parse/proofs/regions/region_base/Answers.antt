@@ -4,7 +4,7 @@ use Rattle.zpl_tokens.specs.declared.Kind.TheVariants as kind
 use Rattle.zpl_tree.specs.Syntax.{Ditto, NamedRegion}
 use Rattle.zpl_tree.specs.View.{name_of}
 use Rattle.zpl_parse.specs.Classes.{outside_of}
-use Rattle.zpl_parse.specs.Lexeme.{lexemes_of, head_kind}
+use Rattle.zpl_grammar.specs.Lexeme.{lexemes_of, head_kind}
 use Rattle.zpl_parse.specs.Tokens.{next_is}
 use Rattle.zpl_parse.proofs.Follows.{passed, fault_then}
 use Rattle.zpl_parse.proofs.Loops.{gathered_none, gathered_more, gathered_done, gathered_fault}

@@ -1,5 +1,5 @@
 use Rattle.std.proofs.Common.{ℕ, ◌<◌, ◌≤◌, length}
-use Rattle.zpl_parse.specs.Lexeme.{lexemes_of}
+use Rattle.zpl_grammar.specs.Lexeme.{lexemes_of}
 use Rattle.zpl_parse.specs.Expressions.{region_base}
 use Rattle.zpl_parse.proofs.Loops.{IsGathered}
 use Rattle.zpl_parse.proofs.Lists.{put_pre}

@@ -4,19 +4,20 @@ use Rattle.zpl_tokens.specs.declared.Kind.TheVariants as kind
 use Rattle.zpl_tokens.specs.declared.keywords.Key.TheVariants as key
 use Rattle.zpl_tree.specs.Syntax.{Prefixed, NoStmt, ThenStmt, NoArm, Tested, Block, If, While, Repeat, For, Else}
 use Rattle.zpl_tree.specs.View.{prefix_of, expr_of, head_of, stmts_of, arm_of, arms_of, statement_of}
-use Rattle.zpl_tree.proofs.Views.{statement_of-Block, statement_of-While, statement_of-Repeat, statement_of-For}
+use Rattle.zpl_tree.proofs.Views.{statement_of-Block, statement_of-While, statement_of-Repeat, statement_of-For, arm_of-made, statement_of-Choice}
 use Rattle.zpl_parse.specs.declared.classes.Start.TheVariants as start
 use Rattle.zpl_parse.specs.Classes.{begins_stmt, start_of}
 use Rattle.zpl_parse.specs.Following.{IsFaultOf}
-use Rattle.zpl_parse.specs.Lexeme.{lexemes_of, head_kind, head_at, behind}
+use Rattle.zpl_grammar.specs.Lexeme.{lexemes_of, head_kind, head_at, behind}
 use Rattle.zpl_parse.specs.Outcome.{Done, and_then, made}
 use Rattle.zpl_parse.specs.Tokens.{next_is}
 use Rattle.zpl_parse.specs.Statements.{stmt, stmts, body_end, while_loop, repeat_loop, for_loop}
-use Rattle.zpl_parse.specs.Whole.{any_expr, else_of}
+use Rattle.zpl_tree.specs.View.{else_of}
+use Rattle.zpl_parse.specs.Whole.{any_expr}
 use Rattle.zpl_parse.proofs.Follows.{passed, fault_then, fault_made}
 use Rattle.zpl_parse.proofs.Loops.{gathered_none, gathered_more, gathered_done, gathered_last, gathered_fault}
 use Rattle.zpl_parse.proofs.Lists.{stmts-prepended, arms-prepended}
-use Rattle.zpl_parse.proofs.StatementBase.{stmts_goes, stmts_ends, arms_go, arms_end, arm_body, choice_arms, choice_otherwise, otherwise_goes, while_do, repeat_until, for_do, stmt_deeper, stmt_form, started, arm_of-made, statement_of-Choice, follows_same}
+use Rattle.zpl_parse.proofs.StatementBase.{stmts_goes, stmts_ends, arms_go, arms_end, arm_body, choice_arms, choice_otherwise, otherwise_goes, while_do, repeat_until, for_do, stmt_deeper, stmt_form, started, follows_same}
 use Rattle.zpl_parse.proofs.statements.+statement.Goals as goal
 
 -- ---- statements in a row

@@ -1,5 +1,5 @@
 use Rattle.std.proofs.Common.{ℕ, ◌+◌, ◌*◌, ◌<◌, ◌≤◌, length}
-use Rattle.zpl_parse.specs.Lexeme.{lexemes_of, head_at, behind}
+use Rattle.zpl_grammar.specs.Lexeme.{lexemes_of, head_at, behind}
 use Rattle.zpl_parse.specs.Statements.{stmt, stmts, arms}
 use Rattle.zpl_parse.specs.Whole.{any_expr}
 use Rattle.zpl_parse.proofs.Loops.{IsGathered}

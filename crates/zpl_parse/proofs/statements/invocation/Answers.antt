@@ -4,7 +4,7 @@ use Rattle.zpl_tree.specs.Syntax.{Invoke}
 use Rattle.zpl_parse.specs.Following.{IsFaultOf}
 use Rattle.zpl_parse.specs.Outcome.{Done, made}
 use Rattle.zpl_parse.specs.Expressions.{actuals}
-use Rattle.zpl_parse.specs.Lexeme.{lexemes_of}
+use Rattle.zpl_grammar.specs.Lexeme.{lexemes_of}
 use Rattle.zpl_parse.specs.Whole.{any_expr}
 use Rattle.zpl_parse.proofs.Follows.{passed, fault_then, fault_made}
 use Rattle.zpl_parse.proofs.StatementBase.{call_is}

@@ -4,7 +4,7 @@ use Rattle.zpl_tree.specs.View.{inner_of, mask_of}
 use Rattle.zpl_parse.specs.Following.{IsFaultOf}
 use Rattle.zpl_parse.specs.Outcome.{Done, made}
 use Rattle.zpl_parse.specs.Expressions.{inner}
-use Rattle.zpl_parse.specs.Lexeme.{lexemes_of}
+use Rattle.zpl_grammar.specs.Lexeme.{lexemes_of}
 use Rattle.zpl_parse.specs.Whole.{any_expr}
 use Rattle.zpl_parse.proofs.Follows.{passed, fault_then, fault_made}
 use Rattle.zpl_parse.proofs.StatementBase.{prefix_is, prefix_region, prefix_mask}

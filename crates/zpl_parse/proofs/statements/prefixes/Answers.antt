@@ -4,7 +4,7 @@ use Rattle.zpl_tokens.specs.declared.Kind.TheVariants as kind
 use Rattle.zpl_tokens.specs.declared.symbols.Sym.TheVariants as sym
 use Rattle.zpl_tree.specs.View.{prefix_of}
 use Rattle.zpl_parse.specs.Following.{IsFaultOf}
-use Rattle.zpl_parse.specs.Lexeme.{lexemes_of}
+use Rattle.zpl_grammar.specs.Lexeme.{lexemes_of}
 use Rattle.zpl_parse.specs.Outcome.{and_then, made}
 use Rattle.zpl_parse.specs.Tokens.{next_is}
 use Rattle.zpl_parse.specs.Statements.{prefixes}

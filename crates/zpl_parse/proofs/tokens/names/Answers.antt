@@ -3,7 +3,7 @@ use Rattle.std.proofs.ResultArms.{chosen}
 use Rattle.zpl_tokens.specs.declared.Kind.TheVariants as kind
 use Rattle.zpl_tokens.specs.declared.symbols.Sym.TheVariants as sym
 use Rattle.zpl_tree.specs.View.{name_of}
-use Rattle.zpl_parse.specs.Lexeme.{lexemes_of}
+use Rattle.zpl_grammar.specs.Lexeme.{lexemes_of}
 use Rattle.zpl_parse.specs.Tokens.{next_is}
 use Rattle.zpl_parse.proofs.Follows.{passed, fault_then}
 use Rattle.zpl_parse.proofs.Loops.{gathered_none, gathered_more, gathered_last, gathered_fault, map-prepended}

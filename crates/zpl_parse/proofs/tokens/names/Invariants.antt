@@ -1,6 +1,6 @@
 use Rattle.std.proofs.Common.{ℕ, ◌<◌, ◌≤◌, ◌∷◌, length}
 use Rattle.zpl_tree.specs.View.{name_of}
-use Rattle.zpl_parse.specs.Lexeme.{lexemes_of}
+use Rattle.zpl_grammar.specs.Lexeme.{lexemes_of}
 use Rattle.zpl_parse.specs.Tokens.{names}
 use Rattle.zpl_parse.proofs.Loops.{IsGathered}
 use Rattle.zpl_parse.proofs.tokens.names.Given as goal
