@@ -90,7 +90,7 @@ filter-multiples s align lo q (suc k) (suc n) m h e r =
     next_reaches (suc i) r = (omega arith, omega arith)
 
 -- ---- integers in a row
-pos-unsigned_abs : (z : ℤ) → pos 0 ≤ℤ z → pos (unsigned_abs z) ≡ z
+pub pos-unsigned_abs : (z : ℤ) → pos 0 ≤ℤ z → pos (unsigned_abs z) ≡ z
 pos-unsigned_abs (pos n) h = refl
 pos-unsigned_abs (negsuc n) h = absurd (omega (arith, ints))
 
@@ -239,7 +239,7 @@ module _ (lo hi step align : ℤ) (k s : ℕ) (skip : Skip lo align step k s) wh
 pub same_range : {lo lo' hi hi' step step' align align' : ℤ} → lo ≡ lo' → hi ≡ hi' → step ≡ step' → align ≡ align' → ◌≡◌ {A = Dim} (Range lo hi step align) (Range lo' hi' step' align')
 same_range a b c d = cc
 
-same_lists : (d e : Dim) → HasStep d → HasStep e → coordinates d ≡ coordinates e → (x : ℤ) → IsCoordinate d x → IsCoordinate e x
+pub same_lists : (d e : Dim) → HasStep d → HasStep e → coordinates d ≡ coordinates e → (x : ℤ) → IsCoordinate d x → IsCoordinate e x
 same_lists d e h k same x m = among_coordinates e x k (subst (λ l. Among l x) same (Among-coordinates d x h m))
 
 -- two ranges are the same set where they have the same normal form

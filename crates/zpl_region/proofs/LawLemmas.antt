@@ -29,13 +29,13 @@ coordinates_iff d x h = ((λ m. among_coordinates d x h (among_from_Contains (co
 pub coordinates_ascend : (d : Dim) → AllPairs ◌<ℤ◌ (coordinates d)
 coordinates_ascend d = AllPairs-from_rises ◌<ℤ◌ (coordinates d) (Rises-coordinates d)
 
-each_coordinate : (dims : List Dim) (t : List ℤ) → All HasStep dims → AllZip Among (map coordinates dims) t → AllZip IsCoordinate dims t
+pub each_coordinate : (dims : List Dim) (t : List ℤ) → All HasStep dims → AllZip Among (map coordinates dims) t → AllZip IsCoordinate dims t
 each_coordinate [] [] h z = tt
 each_coordinate [] (x ∷ t) h z = absurd z
 each_coordinate (d ∷ dims) [] h z = absurd z
 each_coordinate (d ∷ dims) (x ∷ t) h z = (among_coordinates d x (All-head HasStep d dims h) z.0, each_coordinate dims t (All-tail HasStep d dims h) z.1)
 
-each_among : (dims : List Dim) (t : List ℤ) → All HasStep dims → AllZip IsCoordinate dims t → AllZip Among (map coordinates dims) t
+pub each_among : (dims : List Dim) (t : List ℤ) → All HasStep dims → AllZip IsCoordinate dims t → AllZip Among (map coordinates dims) t
 each_among [] [] h z = tt
 each_among [] (x ∷ t) h z = absurd z
 each_among (d ∷ dims) [] h z = absurd z

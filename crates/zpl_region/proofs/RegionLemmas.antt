@@ -208,7 +208,7 @@ met_is r lo hi v w a b c e v_is w_is h k l p q s =
     ap (λ (d : List Dim). let region : Region = record { rank = r.rank; dims = d } in region) dims
 
 -- ---- what is moved or met is a region again
-still_step : (v : List ℤ) (dims : List Dim) → All HasStep dims → All HasStep (each dim_moved v dims)
+pub still_step : (v : List ℤ) (dims : List Dim) → All HasStep dims → All HasStep (each dim_moved v dims)
 still_step [] dims h = h
 still_step (d ∷ v) [] h = All-nil HasStep
 still_step (d ∷ v) (Range lo hi step align ∷ dims) h =

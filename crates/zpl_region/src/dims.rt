@@ -1,5 +1,5 @@
 //! One dimension of a region.
-ghost use Rattle.std.specs.Prelude.{◌≡◌, ◌↔◌, IsTrue, OkIff, All};
+ghost use Rattle.std.specs.Prelude.{◌≡◌, ◌<◌, ◌↔◌, IsTrue, OkIff, All};
 ghost use Rattle.zpl_region.specs.Dim.{
   HasBounds,
   HasStep,
@@ -15,6 +15,8 @@ ghost use Rattle.zpl_region.specs.Dim.{
   dim_strided,
   lies_within,
 };
+ghost use Rattle.zpl_region.specs.Ends.{coordinate_count, first_of, last_of, single_of};
+ghost use Rattle.zpl_region.specs.Hull.{all_from, dim_emptied, dim_hull, dim_hull_with};
 ghost use Rattle.zpl_region.specs.Progression.{IsNormal, terms};
 
 use crate::progressions::Progression;
@@ -83,6 +85,86 @@ impl Dim {
             first,
             step,
             count: more + 1,
+        }
+    }
+
+    /// The first and the last coordinate. That of a flood dimension is 0.
+    pub(crate) fn ends(self) -> (i64, i64)
+        requires dim { IsDim self }
+        requires some { 0 < coordinate_count self }
+        ensures first { result.0 ≡ first_of self }
+        ensures last { result.1 ≡ last_of self }
+    {
+        let coordinates = self.progression();
+        (coordinates.first, coordinates.at(coordinates.count - 1))
+    }
+
+    /// The coordinate of a range that has just one.
+    pub(crate) fn single(self) -> Option<i64>
+        requires { IsDim self }
+        ensures { result ≡ single_of self }
+    {
+        if let Dim::Flood = self {
+            return None;
+        }
+        let coordinates = self.progression();
+        if coordinates.count == 1 {
+            Some(coordinates.first)
+        } else {
+            None
+        }
+    }
+
+    /// The integers from `lo` to `hi`.
+    fn all_from(lo: i64, hi: i64) -> Dim
+        ensures { result ≡ all_from lo hi }
+    {
+        Dim::Range {
+            lo,
+            hi,
+            step: 1,
+            align: lo,
+        }
+    }
+
+    /// The integers from the first coordinate to the last one.
+    pub(crate) fn hull(self) -> Dim
+        requires dim { IsDim self }
+        requires some { 0 < coordinate_count self }
+        ensures { result ≡ dim_hull self }
+    {
+        if let Dim::Flood = self {
+            return Dim::Flood;
+        }
+        let (first, last) = self.ends();
+        Dim::all_from(first, last)
+    }
+
+    /// The integers from the least of both first coordinates to the greatest of both last ones.
+    pub(crate) fn hull_with(self, other: Dim) -> Dim
+        requires dim { IsDim self }
+        requires some { 0 < coordinate_count self }
+        requires other_dim { IsDim other }
+        requires others { 0 < coordinate_count other }
+        ensures { result ≡ dim_hull_with self other }
+    {
+        match (self, other) {
+            (Dim::Range { .. }, Dim::Range { .. }) => {
+                let (first, last) = self.ends();
+                let (from, to) = other.ends();
+                Dim::all_from(first.min(from), last.max(to))
+            }
+            _ => Dim::Flood,
+        }
+    }
+
+    /// A range without coordinates in the place of a range.
+    pub(crate) fn emptied(self) -> Dim
+        ensures { result ≡ dim_emptied self }
+    {
+        match self {
+            Dim::Range { .. } => Dim::all_from(1, 0),
+            Dim::Flood => Dim::Flood,
         }
     }
 

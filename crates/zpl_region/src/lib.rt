@@ -6,6 +6,7 @@
 
 mod dims;
 mod forms;
+mod hulls;
 mod laws;
 mod progressions;
 mod regions;
@@ -13,11 +14,10 @@ mod walks;
 
 pub use dims::Dim;
 pub use laws::{
-    blocks_partition_members, coordinates_are_the_set, meeting_keeps_members_in_order,
-    members_are_in_row_major_order, members_are_tuples_of_coordinates, moving_moves_each_member,
-    next_member_is_the_one_after, same_sets_have_one_normal_form,
+    blocks_partition_members, blocks_partition_members_by_dimension, coordinates_are_the_set,
+    ends_are_those_of_the_lists, hull_is_the_least_box, hull_of_two_is_the_least_box,
+    limited_regions_are_regions, meeting_keeps_members_in_order, members_are_in_row_major_order,
+    members_are_tuples_of_coordinates, moving_moves_each_member, next_member_is_the_one_after,
+    parts_partition_members, same_sets_have_one_normal_form, tests_tell_the_facts,
 };
 pub use regions::{Region, RegionLimit, Vec3};
-
-#[cfg(test)]
-mod tests;

@@ -78,7 +78,7 @@ impl Region {
     }
 
     /// Whether the region has no tuple.
-    pub(crate) fn is_empty(&self) -> bool
+    pub fn is_empty(&self) -> bool
         requires { IsRegion self.now }
         ensures { IsTrue result ↔ (members self.now ≡ []) }
     {

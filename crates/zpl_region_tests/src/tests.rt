@@ -3,8 +3,8 @@ ghost use Rattle.std.specs.Prelude.{◌<◌, ◌^◌, ◌≤ℤ◌, neg_ℤ, pos
 ghost use Rattle.zpl_region.specs.Dim.{HasStep};
 ghost use Rattle.zpl_region.specs.Region.{IsRegion, members};
 
-use super::{Dim, Region, Vec3};
 use std::process::Abort;
+use zpl_region::{Dim, Region, Vec3};
 
 /// What stands for a dimension past the rank.
 const PADDING: Dim = Dim::Range {
@@ -75,7 +75,9 @@ fn walk(rt: &impl Abort, rank: u8, a: Dim, b: Dim, c: Dim) {
                 continue;
             }
             for z in -4..=9 {
-                if has(c, z) {
+                let here = has(c, z);
+                assert_eq!(rt; region.contains([x, y, z]), here);
+                if here {
                     assert_eq!(rt; region.nth(seen), Some([x, y, z]));
                     assert_eq!(rt; region.next_after(last), Some([x, y, z]));
                     seen = seen.saturating_add(1);
@@ -87,6 +89,12 @@ fn walk(rt: &impl Abort, rank: u8, a: Dim, b: Dim, c: Dim) {
     assert_eq!(rt; region.count(), seen, "{a:?} {b:?} {c:?}");
     assert_eq!(rt; region.nth(seen), None);
     assert_eq!(rt; region.next_after(last), None);
+    assert_eq!(rt; region.is_empty(), seen == 0);
+    assert_eq!(rt; region.least(), region.nth(0));
+    assert_eq!(rt;
+        region.greatest(),
+        if seen == 0 { None } else { Some(last) }
+    );
 }
 
 /// Moves a line by each distance up to 7, and looks for each number that it had.
@@ -376,4 +384,54 @@ fn ranges_that_are_one_set(rt: HostRuntime) {
         flood.same_dim(&flood, 1) && !flood.same_dim(&zero, 1) && !zero.same_dim(&flood, 1)
     );
     assert!(rt; flood.within([5, 0, 0], [7, 0, 0]) && !zero.within([5, 0, 0], [7, 0, 0]));
+}
+
+#[test]
+fn hulls_of_planes(rt: HostRuntime) {
+    let none = range((1, 0, 1, 1));
+    for (a, b, first, second) in [
+        (
+            (0, 8, 3, 1),
+            (2, 9, 5, 9),
+            range((1, 7, 1, 1)),
+            range((4, 9, 1, 4)),
+        ),
+        (
+            (-3, 2, 4, 7),
+            (0, 0, 9, 0),
+            range((-1, -1, 1, -1)),
+            range((0, 0, 1, 0)),
+        ),
+        ((1, 2, 5, 0), (2, 9, 5, 9), none, none),
+        ((3, 4, 1, 3), (5, 4, 1, 5), none, none),
+    ] {
+        let plane = region(&rt, 2, range(a), range(b), PADDING);
+        let hull = plane.hull();
+        assert_eq!(rt;
+            hull,
+            Region {
+                rank: 2,
+                dims: [first, second, PADDING]
+            },
+            "{a:?} {b:?}"
+        );
+    }
+    let rows = region(&rt, 2, Dim::Flood, range((2, 9, 5, 9)), PADDING);
+    let dims = [Dim::Flood, range((4, 9, 1, 4)), PADDING];
+    assert_eq!(rt; rows.hull(), Region { rank: 2, dims });
+}
+
+#[test]
+fn single_coordinates(rt: HostRuntime) {
+    for (dim, want) in [
+        (range((3, 5, 7, 4)), Some(4)),
+        (range((3, 5, 1, 4)), None),
+        (range((1, 2, 5, 0)), None),
+        (PADDING, Some(0)),
+        (Dim::Flood, None),
+    ] {
+        let line = region(&rt, 1, dim, PADDING, PADDING);
+        assert!(rt; line.rank == 1);
+        assert_eq!(rt; line.single(1), want, "{dim:?}");
+    }
 }
