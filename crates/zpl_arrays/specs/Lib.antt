@@ -1,0 +1,10 @@
+pub mod Around
+pub mod Array
+pub mod ArrayText
+pub mod Border
+pub mod Conformity
+pub mod Flood
+pub mod Fold
+pub mod Reference
+pub mod Row
+pub mod Scan

@@ -1,0 +1,121 @@
+//! The laws of arrays, references, sources, folds and scans that meaning, plans and rows stand
+//! on.
+//!
+//! Each law is the contract of a function that does nothing: a call brings the law into a proof.
+ghost use Rattle.std.specs.Prelude.{◌≡◌, ◌≢◌, ℕ, ◌-◌, ℤ, pos, Bool, false, not, ◌&&◌, List, map, flat_map, length, slice_get, slice_index_or, IsTrue, Some, All, IsPermutation};
+ghost use Rattle.std.specs.List.{AllZip};
+ghost use Rattle.zpl_nums.specs.declared.ends.Border.{Border};
+ghost use Rattle.zpl_nums.specs.declared.folds.Fold.{Fold as Operator};
+ghost use Rattle.zpl_nums.specs.Fold.{folded, joined};
+ghost use Rattle.zpl_region.specs.declared.regions.Region.{Region as Tuples};
+ghost use Rattle.zpl_region.specs.Dim.{HasStep};
+ghost use Rattle.zpl_region.specs.Ends.{has_none};
+ghost use Rattle.zpl_region.specs.Hull.{IsBoxed};
+ghost use Rattle.zpl_region.specs.Region.{IsMember, IsRegion, members, outside_of, tuple_moved};
+ghost use Rattle.zpl_arrays.specs.Around.{around_source};
+ghost use Rattle.zpl_arrays.specs.Array.{Array, IsArray, array_of, element, flattened, has_place, place_among, updated};
+ghost use Rattle.zpl_arrays.specs.Border.{border_conforms, border_source, border_sources};
+ghost use Rattle.zpl_arrays.specs.Conformity.{flood_conforms};
+ghost use Rattle.zpl_arrays.specs.Flood.{flood_source};
+ghost use Rattle.zpl_arrays.specs.Fold.{kept_fold};
+ghost use Rattle.zpl_arrays.specs.Reference.{IsCovered, is_reference, lies_in};
+ghost use Rattle.zpl_arrays.specs.Scan.{is_below, is_earlier_line, is_up_along, scanned, scanned_along};
+
+/// A tuple of a region stands at its place in row-major order, and at no other one.
+pub fn tuples_stand_at_their_places()
+    ensures stands { (r : Tuples) (t : List ℤ) → All HasStep r.dims → IsMember r t
+        → slice_get (members r) (place_among r.dims t) ≡ Some t }
+    ensures only { (r : Tuples) (t : List ℤ) (k : ℕ) → All HasStep r.dims
+        → slice_get (members r) k ≡ Some t → place_among r.dims t ≡ k }
+{}
+
+/// An array that is made of a function has its values, whatever the coordinates of flood
+/// dimensions are, and 0 outside the storage.
+pub fn elements_are_the_values_given()
+    ensures array { (r : Tuples) (f : List ℤ → ℤ) → All HasStep r.dims → IsArray (array_of r f) }
+    ensures inside { (r : Tuples) (f : List ℤ → ℤ) (t : List ℤ) → All HasStep r.dims
+        → IsTrue (has_place r t) → element (array_of r f) t ≡ f (flattened r.dims t) }
+    ensures member { (r : Tuples) (f : List ℤ → ℤ) (t : List ℤ) → All HasStep r.dims → IsMember r t
+        → element (array_of r f) t ≡ f t }
+    ensures outside { (a : Array) (t : List ℤ) → has_place a.storage t ≡ false
+        → element a t ≡ pos 0 }
+{}
+
+/// An array is given by its elements.
+pub fn arrays_are_their_elements()
+    ensures at_place { (a : Array) (k : ℕ) (t : List ℤ) → IsArray a
+        → slice_get (members a.storage) k ≡ Some t
+        → element a t ≡ slice_index_or a.values k (pos 0) }
+    ensures made { (a : Array) → IsArray a → a ≡ array_of a.storage (element a) }
+    ensures same { (a b : Array) → IsArray a → IsArray b → a.storage ≡ b.storage
+        → ((t : List ℤ) → IsMember a.storage t → element a t ≡ element b t) → a ≡ b }
+{}
+
+/// An update gives a tuple its value, and leaves the others theirs.
+pub fn updates_change_one_element()
+    ensures array { (a : Array) (t : List ℤ) (value : ℤ) → IsArray a → IsArray (updated a t value) }
+    ensures here { (a : Array) (t : List ℤ) (value : ℤ) → IsArray a → IsTrue (has_place a.storage t)
+        → element (updated a t value) t ≡ value }
+    ensures elsewhere { (a : Array) (t u : List ℤ) (value : ℤ) → IsArray a
+        → IsTrue (has_place a.storage t) → IsTrue (has_place a.storage u)
+        → flattened a.storage.dims u ≢ flattened a.storage.dims t
+        → element (updated a t value) u ≡ element a u }
+{}
+
+/// A region lies in a box where all its tuples have a place there; and so back, where no flood
+/// dimension of it meets a range of the box.
+pub fn references_lie_where_their_tuples_do()
+    ensures places { (r box : Tuples) (t : List ℤ) → All HasStep r.dims → All IsBoxed box.dims
+        → length r.dims ≡ length box.dims → IsTrue (lies_in r box) → IsMember r t
+        → IsTrue (has_place box t) }
+    ensures lies { (r box : Tuples) → All HasStep r.dims → All IsBoxed box.dims
+        → AllZip IsCovered r.dims box.dims
+        → ((t : List ℤ) → IsMember r t → IsTrue (has_place box t)) → IsTrue (lies_in r box) }
+    ensures moved { (r box : Tuples) (d t : List ℤ) → IsRegion r → All IsBoxed box.dims
+        → length r.dims ≡ 3 → length box.dims ≡ 3 → length d ≡ 3
+        → IsTrue (is_reference d r box) → IsMember r t
+        → IsTrue (has_place box (tuple_moved d r t)) }
+{}
+
+/// The source of a border tuple is a source tuple where the border conforms, that of a flood a
+/// tuple of its source region, and that of a read that wraps round lies in the home box.
+pub fn sources_lie_where_they_should()
+    ensures border { (kind : Border) (r : Tuples) (d t : List ℤ) → IsTrue (border_conforms d r)
+        → IsMember (outside_of d r) t
+        → IsMember (border_sources kind r d) (border_source kind r d t) }
+    ensures flood { (target source : Tuples) (t : List ℤ)
+        → All HasStep target.dims → All HasStep source.dims
+        → length target.dims ≡ length source.dims → IsTrue (flood_conforms target source)
+        → IsMember target t → IsMember source (flood_source source t) }
+    ensures around { (home : Tuples) (d t : List ℤ) → All IsBoxed home.dims → has_none home ≡ false
+        → length d ≡ length home.dims → length t ≡ length home.dims
+        → IsTrue (has_place home (around_source home d t)) }
+{}
+
+/// The fold over tuples that are kept is the join of the folds over parts, whatever the parts and
+/// their order are.
+pub fn folds_go_by_parts()
+    ensures { (op : Operator) (is_kept : List ℤ → Bool) (e : List ℤ → ℤ) (tuples : List (List ℤ))
+        (parts : List (List (List ℤ))) → IsPermutation tuples (flat_map (λ part. part) parts)
+        → kept_fold op is_kept e tuples ≡ folded op (map (kept_fold op is_kept e) parts) }
+{}
+
+/// The value of a scan in row-major order is the join of earlier lines and the scan of its own
+/// line. That of a line is the join of what stands below a number and of what stands from it on.
+pub fn scans_go_by_lines()
+    ensures lines { (op : Operator) (r : Tuples) (is_kept : List ℤ → Bool) (e : List ℤ → ℤ)
+        (x : List ℤ)
+        → IsRegion r → length r.dims ≡ 3 → IsMember r x
+        → scanned op r is_kept e x
+        ≡ joined op
+        (kept_fold op (λ t. is_kept t && is_earlier_line (r.rank - 1) x t) e (members r))
+        (scanned_along r.rank op r is_kept e x) }
+    ensures parts { (k : ℕ) (op : Operator) (r : Tuples) (is_kept : List ℤ → Bool)
+        (e : List ℤ → ℤ) (x : List ℤ)
+        (low : ℤ) → scanned_along k op r is_kept e x
+        ≡ joined op
+        (kept_fold op (λ t. (is_kept t && is_up_along (k - 1) x t) && is_below (k - 1) low t)
+        e (members r))
+        (kept_fold op (λ t. (is_kept t && is_up_along (k - 1) x t) && not (is_below (k - 1) low t))
+        e (members r)) }
+{}

@@ -1,0 +1,19 @@
+//! What operators on arrays mean, free of names and of any syntax.
+//!
+//! The definitions stand in `specs/`, and their laws are contracts of functions that do nothing.
+//! The meaning of programs, the plans and the rows of node code all cite them.
+#![tactic(auto)]
+
+mod folds;
+mod laws;
+mod reductions;
+mod sources;
+
+pub use folds::{fold_of, scan_line};
+pub use laws::{
+    arrays_are_their_elements, elements_are_the_values_given, folds_go_by_parts,
+    references_lie_where_their_tuples_do, scans_go_by_lines, sources_lie_where_they_should,
+    tuples_stand_at_their_places, updates_change_one_element,
+};
+pub use reductions::agrees;
+pub use sources::{around_coordinate, border_coordinate, flood_coordinate};

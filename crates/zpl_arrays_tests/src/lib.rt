@@ -1,0 +1,5 @@
+//! Tests of `zpl_arrays` that use its public items alone.
+#![tactic(auto)]
+
+#[cfg(test)]
+mod tests;
