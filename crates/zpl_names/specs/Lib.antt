@@ -1,0 +1,12 @@
+pub mod Accepted
+pub mod Counts
+pub mod Declared
+pub mod Expansion
+pub mod Faults
+pub mod Kinds
+pub mod Ranks
+pub mod Reached
+pub mod Scope
+pub mod Shapes
+pub mod Sites
+pub mod Types
