@@ -1,0 +1,16 @@
+mod Trees
+mod ExamplesSettings
+mod ExamplesValues
+mod ExamplesRegions
+mod ExamplesStorages
+mod OutcomeLemmas
+mod BoundLemmas
+mod FormalLemmas
+mod ListLemmas
+mod DeclarationLemmas
+mod LimitLemmas
+mod ExamplesCopies
+mod BoxLemmas
+mod ExpandedLemmas
+mod KeptLemmas
+mod ExamplesAccepted

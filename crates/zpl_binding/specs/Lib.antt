@@ -1,0 +1,10 @@
+pub mod Bound
+pub mod Constants
+pub mod Copies
+pub mod Declarations
+pub mod Formals
+pub mod Outcome
+pub mod Regions
+pub mod Settings
+pub mod Storages
+pub mod Vectors
