@@ -1,0 +1,10 @@
+mod DominationLemmas
+mod CapacityLemmas
+mod EndLemmas
+mod Examples
+mod FrontLemmas
+mod HistoryLemmas
+mod LapLemmas
+mod LinkLemmas
+mod NetworkLemmas
+mod TurnLemmas
