@@ -1,0 +1,10 @@
+pub mod GridLemmas
+pub mod BlockLemmas
+pub mod OwnerLemmas
+pub mod PartLemmas
+pub mod ThreeLemmas
+pub mod SizeLemmas
+pub mod HullLemmas
+pub mod BoxLemmas
+pub mod DimLemmas
+mod Examples

@@ -1,0 +1,5 @@
+pub mod Block
+pub mod Grid
+pub mod Layout
+pub mod Piece
+pub mod Words

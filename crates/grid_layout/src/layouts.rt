@@ -1,0 +1,140 @@
+//! Layouts: the blocks of a grid with the arrays that are laid out over it.
+ghost use Rattle.std.specs.Prelude.{◌≡◌, ◌<◌, ◌≤◌, ◌≢◌, All, IfErr, IfOk, length};
+ghost use Rattle.grid_layout.specs.declared.layouts.LayoutFault.TheVariants.{NoMemory};
+ghost use Rattle.grid_layout.specs.Grid.{processors_of};
+ghost use Rattle.grid_layout.specs.Layout.{AreBlocks, IsArrayBox, held_box_of, laid_out, own_first, own_last, owner_of};
+ghost use Rattle.grid_layout.specs.Piece.{needed_of, piece_of};
+ghost use Rattle.grid_layout.specs.Words.{words_of};
+ghost use Rattle.zpl_region.specs.Dim.{IsUpTo};
+ghost use Rattle.zpl_region.specs.Region.{IsRegion};
+
+use crate::blocks::Blocks;
+use crate::boxes::ArrayBox;
+use crate::grids::Grid;
+use std::alloc::Global;
+use std::marker::Model;
+use zpl_region::{Region, Vec3};
+
+/// The most words that the held boxes of a layout may have, on all processors together.
+const STORAGE_LIMIT: u128 = 16_777_216;
+
+/// Stored arrays, laid out over a grid. Contracts see its grid and its arrays.
+#[derive(Drop)]
+pub struct Layout {
+    blocks: Blocks,
+    boxes: Vec<ArrayBox>,
+}
+
+impl Model for Layout {
+    ghost use Rattle.grid_layout.specs.Layout.{Arrangement, IsLayout};
+
+    ghost Value = { Arrangement };
+
+    ghost view = { λ l. record { grid = l.blocks.grid; boxes = l.boxes.items } };
+
+    ghost invariant = { λ l. IsLayout l.blocks l.boxes.items };
+}
+
+/// Why there is no layout.
+#[derive(Clone, Copy, Debug, PartialEq, Eq)]
+pub enum LayoutFault {
+    /// The held boxes have more than 16,777,216 words, on all processors together.
+    TooMuchStorage,
+    /// There is no memory for the list of arrays.
+    NoMemory,
+}
+
+impl Layout {
+    /// The layout of these arrays.
+    pub fn new(alloc: Global, grid: Grid, boxes: &[ArrayBox]) -> Result<Layout, LayoutFault>
+        requires { All IsArrayBox boxes.now }
+        ensures layout { IfOk result (λ layout. layout ≡ record { grid = grid; boxes = boxes.now }) }
+        ensures fits { IfOk result (λ layout. words_of layout ≤ 16777216) }
+        ensures storage { IfErr result (λ fault. fault ≢ NoMemory → 16777216 < words_of (record { grid = grid; boxes = boxes.now })) }
+    {
+        let blocks = Blocks::new(grid, boxes);
+        if blocks.words_of(boxes) > STORAGE_LIMIT {
+            return Err(LayoutFault::TooMuchStorage);
+        }
+        let Ok(boxes) = boxes.to_vec(alloc) else {
+            return Err(LayoutFault::NoMemory);
+        };
+        Ok(Layout { blocks, boxes })
+    }
+
+    /// The blocks of the layout.
+    pub fn blocks(&self) -> &Blocks
+        ensures blocks { result.now ≡ laid_out self.now }
+        ensures sound { AreBlocks result.now }
+        ensures boxes { All IsArrayBox self.now.boxes }
+    {
+        let _boxes = &self.boxes;
+        &self.blocks
+    }
+
+    /// The grid that the layout was made with.
+    pub fn grid(&self) -> Grid
+        ensures { result ≡ self.now.grid }
+    {
+        self.blocks.grid
+    }
+
+    /// The processor that owns a tuple. Each tuple has one, also one that no storage has.
+    pub fn owner(&self, rank: u8, x: Vec3) -> u32
+        requires above { 1 ≤ rank }
+        requires below { rank ≤ 3 }
+        ensures owner { result ≡ owner_of (laid_out self.now) rank x }
+        ensures processor { result < processors_of self.now.grid }
+    {
+        self.blocks().owner(rank, x)
+    }
+
+    /// The first and the last tuple of a processor's own block; -2^40 and 2^40 where it is without
+    /// end. A block that is empty in a dimension begins one behind its end there.
+    pub fn own_block(&self, rank: u8, p: u32) -> (Vec3, Vec3)
+        requires above { 1 ≤ rank }
+        requires below { rank ≤ 3 }
+        requires processor { p < processors_of self.now.grid }
+        ensures first { result.0 ≡ own_first (laid_out self.now) rank p }
+        ensures last { result.1 ≡ own_last (laid_out self.now) rank p }
+    {
+        self.blocks().own_block(rank, p)
+    }
+
+    /// The box of an array that a processor holds: its own block, widened by the fringe, within the
+    /// storage. An empty block holds nothing; then each range is `1..0`.
+    pub fn held_box(&self, array: u32, p: u32) -> Region
+        requires array { array < length self.now.boxes }
+        requires processor { p < processors_of self.now.grid }
+        ensures { result ≡ held_box_of self.now array p }
+    {
+        self.blocks().held(&self.boxes[array as usize], p)
+    }
+
+    /// The places of an array that a processor needs for a region: the part of the region in its own
+    /// block, moved by the shift, within its held box.
+    pub fn needed(&self, array: u32, to: u32, region: &Region, shift: Vec3) -> Region
+        requires array { array < length self.now.boxes }
+        requires receiver { to < processors_of self.now.grid }
+        requires region { IsRegion region.now }
+        requires shift { All (IsUpTo 41) shift }
+        ensures { result ≡ needed_of self.now array to region.now shift }
+    {
+        let held = self.held_box(array, to);
+        self.blocks().needed(&held, to, region, shift)
+    }
+
+    /// The places of an array that `to` needs and `from` owns. In a flood dimension those with the
+    /// receiver's block own its one position.
+    pub fn piece(&self, array: u32, from: u32, to: u32, region: &Region, shift: Vec3) -> Region
+        requires array { array < length self.now.boxes }
+        requires owner { from < processors_of self.now.grid }
+        requires receiver { to < processors_of self.now.grid }
+        requires region { IsRegion region.now }
+        requires shift { All (IsUpTo 41) shift }
+        ensures { result ≡ piece_of self.now array from to region.now shift }
+    {
+        let needed = self.needed(array, to, region, shift);
+        self.blocks().owned(from, to, &needed)
+    }
+}

@@ -1,0 +1,20 @@
+//! How arrays are laid out over a grid of processors.
+//!
+//! The dimensions of a rank are cut into blocks. Each tuple has one owner, and each processor holds,
+//! of each array, its own block with a fringe around it.
+#![tactic(auto)]
+
+mod axes;
+mod blocks;
+mod boxes;
+mod dims;
+mod grids;
+mod laws;
+mod layouts;
+
+pub use axes::Axis;
+pub use blocks::Blocks;
+pub use boxes::ArrayBox;
+pub use grids::{Grid, GridFault};
+pub use laws::{each_coordinate_has_one_block, each_tuple_has_one_owner, owners_partition_regions};
+pub use layouts::{Layout, LayoutFault};

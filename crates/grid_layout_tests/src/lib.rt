@@ -1,0 +1,5 @@
+//! Tests of `grid_layout` that use its public items alone.
+#![tactic(auto)]
+
+#[cfg(test)]
+mod tests;

@@ -1,0 +1,65 @@
+//! Small layouts, with values from tables.
+ghost use Rattle.std.specs.Prelude.{◌≤◌, length};
+ghost use Rattle.grid_layout.specs.Layout.{IsArrayBox};
+
+use grid_layout::{ArrayBox, Grid, GridFault, Layout, LayoutFault};
+use zpl_region::{Dim, Region};
+
+/// Whether there is a grid of these factors, and how many processors it has.
+fn count_of(factors: &[u32]) -> u32
+    requires some { 1 ≤ length factors.now }
+    requires few { length factors.now ≤ 3 }
+{
+    match Grid::new(factors) {
+        Ok(grid) => grid.count(),
+        Err(GridFault::BadShape) => 0,
+    }
+}
+
+#[test]
+fn grids_of_a_table(rt: HostRuntime) {
+    assert_eq!(rt; count_of(&[1]), 1);
+    assert_eq!(rt; count_of(&[2, 3]), 6);
+    assert_eq!(rt; count_of(&[8, 8]), 64);
+    assert_eq!(rt; count_of(&[2, 2, 2]), 8);
+    assert_eq!(rt; count_of(&[65]), 0);
+    assert_eq!(rt; count_of(&[8, 9]), 0);
+    assert_eq!(rt; count_of(&[2, 0, 2]), 0);
+    assert_eq!(rt; count_of(&[4_294_967_295, 4_294_967_295, 4_294_967_295]), 0);
+}
+
+/// A square of 2048 by 2048 places, with a fringe of one position all round.
+fn square() -> ArrayBox
+    ensures { IsArrayBox result }
+{
+    let side = Dim::Range {
+        lo: 1,
+        hi: 2048,
+        step: 1,
+        align: 1,
+    };
+    let padding = Dim::Range {
+        lo: 0,
+        hi: 0,
+        step: 1,
+        align: 0,
+    };
+    ArrayBox {
+        shape: Region {
+            rank: 2,
+            dims: [side, side, padding],
+        },
+        low: [1, 1, 0],
+        high: [1, 1, 0],
+    }
+}
+
+#[test]
+fn five_squares_pass_the_limit(rt: HostRuntime) {
+    let grid = Grid::new(&[1]).expect(&rt, "a grid of one processor");
+    let one = square();
+    let five = Layout::new(rt.alloc(), grid, &[one, one, one, one, one]);
+    assert!(rt; matches!(five, Err(LayoutFault::TooMuchStorage)));
+    let four = Layout::new(rt.alloc(), grid, &[one, one, one, one]);
+    assert!(rt; four.is_ok());
+}
