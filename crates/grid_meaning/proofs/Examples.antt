@@ -7,7 +7,7 @@ use Rattle.zpl_nums.specs.declared.ends.End.{End}
 use Rattle.zpl_nums.specs.declared.ends.End.TheVariants.{Done}
 use Rattle.node_form.specs.declared.tables.Tables.{Tables}
 use Rattle.node_form.specs.declared.words.ExprOp.TheVariants.{Const, Scalar, Pair}
-use Rattle.node_form.specs.declared.words.Instr.TheVariants as instr
+use Rattle.node_form.specs.declared.instructions.Instr.TheVariants as instr
 use Rattle.grid_meaning.specs.Grid.{Grid, after}
 use Rattle.grid_meaning.specs.Order.{given}
 
@@ -16,8 +16,12 @@ two_greet = record {
   grid = 2 ∷ 0 ∷ 0 ∷ [];
   scalars = 1;
   cells = 0;
+  slots = [];
+  arrays = [];
   texts = codes "hi" ∷ [];
   exprs = (Const (pos 20) ∷ []) ∷ (Scalar 0 ∷ Const (pos 1) ∷ Pair op.Add ∷ []) ∷ [];
+  groups = [];
+  exchanges = [];
   code = instr.Set 0 0 1 ∷ instr.Print 0 ∷ instr.Number 1 ∷ instr.End ∷ [];
 }
 

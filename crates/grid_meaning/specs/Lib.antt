@@ -1,4 +1,5 @@
 pub mod Grid
 pub mod Local
 pub mod Order
+pub mod Scalar
 pub mod Turn

@@ -1,24 +1,16 @@
 -- What one processor keeps between its turns, and the messages that processors send.
-use Rattle.std.specs.Prelude.{ℕ, ℤ, pos, List, [], Option, None, replicate}
+use Rattle.std.specs.Prelude.{ℕ, ◌-◌, ℤ, pos, List, [], ◌++◌, Option, None, map, replicate}
 use Rattle.zpl_nums.specs.declared.ends.End.{End}
+use Rattle.zpl_region.specs.declared.dims.Dim.TheVariants.{Range}
+use Rattle.zpl_region.specs.declared.regions.Region.{Region}
+use Rattle.zpl_region.specs.Region.{padding}
+use Rattle.zpl_arrays.specs.Array.{Array}
 use Rattle.node_form.specs.declared.tables.Tables.{Tables}
 
 -- the tag tells the receiver what the words are for
 pub record Message : Type 0 where
   pub tag : ℕ
   pub words : List ℤ
-
--- A dimension of a region: the numbers from low to high that differ from the alignment by a multiple of the
--- step; or one position without a coordinate.
-pub data Dimension : Type 0 where
-  Range : (low high step align : ℤ) → Dimension
-  Flood : Dimension
-
--- the box of an array's places that a processor holds, and their values in row-major order
-pub record Held : Type 0 where
-  pub low : List ℤ
-  pub high : List ℤ
-  pub values : List ℤ
 
 -- The next instruction, and the turns that were made in it; of a loop, how many indices are done, and the
 -- member with which the next turn begins; the least member that met a zero divisor, until a vote; how the
@@ -33,12 +25,20 @@ pub record Local : Type 0 where
   pub flag : Option ℕ
   pub ended : Option End
   pub scalars : List ℤ
-  pub slots : List (List Dimension)
+  pub slots : List Region
   pub cells : List ℤ
-  pub stores : List Held
+  pub stores : List Array
   pub kept : List (ℕ × List ℤ)
 
--- at the first instruction, with all values 0
+-- the region without tuples that a slot of this rank starts with: each dimension is `1..0`
+abbrev pub start_region : ℕ → Region
+start_region rank = record {
+  rank = rank;
+  dims = replicate rank (Range (pos 1) (pos 0) (pos 1) (pos 1)) ++ replicate (3 - rank) padding;
+}
+
+-- at the first instruction, with all values 0. What a processor holds of arrays isn't said so far, for no row with a meaning
+-- reads it
 abbrev pub start_local : Tables → Local
 start_local code = record {
   at = 0;
@@ -48,7 +48,7 @@ start_local code = record {
   flag = None;
   ended = None;
   scalars = replicate code.scalars (pos 0);
-  slots = [];
+  slots = map start_region code.slots;
   cells = replicate code.cells (pos 0);
   stores = [];
   kept = [];

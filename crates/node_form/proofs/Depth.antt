@@ -5,8 +5,8 @@ use Rattle.std.proofs.lemmas.Bool.{le-ltb, lt-ltb}
 use Rattle.std.proofs.lemmas.List.{drop_all}
 use Rattle.std.specs.Prelude.{Some, None}
 use Rattle.node_form.specs.declared.words.ExprOp.{ExprOp}
-use Rattle.node_form.specs.declared.words.ExprOp.TheVariants.{Const, Scalar, Pair, Neg, Not, Abs}
-use Rattle.node_form.specs.Expression.{Expression, Constant, Variable, Operation, Negation, Denial, Absolute, words_of, IsExpression, operands_of, depth_from}
+use Rattle.node_form.specs.declared.words.ExprOp.TheVariants.{Const, Scalar, Here, Shifted, Cell, Coord, Pair, Neg, Not, Abs}
+use Rattle.node_form.specs.Expression.{Expression, Constant, Variable, Element, Neighbour, CellValue, Coordinate, Operation, Negation, Denial, Absolute, words_of, IsExpression, operands_of, depth_from}
 
 -- a word that finds its operands
 pub depth_from-cons : (word : ExprOp) (words : List ExprOp) (depth after : ℕ) → operands_of word ≤ depth → depth - operands_of word + 1 ≡ after → depth_from depth (word ∷ words) ≡ depth_from after words
@@ -16,6 +16,10 @@ depth_from-cons word words depth after found e = rw (le-ltb depth (operands_of w
 pub depth_from-words_of : (tree : Expression) (depth : ℕ) (rest : List ExprOp) → depth_from depth (words_of tree ++ rest) ≡ depth_from (suc depth) rest
 depth_from-words_of (Constant value) depth rest = depth_from-cons (Const value) rest depth (suc depth) (omega arith) (omega arith)
 depth_from-words_of (Variable scalar) depth rest = depth_from-cons (Scalar scalar) rest depth (suc depth) (omega arith) (omega arith)
+depth_from-words_of (Element array) depth rest = depth_from-cons (Here array) rest depth (suc depth) (omega arith) (omega arith)
+depth_from-words_of (Neighbour array shift) depth rest = depth_from-cons (Shifted array shift) rest depth (suc depth) (omega arith) (omega arith)
+depth_from-words_of (CellValue cell) depth rest = depth_from-cons (Cell cell) rest depth (suc depth) (omega arith) (omega arith)
+depth_from-words_of (Coordinate dimension) depth rest = depth_from-cons (Coord dimension) rest depth (suc depth) (omega arith) (omega arith)
 depth_from-words_of (Operation op left right) depth rest =
     rw
     (append_assoc, append_assoc)
@@ -54,6 +58,18 @@ IsExpression-from-depth (Const value ∷ words) trees h =
     rw append_assoc at go
 IsExpression-from-depth (Scalar scalar ∷ words) trees h =
     let go = IsExpression-from-depth words (Variable scalar ∷ trees) (sym (depth_from-cons (Scalar scalar) words (length trees) (suc (length trees)) (omega arith) (omega arith)) ∙ h) in
+    rw append_assoc at go
+IsExpression-from-depth (Here array ∷ words) trees h =
+    let go = IsExpression-from-depth words (Element array ∷ trees) (sym (depth_from-cons (Here array) words (length trees) (suc (length trees)) (omega arith) (omega arith)) ∙ h) in
+    rw append_assoc at go
+IsExpression-from-depth (Shifted array shift ∷ words) trees h =
+    let go = IsExpression-from-depth words (Neighbour array shift ∷ trees) (sym (depth_from-cons (Shifted array shift) words (length trees) (suc (length trees)) (omega arith) (omega arith)) ∙ h) in
+    rw append_assoc at go
+IsExpression-from-depth (Cell cell ∷ words) trees h =
+    let go = IsExpression-from-depth words (CellValue cell ∷ trees) (sym (depth_from-cons (Cell cell) words (length trees) (suc (length trees)) (omega arith) (omega arith)) ∙ h) in
+    rw append_assoc at go
+IsExpression-from-depth (Coord dimension ∷ words) trees h =
+    let go = IsExpression-from-depth words (Coordinate dimension ∷ trees) (sym (depth_from-cons (Coord dimension) words (length trees) (suc (length trees)) (omega arith) (omega arith)) ∙ h) in
     rw append_assoc at go
 IsExpression-from-depth (Pair op ∷ words) [] h = cc
 IsExpression-from-depth (Pair op ∷ words) (right ∷ []) h = cc

@@ -2,12 +2,16 @@
 use Rattle.std.specs.Prelude.{◌≡◌, ℕ, ◌+◌, ◌-◌, nat_lt, if◌then◌else◌, ℤ, Option, Some, None, List, [], ◌∷◌, ◌++◌}
 use Rattle.zpl_nums.specs.declared.operators.Op.{Op}
 use Rattle.node_form.specs.declared.words.ExprOp.{ExprOp}
-use Rattle.node_form.specs.declared.words.ExprOp.TheVariants.{Const, Scalar, Pair, Neg, Not, Abs}
+use Rattle.node_form.specs.declared.words.ExprOp.TheVariants.{Const, Scalar, Here, Shifted, Cell, Coord, Pair, Neg, Not, Abs}
 
 -- an expression, as a tree
 pub data Expression : Type 0 where
   Constant : (value : ℤ) → Expression
   Variable : (scalar : ℕ) → Expression
+  Element : (array : ℕ) → Expression
+  Neighbour : (array : ℕ) (shift : List ℤ) → Expression
+  CellValue : (cell : ℕ) → Expression
+  Coordinate : (dimension : ℕ) → Expression
   Operation : (op : Op) (left right : Expression) → Expression
   Negation : (operand : Expression) → Expression
   Denial : (operand : Expression) → Expression
@@ -17,6 +21,10 @@ pub data Expression : Type 0 where
 abbrev pub words_of : Expression → List ExprOp
 words_of (Constant value) = Const value ∷ []
 words_of (Variable scalar) = Scalar scalar ∷ []
+words_of (Element array) = Here array ∷ []
+words_of (Neighbour array shift) = Shifted array shift ∷ []
+words_of (CellValue cell) = Cell cell ∷ []
+words_of (Coordinate dimension) = Coord dimension ∷ []
 words_of (Operation op left right) = words_of left ++ (words_of right ++ Pair op ∷ [])
 words_of (Negation operand) = words_of operand ++ Neg ∷ []
 words_of (Denial operand) = words_of operand ++ Not ∷ []
@@ -31,6 +39,10 @@ pub record IsExpression (words : List ExprOp) : Type 0 where
 abbrev pub operands_of : ExprOp → ℕ
 operands_of (Const value) = 0
 operands_of (Scalar scalar) = 0
+operands_of (Here array) = 0
+operands_of (Shifted array shift) = 0
+operands_of (Cell cell) = 0
+operands_of (Coord dimension) = 0
 operands_of (Pair op) = 2
 operands_of Neg = 1
 operands_of Not = 1

@@ -1,8 +1,10 @@
 //! A program: tables that fit.
-ghost use Rattle.std.specs.Prelude.{◌≡◌};
+ghost use Rattle.std.specs.Prelude.{◌≡◌, slice_get};
 ghost use Rattle.node_form.specs.Fits.{Fits};
+ghost use Rattle.node_form.specs.Touch.{IsTouch};
 
 use crate::tables::Tables;
+use crate::touches::{Thing, Touch};
 use std::marker::Model;
 
 /// A program for every processor of a grid: tables that fit.
@@ -46,5 +48,12 @@ impl NodeProgram {
     {
         let NodeProgram { tables } = self;
         tables
+    }
+
+    /// What the instruction with number `at` does with the thing, as [`Tables::touches`] says.
+    pub fn touches(&self, at: u32, thing: Thing) -> Touch
+        ensures { IsTouch self.now (slice_get self.now.code at) thing result }
+    {
+        self.tables().touches(at, thing)
     }
 }
