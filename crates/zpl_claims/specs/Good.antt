@@ -4,11 +4,12 @@ use Rattle.zpl_lists.specs.Front.{IsFrontOf}
 use Rattle.zpl_nums.specs.declared.ends.End.TheVariants.{More}
 use Rattle.node_form.specs.declared.tables.Tables.{Tables}
 use Rattle.zpl_meaning.specs.Program.{Meaning}
-use Rattle.grid_meaning.specs.Grid.{Grid, processors, after, IsOver, EndsAs, IsStuck, IsIdle, HasEmptyLinks}
+use Rattle.grid_meaning.specs.Grid.{Grid, processors, after, IsOver, EndsAs, IsStuck, IsIdle}
+use Rattle.grid_meaning.specs.Grid.{HasEmptyLinks}
 use Rattle.grid_meaning.specs.Order.{IsOrder}
 
--- A grid that is over has printed all that the meaning prints, and has ended as the meaning does, with
--- no message left.
+-- A grid that is over has printed all that the meaning prints, and has ended as the meaning does,
+-- with no message left.
 pub record Finishes (meaning : Meaning) (grid : Grid) : Type 0 where
   pub within : meaning.ending ≢ More
   pub all : grid.printed ≡ meaning.bytes
@@ -17,12 +18,13 @@ pub record Finishes (meaning : Meaning) (grid : Grid) : Type 0 where
 
 -- The grid after so many turns, where the meaning has as many turns of each loop.
 pub record IsRight (code : Tables) (meaning : Meaning) (grid : Grid) : Type 0 where
-  pub not_stuck : IsStuck code grid → ⊥
-  pub not_idle : IsIdle code grid → ⊥
+  pub not_stuck : ¬ IsStuck code grid
+  pub not_idle : ¬ IsIdle code grid
   pub printed : IsFrontOf grid.printed meaning.bytes
   pub finishes : IsOver grid → Finishes meaning grid
 
 -- After every order of turns the grid is right.
 abbrev pub IsGood : Tables → (ℕ → Meaning) → Type 0
 IsGood code mean =
-    (order : List ℕ) → IsOrder (processors code) order → IsRight code (mean (length order)) (after code order)
+    (order : List ℕ) → IsOrder (processors code) order →
+    IsRight code (mean (length order)) (after code order)

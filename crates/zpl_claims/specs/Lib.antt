@@ -1,10 +1,6 @@
-pub mod Answer
 pub mod Bound
-pub mod Command
 pub mod Compiled
 pub mod Good
 pub mod LockStep
-pub mod Refusal
-pub mod Run
 pub mod Small
 pub mod Tidy

@@ -1,15 +1,16 @@
--- Small programs: integers, assignments of sums, loops over comparisons, and lines of print. They are the
--- programs that have code so far.
-use Rattle.std.specs.Prelude.{◌≡◌, ℕ, ℤ, pos, ◌≤ℤ◌, ◌+◌, ◌≤◌, max, List, [], ◌∷◌, length, map, Some, None, Contains, IsTrue}
+-- Small programs: integers, assignments of sums, loops over comparisons, and lines of print. They
+-- are the programs that have code so far.
+use Rattle.std.specs.Prelude.{◌≡◌, ℕ, ℤ, pos, ◌≤ℤ◌, ◌+◌, ◌≤◌, max, List, [], ◌∷◌, map, Some, None}
+use Rattle.std.specs.Prelude.{Contains, IsTrue, ⊤}
 use Rattle.std.specs.List.{AllByRecursion}
 use Rattle.zpl_nums.specs.declared.operators.Op.{Op}
 use Rattle.zpl_nums.specs.declared.operators.Op.TheVariants as op
 use Rattle.zpl_nums.specs.Integer.{IsInteger}
-use Rattle.zpl_text.specs.declared.tokens.Token.{Token}
-use Rattle.zpl_text.specs.Tokens.{IsTokens}
-use Rattle.zpl_tree.specs.Spelling.{program_words}
-use Rattle.zpl_grammar.specs.Written.{AreWords}
-use Rattle.zpl_tree.specs.Syntax.{Name, Expr, Number, Named, Pair, NoBracket, Item, Str, Value, Stmt, Prefixed, Stmts, NoStmt, ThenStmt, Form, Assign, Invoke, Block, If, While, Repeat, For, Border, Write, Return, Integer, VarDef, Procedure, Decl, Vars, Defined, Program}
+use Rattle.zpl_tree.specs.Syntax.{Name, Expr, Number, Named, Pair, NoBracket, Item, Str, Value}
+use Rattle.zpl_tree.specs.Syntax.{Stmt, Prefixed, Stmts, NoStmt, ThenStmt, Form, Assign, Invoke}
+use Rattle.zpl_tree.specs.Syntax.{Block, If, While, Repeat, For, Border, Write, Return}
+use Rattle.zpl_tree.specs.Syntax.{Integer, VarDef, Procedure, Decl, Vars, Defined, Program}
+use Rattle.zpl_claims.specs.declared.limits.TheConstants.{MOST_LOOPS}
 
 -- ---- expressions over variables with these names
 -- a number as it is written: without a sign, and at most the greatest integer
@@ -23,18 +24,18 @@ IsPrim names (Named at name) = Contains names name.text
 IsPrim names _ = ⊥
 
 abbrev pub IsSumOp : Op → Type 0
-IsSumOp op.Add = Unit {0}
-IsSumOp op.Sub = Unit {0}
-IsSumOp op.Mul = Unit {0}
+IsSumOp op.Add = ⊤
+IsSumOp op.Sub = ⊤
+IsSumOp op.Mul = ⊤
 IsSumOp _ = ⊥
 
 abbrev pub IsComparison : Op → Type 0
-IsComparison op.Eq = Unit {0}
-IsComparison op.Ne = Unit {0}
-IsComparison op.Lt = Unit {0}
-IsComparison op.Le = Unit {0}
-IsComparison op.Gt = Unit {0}
-IsComparison op.Ge = Unit {0}
+IsComparison op.Eq = ⊤
+IsComparison op.Ne = ⊤
+IsComparison op.Lt = ⊤
+IsComparison op.Le = ⊤
+IsComparison op.Gt = ⊤
+IsComparison op.Ge = ⊤
 IsComparison _ = ⊥
 
 -- sum = prim [ ( "+" | "-" | "*" ) prim ]
@@ -51,11 +52,13 @@ IsTest names _ = ⊥
 
 -- item = STRING | sum
 abbrev pub IsItem : List (List ℕ) → Item → Type 0
-IsItem names (Str bytes) = Unit {0}
+IsItem names (Str bytes) = ⊤
 IsItem names (Value value) = IsSum names value
 
 -- ---- statements
--- stmt = NAME ":=" sum ";" | "while" sum comp sum "do" { stmt } "end" ";" | "writeln" "(" [ item { "," item } ] ")" ";"
+-- stmt = NAME ":=" sum ";"
+--      | "while" sum comp sum "do" { stmt } "end" ";"
+--      | "writeln" "(" [ item { "," item } ] ")" ";"
 abbrev mutual
   pub IsSmallStmt : List (List ℕ) → Stmt → Type 0
   IsSmallStmt names (Prefixed at [] form) = IsSmallForm names form
@@ -75,7 +78,7 @@ abbrev mutual
   IsSmallForm names (Return value) = ⊥
 
   pub AreSmall : List (List ℕ) → Stmts → Type 0
-  AreSmall names NoStmt = Unit {0}
+  AreSmall names NoStmt = ⊤
   AreSmall names (ThenStmt first rest) = IsSmallStmt names first × AreSmall names rest
 
 -- how deep `while` nests
@@ -99,14 +102,12 @@ abbrev mutual
   loops NoStmt = 0
   loops (ThenStmt first rest) = max (stmt_loops first) (loops rest)
 
-abbrev pub most_loops : ℕ
-most_loops = 100
-
 -- ---- programs
 -- each name differs from those before it
 abbrev pub AreDistinct : List (List ℕ) → List (List ℕ) → Type 0
-AreDistinct before [] = Unit {0}
-AreDistinct before (name ∷ names) = (Contains before name → ⊥) × AreDistinct (name ∷ before) names
+AreDistinct before [] = ⊤
+AreDistinct before (name ∷ names) =
+    (¬ Contains before name) × AreDistinct (name ∷ before) names
 
 abbrev pub texts_of : List Name → List (List ℕ)
 texts_of names = map (λ name. name.text) names
@@ -118,14 +119,23 @@ integers names = record { names = names; shape = NoBracket; base = Integer }
 -- a procedure without parameters, result and local variables
 abbrev pub plain_procedure : Name → ℕ → Stmts → Procedure
 plain_procedure name at body =
-    record { name = name; params = []; result = None; locals = []; body = Prefixed at [] (Block body) }
+    record {
+      name = name;
+      params = [];
+      result = None;
+      locals = [];
+      body = Prefixed at [] (Block body);
+    }
 
--- [ "var" NAME { "," NAME } ":" "integer" ";" ] "procedure" NAME "(" ")" ";" "begin" { stmt } "end" ";"
+-- [ "var" NAME { "," NAME } ":" "integer" ";" ]
+-- "procedure" NAME "(" ")" ";" "begin" { stmt } "end" ";"
 abbrev pub small_decls : List Name → Name → ℕ → Stmts → List Decl
 small_decls [] name at body = Defined (plain_procedure name at body) ∷ []
-small_decls names name at body = Vars (integers names ∷ []) ∷ Defined (plain_procedure name at body) ∷ []
+small_decls names name at body =
+    Vars (integers names ∷ []) ∷ Defined (plain_procedure name at body) ∷ []
 
--- The tree of a small program: the variables, the entry procedure with the program's name, and its statements.
+-- The tree of a small program: the variables, the entry procedure with the program's name, and its
+-- statements. Loops stand in one another within a limit.
 pub record IsSmall (program : Program) : Type 0 where
   pub names : List Name
   pub entry : Name
@@ -135,16 +145,4 @@ pub record IsSmall (program : Program) : Type 0 where
   pub is_entry : entry.text ≡ program.name.text
   pub distinct : AreDistinct (program.name.text ∷ []) (texts_of names)
   pub small : AreSmall (texts_of names) body
-  pub shallow : loops body ≤ most_loops
-
--- A text with its small program: its tokens, the end among them, are the words of the tree, and not too many.
-abbrev pub most_tokens : ℕ
-most_tokens = 10000
-
-pub record IsSmallText (text : List ℕ) (program : Program) : Type 0 where
-  pub tokens : List Token
-  pub of_text : IsTokens text tokens
-  pub few : length tokens ≤ most_tokens
-  pub words : AreWords text tokens (program_words program)
-  pub source : program.source ≡ text
-  pub small : IsSmall program
+  pub shallow : loops body ≤ MOST_LOOPS

@@ -1,6 +1,7 @@
--- Code that is tidy: for the grid that was handed in, of a size that the source bounds, and with no more
--- instructions than its statements need.
-use Rattle.std.specs.Prelude.{◌≡◌, ℕ, ◌+◌, ◌-◌, ◌*◌, ◌≤◌, List, length, sum_by, Option, Some, None}
+-- Code that is tidy: for the grid that was handed in, of a size that the source bounds, and with no
+-- more instructions than its statements need.
+use Rattle.std.specs.Prelude.{◌≡◌, ℕ, ◌+◌, ◌-◌, ◌*◌, ◌≤◌}
+use Rattle.std.specs.Prelude.{List, length, sum_by, Option, Some, None}
 use Rattle.zpl_tree.specs.Syntax.{Procedure, Program}
 use Rattle.zpl_tree.specs.Spelling.{stmt_words}
 use Rattle.node_form.specs.declared.tables.Tables.{Tables}
@@ -8,7 +9,9 @@ use Rattle.zpl_meaning.specs.Program.{procedures, entry_of}
 
 -- ---- the size of code: scalars, cells, instructions, words of expressions and bytes of texts
 abbrev pub code_size : Tables → ℕ
-code_size code = code.scalars + code.cells + length code.code + sum_by length code.exprs + sum_by length code.texts
+code_size code =
+    code.scalars + code.cells + length code.code
+    + sum_by length code.exprs + sum_by length code.texts
 
 -- ---- the size of a program
 -- the tokens of a procedure's statements
@@ -19,7 +22,8 @@ abbrev pub entry_tokens : Option Procedure → ℕ
 entry_tokens (Some procedure) = body_tokens procedure
 entry_tokens None = 0
 
--- the tokens of the statements that are executed, each once, with every call expanded; calls have no meaning yet
+-- the tokens of the statements that are executed, each once, with every call expanded; calls have
+-- no meaning yet
 abbrev pub executed_tokens : Program → ℕ
 executed_tokens program = entry_tokens (entry_of program)
 
@@ -31,8 +35,8 @@ other_tokens program tokens = tokens - sum_by body_tokens (procedures program.de
 abbrev pub source_size : Program → ℕ
 source_size program = length program.source + executed_tokens program
 
--- the assignments to arrays that have neither a prefix nor an operator over other places, with every call
--- expanded; arrays have no meaning yet
+-- the assignments to arrays that have neither a prefix nor an operator over other places, with
+-- every call expanded; arrays have no meaning yet
 abbrev pub plain_assignments : Program → ℕ
 plain_assignments program = 0
 

@@ -1,9 +1,9 @@
-//! What is claimed of code and of the program: the words that the contracts above are made of.
+//! What is claimed of the code that is made of a program: the words that the contracts above are
+//! made of.
 //!
-//! The definitions stand in `specs/`; what runs is elsewhere. The functions here do nothing: each has a
-//! law of the definitions as its contract, and a call brings the law into a proof.
+//! The definitions stand in `specs/`; what runs is elsewhere.
 #![tactic(auto)]
 
-mod laws;
+mod limits;
 
-pub use laws::{commands_are_one, runs_are_one, smallness_is_of_the_shape};
+pub use limits::MOST_LOOPS;

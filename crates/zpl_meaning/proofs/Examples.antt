@@ -1,5 +1,6 @@
 -- The meaning of a small program, computed.
-use Rattle.std.proofs.Common.{◌≡◌, ℕ, ℤ, Bool, true, false, List, [], ◌∷◌, Some, None, pos, codes, refl}
+use Rattle.std.proofs.Common.{◌≡◌, ℕ, ℤ, Bool, true, false, List, [], ◌∷◌, Some, None, pos, codes}
+use Rattle.std.proofs.Common.{refl}
 use Rattle.std.specs.Fmt.{digits}
 use Rattle.std.specs.Int.{int_wrap}
 use Rattle.zpl_nums.specs.declared.operators.Op.TheVariants as op
@@ -7,7 +8,10 @@ use Rattle.zpl_nums.specs.declared.ends.End.TheVariants.{Done, Trap, More}
 use Rattle.zpl_nums.specs.declared.ends.TrapKind.TheVariants.{DivideByZero}
 use Rattle.zpl_nums.specs.declared.operators.Op.{Op}
 use Rattle.zpl_nums.specs.Integer.{greatest}
-use Rattle.zpl_tree.specs.Syntax.{Name, Expr, Number, Named, Neg, Not, Pair, Str, Value, Stmt, Prefixed, Stmts, NoStmt, ThenStmt, Assign, Block, If, While, Repeat, For, Write, Tested, NoArm, ThenArm, Else, NoBracket, Integer, Boolean, Vars, Defined, Program}
+use Rattle.zpl_tree.specs.Syntax.{Name, Expr, Number, Named, Neg, Not, Pair, Str, Value, Stmt}
+use Rattle.zpl_tree.specs.Syntax.{Prefixed, Stmts, NoStmt, ThenStmt, Assign, Block, If, While}
+use Rattle.zpl_tree.specs.Syntax.{Repeat, For, Write, Tested, NoArm, ThenArm, Else, NoBracket}
+use Rattle.zpl_tree.specs.Syntax.{Integer, Boolean, Vars, Defined, Program}
 use Rattle.zpl_meaning.specs.Program.{mean_of, steps_of}
 
 abbrev name : List ℕ → Name
@@ -26,8 +30,16 @@ assign text value = Prefixed 0 [] (Assign (name text) None value)
 abbrev program_of : List ℕ → Stmts → Program
 program_of text body = record {
   name = name text;
-  decls = Vars (record { names = name (codes "i") ∷ name (codes "s") ∷ []; shape = NoBracket; base = Integer } ∷ [])
-      ∷ Defined (record { name = name text; params = []; result = None; locals = []; body = Prefixed 0 [] (Block body) })
+  decls = Vars (record
+      { names = name (codes "i") ∷ name (codes "s") ∷ []; shape = NoBracket; base = Integer } ∷ [])
+      ∷ Defined (record {
+        name = name text;
+        params = [];
+        result = None;
+        locals = [];
+        body =
+            Prefixed 0 [] (Block body);
+      })
       ∷ [];
   source = [];
 }
@@ -40,7 +52,8 @@ sum_program =
     (ThenStmt (Prefixed 0 [] (While (Pair 0 op.Le (variable (codes "i")) (number 10))
     (ThenStmt (assign (codes "s") (Pair 0 op.Add (variable (codes "s")) (variable (codes "i"))))
     (ThenStmt (assign (codes "i") (Pair 0 op.Add (variable (codes "i")) (number 1))) NoStmt))))
-    (ThenStmt (Prefixed 0 [] (Write true (Str (codes "sum ") ∷ Value (variable (codes "s")) ∷ []))) NoStmt)))
+    (ThenStmt (Prefixed 0 [] (Write true (Str (codes "sum ") ∷ Value (variable (codes "s")) ∷ [])))
+    NoStmt)))
 
 -- its loop has ten turns
 sum_in_ten_turns : mean_of sum_program 10 ≡ record { bytes = codes "sum 55\n"; ending = Done }
@@ -55,9 +68,17 @@ sum_in_nine_turns = refl
 abbrev runs_as : List ℕ → Stmts → Program
 runs_as source body = record {
   name = name (codes "t");
-  decls = Vars (record { names = name (codes "i") ∷ name (codes "s") ∷ []; shape = NoBracket; base = Integer }
+  decls = Vars (record
+      { names = name (codes "i") ∷ name (codes "s") ∷ []; shape = NoBracket; base = Integer }
       ∷ record { names = name (codes "b") ∷ []; shape = NoBracket; base = Boolean } ∷ [])
-      ∷ Defined (record { name = name (codes "t"); params = []; result = None; locals = []; body = Prefixed 0 [] (Block body) })
+      ∷ Defined (record {
+        name = name (codes "t");
+        params = [];
+        result = None;
+        locals = [];
+        body =
+            Prefixed 0 [] (Block body);
+      })
       ∷ [];
   source = source;
 }
@@ -74,9 +95,12 @@ abbrev trapping_program : Program
 trapping_program =
     runs_as (codes "a;\n\nb;")
     (ThenStmt (Prefixed 0 [] (Write false (Str (codes "a\\n\\t\\\"") ∷ [])))
-    (ThenStmt (Prefixed 4 [] (Write true (Str (codes "b") ∷ Value (Pair 0 op.Div (number 1) (variable (codes "i"))) ∷ []))) NoStmt))
+    (ThenStmt (Prefixed 4 []
+    (Write true (Str (codes "b") ∷ Value
+    (Pair 0 op.Div (number 1) (variable (codes "i"))) ∷ []))) NoStmt))
 
-traps_at_line_three : mean_of trapping_program 0 ≡ record { bytes = codes "a\n\t\""; ending = Trap DivideByZero 3 }
+traps_at_line_three : mean_of trapping_program 0
+    ≡ record { bytes = codes "a\n\t\""; ending = Trap DivideByZero 3 }
 traps_at_line_three = refl
 
 -- if i = 1 then i += 1; elsif i = 0 then i += 2; else i += 3; end;
@@ -84,8 +108,10 @@ abbrev choosing_program : Program
 choosing_program =
     runs_as []
     (ThenStmt (Prefixed 0 [] (If
-    (ThenArm (Tested 0 (Pair 0 op.Eq (variable (codes "i")) (number 1)) (ThenStmt (change op.Add 1) NoStmt))
-    (ThenArm (Tested 0 (Pair 0 op.Eq (variable (codes "i")) (number 0)) (ThenStmt (change op.Add 2) NoStmt)) NoArm))
+    (ThenArm (Tested 0 (Pair 0 op.Eq (variable (codes "i")) (number 1))
+    (ThenStmt (change op.Add 1) NoStmt))
+    (ThenArm (Tested 0 (Pair 0 op.Eq (variable (codes "i")) (number 0))
+    (ThenStmt (change op.Add 2) NoStmt)) NoArm))
     (Else (ThenStmt (change op.Add 3) NoStmt))))
     (ThenStmt (write_at 0 (variable (codes "i"))) NoStmt))
 
@@ -97,7 +123,9 @@ second_arm = refl
 abbrev repeating_program : Program
 repeating_program =
     runs_as []
-    (ThenStmt (Prefixed 0 [] (Repeat (ThenStmt (change op.Add 1) NoStmt) 0 (Pair 0 op.Ge (variable (codes "i")) (number 2))))
+    (ThenStmt (Prefixed 0 []
+    (Repeat (ThenStmt (change op.Add 1) NoStmt) 0
+    (Pair 0 op.Ge (variable (codes "i")) (number 2))))
     (ThenStmt (write_at 0 (variable (codes "i"))) NoStmt))
 
 two_turns : mean_of repeating_program 2 ≡ record { bytes = codes "2 "; ending = Done }
@@ -112,24 +140,37 @@ one_turn_is_few = refl
 abbrev counting_program : Bool → ℤ → ℤ → ℤ → Program
 counting_program down first last step =
     runs_as []
-    (ThenStmt (Prefixed 0 [] (For (record { name = name (codes "i"); first = Number 0 first; down = down; last = Number 0 last; step = Some (Number 0 step) })
-    (ThenStmt (write_at 0 (variable (codes "i"))) (ThenStmt (assign (codes "i") (number 9)) NoStmt))))
+    (ThenStmt (Prefixed 0 []
+    (For (record {
+      name = name (codes "i");
+      first = Number 0 first;
+      down = down;
+      last =
+          Number 0 last;
+      step = Some (Number 0 step);
+    })
+    (ThenStmt (write_at 0 (variable (codes "i")))
+    (ThenStmt (assign (codes "i") (number 9)) NoStmt))))
     (ThenStmt (write_at 0 (variable (codes "i"))) NoStmt))
 
 -- the counter takes no notice of the variable, which is afterwards as its last turn left it
-upward : mean_of (counting_program false (pos 1) (pos 5) (pos 2)) 3 ≡ record { bytes = codes "1 3 5 9 "; ending = Done }
+upward : mean_of (counting_program false (pos 1) (pos 5) (pos 2)) 3
+    ≡ record { bytes = codes "1 3 5 9 "; ending = Done }
 unfolding digits
 upward = refl
 
-downward : mean_of (counting_program true (pos 2) (pos 1) (pos 1)) 2 ≡ record { bytes = codes "2 1 9 "; ending = Done }
+downward : mean_of (counting_program true (pos 2) (pos 1) (pos 1)) 2
+    ≡ record { bytes = codes "2 1 9 "; ending = Done }
 unfolding digits
 downward = refl
 
-no_step : mean_of (counting_program false (pos 1) (pos 5) (pos 0)) 0 ≡ record { bytes = codes "0 "; ending = Done }
+no_step : mean_of (counting_program false (pos 1) (pos 5) (pos 0)) 0
+    ≡ record { bytes = codes "0 "; ending = Done }
 unfolding digits
 no_step = refl
 
-no_turn : mean_of (counting_program false (pos 2) (pos 1) (pos 1)) 0 ≡ record { bytes = codes "0 "; ending = Done }
+no_turn : mean_of (counting_program false (pos 2) (pos 1) (pos 1)) 0
+    ≡ record { bytes = codes "0 "; ending = Done }
 unfolding digits
 no_turn = refl
 
@@ -148,11 +189,13 @@ printing_program =
     (ThenStmt (write_at 0 (Not 0 (variable (codes "b"))))
     (ThenStmt (write_at 0 (Pair 0 op.Div (Neg 0 (number 7)) (number 2))) NoStmt))))
 
-prints_values : mean_of printing_program 0 ≡ record { bytes = codes "true false -3 "; ending = Done }
+prints_values : mean_of printing_program 0
+    ≡ record { bytes = codes "true false -3 "; ending = Done }
 unfolding int_wrap digits
 prints_values = refl
 
--- the block 1; i := 1 is 2; the loop 1, ten turns with a test of 4 and statements of 4 and 4, and a last test of 4; the line 2
+-- the block 1; i := 1 is 2; the loop 1, ten turns with a test of 4 and statements of 4 and 4, and a
+-- last test of 4; the line 2
 steps_of_the_sum : steps_of sum_program 10 ≡ 130
 unfolding int_wrap digits
 steps_of_the_sum = refl

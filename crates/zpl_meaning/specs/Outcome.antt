@@ -1,5 +1,6 @@
 -- What a statement does, and how outcomes are joined.
-use Rattle.std.specs.Prelude.{ℕ, zero, suc, ◌+◌, Bool, true, false, ℤ, ◌+ℤ◌, ◌-ℤ◌, int_lt, if◌then◌else◌, List, [], ◌++◌}
+use Rattle.std.specs.Prelude.{ℕ, zero, suc, ◌+◌, Bool, true, false, ℤ, ◌+ℤ◌, ◌-ℤ◌, int_lt}
+use Rattle.std.specs.Prelude.{if◌then◌else◌, List, [], ◌++◌}
 use Rattle.zpl_nums.specs.declared.ends.End.{End}
 use Rattle.zpl_nums.specs.declared.ends.End.TheVariants.{Done, Trap, More}
 use Rattle.zpl_nums.specs.declared.ends.TrapKind.TheVariants.{DivideByZero}
@@ -7,8 +8,8 @@ use Rattle.zpl_nums.specs.Integer.{is_true}
 use Rattle.zpl_meaning.specs.Store.{Store}
 use Rattle.zpl_meaning.specs.Value.{Computed, Gives, ZeroDivisor, NotBuilt}
 
--- The store afterwards; the bytes that were printed; `Done` where the run goes on, or why it doesn't;
--- and the steps that were taken.
+-- The store afterwards; the bytes that were printed; `Done` where the run goes on, or why it
+-- doesn't; and the steps that were taken.
 pub record Outcome : Type 0 where
   pub store : Store
   pub bytes : List ℕ
@@ -32,7 +33,8 @@ counting steps outcome = record outcome { steps = steps + outcome.steps }
 
 -- behind what was printed and counted before
 abbrev pub behind : List ℕ → ℕ → Outcome → Outcome
-behind bytes steps outcome = record outcome { bytes = bytes ++ outcome.bytes; steps = steps + outcome.steps }
+behind bytes steps outcome =
+    record outcome { bytes = bytes ++ outcome.bytes; steps = steps + outcome.steps }
 
 -- one after the other: the second where the first goes on
 abbrev pub then_at : End → Outcome → (Store → Outcome) → Outcome
@@ -62,7 +64,9 @@ pub record Test : Type 0 where
 
 abbrev pub tested : Test → (Store → Outcome) → (Store → Outcome) → Store → Outcome
 tested test one other store =
-    counting test.steps (with_value (test.value store) store test.line (λ value. choose (is_true value) one other store))
+    counting test.steps
+    (with_value (test.value store) store test.line
+    (λ value. choose (is_true value) one other store))
 
 -- A loop that wants more turns than it may make.
 abbrev pub wants_more : Store → Outcome
@@ -71,12 +75,14 @@ wants_more store = ends store More
 -- A loop that tests before each turn, with at most so many turns.
 abbrev pub while_turns : ℕ → Test → (Store → Outcome) → Store → Outcome
 while_turns zero test body = tested test wants_more goes_on
-while_turns (suc n) test body = tested test (λ store. then_do (body store) (while_turns n test body)) goes_on
+while_turns (suc n) test body =
+    tested test (λ store. then_do (body store) (while_turns n test body)) goes_on
 
 -- A loop that tests after each turn.
 abbrev pub repeat_turns : ℕ → Test → (Store → Outcome) → Store → Outcome
 repeat_turns zero test body = wants_more
-repeat_turns (suc n) test body = λ store. then_do (body store) (tested test goes_on (repeat_turns n test body))
+repeat_turns (suc n) test body =
+    λ store. then_do (body store) (tested test goes_on (repeat_turns n test body))
 
 -- How a `for` counts: downward or upward, by a step, to a last value.
 pub record Count : Type 0 where
@@ -96,4 +102,5 @@ abbrev pub for_turns : ℕ → Count → (ℤ → Store → Store) → (Store �
 for_turns zero count set body value = choose (is_past count value) goes_on wants_more
 for_turns (suc n) count set body value =
     choose (is_past count value) goes_on (λ store.
-    counting 1 (then_do (body (set value store)) (for_turns n count set body (next_value count value))))
+    counting 1 (then_do (body (set value store))
+    (for_turns n count set body (next_value count value))))

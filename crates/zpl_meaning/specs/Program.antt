@@ -1,8 +1,11 @@
 -- The meaning of a program: what its entry procedure prints, and how it ends.
-use Rattle.std.specs.Prelude.{ℕ, ◌+◌, Bool, true, false, List, [], ◌∷◌, ◌++◌, length, Option, Some, None, find}
+use Rattle.std.specs.Prelude.{ℕ, Bool, true, false, List, [], ◌∷◌, ◌++◌, length, Option, Some}
+use Rattle.std.specs.Prelude.{None, find}
 use Rattle.std.specs.Str.{bytes_eq}
 use Rattle.zpl_nums.specs.declared.ends.End.{End}
-use Rattle.zpl_tree.specs.Syntax.{Name, Bracket, NoBracket, Bracketed, Base, Integer, Boolean, Other, VarDef, Param, Procedure, Decl, Config, Constant, Regions, Directions, Vars, Defined, Program}
+use Rattle.zpl_tree.specs.Syntax.{Name, Bracket, NoBracket, Bracketed, Base, Integer, Boolean}
+use Rattle.zpl_tree.specs.Syntax.{Other, VarDef, Param, Procedure, Decl, Config, Constant, Regions}
+use Rattle.zpl_tree.specs.Syntax.{Directions, Vars, Defined, Program}
 use Rattle.zpl_meaning.specs.Store.{Thing, Scalar, empty_store}
 use Rattle.zpl_meaning.specs.Outcome.{Outcome, wants_more}
 use Rattle.zpl_meaning.specs.Statement.{Context, exec}
@@ -48,7 +51,8 @@ procedures (Defined procedure ∷ decls) = procedure ∷ procedures decls
 procedures (_ ∷ decls) = procedures decls
 
 abbrev pub entry_of : Program → Option Procedure
-entry_of program = find (λ procedure. bytes_eq procedure.name.text program.name.text) (procedures program.decls)
+entry_of program = find (λ procedure. bytes_eq procedure.name.text program.name.text)
+    (procedures program.decls)
 
 -- ---- the run
 abbrev pub context_of : List ℕ → Names → Context
@@ -68,7 +72,8 @@ run_entry source n procedure names = wants_more (empty_store 0)
 
 -- the whole run, with at most n turns of each loop that is entered
 abbrev pub outcome_of : Program → ℕ → Outcome
-outcome_of program n = run_entry program.source n (entry_of program) (with_declarations (Some []) program.decls)
+outcome_of program n = run_entry program.source n (entry_of program)
+    (with_declarations (Some []) program.decls)
 
 -- what is printed, and how it ends
 pub record Meaning : Type 0 where
@@ -76,7 +81,8 @@ pub record Meaning : Type 0 where
   pub ending : End
 
 abbrev pub mean_of : Program → ℕ → Meaning
-mean_of program n = record { bytes = (outcome_of program n).bytes; ending = (outcome_of program n).ending }
+mean_of program n =
+    record { bytes = (outcome_of program n).bytes; ending = (outcome_of program n).ending }
 
 abbrev pub steps_of : Program → ℕ → ℕ
 steps_of program n = (outcome_of program n).steps

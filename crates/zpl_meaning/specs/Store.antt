@@ -1,5 +1,6 @@
 -- What the names of a program stand for, and what its variables hold.
-use Rattle.std.specs.Prelude.{ℕ, Bool, ℤ, pos, List, Option, find, replicate, slice_index_or, slice_set}
+use Rattle.std.specs.Prelude.{ℕ, Bool, ℤ, pos, List, Option, find, replicate, slice_index_or}
+use Rattle.std.specs.Prelude.{slice_set}
 use Rattle.std.specs.Option.{option_map}
 use Rattle.std.specs.Str.{bytes_eq}
 
@@ -16,7 +17,8 @@ pub record Store : Type 0 where
   pub scalars : List ℤ
 
 abbrev pub thing_of : Environment → List ℕ → Option Thing
-thing_of environment name = option_map (λ entry. entry.1) (find (λ entry. bytes_eq entry.0 name) environment.names)
+thing_of environment name =
+    option_map (λ entry. entry.1) (find (λ entry. bytes_eq entry.0 name) environment.names)
 
 abbrev pub scalar_at : Store → ℕ → ℤ
 scalar_at store place = slice_index_or store.scalars place (pos 0)

@@ -4,11 +4,15 @@ use Rattle.zpl_nums.specs.declared.operators.Op.{Op}
 use Rattle.zpl_nums.specs.declared.operators.Op.TheVariants as op
 use Rattle.zpl_nums.specs.Integer.{truth, negated, absolute, denied}
 use Rattle.zpl_nums.specs.Op.{applied}
-use Rattle.zpl_tree.specs.Syntax.{Expr, Number, Truth, Coord, Named, Shifted, Call, Paren, Neg, Not, Abs, Pair, Reduce, Scan, Flood, Exprs, NoExpr, ThenExpr, Dir, NamedDir, Vector, Inner, Rexpr, Dims, Bracket, NoBracket, Bracketed, Posts, NoPost, ThenPost, DimText, Blank, Star, One, Span, DimTexts, NoDim, ThenDim}
+use Rattle.zpl_tree.specs.Syntax.{Expr, Number, Truth, Coord, Named, Shifted, Around, Remap, Call}
+use Rattle.zpl_tree.specs.Syntax.{Paren, Neg, Not, Abs, Pair, Reduce, Scan, Flood, Exprs, NoExpr}
+use Rattle.zpl_tree.specs.Syntax.{ThenExpr, Dir, NamedDir, Vector, Inner, Rexpr, Dims, Bracket}
+use Rattle.zpl_tree.specs.Syntax.{NoBracket, Bracketed, Posts, NoPost, ThenPost, DimText, Blank}
+use Rattle.zpl_tree.specs.Syntax.{Star, One, Span, DimTexts, NoDim, ThenDim}
 use Rattle.zpl_meaning.specs.Store.{Thing, Scalar, Environment, Store, thing_of, scalar_at}
 
--- What a computation gives: a value, or none for a divisor that is 0, or none for a form that has no
--- meaning yet.
+-- What a computation gives: a value, or none for a divisor that is 0, or none for a form that has
+-- no meaning yet.
 pub data Computed (A : Type 0) : Type 0 where
   Gives : (value : A) → Computed A
   ZeroDivisor : Computed A
@@ -20,8 +24,10 @@ computed_then (Gives value) next = next value
 computed_then ZeroDivisor next = ZeroDivisor
 computed_then NotBuilt next = NotBuilt
 
--- goes on with both values, where there are both; a form without meaning counts before a zero divisor
-abbrev pub both_then : {A B C : Type 0} → Computed A → Computed B → (A → B → Computed C) → Computed C
+-- goes on with both values, where there are both; a form without meaning counts before a zero
+-- divisor
+abbrev pub both_then : {A B C : Type 0} → Computed A → Computed B → (A → B → Computed C)
+    → Computed C
 both_then (Gives first) (Gives second) next = next first second
 both_then (Gives first) ZeroDivisor next = ZeroDivisor
 both_then (Gives first) NotBuilt next = NotBuilt
@@ -57,6 +63,8 @@ value_of environment store (Pair at op left right) =
     given (applied op first second))
 value_of environment store (Coord at dimension) = NotBuilt
 value_of environment store (Shifted at name shift) = NotBuilt
+value_of environment store (Around at name shift) = NotBuilt
+value_of environment store (Remap at name indices) = NotBuilt
 value_of environment store (Call at name actuals) = NotBuilt
 value_of environment store (Reduce at operator over operand) = NotBuilt
 value_of environment store (Scan at operator along operand) = NotBuilt
@@ -96,6 +104,8 @@ abbrev mutual
   expr_nodes (Coord at dimension) = 1
   expr_nodes (Named at name) = 1
   expr_nodes (Shifted at name shift) = 1 + dir_nodes shift
+  expr_nodes (Around at name shift) = 1 + dir_nodes shift
+  expr_nodes (Remap at name indices) = 1 + exprs_nodes indices
   expr_nodes (Call at name actuals) = 1 + exprs_nodes actuals
   expr_nodes (Paren at inside) = 1 + expr_nodes inside
   expr_nodes (Neg at operand) = 1 + expr_nodes operand

@@ -7,10 +7,12 @@ ghost use Rattle.zpl_meaning.specs.Program.{mean_of, steps_of};
 
 /// What a program prints with a bound on its loops begins what it prints with a greater one.
 pub fn meaning_grows()
-    ensures { (program : Program) (n m : ℕ) → n ≤ m → IsFrontOf (mean_of program n).bytes (mean_of program m).bytes }
+    ensures { (program : Program) (n m : ℕ) → n ≤ m →
+        IsFrontOf (mean_of program n).bytes (mean_of program m).bytes }
 {}
 
-/// A run that has ended within a bound ends so, with the same bytes and steps, within each greater one.
+/// A run that has ended within a bound ends so, with the same bytes and steps, within each greater
+/// one.
 pub fn endings_stay()
     ensures meaning { (program : Program) (n m : ℕ) → n ≤ m → (mean_of program n).ending ≢ More →
         mean_of program m ≡ mean_of program n }

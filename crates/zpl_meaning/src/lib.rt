@@ -1,6 +1,8 @@
-//! What a program means: the bytes that it prints and how it ends, for a bound on the turns of each loop.
+//! What a program means: the bytes that it prints and how it ends, for a bound on the turns of each
+//! loop.
 //!
-//! The definitions stand in `specs/`; what runs is elsewhere. The functions here do nothing: each has a
+//! The definitions stand in `specs/`; what runs is elsewhere. The functions here do nothing: each
+//! has a
 //! law of the definitions as its contract, and a call brings the law into a proof.
 #![tactic(auto)]
 

@@ -1,5 +1,5 @@
--- A run of code: the turns of an order, and then turns round the processors, until the grid is over or idle or
--- so many turns were given.
+-- A run of code: the turns of an order, and then turns round the processors, until the grid is over
+-- or idle or so many turns were given.
 use Rattle.std.specs.Prelude.{◌≡◌, ◌⊎◌, ℕ, ◌+◌, ◌<◌, ◌≤◌, List, length}
 use Rattle.node_form.specs.declared.tables.Tables.{Tables}
 use Rattle.grid_meaning.specs.Grid.{Grid, processors, after, IsOver, IsIdle}
@@ -13,8 +13,12 @@ grid_at code order k = after code (given order (processors code) k)
 abbrev pub Stops : Tables → Grid → Type 0
 Stops code grid = IsOver grid ⊎ IsIdle code grid
 
+-- at no turn before the k-th does it stop
+abbrev pub GoesOnTo : Tables → List ℕ → ℕ → Type 0
+GoesOnTo code order k = (j : ℕ) → j < k → ¬ Stops code (grid_at code order j)
+
 -- The run has k turns: at none before does it stop, and there it does, or there are no turns left.
 pub record IsRun (code : Tables) (order : List ℕ) (limit k : ℕ) : Type 0 where
   pub within : k ≤ length order + limit
-  pub goes_on : (j : ℕ) → j < k → Stops code (grid_at code order j) → ⊥
+  pub goes_on : GoesOnTo code order k
   pub ends : Stops code (grid_at code order k) ⊎ (k ≡ length order + limit)

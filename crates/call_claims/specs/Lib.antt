@@ -1,0 +1,10 @@
+pub mod Answer
+pub mod Call
+pub mod Cause
+pub mod Command
+pub mod Decided
+pub mod Execution
+pub mod Refusal
+pub mod Run
+pub mod Source
+pub mod Texts

@@ -1,0 +1,10 @@
+//! Limits of commands and of the texts that have code.
+
+/// The most digits of a number in a command.
+pub const MOST_DIGITS: usize = 19;
+
+/// The most turns that a command may ask for, and those without a word: 2^61.
+pub const MOST_TURNS: u64 = 2_305_843_009_213_693_952;
+
+/// The most tokens of a small program's text, its end among them.
+pub const MOST_TOKENS: usize = 10_000;
