@@ -2,7 +2,6 @@ pub mod DraftLemmas
 pub mod EmitLemmas
 pub mod FitLemmas
 pub mod Good
-pub mod LineLemmas
 pub mod LoopLemmas
 pub mod NameLemmas
 pub mod PartLemmas

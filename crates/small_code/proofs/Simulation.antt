@@ -1,8 +1,9 @@
 -- The code of statements does what the statements mean.
-use Rattle.std.proofs.Common.{◌≡◌, ℕ, zero, suc, ◌+◌, ◌*◌, ◌<◌, ◌≤◌, Bool, true, false, List, [], ◌∷◌, ◌++◌, length, Some, None, refl, sym, ap, ◌∙◌, subst, arith, append_assoc, append-nil}
+use Rattle.std.proofs.Common.{◌≡◌, ℕ, zero, suc, ◌+◌, ◌*◌, ◌<◌, ◌≤◌, Bool, true, false, List, []}
+use Rattle.std.proofs.Common.{◌∷◌, ◌++◌, length, Some, None, refl, sym, ap, ◌∙◌, subst, arith}
+use Rattle.std.proofs.Common.{append_assoc, append-nil}
 use Rattle.std.specs.Prelude.{slice_get, slice_set, sum_by, Contains, unwrap_or}
 use Rattle.std.specs.List.{AllByRecursion}
-use Rattle.std.specs.Option.{option_and_then}
 use Rattle.std.specs.Fmt.{signed_decimal}
 use Rattle.std.proofs.lemmas.Option.{slice_get_within}
 use Rattle.std.proofs.Math.ListN.{length-set}
@@ -10,24 +11,33 @@ use Rattle.std.proofs.Math.Nat.{mul-le-mul_left}
 use Rattle.zpl_nums.specs.Integer.{is_true}
 use Rattle.zpl_nums.specs.declared.ends.End.{End}
 use Rattle.zpl_nums.specs.declared.ends.End.TheVariants.{Done, Trap, More}
-use Rattle.zpl_tree.specs.Syntax.{Name, Expr, Item, Str, Value, Stmt, Prefixed, Stmts, NoStmt, ThenStmt, Form, Assign, While, Write}
+use Rattle.zpl_tree.specs.Syntax.{Name, Expr, Item, Str, Value, Stmt, Prefixed, Stmts, NoStmt}
+use Rattle.zpl_tree.specs.Syntax.{ThenStmt, Form, Assign, While, Write}
 use Rattle.node_form.specs.Expression.{Expression, words_of}
-use Rattle.node_form.specs.Value.{Operands, value_of, tree_value}
+use Rattle.node_form.specs.Value.{Gives as Computes, and_then, read, scalar_operands, Operands, value_of, tree_value}
 use Rattle.node_form.specs.declared.tables.Tables.{Tables}
-use Rattle.node_form.specs.declared.words.Instr.{Instr}
-use Rattle.node_form.specs.declared.words.Instr.TheVariants as instr
+use Rattle.node_form.specs.declared.instructions.Instr.{Instr}
+use Rattle.node_form.specs.declared.instructions.Instr.TheVariants as instr
 use Rattle.grid_meaning.specs.Local.{start_local}
-use Rattle.grid_meaning.specs.Turn.{act, branch, expression_value, prints as printing, with_text, with_value as on_value, goes_on as next_one, moves}
+use Rattle.grid_meaning.specs.Turn.{act, branch, expression_value, prints as printing, with_text}
+use Rattle.grid_meaning.specs.Turn.{with_value as on_value, goes_on as next_one, moves}
 use Rattle.zpl_meaning.specs.Store.{Scalar, Environment, Store, thing_of, scalar_at, with_scalar}
-use Rattle.zpl_meaning.specs.Value.{Gives, computed_then, both_then, value_of as meant_value, is_boolean, expr_nodes}
-use Rattle.zpl_meaning.specs.Text.{line_at, unescaped, value_text, item_text, items_text}
-use Rattle.zpl_meaning.specs.Outcome.{Outcome, goes_on, prints, counting, behind, then_at, then_do, with_value, choose, wants_more, Test, tested, while_turns}
-use Rattle.zpl_meaning.specs.Statement.{Context, assigned, assign_to, item_nodes, exec, exec_all, exec_form}
+use Rattle.zpl_meaning.specs.Value.{Gives, computed_then, both_then, value_of as meant_value}
+use Rattle.zpl_meaning.specs.Value.{is_boolean, expr_nodes}
+use Rattle.zpl_meaning.specs.Text.{value_text, item_text, items_text}
+use Rattle.zpl_text.specs.Escapes.{unescaped}
+use Rattle.zpl_text.specs.Lines.{line_at}
+use Rattle.zpl_meaning.specs.Outcome.{Outcome, goes_on, prints, counting, behind, then_at, then_do}
+use Rattle.zpl_meaning.specs.Outcome.{with_value, choose, wants_more, Test, tested, while_turns}
+use Rattle.zpl_meaning.specs.Statement.{Context, assigned, assign_to, item_nodes, exec, exec_all}
+use Rattle.zpl_meaning.specs.Statement.{exec_form}
 use Rattle.zpl_claims.specs.Small.{IsItem, IsSum, IsTest, IsSmallStmt, IsSmallForm, AreSmall}
-use Rattle.small_code.specs.Names.{place_of, tree_of}
-use Rattle.small_code.specs.Rows.{HasExpr, IsAssignment, IsLoop, IsText, IsItemRow, AreItems, IsLine, IsStmtCode, IsFormCode, AreStmtsCode}
+use Rattle.small_code.specs.Names.{scalar_of, tree_of}
+use Rattle.small_code.specs.Rows.{HasExpr, IsAssignment, IsLoop, IsText, IsItemRow, AreItems}
+use Rattle.small_code.specs.Rows.{IsLine, IsStmtCode, IsFormCode, AreStmtsCode}
 use Rattle.small_code.proofs.Runs.{Solo, no_heads, moved, step, run, run-add}
-use Rattle.small_code.proofs.SumLemmas.{Knows, Agrees, sum_agrees, test_agrees, test_nodes, sum_prints_number}
+use Rattle.small_code.proofs.SumLemmas.{Knows, Agrees, sum_agrees, test_agrees, test_nodes}
+use Rattle.small_code.proofs.SumLemmas.{sum_prints_number}
 
 -- the turns bring the processor from one state to another, and are at most so many
 pub record Reaches (code : Tables) (from to : Solo) (most : ℕ) : Type 0 where
@@ -35,26 +45,36 @@ pub record Reaches (code : Tables) (from to : Solo) (most : ℕ) : Type 0 where
   pub few : turns ≤ most
   pub there : run code turns from ≡ to
 
--- some turns, at least so many, bring the processor to where it has printed just this, and it goes on
+-- some turns, at least so many, bring the processor to where it has printed just this, and it goes
+-- on
 pub record GoesOn (code : Tables) (from : Solo) (least : ℕ) (printed : List ℕ) : Type 0 where
   pub turns : ℕ
   pub many : least ≤ turns
   pub open_still : (run code turns from).local.ended ≡ None
   pub shows : (run code turns from).printed ≡ printed
 
-reaches_on : (code : Tables) (a b c : Solo) (m n : ℕ) → Reaches code a b m → Reaches code b c n → Reaches code a c (m + n)
+reaches_on : (code : Tables) (a b c : Solo) (m n : ℕ) → Reaches code a b m → Reaches code b c n
+    → Reaches code a c (m + n)
 reaches_on code a b c m n r s = record {
   turns = r.turns + s.turns;
   few = omega (arith, r.few, s.few);
   there = run-add code r.turns s.turns a ∙ ap (run code s.turns) r.there ∙ s.there;
 }
 
-reaches_within : (code : Tables) (a b : Solo) (m n : ℕ) → m ≤ n → Reaches code a b m → Reaches code a b n
-reaches_within code a b m n le r = record { turns = r.turns; few = omega (arith, r.few); there = r.there }
+reaches_within : (code : Tables) (a b : Solo) (m n : ℕ) → m ≤ n → Reaches code a b m
+    → Reaches code a b n
+reaches_within code a b m n le r = record {
+  turns = r.turns;
+  few = omega (arith, r.few);
+  there =
+      r.there;
+}
 
-goes_after : (code : Tables) (a b : Solo) (m n : ℕ) (printed : List ℕ) → Reaches code a b m → GoesOn code b n printed → GoesOn code a n printed
+goes_after : (code : Tables) (a b : Solo) (m n : ℕ) (printed : List ℕ) → Reaches code a b m
+    → GoesOn code b n printed → GoesOn code a n printed
 goes_after code a b m n printed r g =
-    let same : run code (r.turns + g.turns) a ≡ run code g.turns b = run-add code r.turns g.turns a ∙ ap (run code g.turns) r.there in
+    let same : run code (r.turns + g.turns) a ≡ run code g.turns b = run-add code r.turns g.turns a
+    ∙ ap (run code g.turns) r.there in
     record {
       turns = r.turns + g.turns;
       many = omega (arith, g.many);
@@ -66,7 +86,8 @@ goes_after code a b m n printed r g =
 reaches_next : (code : Tables) (a b : Solo) → step code a ≡ b → Reaches code a b 1
 reaches_next code a b e = record { turns = 1; few = omega arith; there = e }
 
-goes_next : (code : Tables) (a b : Solo) (n : ℕ) (printed : List ℕ) → step code a ≡ b → GoesOn code b n printed → GoesOn code a (suc n) printed
+goes_next : (code : Tables) (a b : Solo) (n : ℕ) (printed : List ℕ) → step code a ≡ b
+    → GoesOn code b n printed → GoesOn code a (suc n) printed
 goes_next code a b n printed e g =
     let same : run code (suc g.turns) a ≡ run code g.turns b = ap (run code g.turns) e in
     record {
@@ -76,9 +97,16 @@ goes_next code a b n printed e g =
       shows = ap (λ s. s.printed) same ∙ g.shows;
     }
 
-goes_fewer : (code : Tables) (a : Solo) (m n : ℕ) (printed : List ℕ) → m ≤ n → GoesOn code a n printed → GoesOn code a m printed
+goes_fewer : (code : Tables) (a : Solo) (m n : ℕ) (printed : List ℕ) → m ≤ n
+    → GoesOn code a n printed → GoesOn code a m printed
 goes_fewer code a m n printed le g =
-    record { turns = g.turns; many = omega (arith, g.many); open_still = g.open_still; shows = g.shows }
+    record {
+      turns = g.turns;
+      many = omega (arith, g.many);
+      open_still = g.open_still;
+      shows =
+          g.shows;
+    }
 
 -- the processor at a row, with a store, and what it has printed
 abbrev pub at : Tables → ℕ → Store → List ℕ → Solo
@@ -91,12 +119,13 @@ at code row store printed = record {
 abbrev pub each : Tables → ℕ
 each code = length code.code + 1
 
--- What the code between two rows does, where the meaning of its source from a store is an outcome that ends so:
--- it comes to its end in few turns, or it goes on for as many turns as the bound.
+-- What the code between two rows does, where the meaning of its source from a store is an outcome
+-- that ends so: it comes to its end in few turns, or it goes on for as many turns as the bound.
 abbrev pub Follows : Tables → ℕ → ℕ → ℕ → Store → End → Outcome → Type 0
 Follows code n from to store Done outcome =
     (length outcome.store.scalars ≡ length store.scalars)
-    × ((printed : List ℕ) → Reaches code (at code from store printed) (at code to outcome.store (printed ++ outcome.bytes)) (each code * outcome.steps))
+    × ((printed : List ℕ) → Reaches code (at code from store printed)
+    (at code to outcome.store (printed ++ outcome.bytes)) (each code * outcome.steps))
 Follows code n from to store More outcome =
     (printed : List ℕ) → GoesOn code (at code from store printed) n (printed ++ outcome.bytes)
 Follows code n from to store (Trap kind line) outcome = ⊥
@@ -105,111 +134,183 @@ abbrev pub Runs : Tables → ℕ → ℕ → ℕ → Store → Outcome → Type 
 Runs code n from to store outcome = Follows code n from to store outcome.ending outcome
 
 -- ---- outcomes one behind the other
-pub counting_follows : (code : Tables) (n from to : ℕ) (store : Store) (ending : End) (steps : ℕ) (outcome : Outcome) → Follows code n from to store ending outcome → Follows code n from to store ending (counting steps outcome)
+pub counting_follows : (code : Tables) (n from to : ℕ) (store : Store) (ending : End) (steps : ℕ)
+    (outcome : Outcome) → Follows code n from to store ending outcome
+    → Follows code n from to store ending (counting steps outcome)
 counting_follows code n from to store Done steps outcome f =
-    let le : each code * outcome.steps ≤ each code * (steps + outcome.steps) = mul-le-mul_left (each code) (omega arith) in
+    let le : each code * outcome.steps ≤ each code * (steps + outcome.steps) = mul-le-mul_left
+    (each code) (omega arith) in
     (f.0, λ printed. reaches_within code _ _ _ _ le (f.1 printed))
 counting_follows code n from to store More steps outcome f = f
 counting_follows code n from to store (Trap kind line) steps outcome f = absurd f
 
-behind_follows : (code : Tables) (n from middle to : ℕ) (store : Store) (first second : Outcome) (ending : End) → Follows code n from middle store Done first → Follows code n middle to first.store ending second → Follows code n from to store ending (behind first.bytes first.steps second)
+behind_follows : (code : Tables) (n from middle to : ℕ) (store : Store) (first second : Outcome)
+    (ending : End) → Follows code n from middle store Done first
+    → Follows code n middle to first.store ending second
+    → Follows code n from to store ending (behind first.bytes first.steps second)
 behind_follows code n from middle to store first second Done f s = (
   s.0 ∙ f.0,
   λ printed.
       let assoc = append_assoc printed first.bytes second.bytes in
-      let e : each code * first.steps + each code * second.steps ≡ each code * (first.steps + second.steps) = omega arith in
+      let e : each code * first.steps + each code * second.steps ≡ each code *
+      (first.steps + second.steps) = omega arith in
       let both = reaches_on code _ _ _ _ _ (f.1 printed) (s.1 (printed ++ first.bytes)) in
-      subst (λ most. Reaches code (at code from store printed) (at code to second.store (printed ++ (first.bytes ++ second.bytes))) most) e
-      (subst (λ all. Reaches code (at code from store printed) (at code to second.store all) (each code * first.steps + each code * second.steps)) assoc both),
+      subst (λ most. Reaches code (at code from store printed)
+      (at code to second.store (printed ++ (first.bytes ++ second.bytes))) most) e
+      (subst (λ all. Reaches code (at code from store printed) (at code to second.store all)
+      (each code * first.steps + each code * second.steps)) assoc both),
 )
 behind_follows code n from middle to store first second More f s = λ printed.
     let assoc = append_assoc printed first.bytes second.bytes in
-    subst (λ all. GoesOn code (at code from store printed) n all) assoc (goes_after code _ _ _ _ _ (f.1 printed) (s (printed ++ first.bytes)))
+    subst (λ all. GoesOn code (at code from store printed) n all) assoc
+    (goes_after code _ _ _ _ _ (f.1 printed) (s (printed ++ first.bytes)))
 behind_follows code n from middle to store first second (Trap kind line) f s = absurd s
 
-then_follows : (code : Tables) (n from middle to : ℕ) (store : Store) (ending : End) (first : Outcome) (next : Store → Outcome) → first.ending ≡ ending → Follows code n from middle store ending first → ((s : Store) → length s.scalars ≡ length store.scalars → Runs code n middle to s (next s)) → Runs code n from to store (then_at ending first next)
+then_follows : (code : Tables) (n from middle to : ℕ) (store : Store) (ending : End)
+    (first : Outcome) (next : Store → Outcome) → first.ending ≡ ending
+    → Follows code n from middle store ending first
+    → ((s : Store) → length s.scalars ≡ length store.scalars → Runs code n middle to s (next s))
+    → Runs code n from to store (then_at ending first next)
 then_follows code n from middle to store Done first next e f g =
-    behind_follows code n from middle to store first (next first.store) (next first.store).ending f (g first.store f.0)
-then_follows code n from middle to store More first next e f g = subst (λ ending. Follows code n from to store ending first) (sym e) f
+    behind_follows code n from middle to store first (next first.store) (next first.store).ending f
+    (g first.store f.0)
+then_follows code n from middle to store More first next e f g = subst
+    (λ ending. Follows code n from to store ending first) (sym e) f
 then_follows code n from middle to store (Trap kind line) first next e f g = absurd f
 
-then_runs : (code : Tables) (n from middle to : ℕ) (store : Store) (first : Outcome) (next : Store → Outcome) → Runs code n from middle store first → ((s : Store) → length s.scalars ≡ length store.scalars → Runs code n middle to s (next s)) → Runs code n from to store (then_do first next)
-then_runs code n from middle to store first next f g = then_follows code n from middle to store first.ending first next refl f g
+then_runs : (code : Tables) (n from middle to : ℕ) (store : Store) (first : Outcome) (next : Store
+    → Outcome) → Runs code n from middle store first
+    → ((s : Store) → length s.scalars ≡ length store.scalars → Runs code n middle to s (next s))
+    → Runs code n from to store (then_do first next)
+then_runs code n from middle to store first next f g = then_follows code n from middle to store
+    first.ending first next refl f g
 
 -- ---- rows
 -- a turn at a row
-pub row_step : (code : Tables) (row : ℕ) (store : Store) (printed : List ℕ) (i : Instr) → slice_get code.code row ≡ Some i → step code (at code row store printed) ≡ moved (at code row store printed) (act code 0 (at code row store printed).local no_heads (Some i))
-row_step code row store printed i h = ap (λ o. moved (at code row store printed) (act code 0 (at code row store printed).local no_heads o)) h
+pub row_step : (code : Tables) (row : ℕ) (store : Store) (printed : List ℕ) (i : Instr)
+    → slice_get code.code row ≡ Some i
+    → step code (at code row store printed) ≡ moved (at code row store printed)
+    (act code 0 (at code row store printed).local no_heads (Some i))
+row_step code row store printed i h = ap (λ o. moved (at code row store printed)
+    (act code 0 (at code row store printed).local no_heads o)) h
 
 module _ (code : Tables) (source : List ℕ) (names : List (List ℕ)) (environment : Environment)
     (knows : Knows environment names)
-    (push : (operands : Operands) (tree : Expression) → value_of operands (words_of tree) ≡ tree_value operands tree) where
+    (push : (operands : Operands) (tree : Expression)
+    → value_of operands (words_of tree) ≡ tree_value operands tree) where
   abbrev context : Context
   context = record { source = source; environment = environment }
 
   -- the machine's value of an expression
-  row_value : (store : Store) (row expr : ℕ) (printed : List ℕ) (value : Expr) → HasExpr names code expr value → (a : Agrees environment names store value) → expression_value code (at code row store printed).local expr ≡ Some a.value
+  row_value : (store : Store) (row expr : ℕ) (printed : List ℕ) (value : Expr)
+      → HasExpr names code expr value → (a : Agrees environment names store value)
+      → expression_value code (at code row store printed).local expr ≡ Computes a.value
   row_value store row expr printed value h a =
-      ap (option_and_then (value_of (record { scalars = store.scalars }))) h
-      ∙ push (record { scalars = store.scalars }) (tree_of names value)
+      ap (λ words. and_then (value_of (scalar_operands store.scalars)) (read words)) h
+      ∙ push (scalar_operands store.scalars) (tree_of names value)
       ∙ a.computed
 
   -- ---- an assignment
-  set_step : (from to line : ℕ) (name : Name) (value : Expr) (store : Store) (printed : List ℕ) (r : IsAssignment names code from to line name value) (a : Agrees environment names store value) → step code (at code from store printed) ≡ at code to (with_scalar store r.scalar a.value) (printed ++ [])
+  set_step : (from to line : ℕ) (name : Name) (value : Expr) (store : Store) (printed : List ℕ)
+      (r : IsAssignment names code from to line name value)
+      (a : Agrees environment names store value)
+      → step code (at code from store printed) ≡ at code to (with_scalar store r.scalar a.value)
+      (printed ++ [])
   set_step from to line name value store printed r a =
       row_step code from store printed (instr.Set r.scalar r.expr line) r.row
-      ∙ ap (λ o. moved (at code from store printed) (on_value o (at code from store printed).local line (λ v. moves (next_one (record (at code from store printed).local { scalars = slice_set store.scalars r.scalar v })) []))) (row_value store from r.expr printed value r.value_row a)
+      ∙ ap (λ o. moved (at code from store printed)
+      (on_value o (at code from store printed).local line
+      (λ v. moves (next_one (record (at code from store printed).local
+      { scalars = slice_set store.scalars r.scalar v })) [])))
+      (row_value store from r.expr printed value r.value_row a)
       ∙ ap (λ row. at code row (with_scalar store r.scalar a.value) (printed ++ [])) (sym r.next)
 
-  assignment_means : (n at : ℕ) (name : Name) (value : Expr) (store : Store) (scalar : ℕ) → thing_of environment name.text ≡ Some (Scalar scalar false) → (a : Agrees environment names store value) → exec_form context n at (Assign name None value) store ≡ goes_on (with_scalar store scalar a.value)
+  assignment_means : (n at : ℕ) (name : Name) (value : Expr) (store : Store) (scalar : ℕ)
+      → thing_of environment name.text ≡ Some (Scalar scalar false)
+      → (a : Agrees environment names store value)
+      → exec_form context n at (Assign name None value) store ≡ goes_on
+      (with_scalar store scalar a.value)
   assignment_means n at name value store scalar known a =
       ap (λ thing. assign_to context thing None value (line_at source at) store) known
-      ∙ ap (λ c. with_value (computed_then c (λ right. assigned None (scalar_at store scalar) right)) store (line_at source at) (λ new. goes_on (with_scalar store scalar new))) a.meant
+      ∙ ap (λ c. with_value (computed_then c (λ right. assigned None (scalar_at store scalar)
+      right)) store (line_at source at) (λ new. goes_on (with_scalar store scalar new))) a.meant
 
-  assignment_runs : (n from to at : ℕ) (name : Name) (value : Expr) (store : Store) → length store.scalars ≡ length names → Contains names name.text × IsSum names value → IsAssignment names code from to (line_at source at) name value → Runs code n from to store (exec context n (Prefixed at [] (Assign name None value)) store)
+  assignment_runs : (n from to at : ℕ) (name : Name) (value : Expr) (store : Store)
+      → length store.scalars ≡ length names → Contains names name.text × IsSum names value
+      → IsAssignment names code from to (line_at source at) name value
+      → Runs code n from to store (exec context n (Prefixed at [] (Assign name None value)) store)
   assignment_runs n from to at name value store long small r =
       let a = sum_agrees environment names knows store value long small.1 in
-      let scalar : unwrap_or (place_of names name.text) 0 ≡ r.scalar = ap (λ o. unwrap_or o 0) r.place in
-      let known : thing_of environment name.text ≡ Some (Scalar r.scalar false) = knows.thing name.text small.0 ∙ ap (λ place. Some (Scalar place false)) scalar in
-      let means = ap (counting (1 + expr_nodes value)) (assignment_means n at name value store r.scalar known a) in
-      let one : 1 ≤ each code * (1 + expr_nodes value + 0) = omega (arith, mul-le-mul_left (each code) (let l : 1 ≤ 1 + expr_nodes value + 0 = omega arith in l)) in
-      subst (λ o. Runs code n from to store o) (sym means)
-      (length-set store.scalars r.scalar a.value, λ printed. reaches_within code _ _ _ _ one (reaches_next code _ _ (set_step from to (line_at source at) name value store printed r a)))
+      let scalar : unwrap_or (scalar_of names name.text) 0 ≡ r.scalar = ap (λ o. unwrap_or o 0)
+      r.place in
+      let known : thing_of environment name.text ≡ Some (Scalar r.scalar false) = knows.thing
+      name.text small.0 ∙ ap (λ place. Some (Scalar place false)) scalar in
+      let means = ap (counting (1 + expr_nodes value))
+      (assignment_means n at name value store r.scalar known a) in
+      let one : 1 ≤ each code * (1 + expr_nodes value + 0) = omega (
+        arith,
+        mul-le-mul_left (each code) (let l : 1 ≤ 1 + expr_nodes value + 0 = omega arith in
+            l),
+      ) in
+      subst (λ o. Runs code n from to store o) (sym means) (
+        length-set store.scalars r.scalar a.value,
+        λ printed. reaches_within code _ _ _ _ one
+            (reaches_next code _ _ (set_step from to (line_at source at) name value store printed r
+            a)),
+      )
 
   -- ---- a print
   -- an item means a text, and its row prints it
   record ItemRuns (from : ℕ) (store : Store) (item : Item) : Type 0 where
     text : List ℕ
     meant : item_text environment store item ≡ Gives text
-    turn : (printed : List ℕ) → step code (at code from store printed) ≡ at code (from + 1) store (printed ++ text)
+    turn : (printed : List ℕ) → step code (at code from store printed) ≡ at code (from + 1) store
+        (printed ++ text)
 
-  text_step : (from : ℕ) (bytes : List ℕ) (store : Store) (printed : List ℕ) → IsText code from bytes → step code (at code from store printed) ≡ at code (from + 1) store (printed ++ bytes)
+  text_step : (from : ℕ) (bytes : List ℕ) (store : Store) (printed : List ℕ)
+      → IsText code from bytes → step code (at code from store printed) ≡ at code (from + 1) store
+      (printed ++ bytes)
   text_step from bytes store printed r =
       row_step code from store printed (instr.Print r.text) r.row
-      ∙ ap (λ o. moved (at code from store printed) (with_text o (printing 0 (at code from store printed).local))) r.text_row
+      ∙ ap (λ o. moved (at code from store printed)
+      (with_text o (printing 0 (at code from store printed).local))) r.text_row
 
-  item_runs : (from : ℕ) (store : Store) (item : Item) → length store.scalars ≡ length names → IsItem names item → IsItemRow names code from item → ItemRuns from store item
+  item_runs : (from : ℕ) (store : Store) (item : Item) → length store.scalars ≡ length names
+      → IsItem names item → IsItemRow names code from item → ItemRuns from store item
   item_runs from store (Str bytes) long small r =
-      record { text = unescaped bytes; meant = refl; turn = λ printed. text_step from (unescaped bytes) store printed r }
+      record {
+        text = unescaped bytes;
+        meant = refl;
+        turn = λ printed. text_step from
+            (unescaped bytes) store printed r;
+      }
   item_runs from store (Value value) long small r =
       let a = sum_agrees environment names knows store value long small in
       record {
         text = signed_decimal a.value;
         meant =
-            ap (λ c. computed_then c (λ v. Gives (value_text (is_boolean environment value) v))) a.meant
-            ∙ ap (λ b. Gives (value_text b a.value)) (sum_prints_number environment names knows value small);
+            ap (λ c. computed_then c (λ v. Gives (value_text (is_boolean environment value) v)))
+            a.meant
+            ∙ ap (λ b. Gives (value_text b a.value))
+            (sum_prints_number environment names knows value small);
         turn = λ printed.
             row_step code from store printed (instr.Number r.expr) r.row
-            ∙ ap (λ o. moved (at code from store printed) (on_value o (at code from store printed).local 0 (λ v. printing 0 (at code from store printed).local (signed_decimal v)))) (row_value store from r.expr printed value r.value_row a);
+            ∙ ap (λ o. moved (at code from store printed)
+            (on_value o (at code from store printed).local 0
+            (λ v. printing 0 (at code from store printed).local (signed_decimal v))))
+            (row_value store from r.expr printed value r.value_row a);
       }
 
   record ItemsRun (from to : ℕ) (store : Store) (items : List Item) : Type 0 where
     text : List ℕ
     meant : items_text environment store items ≡ Gives text
     long : to ≡ from + length items
-    turns : (printed : List ℕ) → Reaches code (at code from store printed) (at code to store (printed ++ text)) (length items)
+    turns : (printed : List ℕ) → Reaches code (at code from store printed)
+        (at code to store (printed ++ text)) (length items)
 
-  items_run : (from to : ℕ) (store : Store) (items : List Item) → length store.scalars ≡ length names → AllByRecursion (IsItem names) items → AreItems names code from to items → ItemsRun from to store items
+  items_run : (from to : ℕ) (store : Store) (items : List Item)
+      → length store.scalars ≡ length names → AllByRecursion (IsItem names) items
+      → AreItems names code from to items → ItemsRun from to store items
   items_run from to store [] long small r = record {
     text = [];
     meant = refl;
@@ -217,7 +318,8 @@ module _ (code : Tables) (source : List ℕ) (names : List (List ℕ)) (environm
     turns = λ printed. record {
       turns = 0;
       few = omega arith;
-      there = ap (λ all. at code from store all) (sym (append-nil printed)) ∙ ap (λ row. at code row store (printed ++ [])) r;
+      there = ap (λ all. at code from store all) (sym (append-nil printed)) ∙ ap
+          (λ row. at code row store (printed ++ [])) r;
     };
   }
   items_run from to store (item ∷ items) long small r =
@@ -227,27 +329,38 @@ module _ (code : Tables) (source : List ℕ) (names : List (List ℕ)) (environm
       record {
         text = first.text ++ rest.text;
         meant =
-            ap (λ c. both_then c (items_text environment store items) (λ a b. Gives (a ++ b))) first.meant
+            ap (λ c. both_then c (items_text environment store items) (λ a b. Gives (a ++ b)))
+            first.meant
             ∙ ap (λ c. both_then (Gives first.text) c (λ a b. Gives (a ++ b))) rest.meant;
         long = omega (arith, rest.long);
         turns = λ printed.
             let assoc = append_assoc printed first.text rest.text in
-            let both = reaches_on code _ _ _ _ _ (reaches_next code _ _ (first.turn printed)) (rest.turns (printed ++ first.text)) in
-            subst (λ most. Reaches code (at code from store printed) (at code to store (printed ++ (first.text ++ rest.text))) most) count
-            (subst (λ all. Reaches code (at code from store printed) (at code to store all) (1 + length items)) assoc both);
+            let both = reaches_on code _ _ _ _ _ (reaches_next code _ _ (first.turn printed))
+            (rest.turns (printed ++ first.text)) in
+            subst (λ most. Reaches code (at code from store printed)
+            (at code to store (printed ++ (first.text ++ rest.text))) most) count
+            (subst (λ all. Reaches code (at code from store printed) (at code to store all)
+            (1 + length items)) assoc both);
       }
 
-  line_runs : (n from to at : ℕ) (items : List Item) (store : Store) → length store.scalars ≡ length names → AllByRecursion (IsItem names) items → IsLine names code from to items → Runs code n from to store (exec context n (Prefixed at [] (Write true items)) store)
+  line_runs : (n from to at : ℕ) (items : List Item) (store : Store)
+      → length store.scalars ≡ length names → AllByRecursion (IsItem names) items
+      → IsLine names code from to items
+      → Runs code n from to store (exec context n (Prefixed at [] (Write true items)) store)
   line_runs n from to offset items store long small r =
       let all = items_run from r.end store items long small r.items_rows in
       let bytes = all.text ++ 10 ∷ [] in
       let nodes = sum_by item_nodes items in
-      let means : exec context n (Prefixed offset [] (Write true items)) store ≡ counting (1 + nodes) (prints store bytes) =
-      ap (λ c. counting (1 + nodes) (with_value (computed_then c (λ text. Gives (text ++ 10 ∷ []))) store (line_at source offset) (prints store))) all.meant in
-      let within : r.end < length code.code = slice_get_within code.code r.end (instr.Print r.newline.text) r.newline.row in
+      let means : exec context n (Prefixed offset [] (Write true items)) store ≡ counting
+      (1 + nodes) (prints store bytes) =
+      ap (λ c. counting (1 + nodes) (with_value (computed_then c (λ text. Gives (text ++ 10 ∷ [])))
+      store (line_at source offset) (prints store))) all.meant in
+      let within : r.end < length code.code = slice_get_within code.code r.end
+      (instr.Print r.newline.text) r.newline.row in
       let few : length items + 1 ≤ each code = omega (arith, all.long) in
       let some : 1 ≤ 1 + nodes + 0 = omega arith in
-      let most : length items + 1 ≤ each code * (1 + nodes + 0) = omega (arith, few, mul-le-mul_left (each code) some) in
+      let most : length items + 1 ≤ each code * (1 + nodes + 0) = omega
+      (arith, few, mul-le-mul_left (each code) some) in
       subst (λ o. Runs code n from to store o) (sym means) (
         refl,
         λ printed.
@@ -255,43 +368,67 @@ module _ (code : Tables) (source : List ℕ) (names : List (List ℕ)) (environm
             let assoc = append_assoc printed all.text (10 ∷ []) in
             let both = reaches_on code _ _ _ _ _ (all.turns printed) (reaches_next code _ _ last) in
             let there = reaches_within code _ _ _ _ most both in
-            subst (λ row. Reaches code (at code from store printed) (at code row store (printed ++ bytes)) (each code * (1 + nodes + 0))) (sym r.next)
-            (subst (λ shown. Reaches code (at code from store printed) (at code (r.end + 1) store shown) (each code * (1 + nodes + 0))) assoc there),
+            subst (λ row. Reaches code (at code from store printed)
+            (at code row store (printed ++ bytes)) (each code * (1 + nodes + 0))) (sym r.next)
+            (subst (λ shown. Reaches code (at code from store printed)
+            (at code (r.end + 1) store shown) (each code * (1 + nodes + 0))) assoc there),
       )
 
   -- ---- a loop
   -- the turns of a loop that may make so many, from a bound for its body that is greater
   module _ (n from to line : ℕ) (test : Expr) (body : Store → Outcome) (IsBody : ℕ → ℕ → Type 0)
       (r : IsLoop names code from to line test IsBody) (is_test : IsTest names test)
-      (runs : (store : Store) → length store.scalars ≡ length names → Runs code n (from + 1) r.back store (body store)) where
+      (runs : (store : Store) → length store.scalars ≡ length names
+      → Runs code n (from + 1) r.back store (body store)) where
     abbrev tests : Test
-    tests = record { value = λ store. meant_value environment store test; line = line; steps = 1 + expr_nodes test }
+    tests = record {
+      value = λ store. meant_value environment store test;
+      line = line;
+      steps = 1 +
+          expr_nodes test;
+    }
 
-    test_step : (store : Store) (printed : List ℕ) (a : Agrees environment names store test) → step code (at code from store printed) ≡ moved (at code from store printed) (branch (is_true a.value) (at code from store printed).local to)
+    test_step : (store : Store) (printed : List ℕ) (a : Agrees environment names store test)
+        → step code (at code from store printed) ≡ moved (at code from store printed)
+        (branch (is_true a.value) (at code from store printed).local to)
     test_step store printed a =
         row_step code from store printed (instr.Unless r.expr to line) r.row
-        ∙ ap (λ o. moved (at code from store printed) (on_value o (at code from store printed).local line (λ v. branch (is_true v) (at code from store printed).local to))) (row_value store from r.expr printed test r.test_row a)
+        ∙ ap (λ o. moved (at code from store printed)
+        (on_value o (at code from store printed).local line
+        (λ v. branch (is_true v) (at code from store printed).local to)))
+        (row_value store from r.expr printed test r.test_row a)
 
-    enters : (store : Store) (printed : List ℕ) (a : Agrees environment names store test) → is_true a.value ≡ true → step code (at code from store printed) ≡ at code (from + 1) store printed
+    enters : (store : Store) (printed : List ℕ) (a : Agrees environment names store test)
+        → is_true a.value ≡ true → step code (at code from store printed) ≡ at code (from + 1) store
+        printed
     enters store printed a e =
         test_step store printed a
-        ∙ ap (λ b. moved (at code from store printed) (branch b (at code from store printed).local to)) e
+        ∙ ap (λ b. moved (at code from store printed)
+        (branch b (at code from store printed).local to)) e
         ∙ ap (at code (from + 1) store) (append-nil printed)
 
-    leaves : (store : Store) (printed : List ℕ) (a : Agrees environment names store test) → is_true a.value ≡ false → step code (at code from store printed) ≡ at code to store printed
+    leaves : (store : Store) (printed : List ℕ) (a : Agrees environment names store test)
+        → is_true a.value ≡ false → step code (at code from store printed) ≡ at code to store
+        printed
     leaves store printed a e =
         test_step store printed a
-        ∙ ap (λ b. moved (at code from store printed) (branch b (at code from store printed).local to)) e
+        ∙ ap (λ b. moved (at code from store printed)
+        (branch b (at code from store printed).local to)) e
         ∙ ap (at code to store) (append-nil printed)
 
-    jumps : (store : Store) (printed : List ℕ) → step code (at code r.back store printed) ≡ at code from store printed
+    jumps : (store : Store) (printed : List ℕ)
+        → step code (at code r.back store printed) ≡ at code from store printed
     jumps store printed =
-        row_step code r.back store printed (instr.Jump from) r.back_row ∙ ap (at code from store) (append-nil printed)
+        row_step code r.back store printed (instr.Jump from) r.back_row ∙ ap (at code from store)
+        (append-nil printed)
 
     -- what the test chooses
-    chosen : (store : Store) (one other : Store → Outcome) (a : Agrees environment names store test) (b : Bool) → is_true a.value ≡ b → tested tests one other store ≡ counting (1 + expr_nodes test) (choose b one other store)
+    chosen : (store : Store) (one other : Store
+        → Outcome) (a : Agrees environment names store test) (b : Bool) → is_true a.value ≡ b
+        → tested tests one other store ≡ counting (1 + expr_nodes test) (choose b one other store)
     chosen store one other a b e =
-        ap (λ c. counting (1 + expr_nodes test) (with_value c store line (λ value. choose (is_true value) one other store))) a.meant
+        ap (λ c. counting (1 + expr_nodes test)
+        (with_value c store line (λ value. choose (is_true value) one other store))) a.meant
         ∙ ap (λ b. counting (1 + expr_nodes test) (choose b one other store)) e
 
     -- the test counts two steps at least, one for itself and one for the jump back
@@ -302,97 +439,167 @@ module _ (code : Tables) (source : List ℕ) (names : List (List ℕ)) (environm
         omega (arith, mul-le-mul_left (each code) some)
 
     -- into the body, through it, and back
-    round : (store : Store) (first : Outcome) (printed : List ℕ) (a : Agrees environment names store test) → is_true a.value ≡ true → Follows code n (from + 1) r.back store Done first → Reaches code (at code (from + 1) store printed) (at code from first.store (printed ++ first.bytes)) (each code * first.steps + 1)
+    round : (store : Store) (first : Outcome) (printed : List ℕ)
+        (a : Agrees environment names store test) → is_true a.value ≡ true
+        → Follows code n (from + 1) r.back store Done first
+        → Reaches code (at code (from + 1) store printed)
+        (at code from first.store (printed ++ first.bytes)) (each code * first.steps + 1)
     round store first printed a e f =
-        reaches_on code _ _ _ _ _ (f.1 printed) (reaches_next code _ _ (jumps first.store (printed ++ first.bytes)))
+        reaches_on code _ _ _ _ _ (f.1 printed)
+        (reaches_next code _ _ (jumps first.store (printed ++ first.bytes)))
 
     -- a turn and what follows it
-    turn_follows : (k : ℕ) (store : Store) (first rest : Outcome) (ending : End) (a : Agrees environment names store test) → is_true a.value ≡ true → Follows code n (from + 1) r.back store Done first → Follows code k from to first.store ending rest → Follows code (suc k) from to store ending (counting (1 + expr_nodes test) (behind first.bytes first.steps rest))
+    turn_follows : (k : ℕ) (store : Store) (first rest : Outcome) (ending : End)
+        (a : Agrees environment names store test) → is_true a.value ≡ true
+        → Follows code n (from + 1) r.back store Done first
+        → Follows code k from to first.store ending rest
+        → Follows code (suc k) from to store ending
+        (counting (1 + expr_nodes test) (behind first.bytes first.steps rest))
     turn_follows k store first rest Done a e f g = (
       g.0 ∙ f.0,
       λ printed.
           let assoc = append_assoc printed first.bytes rest.bytes in
-          let most : 1 + (each code * first.steps + 1 + each code * rest.steps) ≤ each code * (1 + expr_nodes test + (first.steps + rest.steps)) = omega (arith, two) in
-          let all = reaches_on code _ _ _ _ _ (reaches_next code _ _ (enters store printed a e)) (reaches_on code _ _ _ _ _ (round store first printed a e f) (g.1 (printed ++ first.bytes))) in
-          subst (λ shown. Reaches code (at code from store printed) (at code to rest.store shown) (each code * (1 + expr_nodes test + (first.steps + rest.steps)))) assoc
+          let most : 1 + (each code * first.steps + 1 + each code * rest.steps) ≤ each code *
+          (1 + expr_nodes test + (first.steps + rest.steps)) = omega (arith, two) in
+          let all = reaches_on code _ _ _ _ _ (reaches_next code _ _ (enters store printed a e))
+          (reaches_on code _ _ _ _ _ (round store first printed a e f)
+          (g.1 (printed ++ first.bytes))) in
+          subst (λ shown. Reaches code (at code from store printed) (at code to rest.store shown)
+          (each code * (1 + expr_nodes test + (first.steps + rest.steps)))) assoc
           (reaches_within code _ _ _ _ most all),
     )
     turn_follows k store first rest More a e f g = λ printed.
         let assoc = append_assoc printed first.bytes rest.bytes in
-        let back = goes_after code _ _ _ _ _ (round store first printed a e f) (g (printed ++ first.bytes)) in
+        let back = goes_after code _ _ _ _ _ (round store first printed a e f)
+        (g (printed ++ first.bytes)) in
         subst (λ shown. GoesOn code (at code from store printed) (suc k) shown) assoc
         (goes_next code _ _ k _ (enters store printed a e) back)
     turn_follows k store first rest (Trap kind l) a e f g = absurd g
 
-    again : (k : ℕ) (store : Store) (first : Outcome) (ending : End) (next : Store → Outcome) (a : Agrees environment names store test) → suc k ≤ n → is_true a.value ≡ true → first.ending ≡ ending → Follows code n (from + 1) r.back store ending first → ((s : Store) → length s.scalars ≡ length store.scalars → Runs code k from to s (next s)) → Runs code (suc k) from to store (counting (1 + expr_nodes test) (then_at ending first next))
+    again : (k : ℕ) (store : Store) (first : Outcome) (ending : End) (next : Store
+        → Outcome) (a : Agrees environment names store test) → suc k ≤ n → is_true a.value ≡ true
+        → first.ending ≡ ending → Follows code n (from + 1) r.back store ending first
+        → ((s : Store) → length s.scalars ≡ length store.scalars → Runs code k from to s (next s))
+        → Runs code (suc k) from to store (counting (1 + expr_nodes test)
+        (then_at ending first next))
     again k store first Done next a le e is f g =
-        turn_follows k store first (next first.store) (next first.store).ending a e f (g first.store f.0)
+        turn_follows k store first (next first.store) (next first.store).ending a e f
+        (g first.store f.0)
     again k store first More next a le e is f g =
         let more : Follows code (suc k) from to store More first = λ printed.
-        goes_fewer code _ (suc k) (suc n) _ (omega arith) (goes_next code _ _ n _ (enters store printed a e) (f printed)) in
-        subst (λ ending. Follows code (suc k) from to store ending (counting (1 + expr_nodes test) first)) (sym is) more
+        goes_fewer code _ (suc k) (suc n) _ (omega arith)
+        (goes_next code _ _ n _ (enters store printed a e) (f printed)) in
+        subst (λ ending. Follows code (suc k) from to store ending
+        (counting (1 + expr_nodes test) first)) (sym is) more
     again k store first (Trap kind l) next a le e is f g = absurd f
 
     -- a loop that is left at once
-    left_at_once : (k : ℕ) (store : Store) (a : Agrees environment names store test) → is_true a.value ≡ false → Runs code k from to store (counting (1 + expr_nodes test) (goes_on store))
+    left_at_once : (k : ℕ) (store : Store) (a : Agrees environment names store test)
+        → is_true a.value ≡ false → Runs code k from to store
+        (counting (1 + expr_nodes test) (goes_on store))
     left_at_once k store a e = (
       refl,
       λ printed.
           let one : 1 ≤ each code * (1 + expr_nodes test + 0) = omega (arith, two) in
-          subst (λ shown. Reaches code (at code from store printed) (at code to store shown) (each code * (1 + expr_nodes test + 0))) (sym (append-nil printed))
+          subst (λ shown. Reaches code (at code from store printed) (at code to store shown)
+          (each code * (1 + expr_nodes test + 0))) (sym (append-nil printed))
           (reaches_within code _ _ _ _ one (reaches_next code _ _ (leaves store printed a e))),
     )
 
     -- a loop that may make no more turns
-    cut_off : (store : Store) → Runs code 0 from to store (counting (1 + expr_nodes test) (wants_more store))
-    cut_off store = λ printed. record { turns = 0; many = omega arith; open_still = refl; shows = sym (append-nil printed) }
+    cut_off : (store : Store) → Runs code 0 from to store
+        (counting (1 + expr_nodes test) (wants_more store))
+    cut_off store = λ printed. record {
+      turns = 0;
+      many = omega arith;
+      open_still = refl;
+      shows =
+          sym (append-nil printed);
+    }
 
-    none_run : (store : Store) (a : Agrees environment names store test) (b : Bool) → is_true a.value ≡ b → Runs code 0 from to store (counting (1 + expr_nodes test) (choose b wants_more goes_on store))
+    none_run : (store : Store) (a : Agrees environment names store test) (b : Bool)
+        → is_true a.value ≡ b → Runs code 0 from to store
+        (counting (1 + expr_nodes test) (choose b wants_more goes_on store))
     none_run store a true e = cut_off store
     none_run store a false e = left_at_once 0 store a e
 
-    some_run : (k : ℕ) (store : Store) → suc k ≤ n → length store.scalars ≡ length names → ((s : Store) → length s.scalars ≡ length store.scalars → Runs code k from to s (while_turns k tests body s)) → (a : Agrees environment names store test) (b : Bool) → is_true a.value ≡ b → Runs code (suc k) from to store (counting (1 + expr_nodes test) (choose b (λ s. then_do (body s) (while_turns k tests body)) goes_on store))
-    some_run k store le long rest a true e = again k store (body store) (body store).ending (while_turns k tests body) a le e refl (runs store long) rest
+    some_run : (k : ℕ) (store : Store) → suc k ≤ n → length store.scalars ≡ length names
+        → ((s : Store) → length s.scalars ≡ length store.scalars
+        → Runs code k from to s (while_turns k tests body s))
+        → (a : Agrees environment names store test) (b : Bool) → is_true a.value ≡ b
+        → Runs code (suc k) from to store (counting (1 + expr_nodes test)
+        (choose b (λ s. then_do (body s) (while_turns k tests body)) goes_on store))
+    some_run k store le long rest a true e = again k store (body store) (body store).ending
+        (while_turns k tests body) a le e refl (runs store long) rest
     some_run k store le long rest a false e = left_at_once (suc k) store a e
 
-    turns_run : (k : ℕ) → k ≤ n → (store : Store) → length store.scalars ≡ length names → Runs code k from to store (while_turns k tests body store)
+    turns_run : (k : ℕ) → k ≤ n → (store : Store) → length store.scalars ≡ length names
+        → Runs code k from to store (while_turns k tests body store)
     turns_run zero le store long =
         let a = test_agrees environment names knows store test long is_test in
-        subst (λ o. Runs code 0 from to store o) (sym (chosen store wants_more goes_on a (is_true a.value) refl)) (none_run store a (is_true a.value) refl)
+        subst (λ o. Runs code 0 from to store o)
+        (sym (chosen store wants_more goes_on a (is_true a.value) refl))
+        (none_run store a (is_true a.value) refl)
     turns_run (suc k) le store long =
         let a = test_agrees environment names knows store test long is_test in
         let below : k ≤ n = omega arith in
-        let rest : (s : Store) → length s.scalars ≡ length store.scalars → Runs code k from to s (while_turns k tests body s) = λ s same. turns_run k below s (same ∙ long) in
-        subst (λ o. Runs code (suc k) from to store o) (sym (chosen store (λ s. then_do (body s) (while_turns k tests body)) goes_on a (is_true a.value) refl))
+        let rest : (s : Store) → length s.scalars ≡ length store.scalars
+        → Runs code k from to s (while_turns k tests body s) = λ s same. turns_run k below s
+        (same ∙ long) in
+        subst (λ o. Runs code (suc k) from to store o)
+        (sym (chosen store (λ s. then_do (body s) (while_turns k tests body)) goes_on a
+        (is_true a.value) refl))
         (some_run k store le long rest a (is_true a.value) refl)
 
   -- ---- statements
-  loop_runs : (n from to offset : ℕ) (test : Expr) (body : Stmts) (store : Store) → length store.scalars ≡ length names → IsTest names test → (r : IsLoop names code from to (line_at source offset) test (λ start end. AreStmtsCode source names code start end body)) → ((s : Store) → length s.scalars ≡ length names → Runs code n (from + 1) r.back s (exec_all context n body s)) → Runs code n from to store (exec context n (Prefixed offset [] (While test body)) store)
+  loop_runs : (n from to offset : ℕ) (test : Expr) (body : Stmts) (store : Store)
+      → length store.scalars ≡ length names → IsTest names test
+      → (r : IsLoop names code from to (line_at source offset) test
+      (λ start end. AreStmtsCode source names code start end body))
+      → ((s : Store) → length s.scalars ≡ length names
+      → Runs code n (from + 1) r.back s (exec_all context n body s))
+      → Runs code n from to store (exec context n (Prefixed offset [] (While test body)) store)
   loop_runs n from to offset test body store long is_test r runs =
       counting_follows code n from to store _ (1 + 0) _
-      (turns_run n from to (line_at source offset) test (exec_all context n body) (λ start end. AreStmtsCode source names code start end body) r is_test runs n (omega arith) store long)
+      (turns_run n from to (line_at source offset) test (exec_all context n body)
+      (λ start end. AreStmtsCode source names code start end body) r is_test runs n
+      (omega arith) store long)
 
   mutual
-    pub stmt_runs : (n from to : ℕ) (stmt : Stmt) (store : Store) → length store.scalars ≡ length names → IsSmallStmt names stmt → IsStmtCode source names code from to stmt → Runs code n from to store (exec context n stmt store)
-    stmt_runs n from to (Prefixed offset [] form) store long small r = form_runs n from to offset form store long small r
+    pub stmt_runs : (n from to : ℕ) (stmt : Stmt) (store : Store)
+        → length store.scalars ≡ length names → IsSmallStmt names stmt
+        → IsStmtCode source names code from to stmt
+        → Runs code n from to store (exec context n stmt store)
+    stmt_runs n from to (Prefixed offset [] form) store long small r = form_runs n from to offset
+        form store long small r
     stmt_runs n from to (Prefixed offset (prefix ∷ prefixes) form) store long small r = absurd r
 
-    form_runs : (n from to offset : ℕ) (form : Form) (store : Store) → length store.scalars ≡ length names → IsSmallForm names form → IsFormCode source names code from to offset form → Runs code n from to store (exec context n (Prefixed offset [] form) store)
-    form_runs n from to offset (Assign name None value) store long small r = assignment_runs n from to offset name value store long small r
+    form_runs : (n from to offset : ℕ) (form : Form) (store : Store)
+        → length store.scalars ≡ length names → IsSmallForm names form
+        → IsFormCode source names code from to offset form
+        → Runs code n from to store (exec context n (Prefixed offset [] form) store)
+    form_runs n from to offset (Assign name None value) store long small r = assignment_runs n from
+        to offset name value store long small r
     form_runs n from to offset (Assign name (Some op) value) store long small r = absurd small
     form_runs n from to offset (While test body) store long small r =
-        loop_runs n from to offset test body store long small.0 r (λ s same. stmts_run n (from + 1) r.back body s same small.1 r.body)
-    form_runs n from to offset (Write true items) store long small r = line_runs n from to offset items store long small.1 r
+        loop_runs n from to offset test body store long small.0 r
+        (λ s same. stmts_run n (from + 1) r.back body s same small.1 r.body)
+    form_runs n from to offset (Write true items) store long small r = line_runs n from to offset
+        items store long small.1 r
     form_runs n from to offset (Write false items) store long small r = cc
     form_runs n from to offset _ store long small r = absurd r
 
-    pub stmts_run : (n from to : ℕ) (stmts : Stmts) (store : Store) → length store.scalars ≡ length names → AreSmall names stmts → AreStmtsCode source names code from to stmts → Runs code n from to store (exec_all context n stmts store)
+    pub stmts_run : (n from to : ℕ) (stmts : Stmts) (store : Store)
+        → length store.scalars ≡ length names → AreSmall names stmts
+        → AreStmtsCode source names code from to stmts
+        → Runs code n from to store (exec_all context n stmts store)
     stmts_run n from to NoStmt store long small r = (
       refl,
       λ printed. record {
         turns = 0;
         few = omega arith;
-        there = ap (at code from store) (sym (append-nil printed)) ∙ ap (λ row. at code row store (printed ++ [])) r;
+        there = ap (at code from store) (sym (append-nil printed)) ∙ ap
+            (λ row. at code row store (printed ++ [])) r;
       },
     )
     stmts_run n from to (ThenStmt first rest) store long small r =

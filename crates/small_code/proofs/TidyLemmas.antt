@@ -1,17 +1,21 @@
 -- The size of a small program's code.
-use Rattle.std.proofs.Common.{◌≡◌, ℕ, ◌+◌, ◌≤◌, List, [], ◌∷◌, ◌++◌, length, refl, ap, ◌∙◌, arith, length-append}
+use Rattle.std.proofs.Common.{◌≡◌, ℕ, ◌+◌, ◌≤◌, List, [], ◌∷◌, ◌++◌, length, refl, ap, ◌∙◌, arith}
+use Rattle.std.proofs.Common.{length-append}
 use Rattle.std.specs.Prelude.{sum_by, find}
 use Rattle.std.specs.List.{flat_map}
 use Rattle.std.specs.Str.{bytes_eq}
 use Rattle.std.proofs.lemmas.List.Sums.{sum_by-append, sum_by-cons}
 use Rattle.zpl_tokens.specs.declared.keywords.Key.TheVariants as key
 use Rattle.zpl_tokens.specs.declared.symbols.Sym.TheVariants as sym
-use Rattle.zpl_tree.specs.Syntax.{Name, NoBracket, Integer, Stmts, Procedure, Vars, Defined, Program}
+use Rattle.zpl_tree.specs.Syntax.{Name, NoBracket, Integer, Stmts, Procedure, Vars, Defined}
+use Rattle.zpl_tree.specs.Syntax.{Program}
 use Rattle.zpl_tree.specs.Word.{Word, word_text}
 use Rattle.zpl_tree.specs.Word as word
-use Rattle.zpl_tree.specs.Spelling.{symbol, keyword, name_words, names_words, type_words, bracket_words, heading_words, locals_words, decl_words, program_words, stmt_words, stmts_words, end_words}
+use Rattle.zpl_tree.specs.Spelling.{symbol, keyword, name_words, names_words, type_words}
+use Rattle.zpl_tree.specs.Spelling.{bracket_words, heading_words, locals_words, decl_words}
+use Rattle.zpl_tree.specs.Spelling.{program_words, stmt_words, stmts_words, end_words}
 use Rattle.node_form.specs.declared.tables.Tables.{Tables}
-use Rattle.node_form.specs.declared.words.Instr.TheVariants as instr
+use Rattle.node_form.specs.declared.instructions.Instr.TheVariants as instr
 use Rattle.zpl_meaning.specs.Program.{procedures}
 use Rattle.zpl_claims.specs.Small.{integers, plain_procedure, small_decls}
 use Rattle.zpl_claims.specs.Tidy.{entry_tokens, executed_tokens, IsTidy}
@@ -51,7 +55,8 @@ names_bytes (x ∷ names) = from x names
 
 -- ---- the words of a small program
 module _ (program : Program) (names : List Name) (entry : Name) (at : ℕ) (body : Stmts)
-    (decls : program.decls ≡ small_decls names entry at body) (is_entry : entry.text ≡ program.name.text) where
+    (decls : program.decls ≡ small_decls names entry at body)
+    (is_entry : entry.text ≡ program.name.text) where
   abbrev plain : Procedure
   plain = plain_procedure entry at body
 
@@ -61,7 +66,8 @@ module _ (program : Program) (names : List Name) (entry : Name) (at : ℕ) (body
   -- the words of the statements that are executed are those of the body
   executed : executed_tokens program ≡ length (stmts_words body) + 3
   executed =
-      ap (λ decls. entry_tokens (find (λ (procedure : Procedure). bytes_eq procedure.name.text program.name.text) (procedures decls))) decls
+      ap (λ decls. entry_tokens (find (λ (procedure : Procedure). bytes_eq procedure.name.text
+      program.name.text) (procedures decls))) decls
       ∙ ap entry_tokens (small_entry program.source program.name.text names entry at body is_entry)
       ∙ block
 
@@ -72,7 +78,12 @@ module _ (program : Program) (names : List Name) (entry : Name) (at : ℕ) (body
 
   procedure_bytes : bytes (stmts_words body) ≤ bytes (decl_words (Defined plain))
   procedure_bytes =
-      omega (arith, block_bytes, bytes-append (heading_words plain ++ locals_words []) (stmt_words plain.body))
+      omega (
+        arith,
+        block_bytes,
+        bytes-append (heading_words plain ++ locals_words [])
+            (stmt_words plain.body),
+      )
 
   var_bytes : (list : List Name) → length list ≤ bytes (decl_words (Vars (integers list ∷ [])))
   var_bytes list =
@@ -90,14 +101,16 @@ module _ (program : Program) (names : List Name) (entry : Name) (at : ℕ) (body
         bytes-append names (symbol sym.Colon),
       )
 
-  decls_bytes : (list : List Name) → length list + bytes (stmts_words body) ≤ bytes (flat_map decl_words (small_decls list entry at body))
+  decls_bytes : (list : List Name) → length list + bytes (stmts_words body) ≤ bytes
+      (flat_map decl_words (small_decls list entry at body))
   decls_bytes [] = omega (arith, procedure_bytes, bytes-append (decl_words (Defined plain)) [])
   decls_bytes (x ∷ list) =
       omega (
         arith,
         var_bytes (x ∷ list),
         procedure_bytes,
-        bytes-append (decl_words (Vars (integers (x ∷ list) ∷ []))) (decl_words (Defined plain) ++ []),
+        bytes-append (decl_words (Vars (integers (x ∷ list) ∷ [])))
+            (decl_words (Defined plain) ++ []),
         bytes-append (decl_words (Defined plain)) [],
       )
 
@@ -105,16 +118,35 @@ module _ (program : Program) (names : List Name) (entry : Name) (at : ℕ) (body
   program_bytes =
       let front = (keyword key.Program ++ name_words program.name) ++ symbol sym.Semicolon in
       let inner = flat_map decl_words program.decls in
-      let same : bytes inner ≡ bytes (flat_map decl_words (small_decls names entry at body)) = ap (λ decls. bytes (flat_map decl_words decls)) decls in
-      omega (arith, decls_bytes names, same, bytes-append (front ++ inner) (word.End ∷ []), bytes-append front inner)
+      let same : bytes inner ≡ bytes (flat_map decl_words (small_decls names entry at body)) = ap
+      (λ decls. bytes (flat_map decl_words decls)) decls in
+      omega (
+        arith,
+        decls_bytes names,
+        same,
+        bytes-append (front ++ inner) (word.End ∷ []),
+        bytes-append front inner,
+      )
 
   -- ---- the code
-  pub small_is_tidy : (drafted : Tables) → GrowsBy (stmts_words body) (first_tables (length names)) drafted → drafted.grid ≡ 1 ∷ 0 ∷ 0 ∷ [] → HoldsItsWords program → IsTidy (1 ∷ 0 ∷ 0 ∷ []) program (length (program_words program)) (with_row drafted instr.End)
+  pub small_is_tidy : (drafted : Tables)
+      → GrowsBy (stmts_words body) (first_tables (length names)) drafted
+      → drafted.grid ≡ 1 ∷ 0 ∷ 0 ∷ [] → HoldsItsWords program
+      → IsTidy (1 ∷ 0 ∷ 0 ∷ []) program (length (program_words program))
+      (with_row drafted instr.End)
   small_is_tidy drafted g grid holds =
       let last = size_row drafted instr.End in
       let rows = length-append drafted.code (instr.End ∷ []) in
       record {
         for_grid = grid;
-        small = omega (arith, last, g.size, weight-bytes (stmts_words body), program_bytes, holds, executed);
+        small = omega (
+          arith,
+          last,
+          g.size,
+          weight-bytes (stmts_words body),
+          program_bytes,
+          holds,
+          executed,
+        );
         few = omega (arith, rows, g.rows, executed);
       }

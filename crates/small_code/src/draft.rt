@@ -1,10 +1,14 @@
 //! Tables while they grow.
-ghost use Rattle.std.specs.Prelude.{◌≡◌, ◌<◌, ◌∷◌, [], ◌++◌, IfOk, OnOk, Some, length, slice_get, slice_set};
-ghost use Rattle.node_form.specs.Fits.{FitsExpr, FitsInstr};
-ghost use Rattle.small_code.specs.Draft.{first_tables, newline};
+ghost use Rattle.std.specs.Prelude.{◌≡◌, ◌<◌, ◌∷◌, [], ◌++◌, IfOk, OnOk, Some, length, slice_get, All};
+ghost use Rattle.std.specs.Prelude.{slice_set};
+ghost use Rattle.node_form.specs.Fits.{FitsExpr, IsScalarWord};
+ghost use Rattle.grid_meaning.specs.Scalar.{IsScalarCode};
+ghost use Rattle.small_code.specs.Draft.{FitsRow, first_tables, newline};
 
+use crate::numbers::number_of;
 use node_form::{
     ExprRow, Exprs, Instr, NodeProgram, Rows, Tables, TextRow, Texts, growth_keeps_fit,
+    growth_keeps_numbers,
 };
 use std::alloc::{AllocError, Global};
 use std::marker::Model;
@@ -28,7 +32,8 @@ impl Model for Draft {
 
     ghost view = { λ draft. tables_of draft.scalars draft.texts draft.exprs draft.code.items };
 
-    ghost invariant = { λ draft. IsDraft (tables_of draft.scalars draft.texts draft.exprs draft.code.items) };
+    ghost invariant = { λ draft. IsDraft (tables_of draft.scalars draft.texts draft.exprs
+        draft.code.items) };
 }
 
 impl Draft {
@@ -56,7 +61,8 @@ impl Draft {
     /// Appends a text, and gives its number.
     pub fn add_text(&mut self, text: TextRow) -> Result<u32, AllocError>
         ensures number { IfOk result (λ number. number ≡ length self.old.texts) }
-        ensures added { OnOk result (self.new ≡ record self.old { texts = self.old.texts ++ text ∷ [] }) }
+        ensures added { OnOk result (self.new ≡ record self.old
+            { texts = self.old.texts ++ text ∷ [] }) }
     {
         growth_keeps_fit();
         let number = number_of(self.texts.len())?;
@@ -66,9 +72,11 @@ impl Draft {
 
     /// Appends an expression, and gives its number.
     pub fn add_expr(&mut self, expr: ExprRow) -> Result<u32, AllocError>
-        requires { FitsExpr self.old expr }
+        requires fits { FitsExpr self.old expr }
+        requires scalar { All IsScalarWord expr }
         ensures number { IfOk result (λ number. number ≡ length self.old.exprs) }
-        ensures added { OnOk result (self.new ≡ record self.old { exprs = self.old.exprs ++ expr ∷ [] }) }
+        ensures added { OnOk result (self.new ≡ record self.old
+            { exprs = self.old.exprs ++ expr ∷ [] }) }
     {
         growth_keeps_fit();
         let number = number_of(self.exprs.len())?;
@@ -78,7 +86,7 @@ impl Draft {
 
     /// Appends an instruction.
     pub fn add(&mut self, instr: Instr) -> Result<(), AllocError>
-        requires { FitsInstr (record self.old { code = self.old.code ++ instr ∷ [] }) instr }
+        requires { FitsRow (record self.old { code = self.old.code ++ instr ∷ [] }) instr }
         ensures { OnOk result (self.new ≡ record self.old { code = self.old.code ++ instr ∷ [] }) }
     {
         growth_keeps_fit();
@@ -88,7 +96,8 @@ impl Draft {
 
     /// Appends the print of a newline.
     pub fn add_newline(&mut self) -> Result<(), AllocError>
-        ensures added { OnOk result (self.new ≡ record self.old { code = self.old.code ++ Instr.Print 0 ∷ [] }) }
+        ensures added { OnOk result (self.new ≡ record self.old
+            { code = self.old.code ++ Instr.Print 0 ∷ [] }) }
         ensures text { slice_get self.old.texts 0 ≡ Some newline }
     {
         growth_keeps_fit();
@@ -106,15 +115,17 @@ impl Draft {
     /// Puts another instruction in the place of one.
     pub fn replace(&mut self, number: u32, instr: Instr)
         requires there { number < length self.old.code }
-        requires fits { FitsInstr self.old instr }
+        requires fits { FitsRow self.old instr }
         ensures { self.new ≡ record self.old { code = slice_set self.old.code number instr } }
     {
+        growth_keeps_numbers();
         self.code[number as usize] = instr;
     }
 
     /// The program of these tables.
     pub fn into_program(self) -> Result<NodeProgram, AllocError>
-        ensures { IfOk result (λ program. program ≡ self) }
+        ensures same { IfOk result (λ program. program ≡ self) }
+        ensures rows { OnOk result (IsScalarCode self) }
     {
         let Draft {
             alloc,
@@ -128,20 +139,14 @@ impl Draft {
             grid: [1, 0, 0],
             scalars,
             cells: 0,
+            slots: Rows::new(alloc),
+            arrays: Rows::new(alloc),
             texts,
             exprs,
+            groups: Rows::new(alloc),
+            exchanges: Rows::new(alloc),
             code: rows,
         }))
-    }
-}
-
-/// The number of a row behind so many others. Past those of `u32` there is no room for a row.
-fn number_of(rows: u64) -> Result<u32, AllocError>
-    ensures { IfOk result (λ number. number ≡ rows) }
-{
-    match u32::try_from(rows) {
-        Ok(number) => Ok(number),
-        Err(_) => Err(AllocError),
     }
 }
 

@@ -1,16 +1,19 @@
 //! The parts of a small program's tree.
 ghost use Rattle.std.specs.Prelude.{◌≡◌, ◌≢◌, ◌↔◌, ◌∷◌, [], List, IsTrue, MatchOption, map};
-ghost use Rattle.zpl_tree.specs.Syntax.{Name as PlainName, Procedure as PlainProcedure, VarDef as PlainVarDef, Stmts, Defined};
+ghost use Rattle.zpl_tree.specs.Syntax.{Name as PlainName, Procedure as PlainProcedure};
+ghost use Rattle.zpl_tree.specs.Syntax.{VarDef as PlainVarDef, Stmts, Defined};
 ghost use Rattle.zpl_tree.specs.View.{decl_of, name_of, procedure_of, stmts_of, var_of};
 ghost use Rattle.small_code.specs.Bare.{IsBare};
-ghost use Rattle.small_code.specs.Parts.{AreIntegers, DeclaresIntegers, HasParts, IsPlain, declared};
+ghost use Rattle.small_code.specs.Parts.{AreIntegers, DeclaresIntegers, HasParts, IsPlain};
+ghost use Rattle.small_code.specs.Parts.{declared};
 
 use zpl_tree::{Base, Decl, Form, Name, Procedure, Stmt, VarDef};
 
 /// The variables and the entry procedure.
 pub fn parts_of<'a>(decls: &'a [Decl<'a>]) -> Option<(&'a [Name<'a>], &'a Procedure<'a>)>
     ensures { MatchOption result (HasParts (map decl_of decls.now) → ⊥)
-        (λ parts. map decl_of decls.now ≡ declared (map name_of parts.0.now) (procedure_of parts.1.now)) }
+        (λ parts. map decl_of decls.now ≡ declared (map name_of parts.0.now)
+        (procedure_of parts.1.now)) }
 {
     match decls {
         [only] => {
@@ -38,7 +41,8 @@ fn procedure_in<'a>(decl: &Decl<'a>) -> Option<&'a Procedure<'a>>
 
 // The variables that are declared, where these are integers and nothing else.
 fn names_in<'a>(decl: &Decl<'a>) -> Option<&'a [Name<'a>]>
-    ensures { MatchOption result ((names : List PlainName) → DeclaresIntegers (decl_of decl.now) names → ⊥)
+    ensures { MatchOption result ((names : List PlainName)
+        → DeclaresIntegers (decl_of decl.now) names → ⊥)
         (λ names. DeclaresIntegers (decl_of decl.now) (map name_of names.now)) }
 {
     match decl {
@@ -48,8 +52,10 @@ fn names_in<'a>(decl: &Decl<'a>) -> Option<&'a [Name<'a>]>
 }
 
 fn names_of_only<'a>(groups: &[VarDef<'a>]) -> Option<&'a [Name<'a>]>
-    ensures { MatchOption result ((var : PlainVarDef) (names : List PlainName) → map var_of groups.now ≡ var ∷ [] → AreIntegers var names → ⊥)
-        (λ names. (var : PlainVarDef) × (map var_of groups.now ≡ var ∷ []) × AreIntegers var (map name_of names.now)) }
+    ensures { MatchOption result ((var : PlainVarDef) (names : List PlainName)
+        → map var_of groups.now ≡ var ∷ [] → AreIntegers var names → ⊥)
+        (λ names. (var : PlainVarDef) × (map var_of groups.now ≡ var ∷ []) × AreIntegers var
+        (map name_of names.now)) }
 {
     match groups {
         [only] => names_of(only),
@@ -58,7 +64,8 @@ fn names_of_only<'a>(groups: &[VarDef<'a>]) -> Option<&'a [Name<'a>]>
 }
 
 fn names_of<'a>(variables: &VarDef<'a>) -> Option<&'a [Name<'a>]>
-    ensures { MatchOption result ((names : List PlainName) → AreIntegers (var_of variables.now) names → ⊥)
+    ensures { MatchOption result ((names : List PlainName)
+        → AreIntegers (var_of variables.now) names → ⊥)
         (λ names. AreIntegers (var_of variables.now) (map name_of names.now)) }
 {
     match variables.base {

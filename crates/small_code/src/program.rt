@@ -2,8 +2,9 @@
 ghost use Rattle.std.specs.Prelude.{◌∷◌, [], OnOk, IfOk, IfErr, length, map};
 ghost use Rattle.zpl_tree.specs.Spelling.{program_words};
 ghost use Rattle.zpl_tree.specs.View.{name_of, stmts_of, syntax_of};
-ghost use Rattle.zpl_meaning.specs.Program.{mean_of};
-ghost use Rattle.zpl_claims.specs.Bound.{EndsInBound};
+ghost use Rattle.grid_meaning.specs.Scalar.{IsScalarCode};
+ghost use Rattle.zpl_meaning.specs.Program.{mean_of, steps_of};
+ghost use Rattle.zpl_claims.specs.Bound.{shattered_loops, EndsInBound};
 ghost use Rattle.zpl_claims.specs.Good.{IsGood};
 ghost use Rattle.zpl_claims.specs.LockStep.{HasLockSteps};
 ghost use Rattle.zpl_claims.specs.Small.{IsSmall};
@@ -14,17 +15,15 @@ ghost use Rattle.small_code.specs.Made.{CanBeMade, IsMade};
 
 use crate::draft::Draft;
 use crate::fault::CodeFault;
-use crate::lines::Lines;
 use crate::parts::{body_of, parts_of};
 use crate::scope::Scope;
 use crate::statements::emit_stmts;
 use grid_meaning::given_turns_are_orders;
 use node_form::{Instr, NodeProgram, words_push_their_value};
 use std::alloc::Global;
+use zpl_claims::MOST_LOOPS;
+use zpl_text::Lines;
 use zpl_tree::{Name, Program, Stmt};
-
-/// How deep loops may stand in one another.
-const MOST_LOOPS: u32 = 100;
 
 /// The code of a small program, for a grid of one processor.
 pub fn code_of_small(alloc: Global, program: &Program<'_>) -> Result<NodeProgram, CodeFault>
@@ -32,14 +31,21 @@ pub fn code_of_small(alloc: Global, program: &Program<'_>) -> Result<NodeProgram
     ensures built { OnOk result (IsSmall (syntax_of program.now)) }
     ensures refused { IfErr result (λ fault. Refutes fault (IsSmall (syntax_of program.now))) }
 
-    // It is right after every order of turns, some order brings it to each bound of the meaning, and where
-    // the meaning ends it comes to its end in time.
+    // It is right after every order of turns, some order brings it to each bound of the meaning,
+    // and where the meaning ends it comes to its end in time.
     ensures good { IfOk result (λ code. IsGood code (mean_of (syntax_of program.now))) }
     ensures in_step { IfOk result (λ code. HasLockSteps code (mean_of (syntax_of program.now))) }
-    ensures bound { IfOk result (λ code. EndsInBound code (syntax_of program.now)) }
+    ensures bound { let tree = syntax_of program.now in
+        IfOk result (λ code.
+        EndsInBound code (mean_of tree) (steps_of tree) (shattered_loops tree)) }
 
     // It is for one processor, and no larger than the source.
-    ensures tidy { IfOk result (λ code. HoldsItsWords (syntax_of program.now) → IsTidy (1 ∷ 0 ∷ 0 ∷ []) (syntax_of program.now) (length (program_words (syntax_of program.now))) code) }
+    ensures tidy { let tree = syntax_of program.now in
+        IfOk result (λ code. HoldsItsWords tree →
+        IsTidy (1 ∷ 0 ∷ 0 ∷ []) tree (length (program_words tree)) code) }
+
+    // Its rows need scalars alone.
+    ensures rows { IfOk result IsScalarCode }
 {
     given_turns_are_orders();
     words_push_their_value();
@@ -63,8 +69,11 @@ fn code_of_body(
     names: &[Name<'_>],
     body: &[Stmt<'_>],
 ) -> Result<NodeProgram, CodeFault>
-    ensures made { IfOk result (IsMade source.now program.now (map name_of names.now) (stmts_of body.now)) }
-    ensures refused { IfErr result (λ fault. Refutes fault (CanBeMade program.now (map name_of names.now) (stmts_of body.now))) }
+    ensures made { let variables = map name_of names.now in
+        IfOk result (IsMade source.now program.now variables (stmts_of body.now)) }
+    ensures refused { let variables = map name_of names.now in
+        IfErr result (λ fault.
+        Refutes fault (CanBeMade program.now variables (stmts_of body.now))) }
 {
     let scope = Scope::of(alloc, program, names)?;
     let mut draft = Draft::new(alloc, scope.count())?;

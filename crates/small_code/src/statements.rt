@@ -2,18 +2,21 @@
 ghost use Rattle.std.specs.Prelude.{◌≡◌, ◌<◌, IfOk, OnOk, IfErr, length, map};
 ghost use Rattle.zpl_tree.specs.View.{expr_of, item_of, name_of, stmt_of, stmts_of};
 ghost use Rattle.zpl_claims.specs.Small.{IsItem, IsTest};
-ghost use Rattle.small_code.specs.Emits.{AreFine, AreFineItems, Emits, EmitsAll, EmitsAssignment, EmitsItem, EmitsItems, EmitsLine, IsFine, IsFineAssignment};
+ghost use Rattle.small_code.specs.Emits.{AreFine, AreFineItems, Emits, EmitsAll, EmitsAssignment};
+ghost use Rattle.small_code.specs.Emits.{EmitsItem, EmitsItems, EmitsLine, IsFine};
+ghost use Rattle.small_code.specs.Emits.{IsFineAssignment};
 ghost use Rattle.small_code.specs.Fault.{Refutes};
 ghost use Rattle.small_code.specs.Loop.{BeginsLoop, EndsLoop};
 
 use crate::draft::Draft;
 use crate::fault::CodeFault;
-use crate::lines::Lines;
+use crate::numbers::line_at;
 use crate::scope::Scope;
 use crate::sums::{emit_sum, emit_test};
 use crate::texts::text_of;
 use node_form::Instr;
 use std::alloc::AllocError;
+use zpl_text::Lines;
 use zpl_tree::{Expr, Form, Item, Name, Stmt};
 
 /// Appends the code of statements that have room for so many loops in one another.
@@ -26,8 +29,10 @@ pub fn emit_stmts(
     room: u32,
 ) -> Result<(), CodeFault>
     requires { draft.old.scalars ≡ length scope.now }
-    ensures emitted { OnOk result (EmitsAll lines.old scope.now room draft.old draft.new (stmts_of stmts.now)) }
-    ensures refused { IfErr result (λ fault. Refutes fault (AreFine scope.now room (stmts_of stmts.now))) }
+    ensures emitted { OnOk result (EmitsAll lines.old scope.now room draft.old draft.new
+        (stmts_of stmts.now)) }
+    ensures refused { IfErr result (λ fault. Refutes fault
+        (AreFine scope.now room (stmts_of stmts.now))) }
     ensures lines { lines.new ≡ lines.old }
 {
     for stmt in stmts {
@@ -45,14 +50,16 @@ fn emit_stmt(
     room: u32,
 ) -> Result<(), CodeFault>
     requires { draft.old.scalars ≡ length scope.now }
-    ensures emitted { OnOk result (Emits lines.old scope.now room draft.old draft.new (stmt_of stmt.now)) }
-    ensures refused { IfErr result (λ fault. Refutes fault (IsFine scope.now room (stmt_of stmt.now))) }
+    ensures emitted { OnOk result (Emits lines.old scope.now room draft.old draft.new
+        (stmt_of stmt.now)) }
+    ensures refused { IfErr result (λ fault. Refutes fault
+        (IsFine scope.now room (stmt_of stmt.now))) }
     ensures lines { lines.new ≡ lines.old }
 {
     if !stmt.prefixes.is_empty() {
         return Err(CodeFault::NotBuilt);
     }
-    let line = lines.line_at(stmt.at)?;
+    let line = line_at(lines, stmt.at)?;
     match &stmt.form {
         Form::Assign(name, op, value) if op.is_none() => {
             emit_assignment(draft, scope, line, name, value)
@@ -85,7 +92,8 @@ fn begin_loop(
 ) -> Result<Head, CodeFault>
     requires { draft.old.scalars ≡ length scope.now }
     ensures test { OnOk result (IsTest scope.now (expr_of test.now)) }
-    ensures begun { IfOk result (λ head. BeginsLoop scope.now line draft.old draft.new head (expr_of test.now)) }
+    ensures begun { IfOk result (λ head. BeginsLoop scope.now line draft.old draft.new head
+        (expr_of test.now)) }
     ensures refused { IfErr result (λ fault. Refutes fault (IsTest scope.now (expr_of test.now))) }
 {
     let start = draft.next()?;
@@ -125,10 +133,12 @@ fn emit_assignment(
     value: &Expr<'_>,
 ) -> Result<(), CodeFault>
     requires { draft.old.scalars ≡ length scope.now }
-    ensures emitted { OnOk result (EmitsAssignment scope.now line draft.old draft.new (name_of name.now) (expr_of value.now)) }
-    ensures refused { IfErr result (λ fault. Refutes fault (IsFineAssignment scope.now (name_of name.now) (expr_of value.now))) }
+    ensures emitted { OnOk result (EmitsAssignment scope.now line draft.old draft.new
+        (name_of name.now) (expr_of value.now)) }
+    ensures refused { IfErr result (λ fault. Refutes fault
+        (IsFineAssignment scope.now (name_of name.now) (expr_of value.now))) }
 {
-    let Some(scalar) = scope.place_of(name.text) else {
+    let Some(scalar) = scope.scalar_of(name.text) else {
         return Err(CodeFault::NotBuilt);
     };
     let expr = emit_sum(draft, scope, value)?;
@@ -138,8 +148,10 @@ fn emit_assignment(
 
 fn emit_line(draft: &mut Draft, scope: &Scope<'_>, items: &[Item<'_>]) -> Result<(), CodeFault>
     requires { draft.old.scalars ≡ length scope.now }
-    ensures emitted { OnOk result (EmitsLine scope.now draft.old draft.new (map item_of items.now)) }
-    ensures refused { IfErr result (λ fault. Refutes fault (AreFineItems scope.now (map item_of items.now))) }
+    ensures emitted { OnOk result
+        (EmitsLine scope.now draft.old draft.new (map item_of items.now)) }
+    ensures refused { IfErr result (λ fault. Refutes fault
+        (AreFineItems scope.now (map item_of items.now))) }
 {
     emit_items(draft, scope, items)?;
     draft.add_newline()?;
@@ -148,8 +160,10 @@ fn emit_line(draft: &mut Draft, scope: &Scope<'_>, items: &[Item<'_>]) -> Result
 
 fn emit_items(draft: &mut Draft, scope: &Scope<'_>, items: &[Item<'_>]) -> Result<(), CodeFault>
     requires { draft.old.scalars ≡ length scope.now }
-    ensures emitted { OnOk result (EmitsItems scope.now draft.old draft.new (map item_of items.now)) }
-    ensures refused { IfErr result (λ fault. Refutes fault (AreFineItems scope.now (map item_of items.now))) }
+    ensures emitted { OnOk result
+        (EmitsItems scope.now draft.old draft.new (map item_of items.now)) }
+    ensures refused { IfErr result (λ fault. Refutes fault
+        (AreFineItems scope.now (map item_of items.now))) }
 {
     for item in items {
         emit_item(draft, scope, item)?;

@@ -19,7 +19,8 @@ pub fn emit_sum(draft: &mut Draft, scope: &Scope<'_>, sum: &Expr<'_>) -> Result<
     requires { draft.old.scalars ≡ length scope.now }
     ensures sum { OnOk result (IsSum scope.now (expr_of sum.now)) }
     ensures number { IfOk result (λ number. number ≡ length draft.old.exprs) }
-    ensures added { OnOk result (draft.new ≡ record draft.old { exprs = draft.old.exprs ++ words_of (tree_of scope.now (expr_of sum.now)) ∷ [] }) }
+    ensures added { OnOk result (draft.new ≡ record draft.old
+        { exprs = draft.old.exprs ++ words_of (tree_of scope.now (expr_of sum.now)) ∷ [] }) }
     ensures refused { IfErr result (λ fault. Refutes fault (IsSum scope.now (expr_of sum.now))) }
 {
     let mut words = Vec::new(draft.alloc());
@@ -33,7 +34,8 @@ pub fn emit_test(draft: &mut Draft, scope: &Scope<'_>, test: &Expr<'_>) -> Resul
     requires { draft.old.scalars ≡ length scope.now }
     ensures test { OnOk result (IsTest scope.now (expr_of test.now)) }
     ensures number { IfOk result (λ number. number ≡ length draft.old.exprs) }
-    ensures added { OnOk result (draft.new ≡ record draft.old { exprs = draft.old.exprs ++ words_of (tree_of scope.now (expr_of test.now)) ∷ [] }) }
+    ensures added { OnOk result (draft.new ≡ record draft.old
+        { exprs = draft.old.exprs ++ words_of (tree_of scope.now (expr_of test.now)) ∷ [] }) }
     ensures refused { IfErr result (λ fault. Refutes fault (IsTest scope.now (expr_of test.now))) }
 {
     let mut words = Vec::new(draft.alloc());
@@ -45,7 +47,8 @@ pub fn emit_test(draft: &mut Draft, scope: &Scope<'_>, test: &Expr<'_>) -> Resul
 // Appends the words of a comparison of sums.
 fn put_test(words: &mut Vec<ExprOp>, scope: &Scope<'_>, test: &Expr<'_>) -> Result<(), CodeFault>
     ensures test { OnOk result (IsTest scope.now (expr_of test.now)) }
-    ensures words { OnOk result (words.new.items ≡ words.old.items ++ words_of (tree_of scope.now (expr_of test.now))) }
+    ensures words { OnOk result (words.new.items ≡ words.old.items ++ words_of
+        (tree_of scope.now (expr_of test.now))) }
     ensures refused { IfErr result (λ fault. Refutes fault (IsTest scope.now (expr_of test.now))) }
 {
     match &test.form {
@@ -62,7 +65,8 @@ fn put_test(words: &mut Vec<ExprOp>, scope: &Scope<'_>, test: &Expr<'_>) -> Resu
 // Appends the words of a number, a variable, or an operation on two of these.
 fn put_sum(words: &mut Vec<ExprOp>, scope: &Scope<'_>, sum: &Expr<'_>) -> Result<(), CodeFault>
     ensures sum { OnOk result (IsSum scope.now (expr_of sum.now)) }
-    ensures words { OnOk result (words.new.items ≡ words.old.items ++ words_of (tree_of scope.now (expr_of sum.now))) }
+    ensures words { OnOk result (words.new.items ≡ words.old.items ++ words_of
+        (tree_of scope.now (expr_of sum.now))) }
     ensures refused { IfErr result (λ fault. Refutes fault (IsSum scope.now (expr_of sum.now))) }
 {
     match &sum.form {
@@ -82,7 +86,8 @@ fn put_sum(words: &mut Vec<ExprOp>, scope: &Scope<'_>, sum: &Expr<'_>) -> Result
 // Appends the word of a number or a variable.
 fn put_prim(words: &mut Vec<ExprOp>, scope: &Scope<'_>, prim: &Expr<'_>) -> Result<(), CodeFault>
     ensures prim { OnOk result (IsPrim scope.now (expr_of prim.now)) }
-    ensures words { OnOk result (words.new.items ≡ words.old.items ++ words_of (tree_of scope.now (expr_of prim.now))) }
+    ensures words { OnOk result (words.new.items ≡ words.old.items ++ words_of
+        (tree_of scope.now (expr_of prim.now))) }
     ensures refused { IfErr result (λ fault. Refutes fault (IsPrim scope.now (expr_of prim.now))) }
 {
     match &prim.form {
@@ -93,7 +98,7 @@ fn put_prim(words: &mut Vec<ExprOp>, scope: &Scope<'_>, prim: &Expr<'_>) -> Resu
             put(words, ExprOp::Const(*value))?;
             Ok(())
         }
-        ExprForm::Named(name) => match scope.place_of(name.text) {
+        ExprForm::Named(name) => match scope.scalar_of(name.text) {
             Some(place) => {
                 put(words, ExprOp::Scalar(place))?;
                 Ok(())

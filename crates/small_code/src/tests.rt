@@ -100,8 +100,8 @@ const ONE: Expr<'static> = expr!(ExprForm::Number(1));
 
 const TEN: Expr<'static> = expr!(ExprForm::Number(10));
 
-const SOURCE: &[u8] =
-    b"program sum;\nvar i, s : integer;\nprocedure sum();\nbegin\n  i := 1;\n  while i <= 10 do\n    s := s + i;\n    i := i + 1;\n  end;\n  writeln(\"sum \", s);\nend;\n";
+const SOURCE: &[u8] = b"program sum;\nvar i, s : integer;\nprocedure sum();\nbegin\n  i := 1;\n  \
+      while i <= 10 do\n    s := s + i;\n    i := i + 1;\n  end;\n  writeln(\"sum \", s);\nend;\n";
 
 // The sum of the numbers from 1 to 10.
 const LOOP: Stmt<'static> = stmt!(
@@ -140,35 +140,36 @@ const SUM: Program<'static> = Program {
     source: SOURCE,
 };
 
-fn set(scalar: u32, expr: u32, line: u32) -> Instr {
-    Instr::Set { scalar, expr, line }
-}
-
 #[test]
 fn sum_of_ten_numbers(rt: HostRuntime) -> Result<(), Fail> {
     let code = code_of_small(rt.alloc(), &SUM).map_err(|_| "no code")?;
     let tables = code.tables();
-    let rows = [
-        set(0, 0, 5),
-        Instr::Unless {
-            expr: 1,
-            goal: 5,
-            line: 6,
-        },
-        set(1, 2, 7),
-        set(0, 3, 8),
-        Instr::Jump { goal: 1 },
-        Instr::Print { text: 1 },
-        Instr::Number { expr: 4 },
-        Instr::Print { text: 0 },
-        Instr::End,
-    ];
-    for (k, row) in rows.iter().enumerate() {
-        assert!(rt; tables.code.get(k as u64) == Some(row), "row {k}");
+    for k in 0..9 {
+        let is_row = match tables.code.get(k) {
+            Some(row) => is_row_of_the_sum(k, row),
+            None => false,
+        };
+        assert!(rt; is_row, "row {k}");
     }
     assert_eq!(rt; (tables.scalars, tables.code.len()), (2, 9));
     assert!(rt; has_test_and_text(tables));
     Ok(())
+}
+
+// The rows of the program that sums up, each at its number.
+fn is_row_of_the_sum(k: u64, row: &Instr) -> bool {
+    match (k, *row) {
+        (0, Instr::Set { scalar, expr, line }) => (scalar, expr, line) == (0, 0, 5),
+        (1, Instr::Unless { expr, goal, line }) => (expr, goal, line) == (1, 5, 6),
+        (2, Instr::Set { scalar, expr, line }) => (scalar, expr, line) == (1, 2, 7),
+        (3, Instr::Set { scalar, expr, line }) => (scalar, expr, line) == (0, 3, 8),
+        (4, Instr::Jump { goal }) => goal == 1,
+        (5, Instr::Print { text }) => text == 1,
+        (6, Instr::Number { expr }) => expr == 4,
+        (7, Instr::Print { text }) => text == 0,
+        (8, Instr::End) => true,
+        _ => false,
+    }
 }
 
 // The second expression is the test of the loop, and the second text that of the print.

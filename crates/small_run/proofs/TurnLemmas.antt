@@ -5,29 +5,36 @@ use mir.Syntax.{w64}
 use mir.Val.{to_z, of_z}
 use Rattle.std.specs.Prelude.{Some, None, Result, Ok, Err, OnErr, FitsSigned, slice_get}
 use Rattle.std.specs.Fmt.{signed_decimal}
-use Rattle.node_form.specs.declared.words.Instr.{Instr}
-use Rattle.node_form.specs.declared.words.Instr.TheVariants as instr
-use Rattle.grid_meaning.specs.Turn.{act, moves, goes_on, prints, unless_ended, with_text, with_value, expression_value}
+use Rattle.node_form.specs.declared.instructions.Instr.{Instr}
+use Rattle.node_form.specs.declared.instructions.Instr.TheVariants as instr
+use Rattle.node_form.specs.Value.{Gives}
+use Rattle.grid_meaning.specs.Turn.{act, moves, goes_on, prints, unless_ended, with_text}
+use Rattle.grid_meaning.specs.Turn.{with_value, expression_value}
 use Rattle.small_run.specs.Processor.{Processor, turn_of, IsNext, MovesTo}
 
 -- the next turn does what the next instruction says
-turn_of-next : (p : Processor) (next : Instr) → IsNext p next → turn_of p ≡ act p.code 0 p.local (λ from. None) (Some next)
+turn_of-next : (p : Processor) (next : Instr) → IsNext p next
+    → turn_of p ≡ act p.code 0 p.local (λ from. None) (Some next)
 turn_of-next p next is =
-    ap (λ ended. unless_ended ended (act p.code 0 p.local (λ from. None) (slice_get p.code.code p.local.at))) is.running
+    ap (λ ended. unless_ended ended
+    (act p.code 0 p.local (λ from. None) (slice_get p.code.code p.local.at))) is.running
     ∙ ap (act p.code 0 p.local (λ from. None)) is.here
 
 -- a text is printed
-pub MovesTo-print : (p next : Processor) (text : ℕ) (bytes : List ℕ) → IsNext p (instr.Print text) → slice_get p.code.texts text ≡ Some bytes
+pub MovesTo-print : (p next : Processor) (text : ℕ) (bytes : List ℕ) → IsNext p (instr.Print text)
+    → slice_get p.code.texts text ≡ Some bytes
     → next ≡ record p { local = goes_on p.local } → MovesTo p next bytes
 MovesTo-print p next text bytes is found after = record {
   code = ap (λ q. q.code) after;
   turn =
       turn_of-next p (instr.Print text) is
-      ∙ (ap (λ t. with_text t (prints 0 p.local)) found ∙ ap (λ q. moves q.local bytes) (sym after));
+      ∙ (ap (λ t. with_text t (prints 0 p.local)) found
+      ∙ ap (λ q. moves q.local bytes) (sym after));
 }
 
 -- a number is printed in decimal
-pub MovesTo-number : (p next : Processor) (expr : ℕ) (value : ℤ) → IsNext p (instr.Number expr) → expression_value p.code p.local expr ≡ Some value
+pub MovesTo-number : (p next : Processor) (expr : ℕ) (value : ℤ) → IsNext p (instr.Number expr)
+    → expression_value p.code p.local expr ≡ Gives value
     → next ≡ record p { local = goes_on p.local } → MovesTo p next (signed_decimal value)
 MovesTo-number p next expr value is found after = record {
   code = ap (λ q. q.code) after;
@@ -43,6 +50,10 @@ OnErr-fact (Ok x) P h = tt
 OnErr-fact (Err e) P h = h
 
 -- a number that is written behind nothing stands alone
-pub alone : (before after piece : List ℕ) (value : ℤ) → FitsSigned w64 value → before ≡ [] → after ≡ before ++ signed_decimal (to_z w64 (of_z w64 value)) → piece ≡ after → piece ≡ signed_decimal value
+pub alone : (before after piece : List ℕ) (value : ℤ) → FitsSigned w64 value → before ≡ []
+    → after ≡ before ++ signed_decimal (to_z w64 (of_z w64 value)) → piece ≡ after
+    → piece ≡ signed_decimal value
 alone before after piece value fits none written is =
-    is ∙ (written ∙ (ap (λ b. b ++ signed_decimal (to_z w64 (of_z w64 value))) none ∙ ap signed_decimal (to_z-of_z w64 value fits)))
+    is ∙ (written
+    ∙ (ap (λ b. b ++ signed_decimal (to_z w64 (of_z w64 value))) none
+    ∙ ap signed_decimal (to_z-of_z w64 value fits)))

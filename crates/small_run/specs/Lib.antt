@@ -1,4 +1,3 @@
-pub mod Counts
 pub mod Machine
 pub mod Processor
 pub mod Run

@@ -1,7 +1,7 @@
 -- The only processor of a grid, and what a sink takes of its turns.
 use Rattle.std.specs.Prelude.{◌≡◌, ℕ, List, Some, None, slice_get}
 use Rattle.node_form.specs.declared.tables.Tables.{Tables}
-use Rattle.node_form.specs.declared.words.Instr.{Instr}
+use Rattle.node_form.specs.declared.instructions.Instr.{Instr}
 use Rattle.node_form.specs.Fits.{FitsInstr}
 use Rattle.grid_meaning.specs.Local.{Local}
 use Rattle.grid_meaning.specs.Turn.{Turn, turn_at, moves}

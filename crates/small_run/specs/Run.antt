@@ -10,8 +10,10 @@ use Rattle.grid_meaning.specs.Order.{given}
 abbrev pub after_turns : Tables → ℕ → Grid
 after_turns code k = after code (given [] 1 k)
 
--- the sink took what is printed in the first k turns, and behind it a front of what the next turn prints
+-- the sink took what is printed in the first k turns, and behind it a front of what the next turn
+-- prints
 pub record TakesIntoNext (code : Tables) (k : ℕ) (before after : List ℕ → Type 0) : Type 0 where
   pub front : List ℕ
-  pub is_front : IsFrontOf ((after_turns code k).printed ++ front) (after_turns code (k + 1)).printed
+  pub is_front : IsFrontOf ((after_turns code k).printed ++ front)
+      (after_turns code (k + 1)).printed
   pub takes : Takes before ((after_turns code k).printed ++ front) after

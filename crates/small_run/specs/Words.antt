@@ -1,13 +1,17 @@
 -- The scalars that the words of an expression name.
-use Rattle.std.specs.Prelude.{ℕ, ◌<◌}
+use Rattle.std.specs.Prelude.{⊤, ℕ, ◌<◌}
 use Rattle.node_form.specs.declared.words.ExprOp.{ExprOp}
-use Rattle.node_form.specs.declared.words.ExprOp.TheVariants.{Const, Scalar, Pair, Neg, Not, Abs}
+use Rattle.node_form.specs.declared.words.ExprOp.TheVariants.{Const, Scalar, Here, Shifted, Cell, Coord, Pair, Neg, Not, Abs}
 
--- a scalar that the word names is one of so many
+-- the word needs no index, and a scalar that it names is one of so many
 abbrev pub HasScalar : ℕ → ExprOp → Type 0
-HasScalar count (Const value) = Unit {0}
+HasScalar count (Const value) = ⊤
 HasScalar count (Scalar scalar) = scalar < count
-HasScalar count (Pair op) = Unit {0}
-HasScalar count Neg = Unit {0}
-HasScalar count Not = Unit {0}
-HasScalar count Abs = Unit {0}
+HasScalar count (Here array) = ⊥
+HasScalar count (Shifted array shift) = ⊥
+HasScalar count (Cell cell) = ⊥
+HasScalar count (Coord dimension) = ⊥
+HasScalar count (Pair op) = ⊤
+HasScalar count Neg = ⊤
+HasScalar count Not = ⊤
+HasScalar count Abs = ⊤

@@ -1,7 +1,8 @@
-//! Runs node code of scalar rows on a grid of one processor, turn by turn, and puts what is printed into a sink.
+//! Runs node code of scalar rows on a grid of one processor, turn by turn, and puts what is printed
+//! into a sink.
 //!
-//! Scalar rows send no messages, so the only processor never waits and is never stuck: each turn is a move
-//! until it has ended.
+//! Scalar rows send no messages, so the only processor never waits and is never stuck: each turn is
+//! a move until it has ended.
 #![tactic(auto)]
 
 mod evaluate;

@@ -1,24 +1,26 @@
 //! The only processor of a grid, and its turns.
-ghost use Rattle.std.specs.Prelude.{◌≡◌, ◌≢◌, ◌<◌, ◌≤◌, [], length, slice_get, All, IfSome, IfOk, OnOk, OnErr, IsNone};
-ghost use Rattle.zpl_io.specs.Faults.{Rose};
+ghost use Rattle.std.specs.Prelude.{◌≡◌, ◌≢◌, ◌<◌, ◌≤◌, [], length, slice_get, All, IfSome, IfOk};
+ghost use Rattle.std.specs.Prelude.{OnOk, OnErr, IsNone};
+ghost use Rattle.zpl_io.specs.Faults.{CountsFaults};
 ghost use Rattle.grid_meaning.specs.Local.{start_local};
 ghost use Rattle.grid_meaning.specs.Turn.{expression_value, goes_to, goes_on};
-ghost use Rattle.node_form.specs.Fits.{FitsInstr};
-ghost use Rattle.small_run.specs.Counts.{IsLaterCount};
+ghost use Rattle.grid_meaning.specs.Scalar.{IsScalarCode, IsScalarRow};
+ghost use Rattle.node_form.specs.Fits.{FitsInstr, HasScalarExpr};
+ghost use Rattle.node_form.specs.Value.{divided};
 ghost use Rattle.small_run.specs.Processor.{IsNext, MovesTo, Turned, IsCutOff};
 
 use crate::evaluate::evaluate;
-use crate::fault::{RunFault, put_piece};
+use crate::fault::RunFault;
 use node_form::{ExprOp, Instr, NodeProgram, Tables, rows_fit};
 use std::alloc::{AllocError, Global};
 use std::marker::Model;
-use zpl_io::{Sink, write_number};
+use zpl_io::{Sink, put_piece, write_number};
 use zpl_nums::{End, TrapKind};
 
 /// The only processor of a grid, as it runs its code.
 ///
-/// The scalars and a stack as deep as the longest expression are made with it, so that no turn takes
-/// memory but one that prints a number. `digits` is the room for its text.
+/// The scalars and a stack as deep as the longest expression are made with it, so that no turn
+/// takes memory but one that prints a number. `digits` is the room for its text.
 #[derive(Drop)]
 pub(crate) struct Machine<'a> {
     code: &'a Tables,
@@ -44,6 +46,7 @@ impl<'a> Model for Machine<'a> {
 impl<'a> Machine<'a> {
     /// The processor before its first turn.
     pub(crate) fn new(alloc: Global, code: &'a NodeProgram) -> Result<Machine<'a>, AllocError>
+        requires { IsScalarCode code.now }
         ensures { IfOk result (λ machine.
             machine ≡ record { code = code.now; local = start_local code.now }) }
     {
@@ -65,16 +68,17 @@ impl<'a> Machine<'a> {
         self.ended
     }
 
-    /// Makes the next turn, and puts what it prints as one piece, unless that is empty. After a fault the
-    /// turn is as if not made, but that a front of the piece may have been taken.
+    /// Makes the next turn, and puts what it prints as one piece, unless that is empty. After a
+    /// fault the turn is as if not made, but that a front of the piece may have been taken.
     pub(crate) fn turn<O: Sink>(&mut self, alloc: Global, out: &mut O) -> Result<(), RunFault>
         requires { IsNone self.old.local.ended }
         ensures ok { OnOk result (Turned self.old self.new (O.tells out.old) (O.tells out.new)) }
         ensures err { OnErr result (self.new ≡ self.old) }
         ensures memory { result ≡ Err RunFault.NoMemory → out.new ≡ out.old }
-        ensures sink { result ≡ Err RunFault.SinkFailed → IsCutOff self.old (O.tells out.old) (O.tells out.new) }
-        ensures cause { result ≡ Err RunFault.SinkFailed → Rose (O.faults out.old) (O.faults out.new) }
-        ensures count { IsLaterCount (O.faults out.old) (O.faults out.new) }
+        ensures sink { result ≡ Err RunFault.SinkFailed →
+            IsCutOff self.old (O.tells out.old) (O.tells out.new) }
+        ensures counts { CountsFaults (result ≡ Err RunFault.SinkFailed)
+            (O.faults out.old) (O.faults out.new) }
     {
         match self.instr() {
             Some(Instr::Set { scalar, expr, line }) => self.set(scalar, expr, line),
@@ -82,7 +86,7 @@ impl<'a> Machine<'a> {
             Some(Instr::Number { expr }) => self.number(alloc, expr, out)?,
             Some(Instr::Jump { goal }) => self.jump(goal),
             Some(Instr::Unless { expr, goal, line }) => self.unless(expr, goal, line),
-            Some(Instr::End) | None => self.end(End::Done),
+            Some(_) | None => self.end(End::Done),
         }
         Ok(())
     }
@@ -120,8 +124,8 @@ impl<'a> Machine<'a> {
         ensures err { OnErr result (self.new ≡ self.old) }
         ensures memory { result ≢ Err RunFault.NoMemory }
         ensures sink { OnErr result (IsCutOff self.old (O.tells out.old) (O.tells out.new)) }
-        ensures cause { OnErr result (Rose (O.faults out.old) (O.faults out.new)) }
-        ensures count { IsLaterCount (O.faults out.old) (O.faults out.new) }
+        ensures counts { CountsFaults (result ≡ Err RunFault.SinkFailed)
+            (O.faults out.old) (O.faults out.new) }
     {
         put_piece(out, text_at(self.code, text))?;
         self.go_on();
@@ -136,8 +140,8 @@ impl<'a> Machine<'a> {
         ensures memory { result ≡ Err RunFault.NoMemory → out.new ≡ out.old }
         ensures sink { result ≡ Err RunFault.SinkFailed →
             IsCutOff self.old (O.tells out.old) (O.tells out.new) }
-        ensures cause { result ≡ Err RunFault.SinkFailed → Rose (O.faults out.old) (O.faults out.new) }
-        ensures count { IsLaterCount (O.faults out.old) (O.faults out.new) }
+        ensures counts { CountsFaults (result ≡ Err RunFault.SinkFailed)
+            (O.faults out.old) (O.faults out.new) }
     {
         match self.value(expr) {
             Some(value) => {
@@ -155,6 +159,7 @@ impl<'a> Machine<'a> {
     fn instr(&self) -> Option<Instr>
         ensures here { result ≡ slice_get self.now.code.code self.now.local.at }
         ensures fits { IfSome result (FitsInstr self.now.code) }
+        ensures row { IfSome result IsScalarRow }
     {
         rows_fit();
         self.code.code.get(self.at).copied()
@@ -162,8 +167,8 @@ impl<'a> Machine<'a> {
 
     /// The value of an expression of the code; `None` where a divisor is 0.
     fn value(&mut self, expr: u32) -> Option<i64>
-        requires { expr < length self.old.code.exprs }
-        ensures value { result ≡ expression_value self.old.code self.old.local expr }
+        requires { HasScalarExpr self.old.code expr }
+        ensures value { expression_value self.old.code self.old.local expr ≡ divided result }
         ensures same { self.new ≡ self.old }
     {
         rows_fit();
@@ -191,14 +196,20 @@ impl<'a> Machine<'a> {
 
     /// Ends the processor with a zero divisor at the line.
     fn trap(&mut self, line: u32)
-        ensures { self.new ≡ record self.old { local = record self.old.local { ended = Some (End.Trap TrapKind.DivideByZero line) } } }
+        ensures { self.new ≡ record self.old {
+          local = record self.old.local {
+            ended = Some (End.Trap TrapKind.DivideByZero line);
+          };
+        } }
     {
         self.end(End::Trap(TrapKind::DivideByZero, line));
     }
 
     /// Ends the processor.
     fn end(&mut self, ending: End)
-        ensures { self.new ≡ record self.old { local = record self.old.local { ended = Some ending } } }
+        ensures { self.new ≡ record self.old {
+          local = record self.old.local { ended = Some ending };
+        } }
     {
         self.ended = Some(ending);
     }

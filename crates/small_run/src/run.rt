@@ -1,9 +1,10 @@
 //! Turns one after another, until the only processor has ended or the limit is reached.
 ghost use Rattle.std.specs.Prelude.{◌≡◌, ◌≢◌, ◌↔◌, ℕ, ◌<◌, ◌≤◌, IsSome, IsOkAnd};
 ghost use Rattle.zpl_nums.specs.declared.ends.End.{End as Ending};
-ghost use Rattle.zpl_io.specs.Faults.{last_count, Rose};
+ghost use Rattle.zpl_io.specs.Faults.{CountsFaults};
 ghost use Rattle.zpl_io.specs.Sink.{Takes};
 ghost use Rattle.grid_meaning.specs.Grid.{processors, IsOver, EndsAs};
+ghost use Rattle.grid_meaning.specs.Scalar.{IsScalarCode};
 ghost use Rattle.small_run.specs.Run.{after_turns, TakesIntoNext};
 
 use crate::fault::RunFault;
@@ -24,11 +25,12 @@ pub struct Run {
 
 /// Gives turns to the only processor of the code's grid until it has ended, and at most so many.
 ///
-/// What a turn prints is put as one piece, unless it is empty; after a failed put nothing more is put.
-/// Memory is taken before the first turn, for the scalars and for a stack as deep as the longest
-/// expression, and in turns that print a number; no other turn takes any.
+/// What a turn prints is put as one piece, unless it is empty; after a failed put nothing more is
+/// put. Memory is taken before the first turn, for the scalars and for a stack as deep as the
+/// longest expression, and in turns that print a number; no other turn takes any.
 pub fn run_alone<O: Sink>(alloc: Global, code: &NodeProgram, turns: u64, out: &mut O) -> Run
-    requires { processors code.now ≡ 1 }
+    requires alone { processors code.now ≡ 1 }
+    requires rows { IsScalarCode code.now }
 
     // Which turns were given.
     ensures limit { result.turns ≤ turns }
@@ -47,10 +49,9 @@ pub fn run_alone<O: Sink>(alloc: Global, code: &NodeProgram, turns: u64, out: &m
     ensures cut_off { result.ending ≡ Err RunFault.SinkFailed →
         TakesIntoNext code.now result.turns (O.tells out.old) (O.tells out.new) }
 
-    // The sink's count of faults. One that was within its last value stays so.
-    ensures cause { result.ending ≡ Err RunFault.SinkFailed → Rose (O.faults out.old) (O.faults out.new) }
-    ensures never_falls { O.faults out.old ≤ O.faults out.new }
-    ensures bounded { O.faults out.old ≤ last_count → O.faults out.new ≤ last_count }
+    // The sink's count of faults.
+    ensures counts { CountsFaults (result.ending ≡ Err RunFault.SinkFailed)
+        (O.faults out.old) (O.faults out.new) }
 {
     let mut machine = match Machine::new(alloc, code) {
         Ok(machine) => machine,

@@ -1,8 +1,12 @@
 //! Runs of small programs on one processor, with sinks in memory.
-ghost use Rattle.std.specs.Prelude.{◌≡◌, [], ◌∷◌, IfOk};
+ghost use Rattle.std.specs.Prelude.{◌≡◌, [], ◌∷◌, IfOk, IfSome};
+ghost use Rattle.grid_meaning.specs.Scalar.{IsScalarCode, IsScalarRow};
 
 use crate::{Run, RunFault, run_alone};
-use node_form::{Code, ExprOp, ExprRow, Exprs, Instr, NodeProgram, Tables, TextRow, Texts};
+use node_form::{
+    Arrays, Code, Exchanges, ExprOp, ExprRow, Exprs, Groups, Instr, NodeProgram, Slots, Tables,
+    TextRow, Texts,
+};
 use std::alloc::{AllocError, Global};
 use std::process::Abort;
 use std::test::Fail;
@@ -45,72 +49,105 @@ fn exprs(alloc: Global) -> Result<Exprs, AllocError> {
     Ok(exprs)
 }
 
-/// A program of these instructions, with the texts and expressions above and two scalars, for one processor.
+/// The row, if it needs scalars alone.
+fn scalar_row(row: Instr) -> Option<Instr>
+    ensures { IfSome result IsScalarRow }
+{
+    match row {
+        Instr::Set { .. }
+        | Instr::Print { .. }
+        | Instr::Number { .. }
+        | Instr::Jump { .. }
+        | Instr::Unless { .. }
+        | Instr::End => Some(row),
+        _ => None,
+    }
+}
+
+/// A program of those of these instructions that need scalars alone, with the texts and expressions
+/// above and two scalars, for one processor.
 fn tables(alloc: Global, instrs: &[Instr]) -> Result<Tables, AllocError>
-    ensures { IfOk result (λ tables. tables.grid ≡ 1 ∷ 0 ∷ 0 ∷ []) }
+    ensures grid { IfOk result (λ tables. tables.grid ≡ 1 ∷ 0 ∷ 0 ∷ []) }
+    ensures rows { IfOk result IsScalarCode }
 {
     let mut code = Code::new(alloc);
     for instr in instrs {
-        code.push(alloc, *instr)?;
+        if let Some(row) = scalar_row(*instr) {
+            code.push(alloc, row)?;
+        }
     }
     Ok(Tables {
         grid: [1, 0, 0],
         scalars: 2,
         cells: 0,
+        slots: Slots::new(alloc),
+        arrays: Arrays::new(alloc),
         texts: texts(alloc)?,
         exprs: exprs(alloc)?,
+        groups: Groups::new(alloc),
+        exchanges: Exchanges::new(alloc),
         code,
     })
 }
 
-const GREETS: &[Instr] = &[
-    Instr::Set {
-        scalar: 0,
-        expr: 0,
-        line: 1,
-    },
-    Instr::Print { text: 0 },
-    Instr::Number { expr: 1 },
-    Instr::End,
-];
+fn greets() -> [Instr; 4] {
+    [
+        Instr::Set {
+            scalar: 0,
+            expr: 0,
+            line: 1,
+        },
+        Instr::Print { text: 0 },
+        Instr::Number { expr: 1 },
+        Instr::End,
+    ]
+}
 
-const COUNTS_DOWN: &[Instr] = &[
-    Instr::Set {
-        scalar: 0,
-        expr: 4,
-        line: 1,
-    },
-    Instr::Unless {
-        expr: 3,
-        goal: 5,
-        line: 2,
-    },
-    Instr::Number { expr: 3 },
-    Instr::Set {
-        scalar: 0,
-        expr: 2,
-        line: 3,
-    },
-    Instr::Jump { goal: 1 },
-    Instr::End,
-];
+fn counts_down() -> [Instr; 6] {
+    [
+        Instr::Set {
+            scalar: 0,
+            expr: 4,
+            line: 1,
+        },
+        Instr::Unless {
+            expr: 3,
+            goal: 5,
+            line: 2,
+        },
+        Instr::Number { expr: 3 },
+        Instr::Set {
+            scalar: 0,
+            expr: 2,
+            line: 3,
+        },
+        Instr::Jump { goal: 1 },
+        Instr::End,
+    ]
+}
 
-const DIVIDES: &[Instr] = &[
-    Instr::Print { text: 0 },
-    Instr::Set {
-        scalar: 0,
-        expr: 5,
-        line: 7,
-    },
-];
+fn divides() -> [Instr; 2] {
+    [
+        Instr::Print { text: 0 },
+        Instr::Set {
+            scalar: 0,
+            expr: 5,
+            line: 7,
+        },
+    ]
+}
 
-const PRINTS_NOTHING: &[Instr] = &[Instr::Print { text: 1 }, Instr::Print { text: 0 }];
+fn prints_nothing() -> [Instr; 2] {
+    [Instr::Print { text: 1 }, Instr::Print { text: 0 }]
+}
 
-const COMPUTES: &[Instr] = &[
-    Instr::Number { expr: 6 },
-    Instr::Number { expr: 7 },
-    Instr::Number { expr: 8 },
-];
+fn computes() -> [Instr; 3] {
+    [
+        Instr::Number { expr: 6 },
+        Instr::Number { expr: 7 },
+        Instr::Number { expr: 8 },
+    ]
+}
 
 /// Runs the program for at most so many turns, into a sink whose put of that number fails, and compares
 /// what the sink took and what came of the run.
@@ -140,13 +177,13 @@ fn expect(
 fn stops_at_the_limit(rt: HostRuntime) -> Result<(), Fail> {
     let done = Ok(Some(End::Done));
     let cases: [(&[Instr], u64, &[u8], u64, Result<Option<End>, RunFault>); 10] = [
-        (GREETS, 100, b"hi21", 4, done),
-        (GREETS, 4, b"hi21", 4, done),
-        (GREETS, 3, b"hi21", 3, Ok(None)),
-        (GREETS, 2, b"hi", 2, Ok(None)),
-        (GREETS, 0, b"", 0, Ok(None)),
-        (COUNTS_DOWN, 100, b"321", 15, done),
-        (COUNTS_DOWN, 14, b"321", 14, Ok(None)),
+        (&greets(), 100, b"hi21", 4, done),
+        (&greets(), 4, b"hi21", 4, done),
+        (&greets(), 3, b"hi21", 3, Ok(None)),
+        (&greets(), 2, b"hi", 2, Ok(None)),
+        (&greets(), 0, b"", 0, Ok(None)),
+        (&counts_down(), 100, b"321", 15, done),
+        (&counts_down(), 14, b"321", 14, Ok(None)),
         (&[Instr::Jump { goal: 0 }], 5, b"", 5, Ok(None)),
         (&[Instr::Jump { goal: 1 }], 5, b"", 2, done),
         (&[], 1, b"", 1, done),
@@ -168,11 +205,11 @@ fn stops_at_the_limit(rt: HostRuntime) -> Result<(), Fail> {
 #[test]
 fn stops_at_a_failed_put(rt: HostRuntime) -> Result<(), Fail> {
     let cases: [(&[Instr], u64, &[u8], u64); 5] = [
-        (GREETS, 0, b"", 1),
-        (GREETS, 1, b"hi", 2),
-        (COUNTS_DOWN, 2, b"32", 10),
-        (PRINTS_NOTHING, 0, b"", 1),
-        (COMPUTES, 1, b"-2", 1),
+        (&greets(), 0, b"", 1),
+        (&greets(), 1, b"hi", 2),
+        (&counts_down(), 2, b"32", 10),
+        (&prints_nothing(), 0, b"", 1),
+        (&computes(), 1, b"-2", 1),
     ];
     for (instrs, call, taken, turns) in cases {
         let run = Run {
@@ -192,7 +229,7 @@ fn traps_at_a_zero_divisor(rt: HostRuntime) -> Result<(), Fail> {
         line: 8,
     }];
     let cases: [(&[Instr], &[u8], u64, u32); 3] = [
-        (DIVIDES, b"hi", 2, 7),
+        (&divides(), b"hi", 2, 7),
         (&[Instr::Number { expr: 5 }], b"", 1, 0),
         (&unless, b"", 1, 8),
     ];
@@ -208,7 +245,10 @@ fn traps_at_a_zero_divisor(rt: HostRuntime) -> Result<(), Fail> {
 
 #[test]
 fn prints_what_there_is(rt: HostRuntime) -> Result<(), Fail> {
-    let cases: [(&[Instr], &[u8], u64); 2] = [(PRINTS_NOTHING, b"hi", 3), (COMPUTES, b"-2-11", 4)];
+    let cases: [(&[Instr], &[u8], u64); 2] = [
+        (&prints_nothing(), b"hi", 3),
+        (&computes(), b"-2-11", 4),
+    ];
     for (instrs, taken, turns) in cases {
         let run = Run {
             turns,

@@ -14,4 +14,5 @@ unfolding no_var
 returns-in-len1 c =
     let groups = c.args.groups.now in
     only_declares c.names_of.result (var_of (get_or groups 0 no_var)) (map var_of groups)
-    (ap (map var_of) (only_item groups no_var (omega (arith, c.in-len1.len_at_least, c.in-len1.len_below)))) c.names_of.ensures
+    (ap (map var_of) (only_item groups no_var (omega
+    (arith, c.in-len1.len_at_least, c.in-len1.len_below)))) c.names_of.ensures

@@ -10,6 +10,7 @@ loop-word-init c =
     record {
       inside = omega arith;
       room = omega arith;
-      depth = rw empty ((c.expressions_leave_one_value.ensures c.args.words.now).0 c.requires.expression);
+      depth = rw empty
+          ((c.expressions_leave_one_value.ensures c.args.words.now).0 c.requires.expression);
       value = rw bare refl;
     }

@@ -11,9 +11,11 @@ pub returns-in-Scalar-clause-stack : goal.returns-in-Scalar-clause-stack
 returns-in-Scalar-clause-stack c =
     let value = get_or c.args.scalars.now c.in-Scalar.scalar (pos 0) in
     let fits : FitsSigned w64 value = search rules in
-    let there : c.in-Scalar.scalar < length c.args.scalars.now = subst (HasScalar (length c.args.scalars.now)) c.in-Scalar.is c.requires.scalar in
+    let there : c.in-Scalar.scalar < length c.args.scalars.now =
+    subst (HasScalar (length c.args.scalars.now)) c.in-Scalar.is c.requires.scalar in
     let none : operands_of c.args.word ≡ 0 = ap operands_of c.in-Scalar.is in
-    stepped-scalar c.args.scalars.now c.args.stack.now c.args.top c.args.word c.in-Scalar.scalar _ c.in-Scalar.is there (omega arith) (omega arith) (sym (to_z-of_z w64 value fits))
+    stepped-scalar c.args.scalars.now c.args.stack.now c.args.top c.args.word c.in-Scalar.scalar _
+    c.in-Scalar.is there (omega arith) (omega arith) (sym (to_z-of_z w64 value fits))
 
 pub returns-in_ok-stack-in-Pair-clause-stack : goal.returns-in_ok-stack-in-Pair-clause-stack
 returns-in_ok-stack-in-Pair-clause-stack c =
@@ -25,4 +27,7 @@ returns-in_ok-stack-in-Pair-clause-stack c =
     let two : operands_of c.args.word ≡ 2 = ap operands_of c.in-Pair.is in
     rw
     (to_z-of_z w64 c.in_ok-stack-in-Pair.field-0 fits)
-    (stepped-pair c.args.scalars.now c.args.stack.now c.args.top c.args.word c.in-Pair.op _ c.in-Pair.is (omega arith) (sym (rw (to_z-of_z w64 left fits_left, to_z-of_z w64 right fits_right) at c.in_ok-stack-in-Pair.ensures.value)))
+    (stepped-pair c.args.scalars.now c.args.stack.now c.args.top c.args.word c.in-Pair.op _
+    c.in-Pair.is (omega arith)
+    (sym (rw (to_z-of_z w64 left fits_left, to_z-of_z w64 right fits_right) at
+    c.in_ok-stack-in-Pair.ensures.value)))

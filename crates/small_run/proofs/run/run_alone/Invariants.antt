@@ -1,5 +1,4 @@
-use Rattle.std.proofs.Common.{◌-◌, ◌≤◌}
-use Rattle.small_run.specs.Counts.{IsLaterCount}
+use Rattle.std.proofs.Common.{◌≡◌, ◌-◌, ◌≤◌}
 use Rattle.small_run.proofs.RunLemmas.{HasGiven}
 use Rattle.small_run.proofs.run.run_alone.Given as goal
 
@@ -8,7 +7,7 @@ invariant-loop-given g l =
     record {
       limit : l.given ≤ l.turns;
       so : HasGiven l.code l.machine l.given (g.O.Sink.tells l.fn.out) (g.O.Sink.tells l.out);
-      count : IsLaterCount (g.O.Sink.faults l.fn.out) (g.O.Sink.faults l.out);
+      count : g.O.Sink.faults l.out ≡ g.O.Sink.faults l.fn.out;
     }
 
 abbrev pub decreases-loop-given : goal.decreases-loop-given

@@ -6,4 +6,5 @@ use Rattle.small_code.proofs.scope.Scope.of.Given as goal
 
 abbrev pub invariant-loop-name : goal.invariant-loop-name
 invariant-loop-name l =
-    AreDeclared l.program (texts_of (map name_of l.names)) l.name-index (map (λ key. key.now) l.places.keys)
+    AreDeclared l.program (texts_of (map name_of l.names)) l.name-index
+    (map (λ key. key.now) l.places.keys)

@@ -13,16 +13,20 @@ returns-in_err-put_piece-in-Some-clause-sink g c failed =
     let old = c.args.self.now in
     let next = record old { local = goes_on old.local } in
     let fits : FitsSigned w64 c.in-Some.value = search rules in
-    let piece = alone c.clear.new.self.items c.write_number.new.into.items c.as_slice.result.now c.in-Some.value fits c.clear.ensures.items c.in_ok-write_number-in-Some.ensures.ok c.as_slice.ensures.value in
+    let piece = alone c.clear.new.self.items c.write_number.new.into.items c.as_slice.result.now
+    c.in-Some.value fits c.clear.ensures.items c.in_ok-write_number-in-Some.ensures.ok
+    c.as_slice.ensures.value in
     record {
       next = next;
       bytes = c.as_slice.result.now;
-      moves = rw piece (MovesTo-number old next c.args.expr c.in-Some.value c.requires (sym c.in-Some.ensures.value) refl);
+      moves = rw piece
+          (MovesTo-number old next c.args.expr c.in-Some.value c.requires c.in-Some.ensures.value refl);
       takes = c.in_err-put_piece-in-Some.ensures.err;
     }
 
 pub go_on-requires : goal.go_on-requires
 go_on-requires g c =
-    let inside : processor_of c.self.inside ≡ c.args.self.now = c.self.view_is ∙ c.in-Some.ensures.same in
+    let inside : processor_of c.self.inside ≡ c.args.self.now =
+    c.self.view_is ∙ c.in-Some.ensures.same in
     let place = slice_get_within _ _ _ c.requires.here in
     subst (λ (p : Processor). p.local.at < length p.code.code) (sym inside) place

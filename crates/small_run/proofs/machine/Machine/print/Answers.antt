@@ -28,6 +28,7 @@ returns-clause-ok g c =
     ap (λ p. slice_get p.code.texts c.args.text) (sym c.self.view_is) ∙ c.text_at.ensures in
     record {
       bytes = c.text_at.result.now;
-      moved = MovesTo-print old c.go_on.new.self c.args.text c.text_at.result.now c.requires found c.go_on.ensures;
+      moved = MovesTo-print old c.go_on.new.self c.args.text c.text_at.result.now c.requires found
+          c.go_on.ensures;
       takes = c.in_ok-put_piece.ensures.ok;
     }
