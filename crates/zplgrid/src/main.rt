@@ -1,25 +1,15 @@
-//! `zplgrid` compiles a ZPL program to the one program that every processor of a grid runs, and simulates the grid.
+//! `zplgrid` compiles a ZPL program to the one program that every processor of a grid runs, and
+//! simulates the grid.
 #![tactic(auto)]
-
-mod answers;
-mod commands;
-mod compiling;
-#[cfg(test)]
-mod form_tests;
-mod numbers;
-mod refusals;
-#[cfg(test)]
-mod tests;
-mod top;
-mod work;
 
 use std::process::ExitCode;
 use std::rt::Env;
 use std::{env, io};
+use top_call::zplgrid;
 use zpl_io::{DiskFiles, StdSink};
 
 /// The words behind the program's name.
-fn words_of(rt: &(impl Env + AllocGlobal)) -> io::Result<Vec<String>> {
+fn command_line(rt: &(impl Env + AllocGlobal)) -> io::Result<Vec<String>> {
     let mut words = Vec::new(rt.alloc());
     for word in env::args(rt)?.skip(1) {
         words.push(word)?;
@@ -29,7 +19,7 @@ fn words_of(rt: &(impl Env + AllocGlobal)) -> io::Result<Vec<String>> {
 
 fn main(rt: HostRuntime) -> io::Result<ExitCode> {
     // Words that aren't text are no command.
-    let words = match words_of(&rt) {
+    let words = match command_line(&rt) {
         Err(error) if error.kind() == io::ErrorKind::InvalidData => Vec::new(rt.alloc()),
         words => words?,
     };
@@ -37,6 +27,6 @@ fn main(rt: HostRuntime) -> io::Result<ExitCode> {
     let mut errs = StdSink::new(rt.stderr());
     let alloc = rt.alloc();
     let mut files = DiskFiles::new(rt);
-    let ran = top::zplgrid(alloc, words.as_slice(), &mut files, &mut out, &mut errs);
+    let ran = zplgrid(alloc, words.as_slice(), &mut files, &mut out, &mut errs);
     Ok(ExitCode::from(ran.status))
 }

@@ -1,0 +1,111 @@
+use Rattle.std.proofs.Common.{map, string_bytes, inl, inr, refl, sym, ◌∙◌, ap}
+use Rattle.call_claims.specs.Call.{call_of}
+use Rattle.top_call.specs.Answers.{status_of, text_of}
+use Rattle.top_call.specs.Work.{execution_in}
+use Rattle.top_call.proofs.TopLemmas.{failed_of, failed_or, status_has_cause, half_caused}
+use Rattle.top_call.proofs.call.zplgrid.Goals as goal
+
+pub returns-clause-cause : goal.returns-clause-cause
+returns-clause-cause g c = λ n.
+    let words = map string_bytes c.args.words.now in
+    let call = call_of words (g.F.Files.tells c.args.files.now)
+    (g.F.Files.may_fail c.args.files.now) in
+    let work = c.work_for-work in
+    let told = c.told-answer in
+    record {
+      text = text_of told.result;
+      cause = status_has_cause call work.result work.ensures.cause c.status.result told.result
+          c.status.ensures
+          told.ensures.same (λ e. (told.ensures.kept e).0) n;
+      told = told.ensures.told (λ e. n (c.status.ensures ∙ ap status_of e));
+    }
+
+pub returns-clause-done : goal.returns-clause-done
+returns-clause-done g c = λ decided.
+    let words = map string_bytes c.args.words.now in
+    let call = call_of words (g.F.Files.tells c.args.files.now)
+    (g.F.Files.may_fail c.args.files.now) in
+    let work = c.work_for-work in
+    let told = c.told-answer in
+    c.causes_are_exact.ensures.done c.args.files.now words (execution_in work.result)
+    c.status.result
+    (text_of told.result)
+    (status_has_cause call work.result work.ensures.cause c.status.result told.result
+    c.status.ensures
+    told.ensures.same (λ e. (told.ensures.kept e).0) decided.put) decided
+
+pub returns-clause-trap : goal.returns-clause-trap
+returns-clause-trap g c = λ decided.
+    let words = map string_bytes c.args.words.now in
+    let call = call_of words (g.F.Files.tells c.args.files.now)
+    (g.F.Files.may_fail c.args.files.now) in
+    let work = c.work_for-work in
+    let told = c.told-answer in
+    c.causes_are_exact.ensures.trap c.args.files.now words (execution_in work.result)
+    c.status.result
+    (text_of told.result)
+    (status_has_cause call work.result work.ensures.cause c.status.result told.result
+    c.status.ensures
+    told.ensures.same (λ e. (told.ensures.kept e).0) decided.put) decided
+
+pub returns-clause-turn_limit : goal.returns-clause-turn_limit
+returns-clause-turn_limit g c = λ decided.
+    let words = map string_bytes c.args.words.now in
+    let call = call_of words (g.F.Files.tells c.args.files.now)
+    (g.F.Files.may_fail c.args.files.now) in
+    let work = c.work_for-work in
+    let told = c.told-answer in
+    c.causes_are_exact.ensures.turn_limit c.args.files.now words (execution_in work.result)
+    c.status.result (text_of told.result)
+    (status_has_cause call work.result work.ensures.cause c.status.result told.result
+    c.status.ensures
+    told.ensures.same (λ e. (told.ensures.kept e).0) decided.put) decided
+
+pub returns-clause-put_failed : goal.returns-clause-put_failed
+returns-clause-put_failed g c = λ nine.
+    let words = map string_bytes c.args.words.now in
+    let call = call_of words (g.F.Files.tells c.args.files.now)
+    (g.F.Files.may_fail c.args.files.now) in
+    let work = c.work_for-work in
+    let told = c.told-answer in
+    let failed = failed_of told.result (sym c.status.ensures ∙ nine) in
+    elim (failed_or work.result.answer) [
+      | inl out ↦ inl (
+        work.ensures.cut_off out,
+        work.ensures.puts.rises out,
+        (told.ensures.kept out).1,
+      )
+      | inr other ↦ inr (
+        work.ensures.printed other,
+        told.ensures.counts.rises (other, failed),
+        half_caused call work.result work.ensures.cause (g.E.Sink.tells c.args.errs.now)
+            (g.E.Sink.tells told.new.errs) _ refl other
+            (told.ensures.half other failed),
+      )
+    ]
+
+pub returns-clause-usage : goal.returns-clause-usage
+returns-clause-usage g c = λ decided.
+    let words = map string_bytes c.args.words.now in
+    let call = call_of words (g.F.Files.tells c.args.files.now)
+    (g.F.Files.may_fail c.args.files.now) in
+    let work = c.work_for-work in
+    let told = c.told-answer in
+    c.causes_are_exact.ensures.usage c.args.files.now words (execution_in work.result)
+    c.status.result (text_of told.result)
+    (status_has_cause call work.result work.ensures.cause c.status.result told.result
+    c.status.ensures
+    told.ensures.same (λ e. (told.ensures.kept e).0) decided.put) decided
+
+pub returns-clause-refused : goal.returns-clause-refused
+returns-clause-refused g c = λ settled.
+    let words = map string_bytes c.args.words.now in
+    let call = call_of words (g.F.Files.tells c.args.files.now)
+    (g.F.Files.may_fail c.args.files.now) in
+    let work = c.work_for-work in
+    let told = c.told-answer in
+    c.causes_are_exact.ensures.refused c.args.files.now words (execution_in work.result)
+    c.status.result (text_of told.result)
+    (status_has_cause call work.result work.ensures.cause c.status.result told.result
+    c.status.ensures
+    told.ensures.same (λ e. (told.ensures.kept e).0) settled.decided.put) settled

@@ -1,0 +1,65 @@
+-- What a refusal says of a text, and what is told of it.
+use Rattle.std.specs.Prelude.{◌≡◌, ℕ, List, [], codes, ⊤}
+use Rattle.zpl_text.specs.declared.faults.LexFault.{LexFault}
+use Rattle.zpl_text.specs.declared.faults.LexFault.TheVariants as lex
+use Rattle.zpl_text.specs.declared.tokens.Token.{Token}
+use Rattle.zpl_text.specs.Faults.{lexical_name, lexical_offset}
+use Rattle.zpl_text.specs.Lines.{line_at}
+use Rattle.zpl_tree.specs.Syntax.{Program}
+use Rattle.zpl_grammar.specs.Texts.{IsShallowTree}
+use Rattle.zpl_parse.specs.declared.faults.ParseFault.{ParseFault}
+use Rattle.zpl_parse.specs.declared.faults.ParseFault.TheVariants as parse
+use Rattle.small_code.specs.declared.fault.CodeFault.{CodeFault}
+use Rattle.small_code.specs.declared.fault.CodeFault.TheVariants as code
+use Rattle.call_claims.specs.Refusal.{IsRefusal}
+use Rattle.call_claims.specs.Texts.{fault_text, too_deep_text}
+use Rattle.top_call.specs.declared.refusals.Refusal.{Refusal}
+use Rattle.top_call.specs.declared.refusals.Refusal.TheVariants.{Lex, Parse, NotBuilt, NoMemory}
+
+-- ---- from a layer's faults
+abbrev pub of_lex : LexFault → Refusal
+of_lex lex.NoMemory = NoMemory
+of_lex fault = Lex fault
+
+abbrev pub of_parse : ParseFault → Refusal
+of_parse parse.NoMemory = NoMemory
+of_parse fault = Parse fault
+
+abbrev pub of_code : CodeFault → Refusal
+of_code code.NotBuilt = NotBuilt
+of_code code.NoMemory = NoMemory
+
+-- ---- what is told
+-- the offset of the place, and 0 where there is none
+abbrev pub offset_of : Refusal → ℕ
+offset_of (Lex fault) = lexical_offset fault
+offset_of (Parse (parse.Syntax at)) = at
+offset_of (Parse parse.TooDeep) = 0
+offset_of (Parse parse.NoMemory) = 0
+offset_of NotBuilt = 0
+offset_of NoMemory = 0
+
+-- the piece, for the line of the place
+abbrev pub refusal_text : Refusal → ℕ → List ℕ
+refusal_text (Lex fault) line = fault_text (lexical_name fault) line (lexical_offset fault)
+refusal_text (Parse (parse.Syntax at)) line = fault_text (codes "Syntax") line at
+refusal_text (Parse parse.TooDeep) line = too_deep_text
+refusal_text (Parse parse.NoMemory) line = []
+refusal_text NotBuilt line = fault_text (codes "NotBuilt") line 0
+refusal_text NoMemory line = []
+
+abbrev pub told_of : List ℕ → Refusal → List ℕ
+told_of text refusal = refusal_text refusal (line_at text (offset_of refusal))
+
+-- ---- what it says
+-- The text is refused for what is told of it; or memory was wanting.
+abbrev pub Refuses : List ℕ → Refusal → Type 0
+Refuses text (Lex fault) = IsRefusal text (told_of text (Lex fault))
+Refuses text (Parse fault) = IsRefusal text (told_of text (Parse fault))
+Refuses text NotBuilt = IsRefusal text (told_of text NotBuilt)
+Refuses text NoMemory = ⊤
+
+-- Each tree of the text that isn't too deep is this one.
+abbrev pub IsOnlyTree : List ℕ → List Token → Program → Type 0
+IsOnlyTree text tokens program =
+    (tree : Program) → IsShallowTree text tokens tree → program ≡ tree

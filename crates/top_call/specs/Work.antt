@@ -1,0 +1,35 @@
+-- What the work of a command comes to.
+use Rattle.std.specs.Prelude.{◌≡◌, ℕ, List, [], Option, Some, None}
+use Rattle.node_form.specs.declared.tables.Tables.{Tables}
+use Rattle.call_claims.specs.Call.{Call}
+use Rattle.call_claims.specs.Cause.{WorkCause, RunCause, Cause}
+use Rattle.call_claims.specs.Command.{RunWords}
+use Rattle.call_claims.specs.Decided.{IsDecided}
+use Rattle.call_claims.specs.Execution.{Execution}
+use Rattle.call_claims.specs.Run.{GoesOnTo}
+use Rattle.top_call.specs.Answers.{status_of, text_of}
+use Rattle.top_call.specs.declared.work.Work.{Work}
+
+abbrev pub execution_in : Work → Execution
+execution_in work = record { code = work.code; turns = work.turns }
+
+-- ---- The answer has its cause, unless a put failed or memory was wanting:
+-- in the work on a text within a limit
+abbrev pub IsWorkOn : List ℕ → ℕ → Work → Type 0
+IsWorkOn text limit work = IsDecided (status_of work.answer) →
+    WorkCause text limit (execution_in work) (status_of work.answer) (text_of work.answer)
+
+-- in a `run` of a file
+abbrev pub IsRunOn : Call → List ℕ → RunWords → Work → Type 0
+IsRunOn call file rest work = IsDecided (status_of work.answer) →
+    RunCause call file rest (execution_in work) (status_of work.answer) (text_of work.answer)
+
+-- in a call
+abbrev pub IsWorkFor : Call → Work → Type 0
+IsWorkFor call work = IsDecided (status_of work.answer) →
+    Cause call (execution_in work) (status_of work.answer) (text_of work.answer)
+
+-- Where no code was made no turns were given; and code went on to the last turn.
+abbrev pub WentOn : Option Tables → ℕ → Type 0
+WentOn None turns = turns ≡ 0
+WentOn (Some code) turns = GoesOnTo code [] turns

@@ -1,0 +1,86 @@
+//! From the bytes of a text to its node code.
+ghost use Rattle.std.specs.Prelude.{◌≤◌, length, IfOk, IfErr};
+ghost use Rattle.zpl_text.specs.Tokens.{IsTokens};
+ghost use Rattle.zpl_text.specs.declared.TheConstants.{MOST_SOURCE};
+ghost use Rattle.zpl_tree.specs.View.{syntax_of};
+ghost use Rattle.zpl_grammar.specs.Texts.{IsShallowTree};
+ghost use Rattle.grid_meaning.specs.Scalar.{IsScalarCode};
+ghost use Rattle.call_claims.specs.Source.{IsCodeOf};
+ghost use Rattle.top_call.specs.Refusals.{Refuses, IsOnlyTree};
+
+use crate::refusals::Refusal;
+use bumpalo::Bump;
+use call_claims::MOST_TOKENS;
+use node_form::NodeProgram;
+use small_code::code_of_small;
+use std::alloc::Global;
+use zpl_grammar::words_fit_their_text;
+use zpl_parse::parse;
+use zpl_text::{Token, lex, text_is_cut_one_way};
+use zpl_tree::Program;
+
+/// The code of a text, for one processor. There is none where the text has no small program. Where
+/// its tokens are no text of the grammar, that is told, however many they are.
+pub fn compile(alloc: Global, text: &[u8]) -> Result<NodeProgram, Refusal>
+    requires { length text.now ≤ MOST_SOURCE }
+    ensures code { IfOk result (IsCodeOf text.now) }
+    ensures rows { IfOk result IsScalarCode }
+    ensures refused { IfErr result (Refuses text.now) }
+{
+    let tokens = tokens_of(alloc, text)?;
+    let arena = Bump::new(alloc);
+    let program = tree_of(alloc, &arena, text, tokens.as_slice())?;
+    code_of_tree(alloc, text, tokens.as_slice(), program)
+}
+
+/// The tokens of a text, where there are any.
+fn tokens_of(alloc: Global, text: &[u8]) -> Result<Vec<Token>, Refusal>
+    requires { length text.now ≤ MOST_SOURCE }
+    ensures tokens { IfOk result (λ tokens. IsTokens text.now tokens.items) }
+    ensures refused { IfErr result (Refuses text.now) }
+{
+    text_is_cut_one_way();
+    let mut tokens = Vec::new(alloc);
+    lex(alloc, text, &mut tokens)?;
+    Ok(tokens)
+}
+
+/// The tree of a text with these tokens, where there is one that isn't too deep.
+fn tree_of<'a>(
+    alloc: Global,
+    arena: &'a Bump<Global>,
+    text: &'a [u8],
+    tokens: &[Token],
+) -> Result<&'a Program<'a>, Refusal>
+    requires { IsTokens text.now tokens.now }
+    ensures tree { IfOk result (λ tree. IsShallowTree text.now tokens.now (syntax_of tree.now)) }
+    ensures only { IfOk result (λ tree. IsOnlyTree text.now tokens.now (syntax_of tree.now)) }
+    ensures refused { IfErr result (Refuses text.now) }
+{
+    text_is_cut_one_way();
+    let program = parse(alloc, arena, tokens, text)?;
+    Ok(program)
+}
+
+/// The code of a text with these tokens and this tree.
+fn code_of_tree(
+    alloc: Global,
+    text: &[u8],
+    tokens: &[Token],
+    program: &Program<'_>,
+) -> Result<NodeProgram, Refusal>
+    requires tokens { IsTokens text.now tokens.now }
+    requires tree { IsShallowTree text.now tokens.now (syntax_of program.now) }
+    requires only { IsOnlyTree text.now tokens.now (syntax_of program.now) }
+    ensures code { IfOk result (IsCodeOf text.now) }
+    ensures rows { IfOk result IsScalarCode }
+    ensures refused { IfErr result (Refuses text.now) }
+{
+    text_is_cut_one_way();
+    words_fit_their_text();
+    if tokens.len() > MOST_TOKENS {
+        return Err(Refusal::NotBuilt);
+    }
+    let code = code_of_small(alloc, program)?;
+    Ok(code)
+}

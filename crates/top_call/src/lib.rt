@@ -1,0 +1,15 @@
+//! The call that the program makes: from the words of a command to its status, and to what is
+//! printed and told.
+#![tactic(auto)]
+
+mod answers;
+mod call;
+mod commands;
+mod compiling;
+mod numbers;
+mod refusals;
+mod runs;
+mod work;
+
+pub use call::zplgrid;
+pub use call_claims::Ran;

@@ -1,4 +1,0 @@
-pub mod Answers
-pub mod Refusals
-pub mod Top
-pub mod Work

@@ -1,0 +1,12 @@
+//! Tests of the call that the program makes, and of the printed form of each statement and
+//! expression.
+#![tactic(auto)]
+
+#[cfg(test)]
+mod calls;
+#[cfg(test)]
+mod faults;
+#[cfg(test)]
+mod forms;
+#[cfg(test)]
+mod rows;

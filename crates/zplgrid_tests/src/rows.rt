@@ -1,0 +1,63 @@
+//! A call over one text, and what has to come of it.
+use std::alloc::{AllocError, Global};
+use std::process::Abort;
+use top_call::zplgrid;
+use zpl_io::{MemFiles, MemSink};
+
+/// Its status, what each sink took, and the turns.
+#[derive(Clone, Copy)]
+pub struct Wanted<'a> {
+    pub status: u8,
+    pub out: &'a [u8],
+    pub errs: &'a [u8],
+    pub turns: u64,
+}
+
+pub fn command_line(alloc: Global, words: &[&str]) -> Result<Vec<String>, AllocError> {
+    let mut strings = Vec::new(alloc);
+    for word in words {
+        strings.push(word.to_string(alloc)?)?;
+    }
+    Ok(strings)
+}
+
+/// Calls the program with a text as `a.zpl`, and compares what comes of it.
+pub fn expect(
+    rt: &impl Abort,
+    alloc: Global,
+    words: &[&str],
+    text: &[u8],
+    wanted: Wanted<'_>,
+) -> Result<(), AllocError> {
+    let mut files = MemFiles::new(alloc);
+    files.add(alloc, "a.zpl", text)?;
+    let mut out = MemSink::new(alloc, 100)?;
+    let mut errs = MemSink::new(alloc, 100)?;
+    let words = command_line(alloc, words)?;
+    let ran = zplgrid(alloc, words.as_slice(), &mut files, &mut out, &mut errs);
+    assert_eq!(rt; ran.status, wanted.status);
+    assert_eq!(rt; out.taken(), wanted.out);
+    assert_eq!(rt; errs.taken(), wanted.errs);
+    assert_eq!(rt; ran.turns, wanted.turns);
+    let has_code = wanted.status == 0 || wanted.status == 8;
+    assert_eq!(rt; ran.code.is_some(), has_code);
+    Ok(())
+}
+
+/// Calls the program where nothing is run.
+pub fn expect_no_run(
+    rt: &impl Abort,
+    alloc: Global,
+    words: &[&str],
+    text: &[u8],
+    status: u8,
+    errs: &[u8],
+) -> Result<(), AllocError> {
+    let wanted = Wanted {
+        status,
+        out: b"",
+        errs,
+        turns: 0,
+    };
+    expect(rt, alloc, words, text, wanted)
+}
