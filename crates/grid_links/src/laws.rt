@@ -73,7 +73,8 @@ pub fn links_keep_their_capacity<T: Machine>()
 
 /// On a link are the messages that its sender sent to its receiver, the oldest first, without as
 /// many of the first as the receiver took from the sender; and no more were taken than were sent.
-/// So the receiver's `k`-th move that takes from the sender takes the `k`-th message sent on the link.
+/// So the receiver's `k`-th move that takes from the sender takes the `k`-th message sent on the
+/// link.
 pub fn links_keep_their_messages<T: Machine>()
     ensures { (machine : T) (start : List T.Local) (capacity : Option ℕ) →
         KeepsMessages (system_of (T.act machine) (T.fed machine) start capacity) }

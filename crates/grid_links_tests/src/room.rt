@@ -5,8 +5,8 @@ ghost use Rattle.grid_links.specs.Network.{HasLink};
 use grid_links::{Links, Message};
 use std::alloc::Global;
 
-/// Sends a message, or lets it go where the link is full, and tells which. For want of memory it comes
-/// back.
+/// Sends a message, or lets it go where the link is full, and tells which. For want of memory it
+/// comes back.
 pub fn send_where_room(
     links: &mut Links,
     alloc: Global,

@@ -12,8 +12,8 @@ use std::test::Fail;
 /// A capacity that stands for links of any number of messages.
 const ANY: u32 = 0;
 
-/// A machine: how many processes follow which scripts, how many orders of eight turns there are for so
-/// many, and how many moves all scripts have.
+/// A machine: how many processes follow which scripts, how many orders of eight turns there are for
+/// so many, and how many moves all scripts have.
 struct Game {
     count: u32,
     orders: u32,
@@ -232,8 +232,8 @@ impl Players {
     }
 }
 
-/// Each order of eight turns begins the run in rounds. With as many rounds behind it as there are moves it
-/// is over, with the same moves and empty links.
+/// Each order of eight turns begins the run in rounds. With as many rounds behind it as there are
+/// moves it is over, with the same moves and empty links.
 fn every_order(rt: &impl Abort, alloc: Global, game: &Game, capacity: u32) -> Result<(), Fail> {
     let mut whole = Players::new(alloc, game, capacity)?;
     whole.rounds(alloc, game.moves)?;
@@ -250,8 +250,8 @@ fn every_order(rt: &impl Abort, alloc: Global, game: &Game, capacity: u32) -> Re
     Ok(())
 }
 
-/// Over links of a capacity each order of eight turns has the turns that it has over links of any number of
-/// messages.
+/// Over links of a capacity each order of eight turns has the turns that it has over links of any
+/// number of messages.
 fn same_turns(rt: &impl Abort, alloc: Global, game: &Game, capacity: u32) -> Result<(), Fail> {
     for order in 0..game.orders {
         let mut bounded = Players::new(alloc, game, capacity)?;

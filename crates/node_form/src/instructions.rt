@@ -94,8 +94,8 @@ pub enum Instr {
     Clear {
         array: u32,
     },
-    /// The group is run at each index of the slot's region in the own block, one index a turn. A loop
-    /// in the group takes a turn more whenever it goes back.
+    /// The group is run at each index of the slot's region in the own block, one index a turn. A
+    /// loop in the group takes a turn more whenever it goes back.
     Loop {
         slot: u32,
         group: u32,
@@ -132,8 +132,8 @@ pub enum Instr {
         source: u32,
     },
     /// The array over the slot's region becomes the scan of the other one over the tuples where the
-    /// mask isn't 0, and at the others the fold so far; along one dimension, or over all in row-major
-    /// order where `along` is 0.
+    /// mask isn't 0, and at the others the fold so far; along one dimension, or over all in
+    /// row-major order where `along` is 0.
     Scan {
         array: u32,
         slot: u32,

@@ -1,7 +1,8 @@
 //! The laws of expressions, of groups and of tables that fit.
 //!
 //! Each law is the contract of a function that does nothing: a call brings the law into a proof.
-ghost use Rattle.std.specs.Prelude.{◌≡◌, ℕ, ◌+◌, ◌≤◌, ◌↔◌, ℤ, List, [], ◌∷◌, ◌++◌, length, slice_get, All};
+ghost use Rattle.std.specs.Prelude.{◌≡◌, ℕ, ◌+◌, ◌≤◌, ◌↔◌, ℤ, List, [], ◌∷◌, ◌++◌, length};
+ghost use Rattle.std.specs.Prelude.{slice_get, All};
 ghost use Rattle.zpl_nums.specs.Integer.{IsInteger};
 ghost use Rattle.node_form.specs.declared.arrays.ArrayRow.{ArrayRow};
 ghost use Rattle.node_form.specs.declared.arrays.Item.{Item};

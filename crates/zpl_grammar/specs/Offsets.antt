@@ -1,10 +1,8 @@
 -- When the offsets in a tree are those of its tokens.
 --
 -- Each definition takes the lexemes from the first one of its tree on. The offset of a node is that
--- of its first token; of a
--- statement that of the first token behind its prefixes, of a blank dimension that of the token
--- behind it, and of a
--- `repeat`'s test that of the `until` before it.
+-- of its first token; of a statement that of the first token behind its prefixes, of a blank
+-- dimension that of the token behind it, and of a `repeat`'s test that of the `until` before it.
 use Rattle.std.specs.Prelude.{◌≡◌, Bool, true, false, List, [], ◌∷◌, ◌++◌, Option, Some, None, ⊤}
 use Rattle.std.specs.List.{flat_map}
 use Rattle.zpl_nums.specs.declared.operators.Op.{Op}

@@ -14,7 +14,8 @@ ghost use Rattle.zpl_tree.specs.Spelling.{program_words};
 ghost use Rattle.zpl_tree.specs.Syntax.{Program};
 ghost use Rattle.zpl_tree.specs.Word.{Word, word_text, printed_text};
 ghost use Rattle.zpl_grammar.specs.Written.{AreWords};
-ghost use Rattle.zpl_grammar.specs.Texts.{most_deep, IsSyntaxFault, IsTooDeep, TextSpells, TokensSpell};
+ghost use Rattle.zpl_grammar.specs.Texts.{most_deep, IsSyntaxFault, IsTooDeep, TextSpells};
+ghost use Rattle.zpl_grammar.specs.Texts.{TokensSpell};
 ghost use Rattle.zpl_grammar.specs.Writable.{AreWritable, EachIsWritable, HasWords};
 
 /// The words of a text take no more bytes than the text.

@@ -6,6 +6,7 @@ pub mod Expressions
 pub mod Operators
 pub mod Statements
 pub mod Declarations
+pub mod Faults
 pub mod Following
 pub mod Whole
 pub mod Reading

@@ -1,6 +1,7 @@
 //! Why a text has no tree, or none that isn't too deep.
 ghost use Rattle.std.specs.Prelude.{◌≡◌};
 ghost use Rattle.zpl_parse.specs.declared.faults.ParseFault.TheVariants.{NoMemory};
+ghost use Rattle.zpl_parse.specs.Faults.{parse_name, parse_offset};
 
 use std::alloc::{AllocError, AllocFailed};
 
@@ -18,6 +19,30 @@ pub enum ParseFault {
     TooDeep,
     /// There was no memory for the tree.
     NoMemory,
+}
+
+impl ParseFault {
+    /// How the fault is called, as its variant is.
+    pub fn name(self) -> &'static str
+        ensures { result.now ≡ parse_name self }
+    {
+        match self {
+            ParseFault::Syntax { .. } => "Syntax",
+            ParseFault::TooDeep => "TooDeep",
+            ParseFault::NoMemory => "NoMemory",
+        }
+    }
+
+    /// The offset of its place, counted in bytes from 0. What is too deep and want of memory have
+    /// none, and answer 0.
+    pub fn at(self) -> u32
+        ensures { result ≡ parse_offset self }
+    {
+        match self {
+            ParseFault::Syntax { at } => at,
+            ParseFault::TooDeep | ParseFault::NoMemory => 0,
+        }
+    }
 }
 
 impl<T: Drop> From<AllocFailed<T>> for ParseFault {

@@ -261,7 +261,8 @@ impl Dim {
         Ok(self)
     }
 
-    // The forms below stop at the ends of `i64`, so that a dimension past them passes the limit still.
+    // The forms below stop at the ends of `i64`, so that a dimension past them passes the limit
+    // still.
 
     /// The `d` positions beside the bounds, above for a positive `d` and below for a negative one.
     pub(crate) fn outside_of(self, d: i64) -> Dim

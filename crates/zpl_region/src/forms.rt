@@ -1,7 +1,8 @@
 //! The forms of a region, and its part in a box.
 ghost use Rattle.std.specs.Prelude.{◌≡◌, ◌≤◌, ◌↔◌, length, IsTrue, OkIff, IfOk, All};
 ghost use Rattle.zpl_region.specs.Dim.{HasAlign, HasBounds};
-ghost use Rattle.zpl_region.specs.Region.{HasReach, IsRegion, IsWithinLimit, inside_of, lies_in_box, members, met, moved, outside_of, strided};
+ghost use Rattle.zpl_region.specs.Region.{HasReach, IsRegion, IsWithinLimit, inside_of};
+ghost use Rattle.zpl_region.specs.Region.{lies_in_box, members, met, moved, outside_of, strided};
 
 use crate::dims::Dim;
 use crate::regions::{Region, RegionLimit, Vec3};
@@ -110,7 +111,8 @@ impl Region {
     /// looked at.
     pub fn within(&self, lo: Vec3, hi: Vec3) -> bool
         requires { IsRegion self.now }
-        ensures { IsTrue result ↔ All (λ t. IsTrue (lies_in_box lo hi self.now t)) (members self.now) }
+        ensures { IsTrue result
+            ↔ All (λ t. IsTrue (lies_in_box lo hi self.now t)) (members self.now) }
     {
         let [x, y, z] = self.components(lo);
         let [u, v, w] = self.components(hi);

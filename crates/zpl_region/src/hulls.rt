@@ -8,8 +8,8 @@ use crate::dims::Dim;
 use crate::regions::{Region, Vec3};
 
 impl Region {
-    /// Whether `x` is a tuple of the region. The coordinate of a flood dimension is 0, and so is each
-    /// component past the rank.
+    /// Whether `x` is a tuple of the region. The coordinate of a flood dimension is 0, and so is
+    /// each component past the rank.
     pub fn contains(&self, x: Vec3) -> bool
         requires { IsRegion self.now }
         ensures { IsTrue result ↔ IsMember self.now x }
@@ -19,7 +19,8 @@ impl Region {
         planes.contains(plane) && rows.contains(row) && columns.contains(column)
     }
 
-    /// The coordinate of the `k`-th dimension, `k` counted from 1, where it is a range with just one.
+    /// The coordinate of the `k`-th dimension, `k` counted from 1, where it is a range with just
+    /// one.
     pub fn single(&self, k: u8) -> Option<i64>
         requires region { IsRegion self.now }
         requires above { 1 ≤ k }
@@ -29,8 +30,8 @@ impl Region {
         self.dims[usize::from(k) - 1].single()
     }
 
-    /// The first tuple in row-major order, or `None` where there is none. Its components are the least
-    /// coordinates.
+    /// The first tuple in row-major order, or `None` where there is none. Its components are the
+    /// least coordinates.
     pub fn least(&self) -> Option<Vec3>
         requires { IsRegion self.now }
         ensures { result ≡ least_member self.now }

@@ -1,5 +1,6 @@
 //! The coordinates of a dimension, as numbers with one step between them.
-ghost use Rattle.std.specs.Prelude.{◌≡◌, ◌-◌, ◌*◌, ◌<◌, ◌↔◌, pos, ◌+ℤ◌, IsTrue, All, Contains, find, int_lt, Some, slice_get, length};
+ghost use Rattle.std.specs.Prelude.{◌≡◌, ◌-◌, ◌*◌, ◌<◌, ◌↔◌, pos, ◌+ℤ◌, IsTrue, All, Contains};
+ghost use Rattle.std.specs.Prelude.{find, int_lt, Some, slice_get, length};
 ghost use Rattle.zpl_region.specs.Progression.{IsNormal, is_between, terms};
 
 /// The numbers `first`, `first + step` and so on, `count` of them.

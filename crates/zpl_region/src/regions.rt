@@ -1,8 +1,10 @@
 //! Regions, how many tuples they have, and how they compare.
-ghost use Rattle.std.specs.Prelude.{◌≡◌, ◌≤◌, ◌<◌, ◌^◌, ◌-◌, ◌↔◌, IsTrue, OkIff, IfOk, All, [], map, length, min};
+ghost use Rattle.std.specs.Prelude.{◌≡◌, ◌≤◌, ◌<◌, ◌^◌, ◌-◌, ◌↔◌, IsTrue, OkIff, IfOk, All, []};
+ghost use Rattle.std.specs.Prelude.{map, length, min};
 ghost use Rattle.zpl_region.specs.Dim.{HasStep, IsSameSet, coordinates};
 ghost use Rattle.zpl_region.specs.Progression.{IsNormal, terms};
-ghost use Rattle.zpl_region.specs.Region.{IsPadded, IsRegion, IsWithinLimit, components, dim_at, members};
+ghost use Rattle.zpl_region.specs.Region.{IsPadded, IsRegion, IsWithinLimit, components, dim_at};
+ghost use Rattle.zpl_region.specs.Region.{members};
 
 use crate::dims::Dim;
 use crate::progressions::Progression;

@@ -54,7 +54,8 @@ fn next_in_plane(
 ) -> Option<(i64, i64)>
     requires rows { IsNormal rows }
     requires columns { IsNormal columns }
-    ensures { option_map (λ t. t.0 ∷ t.1 ∷ []) result ≡ find (is_before (row ∷ column ∷ [])) (tuples (terms rows ∷ terms columns ∷ [])) }
+    ensures { option_map (λ t. t.0 ∷ t.1 ∷ []) result
+        ≡ find (is_before (row ∷ column ∷ [])) (tuples (terms rows ∷ terms columns ∷ [])) }
 {
     let here = if rows.contains(row) {
         columns.above(column)

@@ -152,7 +152,8 @@ fn planes_and_spaces_of_a_plain_search(rt: HostRuntime) {
     }
 }
 
-/// What `d of`, `d in`, `at d` and `by d` give of a range, beside a flood dimension, for the component d.
+/// What `d of`, `d in`, `at d` and `by d` give of a range, beside a flood dimension, for the
+/// component d.
 fn forms(rt: &impl Abort, dim: (i64, i64, i64, i64), d: i64, wanted: &[(i64, i64, i64, i64); 4]) {
     let region = region(rt, 2, range(dim), Dim::Flood, PADDING);
     let v = [d, d, d];

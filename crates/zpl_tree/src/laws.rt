@@ -12,13 +12,15 @@ ghost use Rattle.zpl_tree.specs.declared.regions.Dir.TheVariants.{Vector};
 ghost use Rattle.zpl_tree.specs.declared.regions.Inner.TheVariants.{Dims};
 ghost use Rattle.zpl_tree.specs.declared.statements.Arm.{Arm};
 ghost use Rattle.zpl_tree.specs.declared.statements.ForHead.{ForHead};
-ghost use Rattle.zpl_tree.specs.declared.statements.Form.TheVariants.{Block, For, If, Repeat, While};
+ghost use Rattle.zpl_tree.specs.declared.statements.Form.TheVariants.{Block, For, If, Repeat};
+ghost use Rattle.zpl_tree.specs.declared.statements.Form.TheVariants.{While};
 ghost use Rattle.zpl_tree.specs.declared.statements.Stmt.{Stmt};
 ghost use Rattle.zpl_tree.specs.Grammar.{IsProgram, Spells};
 ghost use Rattle.zpl_tree.specs.Spelling.{program_words};
 ghost use Rattle.zpl_tree.specs.Syntax as plain;
 ghost use Rattle.zpl_tree.specs.Syntax.{Program};
-ghost use Rattle.zpl_tree.specs.View.{arms_of, dims_of, dir_of, else_of, expr_of, exprs_of, form_of, head_of, inner_of, name_of, statement_of, stmts_of};
+ghost use Rattle.zpl_tree.specs.View.{arms_of, dims_of, dir_of, else_of, expr_of, exprs_of};
+ghost use Rattle.zpl_tree.specs.View.{form_of, head_of, inner_of, name_of, statement_of, stmts_of};
 ghost use Rattle.zpl_tree.specs.Word.{Word};
 
 /// The words that are printed are a spelling of each program of the grammar, and so of each that

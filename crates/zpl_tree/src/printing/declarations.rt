@@ -2,8 +2,12 @@
 ghost use Rattle.std.specs.Prelude.{◌≡◌, ◌++◌, OnOk, map};
 ghost use Rattle.std.specs.List.{flat_map};
 ghost use Rattle.std.specs.Option.{option_map};
-ghost use Rattle.zpl_tree.specs.Spelling.{decl_words, define_words, direction_words, heading_words, in_round, locals_words, param_words, params_words, procedure_words, region_words, result_words, type_words, var_words};
-ghost use Rattle.zpl_tree.specs.View.{base_type_of, decl_of, define_of, direction_of, param_of, procedure_of, region_of, var_of};
+ghost use Rattle.zpl_tree.specs.Spelling.{decl_words, define_words, direction_words, heading_words};
+ghost use Rattle.zpl_tree.specs.Spelling.{in_round, locals_words, param_words, params_words};
+ghost use Rattle.zpl_tree.specs.Spelling.{procedure_words, region_words, result_words, type_words};
+ghost use Rattle.zpl_tree.specs.Spelling.{var_words};
+ghost use Rattle.zpl_tree.specs.View.{base_type_of, decl_of, define_of, direction_of, param_of};
+ghost use Rattle.zpl_tree.specs.View.{procedure_of, region_of, var_of};
 ghost use Rattle.zpl_tree.specs.Word.{Gains};
 
 use super::expressions::{print_bracket, print_expr, print_exprs, print_in_square, print_posts};

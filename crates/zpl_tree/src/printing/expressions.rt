@@ -2,8 +2,12 @@
 ghost use Rattle.std.specs.Prelude.{◌≡◌, ◌++◌, OnOk, map};
 ghost use Rattle.std.specs.List.{flat_map};
 ghost use Rattle.zpl_tokens.specs.declared.symbols.Sym.TheVariants as sym;
-ghost use Rattle.zpl_tree.specs.Spelling.{along_words, base_words, bracket_words, dim_words, dims_words, dir_words, expr_words, exprs_words, fold_words, in_round, in_square, inner_words, name_words, pair_words, posts_words, pre_words, symbol};
-ghost use Rattle.zpl_tree.specs.View.{base_of, bracket_of, dim_of, dims_of, dir_of, expr_of, exprs_of, inner_of, name_of, posts_of, pre_of};
+ghost use Rattle.zpl_tree.specs.Spelling.{along_words, base_words, bracket_words, dim_words};
+ghost use Rattle.zpl_tree.specs.Spelling.{dims_words, dir_words, expr_words, exprs_words};
+ghost use Rattle.zpl_tree.specs.Spelling.{fold_words, in_round, in_square, inner_words, name_words};
+ghost use Rattle.zpl_tree.specs.Spelling.{pair_words, posts_words, pre_words, symbol};
+ghost use Rattle.zpl_tree.specs.View.{base_of, bracket_of, dim_of, dims_of, dir_of, expr_of};
+ghost use Rattle.zpl_tree.specs.View.{exprs_of, inner_of, name_of, posts_of, pre_of};
 ghost use Rattle.zpl_tree.specs.Word.{Gains};
 
 use super::words::{

@@ -4,9 +4,14 @@ ghost use Rattle.std.specs.List.{flat_map};
 ghost use Rattle.std.specs.Option.{option_map};
 ghost use Rattle.zpl_tokens.specs.declared.keywords.Key.TheVariants as key;
 ghost use Rattle.zpl_tokens.specs.declared.symbols.Sym.TheVariants as sym;
-ghost use Rattle.zpl_tree.specs.Spelling.{arm_words, arms_words, assign_words, border_words, end_words, expr_words, form_words, head_words, item_words, items_words, keyword, mask_words, names_words, prefix_words, step_words, stmt_words, stmts_words, symbol};
+ghost use Rattle.zpl_tree.specs.Spelling.{arm_words, arms_words, assign_words, border_words};
+ghost use Rattle.zpl_tree.specs.Spelling.{end_words, expr_words, form_words, head_words};
+ghost use Rattle.zpl_tree.specs.Spelling.{item_words, items_words, keyword, mask_words};
+ghost use Rattle.zpl_tree.specs.Spelling.{names_words, prefix_words, step_words, stmt_words};
+ghost use Rattle.zpl_tree.specs.Spelling.{stmts_words, symbol};
 ghost use Rattle.zpl_tree.specs.Syntax as plain;
-ghost use Rattle.zpl_tree.specs.View.{arm_of, arms_of, expr_of, exprs_of, head_of, item_of, mask_of, name_of, prefix_of, statement_of, stmt_of, stmts_of};
+ghost use Rattle.zpl_tree.specs.View.{arm_of, arms_of, expr_of, exprs_of, head_of, item_of};
+ghost use Rattle.zpl_tree.specs.View.{mask_of, name_of, prefix_of, statement_of, stmt_of, stmts_of};
 ghost use Rattle.zpl_tree.specs.Word.{Gains};
 
 use super::expressions::{print_call, print_expr, print_inner};
