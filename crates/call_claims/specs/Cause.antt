@@ -45,7 +45,7 @@ pub record IsCutShort (text : List ℕ) (limit : ℕ) (execution : Execution) : 
   pub all : execution.turns ≡ limit
   pub not_over : ¬ IsOver (grid_at run_of.code [] execution.turns)
   pub too_few : let program = run_of.of_text.program in
-      IsTooFew limit run_of.code (mean_of program) (steps_of program) (shattered_loops program)
+      IsTooFew limit run_of.code (mean_of program []) (steps_of program []) (shattered_loops program)
 
 pub data WorkCause (text : List ℕ) (limit : ℕ) (execution : Execution) : ℕ → List ℕ → Type 0 where
   refused : (told : List ℕ) → IsRefusal text told → HasNoRun execution

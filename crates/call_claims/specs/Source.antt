@@ -34,7 +34,7 @@ pub record IsCodeOf (text : List ℕ) (code : Tables) : Type 0 where
   pub program : Program
   pub small : IsSmallText text program
   pub compiled : IsCompiled one_processor program (length small.tokens)
-      (mean_of program) (steps_of program) code
+      (mean_of program []) (steps_of program []) code
 
 -- The file tells this text, which isn't too long for a program.
 pub record Source (call : Call) (file : List ℕ) : Type 0 where

@@ -1,5 +1,6 @@
 -- The environment of a small program's statements: each variable at its number.
-use Rattle.std.proofs.Common.{◌≡◌, ℕ, ◌+◌, ◌<◌, Bool, true, false, cond, List, [], ◌∷◌, ◌++◌}
+use Rattle.std.proofs.Common.{◌≡◌, ℕ, ◌+◌, ◌<◌, Bool, true, false, cond, pos, List, [], ◌∷◌, ◌++◌}
+use Rattle.std.proofs.Common.{map, replicate, append_assoc, append-nil}
 use Rattle.std.proofs.Common.{length, get_or, Option, Some, None, refl, sym, ap, ◌∙◌, subst, ⊎_elim}
 use Rattle.std.proofs.Common.{arith, length-append}
 use Rattle.std.specs.Prelude.{find, Contains, unwrap_or, slice_index_or}
@@ -12,8 +13,16 @@ use Rattle.std.proofs.lemmas.List.Quantifiers.{position-Some}
 use Rattle.std.proofs.lemmas.List.Elements.{Contains-append_cases}
 use Rattle.std.proofs.lemmas.Slice.Eq.{bytes_eq-Decides}
 use Rattle.zpl_tree.specs.Syntax.{Name}
-use Rattle.zpl_meaning.specs.Store.{Thing, Scalar}
-use Rattle.zpl_meaning.specs.Program.{Names, with_names}
+use Rattle.zpl_tree.specs.Syntax.{NoBracket, Integer}
+use Rattle.zpl_names.specs.Kinds as kind
+use Rattle.zpl_names.specs.Kinds.{Kind}
+use Rattle.zpl_names.specs.Scope.{Entry, Scope, kind_in, kind_of}
+use Rattle.zpl_names.specs.Declared.{entry_for}
+use Rattle.zpl_binding.specs.Regions.{Known}
+use Rattle.zpl_binding.specs.Storages.{Border}
+use Rattle.zpl_meaning.specs.Store.{Thing, Scalar, Names}
+use Rattle.zpl_meaning.specs.Context.{Place}
+use Rattle.zpl_meaning.specs.Variables.{Frame, with_names, with_scalar_named, empty_frame}
 use Rattle.zpl_claims.specs.Small.{texts_of}
 use Rattle.small_code.specs.Names.{scalar_of}
 use Rattle.small_code.proofs.SumLemmas.{Knows}
@@ -29,7 +38,11 @@ eq_other a b ne = by (bytes_eq a b) refl
     by true e = absurd (ne ((bytes_eq-Decides a b).0 e))
     by false e = e
 
-module _ (name : List ℕ) where
+-- the frame with integers of these names
+abbrev pub frame_of : Known → List Border → Frame → List Name → Frame
+frame_of bound borders frame names = with_names bound borders NoBracket frame names
+
+module _ (bound : Known) (borders : List Border) (name : List ℕ) where
   abbrev is_name : List ℕ → Bool
   is_name other = bytes_eq name other
 
@@ -68,57 +81,58 @@ module _ (name : List ℕ) where
           ∙ rest (sym (ap (λ b. cond b (Some entry) (find is_entry front)) e) ∙ h)
 
   -- what is found stays found where more names come
-  still_found : (names : List Name) (before : Names) (found : List ℕ × Thing)
-      → find is_entry before ≡ Some found
-      → find is_entry (with_names before false names) ≡ Some found
+  still_found : (names : List Name) (before : Frame) (found : List ℕ × Thing)
+      → find is_entry before.names ≡ Some found
+      → find is_entry (frame_of bound borders before names).names ≡ Some found
   still_found [] before found h = h
   still_found (x ∷ names) before found h =
-      still_found names (before ++ (x.text, Scalar (length before) false) ∷ []) found
-      (find_front before _ found h)
+      still_found names (with_scalar_named before x (pos 0)) found
+      (find_front before.names _ found h)
 
   -- where the name stands, and that it is an integer there
-  record IsKnown (names : List Name) (before : Names) : Type 0 where
+  record IsKnown (names : List Name) (before : Frame) : Type 0 where
     place : ℕ
-    position_is : position_from is_name (length before) (texts_of names) ≡ Some place
-    below : place < length before + length names
+    position_is : position_from is_name (length before.store.scalars) (texts_of names) ≡ Some place
+    below : place < length before.store.scalars + length names
     thing_is : option_map (λ (entry : List ℕ × Thing). entry.1)
-        (find is_entry (with_names before false names)) ≡ Some (Scalar place false)
+        (find is_entry (frame_of bound borders before names).names) ≡ Some (Scalar place)
 
-  known : (names : List Name) (before : Names) → find is_entry before ≡ None
+  known : (names : List Name) (before : Frame) → find is_entry before.names ≡ None
       → Contains (texts_of names) name → IsKnown names before
   known [] before new there = absurd (omega (arith, there.1))
   known (x ∷ names) before new there = by (bytes_eq name x.text) refl
-      (known names (before ++ (x.text, Scalar (length before) false) ∷ []))
+      (known names (with_scalar_named before x (pos 0)))
     where
-      more : length (before ++ (x.text, Scalar (length before) false) ∷ []) ≡ length before + 1
-      more = length-append before ((x.text, Scalar (length before) false) ∷ [])
+      more : length (before.store.scalars ++ pos 0 ∷ []) ≡ length before.store.scalars + 1
+      more = length-append before.store.scalars (pos 0 ∷ [])
 
       by : (b : Bool) → bytes_eq name x.text ≡ b
-          → (find is_entry (before ++ (x.text, Scalar (length before) false) ∷ []) ≡ None
+          → (find is_entry (before.names ++ (x.text, Scalar (length before.store.scalars)) ∷ []) ≡ None
           → Contains (texts_of names) name
-          → IsKnown names (before ++ (x.text, Scalar (length before) false) ∷ []))
+          → IsKnown names (with_scalar_named before x (pos 0)))
           → IsKnown (x ∷ names) before
       by true e next =
           let same : bytes_eq x.text name ≡ true = eq_same x.text name
           (sym ((bytes_eq-Decides name x.text).0 e)) in
-          let here : find is_entry (before ++ (x.text, Scalar (length before) false) ∷ []) ≡ Some
-          (x.text, Scalar (length before) false) =
-          find_behind before ((x.text, Scalar (length before) false) ∷ []) new ∙ ap
-          (λ b. cond b (Some (x.text, Scalar (length before) false)) None) same in
+          let here : find is_entry (before.names ++ (x.text, Scalar (length before.store.scalars)) ∷ []) ≡ Some
+          (x.text, Scalar (length before.store.scalars)) =
+          find_behind before.names ((x.text, Scalar (length before.store.scalars)) ∷ []) new ∙ ap
+          (λ b. cond b (Some (x.text, Scalar (length before.store.scalars))) None) same in
           record {
-            place = length before;
-            position_is = ap (λ b. cond b (Some (length before))
-                (position_from is_name (length before + 1) (texts_of names))) e;
+            place = length before.store.scalars;
+            position_is = ap (λ b. cond b (Some (length before.store.scalars))
+                (position_from is_name (length before.store.scalars + 1) (texts_of names))) e;
             below = omega arith;
             thing_is = ap (option_map (λ (entry : List ℕ × Thing). entry.1))
-                (still_found names _ (x.text, Scalar (length before) false) here);
+                (still_found names (with_scalar_named before x (pos 0))
+                (x.text, Scalar (length before.store.scalars)) here);
           }
       by false e next =
           let ne : x.text ≡ name → ⊥ = λ is. false_not (sym e ∙ eq_same name x.text (sym is)) in
           let other : bytes_eq x.text name ≡ false = eq_other x.text name ne in
-          let still : find is_entry (before ++ (x.text, Scalar (length before) false) ∷ []) ≡ None =
-          find_behind before ((x.text, Scalar (length before) false) ∷ []) new ∙ ap
-          (λ b. cond b (Some (x.text, Scalar (length before) false)) None) other in
+          let still : find is_entry (before.names ++ (x.text, Scalar (length before.store.scalars)) ∷ []) ≡ None =
+          find_behind before.names ((x.text, Scalar (length before.store.scalars)) ∷ []) new ∙ ap
+          (λ b. cond b (Some (x.text, Scalar (length before.store.scalars))) None) other in
           let behind : Contains (texts_of names) name =
           ⊎_elim (λ here. absurd (ne (only_one here))) (λ r. r)
           (Contains-append_cases (x.text ∷ []) (texts_of names) name there) in
@@ -126,8 +140,8 @@ module _ (name : List ℕ) where
           record {
             place = rest.place;
             position_is =
-                ap (λ b. cond b (Some (length before))
-                (position_from is_name (length before + 1) (texts_of names))) e
+                ap (λ b. cond b (Some (length before.store.scalars))
+                (position_from is_name (length before.store.scalars + 1) (texts_of names))) e
                 ∙ ap (λ n. position_from is_name n (texts_of names)) (sym more)
                 ∙ rest.position_is;
             below = omega (arith, rest.below, more);
@@ -142,33 +156,84 @@ module _ (name : List ℕ) where
               let zero_is : here.0 ≡ 0 = omega (arith, here.1) in
               ap (λ k. slice_index_or (x.text ∷ []) k name) (sym zero_is) ∙ here.2
 
+-- names that are all of one kind have it
+kind_found : (kind : Kind) (names : List Name) (rest : List Entry) (text : List ℕ)
+    → Contains (texts_of names) text
+    → kind_in (map (entry_for kind) names ++ rest) text ≡ Some kind
+kind_found kind [] rest text there = absurd (omega (arith, there.1))
+kind_found kind (x ∷ names) rest text there =
+    by (bytes_eq x.text text) refl (kind_found kind names rest text)
+  where
+    by : (b : Bool) → bytes_eq x.text text ≡ b
+        → (Contains (texts_of names) text → kind_in (map (entry_for kind) names ++ rest) text ≡ Some kind)
+        → kind_in (map (entry_for kind) (x ∷ names) ++ rest) text ≡ Some kind
+    by true e next =
+        ap (λ b. option_map (λ (entry : Entry). entry.kind)
+        (cond b (Some (entry_for kind x)) (find (λ (entry : Entry). bytes_eq entry.name.text text)
+        (map (entry_for kind) names ++ rest)))) e
+    by false e next =
+        ap (λ b. option_map (λ (entry : Entry). entry.kind)
+        (cond b (Some (entry_for kind x)) (find (λ (entry : Entry). bytes_eq entry.name.text text)
+        (map (entry_for kind) names ++ rest)))) e
+        ∙ next behind
+      where
+        false_not : false ≡ true → ⊥
+        false_not e = cc
+
+        only_one : Contains (x.text ∷ []) text → x.text ≡ text
+        only_one here =
+            let zero_is : here.0 ≡ 0 = omega (arith, here.1) in
+            ap (λ k. slice_index_or (x.text ∷ []) k text) (sym zero_is) ∙ here.2
+
+        behind : Contains (texts_of names) text
+        behind =
+            ⊎_elim
+            (λ here. absurd (false_not (sym e ∙ eq_same x.text text (only_one here)))) (λ r. r)
+            (Contains-append_cases (x.text ∷ []) (texts_of names) text there)
+
+-- the names of a procedure without its own, where global names begin with these integers
+abbrev pub scope_with : List Name → List Entry → Scope
+scope_with names rest = record {
+  own = [];
+  globals = map (entry_for (kind.Scalar Integer)) names ++ rest;
+  constants = false;
+}
+
 -- what the statements know of their names
-pub knows_names : (names : List Name)
-    → Knows (record { names = with_names [] false names }) (texts_of names)
-knows_names names = record {
+pub knows_names : (bound : Known) (borders : List Border) (names : List Name) (rest : List Entry)
+    (at_place : Place)
+    → at_place.environment.names ≡ (frame_of bound borders empty_frame names).names
+    → at_place.scope ≡ scope_with names rest → Knows at_place (texts_of names)
+knows_names bound borders names rest at_place named scoped = record {
   within = λ name there.
-      let k = known name names [] refl there in
+      let k = known bound borders name names empty_frame refl there in
       let long : length (texts_of names) ≡ length names = length-map names (λ (n : Name). n.text) in
       omega (arith, k.below, place name there, long);
   thing = λ name there.
-      let k = known name names [] refl there in
-      k.thing_is ∙ ap (λ place. Some (Scalar place false)) (sym (place name there));
+      let k = known bound borders name names empty_frame refl there in
+      ap (λ (all : Names). option_map (λ (entry : List ℕ × Thing). entry.1)
+      (find (λ (entry : List ℕ × Thing). bytes_eq entry.0 name) all)) named
+      ∙ k.thing_is ∙ ap (λ place. Some (Scalar place)) (sym (place name there));
+  kind = λ name there.
+      ap (λ (scope : Scope). kind_of scope name) scoped
+      ∙ kind_found (kind.Scalar Integer) names rest name.text there;
 }
   where
     place : (name : List ℕ) (there : Contains (texts_of names) name)
-        → unwrap_or (scalar_of (texts_of names) name) 0 ≡ (known name names [] refl there).place
+        → unwrap_or (scalar_of (texts_of names) name) 0
+        ≡ (known bound borders name names empty_frame refl there).place
     place name there =
         ap (λ o. unwrap_or o 0) (position_from-zero (λ other. bytes_eq name other) (texts_of names)
-        ∙ (known name names [] refl there).position_is)
+        ∙ (known bound borders name names empty_frame refl there).position_is)
 
--- so many scalars as names
-pub length-with_names : (names : List Name) (before : Names)
-    → length (with_names before false names) ≡ length before + length names
-length-with_names [] before = let e : length before ≡ length before + 0 = omega arith in e
-length-with_names (x ∷ names) before =
-    let more = length-append before ((x.text, Scalar (length before) false) ∷ []) in
-    let rest = length-with_names names (before ++ (x.text, Scalar (length before) false) ∷ []) in
-    omega (arith, more, rest)
+-- so many scalars as names, all of them 0
+pub scalars-frame_of : (bound : Known) (borders : List Border) (names : List Name) (before : Frame)
+    → (frame_of bound borders before names).store.scalars
+    ≡ before.store.scalars ++ replicate (length names) (pos 0)
+scalars-frame_of bound borders [] before = sym (append-nil before.store.scalars)
+scalars-frame_of bound borders (x ∷ names) before =
+    scalars-frame_of bound borders names (with_scalar_named before x (pos 0))
+    ∙ append_assoc before.store.scalars (pos 0 ∷ []) (replicate (length names) (pos 0))
 
 -- ---- a look-up of a name
 pub place_found : (names : List (List ℕ)) (name : List ℕ) (place : ℕ)

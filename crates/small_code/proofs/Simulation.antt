@@ -11,6 +11,7 @@ use Rattle.std.proofs.Math.Nat.{mul-le-mul_left}
 use Rattle.zpl_nums.specs.Integer.{is_true}
 use Rattle.zpl_nums.specs.declared.ends.End.{End}
 use Rattle.zpl_nums.specs.declared.ends.End.TheVariants.{Done, Trap, More}
+use Rattle.zpl_tree.specs.Syntax.{Integer, Number, Named, Pair}
 use Rattle.zpl_tree.specs.Syntax.{Name, Expr, Item, Str, Value, Stmt, Prefixed, Stmts, NoStmt}
 use Rattle.zpl_tree.specs.Syntax.{ThenStmt, Form, Assign, While, Write}
 use Rattle.node_form.specs.Expression.{Expression, words_of}
@@ -21,23 +22,33 @@ use Rattle.node_form.specs.declared.instructions.Instr.TheVariants as instr
 use Rattle.grid_meaning.specs.Local.{start_local}
 use Rattle.grid_meaning.specs.Turn.{act, branch, expression_value, prints as printing, with_text}
 use Rattle.grid_meaning.specs.Turn.{with_value as on_value, goes_on as next_one, moves}
+use Rattle.zpl_names.specs.Ranks.{is_above_zero}
+use Rattle.zpl_names.specs.Sites.{Printed, Test as TestRole, Assigned}
+use Rattle.zpl_names.specs.Types.{type_of}
+use Rattle.zpl_names.specs.Counts.{expr_nodes, item_nodes}
+use Rattle.zpl_meaning.specs.Computed.{Gives, computed_then, both_then}
 use Rattle.zpl_meaning.specs.Store.{Scalar, Environment, Store, thing_of, scalar_at, with_scalar}
-use Rattle.zpl_meaning.specs.Value.{Gives, computed_then, both_then, value_of as meant_value}
-use Rattle.zpl_meaning.specs.Value.{is_boolean, expr_nodes}
-use Rattle.zpl_meaning.specs.Text.{value_text, item_text, items_text}
+use Rattle.zpl_meaning.specs.Value.{value_of as meant_value}
+use Rattle.zpl_meaning.specs.Context.{rank_in}
+use Rattle.zpl_meaning.specs.Fields.{Field}
+use Rattle.zpl_meaning.specs.Phases.{scalar_in, fields_in}
+use Rattle.zpl_meaning.specs.Text.{value_text, field_text, expr_text, items_text, printed_exprs}
+use Rattle.zpl_meaning.proofs.ScalarLemmas.{AreFieldsOf, fields_of_scalars}
 use Rattle.zpl_text.specs.Escapes.{unescaped}
 use Rattle.zpl_text.specs.Lines.{line_at}
 use Rattle.zpl_meaning.specs.Outcome.{Outcome, goes_on, prints, counting, behind, then_at, then_do}
 use Rattle.zpl_meaning.specs.Outcome.{with_value, choose, wants_more, Test, tested, while_turns}
-use Rattle.zpl_meaning.specs.Statement.{Context, assigned, assign_to, item_nodes, exec, exec_all}
-use Rattle.zpl_meaning.specs.Statement.{exec_form}
+use Rattle.zpl_meaning.specs.Points.{shattered}
+use Rattle.zpl_meaning.specs.Statement.{Context, line_of, assign_to, assign, test_of, is_split}
+use Rattle.zpl_meaning.specs.Statement.{exec, exec_all, exec_form}
 use Rattle.zpl_claims.specs.Small.{IsItem, IsSum, IsTest, IsSmallStmt, IsSmallForm, AreSmall}
 use Rattle.small_code.specs.Names.{scalar_of, tree_of}
 use Rattle.small_code.specs.Rows.{HasExpr, IsAssignment, IsLoop, IsText, IsItemRow, AreItems}
 use Rattle.small_code.specs.Rows.{IsLine, IsStmtCode, IsFormCode, AreStmtsCode}
 use Rattle.small_code.proofs.Runs.{Solo, no_heads, moved, step, run, run-add}
 use Rattle.small_code.proofs.SumLemmas.{Knows, Agrees, sum_agrees, test_agrees, test_nodes}
-use Rattle.small_code.proofs.SumLemmas.{sum_prints_number}
+use Rattle.small_code.proofs.SumLemmas.{sum_prints_number, sum_scalar, test_scalar, sum_rank}
+use Rattle.small_code.proofs.SumLemmas.{test_rank, statement_value, items_scalar}
 
 -- the turns bring the processor from one state to another, and are at most so many
 pub record Reaches (code : Tables) (from to : Solo) (most : ℕ) : Type 0 where
@@ -194,12 +205,15 @@ pub row_step : (code : Tables) (row : ℕ) (store : Store) (printed : List ℕ) 
 row_step code row store printed i h = ap (λ o. moved (at code row store printed)
     (act code 0 (at code row store printed).local no_heads o)) h
 
-module _ (code : Tables) (source : List ℕ) (names : List (List ℕ)) (environment : Environment)
-    (knows : Knows environment names)
+module _ (code : Tables) (names : List (List ℕ)) (context : Context)
+    (knows : Knows context.place names)
     (push : (operands : Operands) (tree : Expression)
     → value_of operands (words_of tree) ≡ tree_value operands tree) where
-  abbrev context : Context
-  context = record { source = source; environment = environment }
+  abbrev source : List ℕ
+  source = context.place.setup.program.source
+
+  abbrev environment : Environment
+  environment = context.place.environment
 
   -- the machine's value of an expression
   row_value : (store : Store) (row expr : ℕ) (printed : List ℕ) (value : Expr)
@@ -225,28 +239,41 @@ module _ (code : Tables) (source : List ℕ) (names : List (List ℕ)) (environm
       (row_value store from r.expr printed value r.value_row a)
       ∙ ap (λ row. at code row (with_scalar store r.scalar a.value) (printed ++ [])) (sym r.next)
 
+  -- no call stands in a sum
+  assigns : (name : Name) (value : Expr) (line : ℕ) (store : Store) → IsSum names value
+      → assign context name None value line store ≡ assign_to context.place (Assigned name None)
+      (thing_of environment name.text) value line store
+  assigns name (Pair at o left right) line store h = refl
+  assigns name (Number at value) line store h = refl
+  assigns name (Named at other) line store h = refl
+  assigns name _ line store h = absurd h
+
   assignment_means : (n at : ℕ) (name : Name) (value : Expr) (store : Store) (scalar : ℕ)
-      → thing_of environment name.text ≡ Some (Scalar scalar false)
+      → thing_of environment name.text ≡ Some (Scalar scalar) → IsSum names value
       → (a : Agrees environment names store value)
       → exec_form context n at (Assign name None value) store ≡ goes_on
       (with_scalar store scalar a.value)
-  assignment_means n at name value store scalar known a =
-      ap (λ thing. assign_to context thing None value (line_at source at) store) known
-      ∙ ap (λ c. with_value (computed_then c (λ right. assigned None (scalar_at store scalar)
-      right)) store (line_at source at) (λ new. goes_on (with_scalar store scalar new))) a.meant
+  assignment_means n at name value store scalar known small a =
+      assigns name value (line_at source at) store small
+      ∙ ap (λ thing. assign_to context.place (Assigned name None) thing value (line_at source at)
+      store) known
+      ∙ ap (λ c. with_value c store (line_at source at) (λ new.
+      goes_on (with_scalar store scalar new)))
+      (statement_value context.place names knows store (Assigned name None) value
+      (sum_scalar context.place names knows value small) a)
 
   assignment_runs : (n from to at : ℕ) (name : Name) (value : Expr) (store : Store)
       → length store.scalars ≡ length names → Contains names name.text × IsSum names value
       → IsAssignment names code from to (line_at source at) name value
       → Runs code n from to store (exec context n (Prefixed at [] (Assign name None value)) store)
   assignment_runs n from to at name value store long small r =
-      let a = sum_agrees environment names knows store value long small.1 in
+      let a = sum_agrees context.place names knows store value long small.1 in
       let scalar : unwrap_or (scalar_of names name.text) 0 ≡ r.scalar = ap (λ o. unwrap_or o 0)
       r.place in
-      let known : thing_of environment name.text ≡ Some (Scalar r.scalar false) = knows.thing
-      name.text small.0 ∙ ap (λ place. Some (Scalar place false)) scalar in
+      let known : thing_of environment name.text ≡ Some (Scalar r.scalar) = knows.thing
+      name.text small.0 ∙ ap (λ place. Some (Scalar place)) scalar in
       let means = ap (counting (1 + expr_nodes value))
-      (assignment_means n at name value store r.scalar known a) in
+      (assignment_means n at name value store r.scalar known small.1 a) in
       let one : 1 ≤ each code * (1 + expr_nodes value + 0) = omega (
         arith,
         mul-le-mul_left (each code) (let l : 1 ≤ 1 + expr_nodes value + 0 = omega arith in
@@ -261,9 +288,15 @@ module _ (code : Tables) (source : List ℕ) (names : List (List ℕ)) (environm
 
   -- ---- a print
   -- an item means a text, and its row prints it
+  abbrev Means : Store → Item → List ℕ → Type 0
+  Means store (Str bytes) text = unescaped bytes ≡ text
+  Means store (Value value) text =
+      (field : Field) → field [] ≡ meant_value environment store value
+      → expr_text context.place value field ≡ Gives text
+
   record ItemRuns (from : ℕ) (store : Store) (item : Item) : Type 0 where
     text : List ℕ
-    meant : item_text environment store item ≡ Gives text
+    meant : Means store item text
     turn : (printed : List ℕ) → step code (at code from store printed) ≡ at code (from + 1) store
         (printed ++ text)
 
@@ -285,14 +318,17 @@ module _ (code : Tables) (source : List ℕ) (names : List (List ℕ)) (environm
             (unescaped bytes) store printed r;
       }
   item_runs from store (Value value) long small r =
-      let a = sum_agrees environment names knows store value long small in
+      let a = sum_agrees context.place names knows store value long small in
+      let prefix = context.place.prefix in
       record {
         text = signed_decimal a.value;
-        meant =
-            ap (λ c. computed_then c (λ v. Gives (value_text (is_boolean environment value) v)))
-            a.meant
-            ∙ ap (λ b. Gives (value_text b a.value))
-            (sum_prints_number environment names knows value small);
+        meant = λ field is.
+            ap (λ rank. field_text context.place (type_of context.place.scope value) rank field)
+            (sum_rank context.place names knows prefix prefix value small)
+            ∙ ap (λ type. field_text context.place type (Some 0) field)
+            (sum_prints_number context.place names knows value small)
+            ∙ ap (λ c. computed_then c (λ v. Gives (value_text (Some Integer) v)))
+            (is ∙ a.meant);
         turn = λ printed.
             row_step code from store printed (instr.Number r.expr) r.row
             ∙ ap (λ o. moved (at code from store printed)
@@ -303,17 +339,37 @@ module _ (code : Tables) (source : List ℕ) (names : List (List ℕ)) (environm
 
   record ItemsRun (from to : ℕ) (store : Store) (items : List Item) : Type 0 where
     text : List ℕ
-    meant : items_text environment store items ≡ Gives text
+    meant : (fields : List Field)
+        → AreFieldsOf environment store fields (printed_exprs context.place items)
+        → items_text context.place items fields ≡ Gives text
     long : to ≡ from + length items
     turns : (printed : List ℕ) → Reaches code (at code from store printed)
         (at code to store (printed ++ text)) (length items)
+
+  items_mean : (store : Store) (item : Item) (items : List Item) (first rest : List ℕ)
+      → Means store item first
+      → ((fields : List Field)
+      → AreFieldsOf environment store fields (printed_exprs context.place items)
+      → items_text context.place items fields ≡ Gives rest)
+      → (fields : List Field)
+      → AreFieldsOf environment store fields (printed_exprs context.place (item ∷ items))
+      → items_text context.place (item ∷ items) fields ≡ Gives (first ++ rest)
+  items_mean store (Str bytes) items first rest one all fields are =
+      ap (λ text. both_then (Gives text) (items_text context.place items fields) (λ a b.
+      Gives (a ++ b))) one
+      ∙ ap (λ c. both_then (Gives first) c (λ a b. Gives (a ++ b))) (all fields are)
+  items_mean store (Value value) items first rest one all [] are = absurd are
+  items_mean store (Value value) items first rest one all (field ∷ fields) are =
+      ap (λ c. both_then c (items_text context.place items fields) (λ a b. Gives (a ++ b)))
+      (one field are.0)
+      ∙ ap (λ c. both_then (Gives first) c (λ a b. Gives (a ++ b))) (all fields are.1)
 
   items_run : (from to : ℕ) (store : Store) (items : List Item)
       → length store.scalars ≡ length names → AllByRecursion (IsItem names) items
       → AreItems names code from to items → ItemsRun from to store items
   items_run from to store [] long small r = record {
     text = [];
-    meant = refl;
+    meant = λ fields are. refl;
     long = omega (arith, r);
     turns = λ printed. record {
       turns = 0;
@@ -328,10 +384,7 @@ module _ (code : Tables) (source : List ℕ) (names : List (List ℕ)) (environm
       let count : 1 + length items ≡ length (item ∷ items) = omega arith in
       record {
         text = first.text ++ rest.text;
-        meant =
-            ap (λ c. both_then c (items_text environment store items) (λ a b. Gives (a ++ b)))
-            first.meant
-            ∙ ap (λ c. both_then (Gives first.text) c (λ a b. Gives (a ++ b))) rest.meant;
+        meant = items_mean store item items first.text rest.text first.meant rest.meant;
         long = omega (arith, rest.long);
         turns = λ printed.
             let assoc = append_assoc printed first.text rest.text in
@@ -351,10 +404,17 @@ module _ (code : Tables) (source : List ℕ) (names : List (List ℕ)) (environm
       let all = items_run from r.end store items long small r.items_rows in
       let bytes = all.text ++ 10 ∷ [] in
       let nodes = sum_by item_nodes items in
+      let exprs = printed_exprs context.place items in
+      let known = fields_of_scalars context.place store exprs
+      (items_scalar context.place names knows items small) in
       let means : exec context n (Prefixed offset [] (Write true items)) store ≡ counting
       (1 + nodes) (prints store bytes) =
-      ap (λ c. counting (1 + nodes) (with_value (computed_then c (λ text. Gives (text ++ 10 ∷ [])))
-      store (line_at source offset) (prints store))) all.meant in
+      ap (λ c. counting (1 + nodes) (with_value (computed_then c (λ fields.
+      computed_then (items_text context.place items fields) (λ text. Gives (text ++ 10 ∷ []))))
+      store (line_at source offset) (prints store))) known.computed
+      ∙ ap (λ c. counting (1 + nodes) (with_value (computed_then c (λ text.
+      Gives (text ++ 10 ∷ []))) store (line_at source offset) (prints store)))
+      (all.meant known.fields known.each) in
       let within : r.end < length code.code = slice_get_within code.code r.end
       (instr.Print r.newline.text) r.newline.row in
       let few : length items + 1 ≤ each code = omega (arith, all.long) in
@@ -382,7 +442,7 @@ module _ (code : Tables) (source : List ℕ) (names : List (List ℕ)) (environm
       → Runs code n (from + 1) r.back store (body store)) where
     abbrev tests : Test
     tests = record {
-      value = λ store. meant_value environment store test;
+      value = λ store. scalar_in context.place store TestRole test;
       line = line;
       steps = 1 +
           expr_nodes test;
@@ -428,7 +488,9 @@ module _ (code : Tables) (source : List ℕ) (names : List (List ℕ)) (environm
         → tested tests one other store ≡ counting (1 + expr_nodes test) (choose b one other store)
     chosen store one other a b e =
         ap (λ c. counting (1 + expr_nodes test)
-        (with_value c store line (λ value. choose (is_true value) one other store))) a.meant
+        (with_value c store line (λ value. choose (is_true value) one other store)))
+        (statement_value context.place names knows store TestRole test
+        (test_scalar context.place names knows test is_test) a)
         ∙ ap (λ b. counting (1 + expr_nodes test) (choose b one other store)) e
 
     -- the test counts two steps at least, one for itself and one for the jump back
@@ -536,12 +598,12 @@ module _ (code : Tables) (source : List ℕ) (names : List (List ℕ)) (environm
     turns_run : (k : ℕ) → k ≤ n → (store : Store) → length store.scalars ≡ length names
         → Runs code k from to store (while_turns k tests body store)
     turns_run zero le store long =
-        let a = test_agrees environment names knows store test long is_test in
+        let a = test_agrees context.place names knows store test long is_test in
         subst (λ o. Runs code 0 from to store o)
         (sym (chosen store wants_more goes_on a (is_true a.value) refl))
         (none_run store a (is_true a.value) refl)
     turns_run (suc k) le store long =
-        let a = test_agrees environment names knows store test long is_test in
+        let a = test_agrees context.place names knows store test long is_test in
         let below : k ≤ n = omega arith in
         let rest : (s : Store) → length s.scalars ≡ length store.scalars
         → Runs code k from to s (while_turns k tests body s) = λ s same. turns_run k below s
@@ -560,10 +622,19 @@ module _ (code : Tables) (source : List ℕ) (names : List (List ℕ)) (environm
       → Runs code n (from + 1) r.back s (exec_all context n body s))
       → Runs code n from to store (exec context n (Prefixed offset [] (While test body)) store)
   loop_runs n from to offset test body store long is_test r runs =
-      counting_follows code n from to store _ (1 + 0) _
-      (turns_run n from to (line_at source offset) test (exec_all context n body)
+      let line = line_at source offset in
+      let turns = while_turns n (test_of context.place test offset) (exec_all context n body) in
+      let whole : is_split context (While test body) ≡ false =
+      ap is_above_zero
+      (test_rank context.place names knows context.place.prefix context.place.prefix test is_test)
+      in
+      subst (λ b. Runs code n from to store
+      (counting (1 + 0)
+      (choose b (shattered context.place line n (While test body)) turns store))) (sym whole)
+      (counting_follows code n from to store _ (1 + 0) _
+      (turns_run n from to line test (exec_all context n body)
       (λ start end. AreStmtsCode source names code start end body) r is_test runs n
-      (omega arith) store long)
+      (omega arith) store long))
 
   mutual
     pub stmt_runs : (n from to : ℕ) (stmt : Stmt) (store : Store)

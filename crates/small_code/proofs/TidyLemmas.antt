@@ -16,9 +16,8 @@ use Rattle.zpl_tree.specs.Spelling.{bracket_words, heading_words, locals_words, 
 use Rattle.zpl_tree.specs.Spelling.{program_words, stmt_words, stmts_words, end_words}
 use Rattle.node_form.specs.declared.tables.Tables.{Tables}
 use Rattle.node_form.specs.declared.instructions.Instr.TheVariants as instr
-use Rattle.zpl_meaning.specs.Program.{procedures}
 use Rattle.zpl_claims.specs.Small.{integers, plain_procedure, small_decls}
-use Rattle.zpl_claims.specs.Tidy.{entry_tokens, executed_tokens, IsTidy}
+use Rattle.zpl_claims.specs.Tidy.{procedures, entry_tokens, executed_tokens, IsTidy}
 use Rattle.small_code.specs.Claims.{HoldsItsWords}
 use Rattle.small_code.specs.Draft.{first_tables}
 use Rattle.small_code.specs.Size.{GrowsBy, weight}

@@ -2,14 +2,14 @@
 use Rattle.std.proofs.Common.{◌≡◌, ℕ, ◌+◌, ◌*◌, ◌^◌, ◌<◌, ◌≤◌, true, false, cond, pos, List, []}
 use Rattle.std.proofs.Common.{◌∷◌, ◌++◌, length, Some, None, refl, sym, ap, ◌∙◌, subst, arith}
 use Rattle.std.proofs.Common.{append-nil}
-use Rattle.std.specs.Prelude.{slice_get, find}
+use Rattle.std.specs.Prelude.{slice_get, find, map, replicate, Option}
 use Rattle.std.specs.Str.{bytes_eq}
 use Rattle.std.proofs.Math.ListN.{length-replicate}
 use Rattle.std.proofs.Math.Nat.{pow-zero}
 use Rattle.std.proofs.lemmas.List.{length-map}
 use Rattle.zpl_nums.specs.declared.ends.End.{End}
 use Rattle.zpl_nums.specs.declared.ends.End.TheVariants.{Done, Trap, More}
-use Rattle.zpl_tree.specs.Syntax.{Name, Stmts, Procedure, Program}
+use Rattle.zpl_tree.specs.Syntax.{Name, Stmts, Procedure, Decl, Defined, Integer, Program}
 use Rattle.node_form.specs.Expression.{Expression, words_of}
 use Rattle.node_form.specs.Value.{Operands, value_of, tree_value}
 use Rattle.node_form.specs.declared.tables.Tables.{Tables}
@@ -17,17 +17,31 @@ use Rattle.node_form.specs.declared.instructions.Instr.TheVariants as instr
 use Rattle.grid_meaning.specs.Turn.{act}
 use Rattle.grid_meaning.specs.Grid.{processors}
 use Rattle.grid_meaning.specs.Order.{IsOrder, given}
-use Rattle.zpl_meaning.specs.Store.{empty_store}
+use Rattle.zpl_names.specs.Kinds as kind
+use Rattle.zpl_names.specs.Scope.{Entry}
+use Rattle.zpl_names.specs.Declared.{entry_for, procedure_entry, with_decl, with_each, Routine}
+use Rattle.zpl_names.specs.Declared.{routines_behind, routine_named}
+use Rattle.zpl_names.specs.Reached.{longest_chain}
+use Rattle.zpl_binding.specs.Declarations.{known_of}
+use Rattle.zpl_binding.specs.Regions.{Known}
+use Rattle.zpl_binding.specs.Storages.{Border, borders_of}
+use Rattle.zpl_meaning.specs.Store.{Store}
+use Rattle.zpl_meaning.specs.Context.{Setup, Place}
 use Rattle.zpl_meaning.specs.Outcome.{Outcome, counting}
-use Rattle.zpl_meaning.specs.Statement.{exec_all}
-use Rattle.zpl_meaning.specs.Program.{Names, with_names, with_declarations, procedures, context_of}
-use Rattle.zpl_meaning.specs.Program.{run_entry, outcome_of, mean_of, steps_of}
+use Rattle.zpl_meaning.specs.Variables.{Frame, with_declarations, empty_frame}
+use Rattle.zpl_meaning.specs.Calls.{Called, place_in}
+use Rattle.zpl_meaning.specs.Statement.{Context, exec_all}
+use Rattle.zpl_meaning.specs.Program.{returned, run_routine, call_at, setup_of, entry_call}
+use Rattle.zpl_meaning.specs.Program.{first_frame, outcome_of, mean_of, steps_of}
 use Rattle.zpl_claims.specs.Bound.{shattered_loops, turn_bound, EndsInBound}
 use Rattle.zpl_claims.specs.Good.{IsGood}
 use Rattle.zpl_claims.specs.LockStep.{HasLockSteps}
 use Rattle.zpl_claims.specs.Small.{IsSmall, texts_of, plain_procedure, small_decls}
+use Rattle.zpl_claims.specs.Tidy.{procedures}
 use Rattle.small_code.specs.Rows.{AreStmtsCode}
-use Rattle.small_code.proofs.NameLemmas.{eq_same, knows_names, length-with_names}
+use Rattle.small_code.proofs.NameLemmas.{eq_same, frame_of, scope_with, knows_names}
+use Rattle.small_code.proofs.NameLemmas.{scalars-frame_of}
+use Rattle.small_code.proofs.SumLemmas.{Knows}
 use Rattle.small_code.proofs.Runs.{Solo, IsSolo, no_heads, moved, run, run-add, start}
 use Rattle.small_code.proofs.Runs.{one_processor}
 use Rattle.small_code.proofs.Simulation.{GoesOn, Follows, at, each, row_step, counting_follows}
@@ -35,15 +49,20 @@ use Rattle.small_code.proofs.Simulation.{stmts_run}
 use Rattle.small_code.proofs.Good.{ComesToEnd, Does, good, in_step, over_in_time}
 
 -- ---- from the statements to the whole code
+-- the processor begins where the scalars are as many zeros
+begins : (code : Tables) (count : ℕ) (store : Store) → code.scalars ≡ count
+    → store.scalars ≡ replicate count (pos 0) → start code ≡ at code 0 store []
+begins code count store scalars zeros =
+    ap (λ n. at code 0 (record { scalars = replicate n (pos 0); arrays = [] }) []) scalars
+    ∙ ap (λ values. at code 0 (record { scalars = values; arrays = [] }) []) (sym zeros)
+
 -- the body, and the `end` behind it
-whole_done : (code : Tables) (last count : ℕ) (outcome : Outcome) → code.scalars ≡ count
-    → slice_get code.code last ≡ Some instr.End
-    → Follows code 0 0 last (empty_store count) Done outcome
+whole_done : (code : Tables) (last : ℕ) (store : Store) (outcome : Outcome)
+    → start code ≡ at code 0 store [] → slice_get code.code last ≡ Some instr.End
+    → Follows code 0 0 last store Done outcome
     → ComesToEnd code (each code * outcome.steps + 1) outcome.bytes
-whole_done code last count outcome scalars row f =
+whole_done code last store outcome begin row f =
     let r = f.1 [] in
-    let begin : start code ≡ at code 0 (empty_store count) [] =
-    ap (λ n. at code 0 (empty_store n) []) scalars in
     let there : run code (r.turns + 1) (start code) ≡ moved
     (at code last outcome.store ([] ++ outcome.bytes))
     (act code 0 (at code last outcome.store ([] ++ outcome.bytes)).local no_heads
@@ -59,31 +78,26 @@ whole_done code last count outcome scalars row f =
       shows = ap (λ (s : Solo). s.printed) there ∙ append-nil outcome.bytes;
     }
 
-whole_more : (code : Tables) (n last count : ℕ) (outcome : Outcome) → code.scalars ≡ count
-    → Follows code n 0 last (empty_store count) More outcome
+whole_more : (code : Tables) (n last : ℕ) (store : Store) (outcome : Outcome)
+    → start code ≡ at code 0 store [] → Follows code n 0 last store More outcome
     → GoesOn code (start code) n outcome.bytes
-whole_more code n last count outcome scalars f =
-    let begin : start code ≡ at code 0 (empty_store count) [] = ap
-    (λ n. at code 0 (empty_store n) []) scalars in
+whole_more code n last store outcome begin f =
     subst (λ s. GoesOn code s n outcome.bytes) (sym begin) (f [])
 
-does_whole : (code : Tables) (n last count : ℕ) (ending : End) (outcome : Outcome)
-    → code.scalars ≡ count → slice_get code.code last ≡ Some instr.End
-    → Follows code n 0 last (empty_store count) ending outcome → Does code n ending outcome
-does_whole code n last count Done outcome scalars row f = whole_done code last count outcome scalars
-    row f
-does_whole code n last count More outcome scalars row f = whole_more code n last count outcome
-    scalars f
-does_whole code n last count (Trap kind line) outcome scalars row f = absurd f
+-- what the body does, whatever the store is afterwards
+does_whole : (code : Tables) (n last : ℕ) (ending : End) (store : Store) (outcome : Outcome)
+    → start code ≡ at code 0 store [] → slice_get code.code last ≡ Some instr.End
+    → Follows code n 0 last store ending outcome → Does code n ending (returned store outcome)
+does_whole code n last Done store outcome begin row f = whole_done code last store outcome begin row
+    f
+does_whole code n last More store outcome begin row f = whole_more code n last store outcome begin f
+does_whole code n last (Trap kind line) store outcome begin row f = absurd f
 
 -- ---- the meaning of a small program
 module _ (source name : List ℕ) (names : List Name) (entry : Name) (offset : ℕ) (body : Stmts)
     (is_entry : entry.text ≡ name) where
   abbrev plain : Procedure
   plain = plain_procedure entry offset body
-
-  abbrev environment : Names
-  environment = with_names [] false names
 
   same_name : bytes_eq entry.text name ≡ true
   same_name = eq_same entry.text name is_entry
@@ -100,21 +114,36 @@ module _ (source name : List ℕ) (names : List Name) (entry : Name) (offset : �
       (small_procedures names)
       ∙ ap (λ b. cond b (Some plain) None) same_name
 
-  small_declarations : (list : List Name)
-      → with_declarations (Some []) (small_decls list entry offset body) ≡ Some
-      (with_names [] false list)
-  small_declarations [] = refl
-  small_declarations (x ∷ list) = refl
+  -- the entry procedure, which has no names of its own
+  abbrev routine : Routine
+  routine = record { procedure = plain; own = [] }
 
-  small_run : (n : ℕ) → run_entry source n (find
-      (λ (procedure : Procedure). bytes_eq procedure.name.text name)
-      (procedures (small_decls names entry offset body)))
-      (with_declarations (Some []) (small_decls names entry offset body)) ≡ counting (1 + 0)
-      (exec_all (context_of source environment) n body (empty_store (length environment)))
-  small_run n =
-      ap (λ p. run_entry source n p (with_declarations (Some [])
-      (small_decls names entry offset body))) small_entry
-      ∙ ap (run_entry source n (Some plain)) (small_declarations names)
+  small_routines : (list : List Name)
+      → routines_behind [] (small_decls list entry offset body) ≡ routine ∷ []
+  small_routines [] = refl
+  small_routines (x ∷ list) = refl
+
+  small_routine : find (λ (routine : Routine). bytes_eq routine.procedure.name.text name)
+      (routines_behind [] (small_decls names entry offset body)) ≡ Some routine
+  small_routine =
+      ap (find (λ (routine : Routine). bytes_eq routine.procedure.name.text name))
+      (small_routines names)
+      ∙ ap (λ b. cond b (Some routine) None) same_name
+
+  -- the global names are the integers, and then the procedure
+  abbrev integers_of : List Name → List Entry
+  integers_of list = map (entry_for (kind.Scalar Integer)) list
+
+  small_globals : (list : List Name) → with_each with_decl [] (small_decls list entry offset body)
+      ≡ integers_of list ++ procedure_entry (integers_of list) plain ∷ []
+  small_globals [] = refl
+  small_globals (x ∷ list) = refl
+
+  small_frame : (bound : Known) (borders : List Border) (list : List Name)
+      → with_declarations bound borders empty_frame (small_decls list entry offset body)
+      ≡ frame_of bound borders empty_frame list
+  small_frame bound borders [] = refl
+  small_frame bound borders (x ∷ list) = refl
 
 -- ---- the claims
 -- what there is to know of code for a small program
@@ -137,56 +166,106 @@ bound_is_enough rows steps n some =
 module _ (push : (operands : Operands) (tree : Expression)
     → value_of operands (words_of tree) ≡ tree_value operands tree)
     (code : Tables) (program : Program) (of : IsCodeOf code program) where
-  outcome_is : (n : ℕ) → outcome_of program n ≡ counting (1 + 0)
-      (exec_all (context_of program.source (with_names [] false of.small.names)) n of.small.body
-      (empty_store (length (with_names [] false of.small.names))))
-  outcome_is n =
-      ap (λ decls. run_entry program.source n (find
-      (λ (procedure : Procedure). bytes_eq procedure.name.text program.name.text)
-      (procedures decls)) (with_declarations (Some []) decls)) of.small.decls
-      ∙ small_run program.source program.name.text of.small.names of.small.entry of.small.at
-      of.small.body of.small.is_entry n
+  abbrev names : List Name
+  names = of.small.names
 
-  does : (n : ℕ) → Does code n (outcome_of program n).ending (outcome_of program n)
+  abbrev bound : Known
+  bound = known_of program []
+
+  abbrev borders : List Border
+  borders = borders_of program
+
+  abbrev frame : Frame
+  frame = first_frame program bound borders
+
+  abbrev entry_routine : Routine
+  entry_routine = routine program.source program.name.text names of.small.entry of.small.at
+      of.small.body of.small.is_entry
+
+  -- where the statements stand
+  abbrev place : Place
+  place = place_in (setup_of program bound borders frame) entry_routine (entry_call program)
+      (record { names = []; store = frame.store })
+
+  frame_is : frame ≡ frame_of bound borders empty_frame names
+  frame_is =
+      ap (with_declarations bound borders empty_frame) of.small.decls
+      ∙ small_frame program.source program.name.text names of.small.entry of.small.at
+      of.small.body of.small.is_entry bound borders names
+
+  routine_is : routine_named program program.name.text ≡ Some entry_routine
+  routine_is =
+      ap (λ (decls : List Decl). find
+      (λ (routine : Routine). bytes_eq routine.procedure.name.text program.name.text)
+      (routines_behind [] decls)) of.small.decls
+      ∙ small_routine program.source program.name.text names of.small.entry of.small.at
+      of.small.body of.small.is_entry
+
+  knows : Knows place (texts_of names)
+  knows =
+      let all = integers_of program.source program.name.text names of.small.entry of.small.at
+      of.small.body of.small.is_entry names in
+      let entries : List Entry = procedure_entry all
+      (plain_procedure of.small.entry of.small.at of.small.body) ∷ [] in
+      knows_names bound borders names entries place (ap (λ (f : Frame). f.names) frame_is)
+      (ap (λ (globals : List Entry). record { own = []; globals = globals; constants = false })
+      (ap (with_each with_decl []) of.small.decls
+      ∙ small_globals program.source program.name.text names of.small.entry of.small.at
+      of.small.body of.small.is_entry names))
+
+  -- what the calls of a bound do
+  abbrev calls : ℕ → Called → Store → Outcome
+  calls n = call_at (setup_of program bound borders frame) n 31
+
+  abbrev context : ℕ → Context
+  context n = record { place = place; call = calls n }
+
+  outcome_is : (n : ℕ) → outcome_of program [] n ≡ returned frame.store
+      (counting (1 + 0) (exec_all (context n) n of.small.body frame.store))
+  unfolding longest_chain
+  outcome_is n =
+      ap (λ (routine : Option Routine).
+      run_routine (setup_of program bound borders frame) n (calls n) routine (entry_call program)
+      frame.store) routine_is
+
+  zeros : frame.store.scalars ≡ replicate (length names) (pos 0)
+  zeros = ap (λ (f : Frame). f.store.scalars) frame_is ∙ scalars-frame_of bound borders names
+      empty_frame
+
+  does : (n : ℕ) → Does code n (outcome_of program [] n).ending (outcome_of program [] n)
   does n =
-      let names = of.small.names in
-      let many : length (with_names [] false names) ≡ length names = omega
-      (arith, length-with_names names []) in
       let texts : length (texts_of names) ≡ length names = length-map names (λ (n : Name). n.text)
       in
-      let long : length (empty_store (length (with_names [] false names))).scalars ≡ length
-      (texts_of names) =
-      length-replicate (length (with_names [] false names)) (pos 0) ∙ many ∙ sym texts in
-      let body = stmts_run code program.source (texts_of names)
-      (record { names = with_names [] false names }) (knows_names names) push n 0 of.last
-      of.small.body (empty_store (length (with_names [] false names))) long of.small.small
-      of.rows in
-      let whole = counting_follows code n 0 of.last _ _ (1 + 0) _ body in
+      let long : length frame.store.scalars ≡ length (texts_of names) =
+      ap length zeros ∙ length-replicate (length names) (pos 0) ∙ sym texts in
+      let body = stmts_run code (texts_of names) (context n) knows push n 0 of.last
+      of.small.body frame.store long of.small.small of.rows in
+      let whole = counting_follows code n 0 of.last frame.store _ (1 + 0) _ body in
       subst (λ o. Does code n o.ending o) (sym (outcome_is n))
-      (does_whole code n of.last (length (with_names [] false names)) _ _ (of.scalars ∙ sym many)
-      of.end_row whole)
+      (does_whole code n of.last _ frame.store _
+      (begins code (length names) frame.store of.scalars zeros) of.end_row whole)
 
-  pub is_good : IsGood code (mean_of program)
-  is_good = good code of.solo (outcome_of program) does
+  pub is_good : IsGood code (mean_of program [])
+  is_good = good code of.solo (outcome_of program []) does
 
-  pub has_lock_steps : HasLockSteps code (mean_of program)
-  has_lock_steps = in_step code of.solo (outcome_of program) does
+  pub has_lock_steps : HasLockSteps code (mean_of program [])
+  has_lock_steps = in_step code of.solo (outcome_of program []) does
 
   pub ends_in_bound : ((order : List ℕ) (count k : ℕ) → length (given order count k) ≡ k)
       → ((order : List ℕ) (count k : ℕ) → 0 < count → IsOrder count order
       → IsOrder count (given order count k))
-      → EndsInBound code (mean_of program) (steps_of program) (shattered_loops program)
+      → EndsInBound code (mean_of program []) (steps_of program []) (shattered_loops program)
   ends_in_bound many below n order ending h =
-      let bound = turn_bound code (steps_of program) (shattered_loops program) n in
+      let bound = turn_bound code (steps_of program []) (shattered_loops program) n in
       let one = one_processor code of.solo in
       let some : 0 < processors code = omega (arith, one) in
       let more = given order (processors code) (length order + bound) in
       let long : length more ≡ length order + bound = many order (processors code)
       (length order + bound) in
-      let enough : each code * steps_of program n + 1 ≤ bound =
-      subst (λ p. each code * steps_of program n + 1 ≤ 2 ^ 27 * p * p * each code *
-      (steps_of program n + 1) * (n + 1) ^ 0) (sym one)
-      (bound_is_enough (each code) (steps_of program n) n (omega arith)) in
-      over_in_time code of.solo (outcome_of program) does n ending more
+      let enough : each code * steps_of program [] n + 1 ≤ bound =
+      subst (λ p. each code * steps_of program [] n + 1 ≤ 2 ^ 27 * p * p * each code *
+      (steps_of program [] n + 1) * (n + 1) ^ 0) (sym one)
+      (bound_is_enough (each code) (steps_of program [] n) n (omega arith)) in
+      over_in_time code of.solo (outcome_of program []) does n ending more
       (below order (processors code) (length order + bound) some h)
       (omega (arith, long, enough))

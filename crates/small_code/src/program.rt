@@ -33,11 +33,11 @@ pub fn code_of_small(alloc: Global, program: &Program<'_>) -> Result<NodeProgram
 
     // It is right after every order of turns, some order brings it to each bound of the meaning,
     // and where the meaning ends it comes to its end in time.
-    ensures good { IfOk result (λ code. IsGood code (mean_of (syntax_of program.now))) }
-    ensures in_step { IfOk result (λ code. HasLockSteps code (mean_of (syntax_of program.now))) }
+    ensures good { IfOk result (λ code. IsGood code (mean_of (syntax_of program.now) [])) }
+    ensures in_step { IfOk result (λ code. HasLockSteps code (mean_of (syntax_of program.now) [])) }
     ensures bound { let tree = syntax_of program.now in
         IfOk result (λ code.
-        EndsInBound code (mean_of tree) (steps_of tree) (shattered_loops tree)) }
+        EndsInBound code (mean_of tree []) (steps_of tree []) (shattered_loops tree)) }
 
     // It is for one processor, and no larger than the source.
     ensures tidy { let tree = syntax_of program.now in

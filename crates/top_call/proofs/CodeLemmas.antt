@@ -66,8 +66,8 @@ pub code_is : (text : List ℕ) (tokens : List Token) (program : Program) (code 
     → IsShallowTree text tokens program
     → sum_by (λ word. length (word_text word)) (program_words program) ≤ length text
     → IsSmall program
-    → IsGood code (mean_of program) → HasLockSteps code (mean_of program)
-    → EndsInBound code (mean_of program) (steps_of program) (shattered_loops program)
+    → IsGood code (mean_of program []) → HasLockSteps code (mean_of program [])
+    → EndsInBound code (mean_of program []) (steps_of program []) (shattered_loops program)
     → (HoldsItsWords program → IsTidy one_processor program (length (program_words program)) code)
     → IsCodeOf text code
 code_is text tokens program code of_text few tree fit small good in_step in_time tidy =

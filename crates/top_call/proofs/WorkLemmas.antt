@@ -62,10 +62,10 @@ the_rest bound limit k within all = omega arith
 too_few_of : StaysOver → (text : List ℕ) (code : Tables) (of_text : IsCodeOf text code)
     (limit k : ℕ) → k ≡ limit
     → ¬ IsOver (grid_at code [] k)
-    → IsTooFew limit code (mean_of of_text.program) (steps_of of_text.program)
+    → IsTooFew limit code (mean_of of_text.program []) (steps_of of_text.program [])
     (shattered_loops of_text.program)
 too_few_of law text code of_text limit k all not_over = λ n ends.
-    let bound : ℕ = turn_bound code (steps_of of_text.program) (shattered_loops of_text.program) n
+    let bound : ℕ = turn_bound code (steps_of of_text.program []) (shattered_loops of_text.program) n
     in
     let nobody : IsOrder (processors code) [] = λ i d h. absurd (omega arith) in
     let in_time : IsOver (grid_at code [] (0 + bound)) = of_text.compiled.in_time n [] ends nobody

@@ -2,25 +2,47 @@
 use Rattle.std.proofs.Common.{◌≡◌, ◌≢◌, ℕ, zero, suc, ◌≤◌, ◌⊎◌, Bool, true, false, ℤ, pos, int_lt}
 use Rattle.std.proofs.Common.{List, [], ◌∷◌, ◌++◌, length, Option, Some, None, refl, sym, ◌∙◌, ap}
 use Rattle.std.proofs.Common.{subst, inl, inr, arith, append_assoc}
+use Rattle.std.specs.Prelude.{map}
 use Rattle.std.proofs.lemmas.List.{append-nil}
 use Rattle.zpl_lists.specs.Front.{IsFrontOf}
 use Rattle.zpl_nums.specs.declared.ends.End.{End}
 use Rattle.zpl_nums.specs.declared.ends.End.TheVariants.{Done, Trap, More}
 use Rattle.zpl_nums.specs.Integer.{is_true}
-use Rattle.zpl_tree.specs.Syntax.{Base, VarDef, Param, Procedure, Program, Stmt, Prefixed, Stmts}
-use Rattle.zpl_tree.specs.Syntax.{NoStmt, ThenStmt, Form, Assign, Invoke, Block, If, While, Repeat}
-use Rattle.zpl_tree.specs.Syntax.{For, Border, Write, Return, Arm, Tested, Arms, NoArm, ThenArm}
-use Rattle.zpl_tree.specs.Syntax.{Otherwise, NoElse, Else}
-use Rattle.zpl_meaning.specs.Store.{Thing, Scalar, Store, empty_store, with_scalar, thing_of}
-use Rattle.zpl_meaning.specs.Value.{Computed, Gives, ZeroDivisor, NotBuilt}
+use Rattle.zpl_nums.specs.declared.operators.Op.{Op}
+use Rattle.zpl_tree.specs.Syntax.{Name, Expr, Number, Truth, Coord, Named, Shifted, Around, Remap}
+use Rattle.zpl_tree.specs.Syntax.{Call, Paren, Neg, Not, Abs, Pair, Reduce, Scan, Flood, Exprs}
+use Rattle.zpl_tree.specs.Syntax.{Prefix, Program, Stmt, Prefixed, Stmts, NoStmt, ThenStmt, Form}
+use Rattle.zpl_tree.specs.Syntax.{Assign, Invoke, Block, If, While, Repeat, For, Border, Write}
+use Rattle.zpl_tree.specs.Syntax.{Return, Arm, Tested, Arms, NoArm, ThenArm, Otherwise, NoElse, Else}
+use Rattle.zpl_names.specs.Kinds.{Rank}
+use Rattle.zpl_names.specs.Sites.{tests_rank}
+use Rattle.zpl_names.specs.Declared.{Routine, routine_named}
+use Rattle.zpl_names.specs.Reached.{longest_chain}
+use Rattle.zpl_binding.specs.Settings.{Setting}
+use Rattle.zpl_binding.specs.Declarations.{known_of}
+use Rattle.zpl_binding.specs.Regions.{Known}
+use Rattle.zpl_binding.specs.Storages.{Border as BorderText, borders_of}
+use Rattle.zpl_meaning.specs.Computed.{Computed, Gives, Traps}
+use Rattle.zpl_meaning.specs.Store.{Thing, Scalar, ArrayAt, Fixed, Store, thing_of, scalar_at}
+use Rattle.zpl_meaning.specs.Store.{with_scalar, cut_back}
+use Rattle.zpl_meaning.specs.Context.{Over, Setup, Place, over_at, reach_of}
+use Rattle.zpl_meaning.specs.Regions.{over_in, under_prefix}
 use Rattle.zpl_meaning.specs.Outcome.{Outcome, goes_on, wants_more, counting, behind, then_at}
 use Rattle.zpl_meaning.specs.Outcome.{then_do, with_value, choose, Test, tested, while_turns}
 use Rattle.zpl_meaning.specs.Outcome.{repeat_turns, Count, is_past, next_value, for_turns}
-use Rattle.zpl_meaning.specs.Statement.{Context, exec, exec_all, exec_form, exec_arms, exec_arm}
-use Rattle.zpl_meaning.specs.Statement.{arms_at, exec_otherwise, test_of, Start, head_value}
-use Rattle.zpl_meaning.specs.Statement.{for_from, line_of}
-use Rattle.zpl_meaning.specs.Program.{Names, if_bare, run_entry, context_of, with_declarations}
-use Rattle.zpl_meaning.specs.Program.{entry_of, outcome_of, mean_of}
+use Rattle.zpl_meaning.specs.Points.{Point, point_test, point_stmt, point_stmts, point_form}
+use Rattle.zpl_meaning.specs.Points.{point_arms, point_arm, point_otherwise, Run, worse, worst}
+use Rattle.zpl_names.specs.Counts.{form_nodes}
+use Rattle.zpl_meaning.specs.Points.{joined, kept_tuples, run_at, runs_of, all_runs, at_tuple}
+use Rattle.zpl_meaning.specs.Points.{parts_in, shattered_at, shattered}
+use Rattle.zpl_meaning.specs.Variables.{Frame, with_new_scalar}
+use Rattle.zpl_meaning.specs.Calls.{Handed, Called, actuals_in, entered, place_in}
+use Rattle.zpl_meaning.specs.Statement.{Context, line_of, with_result, invoke, assign_call, assign}
+use Rattle.zpl_meaning.specs.Statement.{Start, head_value, for_from, under, test_of, arms_at}
+use Rattle.zpl_meaning.specs.Statement.{is_split, exec, exec_all, exec_form, exec_arms, exec_arm}
+use Rattle.zpl_meaning.specs.Statement.{exec_otherwise}
+use Rattle.zpl_meaning.specs.Program.{returned, run_routine, call_at, setup_of, entry_call}
+use Rattle.zpl_meaning.specs.Program.{first_frame, outcome_of, mean_of}
 
 -- the second is the first, or the first wants more and the second begins with what it printed
 abbrev pub Grows : Outcome → Outcome → Type 0
@@ -81,8 +103,7 @@ Grows-with_value : {A : Type 0} (computed : Computed A) (store : Store) (line : 
     → ((value : A) → Grows (f value) (g value))
     → Grows (with_value computed store line f) (with_value computed store line g)
 Grows-with_value (Gives value) store line f g grows = grows value
-Grows-with_value ZeroDivisor store line f g grows = inl refl
-Grows-with_value NotBuilt store line f g grows = inl refl
+Grows-with_value (Traps kind) store line f g grows = inl refl
 
 Grows-choose : (b : Bool) (f f' g g' : Store → Outcome) (store : Store)
     → Grows (f store) (f' store) → Grows (g store) (g' store)
@@ -154,100 +175,285 @@ module _ (f g : Store → Outcome) (grows : (store : Store) → Grows (f store) 
 
   Grows-for_from : (n m : ℕ) → n ≤ m → (thing : Option Thing) (start : Start) (store : Store)
       → Grows (for_from n thing start f store) (for_from m thing start g store)
-  Grows-for_from n m h (Some (Scalar place boolean)) start store =
+  Grows-for_from n m h (Some (Scalar place)) start store =
       let set : ℤ → Store → Store = λ value s. with_scalar s place value in
       Grows-choose (int_lt start.count.by (pos 1)) goes_on goes_on
       (for_turns n start.count set f start.first) (for_turns m start.count set g start.first) store
       (inl refl)
       (Grows-for_turns n m h start.count set start.first store)
+  Grows-for_from n m h (Some (ArrayAt place home)) start store = inl refl
+  Grows-for_from n m h (Some (Fixed value)) start store = inl refl
   Grows-for_from n m h None start store = inl refl
 
--- ---- statements
-module _ (context : Context) (n m : ℕ) (h : n ≤ m) where
+-- ---- shattered statements
+module _ (point : Point) (n m : ℕ) (h : n ≤ m) where
   mutual
-    pub Grows-exec : (stmt : Stmt) (store : Store)
-        → Grows (exec context n stmt store) (exec context m stmt store)
-    Grows-exec (Prefixed at [] form) store =
-        Grows-counting _ _ _ (Grows-exec_form at form store)
-    Grows-exec (Prefixed at (prefix ∷ prefixes) form) store = inl refl
+    Grows-point_stmt : (stmt : Stmt) (store : Store)
+        → Grows (point_stmt point n stmt store) (point_stmt point m stmt store)
+    Grows-point_stmt (Prefixed at prefixes form) store = Grows-point_form form store
 
-    Grows-exec_all : (stmts : Stmts) (store : Store)
-        → Grows (exec_all context n stmts store) (exec_all context m stmts store)
-    Grows-exec_all NoStmt store = inl refl
-    Grows-exec_all (ThenStmt first rest) store =
-        Grows-then_do (exec_all context n rest) (exec_all context m rest) (Grows-exec_all rest) _ _
-        (Grows-exec first store)
+    Grows-point_stmts : (stmts : Stmts) (store : Store)
+        → Grows (point_stmts point n stmts store) (point_stmts point m stmts store)
+    Grows-point_stmts NoStmt store = inl refl
+    Grows-point_stmts (ThenStmt first rest) store =
+        Grows-then_do (point_stmts point n rest) (point_stmts point m rest)
+        (Grows-point_stmts rest) _ _ (Grows-point_stmt first store)
 
-    Grows-exec_form : (at : ℕ) (form : Form) (store : Store)
-        → Grows (exec_form context n at form store) (exec_form context m at form store)
-    Grows-exec_form at (Assign name op value) store = inl refl
-    Grows-exec_form at (Block body) store = Grows-exec_all body store
-    Grows-exec_form at (If arms otherwise) store =
-        Grows-exec_arms at arms (exec_otherwise context n otherwise)
-        (exec_otherwise context m otherwise) (Grows-exec_otherwise otherwise) store
-    Grows-exec_form at (While test body) store =
-        Grows-while_turns (exec_all context n body) (exec_all context m body) (Grows-exec_all body)
-        n m h (test_of context test at) store
-    Grows-exec_form at (Repeat body until test) store =
-        Grows-repeat_turns (exec_all context n body) (exec_all context m body) (Grows-exec_all body)
-        n m h (test_of context test until) store
-    Grows-exec_form at (For head body) store =
-        Grows-with_value (head_value context.environment store head) store (line_of context at) _ _
-        (λ start. Grows-for_from (exec_all context n body) (exec_all context m body)
-        (Grows-exec_all body) n m h
-        (thing_of context.environment head.name.text) start store)
-    Grows-exec_form at (Write line items) store = inl refl
-    Grows-exec_form at (Invoke name actuals) store = inl refl
-    Grows-exec_form at (Border kind names) store = inl refl
-    Grows-exec_form at (Return value) store = inl refl
+    Grows-point_form : (form : Form) (store : Store)
+        → Grows (point_form point n form store) (point_form point m form store)
+    Grows-point_form (Assign name op value) store = inl refl
+    Grows-point_form (Block body) store = Grows-point_stmts body store
+    Grows-point_form (If arms otherwise) store =
+        Grows-point_arms arms (point_otherwise point n otherwise)
+        (point_otherwise point m otherwise) (Grows-point_otherwise otherwise) store
+    Grows-point_form (While test body) store =
+        Grows-while_turns (point_stmts point n body) (point_stmts point m body)
+        (Grows-point_stmts body) n m h (point_test point test) store
+    Grows-point_form (Repeat body until test) store =
+        Grows-repeat_turns (point_stmts point n body) (point_stmts point m body)
+        (Grows-point_stmts body) n m h (point_test point test) store
+    Grows-point_form (For head body) store = inl refl
+    Grows-point_form (Write line items) store = inl refl
+    Grows-point_form (Invoke name actuals) store = inl refl
+    Grows-point_form (Border kind names) store = inl refl
+    Grows-point_form (Return value) store = inl refl
 
-    Grows-exec_arms : (at : ℕ) (arms : Arms) (f g : Store → Outcome)
+    Grows-point_arms : (arms : Arms) (f g : Store → Outcome)
         → ((store : Store) → Grows (f store) (g store)) → (store : Store)
-        → Grows (exec_arms context n at arms f store) (exec_arms context m at arms g store)
-    Grows-exec_arms at NoArm f g grows store = grows store
-    Grows-exec_arms at (ThenArm first rest) f g grows store =
-        Grows-exec_arm at first (exec_arms context n (arms_at rest) rest f)
-        (exec_arms context m (arms_at rest) rest g)
-        (Grows-exec_arms (arms_at rest) rest f g grows) store
+        → Grows (point_arms point n arms f store) (point_arms point m arms g store)
+    Grows-point_arms NoArm f g grows store = grows store
+    Grows-point_arms (ThenArm first rest) f g grows store =
+        Grows-point_arm first (point_arms point n rest f) (point_arms point m rest g)
+        (Grows-point_arms rest f g grows) store
 
-    Grows-exec_arm : (at : ℕ) (arm : Arm) (f g : Store → Outcome)
+    Grows-point_arm : (arm : Arm) (f g : Store → Outcome)
         → ((store : Store) → Grows (f store) (g store)) → (store : Store)
-        → Grows (exec_arm context n at arm f store) (exec_arm context m at arm g store)
-    Grows-exec_arm at (Tested own test body) f g grows store =
-        Grows-tested (test_of context test at) (exec_all context n body) (exec_all context m body) f
-        g store
-        (Grows-exec_all body store) (grows store)
+        → Grows (point_arm point n arm f store) (point_arm point m arm g store)
+    Grows-point_arm (Tested own test body) f g grows store =
+        Grows-tested (point_test point test) (point_stmts point n body) (point_stmts point m body)
+        f g store (Grows-point_stmts body store) (grows store)
 
-    Grows-exec_otherwise : (otherwise : Otherwise) (store : Store)
-        → Grows (exec_otherwise context n otherwise store)
-        (exec_otherwise context m otherwise store)
-    Grows-exec_otherwise NoElse store = inl refl
-    Grows-exec_otherwise (Else body) store = Grows-exec_all body store
+    Grows-point_otherwise : (otherwise : Otherwise) (store : Store)
+        → Grows (point_otherwise point n otherwise store)
+        (point_otherwise point m otherwise store)
+    Grows-point_otherwise NoElse store = inl refl
+    Grows-point_otherwise (Else body) store = Grows-point_stmts body store
 
--- ---- programs
-Grows-if_bare : (params : List Param) (result : Option Base) (locals : List VarDef) (a b : Outcome)
-    → Grows a b → Grows (if_bare params result locals a) (if_bare params result locals b)
-Grows-if_bare [] None [] a b h = h
-Grows-if_bare [] None (var ∷ vars) a b h = inl refl
-Grows-if_bare [] (Some base) locals a b h = inl refl
-Grows-if_bare (param ∷ params) result locals a b h = inl refl
+worse-More : (ending : End) → worse ending More ≡ More
+worse-More Done = refl
+worse-More (Trap kind line) = refl
+worse-More More = refl
 
-Grows-run_entry : (source : List ℕ) (n m : ℕ) → n ≤ m
-    → (entry : Option Procedure) (names : Option Names)
-    → Grows (run_entry source n entry names) (run_entry source m entry names)
-Grows-run_entry source n m h (Some procedure) (Some names) =
-    Grows-if_bare procedure.params procedure.result procedure.locals
-    (exec (context_of source names) n procedure.body (empty_store (length names)))
-    (exec (context_of source names) m procedure.body (empty_store (length names)))
-    (Grows-exec (context_of source names) n m h procedure.body (empty_store (length names)))
-Grows-run_entry source n m h (Some procedure) None = inl refl
-Grows-run_entry source n m h None names = inl refl
+-- runs of tuples that grow are the same, or some run wants more
+module _ (f g : List ℤ → Outcome) (grows : (t : List ℤ) → Grows (f t) (g t)) where
+  abbrev OneOrMore : List (List ℤ) → Type 0
+  OneOrMore ts = (worst (runs_of f ts) ≡ More) ⊎ (runs_of f ts ≡ runs_of g ts)
 
-pub Grows-outcome_of : (program : Program) (n m : ℕ) → n ≤ m
-    → Grows (outcome_of program n) (outcome_of program m)
-Grows-outcome_of program n m h =
-    Grows-run_entry program.source n m h (entry_of program)
-    (with_declarations (Some []) program.decls)
+  both_runs : (t : List ℤ) (ts : List (List ℤ)) → Grows (f t) (g t) → OneOrMore ts
+      → OneOrMore (t ∷ ts)
+  both_runs t ts first (inl more) =
+      inl (ap (worse (f t).ending) more ∙ worse-More (f t).ending)
+  both_runs t ts (inr more) (inr same) =
+      inl (ap (λ ending. worse ending (worst (runs_of f ts))) more.0)
+  both_runs t ts (inl one) (inr same) =
+      inr (ap (λ outcome. record { tuple = t; outcome = outcome } ∷ runs_of f ts) one
+      ∙ ap (λ runs. record { tuple = t; outcome = g t } ∷ runs) same)
+
+  all_or_more : (ts : List (List ℤ)) → OneOrMore ts
+  all_or_more [] = inr refl
+  all_or_more (t ∷ ts) = both_runs t ts (grows t) (all_or_more ts)
+
+  Grows-all_runs : (store : Store) (ts : List (List ℤ))
+      → Grows (all_runs store (runs_of f ts)) (all_runs store (runs_of g ts))
+  Grows-all_runs store ts = by (all_or_more ts)
+    where
+      by : OneOrMore ts → Grows (all_runs store (runs_of f ts)) (all_runs store (runs_of g ts))
+      by (inl more) =
+          subst (λ ending. Grows (joined ending store (runs_of f ts))
+          (all_runs store (runs_of g ts))) (sym more) (from_nothing store _)
+      by (inr same) = inl (ap (all_runs store) same)
+
+Grows-shattered_at : (place : Place) (rank : Rank) (over : Over) (line n m : ℕ) → n ≤ m
+    → (form : Form) (store : Store)
+    → Grows (shattered_at place rank over line n form store)
+    (shattered_at place rank over line m form store)
+Grows-shattered_at place rank over line n m h form store =
+    let one = run_at place rank line n form store in
+    let other = run_at place rank line m form store in
+    let tuples = kept_tuples store over in
+    Grows-counting (form_nodes form) _ _
+    (Grows-with_value (parts_in place rank over form store) store line
+    (λ _. all_runs store (runs_of one tuples)) (λ _. all_runs store (runs_of other tuples))
+    (λ fields.
+    Grows-all_runs one other (λ t.
+    Grows-point_form (record { place = place; rank = rank; tuple = t; line = line }) n m h form
+    (at_tuple t store)) store tuples))
+
+Grows-shattered : (place : Place) (line n m : ℕ) → n ≤ m → (form : Form) (store : Store)
+    → Grows (shattered place line n form store) (shattered place line m form store)
+Grows-shattered place line n m h form store =
+    let rank : Rank = tests_rank (reach_of place) form in
+    Grows-shattered_at place rank (over_at place.currents rank) line n m h form store
+
+-- ---- calls
+abbrev CallGrows : (Called → Store → Outcome) → (Called → Store → Outcome) → Type 0
+CallGrows call other = (called : Called) (store : Store) → Grows (call called store) (other called store)
+
+-- ---- statements
+module _ (n m : ℕ) (h : n ≤ m) (call other : Called → Store → Outcome)
+    (calls : CallGrows call other) where
+  abbrev less : Place → Context
+  less place = record { place = place; call = call }
+
+  abbrev more : Place → Context
+  more place = record { place = place; call = other }
+
+  Grows-assign_call : (place : Place) (target name : Name) (actuals : Exprs) (line : ℕ)
+      (store : Store)
+      → Grows (assign_call (less place) target name actuals line store)
+      (assign_call (more place) target name actuals line store)
+  Grows-assign_call place target name actuals line store =
+      Grows-with_value (actuals_in place store name actuals) store line _ _ (λ handed.
+      Grows-then_do _ _ (λ after. inl refl) _ _ (calls _ (with_new_scalar store (pos 0))))
+
+  Grows-assign : (place : Place) (name : Name) (op : Option Op) (value : Expr) (line : ℕ)
+      (store : Store)
+      → Grows (assign (less place) name op value line store)
+      (assign (more place) name op value line store)
+  Grows-assign place name None (Call at callee actuals) line store =
+      Grows-assign_call place name callee actuals line store
+  Grows-assign place name None (Number at value) line store = inl refl
+  Grows-assign place name None (Truth at value) line store = inl refl
+  Grows-assign place name None (Coord at k) line store = inl refl
+  Grows-assign place name None (Named at other) line store = inl refl
+  Grows-assign place name None (Shifted at other shift) line store = inl refl
+  Grows-assign place name None (Around at other shift) line store = inl refl
+  Grows-assign place name None (Remap at other indices) line store = inl refl
+  Grows-assign place name None (Paren at inside) line store = inl refl
+  Grows-assign place name None (Neg at operand) line store = inl refl
+  Grows-assign place name None (Not at operand) line store = inl refl
+  Grows-assign place name None (Abs at operand) line store = inl refl
+  Grows-assign place name None (Pair at op left right) line store = inl refl
+  Grows-assign place name None (Reduce at operator over operand) line store = inl refl
+  Grows-assign place name None (Scan at operator along operand) line store = inl refl
+  Grows-assign place name None (Flood at source operand) line store = inl refl
+  Grows-assign place name (Some op) value line store = inl refl
+
+  Grows-invoke : (place : Place) (name : Name) (actuals : Exprs) (line : ℕ) (store : Store)
+      → Grows (invoke (less place) name actuals line store)
+      (invoke (more place) name actuals line store)
+  Grows-invoke place name actuals line store =
+      Grows-with_value (actuals_in place store name actuals) store line _ _ (λ handed.
+      calls _ store)
+
+  Grows-under : (place : Place) (prefixes : List Prefix) (store : Store)
+      (f g : Context → Outcome)
+      → ((inner : Place) → Grows (f (less inner)) (g (more inner)))
+      → Grows (under (less place) prefixes store f) (under (more place) prefixes store g)
+  Grows-under place [] store f g grows = grows place
+  Grows-under place (prefix ∷ prefixes) store f g grows =
+      Grows-with_value (over_in place store prefix) store (line_of place prefix.at) _ _ (λ over.
+      Grows-under (under_prefix place prefix over) prefixes store f g grows)
+
+  mutual
+    Grows-exec : (stmt : Stmt) (place : Place) (store : Store)
+        → Grows (exec (less place) n stmt store) (exec (more place) m stmt store)
+    Grows-exec (Prefixed at prefixes form) place store =
+        Grows-counting _ _ _
+        (Grows-under place prefixes store _ _ (λ inner. Grows-exec_form form inner at store))
+
+    Grows-exec_all : (stmts : Stmts) (place : Place) (store : Store)
+        → Grows (exec_all (less place) n stmts store) (exec_all (more place) m stmts store)
+    Grows-exec_all NoStmt place store = inl refl
+    Grows-exec_all (ThenStmt first rest) place store =
+        Grows-then_do (exec_all (less place) n rest) (exec_all (more place) m rest)
+        (Grows-exec_all rest place) _ _ (Grows-exec first place store)
+
+    Grows-exec_form : (form : Form) (place : Place) (at : ℕ) (store : Store)
+        → Grows (exec_form (less place) n at form store) (exec_form (more place) m at form store)
+    Grows-exec_form (Assign name op value) place at store =
+        Grows-assign place name op value (line_of place at) store
+    Grows-exec_form (Invoke name actuals) place at store =
+        Grows-invoke place name actuals (line_of place at) store
+    Grows-exec_form (Block body) place at store = Grows-exec_all body place store
+    Grows-exec_form (If arms otherwise) place at store =
+        Grows-choose (is_split (less place) (If arms otherwise)) _ _ _ _ store
+        (Grows-shattered place (line_of place at) n m h (If arms otherwise) store)
+        (Grows-exec_arms arms place at _ _ (Grows-exec_otherwise otherwise place) store)
+    Grows-exec_form (While test body) place at store =
+        Grows-choose (is_split (less place) (While test body)) _ _ _ _ store
+        (Grows-shattered place (line_of place at) n m h (While test body) store)
+        (Grows-while_turns (exec_all (less place) n body) (exec_all (more place) m body)
+        (Grows-exec_all body place) n m h (test_of place test at) store)
+    Grows-exec_form (Repeat body until test) place at store =
+        Grows-choose (is_split (less place) (Repeat body until test)) _ _ _ _ store
+        (Grows-shattered place (line_of place at) n m h (Repeat body until test) store)
+        (Grows-repeat_turns (exec_all (less place) n body) (exec_all (more place) m body)
+        (Grows-exec_all body place) n m h (test_of place test until) store)
+    Grows-exec_form (For head body) place at store =
+        Grows-with_value (head_value place store head) store (line_of place at) _ _
+        (λ start. Grows-for_from (exec_all (less place) n body) (exec_all (more place) m body)
+        (Grows-exec_all body place) n m h
+        (thing_of place.environment head.name.text) start store)
+    Grows-exec_form (Write line items) place at store = inl refl
+    Grows-exec_form (Border kind names) place at store = inl refl
+    Grows-exec_form (Return value) place at store = inl refl
+
+    Grows-exec_arms : (arms : Arms) (place : Place) (at : ℕ) (f g : Store → Outcome)
+        → ((store : Store) → Grows (f store) (g store)) → (store : Store)
+        → Grows (exec_arms (less place) n at arms f store) (exec_arms (more place) m at arms g store)
+    Grows-exec_arms NoArm place at f g grows store = grows store
+    Grows-exec_arms (ThenArm first rest) place at f g grows store =
+        Grows-exec_arm first place at (exec_arms (less place) n (arms_at rest) rest f)
+        (exec_arms (more place) m (arms_at rest) rest g)
+        (Grows-exec_arms rest place (arms_at rest) f g grows) store
+
+    Grows-exec_arm : (arm : Arm) (place : Place) (at : ℕ) (f g : Store → Outcome)
+        → ((store : Store) → Grows (f store) (g store)) → (store : Store)
+        → Grows (exec_arm (less place) n at arm f store) (exec_arm (more place) m at arm g store)
+    Grows-exec_arm (Tested own test body) place at f g grows store =
+        Grows-tested (test_of place test at) (exec_all (less place) n body)
+        (exec_all (more place) m body) f g store
+        (Grows-exec_all body place store) (grows store)
+
+    Grows-exec_otherwise : (otherwise : Otherwise) (place : Place) (store : Store)
+        → Grows (exec_otherwise (less place) n otherwise store)
+        (exec_otherwise (more place) m otherwise store)
+    Grows-exec_otherwise NoElse place store = inl refl
+    Grows-exec_otherwise (Else body) place store = Grows-exec_all body place store
+
+-- ---- calls, and programs
+Grows-returned : (before : Store) (a b : Outcome) → Grows a b
+    → Grows (returned before a) (returned before b)
+Grows-returned before a b (inl e) = inl (ap (returned before) e)
+Grows-returned before a b (inr m) = inr m
+
+Grows-run_routine : (setup : Setup) (n m : ℕ) → n ≤ m → (call other : Called → Store → Outcome)
+    → CallGrows call other → (routine : Option Routine) (called : Called) (store : Store)
+    → Grows (run_routine setup n call routine called store)
+    (run_routine setup m other routine called store)
+Grows-run_routine setup n m h call other calls None called store = inl refl
+Grows-run_routine setup n m h call other calls (Some routine) called store =
+    let frame : Frame = entered setup routine called.actuals store in
+    Grows-returned store _ _
+    (Grows-exec n m h call other calls routine.procedure.body
+    (place_in setup routine called frame) frame.store)
+
+Grows-call_at : (setup : Setup) (n m : ℕ) → n ≤ m → (depth : ℕ)
+    → CallGrows (call_at setup n depth) (call_at setup m depth)
+Grows-call_at setup n m h zero called store = inl refl
+Grows-call_at setup n m h (suc depth) called store =
+    Grows-run_routine setup n m h (call_at setup n depth) (call_at setup m depth)
+    (Grows-call_at setup n m h depth) (routine_named setup.program called.name) called store
+
+pub Grows-outcome_of : (program : Program) (settings : List Setting) (n m : ℕ) → n ≤ m
+    → Grows (outcome_of program settings n) (outcome_of program settings m)
+Grows-outcome_of program settings n m h =
+    let known : Known = known_of program settings in
+    let borders : List BorderText = borders_of program in
+    let frame : Frame = first_frame program known borders in
+    Grows-call_at (setup_of program known borders frame) n m h longest_chain
+    (entry_call program) frame.store
 
 front_of : (a b : Outcome) → Grows a b → IsFrontOf a.bytes b.bytes
 front_of a b (inl e) =
@@ -258,12 +464,15 @@ stays : (a b : Outcome) → Grows a b → a.ending ≢ More → b ≡ a
 stays a b (inl e) ended = sym e
 stays a b (inr m) ended = absurd (ended m.0)
 
-pub IsFrontOf-mean_of : (program : Program) (n m : ℕ) → n ≤ m
-    → IsFrontOf (mean_of program n).bytes (mean_of program m).bytes
-IsFrontOf-mean_of program n m h =
-    front_of (outcome_of program n) (outcome_of program m) (Grows-outcome_of program n m h)
+pub IsFrontOf-mean_of : (program : Program) (settings : List Setting) (n m : ℕ) → n ≤ m
+    → IsFrontOf (mean_of program settings n).bytes (mean_of program settings m).bytes
+IsFrontOf-mean_of program settings n m h =
+    front_of (outcome_of program settings n) (outcome_of program settings m)
+    (Grows-outcome_of program settings n m h)
 
-pub outcome_of-stays : (program : Program) (n m : ℕ) → n ≤ m → (outcome_of program n).ending ≢ More
-    → outcome_of program m ≡ outcome_of program n
-outcome_of-stays program n m h =
-    stays (outcome_of program n) (outcome_of program m) (Grows-outcome_of program n m h)
+pub outcome_of-stays : (program : Program) (settings : List Setting) (n m : ℕ) → n ≤ m
+    → (outcome_of program settings n).ending ≢ More
+    → outcome_of program settings m ≡ outcome_of program settings n
+outcome_of-stays program settings n m h =
+    stays (outcome_of program settings n) (outcome_of program settings m)
+    (Grows-outcome_of program settings n m h)

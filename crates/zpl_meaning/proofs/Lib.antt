@@ -1,2 +1,6 @@
-mod Examples
+mod ExamplesArrays
+mod ExamplesOperators
+mod ExamplesScalars
+mod ExamplesShattered
 pub mod GrowthLemmas
+pub mod ScalarLemmas

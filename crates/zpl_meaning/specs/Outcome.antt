@@ -3,10 +3,9 @@ use Rattle.std.specs.Prelude.{ℕ, zero, suc, ◌+◌, Bool, true, false, ℤ, �
 use Rattle.std.specs.Prelude.{if◌then◌else◌, List, [], ◌++◌}
 use Rattle.zpl_nums.specs.declared.ends.End.{End}
 use Rattle.zpl_nums.specs.declared.ends.End.TheVariants.{Done, Trap, More}
-use Rattle.zpl_nums.specs.declared.ends.TrapKind.TheVariants.{DivideByZero}
 use Rattle.zpl_nums.specs.Integer.{is_true}
 use Rattle.zpl_meaning.specs.Store.{Store}
-use Rattle.zpl_meaning.specs.Value.{Computed, Gives, ZeroDivisor, NotBuilt}
+use Rattle.zpl_meaning.specs.Computed.{Computed, Gives, Traps}
 
 -- The store afterwards; the bytes that were printed; `Done` where the run goes on, or why it
 -- doesn't; and the steps that were taken.
@@ -45,11 +44,10 @@ then_at More first next = first
 abbrev pub then_do : Outcome → (Store → Outcome) → Outcome
 then_do first next = then_at first.ending first next
 
--- goes on with a value; a zero divisor traps at the line, and a form without meaning wants more
+-- goes on with a value, or ends with a trap at the line
 abbrev pub with_value : {A : Type 0} → Computed A → Store → ℕ → (A → Outcome) → Outcome
 with_value (Gives value) store line next = next value
-with_value ZeroDivisor store line next = ends store (Trap DivideByZero line)
-with_value NotBuilt store line next = ends store More
+with_value (Traps kind) store line next = ends store (Trap kind line)
 
 -- one of two
 abbrev pub choose : Bool → (Store → Outcome) → (Store → Outcome) → Store → Outcome

@@ -1,32 +1,60 @@
 -- What prints append.
-use Rattle.std.specs.Prelude.{ℕ, Bool, true, false, if◌then◌else◌, ℤ, List, [], ◌∷◌, ◌++◌, codes}
-use Rattle.std.specs.Fmt.{signed_decimal}
-use Rattle.zpl_nums.specs.Integer.{is_true}
+use Rattle.std.specs.Prelude.{ℕ, zero, suc, Bool, true, false, if◌then◌else◌, ℤ, pos, List, [], ◌∷◌}
+use Rattle.std.specs.Prelude.{◌++◌, Option, Some, None}
 use Rattle.zpl_text.specs.Escapes.{unescaped}
-use Rattle.zpl_tree.specs.Syntax.{Item, Str, Value}
-use Rattle.zpl_meaning.specs.Store.{Environment, Store}
-use Rattle.zpl_meaning.specs.Value.{Computed, Gives, computed_then, both_then, value_of, is_boolean}
+use Rattle.zpl_arrays.specs.Array.{element}
+use Rattle.zpl_arrays.specs.ArrayText.{number_text, truth_text, array_text}
+use Rattle.zpl_tree.specs.Syntax.{Expr, Item, Str, Value, Base, Integer, Boolean, Other}
+use Rattle.zpl_names.specs.Kinds.{Rank}
+use Rattle.zpl_names.specs.Sites.{Printed}
+use Rattle.zpl_names.specs.Types.{type_of}
+use Rattle.zpl_meaning.specs.Computed.{Computed, Gives, computed_then, both_then}
+use Rattle.zpl_meaning.specs.Store.{Store}
+use Rattle.zpl_meaning.specs.Context.{over_at, Place, rank_in}
+use Rattle.zpl_meaning.specs.Settled.{Placed}
+use Rattle.zpl_meaning.specs.Fields.{Field, everywhere, array_over}
+use Rattle.zpl_meaning.specs.Phases.{placed_in, fields_in}
 
 -- `true` or `false`, or the decimal text
-abbrev pub value_text : Bool → ℤ → List ℕ
-value_text true value = if is_true value then codes "true" else codes "false"
-value_text false value = signed_decimal value
+abbrev pub value_text : Option Base → ℤ → List ℕ
+value_text (Some Boolean) value = truth_text value
+value_text type value = number_text value
 
-abbrev pub item_text : Environment → Store → Item → Computed (List ℕ)
-item_text environment store (Str bytes) = Gives (unescaped bytes)
-item_text environment store (Value expr) =
-    computed_then (value_of environment store expr)
-    (λ value. Gives (value_text (is_boolean environment expr) value))
+-- the expressions that are printed
+abbrev pub printed_exprs : Place → List Item → List Placed
+printed_exprs place [] = []
+printed_exprs place (Str bytes ∷ items) = printed_exprs place items
+printed_exprs place (Value expr ∷ items) =
+    placed_in place Printed expr ∷ printed_exprs place items
 
--- the items, one after the other
-abbrev pub items_text : Environment → Store → List Item → Computed (List ℕ)
-items_text environment store [] = Gives []
-items_text environment store (item ∷ items) =
-    both_then (item_text environment store item) (items_text environment store items)
-    (λ first rest. Gives (first ++ rest))
+-- the text of an expression of a rank: of a scalar, or of an array over the current region. No
+-- accepted program has a mask there
+abbrev pub field_text : Place → Option Base → Rank → Field → Computed (List ℕ)
+field_text place type (Some (suc rank)) field =
+    let region = (over_at place.currents (Some (suc rank))).region in
+    computed_then (array_over region everywhere field) (λ array.
+    Gives (array_text (value_text type) region (element array)))
+field_text place type rank field =
+    computed_then (field []) (λ value. Gives (value_text type value))
+
+abbrev pub expr_text : Place → Expr → Field → Computed (List ℕ)
+expr_text place expr field =
+    field_text place (type_of place.scope expr) (rank_in place Printed expr) field
+
+-- the items, one after the other, with the fields of those that are expressions
+abbrev pub items_text : Place → List Item → List Field → Computed (List ℕ)
+items_text place [] fields = Gives []
+items_text place (Str bytes ∷ items) fields =
+    both_then (Gives (unescaped bytes)) (items_text place items fields) (λ first rest.
+    Gives (first ++ rest))
+items_text place (Value expr ∷ items) [] = Gives []
+items_text place (Value expr ∷ items) (field ∷ fields) =
+    both_then (expr_text place expr field) (items_text place items fields) (λ first rest.
+    Gives (first ++ rest))
 
 -- and a newline, where it is a line
-abbrev pub print_text : Environment → Store → Bool → List Item → Computed (List ℕ)
-print_text environment store line items =
-    computed_then (items_text environment store items)
-    (λ text. Gives (text ++ (if line then 10 ∷ [] else [])))
+abbrev pub print_text : Place → Store → Bool → List Item → Computed (List ℕ)
+print_text place store line items =
+    computed_then (fields_in place store true (printed_exprs place items)) (λ fields.
+    computed_then (items_text place items fields) (λ text.
+    Gives (text ++ (if line then 10 ∷ [] else []))))

@@ -8,4 +8,4 @@
 
 mod laws;
 
-pub use laws::{endings_stay, meaning_grows};
+pub use laws::{endings_stay, meaning_grows, scalars_have_their_values};
