@@ -26,22 +26,22 @@ two_greet = record {
 }
 
 -- turns of the two in alternation
-abbrev after_turns : ℕ → Grid
-after_turns count = after two_greet (given [] 2 count)
+abbrev after_turns : Option ℕ → ℕ → Grid
+after_turns links count = after two_greet links (given [] 2 count)
 
 -- how each processor has ended, once it has
 abbrev endings : Grid → List (Option End)
-endings grid = map (λ local. local.ended) grid.locals
+endings grid = map (λ local. local.ended) grid.world.locals
 
-eight_turns_print : (after_turns 8).printed ≡ codes "hi21"
+eight_turns_print : (after_turns None 8).printed ≡ codes "hi21"
 unfolding int_wrap digits
 eight_turns_print = refl
 
-over_after_eight : endings (after_turns 8) ≡ Some Done ∷ Some Done ∷ []
+over_after_eight : endings (after_turns (Some 1) 8) ≡ Some Done ∷ Some Done ∷ []
 unfolding int_wrap digits
 over_after_eight = refl
 
-not_over_after_seven : endings (after_turns 7) ≡ Some Done ∷ None ∷ []
+not_over_after_seven : endings (after_turns (Some 2) 7) ≡ Some Done ∷ None ∷ []
 unfolding int_wrap digits
 not_over_after_seven = refl
 

@@ -1,2 +1,5 @@
 mod Examples
+mod ExchangeExamples
+mod FoldExamples
 pub mod GridLemmas
+pub mod ScalarLemmas

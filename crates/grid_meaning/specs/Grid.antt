@@ -1,108 +1,109 @@
 -- The grid of processors, what an order of turns makes of it, and what it shows.
-use Rattle.std.specs.Prelude.{◌≡◌, ◌⊎◌, ℕ, zero, suc, ◌+◌, ◌*◌, ◌<◌, List, [], ◌∷◌, ◌++◌, length, drop, replicate, fold, Option, Some, None, slice_get, slice_index_or, slice_set, option_and_then, IsSome, All}
+--
+--   Grid        the processors' states and their links, what was printed, and counts
+--   IsCapacity  how many messages a link may hold
+--   system_over the processors of a program, over links of a capacity
+--   next_turn   the next turn of a processor
+--   given_turn  the grid after that turn
+--   after       the grid after an order of turns
+--   IsOver, EndsAs, IsStuck, Rests, IsIdle, HasEmptyLinks   what a grid shows
+use Rattle.std.specs.Prelude.{◌≡◌, ◌⊎◌, ℕ, zero, suc, ◌+◌, ◌<◌, ◌≤◌, List, [], ◌∷◌, ◌++◌, length, fold, sum_by, Option, Some, None, slice_get, option_and_then, IsSome, All, ⊤}
 use Rattle.zpl_nums.specs.declared.ends.End.{End}
+use Rattle.grid_links.specs.declared.messages.Message.{Message}
+use Rattle.grid_links.specs.Machine.{Moves, Waiting, Over, Stuck}
+use Rattle.grid_links.specs.Laws.{system_of}
+use Rattle.grid_links.specs.Run as run
+use Rattle.grid_links.specs.Run.{System, World}
 use Rattle.node_form.specs.declared.tables.Tables.{Tables}
-use Rattle.node_form.specs.Grid.{processors_of}
-use Rattle.grid_meaning.specs.Local.{Message, Local, start_local}
-use Rattle.grid_meaning.specs.Turn.{StuckKind, Turn, Moves, Waiting, Over, Stuck, Heads, turn_at}
+use Rattle.grid_meaning.specs.Action.{StuckKind}
+pub use Rattle.grid_meaning.specs.Local.{processors}
+use Rattle.grid_meaning.specs.Local.{Local, start_locals}
+use Rattle.grid_meaning.specs.Turn.{Turn, act, fed}
 
--- The processors' states; the messages on their way, the oldest first: those from p to q are link
--- p * P + q, where P processors are; what processor 0 has printed; and how many turns were given,
+-- The processors' states and the messages on their way; what processor 0 has printed; and how many turns were given,
 -- messages sent, and words in them.
 pub record Grid : Type 0 where
-  pub locals : List Local
-  pub links : List (List Message)
+  pub world : World Local Message
   pub printed : List ℕ
   pub turns : ℕ
   pub sends : ℕ
   pub words : ℕ
 
-abbrev pub processors : Tables → ℕ
-processors code = processors_of code.grid
+-- how many messages a link holds at most: any number, or a capacity from 1 on
+abbrev pub IsCapacity : Option ℕ → Type 0
+IsCapacity None = ⊤
+IsCapacity (Some capacity) = 1 ≤ capacity
+
+-- The processors of a program, each at its start, over links of a capacity.
+abbrev pub system_over : Tables → Option ℕ → System Local Message StuckKind
+system_over code links = system_of (act code) (fed code) (start_locals code) links
 
 abbrev pub start_grid : Tables → Grid
 start_grid code = record {
-  locals = replicate (processors code) (start_local code);
-  links = replicate (processors code * processors code) [];
+  world = run.start_world (system_over code None);
   printed = [];
   turns = 0;
   sends = 0;
   words = 0;
 }
 
--- ---- links
-abbrev pub link_number : Tables → ℕ → ℕ → ℕ
-link_number code from to = from * processors code + to
-
-abbrev pub link_of : Tables → Grid → ℕ → ℕ → List Message
-link_of code grid from to = slice_index_or grid.links (link_number code from to) []
-
--- the first message of each link to a processor
-abbrev pub heads_of : Tables → Grid → ℕ → Heads
-heads_of code grid to from = slice_get (link_of code grid from to) 0
-
--- a message that p sent is the last of its link
-abbrev pub with_sent : Tables → ℕ → Option (ℕ × Message) → Grid → Grid
-with_sent code p None grid = grid
-with_sent code p (Some sent) grid = record grid {
-  links = slice_set grid.links (link_number code p sent.0) (link_of code grid p sent.0 ++ sent.1 ∷ []);
-  sends = grid.sends + 1;
-  words = grid.words + length sent.1.words;
-}
-
--- the first message of a link to p is gone
-abbrev pub with_taken : Tables → ℕ → Option ℕ → Grid → Grid
-with_taken code p None grid = grid
-with_taken code p (Some from) grid =
-    record grid { links = slice_set grid.links (link_number code from p) (drop 1 (link_of code grid from p)) }
-
 -- ---- turns
--- one more turn is counted
-abbrev pub counting : Grid → Grid
-counting grid = record grid { turns = grid.turns + 1 }
-
--- what is printed of a move's bytes: those of processor 0
+-- what is printed of the bytes that a processor shows: those of processor 0
 abbrev pub printed_by : ℕ → List ℕ → List ℕ
 printed_by zero bytes = bytes
 printed_by (suc p) bytes = []
 
--- a move of p; all else changes nothing
-abbrev pub after_turn : Tables → ℕ → Turn → Grid → Grid
-after_turn code p (Moves move) grid = with_sent code p move.sent (with_taken code p move.taken (record grid {
-  locals = slice_set grid.locals p move.local;
-  printed = grid.printed ++ printed_by p move.bytes;
-}))
-after_turn code p Waiting grid = grid
-after_turn code p Over grid = grid
-after_turn code p (Stuck kind) grid = grid
+abbrev pub shown_in : Turn → List ℕ
+shown_in (Moves move) = move.shown
+shown_in Waiting = []
+shown_in Over = []
+shown_in (Stuck kind) = []
 
--- the next turn of a state, and nothing where there is no such processor
-abbrev pub turn_or_over : Tables → Grid → ℕ → Option Local → Turn
-turn_or_over code grid p (Some local) = turn_at code p local (heads_of code grid p)
-turn_or_over code grid p None = Over
+-- the message that is sent, if one is
+abbrev pub message_of : Option (ℕ × Message) → List Message
+message_of None = []
+message_of (Some sent) = sent.1 ∷ []
 
-abbrev pub next_turn : Tables → Grid → ℕ → Turn
-next_turn code grid p = turn_or_over code grid p (slice_get grid.locals p)
+abbrev pub sent_in : Turn → List Message
+sent_in (Moves move) = message_of move.sent
+sent_in Waiting = []
+sent_in Over = []
+sent_in (Stuck kind) = []
 
--- a turn is given to p, and counts whatever it is
-abbrev pub given_turn : Tables → Grid → ℕ → Grid
-given_turn code grid p = counting (after_turn code p (next_turn code grid p) grid)
+-- the next turn of p, and nothing where there is no such processor
+abbrev pub next_turn : Tables → Option ℕ → Grid → ℕ → Turn
+next_turn code links grid p = run.next_turn (system_over code links) grid.world p
+
+-- what a turn adds to what was printed and counted
+abbrev pub counting : ℕ → Turn → Grid → World Local Message → Grid
+counting p turn grid world = record {
+  world = world;
+  printed = grid.printed ++ printed_by p (shown_in turn);
+  turns = grid.turns + 1;
+  sends = grid.sends + length (sent_in turn);
+  words = grid.words + sum_by (λ message. length message.words) (sent_in turn);
+}
+
+-- A turn is given to p. It counts whatever it is; all but a move changes nothing else.
+abbrev pub given_turn : Tables → Option ℕ → Grid → ℕ → Grid
+given_turn code links grid p =
+    counting p (next_turn code links grid p) grid (run.given_turn (system_over code links) grid.world p)
 
 -- the grid after an order of turns, from a grid and from the start
-abbrev pub after_from : Tables → Grid → List ℕ → Grid
-after_from code grid order = fold (given_turn code) grid order
+abbrev pub after_from : Tables → Option ℕ → Grid → List ℕ → Grid
+after_from code links grid order = fold (given_turn code links) grid order
 
-abbrev pub after : Tables → List ℕ → Grid
-after code order = after_from code (start_grid code) order
+abbrev pub after : Tables → Option ℕ → List ℕ → Grid
+after code links order = after_from code links (start_grid code) order
 
 -- ---- what a grid shows
 -- all processors have ended
 abbrev pub IsOver : Grid → Type 0
-IsOver grid = All (λ local. IsSome local.ended) grid.locals
+IsOver grid = All (λ local. IsSome local.ended) grid.world.locals
 
 -- how processor 0 ended, once it has
 abbrev pub first_ending : Grid → Option End
-first_ending grid = option_and_then (λ local. local.ended) (slice_get grid.locals 0)
+first_ending grid = option_and_then (λ local. local.ended) (slice_get grid.world.locals 0)
 
 -- the grid is over, and its ending is that of processor 0
 pub record EndsAs (grid : Grid) (ending : End) : Type 0 where
@@ -110,17 +111,21 @@ pub record EndsAs (grid : Grid) (ending : End) : Type 0 where
   pub first : first_ending grid ≡ Some ending
 
 -- the next turn of some processor is stuck
-pub record IsStuck (code : Tables) (grid : Grid) : Type 0 where
+pub record IsStuck (code : Tables) (links : Option ℕ) (grid : Grid) : Type 0 where
   pub processor : ℕ
-  pub there : processor < length grid.locals
+  pub there : processor < processors code
   pub kind : StuckKind
-  pub stuck : next_turn code grid processor ≡ Stuck kind
+  pub stuck : next_turn code links grid processor ≡ Stuck kind
+
+-- the processor waits or has ended
+abbrev pub Rests : Tables → Option ℕ → Grid → ℕ → Type 0
+Rests code links grid p = (next_turn code links grid p ≡ Waiting) ⊎ (next_turn code links grid p ≡ Over)
 
 -- no processor can move, and not all have ended
-pub record IsIdle (code : Tables) (grid : Grid) : Type 0 where
+pub record IsIdle (code : Tables) (links : Option ℕ) (grid : Grid) : Type 0 where
   pub not_over : IsOver grid → ⊥
-  pub resting : (p : ℕ) → p < length grid.locals → (next_turn code grid p ≡ Waiting) ⊎ (next_turn code grid p ≡ Over)
+  pub resting : (p : ℕ) → p < processors code → Rests code links grid p
 
 -- no message is on its way
 abbrev pub HasEmptyLinks : Grid → Type 0
-HasEmptyLinks grid = All (λ link. link ≡ []) grid.links
+HasEmptyLinks grid = All (λ link. link ≡ []) grid.world.links

@@ -1,5 +1,13 @@
+pub mod Action
+pub mod Collective
+pub mod Exchange
 pub mod Grid
 pub mod Local
+pub mod Loop
 pub mod Order
+pub mod Place
+pub mod Rows
 pub mod Scalar
+pub mod State
+pub mod Stored
 pub mod Turn

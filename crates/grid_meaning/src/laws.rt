@@ -1,31 +1,41 @@
 //! The laws of the grid.
-ghost use Rattle.std.specs.Prelude.{◌≡◌, ◌+◌, ◌<◌, ℕ, List, [], ◌∷◌, ◌++◌, length};
+ghost use Rattle.std.specs.Prelude.{◌≡◌, ◌+◌, ◌<◌, ℕ, List, [], ◌∷◌, ◌++◌, length, Option};
 ghost use Rattle.zpl_lists.specs.Front.{IsFrontOf};
 ghost use Rattle.node_form.specs.declared.tables.Tables.{Tables as Code};
-ghost use Rattle.grid_meaning.specs.Grid.{after, after_from, given_turn, processors, IsOver};
+ghost use Rattle.grid_links.specs.Run.{after as world_after};
+ghost use Rattle.grid_meaning.specs.Grid.{after, after_from, given_turn, processors, system_over, IsOver};
 ghost use Rattle.grid_meaning.specs.Order.{IsOrder, given};
 
-/// The grid after an order and more turns is what the further turns make of the grid after the order.
+/// The grid after an order and more turns is what the further turns make of the grid after the order;
+/// and its world is that of the code's processors.
 pub fn orders_go_on()
-    ensures turn { (code : Code) (order : List ℕ) (p : ℕ) → after code (order ++ p ∷ []) ≡ given_turn code (after code order) p }
-    ensures turns { (code : Code) (order more : List ℕ) → after code (order ++ more) ≡ after_from code (after code order) more }
+    ensures turn { (code : Code) (links : Option ℕ) (order : List ℕ) (p : ℕ) →
+        after code links (order ++ p ∷ []) ≡ given_turn code links (after code links order) p }
+    ensures turns { (code : Code) (links : Option ℕ) (order more : List ℕ) →
+        after code links (order ++ more) ≡ after_from code links (after code links order) more }
+    ensures world { (code : Code) (links : Option ℕ) (order : List ℕ) →
+        (after code links order).world ≡ world_after (system_over code links) order }
 {}
 
 /// What is printed after an order begins what is printed after more turns.
 pub fn printing_grows()
-    ensures { (code : Code) (order more : List ℕ) → IsFrontOf (after code order).printed (after code (order ++ more)).printed }
+    ensures { (code : Code) (links : Option ℕ) (order more : List ℕ) →
+        IsFrontOf (after code links order).printed (after code links (order ++ more)).printed }
 {}
 
 /// A grid that is over stays as it is, but for the count of turns.
 pub fn over_stays()
-    ensures { (code : Code) (order more : List ℕ) → IsOver (after code order) →
-        after code (order ++ more) ≡ record (after code order) { turns = (after code order).turns + length more } }
+    ensures { (code : Code) (links : Option ℕ) (order more : List ℕ) → IsOver (after code links order) →
+        after code links (order ++ more)
+        ≡ record (after code links order) { turns = (after code links order).turns + length more } }
 {}
 
 /// Each turn of an order counts, and the number of processors stays.
 pub fn turns_count()
-    ensures turns { (code : Code) (order : List ℕ) → (after code order).turns ≡ length order }
-    ensures locals { (code : Code) (order : List ℕ) → length (after code order).locals ≡ processors code }
+    ensures turns { (code : Code) (links : Option ℕ) (order : List ℕ) →
+        (after code links order).turns ≡ length order }
+    ensures locals { (code : Code) (links : Option ℕ) (order : List ℕ) →
+        length (after code links order).world.locals ≡ processors code }
 {}
 
 /// The first turns of an order that goes on round the processors are so many, and those of processors.

@@ -4,6 +4,12 @@
 //! law of the definitions as its contract, and a call brings the law into a proof.
 #![tactic(auto)]
 
+mod every_order;
 mod laws;
+mod processors;
+mod scalar;
 
+pub use every_order::{orders_are_dominated, orders_end_alike, small_links_are_enough};
 pub use laws::{given_turns_are_orders, orders_go_on, over_stays, printing_grows, turns_count};
+pub use processors::Processors;
+pub use scalar::{scalar_code_goes_on, scalar_code_needs_no_links};

@@ -1,28 +1,30 @@
 -- Code of one processor that follows a meaning is good for it after every order.
 use Rattle.std.proofs.Common.{◌≡◌, ◌≢◌, ◌⊎◌, inl, inr, ℕ, zero, suc, ◌+◌, ◌*◌, ◌<◌, ◌≤◌, true, List}
-use Rattle.std.proofs.Common.{[], length, Option, Some, None, IsSome, refl, sym, ap, ◌∙◌, subst}
-use Rattle.std.proofs.Common.{⊎_elim, arith, append-nil, replicate}
+use Rattle.std.proofs.Common.{[], ◌++◌, length, Option, Some, None, IsSome, refl, sym, ap, ◌∙◌, subst, pos}
+use Rattle.std.proofs.Common.{⊎_elim, arith, append-nil, length-append, replicate}
 use Rattle.std.proofs.lemmas.Bool.{cases_lt}
 use Rattle.std.proofs.lemmas.List.Elements.{All-cons, All-head, All-nil, All-replicate}
 use Rattle.std.proofs.Math.ListN.{length-replicate}
 use Rattle.zpl_lists.specs.Front.{IsFrontOf}
 use Rattle.zpl_nums.specs.declared.ends.End.{End}
 use Rattle.zpl_nums.specs.declared.ends.End.TheVariants.{Done, Trap, More}
+use Rattle.grid_links.specs.Laws.{Reaches}
+use Rattle.grid_links.specs.Machine.{Ended, Blocked, Goes, Awaits}
+use Rattle.grid_links.specs.Run as run_of
 use Rattle.node_form.specs.declared.tables.Tables.{Tables}
-use Rattle.grid_meaning.specs.Local.{Local}
-use Rattle.grid_meaning.specs.Scalar.{IsScalarCode}
-use Rattle.grid_meaning.specs.Turn.{Turn, Moves, Waiting, Over, Stuck}
-use Rattle.grid_meaning.specs.Grid.{Grid, processors, next_turn, given_turn, after, IsOver, IsStuck}
-use Rattle.grid_meaning.specs.Grid.{IsIdle, HasEmptyLinks}
+use Rattle.grid_meaning.specs.Action.{Action}
+use Rattle.grid_meaning.specs.Local.{Local, start_locals}
+use Rattle.grid_meaning.specs.Scalar.{IsQuietMove}
+use Rattle.grid_meaning.specs.Turn.{act}
+use Rattle.grid_meaning.specs.Grid.{processors, system_over, after, IsOver, HasEmptyLinks}
 use Rattle.grid_meaning.specs.Order.{IsOrder}
 use Rattle.zpl_meaning.specs.Program.{Meaning}
 use Rattle.zpl_meaning.specs.Outcome.{Outcome}
-use Rattle.zpl_claims.specs.Good.{Finishes, IsRight, IsGood}
-use Rattle.zpl_claims.specs.LockStep.{move_of, moves_from, moves_of, Rests, IsLockStep}
-use Rattle.zpl_claims.specs.LockStep.{HasLockSteps}
-use Rattle.small_code.proofs.Runs.{Solo, IsPlain, IsPlainMove, IsSolo, IsEnded, no_heads, turn_of}
-use Rattle.small_code.proofs.Runs.{turn_plain, turn_moves, turn_ended, step, run, start, grid_of}
-use Rattle.small_code.proofs.Runs.{next_solo, given_solo, one_processor, start_solo, after_solo}
+use Rattle.zpl_claims.specs.Good.{Finishes, IsGood}
+use Rattle.zpl_claims.specs.LockStep.{IsLockStep, HasLockSteps}
+use Rattle.small_code.proofs.Runs.{Solo, IsSolo, KnowsTurns, IsEnded, step, run, start, moved}
+use Rattle.small_code.proofs.Runs.{world_of, grid_of, turn_for, turn_ended, next_solo, world_solo}
+use Rattle.small_code.proofs.Runs.{one_processor, starts_alone, start_world_solo, after_solo}
 use Rattle.small_code.proofs.Runs.{run_ended, one_end, ends_later, printing_grows}
 use Rattle.small_code.proofs.Simulation.{GoesOn, each}
 
@@ -57,65 +59,58 @@ open_is_not solo open_still ended = none_is_not solo.local.ended open_still ende
     none_is_not (Some ending) e h = cc
     none_is_not None e h = cc
 
-stuck_not : (turn : Turn) (kind : _) → IsPlain turn → turn ≡ Stuck kind → ⊥
-stuck_not turn kind plain e = subst IsPlain e plain
-
-solo_not_stuck : (code : Tables) (scalar : IsScalarCode code) (solo : Solo) (turns : ℕ) → IsStuck code (grid_of solo turns) → ⊥
-solo_not_stuck code scalar solo turns s =
-    let there = s.there in
-    let zero_is : s.processor ≡ 0 = omega arith in
-    let e : turn_of code solo.local ≡ Stuck s.kind =
-    sym (next_solo code solo turns) ∙ ap (next_turn code (grid_of solo turns)) (sym zero_is) ∙
-    s.stuck in
-    stuck_not (turn_of code solo.local) s.kind (turn_plain code 0 solo.local no_heads scalar) e
-
-resting_not : (turn : Turn) → IsPlainMove turn → (turn ≡ Waiting) ⊎ (turn ≡ Over) → ⊥
-resting_not turn m r = ⊎_elim (λ e. subst IsPlainMove e m) (λ e. subst IsPlainMove e m) r
-
-solo_not_idle : (code : Tables) (scalar : IsScalarCode code) (solo : Solo) (turns : ℕ) → IsIdle code (grid_of solo turns) → ⊥
-solo_not_idle code scalar solo turns idle = by solo.local.ended refl
-  where
-    by : (ended : Option End) → solo.local.ended ≡ ended → ⊥
-    by (Some ending) e = idle.not_over (over_solo solo turns (some_ended solo.local.ended ending e))
-    by None e =
-        let first : (next_turn code (grid_of solo turns) 0 ≡ Waiting) ⊎
-        (next_turn code (grid_of solo turns) 0 ≡ Over) = idle.resting 0 (omega arith) in
-        let resting : (turn_of code solo.local ≡ Waiting) ⊎ (turn_of code solo.local ≡ Over) =
-        ⊎_elim (λ w. inl (sym (next_solo code solo turns) ∙ w))
-        (λ o. inr (sym (next_solo code solo turns) ∙ o)) first in
-        resting_not (turn_of code solo.local) (turn_moves code solo.local scalar e) resting
-
 -- ---- moves
--- each turn of a processor that is open in the end was a move
-moves_all : (code : Tables) (scalar : IsScalarCode code) (turns : ℕ) (solo : Solo) (given : ℕ)
-    → (run code turns solo).local.ended ≡ None
-    → moves_from code (grid_of solo given) 0 (replicate turns 0) ≡ turns
-moves_all code scalar zero solo given e = refl
-moves_all code scalar (suc turns) solo given e =
-    let now = open_now solo.local.ended refl in
-    let one = ap (λ turn. move_of true turn) (next_solo code solo given) ∙ a_move
-    (turn_of code solo.local) (turn_moves code solo.local scalar now) in
-    let rest = ap (λ grid. moves_from code grid 0 (replicate turns 0)) (given_solo code solo given scalar)
-    ∙ moves_all code scalar turns (step code solo) (given + 1) e in
-    let sum : 1 + turns ≡ suc turns = omega arith in
-    ap (λ m. m + moves_from code (given_turn code (grid_of solo given) 0) 0 (replicate turns 0)) one
-    ∙ ap (λ m. 1 + m) rest
-    ∙ sum
+-- a processor that is open in the end was open before
+open_before : (code : Tables) (turns : ℕ) (solo : Solo) → (run code turns solo).local.ended ≡ None
+    → solo.local.ended ≡ None
+open_before code turns solo e = by solo.local.ended refl
   where
-    a_move : (turn : Turn) → IsPlainMove turn → move_of true turn ≡ 1
-    a_move (Moves move) h = refl
-    a_move Waiting h = absurd h
-    a_move Over h = absurd h
-    a_move (Stuck kind) h = absurd h
-
-    open_now : (ended : Option End) → solo.local.ended ≡ ended → solo.local.ended ≡ None
-    open_now None is = is
-    open_now (Some ending) is =
+    by : (ended : Option End) → solo.local.ended ≡ ended → solo.local.ended ≡ None
+    by None is = is
+    by (Some ending) is =
         let ended = some_ended solo.local.ended ending is in
-        absurd (open_is_not (run code (suc turns) solo) e
-        (subst IsEnded (sym (run_ended code (suc turns) solo ended)) ended))
+        absurd (open_is_not (run code turns solo) e
+        (subst IsEnded (sym (run_ended code turns solo ended)) ended))
 
-module _ (code : Tables) (solo : IsSolo code) (outcome : ℕ → Outcome)
+-- a quiet move is one move, and leaves as many scalars
+one_move : (local : Local) (action : Action) → IsQuietMove local action
+    → length (run_of.move_in true (turn_for action)) ≡ 1
+one_move local Ended quiet = absurd quiet
+one_move local (Blocked kind) quiet = absurd quiet
+one_move local (Goes next sent shown) quiet = refl
+one_move local (Awaits from) quiet = absurd quiet
+
+as_many : (solo : Solo) (action : Action) → IsQuietMove solo.local action
+    → length (moved solo action).local.scalars ≡ length solo.local.scalars
+as_many solo Ended quiet = absurd quiet
+as_many solo (Blocked kind) quiet = absurd quiet
+as_many solo (Goes next sent shown) quiet = quiet.1
+as_many solo (Awaits from) quiet = absurd quiet
+
+-- each turn of a processor that is open in the end was a move
+moves_all : (code : Tables) (links : Option ℕ) (knows : KnowsTurns code) (turns : ℕ) (solo : Solo)
+    → code.scalars ≤ length solo.local.scalars → (run code turns solo).local.ended ≡ None
+    → length (run_of.moves_from (system_over code links) (world_of solo) (replicate turns 0) 0)
+    ≡ turns
+moves_all code links knows zero solo enough e = refl
+moves_all code links knows (suc turns) solo enough e =
+    let system = system_over code links in
+    let now = open_before code (suc turns) solo e in
+    let quiet = knows.moves 0 solo.local enough now in
+    let one = ap (λ turn. length (run_of.move_in true turn)) (next_solo code links solo knows)
+    ∙ one_move solo.local (act code 0 solo.local) quiet in
+    let rest = ap (λ world. length (run_of.moves_from system world (replicate turns 0) 0))
+    (world_solo code links solo knows)
+    ∙ moves_all code links knows turns (step code solo)
+    (omega (arith, enough, as_many solo (act code 0 solo.local) quiet)) e in
+    let first = run_of.move_in true (run_of.next_turn system (world_of solo) 0) in
+    let more = run_of.moves_from system (run_of.given_turn system (world_of solo) 0)
+    (replicate turns 0) 0 in
+    let both : length (first ++ more) ≡ length first + length more = length-append first more in
+    let sum : 1 + turns ≡ suc turns = omega arith in
+    both ∙ ap (λ m. m + length more) one ∙ ap (λ m. 1 + m) rest ∙ sum
+
+module _ (code : Tables) (links : Option ℕ) (solo : IsSolo code) (outcome : ℕ → Outcome)
     (does : (n : ℕ) → Does code n (outcome n).ending (outcome n)) where
   abbrev mean : ℕ → Meaning
   mean n = record { bytes = (outcome n).bytes; ending = (outcome n).ending }
@@ -124,7 +119,7 @@ module _ (code : Tables) (solo : IsSolo code) (outcome : ℕ → Outcome)
   after_turns n = run code n (start code)
 
   -- a run that has ended has printed all, in its normal end
-  record Ended (n : ℕ) (bytes : List ℕ) (ending : End) : Type 0 where
+  record EndedWith (n : ℕ) (bytes : List ℕ) (ending : End) : Type 0 where
     within : ending ≢ More
     shows : (after_turns n).printed ≡ bytes
     ends : (after_turns n).local.ended ≡ Some ending
@@ -133,7 +128,7 @@ module _ (code : Tables) (solo : IsSolo code) (outcome : ℕ → Outcome)
   done_is_not_more e = cc
 
   ended_so : (n m : ℕ) (ending : End) → Does code m ending (outcome m) → IsEnded (after_turns n)
-      → n ≤ m → Ended n (outcome m).bytes ending
+      → n ≤ m → EndedWith n (outcome m).bytes ending
   ended_so n m Done d ended le =
       let same = one_end code n d.turns (start code) ended (some_ended _ Done d.ended) in
       record {
@@ -181,21 +176,21 @@ module _ (code : Tables) (solo : IsSolo code) (outcome : ℕ → Outcome)
         links = no_links (after_turns n) turns;
       }
 
-  right : (n : ℕ) → IsRight code (mean n) (grid_of (after_turns n) n)
-  right n = record {
-    not_stuck = solo_not_stuck code solo.rows (after_turns n) n;
-    not_idle = solo_not_idle code solo.rows (after_turns n) n;
-    printed = front_so n (outcome n).ending (does n);
-    finishes = λ over. finishes n n n (omega arith) (solo_over (after_turns n) n over);
-  }
-
   one_order : (order : List ℕ) → IsOrder (processors code) order → IsOrder 1 order
   one_order order h = subst (λ count. IsOrder count order) (one_processor code solo) h
 
-  pub good : IsGood code mean
+  pub good : IsGood code links mean
   good order h =
-      subst (λ grid. IsRight code (mean (length order)) grid)
-      (sym (after_solo code solo order (one_order order h))) (right (length order))
+      let n = length order in
+      let is = after_solo code links solo order (one_order order h) in
+      record {
+        not_stuck = solo.knows.not_stuck links order;
+        not_idle = solo.knows.not_idle links order;
+        printed = subst (λ grid. IsFrontOf grid.printed (outcome n).bytes) (sym is)
+            (front_so n (outcome n).ending (does n));
+        finishes = λ over. subst (Finishes (mean n)) (sym is)
+            (finishes n n n (omega arith) (solo_over (after_turns n) n (subst IsOver is over)));
+      }
 
   -- ---- in step
   abbrev zeros : ℕ → List ℕ
@@ -206,46 +201,77 @@ module _ (code : Tables) (solo : IsSolo code) (outcome : ℕ → Outcome)
       let below : 0 < processors code = omega (arith, one_processor code solo) in
       All-replicate (λ p. p < processors code) turns 0 below
 
-  after_zeros : (turns : ℕ) → after code (zeros turns) ≡ grid_of (after_turns turns) turns
+  after_zeros : (turns : ℕ) → after code links (zeros turns) ≡ grid_of (after_turns turns) turns
   after_zeros turns =
       let long : length (zeros turns) ≡ turns = length-replicate turns 0 in
-      after_solo code solo (zeros turns) (one_order (zeros turns) (zeros_order turns)) ∙ ap
+      after_solo code links solo (zeros turns) (one_order (zeros turns) (zeros_order turns)) ∙ ap
       (λ n. grid_of (after_turns n) n) long
 
+  world_zeros : (turns : ℕ)
+      → run_of.after (system_over code links) (zeros turns) ≡ world_of (after_turns turns)
+  world_zeros turns = sym (solo.knows.world links (zeros turns)) ∙ ap (λ grid. grid.world)
+      (after_zeros turns)
+
   moves_zeros : (turns : ℕ) → (after_turns turns).local.ended ≡ None
-      → moves_of code 0 (zeros turns) ≡ turns
-  moves_zeros turns e = ap (λ grid. moves_from code grid 0 (zeros turns)) (start_solo code solo) ∙
-      moves_all code solo.rows turns (start code) 0 e
+      → length (run_of.moves_of (system_over code links) (zeros turns) 0) ≡ turns
+  moves_zeros turns e =
+      let enough : code.scalars ≤ length (start code).local.scalars = omega
+      (arith, length-replicate code.scalars (pos 0)) in
+      ap (λ world. length (run_of.moves_from (system_over code links) world (zeros turns) 0))
+      (start_world_solo code links solo)
+      ∙ moves_all code links solo.knows turns (start code) enough e
 
-  -- what an order in step says of a grid, and of the moves that brought it there
-  record InStep (meaning : Meaning) (bound : ℕ) (grid : Grid) (moves : ℕ) : Type 0 where
-    printed : grid.printed ≡ meaning.bytes
-    ends : meaning.ending ≢ More → Finishes meaning grid
-    goes_on : meaning.ending ≡ More → IsOver grid → ⊥
-    moved : Rests code grid 0 ⊎ (bound ≤ moves)
-    one_moved : meaning.ending ≡ More → bound ≤ moves
-    not_stuck : IsStuck code grid → ⊥
+  -- what an order in step has done with a processor
+  abbrev Moved : ℕ → ℕ → ℕ → Type 0
+  Moved n turns p =
+      run_of.Rests (system_over code links) (run_of.after (system_over code links) (zeros turns)) p
+      ⊎ (n ≤ length (run_of.moves_of (system_over code links) (zeros turns) p))
 
-  lock_step : (n turns : ℕ) → InStep (mean n) n (grid_of (after_turns turns) turns)
-      (moves_of code 0 (zeros turns)) → IsLockStep code (mean n) n (zeros turns)
-  lock_step n turns h =
-      let grid = sym (after_zeros turns) in
-      let at_grid = subst (λ g. InStep (mean n) n g (moves_of code 0 (zeros turns))) grid h in
+  reaches : (n turns : ℕ) → Moved n turns 0 → Reaches (system_over code links) (zeros turns) n
+  reaches n turns done = record {
+    moved = λ p below.
+        let zero_is : 0 ≡ p = omega (arith, ap length (starts_alone code solo)) in
+        subst (Moved n turns) zero_is done;
+    not_stuck = λ stuck. solo.knows.not_stuck links (zeros turns) (record {
+      processor = stuck.process;
+      there = omega (
+        arith,
+        ap length (starts_alone code solo),
+        one_processor code solo,
+        stuck.there,
+      );
+      kind = stuck.kind;
+      stuck = ap (λ world. run_of.next_turn (system_over code links) world stuck.process)
+          (solo.knows.world links (zeros turns))
+          ∙ stuck.stuck;
+    });
+  }
+
+  -- what an order in step says of a grid
+  record InStep (n turns : ℕ) : Type 0 where
+    shows : (after_turns turns).printed ≡ (outcome n).bytes
+    goes_on : (outcome n).ending ≡ More → (after_turns turns).local.ended ≡ None
+    moved : Moved n turns 0
+    one_moved : (outcome n).ending ≡ More
+        → n ≤ length (run_of.moves_of (system_over code links) (zeros turns) 0)
+
+  lock_step : (n turns : ℕ) → ((outcome n).ending ≢ More
+      → Finishes (mean n) (grid_of (after_turns turns) turns)) → InStep n turns
+      → IsLockStep code links (mean n) n (zeros turns)
+  lock_step n turns finish h =
+      let grid = after_zeros turns in
       record {
         turns = zeros_order turns;
-        printed = at_grid.printed;
-        ends = at_grid.ends;
-        goes_on = at_grid.goes_on;
-        moved = λ p below.
-            let zero_is : 0 ≡ p = omega (arith, one_processor code solo) in
-            subst (λ q. Rests code (after code (zeros turns)) q ⊎
-            (n ≤ moves_of code q (zeros turns))) zero_is at_grid.moved;
-        one_moved = λ more. (0, omega (arith, one_processor code solo), at_grid.one_moved more);
-        not_stuck = at_grid.not_stuck;
+        printed = ap (λ g. g.printed) grid ∙ h.shows;
+        ends = λ within. subst (Finishes (mean n)) (sym grid) (finish within);
+        goes_on = λ more over. open_is_not (after_turns turns) (h.goes_on more)
+            (solo_over (after_turns turns) turns (subst IsOver grid over));
+        reaches = reaches n turns h.moved;
+        one_moved = λ more. (0, omega (arith, one_processor code solo), h.one_moved more);
       }
 
   step_order : (n : ℕ) (ending : End) → (outcome n).ending ≡ ending → Does code n ending (outcome n)
-      → (order : List ℕ) × IsLockStep code (mean n) n order
+      → (order : List ℕ) × IsLockStep code links (mean n) n order
   step_order n Done e d =
       let turns = d.turns in
       let ended = some_ended (after_turns turns).local.ended Done d.ended in
@@ -257,49 +283,47 @@ module _ (code : Tables) (solo : IsSolo code) (outcome : ℕ → Outcome)
         links = no_links (after_turns turns) turns;
       } in (
         zeros turns,
-        lock_step n turns (record {
-          printed = d.shows;
-          ends = λ _. finish;
-          goes_on = λ more _. done_is_not_more (sym e ∙ more);
-          moved = inl (inr (next_solo code (after_turns turns) turns ∙ turn_ended code
-              (after_turns turns) ended));
+        lock_step n turns (λ _. finish) (record {
+          shows = d.shows;
+          goes_on = λ more. absurd (done_is_not_more (sym e ∙ more));
+          moved = inl (inr (ap (λ world. run_of.next_turn (system_over code links) world 0)
+              (world_zeros turns)
+              ∙ next_solo code links (after_turns turns) solo.knows
+              ∙ ap turn_for (turn_ended code (after_turns turns) ended)));
           one_moved = λ more. absurd (done_is_not_more (sym e ∙ more));
-          not_stuck = solo_not_stuck code solo.rows (after_turns turns) turns;
         }),
       )
   step_order n More e d =
       let turns = d.turns in
-      let enough : n ≤ moves_of code 0 (zeros turns) = omega
+      let enough : n ≤ length (run_of.moves_of (system_over code links) (zeros turns) 0) = omega
       (arith, moves_zeros turns d.open_still, d.many) in (
         zeros turns,
-        lock_step n turns (record {
-          printed = d.shows;
-          ends = λ within. absurd (within e);
-          goes_on = λ _ over. open_is_not (after_turns turns) d.open_still
-              (solo_over (after_turns turns) turns over);
+        lock_step n turns (λ within. absurd (within e)) (record {
+          shows = d.shows;
+          goes_on = λ _. d.open_still;
           moved = inr enough;
           one_moved = λ _. enough;
-          not_stuck = solo_not_stuck code solo.rows (after_turns turns) turns;
         }),
       )
   step_order n (Trap kind line) e d = absurd d
 
-  pub in_step : HasLockSteps code mean
+  pub in_step : HasLockSteps code links mean
   in_step n = step_order n (outcome n).ending refl (does n)
 
   -- ---- in time
   over_after : (n : ℕ) (ending : End) → ending ≢ More → Does code n ending (outcome n)
       → (order : List ℕ) → IsOrder (processors code) order
-      → each code * (outcome n).steps + 1 ≤ length order → IsOver (after code order)
+      → each code * (outcome n).steps + 1 ≤ length order
+      → IsOver (after code links order)
   over_after n Done e d order h long =
       let ended = ends_later code d.turns (length order) (start code) (omega (arith, d.few))
       (some_ended _ Done d.ended) in
-      subst IsOver (sym (after_solo code solo order (one_order order h)))
+      subst IsOver (sym (after_solo code links solo order (one_order order h)))
       (over_solo (after_turns (length order)) (length order) ended)
   over_after n More e d order h long = absurd (e refl)
   over_after n (Trap kind line) e d order h long = absurd d
 
   pub over_in_time : (n : ℕ) → (outcome n).ending ≢ More → (order : List ℕ)
       → IsOrder (processors code) order → each code * (outcome n).steps + 1 ≤ length order
-      → IsOver (after code order)
+      → IsOver (after code links order)
   over_in_time n e order h long = over_after n (outcome n).ending e (does n) order h long

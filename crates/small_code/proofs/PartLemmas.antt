@@ -188,6 +188,11 @@ nothing_there (Some x) none e is = absurd (true_is_not (e ∙ ap not is))
     true_is_not e = cc
 
 -- what follows of the value, where there is one
+pub ok_fact : {T E : Type 0} (r : Result T E) (P : T → Type 0) (Q : Type 0) → ((v : T) → P v → Q)
+    → IfOk r P → OnOk r Q
+ok_fact (Ok v) P Q to h = to v h
+ok_fact (Err e) P Q to h = tt
+
 pub on_value : {T E : Type 0} (r : Result T E) (P Q : T → Type 0) → ((v : T) → P v → Q v) → IfOk r P
     → IfOk r Q
 on_value (Ok v) P Q to h = to v h

@@ -10,7 +10,6 @@ use Rattle.node_form.specs.declared.instructions.Instr.TheVariants as instr
 use Rattle.zpl_claims.specs.Small.{IsSmall, AreDistinct, texts_of, integers, plain_procedure}
 use Rattle.zpl_claims.specs.Small.{small_decls}
 use Rattle.zpl_claims.specs.Tidy.{IsTidy}
-use Rattle.grid_meaning.specs.Scalar.{IsScalarCode}
 use Rattle.small_code.specs.Claims.{HoldsItsWords}
 use Rattle.small_code.specs.Draft.{first_tables}
 use Rattle.small_code.specs.Emits.{AreFine, EmitsAll}
@@ -22,6 +21,7 @@ use Rattle.small_code.specs.declared.fault.CodeFault.TheVariants.{NotBuilt, NoMe
 use Rattle.small_code.proofs.DraftLemmas.{last_row, extends_keeps, stmts_kept}
 use Rattle.small_code.proofs.EmitLemmas.{with_row, extends_row}
 use Rattle.small_code.proofs.TidyLemmas.{small_is_tidy}
+use Rattle.small_code.proofs.Runs.{KnowsTurns}
 use Rattle.small_code.proofs.Whole.{IsCodeOf}
 
 -- what refutes a claim refutes each that is stronger
@@ -125,11 +125,11 @@ module _ (program : Program) (names : List Name) (entry : Procedure)
     pub is_code : (is_entry : entry.name.text ≡ program.name.text)
         (distinct : AreDistinct (program.name.text ∷ []) (texts_of names)) (drafted : Tables)
         → EmitsAll program.source (texts_of names) 100 (first_tables (length names)) drafted body
-        → IsScalarCode (with_row drafted instr.End) → IsCodeOf (with_row drafted instr.End) program
+        → KnowsTurns (with_row drafted instr.End) → IsCodeOf (with_row drafted instr.End) program
     unfolding is_small
-    is_code is_entry distinct drafted f rows = record {
+    is_code is_entry distinct drafted f knows = record {
       small = is_small is_entry distinct f.fine;
-      solo = record { grid = f.extends.grid; rows = rows };
+      solo = record { grid = f.extends.grid; knows = knows };
       scalars = f.extends.scalars;
       last = length drafted.code;
       rows = stmts_kept program.source (texts_of names) drafted (with_row drafted instr.End) 0
@@ -144,9 +144,10 @@ module _ (program : Program) (names : List Name) (entry : Procedure)
       pub made_is_small : IsSmall program
       made_is_small = is_small is_entry made.distinct made.emitted.fine
 
-      pub made_is_code : IsCodeOf code program
-      made_is_code = subst (λ t. IsCodeOf t program) (sym made.ended)
-          (is_code is_entry made.distinct made.drafted made.emitted (subst IsScalarCode made.ended made.rows))
+      pub made_is_code : KnowsTurns code → IsCodeOf code program
+      made_is_code knows = subst (λ t. IsCodeOf t program) (sym made.ended)
+          (is_code is_entry made.distinct made.drafted made.emitted
+          (subst KnowsTurns made.ended knows))
 
       pub made_is_tidy : HoldsItsWords program
           → IsTidy (1 ∷ 0 ∷ 0 ∷ []) program (length (program_words program)) code

@@ -14,14 +14,16 @@ use Rattle.zpl_nums.specs.declared.ends.End.TheVariants.{Done, Trap, More}
 use Rattle.zpl_tree.specs.Syntax.{Integer, Number, Named, Pair}
 use Rattle.zpl_tree.specs.Syntax.{Name, Expr, Item, Str, Value, Stmt, Prefixed, Stmts, NoStmt}
 use Rattle.zpl_tree.specs.Syntax.{ThenStmt, Form, Assign, While, Write}
+use Rattle.node_form.specs.Control.{branched, with_computed, with_scalar as with_scalar_at}
 use Rattle.node_form.specs.Expression.{Expression, words_of}
 use Rattle.node_form.specs.Value.{Gives as Computes, and_then, read, scalar_operands, Operands, value_of, tree_value}
 use Rattle.node_form.specs.declared.tables.Tables.{Tables}
 use Rattle.node_form.specs.declared.instructions.Instr.{Instr}
 use Rattle.node_form.specs.declared.instructions.Instr.TheVariants as instr
+use Rattle.grid_meaning.specs.Action.{Action}
 use Rattle.grid_meaning.specs.Local.{start_local}
-use Rattle.grid_meaning.specs.Turn.{act, branch, expression_value, prints as printing, with_text}
-use Rattle.grid_meaning.specs.Turn.{with_value as on_value, goes_on as next_one, moves}
+use Rattle.grid_meaning.specs.Turn.{act_at, controlled, expression_value, prints_text, prints_value}
+use Rattle.grid_meaning.specs.Turn.{registers_of}
 use Rattle.zpl_names.specs.Ranks.{is_above_zero}
 use Rattle.zpl_names.specs.Sites.{Printed, Test as TestRole, Assigned}
 use Rattle.zpl_names.specs.Types.{type_of}
@@ -45,7 +47,7 @@ use Rattle.zpl_claims.specs.Small.{IsItem, IsSum, IsTest, IsSmallStmt, IsSmallFo
 use Rattle.small_code.specs.Names.{scalar_of, tree_of}
 use Rattle.small_code.specs.Rows.{HasExpr, IsAssignment, IsLoop, IsText, IsItemRow, AreItems}
 use Rattle.small_code.specs.Rows.{IsLine, IsStmtCode, IsFormCode, AreStmtsCode}
-use Rattle.small_code.proofs.Runs.{Solo, no_heads, moved, step, run, run-add}
+use Rattle.small_code.proofs.Runs.{Solo, moved, step, run, run-add}
 use Rattle.small_code.proofs.SumLemmas.{Knows, Agrees, sum_agrees, test_agrees, test_nodes}
 use Rattle.small_code.proofs.SumLemmas.{sum_prints_number, sum_scalar, test_scalar, sum_rank}
 use Rattle.small_code.proofs.SumLemmas.{test_rank, statement_value, items_scalar}
@@ -122,7 +124,7 @@ goes_fewer code a m n printed le g =
 -- the processor at a row, with a store, and what it has printed
 abbrev pub at : Tables → ℕ → Store → List ℕ → Solo
 at code row store printed = record {
-  local = record (start_local code) { at = row; scalars = store.scalars };
+  local = record (start_local code 0) { at = row; scalars = store.scalars };
   printed = printed;
 }
 
@@ -201,9 +203,9 @@ then_runs code n from middle to store first next f g = then_follows code n from 
 pub row_step : (code : Tables) (row : ℕ) (store : Store) (printed : List ℕ) (i : Instr)
     → slice_get code.code row ≡ Some i
     → step code (at code row store printed) ≡ moved (at code row store printed)
-    (act code 0 (at code row store printed).local no_heads (Some i))
+    (act_at code 0 (at code row store printed).local (Some i))
 row_step code row store printed i h = ap (λ o. moved (at code row store printed)
-    (act code 0 (at code row store printed).local no_heads o)) h
+    (act_at code 0 (at code row store printed).local o)) h
 
 module _ (code : Tables) (names : List (List ℕ)) (context : Context)
     (knows : Knows context.place names)
@@ -233,9 +235,8 @@ module _ (code : Tables) (names : List (List ℕ)) (context : Context)
   set_step from to line name value store printed r a =
       row_step code from store printed (instr.Set r.scalar r.expr line) r.row
       ∙ ap (λ o. moved (at code from store printed)
-      (on_value o (at code from store printed).local line
-      (λ v. moves (next_one (record (at code from store printed).local
-      { scalars = slice_set store.scalars r.scalar v })) [])))
+      (controlled (at code from store printed).local (with_computed o line
+      (with_scalar_at (registers_of (at code from store printed).local) r.scalar))))
       (row_value store from r.expr printed value r.value_row a)
       ∙ ap (λ row. at code row (with_scalar store r.scalar a.value) (printed ++ [])) (sym r.next)
 
@@ -306,7 +307,7 @@ module _ (code : Tables) (names : List (List ℕ)) (context : Context)
   text_step from bytes store printed r =
       row_step code from store printed (instr.Print r.text) r.row
       ∙ ap (λ o. moved (at code from store printed)
-      (with_text o (printing 0 (at code from store printed).local))) r.text_row
+      (prints_text 0 (at code from store printed).local o)) r.text_row
 
   item_runs : (from : ℕ) (store : Store) (item : Item) → length store.scalars ≡ length names
       → IsItem names item → IsItemRow names code from item → ItemRuns from store item
@@ -332,8 +333,7 @@ module _ (code : Tables) (names : List (List ℕ)) (context : Context)
         turn = λ printed.
             row_step code from store printed (instr.Number r.expr) r.row
             ∙ ap (λ o. moved (at code from store printed)
-            (on_value o (at code from store printed).local 0
-            (λ v. printing 0 (at code from store printed).local (signed_decimal v))))
+            (prints_value 0 (at code from store printed).local o signed_decimal))
             (row_value store from r.expr printed value r.value_row a);
       }
 
@@ -448,14 +448,20 @@ module _ (code : Tables) (names : List (List ℕ)) (context : Context)
           expr_nodes test;
     }
 
+    -- what the test does, by its value
+    abbrev tested_at : ℕ → Store → List ℕ → Bool → Action
+    tested_at row store printed b =
+        let local = (at code row store printed).local in
+        controlled local (branched (registers_of local) b to)
+
     test_step : (store : Store) (printed : List ℕ) (a : Agrees environment names store test)
         → step code (at code from store printed) ≡ moved (at code from store printed)
-        (branch (is_true a.value) (at code from store printed).local to)
+        (tested_at from store printed (is_true a.value))
     test_step store printed a =
         row_step code from store printed (instr.Unless r.expr to line) r.row
         ∙ ap (λ o. moved (at code from store printed)
-        (on_value o (at code from store printed).local line
-        (λ v. branch (is_true v) (at code from store printed).local to)))
+        (controlled (at code from store printed).local (with_computed o line
+        (λ v. branched (registers_of (at code from store printed).local) (is_true v) to))))
         (row_value store from r.expr printed test r.test_row a)
 
     enters : (store : Store) (printed : List ℕ) (a : Agrees environment names store test)
@@ -464,7 +470,7 @@ module _ (code : Tables) (names : List (List ℕ)) (context : Context)
     enters store printed a e =
         test_step store printed a
         ∙ ap (λ b. moved (at code from store printed)
-        (branch b (at code from store printed).local to)) e
+        (tested_at from store printed b)) e
         ∙ ap (at code (from + 1) store) (append-nil printed)
 
     leaves : (store : Store) (printed : List ℕ) (a : Agrees environment names store test)
@@ -473,7 +479,7 @@ module _ (code : Tables) (names : List (List ℕ)) (context : Context)
     leaves store printed a e =
         test_step store printed a
         ∙ ap (λ b. moved (at code from store printed)
-        (branch b (at code from store printed).local to)) e
+        (tested_at from store printed b)) e
         ∙ ap (at code to store) (append-nil printed)
 
     jumps : (store : Store) (printed : List ℕ)

@@ -14,7 +14,7 @@ use Rattle.node_form.specs.Expression.{Expression, words_of}
 use Rattle.node_form.specs.Value.{Operands, value_of, tree_value}
 use Rattle.node_form.specs.declared.tables.Tables.{Tables}
 use Rattle.node_form.specs.declared.instructions.Instr.TheVariants as instr
-use Rattle.grid_meaning.specs.Turn.{act}
+use Rattle.grid_meaning.specs.Turn.{act_at}
 use Rattle.grid_meaning.specs.Grid.{processors}
 use Rattle.grid_meaning.specs.Order.{IsOrder, given}
 use Rattle.zpl_names.specs.Kinds as kind
@@ -34,7 +34,7 @@ use Rattle.zpl_meaning.specs.Statement.{Context, exec_all}
 use Rattle.zpl_meaning.specs.Program.{returned, run_routine, call_at, setup_of, entry_call}
 use Rattle.zpl_meaning.specs.Program.{first_frame, outcome_of, mean_of, steps_of}
 use Rattle.zpl_claims.specs.Bound.{shattered_loops, turn_bound, EndsInBound}
-use Rattle.zpl_claims.specs.Good.{IsGood}
+use Rattle.zpl_claims.specs.Good.{IsGood, OverAllLinks}
 use Rattle.zpl_claims.specs.LockStep.{HasLockSteps}
 use Rattle.zpl_claims.specs.Small.{IsSmall, texts_of, plain_procedure, small_decls}
 use Rattle.zpl_claims.specs.Tidy.{procedures}
@@ -42,7 +42,7 @@ use Rattle.small_code.specs.Rows.{AreStmtsCode}
 use Rattle.small_code.proofs.NameLemmas.{eq_same, frame_of, scope_with, knows_names}
 use Rattle.small_code.proofs.NameLemmas.{scalars-frame_of}
 use Rattle.small_code.proofs.SumLemmas.{Knows}
-use Rattle.small_code.proofs.Runs.{Solo, IsSolo, no_heads, moved, run, run-add, start}
+use Rattle.small_code.proofs.Runs.{Solo, IsSolo, moved, run, run-add, start}
 use Rattle.small_code.proofs.Runs.{one_processor}
 use Rattle.small_code.proofs.Simulation.{GoesOn, Follows, at, each, row_step, counting_follows}
 use Rattle.small_code.proofs.Simulation.{stmts_run}
@@ -65,8 +65,7 @@ whole_done code last store outcome begin row f =
     let r = f.1 [] in
     let there : run code (r.turns + 1) (start code) ≡ moved
     (at code last outcome.store ([] ++ outcome.bytes))
-    (act code 0 (at code last outcome.store ([] ++ outcome.bytes)).local no_heads
-    (Some instr.End)) =
+    (act_at code 0 (at code last outcome.store ([] ++ outcome.bytes)).local (Some instr.End)) =
     run-add code r.turns 1 (start code)
     ∙ ap (λ s. run code 1 (run code r.turns s)) begin
     ∙ ap (run code 1) r.there
@@ -245,17 +244,18 @@ module _ (push : (operands : Operands) (tree : Expression)
       (does_whole code n of.last _ frame.store _
       (begins code (length names) frame.store of.scalars zeros) of.end_row whole)
 
-  pub is_good : IsGood code (mean_of program [])
-  is_good = good code of.solo (outcome_of program []) does
+  pub is_good : OverAllLinks (λ links. IsGood code links (mean_of program []))
+  is_good links capacity = good code links of.solo (outcome_of program []) does
 
-  pub has_lock_steps : HasLockSteps code (mean_of program [])
-  has_lock_steps = in_step code of.solo (outcome_of program []) does
+  pub has_lock_steps : OverAllLinks (λ links. HasLockSteps code links (mean_of program []))
+  has_lock_steps links capacity = in_step code links of.solo (outcome_of program []) does
 
   pub ends_in_bound : ((order : List ℕ) (count k : ℕ) → length (given order count k) ≡ k)
       → ((order : List ℕ) (count k : ℕ) → 0 < count → IsOrder count order
       → IsOrder count (given order count k))
-      → EndsInBound code (mean_of program []) (steps_of program []) (shattered_loops program)
-  ends_in_bound many below n order ending h =
+      → OverAllLinks (λ links.
+      EndsInBound code links (mean_of program []) (steps_of program []) (shattered_loops program))
+  ends_in_bound many below links capacity n order ending h =
       let bound = turn_bound code (steps_of program []) (shattered_loops program) n in
       let one = one_processor code of.solo in
       let some : 0 < processors code = omega (arith, one) in
@@ -266,6 +266,6 @@ module _ (push : (operands : Operands) (tree : Expression)
       subst (λ p. each code * steps_of program [] n + 1 ≤ 2 ^ 27 * p * p * each code *
       (steps_of program [] n + 1) * (n + 1) ^ 0) (sym one)
       (bound_is_enough (each code) (steps_of program [] n) n (omega arith)) in
-      over_in_time code of.solo (outcome_of program []) does n ending more
+      over_in_time code links of.solo (outcome_of program []) does n ending more
       (below order (processors code) (length order + bound) some h)
       (omega (arith, long, enough))

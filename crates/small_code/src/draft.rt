@@ -1,7 +1,7 @@
 //! Tables while they grow.
 ghost use Rattle.std.specs.Prelude.{◌≡◌, ◌<◌, ◌∷◌, [], ◌++◌, IfOk, OnOk, Some, length, slice_get, All};
 ghost use Rattle.std.specs.Prelude.{slice_set};
-ghost use Rattle.node_form.specs.Fits.{FitsExpr, IsScalarWord};
+ghost use Rattle.node_form.specs.Fits.{Fits, FitsExpr, IsScalarWord};
 ghost use Rattle.grid_meaning.specs.Scalar.{IsScalarCode};
 ghost use Rattle.small_code.specs.Draft.{FitsRow, first_tables, newline};
 
@@ -125,6 +125,7 @@ impl Draft {
     /// The program of these tables.
     pub fn into_program(self) -> Result<NodeProgram, AllocError>
         ensures same { IfOk result (λ program. program ≡ self) }
+        ensures fits { OnOk result (Fits self) }
         ensures rows { OnOk result (IsScalarCode self) }
     {
         let Draft {

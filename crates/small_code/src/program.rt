@@ -5,7 +5,7 @@ ghost use Rattle.zpl_tree.specs.View.{name_of, stmts_of, syntax_of};
 ghost use Rattle.grid_meaning.specs.Scalar.{IsScalarCode};
 ghost use Rattle.zpl_meaning.specs.Program.{mean_of, steps_of};
 ghost use Rattle.zpl_claims.specs.Bound.{shattered_loops, EndsInBound};
-ghost use Rattle.zpl_claims.specs.Good.{IsGood};
+ghost use Rattle.zpl_claims.specs.Good.{IsGood, OverAllLinks};
 ghost use Rattle.zpl_claims.specs.LockStep.{HasLockSteps};
 ghost use Rattle.zpl_claims.specs.Small.{IsSmall};
 ghost use Rattle.zpl_claims.specs.Tidy.{IsTidy};
@@ -18,7 +18,9 @@ use crate::fault::CodeFault;
 use crate::parts::{body_of, parts_of};
 use crate::scope::Scope;
 use crate::statements::emit_stmts;
-use grid_meaning::given_turns_are_orders;
+use grid_meaning::{
+    given_turns_are_orders, orders_go_on, scalar_code_goes_on, scalar_code_needs_no_links,
+};
 use node_form::{Instr, NodeProgram, words_push_their_value};
 use std::alloc::Global;
 use zpl_claims::MOST_LOOPS;
@@ -31,13 +33,15 @@ pub fn code_of_small(alloc: Global, program: &Program<'_>) -> Result<NodeProgram
     ensures built { OnOk result (IsSmall (syntax_of program.now)) }
     ensures refused { IfErr result (λ fault. Refutes fault (IsSmall (syntax_of program.now))) }
 
-    // It is right after every order of turns, some order brings it to each bound of the meaning,
-    // and where the meaning ends it comes to its end in time.
-    ensures good { IfOk result (λ code. IsGood code (mean_of (syntax_of program.now) [])) }
-    ensures in_step { IfOk result (λ code. HasLockSteps code (mean_of (syntax_of program.now) [])) }
+    // Over links of every capacity it is right after every order of turns, some order brings it to
+    // each bound of the meaning, and where the meaning ends it comes to its end in time.
+    ensures good { let tree = syntax_of program.now in
+        IfOk result (λ code. OverAllLinks (λ links. IsGood code links (mean_of tree []))) }
+    ensures in_step { let tree = syntax_of program.now in
+        IfOk result (λ code. OverAllLinks (λ links. HasLockSteps code links (mean_of tree []))) }
     ensures bound { let tree = syntax_of program.now in
-        IfOk result (λ code.
-        EndsInBound code (mean_of tree []) (steps_of tree []) (shattered_loops tree)) }
+        IfOk result (λ code. OverAllLinks (λ links.
+        EndsInBound code links (mean_of tree []) (steps_of tree []) (shattered_loops tree))) }
 
     // It is for one processor, and no larger than the source.
     ensures tidy { let tree = syntax_of program.now in
@@ -48,6 +52,9 @@ pub fn code_of_small(alloc: Global, program: &Program<'_>) -> Result<NodeProgram
     ensures rows { IfOk result IsScalarCode }
 {
     given_turns_are_orders();
+    orders_go_on();
+    scalar_code_goes_on();
+    scalar_code_needs_no_links();
     words_push_their_value();
     let Some((names, entry)) = parts_of(program.decls) else {
         return Err(CodeFault::NotBuilt);

@@ -1,5 +1,4 @@
 mod Examples
-mod QuietLemmas
 mod RunLemmas
 mod StackLemmas
 mod TurnLemmas

@@ -1,22 +1,25 @@
 -- The turns of a grid of one processor, one after another.
-use Rattle.std.proofs.Common.{◌≡◌, ℕ, ◌+◌, ◌-◌, ◌*◌, ◌<◌, ◌↔◌, List, [], ◌∷◌, ◌++◌, replicate, refl}
+use Rattle.std.proofs.Common.{◌≡◌, ℕ, ◌+◌, ◌-◌, ◌*◌, ◌<◌, ◌↔◌, List, [], ◌∷◌, ◌++◌, length, map, refl}
 use Rattle.std.proofs.Common.{sym, ap, ◌∙◌, subst, arith, append_assoc, append-nil, add-one}
 use Rattle.std.proofs.Common.{below_more, ⊎_elim}
 use Rattle.std.proofs.Math.Nat.{mod-one, eq-or-lt_of_le}
 use Rattle.std.proofs.lemmas.Bool.{le-ltb}
 use Rattle.std.proofs.lemmas.List.Sums.{fold-append}
 use Rattle.std.proofs.lemmas.List.Elements.{All-head, All-cons, All-nil}
+use Rattle.std.specs.List.{range_with_len}
 use Rattle.std.specs.Prelude.{Option, Some, None, IsSome, IsNone}
 use Rattle.zpl_nums.specs.declared.ends.End.{End}
 use Rattle.zpl_io.specs.Faults.{CountsFaults}
 use Rattle.zpl_io.specs.Sink.{Takes}
 use Rattle.node_form.specs.declared.tables.Tables.{Tables}
-use Rattle.node_form.specs.declared.instructions.Instr.{Instr}
-use Rattle.node_form.specs.declared.instructions.Instr.TheVariants as instr
-use Rattle.grid_meaning.specs.Local.{Local, start_local}
-use Rattle.grid_meaning.specs.Turn.{Heads, turn_at, act, unless_ended, moves}
-use Rattle.grid_meaning.specs.Grid.{Grid, processors, start_grid, after_turn, counting, given_turn}
-use Rattle.grid_meaning.specs.Grid.{heads_of, IsOver, EndsAs, first_ending}
+use Rattle.grid_links.specs.Links.{no_messages}
+use Rattle.grid_links.specs.Machine.{over_links}
+use Rattle.grid_links.specs.Run.{after_turn, heads_at, rooms_at}
+use Rattle.grid_meaning.specs.Action.{Action, moves}
+use Rattle.grid_meaning.specs.Local.{Local, start_local, start_locals}
+use Rattle.grid_meaning.specs.Turn.{Turn, act, fed}
+use Rattle.grid_meaning.specs.Grid.{Grid, processors, start_grid, counting, given_turn}
+use Rattle.grid_meaning.specs.Grid.{IsOver, EndsAs, first_ending}
 use Rattle.grid_meaning.specs.Order.{given, turn_number}
 use Rattle.small_run.specs.Processor.{Processor, MovesTo, Turned, IsCutOff}
 use Rattle.small_run.specs.Run.{after_turns, TakesIntoNext}
@@ -24,8 +27,7 @@ use Rattle.small_run.specs.Run.{after_turns, TakesIntoNext}
 -- a grid of one processor that has sent nothing
 abbrev alone_grid : Local → List ℕ → ℕ → Grid
 alone_grid local printed turns = record {
-  locals = local ∷ [];
-  links = [] ∷ [];
+  world = record { locals = local ∷ []; links = [] ∷ [] };
   printed = printed;
   turns = turns;
   sends = 0;
@@ -33,64 +35,35 @@ alone_grid local printed turns = record {
 }
 
 -- ---- one turn
--- an instruction of scalar code looks at no message
-act-heads : (code : Tables) (p : ℕ) (local : Local) (heads others : Heads) (next : Option Instr)
-    → act code p local heads next ≡ act code p local others next
-act-heads code p local heads others None = refl
-act-heads code p local heads others (Some (instr.Set scalar expr line)) = refl
-act-heads code p local heads others (Some (instr.Fix slot region)) = refl
-act-heads code p local heads others (Some (instr.Dims slot parts line)) = refl
-act-heads code p local heads others (Some (instr.Formed form slot from shift line)) = refl
-act-heads code p local heads others (Some (instr.Need slot array shift line)) = refl
-act-heads code p local heads others (Some (instr.Same target source kind line)) = refl
-act-heads code p local heads others (Some (instr.Fits slot shift line)) = refl
-act-heads code p local heads others (Some (instr.Room array slot)) = refl
-act-heads code p local heads others (Some (instr.Clear array)) = refl
-act-heads code p local heads others (Some (instr.Loop slot group)) = refl
-act-heads code p local heads others (Some (instr.Start exchange)) = refl
-act-heads code p local heads others (Some (instr.Finish exchange)) = refl
-act-heads code p local heads others (Some (instr.Edge kind array slot shift)) = refl
-act-heads code p local heads others (Some (instr.Flood array target from source)) = refl
-act-heads code p local heads others (Some (instr.Part array target fold from source)) = refl
-act-heads code p local heads others (Some (instr.Scan array slot fold along from mask)) = refl
-act-heads code p local heads others (Some (instr.Vote group)) = refl
-act-heads code p local heads others (Some (instr.Fold scalar fold)) = refl
-act-heads code p local heads others (Some (instr.TreeVote group)) = refl
-act-heads code p local heads others (Some (instr.TreeFold scalar fold)) = refl
-act-heads code p local heads others (Some (instr.Print text)) = refl
-act-heads code p local heads others (Some (instr.Number expr)) = refl
-act-heads code p local heads others (Some (instr.Truth expr)) = refl
-act-heads code p local heads others (Some (instr.Gather truth array slot)) = refl
-act-heads code p local heads others (Some (instr.Jump goal)) = refl
-act-heads code p local heads others (Some (instr.Unless expr goal line)) = refl
-act-heads code p local heads others (Some (instr.Trap kind line)) = refl
-act-heads code p local heads others (Some instr.End) = refl
-act-heads code p local heads others (Some (instr.Remap array slot from parts)) = refl
-
-turn_at-heads : (code : Tables) (p : ℕ) (local : Local) (heads others : Heads)
-    → turn_at code p local heads ≡ turn_at code p local others
-turn_at-heads code p local heads others =
-    ap (unless_ended local.ended) (act-heads code p local heads others _)
-
 -- all turns are given to processor 0
 turn_number-one : (k : ℕ) → turn_number [] 1 k ≡ 0
 turn_number-one k = rw (le-ltb k 0 (omega arith)) (mod-one (k - 0))
 
 after_turns-suc : (code : Tables) (k : ℕ)
-    → after_turns code (k + 1) ≡ given_turn code (after_turns code k) 0
+    → after_turns code (k + 1) ≡ given_turn code None (after_turns code k) 0
 after_turns-suc code k =
     ap (after_turns code) (add-one k)
-    ∙ (fold-append (given_turn code) (start_grid code) (given [] 1 k) (turn_number [] 1 k ∷ [])
-    ∙ ap (given_turn code (after_turns code k)) (turn_number-one k))
+    ∙ (fold-append (given_turn code None) (start_grid code) (given [] 1 k) (turn_number [] 1 k ∷ [])
+    ∙ ap (given_turn code None (after_turns code k)) (turn_number-one k))
 
--- a turn of the only processor
+-- the turn that an action is in a grid, and the grid after it
+abbrev seen : Tables → Grid → Local → Action → Turn
+seen code grid local action =
+    over_links (fed code 0 local) (heads_at (length (start_locals code)) grid.world.links 0)
+    (rooms_at None (length (start_locals code)) grid.world.links 0) action
+
+abbrev made : Tables → Grid → Turn → Grid
+made code grid turn =
+    counting 0 turn grid (after_turn (length (start_locals code)) 0 turn grid.world)
+
+-- a turn of the only processor, which neither sends nor takes a message
 given_turn-alone : (code : Tables) (local next : Local) (printed bytes : List ℕ) (k : ℕ)
-    → turn_at code 0 local (λ from. None) ≡ moves next bytes
-    → given_turn code (alone_grid local printed k) 0 ≡ alone_grid next (printed ++ bytes) (k + 1)
+    → act code 0 local ≡ moves next bytes
+    → given_turn code None (alone_grid local printed k) 0
+    ≡ alone_grid next (printed ++ bytes) (k + 1)
 given_turn-alone code local next printed bytes k moved =
     let grid = alone_grid local printed k in
-    ap (λ turn. counting (after_turn code 0 turn grid))
-    (turn_at-heads code 0 local (heads_of code grid 0) (λ from. None) ∙ moved)
+    ap (λ action. made code grid (seen code grid local action)) moved
 
 -- ---- what holds after so many turns
 -- The grid after k turns has this processor alone; no grid before was over; and the sink took what
@@ -109,20 +82,20 @@ Takes-both before between after x y first second taken told =
     subst after (append_assoc taken x y) (second (taken ++ x) (first taken told))
 
 -- before the first turn
+abbrev start_of : List Local → Grid
+start_of locals = record {
+  world = record { locals = locals; links = no_messages (length locals) };
+  printed = [];
+  turns = 0;
+  sends = 0;
+  words = 0;
+}
+
 pub HasGiven-none : (code : Tables) (tells : List ℕ → Type 0) → processors code ≡ 1
-    → HasGiven code (record { code = code; local = start_local code }) 0 tells tells
+    → HasGiven code (record { code = code; local = start_local code 0 }) 0 tells tells
 HasGiven-none code tells one = record {
   same = refl;
-  grid = ap (λ n.
-      record {
-        locals = replicate n (start_local code);
-        links = replicate (n * n) [];
-        printed =
-            [];
-        turns = 0;
-        sends = 0;
-        words = 0;
-      }) one;
+  grid = ap (λ n. start_of (map (start_local code) (range_with_len 0 n))) one;
   not_over_before = λ j below over. absurd (omega arith);
   takes = λ taken told. rw append-nil told;
 }
@@ -133,10 +106,10 @@ next_grid : (code : Tables) (old new : Processor) (k : ℕ) (bytes : List ℕ)
     → after_turns code (k + 1) ≡ alone_grid new.local ((after_turns code k).printed ++ bytes)
     (k + 1)
 next_grid code old new k bytes before after so moved =
-    let turn : turn_at code 0 old.local (λ from. None) ≡ moves new.local bytes =
-    ap (λ c. turn_at c 0 old.local (λ from. None)) (sym so.same) ∙ moved.turn in
+    let turn : act code 0 old.local ≡ moves new.local bytes =
+    ap (λ c. act c 0 old.local) (sym so.same) ∙ moved.turn in
     after_turns-suc code k
-    ∙ (ap (λ g. given_turn code g 0) so.grid
+    ∙ (ap (λ g. given_turn code None g 0) so.grid
     ∙ given_turn-alone code old.local new.local (after_turns code k).printed bytes k turn)
 
 -- a grid of one processor is over exactly where that has ended

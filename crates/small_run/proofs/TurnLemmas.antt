@@ -3,22 +3,23 @@ use Rattle.std.proofs.Common.{◌≡◌, ℕ, List, [], ◌++◌, sym, ap, ◌�
 use Rattle.std.proofs.lemmas.Int.{to_z-of_z}
 use mir.Syntax.{w64}
 use mir.Val.{to_z, of_z}
-use Rattle.std.specs.Prelude.{Some, None, Result, Ok, Err, OnErr, FitsSigned, slice_get}
+use Rattle.std.specs.Prelude.{Some, Result, Ok, Err, OnErr, FitsSigned, slice_get}
 use Rattle.std.specs.Fmt.{signed_decimal}
 use Rattle.node_form.specs.declared.instructions.Instr.{Instr}
 use Rattle.node_form.specs.declared.instructions.Instr.TheVariants as instr
 use Rattle.node_form.specs.Value.{Gives}
-use Rattle.grid_meaning.specs.Turn.{act, moves, goes_on, prints, unless_ended, with_text}
-use Rattle.grid_meaning.specs.Turn.{with_value, expression_value}
-use Rattle.small_run.specs.Processor.{Processor, turn_of, IsNext, MovesTo}
+use Rattle.grid_meaning.specs.Action.{moves, goes_on}
+use Rattle.grid_meaning.specs.Turn.{act_at, expression_value, prints_text, prints_value}
+use Rattle.grid_meaning.specs.Turn.{unless_ended}
+use Rattle.small_run.specs.Processor.{Processor, action_of, IsNext, MovesTo}
 
 -- the next turn does what the next instruction says
-turn_of-next : (p : Processor) (next : Instr) → IsNext p next
-    → turn_of p ≡ act p.code 0 p.local (λ from. None) (Some next)
-turn_of-next p next is =
-    ap (λ ended. unless_ended ended
-    (act p.code 0 p.local (λ from. None) (slice_get p.code.code p.local.at))) is.running
-    ∙ ap (act p.code 0 p.local (λ from. None)) is.here
+action_of-next : (p : Processor) (next : Instr) → IsNext p next
+    → action_of p ≡ act_at p.code 0 p.local (Some next)
+action_of-next p next is =
+    ap (λ ended. unless_ended ended (act_at p.code 0 p.local (slice_get p.code.code p.local.at)))
+    is.running
+    ∙ ap (act_at p.code 0 p.local) is.here
 
 -- a text is printed
 pub MovesTo-print : (p next : Processor) (text : ℕ) (bytes : List ℕ) → IsNext p (instr.Print text)
@@ -27,8 +28,8 @@ pub MovesTo-print : (p next : Processor) (text : ℕ) (bytes : List ℕ) → IsN
 MovesTo-print p next text bytes is found after = record {
   code = ap (λ q. q.code) after;
   turn =
-      turn_of-next p (instr.Print text) is
-      ∙ (ap (λ t. with_text t (prints 0 p.local)) found
+      action_of-next p (instr.Print text) is
+      ∙ (ap (prints_text 0 p.local) found
       ∙ ap (λ q. moves q.local bytes) (sym after));
 }
 
@@ -39,8 +40,8 @@ pub MovesTo-number : (p next : Processor) (expr : ℕ) (value : ℤ) → IsNext 
 MovesTo-number p next expr value is found after = record {
   code = ap (λ q. q.code) after;
   turn =
-      turn_of-next p (instr.Number expr) is
-      ∙ (ap (λ v. with_value v p.local 0 (λ w. prints 0 p.local (signed_decimal w))) found
+      action_of-next p (instr.Number expr) is
+      ∙ (ap (λ v. prints_value 0 p.local v signed_decimal) found
       ∙ ap (λ q. moves q.local (signed_decimal value)) (sym after));
 }
 

@@ -11,7 +11,7 @@ use Rattle.small_run.specs.Processor.{Processor}
 abbrev pub processor_of : Inside → Processor
 processor_of machine = record {
   code = machine.code.now;
-  local = record (start_local machine.code.now)
+  local = record (start_local machine.code.now 0)
       { at = machine.at; ended = machine.ended; scalars = machine.scalars.items };
 }
 

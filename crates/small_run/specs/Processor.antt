@@ -4,7 +4,8 @@ use Rattle.node_form.specs.declared.tables.Tables.{Tables}
 use Rattle.node_form.specs.declared.instructions.Instr.{Instr}
 use Rattle.node_form.specs.Fits.{FitsInstr}
 use Rattle.grid_meaning.specs.Local.{Local}
-use Rattle.grid_meaning.specs.Turn.{Turn, turn_at, moves}
+use Rattle.grid_meaning.specs.Action.{Action, moves}
+use Rattle.grid_meaning.specs.Turn.{act}
 use Rattle.zpl_io.specs.Sink.{Takes, TakesFront}
 
 -- the code that it runs, and its state
@@ -12,9 +13,9 @@ pub record Processor : Type 0 where
   pub code : Tables
   pub local : Local
 
--- its next turn; no message comes to it
-abbrev pub turn_of : Processor → Turn
-turn_of processor = turn_at processor.code 0 processor.local (λ from. None)
+-- what it does in its next turn
+abbrev pub action_of : Processor → Action
+action_of processor = act processor.code 0 processor.local
 
 -- it has not ended, and this is its next instruction, whose numbers are in their tables
 pub record IsNext (processor : Processor) (instr : Instr) : Type 0 where
@@ -25,7 +26,7 @@ pub record IsNext (processor : Processor) (instr : Instr) : Type 0 where
 -- the next turn is a move that prints these bytes and sends nothing
 pub record MovesTo (old new : Processor) (bytes : List ℕ) : Type 0 where
   pub code : new.code ≡ old.code
-  pub turn : turn_of old ≡ moves new.local bytes
+  pub turn : action_of old ≡ moves new.local bytes
 
 -- a turn was made, and the sink took what it prints
 pub record Turned (old new : Processor) (before after : List ℕ → Type 0) : Type 0 where

@@ -7,12 +7,10 @@
 
 mod evaluate;
 mod fault;
-mod laws;
 mod machine;
 mod run;
 #[cfg(test)]
 mod tests;
 
 pub use fault::RunFault;
-pub use laws::{scalar_code_goes_on, scalar_code_sends_nothing};
 pub use run::{Run, run_alone};

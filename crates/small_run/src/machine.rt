@@ -3,7 +3,8 @@ ghost use Rattle.std.specs.Prelude.{◌≡◌, ◌≢◌, ◌<◌, ◌≤◌, []
 ghost use Rattle.std.specs.Prelude.{OnOk, OnErr, IsNone};
 ghost use Rattle.zpl_io.specs.Faults.{CountsFaults};
 ghost use Rattle.grid_meaning.specs.Local.{start_local};
-ghost use Rattle.grid_meaning.specs.Turn.{expression_value, goes_to, goes_on};
+ghost use Rattle.grid_meaning.specs.Action.{ended_as, goes_to, goes_on};
+ghost use Rattle.grid_meaning.specs.Turn.{expression_value};
 ghost use Rattle.grid_meaning.specs.Scalar.{IsScalarCode, IsScalarRow};
 ghost use Rattle.node_form.specs.Fits.{FitsInstr, HasScalarExpr};
 ghost use Rattle.node_form.specs.Value.{divided};
@@ -48,7 +49,7 @@ impl<'a> Machine<'a> {
     pub(crate) fn new(alloc: Global, code: &'a NodeProgram) -> Result<Machine<'a>, AllocError>
         requires { IsScalarCode code.now }
         ensures { IfOk result (λ machine.
-            machine ≡ record { code = code.now; local = start_local code.now }) }
+            machine ≡ record { code = code.now; local = start_local code.now 0 }) }
     {
         let code = code.tables();
         Ok(Machine {
@@ -197,9 +198,7 @@ impl<'a> Machine<'a> {
     /// Ends the processor with a zero divisor at the line.
     fn trap(&mut self, line: u32)
         ensures { self.new ≡ record self.old {
-          local = record self.old.local {
-            ended = Some (End.Trap TrapKind.DivideByZero line);
-          };
+          local = ended_as self.old.local (End.Trap TrapKind.DivideByZero line);
         } }
     {
         self.end(End::Trap(TrapKind::DivideByZero, line));
@@ -207,9 +206,7 @@ impl<'a> Machine<'a> {
 
     /// Ends the processor.
     fn end(&mut self, ending: End)
-        ensures { self.new ≡ record self.old {
-          local = record self.old.local { ended = Some ending };
-        } }
+        ensures { self.new ≡ record self.old { local = ended_as self.old.local ending } }
     {
         self.ended = Some(ending);
     }

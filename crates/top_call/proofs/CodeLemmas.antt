@@ -16,7 +16,7 @@ use Rattle.zpl_parse.specs.declared.faults.ParseFault.TheVariants as parse
 use Rattle.node_form.specs.declared.tables.Tables.{Tables}
 use Rattle.zpl_meaning.specs.Program.{mean_of, steps_of}
 use Rattle.zpl_claims.specs.Bound.{shattered_loops, EndsInBound}
-use Rattle.zpl_claims.specs.Good.{IsGood}
+use Rattle.zpl_claims.specs.Good.{IsGood, OverAllLinks}
 use Rattle.zpl_claims.specs.LockStep.{HasLockSteps}
 use Rattle.zpl_claims.specs.Small.{IsSmall}
 use Rattle.zpl_claims.specs.Tidy.{IsTidy}
@@ -66,8 +66,10 @@ pub code_is : (text : List ℕ) (tokens : List Token) (program : Program) (code 
     → IsShallowTree text tokens program
     → sum_by (λ word. length (word_text word)) (program_words program) ≤ length text
     → IsSmall program
-    → IsGood code (mean_of program []) → HasLockSteps code (mean_of program [])
-    → EndsInBound code (mean_of program []) (steps_of program []) (shattered_loops program)
+    → OverAllLinks (λ links. IsGood code links (mean_of program []))
+    → OverAllLinks (λ links. HasLockSteps code links (mean_of program []))
+    → OverAllLinks (λ links.
+    EndsInBound code links (mean_of program []) (steps_of program []) (shattered_loops program))
     → (HoldsItsWords program → IsTidy one_processor program (length (program_words program)) code)
     → IsCodeOf text code
 code_is text tokens program code of_text few tree fit small good in_step in_time tidy =

@@ -10,7 +10,7 @@ use Rattle.zpl_nums.specs.declared.ends.End.TheVariants.{More}
 use Rattle.zpl_text.specs.declared.TheConstants.{MOST_SOURCE}
 use Rattle.node_form.specs.declared.tables.Tables.{Tables}
 use Rattle.zpl_meaning.specs.Program.{mean_of, steps_of}
-use Rattle.grid_meaning.specs.Grid.{Grid, processors, after, IsOver, EndsAs, IsIdle}
+use Rattle.grid_meaning.specs.Grid.{Grid, processors, after, IsOver, EndsAs}
 use Rattle.grid_meaning.specs.Order.{IsOrder, given, turn_number}
 use Rattle.zpl_claims.specs.Bound.{shattered_loops, turn_bound}
 use Rattle.small_run.specs.Run.{after_turns, TakesIntoNext}
@@ -34,20 +34,21 @@ use Rattle.top_call.specs.declared.work.Work.{Work}
 
 -- ---- the grid of one processor
 grid_is : (code : Tables) → processors code ≡ 1 → (k : ℕ) → after_turns code k ≡ grid_at code [] k
-grid_is code alone k = ap (λ n. after code (given [] n k)) (sym alone)
+grid_is code alone k = ap (λ n. after code None (given [] n k)) (sym alone)
 
 -- a grid that is over stays so while more turns are given round the processors
 abbrev pub StaysOver : Type 0
-StaysOver = (code : Tables) (order more : List ℕ) → IsOver (after code order)
-    → after code (order ++ more) ≡ record (after code order)
-    { turns = (after code order).turns + length more }
+StaysOver = (code : Tables) (links : Option ℕ) (order more : List ℕ)
+    → IsOver (after code links order)
+    → after code links (order ++ more)
+    ≡ record (after code links order) { turns = (after code links order).turns + length more }
 
 stays_over : StaysOver → (code : Tables) (k more : ℕ) → IsOver (grid_at code [] k)
     → IsOver (grid_at code [] (k + more))
 stays_over law code k zero over = subst (λ n. IsOver (grid_at code [] n)) (sym (add-zero k)) over
 stays_over law code k (suc more) over =
     let before : IsOver (grid_at code [] (k + more)) = stays_over law code k more over in
-    let same = law code (given [] (processors code) (k + more))
+    let same = law code None (given [] (processors code) (k + more))
     (turn_number [] (processors code) (k + more) ∷ []) before in
     let now : IsOver (grid_at code [] (suc (k + more))) = subst IsOver (sym same) before in
     subst (λ n. IsOver (grid_at code [] n)) (sym (add-suc k more)) now
@@ -68,7 +69,7 @@ too_few_of law text code of_text limit k all not_over = λ n ends.
     let bound : ℕ = turn_bound code (steps_of of_text.program []) (shattered_loops of_text.program) n
     in
     let nobody : IsOrder (processors code) [] = λ i d h. absurd (omega arith) in
-    let in_time : IsOver (grid_at code [] (0 + bound)) = of_text.compiled.in_time n [] ends nobody
+    let in_time : IsOver (grid_at code [] (0 + bound)) = of_text.compiled.in_time None tt n [] ends nobody
     in
     let over : IsOver (grid_at code [] bound) = subst (λ b. IsOver (grid_at code [] b))
     (zero-add bound) in_time in
@@ -80,14 +81,25 @@ pub alone_of : {text : List ℕ} {code : Tables} → IsCodeOf text code → proc
 alone_of {code = code} of_text =
     ap (λ grid. processors (record code { grid = grid })) of_text.compiled.tidy.for_grid
 
-module _ (text : List ℕ) (code : Tables) (of_text : IsCodeOf text code) (not_idle : (grid : Grid)
-    → ¬ IsIdle code grid)
+-- turns round the processors are an order of turns
+abbrev pub AreOrders : Type 0
+AreOrders =
+    (order : List ℕ) (count k : ℕ) → 0 < count → IsOrder count order
+    → IsOrder count (given order count k)
+
+turns_are_order : AreOrders → (text : List ℕ) (code : Tables) → IsCodeOf text code → (k : ℕ)
+    → IsOrder (processors code) (given [] (processors code) k)
+turns_are_order orders text code of_text k =
+    orders [] (processors code) k (omega (arith, alone_of of_text)) (λ i d h. absurd (omega arith))
+
+module _ (text : List ℕ) (code : Tables) (of_text : IsCodeOf text code) (orders : AreOrders)
     (limit k : ℕ) (within : k ≤ limit) (not_over : (j : ℕ) → j < k
     → ¬ IsOver (after_turns code j)) where
   pub goes_on : GoesOnTo code [] k
   goes_on j less stops = elim stops [
     | inl over ↦ not_over j less (subst IsOver (sym (grid_is code (alone_of of_text) j)) over)
-    | inr idle ↦ not_idle (grid_at code [] j) idle
+    | inr idle ↦ (of_text.compiled.good None tt (given [] (processors code) j)
+        (turns_are_order orders text code of_text j)).not_idle idle
   ]
 
   abbrev run_of : IsOver (grid_at code [] k) ⊎ (k ≡ limit)
@@ -127,15 +139,13 @@ more_of : {ending : End} → Some ending ≡ Some More → ending ≡ More
 more_of same = let e : _ ≡ _ = cc in e
 
 -- a grid that is over doesn't want more
-pub never_more : (text : List ℕ) (code : Tables) → IsCodeOf text code
-    → ((order : List ℕ) (count k : ℕ) → 0 < count → IsOrder count order
-    → IsOrder count (given order count k))
+pub never_more : (text : List ℕ) (code : Tables) → IsCodeOf text code → AreOrders
     → (k : ℕ) → EndsAs (after_turns code k) More → ⊥
 never_more text code of_text orders k ends =
     let order : List ℕ = given [] 1 k in
     let is_order : IsOrder (processors code) order = subst (λ n. IsOrder n order)
     (sym (alone_of of_text)) (orders [] 1 k (omega arith) (λ i d h. absurd (omega arith))) in
-    let right = of_text.compiled.good order is_order in
+    let right = of_text.compiled.good None tt order is_order in
     let finishes = right.finishes ends.over in
     finishes.within (more_of (sym finishes.ending.first ∙ ends.first))
 

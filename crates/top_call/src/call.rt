@@ -23,7 +23,7 @@ use crate::commands::command_of;
 use crate::runs::run_file;
 use crate::work::Work;
 use call_claims::{Ran, causes_are_exact};
-use small_run::scalar_code_sends_nothing;
+use grid_meaning::scalar_code_needs_no_links;
 use std::alloc::Global;
 use zpl_io::{Files, Sink};
 
@@ -38,9 +38,10 @@ pub fn zplgrid<F: Files, O: Sink, E: Sink>(
     out: &mut O,
     errs: &mut E,
 ) -> Ran
-    // The code is made of the text that the file of the words tells: it is right after every order
-    // of turns, some order brings it in step to each bound of the meaning, it comes to its end in
-    // time, and it is tidy. It was given no more turns than the words allow.
+    // The code is made of the text that the file of the words tells: over links of every capacity it
+    // is right after every order of turns, some order brings it in step to each bound of the meaning,
+    // and it comes to its end in time; and it is tidy. It was given no more turns than the words
+    // allow.
     ensures code { let call =
         call_of (map string_bytes words.now) (F.tells files.old) (F.may_fail files.old) in
         IfSome result.code (λ code.
@@ -93,7 +94,7 @@ pub fn zplgrid<F: Files, O: Sink, E: Sink>(
     ensures puts { CountsPuts result.status (O.faults out.old) (O.faults out.new) }
     ensures told { CountsPuts result.status (E.faults errs.old) (E.faults errs.new) }
 {
-    scalar_code_sends_nothing();
+    scalar_code_needs_no_links();
     causes_are_exact::<F>();
     let work = work_for(alloc, words, files, out);
     let answer = told(alloc, work.answer, errs);

@@ -11,7 +11,7 @@ use crate::answers::Answer;
 use crate::compiling::compile;
 use grid_meaning::{given_turns_are_orders, over_stays};
 use node_form::NodeProgram;
-use small_run::{RunFault, run_alone, scalar_code_goes_on};
+use small_run::{RunFault, run_alone};
 use std::alloc::Global;
 use zpl_io::Sink;
 use zpl_nums::End;
@@ -86,7 +86,6 @@ fn run<'a, O: Sink>(
 {
     given_turns_are_orders();
     over_stays();
-    scalar_code_goes_on();
     let ran = run_alone(alloc, &code, turns, out);
     let answer = match ran.ending {
         Ok(Some(End::Done)) => Answer::Done,

@@ -1,5 +1,5 @@
 -- The bound on the turns of code whose meaning ends.
-use Rattle.std.specs.Prelude.{◌≢◌, ℕ, ◌+◌, ◌*◌, ◌^◌, List, length}
+use Rattle.std.specs.Prelude.{◌≢◌, ℕ, ◌+◌, ◌*◌, ◌^◌, List, length, Option}
 use Rattle.zpl_nums.specs.declared.ends.End.TheVariants.{More}
 use Rattle.zpl_tree.specs.Syntax.{Program}
 use Rattle.node_form.specs.declared.tables.Tables.{Tables}
@@ -22,8 +22,8 @@ turn_bound code steps loops n =
 
 -- Where the meaning ends within n turns of each loop, every order with so many turns round the
 -- processors behind it is over.
-abbrev pub EndsInBound : Tables → (ℕ → Meaning) → (ℕ → ℕ) → ℕ → Type 0
-EndsInBound code mean steps loops =
+abbrev pub EndsInBound : Tables → Option ℕ → (ℕ → Meaning) → (ℕ → ℕ) → ℕ → Type 0
+EndsInBound code links mean steps loops =
     (n : ℕ) (order : List ℕ) → (mean n).ending ≢ More → IsOrder (processors code) order →
-    IsOver (after code
+    IsOver (after code links
     (given order (processors code) (length order + turn_bound code steps loops n)))

@@ -1,11 +1,11 @@
 -- Code that is good for a meaning: right after every order of turns.
-use Rattle.std.specs.Prelude.{◌≡◌, ◌≢◌, ℕ, List, length}
+use Rattle.std.specs.Prelude.{◌≡◌, ◌≢◌, ℕ, List, length, Option}
 use Rattle.zpl_lists.specs.Front.{IsFrontOf}
 use Rattle.zpl_nums.specs.declared.ends.End.TheVariants.{More}
 use Rattle.node_form.specs.declared.tables.Tables.{Tables}
 use Rattle.zpl_meaning.specs.Program.{Meaning}
 use Rattle.grid_meaning.specs.Grid.{Grid, processors, after, IsOver, EndsAs, IsStuck, IsIdle}
-use Rattle.grid_meaning.specs.Grid.{HasEmptyLinks}
+use Rattle.grid_meaning.specs.Grid.{HasEmptyLinks, IsCapacity}
 use Rattle.grid_meaning.specs.Order.{IsOrder}
 
 -- A grid that is over has printed all that the meaning prints, and has ended as the meaning does,
@@ -17,14 +17,19 @@ pub record Finishes (meaning : Meaning) (grid : Grid) : Type 0 where
   pub links : HasEmptyLinks grid
 
 -- The grid after so many turns, where the meaning has as many turns of each loop.
-pub record IsRight (code : Tables) (meaning : Meaning) (grid : Grid) : Type 0 where
-  pub not_stuck : ¬ IsStuck code grid
-  pub not_idle : ¬ IsIdle code grid
+pub record IsRight (code : Tables) (links : Option ℕ) (meaning : Meaning) (grid : Grid)
+    : Type 0 where
+  pub not_stuck : ¬ IsStuck code links grid
+  pub not_idle : ¬ IsIdle code links grid
   pub printed : IsFrontOf grid.printed meaning.bytes
   pub finishes : IsOver grid → Finishes meaning grid
 
--- After every order of turns the grid is right.
-abbrev pub IsGood : Tables → (ℕ → Meaning) → Type 0
-IsGood code mean =
+-- After every order of turns over these links the grid is right.
+abbrev pub IsGood : Tables → Option ℕ → (ℕ → Meaning) → Type 0
+IsGood code links mean =
     (order : List ℕ) → IsOrder (processors code) order →
-    IsRight code (mean (length order)) (after code order)
+    IsRight code links (mean (length order)) (after code links order)
+
+-- what holds over links of every capacity, and over those that hold any number of messages
+abbrev pub OverAllLinks : (Option ℕ → Type 0) → Type 0
+OverAllLinks Holds = (links : Option ℕ) → IsCapacity links → Holds links

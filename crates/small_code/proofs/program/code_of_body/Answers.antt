@@ -1,5 +1,6 @@
 use Rattle.std.proofs.Common.{◌∙◌, sym, subst, map}
 use Rattle.zpl_tree.specs.View.{name_of, stmts_of}
+use Rattle.node_form.specs.Fits.{Fits}
 use Rattle.grid_meaning.specs.Scalar.{IsScalarCode}
 use Rattle.small_code.specs.Emits.{AreFine}
 use Rattle.small_code.proofs.ProgramLemmas.{emitted_for, err_refutes}
@@ -22,6 +23,7 @@ returns-clause-made c = record {
       (stmts_of c.args.body.now)
       c.of-lines.ensures c.in_ok-scope.ensures.names c.count.ensures c.in_ok-draft.ensures
       c.in_ok-emit_stmts.ensures.emitted;
+  fits = subst Fits (sym c.in_ok-code.ensures.same) c.in_ok-code.ensures.fits;
   rows = subst IsScalarCode (sym c.in_ok-code.ensures.same) c.in_ok-code.ensures.rows;
   ended = c.in_ok-code.ensures.same ∙ c.in_ok-add.ensures;
 }

@@ -1,7 +1,8 @@
 use Rattle.std.proofs.Common.{map}
 use Rattle.zpl_tree.specs.View.{name_of, procedure_of, stmts_of, syntax_of}
-use Rattle.small_code.proofs.PartLemmas.{on_value, same_text}
-use Rattle.small_code.proofs.ProgramLemmas.{small_is_plain, made_is_code, made_is_tidy}
+use Rattle.small_code.proofs.PartLemmas.{ok_fact, on_value, same_text}
+use Rattle.small_code.proofs.ProgramLemmas.{small_is_plain, made_is_small, made_is_code, made_is_tidy}
+use Rattle.small_code.proofs.Runs.{knows_turns}
 use Rattle.small_code.proofs.Whole.{is_good, has_lock_steps, ends_in_bound}
 use Rattle.small_code.proofs.program.code_of_small.Goals as goal
 
@@ -10,6 +11,16 @@ returns-in_default-body_of-clause-refused c = λ small.
     c.in_default-body_of.ensures small.body (small_is_plain (syntax_of c.args.program.now)
     (map name_of c.in-Some.names.now) (procedure_of c.in-Some.entry.now) c.in-Some.ensures
     small)
+
+pub returns-clause-built : goal.returns-clause-built
+returns-clause-built c =
+    let program = syntax_of c.args.program.now in
+    let is_entry = same_text c.in-Some.entry.now.name.text.now c.args.program.now.name.text.now
+    c.ne.result c.ne.ensures c.if-ne.false in
+    ok_fact c.code_of_body.result _ _
+    (made_is_small program (map name_of c.in-Some.names.now) (procedure_of c.in-Some.entry.now)
+    c.in-Some.ensures (stmts_of c.in-Some-body_of.body.now) c.in-Some-body_of.ensures is_entry)
+    c.code_of_body.ensures.made
 
 pub returns-clause-good : goal.returns-clause-good
 returns-clause-good c =
@@ -20,7 +31,10 @@ returns-clause-good c =
     (λ code made. is_good c.words_push_their_value.ensures.value code program
     (made_is_code program (map name_of c.in-Some.names.now) (procedure_of c.in-Some.entry.now)
     c.in-Some.ensures (stmts_of c.in-Some-body_of.body.now) c.in-Some-body_of.ensures is_entry
-    code made))
+    code made
+    (knows_turns c.scalar_code_needs_no_links.ensures.silent c.scalar_code_goes_on.ensures.moves
+    c.scalar_code_goes_on.ensures.not_stuck c.scalar_code_goes_on.ensures.not_idle
+    c.orders_go_on.ensures.world code made.fits made.rows)))
     c.code_of_body.ensures.made
 
 pub returns-clause-in_step : goal.returns-clause-in_step
@@ -32,7 +46,10 @@ returns-clause-in_step c =
     (λ code made. has_lock_steps c.words_push_their_value.ensures.value code program
     (made_is_code program (map name_of c.in-Some.names.now) (procedure_of c.in-Some.entry.now)
     c.in-Some.ensures (stmts_of c.in-Some-body_of.body.now) c.in-Some-body_of.ensures is_entry
-    code made))
+    code made
+    (knows_turns c.scalar_code_needs_no_links.ensures.silent c.scalar_code_goes_on.ensures.moves
+    c.scalar_code_goes_on.ensures.not_stuck c.scalar_code_goes_on.ensures.not_idle
+    c.orders_go_on.ensures.world code made.fits made.rows)))
     c.code_of_body.ensures.made
 
 pub returns-clause-bound : goal.returns-clause-bound
@@ -44,7 +61,10 @@ returns-clause-bound c =
     (λ code made. ends_in_bound c.words_push_their_value.ensures.value code program
     (made_is_code program (map name_of c.in-Some.names.now) (procedure_of c.in-Some.entry.now)
     c.in-Some.ensures (stmts_of c.in-Some-body_of.body.now) c.in-Some-body_of.ensures is_entry
-    code made)
+    code made
+    (knows_turns c.scalar_code_needs_no_links.ensures.silent c.scalar_code_goes_on.ensures.moves
+    c.scalar_code_goes_on.ensures.not_stuck c.scalar_code_goes_on.ensures.not_idle
+    c.orders_go_on.ensures.world code made.fits made.rows))
     c.given_turns_are_orders.ensures.many c.given_turns_are_orders.ensures.below)
     c.code_of_body.ensures.made
 

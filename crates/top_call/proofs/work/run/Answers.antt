@@ -2,7 +2,6 @@ use Rattle.std.proofs.Common.{rules, ◌≡◌, Ok, Some, None, refl, sym, subst
 use Rattle.std.specs.Prelude.{IsSome, IsOkAnd}
 use Rattle.std.proofs.lemmas.Bool.{false≢true}
 use Rattle.zpl_nums.specs.declared.ends.End.TheVariants.{Done, Trap, More}
-use Rattle.grid_meaning.specs.Grid.{Grid, IsIdle}
 use Rattle.call_claims.specs.Cause.WorkCause.{done, trap, turn_limit}
 use Rattle.top_call.proofs.WorkLemmas.{HasWorkCause, ended, not_ended, goes_on, never_more, cut_off}
 use Rattle.top_call.proofs.work.run.Goals as goal
@@ -22,22 +21,21 @@ returns-clause-cause g c =
     let text = c.args.text.now in
     let code = c.args.code in
     let k = ran.result.turns in
-    let idle : (grid : Grid) → IsIdle code grid → ⊥ =
-    λ grid. c.scalar_code_goes_on.ensures.not_idle code grid c.requires.rows in
+    let orders = c.given_turns_are_orders.ensures.below in
     let caused = HasWorkCause text c.args.turns (record { code = Some code; turns = k }) in
     elim c.match-ran.branch [
       | in-Ok-Some-Done w ↦ subst caused (sym w.answer-is)
-          (λ d. done (ended text code c.requires.of_text idle c.args.turns k ran.ensures.limit
+          (λ d. done (ended text code c.requires.of_text orders c.args.turns k ran.ensures.limit
           ran.ensures.not_over_before Done ((ran.ensures.over Done).0 (search rules))))
       | in-Ok-Some-Trap w ↦ subst caused (sym w.answer-is)
           (λ d. trap w.in-Ok-Some-Trap.kind w.in-Ok-Some-Trap.line
-          (ended text code c.requires.of_text idle c.args.turns k ran.ensures.limit
+          (ended text code c.requires.of_text orders c.args.turns k ran.ensures.limit
           ran.ensures.not_over_before
           (Trap w.in-Ok-Some-Trap.kind w.in-Ok-Some-Trap.line)
           ((ran.ensures.over (Trap w.in-Ok-Some-Trap.kind w.in-Ok-Some-Trap.line)).0
           (search rules))))
       | in-Ok-None w ↦ subst caused (sym w.answer-is)
-          (λ d. turn_limit (not_ended text code c.requires.of_text idle c.args.turns k ran.ensures.limit
+          (λ d. turn_limit (not_ended text code c.requires.of_text orders c.args.turns k ran.ensures.limit
           ran.ensures.not_over_before c.over_stays.ensures
           (ran.ensures.all_given (search rules))
           (λ over. let none : ran.result.ending ≡ Ok None = search rules in false≢true
@@ -50,8 +48,7 @@ pub returns-clause-went_on : goal.returns-clause-went_on
 returns-clause-went_on g c =
     let ran = c.run_alone-ran in
     goes_on c.args.text.now c.args.code c.requires.of_text
-    (λ grid. c.scalar_code_goes_on.ensures.not_idle c.args.code grid c.requires.rows)
-    c.args.turns ran.result.turns ran.ensures.limit ran.ensures.not_over_before
+    c.given_turns_are_orders.ensures.below c.args.turns ran.result.turns ran.ensures.limit ran.ensures.not_over_before
 
 pub returns-clause-cut_off : goal.returns-clause-cut_off
 returns-clause-cut_off g c = λ failed.

@@ -2,7 +2,7 @@ use Rattle.std.proofs.Common.{◌≡◌, ◌<◌, length, refl, ◌∙◌, sym, 
 use Rattle.std.proofs.lemmas.Option.{slice_get_within}
 use Rattle.std.specs.Prelude.{FitsSigned}
 use mir.Syntax.{w64}
-use Rattle.grid_meaning.specs.Turn.{goes_on}
+use Rattle.grid_meaning.specs.Action.{goes_on}
 use Rattle.small_run.specs.Processor.{Processor}
 use Rattle.small_run.specs.Machine.{processor_of}
 use Rattle.small_run.proofs.TurnLemmas.{MovesTo-number, alone}

@@ -1,7 +1,7 @@
 use Rattle.std.proofs.Common.{◌≡◌, refl, ap, ◌∙◌, sym}
 use Rattle.std.proofs.lemmas.Option.{slice_get_within}
 use Rattle.std.specs.Prelude.{Some, slice_get}
-use Rattle.grid_meaning.specs.Turn.{goes_on}
+use Rattle.grid_meaning.specs.Action.{goes_on}
 use Rattle.small_run.proofs.TurnLemmas.{MovesTo-print, OnErr-fact}
 use Rattle.small_run.proofs.machine.Machine.print.Goals as goal
 

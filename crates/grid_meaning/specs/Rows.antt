@@ -1,0 +1,18 @@
+-- The rows in which processors work together, each with its meaning.
+use Rattle.std.specs.Prelude.{ℕ, slice_get, Option, Some, None}
+use Rattle.std.specs.Option.{option_map}
+use Rattle.node_form.specs.declared.instructions.Instr.{Instr}
+use Rattle.node_form.specs.declared.instructions.Instr.TheVariants as instr
+use Rattle.node_form.specs.declared.tables.Tables.{Tables}
+use Rattle.grid_meaning.specs.Collective.{Collective, star, tree, voted, folded}
+use Rattle.grid_meaning.specs.Exchange.{started, finished}
+
+-- what a row does on processor p, if it is one of these and has a meaning so far
+abbrev pub collective : Tables → ℕ → Instr → Option Collective
+collective code p (instr.Start exchange) = option_map (started code p exchange) (slice_get code.exchanges exchange)
+collective code p (instr.Finish exchange) = option_map (finished code p exchange) (slice_get code.exchanges exchange)
+collective code p (instr.Vote group) = Some (voted code (star code p) group)
+collective code p (instr.TreeVote group) = Some (voted code (tree code p) group)
+collective code p (instr.Fold scalar f) = Some (folded (star code p) scalar f)
+collective code p (instr.TreeFold scalar f) = Some (folded (tree code p) scalar f)
+collective code p row = None

@@ -1,0 +1,140 @@
+-- The states that a processor may have: what holds of its scalars, slots, cells and stores, and how far it is in a row.
+--
+--   IsLocal   a local state that can be, for a program whose tables fit
+use Rattle.std.specs.Prelude.{◌≡◌, ◌⊎◌, ◌≢◌, ℕ, ◌<◌, ◌≤◌, true, false, Bool, ℤ, pos, ◌≤ℤ◌, List, [], ◌∷◌, length, map, take, slice_get, Option, Some, None, All, ⊤}
+use Rattle.std.specs.List.{AllZip, Any, filter_map}
+use Rattle.std.specs.Option.{IfSome, IsSomeAnd, IsSome}
+use Rattle.zpl_region.specs.declared.dims.Dim.{Dim}
+use Rattle.zpl_region.specs.declared.dims.Dim.TheVariants as dim
+use Rattle.zpl_region.specs.declared.regions.Region.{Region}
+use Rattle.zpl_region.specs.Hull.{all_from}
+use Rattle.zpl_region.specs.Region.{members}
+use Rattle.zpl_arrays.specs.Array.{Array, IsArray}
+use Rattle.grid_layout.specs.Layout.{laid_out, held_of, own_first, own_last}
+use Rattle.node_form.specs.declared.arrays.ArrayDim.{ArrayDim}
+use Rattle.node_form.specs.declared.arrays.ArrayDim.TheVariants.{Range, Star}
+use Rattle.node_form.specs.declared.arrays.ArrayRow.{ArrayRow}
+use Rattle.node_form.specs.declared.instructions.Instr.{Instr}
+use Rattle.node_form.specs.declared.instructions.Instr.TheVariants as instr
+use Rattle.node_form.specs.declared.members.Member.{Member}
+use Rattle.node_form.specs.declared.members.Member.TheVariants as member
+use Rattle.node_form.specs.declared.tables.Tables.{Tables}
+use Rattle.node_form.specs.Fits.{FitsRegion}
+use Rattle.grid_meaning.specs.Collective.{Collective, Stage, Alone, Sends, TakesFrom, Last, Use, AtOnce, InLast}
+use Rattle.grid_meaning.specs.Local.{Local}
+use Rattle.grid_meaning.specs.Place.{own_part}
+use Rattle.grid_meaning.specs.Rows.{collective}
+use Rattle.grid_meaning.specs.Stored.{arrangement_of, box_of, no_places}
+
+-- ---- slots and stores
+-- a slot's region has its rank, steps of at least 1 and no more than the limit
+pub record IsSlot (rank : ℕ) (region : Region) : Type 0 where
+  pub ranked : region.rank ≡ rank
+  pub fits : FitsRegion region
+
+-- the places of a temporary in one dimension, between these bounds of the own block
+abbrev pub IsRoomIn : ArrayDim → ℤ → ℤ → Dim → Type 0
+IsRoomIn Star low high dim.Flood = ⊤
+IsRoomIn Star low high (dim.Range lo hi step align) = ⊥
+IsRoomIn (Range a b c d) low high dim.Flood = ⊥
+IsRoomIn (Range a b c d) low high (dim.Range lo hi step align) =
+    (dim.Range lo hi step align ≡ all_from lo hi)
+    × (((lo ≡ pos 0) × (hi ≡ pos 0)) ⊎ ((low ≤ℤ lo) × (hi ≤ℤ high)))
+
+abbrev pub AreRoomIn : List ArrayDim → List ℤ → List ℤ → List Dim → Type 0
+AreRoomIn (row ∷ rows) (low ∷ lows) (high ∷ highs) (d ∷ dims) = IsRoomIn row low high d × AreRoomIn rows lows highs dims
+AreRoomIn rows lows highs dims = ⊤
+
+-- A temporary holds no place; or some, which are within the own block, and flood in its flood dimensions.
+pub record IsRoom (code : Tables) (p : ℕ) (row : ArrayRow) (places : Region) : Type 0 where
+  pub some : members places ≢ []
+  pub ranked : places.rank ≡ row.rank
+  pub many : length places.dims ≡ 3
+  pub dims : let blocks = laid_out (arrangement_of code) in
+      AreRoomIn row.dims (own_first blocks row.rank p) (own_last blocks row.rank p) places.dims
+
+abbrev pub ArePlaces : Tables → ℕ → ArrayRow → Bool → Region → Type 0
+ArePlaces code p row true places = places ≡ held_of (laid_out (arrangement_of code)) (box_of row) p
+ArePlaces code p row false places = (places ≡ no_places row.rank) ⊎ IsRoom code p row places
+
+-- a store has a value at each of its places, which are the held box of a stored array
+pub record IsStore (code : Tables) (p : ℕ) (row : ArrayRow) (store : Array) : Type 0 where
+  pub filled : IsArray store
+  pub places : ArePlaces code p row row.stored store.storage
+
+-- ---- how far a processor is in its row
+-- a `while` or `repeat`, at which a turn of a loop may begin
+abbrev pub IsAgain : Member → Type 0
+IsAgain (member.Put array expr mask line) = ⊥
+IsAgain (member.Cell cell expr mask line) = ⊥
+IsAgain (member.Acc scalar fold expr mask line) = ⊥
+IsAgain (member.OpenIf expr mask line) = ⊥
+IsAgain member.Otherwise = ⊥
+IsAgain member.CloseIf = ⊥
+IsAgain (member.OpenWhile expr mask line) = ⊤
+IsAgain member.CloseWhile = ⊥
+IsAgain (member.OpenRepeat mask line) = ⊤
+IsAgain (member.Until expr) = ⊥
+
+-- no turn was made in the row, and no words are kept
+pub record IsFresh (local : Local) : Type 0 where
+  pub made : local.made ≡ 0
+  pub kept : local.kept ≡ []
+
+pub record IsOutside (local : Local) : Type 0 where
+  pub index : local.index ≡ 0
+  pub member : local.member ≡ 0
+
+-- The turns of a loop so far are told by its index and member alone: a turn begins with the first member, or at an index
+-- with one that may be run again.
+pub record IsInLoop (all : List Member) (indices : ℕ) (local : Local) : Type 0 where
+  pub fresh : IsFresh local
+  pub index : local.index ≤ indices
+  pub begins : (local.member ≡ 0)
+      ⊎ ((local.index < indices) × IsSomeAnd (slice_get all local.member) IsAgain)
+
+abbrev pub IsLooping : Tables → ℕ → Local → Option Region → Option (List Member) → Type 0
+IsLooping code p local (Some region) (Some all) = IsInLoop all (length (members (own_part code p region))) local
+IsLooping code p local region all = ⊥
+
+-- the processors from which messages were taken in some turns
+abbrev pub sender_of : Stage → Option ℕ
+sender_of Alone = None
+sender_of (Sends to) = None
+sender_of (TakesFrom from) = Some from
+sender_of Last = None
+
+abbrev pub senders : List Stage → List ℕ
+senders stages = filter_map sender_of stages
+
+-- the words that are kept are those that the row has taken and not used, each of a length that it awaits
+abbrev pub KeepsWords : Use → Collective → Local → Type 0
+KeepsWords AtOnce row local = local.kept ≡ []
+KeepsWords InLast row local =
+    (map (λ entry. entry.0) local.kept ≡ senders (take local.made (row.stages local)))
+    × All (λ entry. row.awaits local entry.0 (length entry.1) ≡ true) local.kept
+
+-- fewer turns were made than the row has
+abbrev pub IsIn : Option Collective → Local → Type 0
+IsIn None local = IsFresh local
+IsIn (Some row) local = (local.made < length (row.stages local)) × KeepsWords row.use_of_words row local
+
+abbrev pub IsAt : Tables → ℕ → Local → Option Instr → Type 0
+IsAt code p local None = IsOutside local × IsFresh local
+IsAt code p local (Some (instr.Loop slot group)) =
+    IsLooping code p local (slice_get local.slots slot) (slice_get code.groups group)
+IsAt code p local (Some row) = IsOutside local × IsIn (collective code p row) local
+
+abbrev pub Stands : Tables → ℕ → Local → Type 0
+Stands code p local = IsAt code p local (slice_get code.code local.at)
+
+-- ---- states
+pub record IsLocal (code : Tables) (p : ℕ) (local : Local) : Type 0 where
+  pub at : local.at ≤ length code.code
+  pub scalars : length local.scalars ≡ code.scalars
+  pub cells : length local.cells ≡ code.cells
+  pub slots : AllZip IsSlot code.slots local.slots
+  pub stores : AllZip (IsStore code p) code.arrays local.stores
+  pub flag : IfSome local.flag (λ member. Any (λ all. member < length all) code.groups)
+  pub running : local.ended ≡ None → Stands code p local
+  pub over : IsSome local.ended → IsOutside local × IsFresh local
