@@ -9,6 +9,7 @@ use Rattle.zpl_tree.specs.Syntax.{Program}
 use Rattle.zpl_grammar.specs.Texts.{IsShallowTree}
 use Rattle.zpl_parse.specs.declared.faults.ParseFault.{ParseFault}
 use Rattle.zpl_parse.specs.declared.faults.ParseFault.TheVariants as parse
+use Rattle.zpl_parse.specs.Faults.{parse_name, parse_offset}
 use Rattle.small_code.specs.declared.fault.CodeFault.{CodeFault}
 use Rattle.small_code.specs.declared.fault.CodeFault.TheVariants as code
 use Rattle.call_claims.specs.Refusal.{IsRefusal}
@@ -33,16 +34,14 @@ of_code code.NoMemory = NoMemory
 -- the offset of the place, and 0 where there is none
 abbrev pub offset_of : Refusal → ℕ
 offset_of (Lex fault) = lexical_offset fault
-offset_of (Parse (parse.Syntax at)) = at
-offset_of (Parse parse.TooDeep) = 0
-offset_of (Parse parse.NoMemory) = 0
+offset_of (Parse fault) = parse_offset fault
 offset_of NotBuilt = 0
 offset_of NoMemory = 0
 
 -- the piece, for the line of the place
 abbrev pub refusal_text : Refusal → ℕ → List ℕ
 refusal_text (Lex fault) line = fault_text (lexical_name fault) line (lexical_offset fault)
-refusal_text (Parse (parse.Syntax at)) line = fault_text (codes "Syntax") line at
+refusal_text (Parse (parse.Syntax at)) line = fault_text (parse_name (parse.Syntax at)) line at
 refusal_text (Parse parse.TooDeep) line = too_deep_text
 refusal_text (Parse parse.NoMemory) line = []
 refusal_text NotBuilt line = fault_text (codes "NotBuilt") line 0

@@ -150,12 +150,10 @@ fn refusal_piece(alloc: Global, refusal: Refusal, line: u32) -> Result<Piece, Al
 {
     let piece = match refusal {
         Refusal::Lex(fault) => Piece::Made(fault_line(alloc, fault.name(), line, fault.at())?),
-        Refusal::Parse(ParseFault::Syntax { at }) => {
-            Piece::Made(fault_line(alloc, "Syntax", line, at)?)
-        }
         Refusal::Parse(ParseFault::TooDeep) => Piece::Fixed(b"refused: TooDeep\n"),
-        Refusal::NotBuilt => Piece::Made(fault_line(alloc, "NotBuilt", line, 0)?),
         Refusal::Parse(ParseFault::NoMemory) | Refusal::NoMemory => Piece::Fixed(b""),
+        Refusal::Parse(fault) => Piece::Made(fault_line(alloc, fault.name(), line, fault.at())?),
+        Refusal::NotBuilt => Piece::Made(fault_line(alloc, "NotBuilt", line, 0)?),
     };
     Ok(piece)
 }

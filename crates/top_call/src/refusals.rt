@@ -26,8 +26,8 @@ impl Refusal {
     {
         match self {
             Refusal::Lex(fault) => fault.at(),
-            Refusal::Parse(ParseFault::Syntax { at }) => at,
-            Refusal::Parse(_) | Refusal::NotBuilt | Refusal::NoMemory => 0,
+            Refusal::Parse(fault) => fault.at(),
+            Refusal::NotBuilt | Refusal::NoMemory => 0,
         }
     }
 }
