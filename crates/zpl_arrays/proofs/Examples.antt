@@ -12,13 +12,16 @@ use Rattle.zpl_region.specs.declared.regions.Region.{Region}
 use Rattle.zpl_region.specs.Hull.{all_from}
 use Rattle.zpl_region.specs.Region.{members, outside_of, padding, strided}
 use Rattle.zpl_arrays.specs.Around.{around_source, copy_shift, copy_storage}
+use Rattle.zpl_arrays.specs.AroundCopy.{around_copy}
 use Rattle.zpl_arrays.specs.Array.{array_of, element, has_place}
 use Rattle.zpl_arrays.specs.ArrayText.{array_text, number_text, truth_text}
 use Rattle.zpl_arrays.specs.Border.{border_conforms, border_source, border_sources}
 use Rattle.zpl_arrays.specs.Conformity.{flood_conforms, reduction_conforms}
 use Rattle.zpl_arrays.specs.Flood.{flood_source}
 use Rattle.zpl_arrays.specs.Fold.{partly_reduced, reduced}
+use Rattle.zpl_arrays.specs.Line.{line_through, masked_value}
 use Rattle.zpl_arrays.specs.Reference.{is_reference, lies_in}
+use Rattle.zpl_arrays.specs.Row.{running}
 use Rattle.zpl_arrays.specs.Scan.{scanned, scanned_along}
 
 abbrev line : ℤ → ℤ → Region
@@ -173,6 +176,19 @@ shift_of_the_copy = refl
 
 storage_of_the_copy : (copy_storage (line (pos 1) (pos 5)) (at1 (negsuc 6))).dims ≡ all_from (negsuc 0) (pos 5) ∷ padding ∷ padding ∷ []
 storage_of_the_copy = refl
+
+-- 4 5 around the home box, and 1 2 3 4 5 over it
+values_of_the_copy : map (element (around_copy (line (pos 1) (pos 5)) (at1 (negsuc 6)) (array_of (line (pos 1) (pos 5)) (coordinate 0)))) (members (copy_storage (line (pos 1) (pos 5)) (at1 (negsuc 6))))
+    ≡ pos 4 ∷ pos 5 ∷ pos 1 ∷ pos 2 ∷ pos 3 ∷ pos 4 ∷ pos 5 ∷ []
+values_of_the_copy = refl
+
+-- ---- lines
+second_line : line_through 2 strided_plane (at2 (pos 3) (pos 4)) ≡ at2 (pos 3) (pos 1) ∷ at2 (pos 3) (pos 4) ∷ []
+second_line = refl
+
+scan_of_second_line : running Sum (pos 25) (map (masked_value all ten_and_one) (line_through 2 strided_plane (at2 (pos 3) (pos 4)))) ≡ pos 56 ∷ pos 90 ∷ []
+unfolding int_wrap
+scan_of_second_line = refl
 
 -- ---- texts
 space_of_two : array_text number_text (record { rank = 3; dims = all_from (pos 1) (pos 2) ∷ all_from (pos 1) (pos 2) ∷ all_from (pos 1) (pos 2) ∷ [] }) (λ t. ((pos 4 *ℤ coordinate 0 t) +ℤ (pos 2 *ℤ coordinate 1 t)) +ℤ coordinate 2 t)

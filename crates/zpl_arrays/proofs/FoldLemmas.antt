@@ -93,15 +93,15 @@ pub and_two : (k b c d : Bool) → b ≡ (c || d) → (c && d) ≡ false → ((k
 and_two true b c d e f = (e, f)
 and_two false b c d e f = (refl, refl)
 
-same_tuple : (t : List ℤ) → is_same_tuple t t ≡ true
+pub same_tuple : (t : List ℤ) → is_same_tuple t t ≡ true
 same_tuple [] = refl
 same_tuple (x ∷ t) = rw (int_eq-true x) (same_tuple t)
 
-not_before_itself : (t : List ℤ) → is_before t t ≡ false
+pub not_before_itself : (t : List ℤ) → is_before t t ≡ false
 not_before_itself [] = refl
 not_before_itself (x ∷ t) = rw (int_lt-false x x (omega (arith, ints))) (not_before_itself t)
 
-above : (a b : ℤ) → b <ℤ a → int_le a b ≡ false
+pub above : (a b : ℤ) → b <ℤ a → int_le a b ≡ false
 above a b l = grind (arith, ints)
 
 -- t is up to x where it is on an earlier line, or on the same one up to x

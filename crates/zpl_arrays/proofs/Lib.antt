@@ -1,7 +1,11 @@
 pub mod AgreeLemmas
+pub mod AroundLemmas
 pub mod ArrayLemmas
+pub mod BorderLemmas
+pub mod CheckLemmas
 mod Examples
 pub mod FoldLemmas
+pub mod LineLemmas
 pub mod ReferenceLemmas
 pub mod RowLemmas
 pub mod ScanLemmas

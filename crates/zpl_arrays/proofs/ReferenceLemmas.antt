@@ -84,7 +84,7 @@ dims_covered (d ∷ dims) (p ∷ box) (x ∷ t) h some b cover z all =
     (dim_covered d p (All-head HasStep d dims h) (positive_left (coordinate_count d) (tuple_count dims) some) (All-head IsBoxed p box b) cover.0 (λ y is. first_part p box y t (all (y ∷ t) (is, z.1))))
     (dims_covered dims box t (All-tail HasStep d dims h) (positive_right (coordinate_count d) (tuple_count dims) some) (All-tail IsBoxed p box b) cover.1 z.1 (λ u w. second_part p box x u (all (x ∷ u) (z.0, w))))
 
-first_member : (dims : List Dim) → All HasStep dims → 0 < tuple_count dims → AllZip IsCoordinate dims (map first_of dims)
+pub first_member : (dims : List Dim) → All HasStep dims → 0 < tuple_count dims → AllZip IsCoordinate dims (map first_of dims)
 first_member [] h some = tt
 first_member (d ∷ dims) h some =
     let here = positive_left (coordinate_count d) (tuple_count dims) some in (
@@ -115,12 +115,12 @@ moved_member r d t h z =
     (members_iff (moved d r) (tuple_moved d r t) steps).0
     (Contains-from_among (members (moved d r)) (tuple_moved d r t) (subst (λ l. Among l (tuple_moved d r t)) (sym (members-moved r d)) (Among-map (tuple_moved d r) (members r) t there)))
 
-length-moved : (v : List ℤ) (dims : List Dim) → length v ≡ length dims → length (each dim_moved v dims) ≡ length dims
+pub length-moved : (v : List ℤ) (dims : List Dim) → length v ≡ length dims → length (each dim_moved v dims) ≡ length dims
 length-moved [] dims l = refl
 length-moved (d ∷ v) [] l = refl
 length-moved (d ∷ v) (dim ∷ dims) l = ap suc (length-moved v dims (omega arith))
 
-length-components : (rank : ℕ) (d : List ℤ) → length (components rank d) ≡ length d
+pub length-components : (rank : ℕ) (d : List ℤ) → length (components rank d) ≡ length d
 length-components rank [] = refl
 length-components zero (x ∷ d) = ap suc (length-components zero d)
 length-components (suc rank) (x ∷ d) = ap suc (length-components rank d)

@@ -32,7 +32,7 @@ zeros_of_padding (suc n) (x ∷ t) z = let none : x ≡ pos 0 = omega (arith, in
 past_the_rank : (r : Region) (t : List ℤ) → IsRegion r → IsMember r t → drop r.rank t ≡ replicate (3 - r.rank) (pos 0)
 past_the_rank r t is z = zeros_of_padding (3 - r.rank) (drop r.rank t) (subst (λ dims. AllZip IsCoordinate dims (drop r.rank t)) is.padded (rest_of r.rank r.dims t z))
 
-as_long : (dims : List Dim) (t : List ℤ) → AllZip IsCoordinate dims t → length t ≡ length dims
+pub as_long : (dims : List Dim) (t : List ℤ) → AllZip IsCoordinate dims t → length t ≡ length dims
 as_long [] [] z = refl
 as_long [] (x ∷ t) z = absurd z
 as_long (d ∷ dims) [] z = absurd z

@@ -100,7 +100,7 @@ pub around_source_lies : (home : Region) (d t : List ℤ) → All IsBoxed home.d
 around_source_lies home d t b some k l = dims_around_lie d home.dims t b (some_from home some) k l
 
 -- ---- borders
-zero_component : (d : ℤ) → int_eq d (pos 0) ≡ true → d ≡ pos 0
+pub zero_component : (d : ℤ) → int_eq d (pos 0) ≡ true → d ≡ pos 0
 zero_component d e = (Decides-int_eq d (pos 0)).0 e
 
 -- the component that the sources are inside of
@@ -143,13 +143,21 @@ border_range_lies kind d lo hi step align x one wide other (inr (inr below)) is 
     let at = rw (test, test') at is in
     source_below kind d lo hi step align x one (omega (arith, ints)) (omega (arith, ints, clamps, pos-extent lo hi)) at.0 at.1
 
-by_sign : (d : ℤ) → (d ≡ pos 0) ⊎ ((pos 0 <ℤ d) ⊎ (d <ℤ pos 0))
+pub by_sign : (d : ℤ) → (d ≡ pos 0) ⊎ ((pos 0 <ℤ d) ⊎ (d <ℤ pos 0))
 by_sign (pos zero) = inl refl
 by_sign (pos (suc n)) = inr (inl (omega (arith, ints)))
 by_sign (negsuc n) = inr (inr (omega (arith, ints)))
 
-nat_le-true : (m n : ℕ) → nat_le m n ≡ true → m ≤ n
+pub nat_le-true : (m n : ℕ) → nat_le m n ≡ true → m ≤ n
 nat_le-true m n e = grind (arith, nat_tests)
+
+-- where a component that isn't 0 conforms, the extent is at least its size
+pub wide_enough : (d lo hi step align : ℤ) → dim_border_conforms d (Range lo hi step align) ≡ true → (d ≡ pos 0 → ⊥) → unsigned_abs d ≤ extent lo hi
+wide_enough d lo hi step align e other = by_case (or_cases (int_eq d (pos 0)) (int_eq step (pos 1) && nat_le (unsigned_abs d) (extent lo hi)) e)
+  where
+    by_case : (int_eq d (pos 0) ≡ true) ⊎ ((int_eq step (pos 1) && nat_le (unsigned_abs d) (extent lo hi)) ≡ true) → unsigned_abs d ≤ extent lo hi
+    by_case (inl same) = absurd (other (zero_component d same))
+    by_case (inr both) = nat_le-true (unsigned_abs d) (extent lo hi) (and_parts (int_eq step (pos 1)) (nat_le (unsigned_abs d) (extent lo hi)) both).1
 
 still_source : (kind : Border) (dim : Dim) (x : ℤ) → IsCoordinate (dim_outside_of (pos 0) dim) x → IsCoordinate (dim_inside_of (side kind (pos 0)) dim) (dim_border_source kind (pos 0) dim x)
 still_source Wrap Flood x is = is
@@ -195,7 +203,7 @@ dims_border_lie kind (d ∷ v) (dim ∷ dims) (x ∷ t) e z =
     let p = and_parts (dim_border_conforms d dim) (each_border_conforms v dims) e in
     (border_dim_lies kind d dim x p.0 z.0, dims_border_lie kind v dims t p.1 z.1)
 
-components-side : (kind : Border) (rank : ℕ) (d : List ℤ) → components rank (map (side kind) d) ≡ map (side kind) (components rank d)
+pub components-side : (kind : Border) (rank : ℕ) (d : List ℤ) → components rank (map (side kind) d) ≡ map (side kind) (components rank d)
 components-side kind rank [] = refl
 components-side Wrap zero (x ∷ d) = ap (λ l. pos 0 ∷ l) (components-side Wrap zero d)
 components-side Reflect zero (x ∷ d) = ap (λ l. pos 0 ∷ l) (components-side Reflect zero d)
@@ -205,7 +213,7 @@ map_id : (d : List ℤ) → map (side Reflect) d ≡ d
 map_id [] = refl
 map_id (x ∷ d) = ap (λ l. x ∷ l) (map_id d)
 
-sources_are : (kind : Border) (r : Region) (d : List ℤ) → inside_of (map (side kind) d) r ≡ border_sources kind r d
+pub sources_are : (kind : Border) (r : Region) (d : List ℤ) → inside_of (map (side kind) d) r ≡ border_sources kind r d
 sources_are Wrap r d = refl
 sources_are Reflect r d = ap (λ v. inside_of v r) (map_id d)
 

@@ -1,10 +1,12 @@
 pub mod Around
+pub mod AroundCopy
 pub mod Array
 pub mod ArrayText
 pub mod Border
 pub mod Conformity
 pub mod Flood
 pub mod Fold
+pub mod Line
 pub mod Reference
 pub mod Row
 pub mod Scan

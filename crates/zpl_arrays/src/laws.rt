@@ -5,20 +5,24 @@
 ghost use Rattle.std.specs.Prelude.{◌≡◌, ◌≢◌, ℕ, ◌-◌, ℤ, pos, Bool, false, not, ◌&&◌, List, map, flat_map, length, slice_get, slice_index_or, IsTrue, Some, All, IsPermutation};
 ghost use Rattle.std.specs.List.{AllZip};
 ghost use Rattle.zpl_nums.specs.declared.ends.Border.{Border};
+ghost use Rattle.zpl_nums.specs.declared.ends.Border.TheVariants.{Wrap};
 ghost use Rattle.zpl_nums.specs.declared.folds.Fold.{Fold as Operator};
-ghost use Rattle.zpl_nums.specs.Fold.{folded, joined};
+ghost use Rattle.zpl_nums.specs.Fold.{folded, joined, unit_of};
 ghost use Rattle.zpl_region.specs.declared.regions.Region.{Region as Tuples};
 ghost use Rattle.zpl_region.specs.Dim.{HasStep};
 ghost use Rattle.zpl_region.specs.Ends.{has_none};
 ghost use Rattle.zpl_region.specs.Hull.{IsBoxed};
 ghost use Rattle.zpl_region.specs.Region.{IsMember, IsRegion, members, outside_of, tuple_moved};
-ghost use Rattle.zpl_arrays.specs.Around.{around_source};
+ghost use Rattle.zpl_arrays.specs.Around.{around_source, copy_shift, copy_storage};
+ghost use Rattle.zpl_arrays.specs.AroundCopy.{around_copy, copied_from};
 ghost use Rattle.zpl_arrays.specs.Array.{Array, IsArray, array_of, element, flattened, has_place, place_among, updated};
 ghost use Rattle.zpl_arrays.specs.Border.{border_conforms, border_source, border_sources};
 ghost use Rattle.zpl_arrays.specs.Conformity.{flood_conforms};
 ghost use Rattle.zpl_arrays.specs.Flood.{flood_source};
 ghost use Rattle.zpl_arrays.specs.Fold.{kept_fold};
+ghost use Rattle.zpl_arrays.specs.Line.{line_through, masked_value};
 ghost use Rattle.zpl_arrays.specs.Reference.{IsCovered, is_reference, lies_in};
+ghost use Rattle.zpl_arrays.specs.Row.{running};
 ghost use Rattle.zpl_arrays.specs.Scan.{is_below, is_earlier_line, is_up_along, scanned, scanned_along};
 
 /// A tuple of a region stands at its place in row-major order, and at no other one.
@@ -92,6 +96,34 @@ pub fn sources_lie_where_they_should()
         → IsTrue (has_place home (around_source home d t)) }
 {}
 
+/// Each source tuple of a border that conforms is the source of one of the border's tuples.
+pub fn border_sources_are_sources()
+    ensures { (kind : Border) (r : Tuples) (d s : List ℤ) → IsTrue (border_conforms d r)
+        → IsMember (border_sources kind r d) s
+        → (t : List ℤ) × (IsMember (outside_of d r) t × (border_source kind r d t ≡ s)) }
+{}
+
+/// A read that wraps round is its copy, read with the copy's shift. Over the home box the copy is
+/// the array itself, and a `wrap` sets the home box's borders to what it holds there. A region lies in the home box where it lies in the copy's storage, both
+/// unmoved and moved by that shift.
+pub fn copies_hold_what_wraps_round()
+    ensures read { (home : Tuples) (a : Array) (d t : List ℤ) → IsRegion home
+        → All IsBoxed home.dims → length home.dims ≡ 3 → length d ≡ 3 → IsMember home t
+        → element (around_copy home d a) (tuple_moved (copy_shift home d) home t)
+        ≡ element a (around_source home d t) }
+    ensures home { (home : Tuples) (a : Array) (d t : List ℤ) → IsRegion home
+        → All IsBoxed home.dims → length home.dims ≡ 3 → length d ≡ 3 → IsMember home t
+        → element (around_copy home d a) t ≡ element a t }
+    ensures border { (home : Tuples) (v t : List ℤ) → All IsBoxed home.dims → length home.dims ≡ 3
+        → length v ≡ 3 → IsTrue (border_conforms v home) → IsMember (outside_of v home) t
+        → border_source Wrap home v t ≡ copied_from home t }
+    ensures lies { (home r : Tuples) (d : List ℤ) → IsRegion home → IsRegion r
+        → All IsBoxed home.dims → r.rank ≡ home.rank → length home.dims ≡ 3
+        → length r.dims ≡ 3 → length d ≡ 3
+        → lies_in r home ≡ (lies_in r (copy_storage home d)
+        && is_reference (copy_shift home d) r (copy_storage home d)) }
+{}
+
 /// The fold over tuples that are kept is the join of the folds over parts, whatever the parts and
 /// their order are.
 pub fn folds_go_by_parts()
@@ -118,4 +150,27 @@ pub fn scans_go_by_lines()
         e (members r))
         (kept_fold op (λ t. (is_kept t && is_up_along (k - 1) x t) && not (is_below (k - 1) low t))
         e (members r)) }
+{}
+
+/// The running scan of a line has at each place the scan along the line's dimension. Where it goes
+/// on from the fold of the earlier lines, it has the scan in row-major order.
+pub fn running_scans_lines()
+    ensures along { (k : ℕ) (op : Operator) (r : Tuples) (is_kept : List ℤ → Bool)
+        (e : List ℤ → ℤ) (x t : List ℤ) (i : ℕ) → slice_get (line_through k r x) i ≡ Some t
+        → slice_get
+        (running op (unit_of op) (map (masked_value is_kept e) (line_through k r x))) i
+        ≡ Some (scanned_along k op r is_kept e t) }
+    ensures onward { (k : ℕ) (op : Operator) (r : Tuples) (is_kept : List ℤ → Bool)
+        (e : List ℤ → ℤ) (x t : List ℤ) (i : ℕ) (before : ℤ)
+        → joined op (unit_of op) before ≡ before → slice_get (line_through k r x) i ≡ Some t
+        → slice_get (running op before (map (masked_value is_kept e) (line_through k r x))) i
+        ≡ Some (joined op before (scanned_along k op r is_kept e t)) }
+    ensures whole { (op : Operator) (r : Tuples) (is_kept : List ℤ → Bool) (e : List ℤ → ℤ)
+        (x t : List ℤ) (i : ℕ) → IsRegion r → length r.dims ≡ 3
+        → slice_get (line_through r.rank r x) i ≡ Some t
+        → slice_get
+        (running op
+        (kept_fold op (λ u. is_kept u && is_earlier_line (r.rank - 1) x u) e (members r))
+        (map (masked_value is_kept e) (line_through r.rank r x))) i
+        ≡ Some (scanned op r is_kept e t) }
 {}

@@ -10,7 +10,7 @@ use zpl_nums::{Fold, join};
 use zpl_region::{Dim, Region, Vec3};
 
 /// What stands for a dimension past the rank.
-const PADDING: Dim = Dim::Range {
+pub(crate) const PADDING: Dim = Dim::Range {
     lo: 0,
     hi: 0,
     step: 1,
