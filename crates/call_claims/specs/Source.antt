@@ -29,7 +29,8 @@ HasNoProgram text = (program : Program) → ¬ IsSmallText text program
 abbrev pub one_processor : List ℕ
 one_processor = 1 ∷ 0 ∷ 0 ∷ []
 
--- The text has a small program, and the code is made of it.
+-- The text has a small program, and the code is made of it, without settings: no command takes any
+-- so far.
 pub record IsCodeOf (text : List ℕ) (code : Tables) : Type 0 where
   pub program : Program
   pub small : IsSmallText text program

@@ -25,15 +25,14 @@ use Rattle.grid_meaning.specs.Local.{start_local}
 use Rattle.grid_meaning.specs.Turn.{act_at, controlled, expression_value, prints_text, prints_value}
 use Rattle.grid_meaning.specs.Turn.{registers_of}
 use Rattle.zpl_names.specs.Ranks.{is_above_zero}
-use Rattle.zpl_names.specs.Sites.{Printed, Test as TestRole, Assigned}
+use Rattle.zpl_names.specs.Sites.{Test as TestRole, Assigned}
 use Rattle.zpl_names.specs.Types.{type_of}
 use Rattle.zpl_names.specs.Counts.{expr_nodes, item_nodes}
 use Rattle.zpl_meaning.specs.Computed.{Gives, computed_then, both_then}
-use Rattle.zpl_meaning.specs.Store.{Scalar, Environment, Store, thing_of, scalar_at, with_scalar}
+use Rattle.zpl_meaning.specs.Store.{Scalar, Environment, Store, thing_of, with_scalar}
 use Rattle.zpl_meaning.specs.Value.{value_of as meant_value}
-use Rattle.zpl_meaning.specs.Context.{rank_in}
 use Rattle.zpl_meaning.specs.Fields.{Field}
-use Rattle.zpl_meaning.specs.Phases.{scalar_in, fields_in}
+use Rattle.zpl_meaning.specs.Phases.{scalar_in}
 use Rattle.zpl_meaning.specs.Text.{value_text, field_text, expr_text, items_text, printed_exprs}
 use Rattle.zpl_meaning.proofs.ScalarLemmas.{AreFieldsOf, fields_of_scalars}
 use Rattle.zpl_text.specs.Escapes.{unescaped}
@@ -41,7 +40,7 @@ use Rattle.zpl_text.specs.Lines.{line_at}
 use Rattle.zpl_meaning.specs.Outcome.{Outcome, goes_on, prints, counting, behind, then_at, then_do}
 use Rattle.zpl_meaning.specs.Outcome.{with_value, choose, wants_more, Test, tested, while_turns}
 use Rattle.zpl_meaning.specs.Points.{shattered}
-use Rattle.zpl_meaning.specs.Statement.{Context, line_of, assign_to, assign, test_of, is_split}
+use Rattle.zpl_meaning.specs.Statement.{Context, assign_to, assign, test_of, is_split}
 use Rattle.zpl_meaning.specs.Statement.{exec, exec_all, exec_form}
 use Rattle.zpl_claims.specs.Small.{IsItem, IsSum, IsTest, IsSmallStmt, IsSmallForm, AreSmall}
 use Rattle.small_code.specs.Names.{scalar_of, tree_of}

@@ -8,7 +8,7 @@ use Rattle.zpl_nums.specs.declared.operators.Op.{Op}
 use Rattle.zpl_nums.specs.declared.operators.Op.TheVariants as op
 use Rattle.zpl_nums.specs.Op.{applied}
 use Rattle.zpl_tree.specs.Syntax.{Name, Expr, Number, Named, Pair}
-use Rattle.zpl_tree.specs.Syntax.{Base, Integer, Item, Str, Value}
+use Rattle.zpl_tree.specs.Syntax.{Integer, Item, Str, Value}
 use Rattle.zpl_names.specs.Kinds as kind
 use Rattle.zpl_names.specs.Kinds.{Rank}
 use Rattle.zpl_names.specs.Scope.{kind_of}
@@ -17,7 +17,7 @@ use Rattle.zpl_names.specs.Sites.{Role}
 use Rattle.zpl_names.specs.Types.{kind_base, op_base, type_of}
 use Rattle.zpl_names.specs.Counts.{expr_nodes}
 use Rattle.zpl_meaning.specs.Computed.{Gives, both_then, given}
-use Rattle.zpl_meaning.specs.Store.{Thing, Scalar, Environment, Store, thing_of, scalar_at}
+use Rattle.zpl_meaning.specs.Store.{Scalar, Environment, Store, thing_of, scalar_at}
 use Rattle.zpl_meaning.specs.Context.{Place}
 use Rattle.zpl_meaning.specs.Value.{thing_value, value_of}
 use Rattle.zpl_meaning.specs.Phases.{scalar_in}

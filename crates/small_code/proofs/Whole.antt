@@ -9,7 +9,7 @@ use Rattle.std.proofs.Math.Nat.{pow-zero}
 use Rattle.std.proofs.lemmas.List.{length-map}
 use Rattle.zpl_nums.specs.declared.ends.End.{End}
 use Rattle.zpl_nums.specs.declared.ends.End.TheVariants.{Done, Trap, More}
-use Rattle.zpl_tree.specs.Syntax.{Name, Stmts, Procedure, Decl, Defined, Integer, Program}
+use Rattle.zpl_tree.specs.Syntax.{Name, Stmts, Procedure, Decl, Integer, Program}
 use Rattle.node_form.specs.Expression.{Expression, words_of}
 use Rattle.node_form.specs.Value.{Operands, value_of, tree_value}
 use Rattle.node_form.specs.declared.tables.Tables.{Tables}
@@ -26,7 +26,7 @@ use Rattle.zpl_binding.specs.Declarations.{known_of}
 use Rattle.zpl_binding.specs.Regions.{Known}
 use Rattle.zpl_binding.specs.Storages.{Border, borders_of}
 use Rattle.zpl_meaning.specs.Store.{Store}
-use Rattle.zpl_meaning.specs.Context.{Setup, Place}
+use Rattle.zpl_meaning.specs.Context.{Place}
 use Rattle.zpl_meaning.specs.Outcome.{Outcome, counting}
 use Rattle.zpl_meaning.specs.Variables.{Frame, with_declarations, empty_frame}
 use Rattle.zpl_meaning.specs.Calls.{Called, place_in}
@@ -39,7 +39,7 @@ use Rattle.zpl_claims.specs.LockStep.{HasLockSteps}
 use Rattle.zpl_claims.specs.Small.{IsSmall, texts_of, plain_procedure, small_decls}
 use Rattle.zpl_claims.specs.Tidy.{procedures}
 use Rattle.small_code.specs.Rows.{AreStmtsCode}
-use Rattle.small_code.proofs.NameLemmas.{eq_same, frame_of, scope_with, knows_names}
+use Rattle.small_code.proofs.NameLemmas.{eq_same, frame_of, knows_names}
 use Rattle.small_code.proofs.NameLemmas.{scalars-frame_of}
 use Rattle.small_code.proofs.SumLemmas.{Knows}
 use Rattle.small_code.proofs.Runs.{Solo, IsSolo, moved, run, run-add, start}

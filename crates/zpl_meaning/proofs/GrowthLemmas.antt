@@ -1,8 +1,7 @@
 -- A greater bound on the turns of loops prints more, and changes no run that has ended.
 use Rattle.std.proofs.Common.{◌≡◌, ◌≢◌, ℕ, zero, suc, ◌≤◌, ◌⊎◌, Bool, true, false, ℤ, pos, int_lt}
-use Rattle.std.proofs.Common.{List, [], ◌∷◌, ◌++◌, length, Option, Some, None, refl, sym, ◌∙◌, ap}
+use Rattle.std.proofs.Common.{List, [], ◌∷◌, ◌++◌, Option, Some, None, refl, sym, ◌∙◌, ap}
 use Rattle.std.proofs.Common.{subst, inl, inr, arith, append_assoc}
-use Rattle.std.specs.Prelude.{map}
 use Rattle.std.proofs.lemmas.List.{append-nil}
 use Rattle.zpl_lists.specs.Front.{IsFrontOf}
 use Rattle.zpl_nums.specs.declared.ends.End.{End}
@@ -23,21 +22,21 @@ use Rattle.zpl_binding.specs.Declarations.{known_of}
 use Rattle.zpl_binding.specs.Regions.{Known}
 use Rattle.zpl_binding.specs.Storages.{Border as BorderText, borders_of}
 use Rattle.zpl_meaning.specs.Computed.{Computed, Gives, Traps}
-use Rattle.zpl_meaning.specs.Store.{Thing, Scalar, ArrayAt, Fixed, Store, thing_of, scalar_at}
-use Rattle.zpl_meaning.specs.Store.{with_scalar, cut_back}
+use Rattle.zpl_meaning.specs.Store.{Thing, Scalar, ArrayAt, Fixed, Store, thing_of}
+use Rattle.zpl_meaning.specs.Store.{with_scalar}
 use Rattle.zpl_meaning.specs.Context.{Over, Setup, Place, over_at, reach_of}
 use Rattle.zpl_meaning.specs.Regions.{over_in, under_prefix}
 use Rattle.zpl_meaning.specs.Outcome.{Outcome, goes_on, wants_more, counting, behind, then_at}
 use Rattle.zpl_meaning.specs.Outcome.{then_do, with_value, choose, Test, tested, while_turns}
 use Rattle.zpl_meaning.specs.Outcome.{repeat_turns, Count, is_past, next_value, for_turns}
 use Rattle.zpl_meaning.specs.Points.{Point, point_test, point_stmt, point_stmts, point_form}
-use Rattle.zpl_meaning.specs.Points.{point_arms, point_arm, point_otherwise, Run, worse, worst}
+use Rattle.zpl_meaning.specs.Points.{point_arms, point_arm, point_otherwise, worse, worst}
 use Rattle.zpl_names.specs.Counts.{form_nodes}
 use Rattle.zpl_meaning.specs.Points.{joined, kept_tuples, run_at, runs_of, all_runs, at_tuple}
 use Rattle.zpl_meaning.specs.Points.{parts_in, shattered_at, shattered}
 use Rattle.zpl_meaning.specs.Variables.{Frame, with_new_scalar}
-use Rattle.zpl_meaning.specs.Calls.{Handed, Called, actuals_in, entered, place_in}
-use Rattle.zpl_meaning.specs.Statement.{Context, line_of, with_result, invoke, assign_call, assign}
+use Rattle.zpl_meaning.specs.Calls.{Called, actuals_in, entered, place_in}
+use Rattle.zpl_meaning.specs.Statement.{Context, line_of, invoke, assign_call, assign}
 use Rattle.zpl_meaning.specs.Statement.{Start, head_value, for_from, under, test_of, arms_at}
 use Rattle.zpl_meaning.specs.Statement.{is_split, exec, exec_all, exec_form, exec_arms, exec_arm}
 use Rattle.zpl_meaning.specs.Statement.{exec_otherwise}

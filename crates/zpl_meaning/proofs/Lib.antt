@@ -1,6 +1,10 @@
+mod ExamplesPhases
 mod ExamplesArrays
 mod ExamplesOperators
 mod ExamplesScalars
 mod ExamplesShattered
 pub mod GrowthLemmas
+pub mod MoreLemmas
 pub mod ScalarLemmas
+pub mod TrapLemmas
+pub mod DepthLemmas

@@ -1,6 +1,5 @@
 -- Of numbers, scalars and operators, a statement's values are those that they have by themselves.
 use Rattle.std.proofs.Common.{◌≡◌, true, ◌&&◌, ℤ, List, [], ◌∷◌, Option, Some, None, refl, ap, ◌∙◌}
-use Rattle.std.proofs.Common.{sym}
 use Rattle.zpl_nums.specs.declared.operators.Op.{Op}
 use Rattle.zpl_nums.specs.declared.operators.UnaryOp.{UnaryOp}
 use Rattle.zpl_nums.specs.declared.operators.UnaryOp.TheVariants as unary
@@ -15,7 +14,7 @@ use Rattle.zpl_meaning.specs.Computed.{given}
 use Rattle.zpl_meaning.specs.Store.{Thing, Scalar, ArrayAt, Fixed, Environment, Store, thing_of}
 use Rattle.zpl_meaning.specs.Value.{thing_value, value_of}
 use Rattle.zpl_meaning.specs.Context.{Over, over_at, Place}
-use Rattle.zpl_meaning.specs.Term.{Term, Constant, Variable, Unary, Binary, Terms, NoTerm, ThenTerm}
+use Rattle.zpl_meaning.specs.Term.{Term, Constant, Unary, Binary, Terms, NoTerm, ThenTerm}
 use Rattle.zpl_meaning.specs.Settled.{named_term, settled, Placed, settled_each}
 use Rattle.zpl_meaning.specs.Checks.{conforms, conform, refers, refer}
 use Rattle.zpl_meaning.specs.Fields.{Field, constant_field, field_of, fields_of}

@@ -1,5 +1,5 @@
 -- What a call hands to a procedure, and what the procedure makes of it.
-use Rattle.std.specs.Prelude.{ℕ, Bool, true, false, ℤ, pos, List, [], ◌∷◌, ◌++◌, Option, Some, None}
+use Rattle.std.specs.Prelude.{ℕ, true, false, ℤ, pos, List, [], ◌∷◌, ◌++◌, Option, Some, None}
 use Rattle.zpl_region.specs.declared.regions.Region.{Region}
 use Rattle.zpl_arrays.specs.Array.{Array}
 use Rattle.zpl_tree.specs.Syntax.{Name, Expr, Named, Exprs, NoExpr, ThenExpr}

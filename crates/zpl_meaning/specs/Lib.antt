@@ -2,6 +2,7 @@ pub mod Calls
 pub mod Checks
 pub mod Computed
 pub mod Context
+pub mod Depth
 pub mod Fields
 pub mod Outcome
 pub mod Phases
@@ -10,9 +11,11 @@ pub mod Program
 pub mod Regions
 pub mod Scalars
 pub mod Settled
+pub mod Single
 pub mod Statement
 pub mod Store
 pub mod Term
 pub mod Text
 pub mod Value
 pub mod Variables
+pub mod Wanting

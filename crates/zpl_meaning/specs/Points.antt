@@ -234,7 +234,7 @@ abbrev pub parts_in : Place → Rank → Over → Form → Store → Computed (L
 parts_in place rank over form store =
     let parts = form_parts form in
     let own =
-        are_targets_within place store over.region parts && has_mask_within store over in
+    are_targets_within place store over.region parts && has_mask_within store over in
     fields_in place store own (exprs_read rank parts)
 
 -- The statement: these first, and then all runs. All its nodes count.

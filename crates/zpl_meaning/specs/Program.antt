@@ -13,7 +13,7 @@ use Rattle.zpl_meaning.specs.Context.{no_currents, Setup}
 use Rattle.zpl_meaning.specs.Outcome.{Outcome, goes_on}
 use Rattle.zpl_meaning.specs.Variables.{Frame, with_declarations, empty_frame}
 use Rattle.zpl_meaning.specs.Calls.{Called, entered, place_in}
-use Rattle.zpl_meaning.specs.Statement.{Context, exec}
+use Rattle.zpl_meaning.specs.Statement.{exec}
 
 -- ---- calls
 

@@ -1,5 +1,5 @@
 -- What the names of a program stand for, and what its variables hold.
-use Rattle.std.specs.Prelude.{ℕ, Bool, ℤ, pos, List, [], Option, find, take, length, slice_index_or}
+use Rattle.std.specs.Prelude.{ℕ, ℤ, pos, List, [], Option, find, take, length, slice_index_or}
 use Rattle.std.specs.Prelude.{slice_set}
 use Rattle.std.specs.Option.{option_map}
 use Rattle.std.specs.Str.{bytes_eq}

@@ -1,10 +1,10 @@
 -- What prints append.
-use Rattle.std.specs.Prelude.{ℕ, zero, suc, Bool, true, false, if◌then◌else◌, ℤ, pos, List, [], ◌∷◌}
-use Rattle.std.specs.Prelude.{◌++◌, Option, Some, None}
+use Rattle.std.specs.Prelude.{ℕ, suc, Bool, true, if◌then◌else◌, ℤ, List, [], ◌∷◌}
+use Rattle.std.specs.Prelude.{◌++◌, Option, Some}
 use Rattle.zpl_text.specs.Escapes.{unescaped}
 use Rattle.zpl_arrays.specs.Array.{element}
 use Rattle.zpl_arrays.specs.ArrayText.{number_text, truth_text, array_text}
-use Rattle.zpl_tree.specs.Syntax.{Expr, Item, Str, Value, Base, Integer, Boolean, Other}
+use Rattle.zpl_tree.specs.Syntax.{Expr, Item, Str, Value, Base, Boolean}
 use Rattle.zpl_names.specs.Kinds.{Rank}
 use Rattle.zpl_names.specs.Sites.{Printed}
 use Rattle.zpl_names.specs.Types.{type_of}

@@ -1,8 +1,12 @@
 //! The laws of the meaning.
-ghost use Rattle.std.specs.Prelude.{◌≡◌, ◌≢◌, ◌≤◌, ℕ, List};
+ghost use Rattle.std.specs.Prelude.{◌≡◌, ◌≢◌, ◌≤◌, ◌↔◌, ◌+◌, ◌∷◌, ℕ, ℤ, List, None};
 ghost use Rattle.zpl_lists.specs.Front.{IsFrontOf};
-ghost use Rattle.zpl_nums.specs.declared.ends.End.TheVariants.{More};
-ghost use Rattle.zpl_tree.specs.Syntax.{Expr, Program};
+ghost use Rattle.zpl_nums.specs.declared.ends.End.TheVariants.{More, Trap};
+ghost use Rattle.zpl_nums.specs.declared.ends.TrapKind.{TrapKind};
+ghost use Rattle.zpl_tree.specs.Syntax.{Assign, Call, Expr, Exprs, For, ForHead, Form, Invoke, Name, Prefix, Prefixed, Program, Stmts};
+ghost use Rattle.zpl_names.specs.Counts.{expr_nodes};
+ghost use Rattle.zpl_names.specs.Reached.{longest_chain};
+ghost use Rattle.zpl_names.specs.Accepted.{IsFaultless};
 ghost use Rattle.zpl_binding.specs.Settings.{Setting};
 ghost use Rattle.zpl_names.specs.Sites.{Role};
 ghost use Rattle.zpl_meaning.specs.Store.{Store};
@@ -11,7 +15,17 @@ ghost use Rattle.zpl_meaning.specs.Value.{value_of};
 ghost use Rattle.zpl_meaning.specs.Settled.{Placed};
 ghost use Rattle.zpl_meaning.specs.Phases.{scalar_in, scalars_in};
 ghost use Rattle.zpl_meaning.specs.Scalars.{AreScalars, IsScalar, values_of};
-ghost use Rattle.zpl_meaning.specs.Program.{mean_of, steps_of};
+ghost use Rattle.zpl_meaning.specs.Computed.{Traps};
+ghost use Rattle.zpl_meaning.specs.Regions.{over_in};
+ghost use Rattle.zpl_meaning.specs.Outcome.{Count, counting, ends, for_turns, Outcome, repeat_turns, Test, tested, while_turns};
+ghost use Rattle.zpl_meaning.specs.Calls.{actuals_in};
+ghost use Rattle.zpl_meaning.specs.Statement.{Context, exec, exec_form, head_value, line_of, nodes_under, test_of};
+ghost use Rattle.zpl_meaning.specs.Single.{HasTrapped, IsSingle};
+ghost use Rattle.zpl_meaning.specs.Wanting.{ForWants, IsWithoutLoops, RepeatWants, WhileWants};
+ghost use Rattle.zpl_meaning.specs.Program.{mean_of, outcome_of, steps_of};
+ghost use Rattle.zpl_meaning.specs.Depth.{outcome_down};
+
+use zpl_names::{faultless_programs_are_shallow, faultless_programs_have_faultless_sites};
 
 /// What a program prints with a bound on its loops begins what it prints with a greater one.
 pub fn meaning_grows()
@@ -40,3 +54,67 @@ pub fn scalars_have_their_values()
         AreScalars place.environment exprs →
         scalars_in place store exprs ≡ values_of place.environment store exprs }
 {}
+
+/// A statement that has no other in it, and that traps, has written and printed nothing, and its
+/// trap has the statement's line. So has what is evaluated around other statements: a prefix, with
+/// the line of its `[`; a test, with that of its offset; the three values of a `for`, and the
+/// actuals of a call.
+pub fn traps_leave_nothing_behind()
+    ensures statements { (context : Context) (n at : ℕ) (form : Form) (store : Store) →
+        IsSingle context form →
+        (kind : TrapKind) (line : ℕ) →
+        (exec_form context n at form store).ending ≡ Trap kind line →
+        HasTrapped store (line_of context.place at) (exec_form context n at form store) line }
+    ensures prefixes { (context : Context) (n at : ℕ) (prefix : Prefix) (rest : List Prefix)
+        (form : Form) (store : Store) (kind : TrapKind) →
+        over_in context.place store prefix ≡ Traps kind →
+        exec context n (Prefixed at (prefix ∷ rest) form) store ≡
+        counting (1 + nodes_under (prefix ∷ rest) form)
+        (ends store (Trap kind (line_of context.place prefix.at))) }
+    ensures tests { (place : Place) (test : Expr) (at : ℕ) (one other : Store → Outcome)
+        (store : Store) (kind : TrapKind) →
+        (test_of place test at).value store ≡ Traps kind →
+        tested (test_of place test at) one other store ≡
+        counting (1 + expr_nodes test) (ends store (Trap kind (line_of place at))) }
+    ensures heads { (context : Context) (n at : ℕ) (head : ForHead) (body : Stmts) (store : Store)
+        (kind : TrapKind) →
+        head_value context.place store head ≡ Traps kind →
+        exec_form context n at (For head body) store ≡
+        ends store (Trap kind (line_of context.place at)) }
+    ensures actuals { (context : Context) (n at : ℕ) (name : Name) (actuals : Exprs) (store : Store)
+        (kind : TrapKind) →
+        actuals_in context.place store name actuals ≡ Traps kind →
+        exec_form context n at (Invoke name actuals) store ≡
+        ends store (Trap kind (line_of context.place at)) }
+    ensures answers { (context : Context) (n at offset : ℕ) (target name : Name) (actuals : Exprs)
+        (store : Store) (kind : TrapKind) →
+        actuals_in context.place store name actuals ≡ Traps kind →
+        exec_form context n at (Assign target None (Call offset name actuals)) store ≡
+        ends store (Trap kind (line_of context.place at)) }
+{}
+
+/// A loop wants more exactly where it wants a turn that it may not make, or one of its turns wants
+/// more; and a program without loops never does.
+pub fn loops_alone_want_more()
+    ensures before { (test : Test) (body : Store → Outcome) (n : ℕ) (store : Store) →
+        ((while_turns n test body store).ending ≡ More) ↔ WhileWants test body n store }
+    ensures after { (test : Test) (body : Store → Outcome) (n : ℕ) (store : Store) →
+        ((repeat_turns n test body store).ending ≡ More) ↔ RepeatWants test body n store }
+    ensures counting { (count : Count) (set : ℤ → Store → Store) (body : Store → Outcome) (n : ℕ)
+        (value : ℤ) (store : Store) →
+        ((for_turns n count set body value store).ending ≡ More) ↔
+        ForWants count set body n value store }
+    ensures without { (program : Program) (settings : List Setting) (n : ℕ) →
+        IsWithoutLoops program → (mean_of program settings n).ending ≢ More }
+{}
+
+/// In a program without faults no chain of calls is longer than the longest that a run goes down: a
+/// run that may go deeper is the same.
+pub fn no_call_is_cut_off()
+    ensures { (program : Program) (settings : List Setting) (n depth : ℕ) →
+        IsFaultless program → longest_chain ≤ depth →
+        outcome_down depth program settings n ≡ outcome_of program settings n }
+{
+    faultless_programs_have_faultless_sites();
+    faultless_programs_are_shallow();
+}

@@ -8,4 +8,7 @@
 
 mod laws;
 
-pub use laws::{endings_stay, meaning_grows, scalars_have_their_values};
+pub use laws::{
+    endings_stay, loops_alone_want_more, meaning_grows, no_call_is_cut_off,
+    scalars_have_their_values, traps_leave_nothing_behind,
+};
