@@ -1,3 +1,4 @@
+mod ArrayExamples
 mod Examples
 mod ExchangeExamples
 mod FoldExamples

@@ -1,7 +1,7 @@
 -- Scalar code sends and takes no message, never waits and is never stuck.
 use Rattle.std.proofs.Common.{◌≡◌, ◌⊎◌, inl, inr, ℕ, zero, suc, ◌<◌, ◌≤◌, Bool, true, false, List, []}
-use Rattle.std.proofs.Common.{◌∷◌, ◌++◌, length, get_or, refl, sym, ap, ◌∙◌, subst, ℤ, pos, arith, length-set, add-zero}
-use Rattle.std.specs.Prelude.{Option, Some, None, IsSome, All, slice_get, slice_set}
+use Rattle.std.proofs.Common.{◌∷◌, length, get_or, refl, sym, ap, ◌∙◌, subst, ℤ, pos, arith, length-set, add-zero}
+use Rattle.std.specs.Prelude.{Option, Some, None, IsSome, All, slice_get}
 use Rattle.std.specs.List.{range_with_len}
 use Rattle.std.specs.Option.{IsSomeAnd}
 use Rattle.std.proofs.lemmas.List.{length-replicate}
@@ -11,14 +11,14 @@ use Rattle.std.specs.Fmt.{signed_decimal}
 use Rattle.zpl_nums.specs.Integer.{is_true}
 use Rattle.zpl_nums.specs.declared.ends.End.{End}
 use Rattle.grid_links.specs.declared.messages.Message.{Message}
-use Rattle.grid_links.specs.Machine.{Act, Ended, Blocked, Goes, Awaits, Moves, Waiting, Over, Stuck, Fed, Heads, Rooms, goes, over_links}
+use Rattle.grid_links.specs.Machine.{Ended, Blocked, Goes, Awaits, Moves, Waiting, Over, Stuck, Fed, Heads, Rooms, goes, over_links}
 use Rattle.grid_links.specs.Run as run
 use Rattle.node_form.specs.declared.tables.Tables.{Tables}
 use Rattle.node_form.specs.declared.instructions.Instr.{Instr}
 use Rattle.node_form.specs.declared.instructions.Instr.TheVariants as instr
 use Rattle.node_form.specs.declared.words.ExprOp.{ExprOp}
-use Rattle.node_form.specs.Control.{Registers, Control, Steps, Leaps, Ends, Outside, control, register_value, with_computed, with_scalar, branched}
-use Rattle.node_form.specs.Fits.{Fits, FitsAt, FitsExpr, FitsInstr, HasScalarExpr, IsScalarWord}
+use Rattle.node_form.specs.Control.{Control, Steps, Leaps, Ends, Outside, with_computed, with_scalar, branched}
+use Rattle.node_form.specs.Fits.{Fits, FitsExpr, FitsInstr, HasScalarExpr, IsScalarWord}
 use Rattle.node_form.specs.Value.{Computed, Gives, Divides, Lacks, and_then, read, scalar_operands, value_of}
 use Rattle.grid_meaning.specs.Action.{Action, StuckKind, prints}
 use Rattle.grid_meaning.specs.Local.{Local, processors, start_local, start_locals}

@@ -3,7 +3,7 @@
 --   Stage, stage_of   what such a row does in one of its turns, and in the next one
 --   Collective        what such a row does: its turns, its messages and what it makes of them
 --   agreed            all processors come to one value: `vote`, `fold` and their forms over a tree
-use Rattle.std.specs.Prelude.{ℕ, zero, suc, ◌+◌, ◌-◌, ◌*◌, ◌/◌, ◌==◌, nat_lt, Bool, ℤ, pos, neg_ℤ, int_lt, unsigned_abs, if◌then◌else◌, List, [], ◌∷◌, ◌++◌, filter, find, fold, map, option_and_then, slice_get, slice_set, slice_index_or, Option, Some, None}
+use Rattle.std.specs.Prelude.{ℕ, zero, suc, ◌+◌, ◌-◌, ◌*◌, ◌/◌, ◌==◌, nat_lt, not, Bool, ℤ, pos, neg_ℤ, int_lt, unsigned_abs, if◌then◌else◌, List, [], ◌∷◌, ◌++◌, filter, find, fold, map, option_and_then, slice_get, slice_set, slice_index_or, Option, Some, None}
 use Rattle.std.specs.Int.{int_min}
 use Rattle.std.specs.List.{range_with_len}
 use Rattle.zpl_nums.specs.declared.ends.End.TheVariants.{Trap}
@@ -14,7 +14,7 @@ use Rattle.node_form.specs.declared.members.Member.{Member}
 use Rattle.node_form.specs.declared.members.Member.TheVariants.{Put, Cell, Acc, OpenIf, Otherwise, CloseIf, OpenWhile, CloseWhile, OpenRepeat, Until}
 use Rattle.node_form.specs.declared.tables.Tables.{Tables}
 use Rattle.grid_meaning.specs.Action.{Action, moves, goes_on, ends}
-use Rattle.grid_meaning.specs.Local.{Local, processors}
+use Rattle.grid_meaning.specs.Local.{Local, processors, processor_numbers}
 
 -- ---- stages
 -- One turn: without a message; with a message to a processor; with one from a processor, on which it waits; or the last one,
@@ -25,10 +25,12 @@ pub data Stage : Type 0 where
   TakesFrom : (from : ℕ) → Stage
   Last : Stage
 
--- what becomes of the words of a message: they are used in the turn that takes them, or kept until the last turn
+-- What becomes of the words of a message: they are used in the turn that takes them, or kept until the last turn; or so those of
+-- requests, if there are any, and those of answers are used at once.
 pub data Use : Type 0 where
   AtOnce : Use
   InLast : Use
+  Asking : Use
 
 -- What a row does on a processor: its turns, one after another, which `made` counts along; the tag of its messages; what a
 -- turn without a message makes of the state; the words for a processor, none where a place of theirs isn't held; whether a
@@ -50,6 +52,13 @@ stage_of row local = slice_get (row.stages local) local.made
 -- the tag of a row that is no exchange
 abbrev pub row_tag : Local → ℕ
 row_tag local = 2 * local.at + 1
+
+-- the other processors, in ascending order; and those of them between whom and p there are words
+abbrev pub others : Tables → ℕ → List ℕ
+others code p = filter (λ q. not (q == p)) (processor_numbers code)
+
+abbrev pub others_where : Tables → ℕ → (ℕ → ℕ) → List ℕ
+others_where code p many = filter (λ q. nat_lt 0 (many q)) (others code p)
 
 -- ---- what is kept
 abbrev pub keeping : Local → ℕ → List ℤ → Local

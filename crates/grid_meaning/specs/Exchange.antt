@@ -1,5 +1,5 @@
 -- Exchanges: `start` sends to each other processor the places that it needs, and `finish` receives them.
-use Rattle.std.specs.Prelude.{ℕ, ◌*◌, ◌==◌, nat_lt, not, ℤ, List, [], ◌∷◌, ◌++◌, drop, filter, length, map, option_and_then, slice_get, sum_by, take, Option, Some, None}
+use Rattle.std.specs.Prelude.{ℕ, ◌*◌, ◌==◌, ℤ, List, [], ◌∷◌, ◌++◌, drop, length, map, option_and_then, slice_get, sum_by, take, Option, Some, None}
 use Rattle.std.specs.Option.{option_map}
 use Rattle.zpl_region.specs.declared.regions.Region.{Region}
 use Rattle.zpl_region.specs.Region.{members}
@@ -8,8 +8,8 @@ use Rattle.grid_layout.specs.Piece.{piece_of}
 use Rattle.node_form.specs.declared.arrays.Item.{Item}
 use Rattle.node_form.specs.declared.tables.Tables.{Tables}
 use Rattle.grid_meaning.specs.Action.{moves, goes_on}
-use Rattle.grid_meaning.specs.Collective.{Collective, Sends, TakesFrom, Last, AtOnce}
-use Rattle.grid_meaning.specs.Local.{Local, processor_numbers}
+use Rattle.grid_meaning.specs.Collective.{Collective, Sends, TakesFrom, Last, AtOnce, others_where}
+use Rattle.grid_meaning.specs.Local.{Local}
 use Rattle.grid_meaning.specs.Place.{values_at, with_values}
 use Rattle.grid_meaning.specs.Stored.{arrangement_of, box_number}
 
@@ -41,10 +41,6 @@ words_written code local from to (item ∷ items) words stores =
     (with_values item.array places (take (length places) words) stores)
 
 -- ---- the rows
--- the other processors between whom and p there are words, in ascending order
-abbrev pub others_where : Tables → ℕ → (ℕ → ℕ) → List ℕ
-others_where code p many = filter (λ q. nat_lt 0 (many q)) (filter (λ q. not (q == p)) (processor_numbers code))
-
 abbrev pub exchange_tag : ℕ → Local → ℕ
 exchange_tag exchange local = 2 * exchange
 

@@ -20,7 +20,7 @@ use Rattle.node_form.specs.declared.members.Member.{Member}
 use Rattle.node_form.specs.declared.members.Member.TheVariants as member
 use Rattle.node_form.specs.declared.tables.Tables.{Tables}
 use Rattle.node_form.specs.Fits.{FitsRegion}
-use Rattle.grid_meaning.specs.Collective.{Collective, Stage, Alone, Sends, TakesFrom, Last, Use, AtOnce, InLast}
+use Rattle.grid_meaning.specs.Collective.{Collective, Stage, Alone, Sends, TakesFrom, Last, Use, AtOnce, InLast, Asking}
 use Rattle.grid_meaning.specs.Local.{Local}
 use Rattle.grid_meaning.specs.Place.{own_part}
 use Rattle.grid_meaning.specs.Rows.{collective}
@@ -107,12 +107,28 @@ sender_of Last = None
 abbrev pub senders : List Stage → List ℕ
 senders stages = filter_map sender_of stages
 
--- the words that are kept are those that the row has taken and not used, each of a length that it awaits
+-- some of a list's elements, in its order
+abbrev pub IsPart : List ℕ → List ℕ → Type 0
+IsPart [] ys = ⊤
+IsPart (x ∷ xs) [] = ⊥
+IsPart (x ∷ xs) (y ∷ ys) = ((x ≡ y) × IsPart xs ys) ⊎ IsPart (x ∷ xs) ys
+
+-- the words that are kept are those that the row has taken and not used, each of a length that it awaits; of
+-- requests these are the ones with words, such as may be taken
+-- a request that may be taken in a state, with words in it
+abbrev pub IsRequest : Collective → Local → ℕ × List ℤ → Type 0
+IsRequest row local entry =
+    (0 < length entry.1) × (row.awaits local entry.0 (length entry.1) ≡ true)
+    × IsSome (row.taken local entry.0 entry.1)
+
 abbrev pub KeepsWords : Use → Collective → Local → Type 0
 KeepsWords AtOnce row local = local.kept ≡ []
 KeepsWords InLast row local =
     (map (λ entry. entry.0) local.kept ≡ senders (take local.made (row.stages local)))
     × All (λ entry. row.awaits local entry.0 (length entry.1) ≡ true) local.kept
+KeepsWords Asking row local =
+    IsPart (map (λ entry. entry.0) local.kept) (senders (take local.made (row.stages local)))
+    × All (IsRequest row (record local { made = 0 })) local.kept
 
 -- fewer turns were made than the row has
 abbrev pub IsIn : Option Collective → Local → Type 0

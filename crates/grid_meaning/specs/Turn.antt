@@ -21,6 +21,7 @@ use Rattle.grid_meaning.specs.Action.{StuckKind, WrongTag, WrongLength, Unheld, 
 use Rattle.grid_meaning.specs.Collective.{Collective, Stage, Alone, Sends, TakesFrom, Last, stage_of}
 use Rattle.grid_meaning.specs.Loop.{looped}
 use Rattle.grid_meaning.specs.Local.{Local}
+use Rattle.grid_meaning.specs.Room.{roomed, cleared}
 use Rattle.grid_meaning.specs.Rows.{collective}
 
 -- ---- rows that need scalars and slots alone
@@ -80,6 +81,9 @@ act_together None local alone = controlled local alone
 abbrev pub act_at : Tables → ℕ → Local → Option Instr → Action
 act_at code p local None = ends local Done
 act_at code p local (Some (instr.Loop slot group)) = looped code p local (slice_get local.slots slot) (slice_get code.groups group)
+act_at code p local (Some (instr.Room array slot)) =
+    roomed code p local array (slice_get code.arrays array) (slice_get local.slots slot)
+act_at code p local (Some (instr.Clear array)) = cleared local array (slice_get local.stores array)
 act_at code p local (Some (instr.Print text)) = prints_text p local (slice_get code.texts text)
 act_at code p local (Some (instr.Number expr)) = prints_value p local (expression_value code local expr) signed_decimal
 act_at code p local (Some (instr.Truth expr)) = prints_value p local (expression_value code local expr) truth_text
@@ -102,8 +106,8 @@ takes None = Refuses Unheld
 abbrev pub fed_by : Collective → Local → ℕ → Message → Feeding
 fed_by row local from message =
     if message.tag == row.tag local then
-      (if row.awaits local from (length message.words) then takes (row.taken local from message.words)
-      else Refuses WrongLength)
+    (if row.awaits local from (length message.words) then takes (row.taken local from message.words)
+    else Refuses WrongLength)
     else Refuses WrongTag
 
 abbrev pub fed_in : Collective → Local → Message → Option Stage → Feeding

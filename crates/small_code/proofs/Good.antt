@@ -13,7 +13,7 @@ use Rattle.grid_links.specs.Machine.{Ended, Blocked, Goes, Awaits}
 use Rattle.grid_links.specs.Run as run_of
 use Rattle.node_form.specs.declared.tables.Tables.{Tables}
 use Rattle.grid_meaning.specs.Action.{Action}
-use Rattle.grid_meaning.specs.Local.{Local, start_locals}
+use Rattle.grid_meaning.specs.Local.{Local}
 use Rattle.grid_meaning.specs.Scalar.{IsQuietMove}
 use Rattle.grid_meaning.specs.Turn.{act}
 use Rattle.grid_meaning.specs.Grid.{processors, system_over, after, IsOver, HasEmptyLinks}

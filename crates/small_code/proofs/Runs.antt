@@ -21,7 +21,7 @@ use Rattle.grid_meaning.specs.Action.{Action, StuckKind}
 use Rattle.grid_meaning.specs.Local.{Local, start_local, start_locals}
 use Rattle.grid_meaning.specs.Scalar.{IsScalarCode, IsSilent, IsQuietMove}
 use Rattle.grid_meaning.specs.Turn.{Turn, act, act_at, fed, unless_ended}
-use Rattle.grid_meaning.specs.Grid.{Grid, processors, system_over, start_grid, next_turn, counting}
+use Rattle.grid_meaning.specs.Grid.{Grid, processors, system_over, start_grid, counting}
 use Rattle.grid_meaning.specs.Grid.{given_turn, after_from, after, IsStuck, IsIdle}
 use Rattle.grid_meaning.specs.Order.{IsOrder}
 
