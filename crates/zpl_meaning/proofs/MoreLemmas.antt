@@ -1,7 +1,8 @@
 -- Loops alone want more, and just where they want a turn that they may not make.
 use Rattle.std.proofs.Common.{◌≡◌, ◌≢◌, ℕ, zero, suc, Bool, true, false, ℤ, List, [], ◌∷◌, Option, Some}
 use Rattle.std.proofs.Common.{None, pos, length, refl, sym, ap, ◌∙◌, subst, cond}
-use Rattle.std.specs.Prelude.{◌↔◌, find, All}
+use Rattle.std.proofs.Common.{◌<◌, ◌⊎◌, inl, inr, arith}
+use Rattle.std.specs.Prelude.{◌↔◌, find, All, slice_index_or}
 use Rattle.std.specs.Str.{bytes_eq}
 use Rattle.std.proofs.lemmas.List.Elements.{All-head, All-tail}
 use Rattle.zpl_nums.specs.Integer.{is_true}
@@ -43,6 +44,7 @@ use Rattle.zpl_meaning.specs.Statement.{exec, exec_all, exec_form, exec_arms, ex
 use Rattle.zpl_meaning.specs.Statement.{exec_otherwise}
 use Rattle.zpl_meaning.specs.Program.{run_routine, call_at, setup_of, entry_call}
 use Rattle.zpl_meaning.specs.Program.{first_frame, mean_of}
+use Rattle.zpl_meaning.specs.Wanting.{ThenWants, ChoiceWants, SomeRunWants, CallsEnd}
 use Rattle.zpl_meaning.specs.Wanting.{Holds, WhileWants, RepeatWants, ForWants, HasNoLoop}
 use Rattle.zpl_meaning.specs.Wanting.{HaveNoLoop, HasNoLoopIn, ArmsHaveNoLoop, ArmHasNoLoop}
 use Rattle.zpl_meaning.specs.Wanting.{ElseHasNoLoop, IsWithoutLoops}
@@ -87,15 +89,11 @@ tested_chooses test one other store truth h =
     ∙ ap (λ b. (choose b one other store).ending) h.so
 
 -- ---- one after the other
-data ThenMore (first : Outcome) (next : Store → Outcome) : Type 0 where
-  at_first : first.ending ≡ More → ThenMore first next
-  at_next : first.ending ≡ Done → (next first.store).ending ≡ More → ThenMore first next
-
 then_more : (ending : End) (first : Outcome) (next : Store → Outcome) → first.ending ≡ ending
-    → (then_at ending first next).ending ≡ More → ThenMore first next
-then_more Done first next is e = at_next is e
-then_more (Trap kind line) first next is e = at_first e
-then_more More first next is e = at_first e
+    → (then_at ending first next).ending ≡ More → ThenWants first next
+then_more Done first next is e = ThenWants.at_next is e
+then_more (Trap kind line) first next is e = ThenWants.at_first e
+then_more More first next is e = ThenWants.at_first e
 
 more_first : (first : Outcome) (next : Store → Outcome) → first.ending ≡ More
     → (then_do first next).ending ≡ More
@@ -104,6 +102,29 @@ more_first first next e = ap (λ ending. (then_at ending first next).ending) e �
 more_next : (first : Outcome) (next : Store → Outcome) → first.ending ≡ Done
     → (next first.store).ending ≡ More → (then_do first next).ending ≡ More
 more_next first next e h = ap (λ ending. (then_at ending first next).ending) e ∙ h
+
+pub sequence_exact : (first : Outcome) (next : Store → Outcome)
+    → ((then_do first next).ending ≡ More) ↔ ThenWants first next
+sequence_exact first next = (then_more first.ending first next refl, back)
+  where
+    back : ThenWants first next → (then_do first next).ending ≡ More
+    back (ThenWants.at_first more) = more_first first next more
+    back (ThenWants.at_next done more) = more_next first next done more
+
+pub choice_exact : (test : Test) (one other : Store → Outcome) (store : Store)
+    → ((tested test one other store).ending ≡ More) ↔ ChoiceWants test one other store
+choice_exact test one other store = (forth, back)
+  where
+    by : (truth : Bool) → Splits test one other store truth → ChoiceWants test one other store
+    by true s = ChoiceWants.at_one s.holds s.wants
+    by false s = ChoiceWants.at_other s.holds s.wants
+
+    forth : (tested test one other store).ending ≡ More → ChoiceWants test one other store
+    forth e = let t = tested_more test one other store e in by t.0 t.1
+
+    back : ChoiceWants test one other store → (tested test one other store).ending ≡ More
+    back (ChoiceWants.at_one holds more) = tested_chooses test one other store true holds ∙ more
+    back (ChoiceWants.at_other holds more) = tested_chooses test one other store false holds ∙ more
 
 -- ---- loops
 module _ (test : Test) (body : Store → Outcome) where
@@ -128,9 +149,9 @@ module _ (test : Test) (body : Store → Outcome) where
       by true s rest =
           at (then_more (body store).ending (body store) (while_turns n test body) refl s.wants)
         where
-          at : ThenMore (body store) (while_turns n test body) → WhileWants test body (suc n) store
-          at (at_first more) = WhileWants.in_a_turn s.holds more
-          at (at_next done more) = WhileWants.later s.holds done (rest more)
+          at : ThenWants (body store) (while_turns n test body) → WhileWants test body (suc n) store
+          at (ThenWants.at_first more) = WhileWants.in_a_turn s.holds more
+          at (ThenWants.at_next done more) = WhileWants.later s.holds done (rest more)
       by false s rest = done_no_more s.wants
 
   while_more : (n : ℕ) (store : Store) → WhileWants test body n store
@@ -156,12 +177,12 @@ module _ (test : Test) (body : Store → Outcome) where
       at (then_more (body store).ending (body store) (tested test goes_on (repeat_turns n test body))
       refl e) (repeat_wants n (body store).store)
     where
-      at : ThenMore (body store) (tested test goes_on (repeat_turns n test body))
+      at : ThenWants (body store) (tested test goes_on (repeat_turns n test body))
           → ((repeat_turns n test body (body store).store).ending ≡ More
           → RepeatWants test body n (body store).store)
           → RepeatWants test body (suc n) store
-      at (at_first more) rest = RepeatWants.in_a_turn more
-      at (at_next done more) rest =
+      at (ThenWants.at_first more) rest = RepeatWants.in_a_turn more
+      at (ThenWants.at_next done more) rest =
           let t = tested_more test goes_on (repeat_turns n test body) (body store).store more in
           by t.0 t.1
         where
@@ -213,11 +234,11 @@ module _ (count : Count) (set : ℤ → Store → Store) (body : Store → Outco
           at (then_more (body (set value store)).ending (body (set value store))
           (for_turns n count set body (next_value count value)) refl e)
         where
-          at : ThenMore (body (set value store))
+          at : ThenWants (body (set value store))
               (for_turns n count set body (next_value count value))
               → ForWants count set body (suc n) value store
-          at (at_first more) = ForWants.in_a_turn is more
-          at (at_next done more) = ForWants.later is done (rest more)
+          at (ThenWants.at_first more) = ForWants.in_a_turn is more
+          at (ThenWants.at_next done more) = ForWants.later is done (rest more)
 
   for_more : (n : ℕ) (value : ℤ) (store : Store) → ForWants count set body n value store
       → (for_turns n count set body value store).ending ≡ More
@@ -342,6 +363,65 @@ worst_ends outcome (t ∷ tuples) h e =
     worse_ends (outcome t).ending (worst (runs_of outcome tuples)) (h t)
     (worst_ends outcome tuples h) e
 
+-- the runs of a shattered statement
+worse_more : (one other : End) → worse one other ≡ More → (one ≡ More) ⊎ (other ≡ More)
+worse_more Done other e = inr e
+worse_more More other e = inl refl
+worse_more (Trap kind line) More e = inr refl
+worse_more (Trap kind line) Done e = trap_no_more kind line e
+worse_more (Trap kind line) (Trap next at) e = trap_no_more kind line e
+
+more_worse : (one other : End) → (one ≡ More) ⊎ (other ≡ More) → worse one other ≡ More
+more_worse Done other (inl e) = done_no_more e
+more_worse Done other (inr e) = e
+more_worse More other h = refl
+more_worse (Trap kind line) other (inl e) = trap_no_more kind line e
+more_worse (Trap kind line) More (inr e) = refl
+more_worse (Trap kind line) Done (inr e) = done_no_more e
+more_worse (Trap kind line) (Trap next at) (inr e) = trap_no_more next at e
+
+later_wants : (run : Run) (runs : List Run) → SomeRunWants runs → SomeRunWants (run ∷ runs)
+later_wants run runs s = record {
+  run = s.run;
+  there = (suc s.there.0, omega (arith, s.there.1), s.there.2);
+  wants = s.wants;
+}
+
+some_wants : (runs : List Run) → worst runs ≡ More → SomeRunWants runs
+some_wants [] e = done_no_more e
+some_wants (run ∷ runs) e =
+    by (worse_more run.outcome.ending (worst runs) e) (some_wants runs)
+  where
+    by : (run.outcome.ending ≡ More) ⊎ (worst runs ≡ More)
+        → (worst runs ≡ More → SomeRunWants runs) → SomeRunWants (run ∷ runs)
+    by (inl more) rest =
+        record { run = run; there = (zero, omega arith, refl); wants = more }
+    by (inr more) rest = later_wants run runs (rest more)
+
+wants_some : (runs : List Run) (k : ℕ) (run : Run) → k < length runs
+    → slice_index_or runs k run ≡ run → run.outcome.ending ≡ More → worst runs ≡ More
+wants_some [] k run below is more = absurd (omega (arith, below))
+wants_some (first ∷ runs) zero run below is more =
+    more_worse first.outcome.ending (worst runs)
+    (inl (ap (λ (r : Run). r.outcome.ending) is ∙ more))
+wants_some (first ∷ runs) (suc k) run below is more =
+    more_worse first.outcome.ending (worst runs)
+    (inr (wants_some runs k run (omega (arith, below)) is more))
+
+joined_more : (ending : End) (store : Store) (runs : List Run)
+    → (joined ending store runs).ending ≡ ending
+joined_more Done store runs = refl
+joined_more More store runs = refl
+joined_more (Trap kind line) store runs = refl
+
+pub tuples_exact : (store : Store) (runs : List Run)
+    → ((all_runs store runs).ending ≡ More) ↔ SomeRunWants runs
+tuples_exact store runs = (
+  λ e. some_wants runs (sym (joined_more (worst runs) store runs) ∙ e),
+  λ s. joined_more (worst runs) store runs
+      ∙ wants_some runs s.there.0 s.run s.there.1 s.there.2 s.wants,
+)
+
 joined_ends : (ending : End) (store : Store) (runs : List Run) → ending ≢ More
     → Ends (joined ending store runs)
 joined_ends Done store runs h e = done_no_more e
@@ -367,9 +447,6 @@ shattered_ends place line n form store h =
     shattered_at_ends place rank (over_at place.currents rank) line n form store h
 
 -- ---- statements without loops, where calls end
-abbrev CallsEnd : (Called → Store → Outcome) → Type 0
-CallsEnd call = (called : Called) (store : Store) → Ends (call called store)
-
 ends_assign_to : (place : Place) (role : Role) (thing : Option Thing) (value : Expr) (line : ℕ)
     (store : Store) → Ends (assign_to place role thing value line store)
 ends_assign_to place role (Some (Scalar target)) value line store =
@@ -457,7 +534,7 @@ module _ (n : ℕ) (call : Called → Store → Outcome) (calls : CallsEnd call)
       ends_under (under_prefix place prefix over) prefixes store next h)
 
   mutual
-    exec_ends : (stmt : Stmt) → HasNoLoop stmt → (place : Place) (store : Store)
+    pub exec_ends : (stmt : Stmt) → HasNoLoop stmt → (place : Place) (store : Store)
         → Ends (exec (within place) n stmt store)
     exec_ends (Prefixed at prefixes form) h place store =
         ends_under place prefixes store (λ inner. exec_form inner n at form store)

@@ -1,5 +1,5 @@
 -- When a loop wants a turn more than it may make; and statements that have no loop.
-use Rattle.std.specs.Prelude.{◌≡◌, ℕ, zero, suc, Bool, true, false, ℤ, All}
+use Rattle.std.specs.Prelude.{◌≡◌, ◌≢◌, ℕ, zero, suc, Bool, true, false, ℤ, List, All, Contains}
 use Rattle.zpl_nums.specs.declared.ends.End.TheVariants.{Done, More}
 use Rattle.zpl_nums.specs.Integer.{is_true}
 use Rattle.zpl_tree.specs.Syntax.{Stmt, Prefixed, Stmts, NoStmt, ThenStmt, Form, Assign, Invoke}
@@ -9,12 +9,31 @@ use Rattle.zpl_names.specs.Declared.{routines_of}
 use Rattle.zpl_meaning.specs.Computed.{Gives}
 use Rattle.zpl_meaning.specs.Store.{Store}
 use Rattle.zpl_meaning.specs.Outcome.{Outcome, Test, Count, is_past, next_value}
+use Rattle.zpl_meaning.specs.Points.{Run}
+use Rattle.zpl_meaning.specs.Calls.{Called}
 
 -- the test has a value, which stands for true, or for false
 pub record Holds (test : Test) (store : Store) (truth : Bool) : Type 0 where
   pub value : ℤ
   pub has : test.value store ≡ Gives value
   pub so : is_true value ≡ truth
+
+-- Of two things one after the other: the first wants more, or it goes on and the second does.
+pub data ThenWants (first : Outcome) (next : Store → Outcome) : Type 0 where
+  at_first : first.ending ≡ More → ThenWants first next
+  at_next : first.ending ≡ Done → (next first.store).ending ≡ More → ThenWants first next
+
+-- Of two choices: the one that the test chooses.
+pub data ChoiceWants (test : Test) (one other : Store → Outcome) (store : Store) : Type 0 where
+  at_one : Holds test store true → (one store).ending ≡ More → ChoiceWants test one other store
+  at_other : Holds test store false → (other store).ending ≡ More →
+      ChoiceWants test one other store
+
+-- Of the tuples of a shattered statement: one of them.
+pub record SomeRunWants (runs : List Run) : Type 0 where
+  pub run : Run
+  pub there : Contains runs run
+  pub wants : run.outcome.ending ≡ More
 
 -- A loop that tests before each turn wants one more where its test holds when it may make no more;
 -- or one of its turns wants more.
@@ -82,3 +101,7 @@ abbrev mutual
 -- no procedure of the program has one
 abbrev pub IsWithoutLoops : Program → Type 0
 IsWithoutLoops program = All (λ routine. HasNoLoop routine.procedure.body) (routines_of program)
+
+-- what is called doesn't want more
+abbrev pub CallsEnd : (Called → Store → Outcome) → Type 0
+CallsEnd call = (called : Called) (store : Store) → (call called store).ending ≢ More

@@ -3,7 +3,7 @@ ghost use Rattle.std.specs.Prelude.{◌≡◌, ◌≢◌, ◌≤◌, ◌↔◌, 
 ghost use Rattle.zpl_lists.specs.Front.{IsFrontOf};
 ghost use Rattle.zpl_nums.specs.declared.ends.End.TheVariants.{More, Trap};
 ghost use Rattle.zpl_nums.specs.declared.ends.TrapKind.{TrapKind};
-ghost use Rattle.zpl_tree.specs.Syntax.{Assign, Call, Expr, Exprs, For, ForHead, Form, Invoke, Name, Prefix, Prefixed, Program, Stmts};
+ghost use Rattle.zpl_tree.specs.Syntax.{Assign, Call, Expr, Exprs, For, ForHead, Form, Invoke, Name, Prefix, Prefixed, Program, Stmt, Stmts};
 ghost use Rattle.zpl_names.specs.Counts.{expr_nodes};
 ghost use Rattle.zpl_names.specs.Reached.{longest_chain};
 ghost use Rattle.zpl_names.specs.Accepted.{IsFaultless};
@@ -17,11 +17,12 @@ ghost use Rattle.zpl_meaning.specs.Phases.{scalar_in, scalars_in};
 ghost use Rattle.zpl_meaning.specs.Scalars.{AreScalars, IsScalar, values_of};
 ghost use Rattle.zpl_meaning.specs.Computed.{Traps};
 ghost use Rattle.zpl_meaning.specs.Regions.{over_in};
-ghost use Rattle.zpl_meaning.specs.Outcome.{Count, counting, ends, for_turns, Outcome, repeat_turns, Test, tested, while_turns};
-ghost use Rattle.zpl_meaning.specs.Calls.{actuals_in};
+ghost use Rattle.zpl_meaning.specs.Outcome.{Count, counting, ends, for_turns, Outcome, repeat_turns, Test, tested, then_do, while_turns};
+ghost use Rattle.zpl_meaning.specs.Points.{all_runs, Run};
+ghost use Rattle.zpl_meaning.specs.Calls.{actuals_in, Called};
 ghost use Rattle.zpl_meaning.specs.Statement.{Context, exec, exec_form, head_value, line_of, nodes_under, test_of};
 ghost use Rattle.zpl_meaning.specs.Single.{HasTrapped, IsSingle};
-ghost use Rattle.zpl_meaning.specs.Wanting.{ForWants, IsWithoutLoops, RepeatWants, WhileWants};
+ghost use Rattle.zpl_meaning.specs.Wanting.{CallsEnd, ChoiceWants, ForWants, HasNoLoop, IsWithoutLoops, RepeatWants, SomeRunWants, ThenWants, WhileWants};
 ghost use Rattle.zpl_meaning.specs.Program.{mean_of, outcome_of, steps_of};
 ghost use Rattle.zpl_meaning.specs.Depth.{outcome_down};
 
@@ -94,7 +95,9 @@ pub fn traps_leave_nothing_behind()
 {}
 
 /// A loop wants more exactly where it wants a turn that it may not make, or one of its turns wants
-/// more; and a program without loops never does.
+/// more. Of other things, each wants more exactly where a part that it runs does: two things one
+/// after the other, two choices, the tuples of a shattered statement. A statement without loops
+/// doesn't, where what it calls doesn't; and a program without loops never does.
 pub fn loops_alone_want_more()
     ensures before { (test : Test) (body : Store → Outcome) (n : ℕ) (store : Store) →
         ((while_turns n test body store).ending ≡ More) ↔ WhileWants test body n store }
@@ -104,7 +107,16 @@ pub fn loops_alone_want_more()
         (value : ℤ) (store : Store) →
         ((for_turns n count set body value store).ending ≡ More) ↔
         ForWants count set body n value store }
-    ensures without { (program : Program) (settings : List Setting) (n : ℕ) →
+    ensures sequences { (first : Outcome) (next : Store → Outcome) →
+        ((then_do first next).ending ≡ More) ↔ ThenWants first next }
+    ensures choices { (test : Test) (one other : Store → Outcome) (store : Store) →
+        ((tested test one other store).ending ≡ More) ↔ ChoiceWants test one other store }
+    ensures tuples { (store : Store) (runs : List Run) →
+        ((all_runs store runs).ending ≡ More) ↔ SomeRunWants runs }
+    ensures statements { (n : ℕ) (call : Called → Store → Outcome) → CallsEnd call →
+        (stmt : Stmt) → HasNoLoop stmt → (place : Place) (store : Store) →
+        (exec (record { place = place; call = call }) n stmt store).ending ≢ More }
+    ensures programs { (program : Program) (settings : List Setting) (n : ℕ) →
         IsWithoutLoops program → (mean_of program settings n).ending ≢ More }
 {}
 

@@ -1,4 +1,5 @@
-use Rattle.zpl_meaning.proofs.MoreLemmas.{while_exact, repeat_exact, for_exact, program_ends}
+use Rattle.zpl_meaning.proofs.MoreLemmas.{while_exact, repeat_exact, for_exact, sequence_exact}
+use Rattle.zpl_meaning.proofs.MoreLemmas.{choice_exact, tuples_exact, exec_ends, program_ends}
 use Rattle.zpl_meaning.proofs.laws.loops_alone_want_more.Goals as goal
 
 pub returns : goal.returns
@@ -6,5 +7,9 @@ returns c = record {
   before = while_exact;
   after = repeat_exact;
   counting = for_exact;
-  without = program_ends;
+  sequences = sequence_exact;
+  choices = choice_exact;
+  tuples = tuples_exact;
+  statements = exec_ends;
+  programs = program_ends;
 }
