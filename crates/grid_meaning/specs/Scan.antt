@@ -96,19 +96,19 @@ module _ (code : Tables) (p : ℕ) (f : Fold) (along : ℕ) (from : ℕ) (mask :
       joined_before (is_before_line along k start head) (line_heads code entry.0 region k) entry.1 so_far)
       (unit_of f) (all_totals local own)
 
-  -- ---- the last turn: each line of the own part, from what stands before it on
-  abbrev pub with_line : ℕ → Region → List ℤ → List ℤ → Local → Option Local
-  with_line array region own head local =
+  -- ---- the last turn: each line of the own part, from what stands before it on. All values are those from before the turn
+  abbrev pub with_line : ℕ → Local → Region → List ℤ → List ℤ → Local → Option Local
+  with_line array old region own head local =
       let tuples = line_of code p region (line_dim region along) head in
       option_and_then (λ values.
       option_map (λ stores. record local { stores = stores })
-      (with_values array tuples (running f (before_line local region own head) values) local.stores))
-      (scan_values local from mask tuples)
+      (with_values array tuples (running f (before_line old region own head) values) local.stores))
+      (scan_values old from mask tuples)
 
-  abbrev pub with_lines : ℕ → Region → List ℤ → List (List ℤ) → Local → Option Local
-  with_lines array region own [] local = Some local
-  with_lines array region own (head ∷ heads) local =
-      option_and_then (with_lines array region own heads) (with_line array region own head local)
+  abbrev pub with_lines : ℕ → Local → Region → List ℤ → List (List ℤ) → Local → Option Local
+  with_lines array old region own [] local = Some local
+  with_lines array old region own (head ∷ heads) local =
+      option_and_then (with_lines array old region own heads) (with_line array old region own head local)
 
   abbrev pub scan_done : Option Local → Action
   scan_done (Some local) = moves (goes_on local) []
@@ -117,7 +117,7 @@ module _ (code : Tables) (p : ℕ) (f : Fold) (along : ℕ) (from : ℕ) (mask :
   abbrev pub scan_last : ℕ → Local → Region → Action
   scan_last array local region =
       scan_done (option_and_then (λ own.
-      with_lines array region own (line_heads code p region (line_dim region along)) local)
+      with_lines array local region own (line_heads code p region (line_dim region along)) local)
       (line_totals local region))
 
   abbrev pub line_count : Local → ℕ → ℕ → ℕ

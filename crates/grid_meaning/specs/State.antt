@@ -1,7 +1,7 @@
 -- The states that a processor may have: what holds of its scalars, slots, cells and stores, and how far it is in a row.
 --
 --   IsLocal   a local state that can be, for a program whose tables fit
-use Rattle.std.specs.Prelude.{◌≡◌, ◌⊎◌, ◌≢◌, ℕ, ◌<◌, ◌≤◌, true, false, Bool, ℤ, pos, ◌≤ℤ◌, List, [], ◌∷◌, length, map, take, slice_get, Option, Some, None, All, ⊤}
+use Rattle.std.specs.Prelude.{◌≡◌, ◌⊎◌, ◌≢◌, ℕ, ◌-◌, ◌<◌, ◌≤◌, true, false, Bool, ℤ, pos, ◌≤ℤ◌, List, [], ◌∷◌, length, map, take, slice_get, Option, Some, None, All, ⊤}
 use Rattle.std.specs.List.{AllZip, Any, filter_map}
 use Rattle.std.specs.Option.{IfSome, IsSomeAnd, IsSome}
 use Rattle.zpl_region.specs.declared.dims.Dim.{Dim}
@@ -20,8 +20,8 @@ use Rattle.node_form.specs.declared.members.Member.{Member}
 use Rattle.node_form.specs.declared.members.Member.TheVariants as member
 use Rattle.node_form.specs.declared.tables.Tables.{Tables}
 use Rattle.node_form.specs.Fits.{FitsRegion}
-use Rattle.grid_meaning.specs.Collective.{Collective, Stage, Alone, Sends, TakesFrom, Last, Use, AtOnce, InLast, Asking}
-use Rattle.grid_meaning.specs.Local.{Local}
+use Rattle.grid_meaning.specs.Collective.{Collective, Stage, Alone, Sends, TakesFrom, Last, Use, AtOnce, InLast, Asking, others}
+use Rattle.grid_meaning.specs.Local.{Local, processors}
 use Rattle.grid_meaning.specs.Place.{own_part}
 use Rattle.grid_meaning.specs.Rows.{collective}
 use Rattle.grid_meaning.specs.Stored.{arrangement_of, box_of, no_places}
@@ -114,43 +114,49 @@ IsPart (x ∷ xs) [] = ⊥
 IsPart (x ∷ xs) (y ∷ ys) = ((x ≡ y) × IsPart xs ys) ⊎ IsPart (x ∷ xs) ys
 
 -- the words that are kept are those that the row has taken and not used, each of a length that it awaits; of
--- requests these are the ones with words, such as may be taken
+-- requests these are the ones with words, such as may be taken; they come behind as many turns as there are processors
 -- a request that may be taken in a state, with words in it
 abbrev pub IsRequest : Collective → Local → ℕ × List ℤ → Type 0
 IsRequest row local entry =
     (0 < length entry.1) × (row.awaits local entry.0 (length entry.1) ≡ true)
     × IsSome (row.taken local entry.0 entry.1)
 
-abbrev pub KeepsWords : Use → Collective → Local → Type 0
-KeepsWords AtOnce row local = local.kept ≡ []
-KeepsWords InLast row local =
+abbrev pub KeepsWords : Tables → ℕ → Use → Collective → Local → Type 0
+KeepsWords code p AtOnce row local = local.kept ≡ []
+KeepsWords code p InLast row local =
     (map (λ entry. entry.0) local.kept ≡ senders (take local.made (row.stages local)))
     × All (λ entry. row.awaits local entry.0 (length entry.1) ≡ true) local.kept
-KeepsWords Asking row local =
-    IsPart (map (λ entry. entry.0) local.kept) (senders (take local.made (row.stages local)))
+KeepsWords code p Asking row local =
+    IsPart (map (λ entry. entry.0) local.kept) (take (local.made - processors code) (others code p))
     × All (IsRequest row (record local { made = 0 })) local.kept
 
 -- fewer turns were made than the row has
-abbrev pub IsIn : Option Collective → Local → Type 0
-IsIn None local = IsFresh local
-IsIn (Some row) local = (local.made < length (row.stages local)) × KeepsWords row.use_of_words row local
+abbrev pub IsIn : Tables → ℕ → Option Collective → Local → Type 0
+IsIn code p None local = IsFresh local
+IsIn code p (Some row) local =
+    (local.made < length (row.stages local)) × KeepsWords code p row.use_of_words row local
 
 abbrev pub IsAt : Tables → ℕ → Local → Option Instr → Type 0
 IsAt code p local None = IsOutside local × IsFresh local
 IsAt code p local (Some (instr.Loop slot group)) =
     IsLooping code p local (slice_get local.slots slot) (slice_get code.groups group)
-IsAt code p local (Some row) = IsOutside local × IsIn (collective code p row) local
+IsAt code p local (Some row) = IsOutside local × IsIn code p (collective code p row) local
 
 abbrev pub Stands : Tables → ℕ → Local → Type 0
 Stands code p local = IsAt code p local (slice_get code.code local.at)
 
 -- ---- states
-pub record IsLocal (code : Tables) (p : ℕ) (local : Local) : Type 0 where
-  pub at : local.at ≤ length code.code
+-- what a processor has is the program's
+pub record HasParts (code : Tables) (p : ℕ) (local : Local) : Type 0 where
   pub scalars : length local.scalars ≡ code.scalars
   pub cells : length local.cells ≡ code.cells
   pub slots : AllZip IsSlot code.slots local.slots
   pub stores : AllZip (IsStore code p) code.arrays local.stores
   pub flag : IfSome local.flag (λ member. Any (λ all. member < length all) code.groups)
+
+-- and it is at an instruction, or behind the last one, and has made turns in it as they may be; or it has ended
+pub record IsLocal (code : Tables) (p : ℕ) (local : Local) : Type 0 where
+  pub parts : HasParts code p local
+  pub at : local.at ≤ length code.code
   pub running : local.ended ≡ None → Stands code p local
   pub over : IsSome local.ended → IsOutside local × IsFresh local
