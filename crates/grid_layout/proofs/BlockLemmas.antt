@@ -22,7 +22,7 @@ pub record IsLastBegun (axis : Axis) (count : ℕ) (x : ℤ) (top c : ℕ) : Typ
   pub begun : 0 < c → block_start axis count c ≤ℤ x
   pub later : (j : ℕ) → c < j → j ≤ top → x <ℤ block_start axis count j
 
-test_fails : (z x : ℤ) → x <ℤ z → int_le z x ≡ false
+pub test_fails : (z x : ℤ) → x <ℤ z → int_le z x ≡ false
 test_fails z x above = elim (int_le z x) as (λ b. int_le z x ≡ b → b ≡ false) [
   | true ↦ λ e. let below : z ≤ℤ x = le_from_test z x e in absurd (omega (arith, ints, below, above))
   | false ↦ λ e. refl
@@ -152,7 +152,7 @@ starts_rise axis n c j some le =
     let rise : c * axis.extent / n ≤ j * axis.extent / n = le-div (c * axis.extent / n) (j * axis.extent) n some (omega (arith, low, more)) in
     omega (arith, ints, rise)
 
-last_of_more : (axis : Axis) (n c : ℕ) → suc c < n → block_last axis n c ≡ block_start axis n (suc c) -ℤ pos 1
+pub last_of_more : (axis : Axis) (n c : ℕ) → suc c < n → block_last axis n c ≡ block_start axis n (suc c) -ℤ pos 1
 last_of_more axis n c more = let e : (suc c == n) ≡ false = differ (suc c) n (omega arith) in rw e refl
   where
     differ : (a b : ℕ) → a ≢ b → (a == b) ≡ false

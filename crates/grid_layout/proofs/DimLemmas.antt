@@ -1,5 +1,5 @@
 -- One dimension of a held box or of a piece.
-use Rattle.std.proofs.Common.{◌≡◌, refl, sym, ◌∙◌, ap, subst, arith, ℕ, ◌+◌, ◌*◌, ◌<◌, Bool, true, false, [], ◌∷◌, IsTrue, ℤ, pos, ◌-ℤ◌, ◌≤ℤ◌, ◌<ℤ◌, rules}
+use Rattle.std.proofs.Common.{◌≡◌, refl, sym, ◌∙◌, ap, subst, arith, ℕ, ◌+◌, ◌*◌, ◌<◌, Bool, true, false, [], ◌∷◌, IsTrue, ℤ, pos, neg_ℤ, ◌+ℤ◌, ◌-ℤ◌, ◌≤ℤ◌, ◌<ℤ◌, ◌⊎◌, inl, inr, ◌^◌, rules}
 use Rattle.std.specs.Prelude.{◌↔◌, ◌==◌, int_le, if◌then◌else◌}
 use Rattle.std.specs.Int.{int_max, int_min}
 use Rattle.std.proofs.lemmas.Int.{clamps, ints}
@@ -7,7 +7,7 @@ use Rattle.std.proofs.lemmas.List.Elements.{All-from_recursion}
 use Rattle.zpl_region.specs.declared.dims.Dim.{Dim}
 use Rattle.zpl_region.specs.declared.dims.Dim.TheVariants.{Range, Flood}
 use Rattle.zpl_region.specs.declared.regions.Region.{Region}
-use Rattle.zpl_region.specs.Dim.{IsDim, IsUpTo, dim_moved, extent}
+use Rattle.zpl_region.specs.Dim.{HasBounds, IsDim, IsUpTo, dim_moved, extent}
 use Rattle.zpl_region.specs.Region.{IsRegion, members, padding}
 use Rattle.zpl_region.specs.Ends.{coordinate_count}
 use Rattle.zpl_region.proofs.ListLemmas.{le_from_test}
@@ -15,7 +15,8 @@ use Rattle.zpl_region.proofs.HullCode.{none_told, some_told}
 use Rattle.zpl_region.specs.Hull.{IsBoxed, all_from}
 use Rattle.zpl_region.proofs.HullLemmas.{count-all_from, no_count}
 use Rattle.zpl_region.proofs.DimLemmas.{pos-extent, same_range}
-use Rattle.grid_layout.specs.Piece.{part, place_dim}
+use Rattle.grid_layout.specs.Piece.{part, place_dim, range_or_nothing}
+use Rattle.grid_layout.proofs.BlockLemmas.{test_fails}
 
 -- ---- a region of one dimension
 abbrev pub single : Dim → Region
@@ -24,7 +25,7 @@ single dim = record { rank = 1; dims = dim ∷ padding ∷ padding ∷ [] }
 padding_is_dim : IsDim padding
 padding_is_dim = search rules
 
-single_region : (dim : Dim) → IsDim dim → IsRegion (single dim)
+pub single_region : (dim : Dim) → IsDim dim → IsRegion (single dim)
 single_region dim is = record {
   rank_above = omega arith;
   rank_below = omega arith;
@@ -64,6 +65,25 @@ placed x held Flood m d d' lo hi lo' hi' step align is p q r other moved e = abs
 placed x held (Range from to stride base) m d d' lo hi lo' hi' step align is p q r other moved e =
     subst (λ h. x ≡ place_dim h d (Range from to stride base)) (sym is)
     (e ∙ (ap (λ l. part l hi' m) p ∙ (ap (λ h. part lo h m) q ∙ (ap (part lo hi) moved ∙ ap (λ z. part lo hi (dim_moved z (Range from to stride base))) r))))
+
+-- a shift that is too far leaves nothing
+too_far : (lo hi from to step align : ℤ) → int_min to hi <ℤ int_max from lo → all_from (pos 1) (pos 0) ≡ range_or_nothing (int_max from lo) (int_min to hi) step align
+too_far lo hi from to step align apart = let e : int_le (int_max from lo) (int_min to hi) ≡ false = test_fails (int_max from lo) (int_min to hi) apart in rw e refl
+
+pub placed_far : (x held dim : Dim) (d lo hi step align : ℤ) → held ≡ Range lo hi step align → HasBounds held → IsDim dim → (dim ≡ Flood → ⊥) → (d <ℤ neg_ℤ (pos (2 ^ 41))) ⊎ (pos (2 ^ 41) <ℤ d)
+    → x ≡ all_from (pos 1) (pos 0) → x ≡ place_dim held d dim
+placed_far x held Flood d lo hi step align is bounds dim_is other far e = absurd (other refl)
+placed_far x held (Range from to stride base) d lo hi step align is bounds dim_is other far e =
+    let b : HasBounds (Range lo hi step align) = subst HasBounds is bounds in
+    let low : IsUpTo 40 lo = b.0 in
+    let high : IsUpTo 40 hi = b.1 in
+    let first : IsUpTo 40 from = dim_is.1.0 in
+    let last : IsUpTo 40 to = dim_is.1.1 in
+    let apart : int_min (to +ℤ d) hi <ℤ int_max (from +ℤ d) lo = elim far [
+      | inl below ↦ omega (arith, ints, clamps, below)
+      | inr above ↦ omega (arith, ints, clamps, above)
+    ] in
+    subst (λ h. x ≡ place_dim h d (Range from to stride base)) (sym is) (e ∙ too_far lo hi (from +ℤ d) (to +ℤ d) stride (base +ℤ d) apart)
 
 pub placed_flood : (x held dim : Dim) (d lo hi lo' hi' step align : ℤ) → held ≡ Range lo hi step align → lo' ≡ lo → hi' ≡ hi → dim ≡ Flood → x ≡ part lo' hi' (all_from (pos 0) (pos 0))
     → x ≡ place_dim held d dim

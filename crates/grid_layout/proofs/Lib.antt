@@ -2,6 +2,8 @@ pub mod GridLemmas
 pub mod BlockLemmas
 pub mod OwnerLemmas
 pub mod PartLemmas
+pub mod SoundLemmas
+pub mod HeldLemmas
 pub mod ThreeLemmas
 pub mod SizeLemmas
 pub mod HullLemmas

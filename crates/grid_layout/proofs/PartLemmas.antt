@@ -20,9 +20,9 @@ use Rattle.zpl_region.proofs.LawLemmas.{parts_partition}
 use Rattle.grid_layout.specs.declared.axes.Axis.{Axis}
 use Rattle.grid_layout.specs.declared.blocks.Blocks.{Blocks}
 use Rattle.grid_layout.specs.Block.{block_first, block_last, block_of}
-use Rattle.grid_layout.specs.Grid.{blocks_at, cuts, processors_of, product}
-use Rattle.grid_layout.specs.Layout.{AreBlocks, axes_at}
-use Rattle.grid_layout.specs.Piece.{each_owned, nothing, owned_dim, owned_part, part}
+use Rattle.grid_layout.specs.Grid.{blocks_at, cuts, processor_at, processors_of, product}
+use Rattle.grid_layout.specs.Layout.{AreBlocks, axes_at, owner_of, owning_blocks}
+use Rattle.grid_layout.specs.Piece.{IsRange, block_for, each_block_for, each_owned, nothing, owned_dim, owned_part, owner_for, part}
 use Rattle.grid_layout.specs.Words.{numbers_from, processors}
 use Rattle.grid_layout.proofs.BlockLemmas.{block_below, block_holds, div_below_by, in_block, fails_from_test}
 use Rattle.grid_layout.proofs.DimLemmas.{extent_none}
@@ -30,11 +30,11 @@ use Rattle.grid_layout.proofs.OwnerLemmas.{AreCuts, EachSome, IsDivided, are_cut
 use Rattle.grid_layout.proofs.ThreeLemmas.{index_below}
 
 -- ---- whether a block has a coordinate, and a processor a tuple
-abbrev has_dim : Axis → ℕ → ℕ → ℕ → Dim → ℤ → Bool
+abbrev pub has_dim : Axis → ℕ → ℕ → ℕ → Dim → ℤ → Bool
 has_dim axis n c k (Range lo hi step align) x = is_between (block_first axis n c) (block_last axis n c) x
 has_dim axis n c k Flood x = c == k
 
-abbrev has_each : List Axis → List ℕ → List ℕ → List ℕ → List Dim → List ℤ → Bool
+abbrev pub has_each : List Axis → List ℕ → List ℕ → List ℕ → List Dim → List ℤ → Bool
 has_each (axis ∷ axes) (n ∷ ns) (c ∷ cs) (k ∷ ks) (dim ∷ dims) (x ∷ t) = has_dim axis n c k dim x && has_each axes ns cs ks dims t
 has_each _ _ _ _ _ _ = true
 
@@ -42,7 +42,7 @@ has_each _ _ _ _ _ _ = true
 empty_range : (lo hi step align : ℤ) → hi <ℤ lo → [] ≡ coordinates (Range lo hi step align)
 empty_range lo hi step align below = ap (λ e. filter (λ x. is_multiple step (x -ℤ align)) (progression lo 1 e)) (extent_none lo hi below)
 
-coordinates-part : (lo hi from to step align : ℤ) → coordinates (part lo hi (Range from to step align)) ≡ coordinates (dim_met lo hi (Range from to step align))
+pub coordinates-part : (lo hi from to step align : ℤ) → coordinates (part lo hi (Range from to step align)) ≡ coordinates (dim_met lo hi (Range from to step align))
 coordinates-part lo hi from to step align = by_test (int_le (int_max from lo) (int_min to hi)) refl
   where
     by_test : (b : Bool) → int_le (int_max from lo) (int_min to hi) ≡ b
@@ -50,7 +50,7 @@ coordinates-part lo hi from to step align = by_test (int_le (int_max from lo) (i
     by_test true e = refl
     by_test false e = empty_range (int_max from lo) (int_min to hi) step align (fails_from_test _ _ e)
 
-coordinates-owned : (axis : Axis) (n c k : ℕ) (dim : Dim) → coordinates (owned_dim axis n c k dim) ≡ filter (has_dim axis n c k dim) (coordinates dim)
+pub coordinates-owned : (axis : Axis) (n c k : ℕ) (dim : Dim) → coordinates (owned_dim axis n c k dim) ≡ filter (has_dim axis n c k dim) (coordinates dim)
 coordinates-owned axis n c k (Range lo hi step align) =
     coordinates-part (block_first axis n c) (block_last axis n c) lo hi step align ∙ coordinates-met (block_first axis n c) (block_last axis n c) (Range lo hi step align)
 coordinates-owned axis n c k Flood = by_test (c == k)
@@ -75,23 +75,19 @@ tuples-owned (a ∷ axes) (i ∷ ns) (c ∷ cs) (k ∷ ks) (d ∷ dims) l m n o 
     ∙ sym (filter-tuples (has_dim a i c k d) (has_each axes ns cs ks dims) (has_each (a ∷ axes) (i ∷ ns) (c ∷ cs) (k ∷ ks) (d ∷ dims)) (λ x t. refl)
     (coordinates d) (map coordinates dims) (map coordinates (each_owned axes ns cs ks dims)) (tuples-owned axes ns cs ks dims (omega (arith, l)) (omega (arith, m)) (omega (arith, n)) (omega (arith, o))))
 
-blocks_length : (ns : List ℕ) (p : ℕ) → length (blocks_at ns p) ≡ length ns
+pub blocks_length : (ns : List ℕ) (p : ℕ) → length (blocks_at ns p) ≡ length ns
 blocks_length [] p = refl
 blocks_length (n ∷ ns) p = ap suc (blocks_length ns (p % product ns))
 
 -- ---- the processor that has a tuple
-abbrev block_for : Axis → ℕ → ℕ → Dim → ℤ → ℕ
-block_for axis n k (Range lo hi step align) x = block_of axis n x
-block_for axis n k Flood x = k
-
-abbrev holder : List Axis → List ℕ → List ℕ → List Dim → List ℤ → ℕ
+abbrev pub holder : List Axis → List ℕ → List ℕ → List Dim → List ℤ → ℕ
 holder (axis ∷ axes) (n ∷ ns) (k ∷ ks) (dim ∷ dims) (x ∷ t) = block_for axis n k dim x * product ns + holder axes ns ks dims t
 holder _ _ _ _ _ = 0
 
-abbrev AreBelow : List ℕ → List ℕ → Type 0
+abbrev pub AreBelow : List ℕ → List ℕ → Type 0
 AreBelow ks ns = AllZip ◌<◌ ks ns
 
-blocks_are_below : (ns : List ℕ) (p : ℕ) → EachSome ns → p < product ns → AreBelow (blocks_at ns p) ns
+pub blocks_are_below : (ns : List ℕ) (p : ℕ) → EachSome ns → p < product ns → AreBelow (blocks_at ns p) ns
 blocks_are_below [] p some below = tt
 blocks_are_below (n ∷ ns) p some below =
     let positive : 1 ≤ product ns = some_product ns some.1 in
@@ -101,19 +97,19 @@ dim_below : (axis : Axis) (n k : ℕ) (dim : Dim) (x : ℤ) → 1 ≤ n → k < 
 dim_below axis n k (Range lo hi step align) x some below = block_below axis n x some
 dim_below axis n k Flood x some below = below
 
-both_true : (a b : Bool) → (a && b) ≡ true → (a ≡ true) × (b ≡ true)
+pub both_true : (a b : Bool) → (a && b) ≡ true → (a ≡ true) × (b ≡ true)
 both_true true b e = (refl, e)
 both_true false b e = absurd (let bad : false ≡ true = e in cc)
 
-true_both : (a b : Bool) → a ≡ true → b ≡ true → (a && b) ≡ true
+pub true_both : (a b : Bool) → a ≡ true → b ≡ true → (a && b) ≡ true
 true_both true b p q = q
 true_both false b p q = absurd (let bad : false ≡ true = p in cc)
 
-eq_from_test : (a b : ℕ) → (a == b) ≡ true → a ≡ b
+pub eq_from_test : (a b : ℕ) → (a == b) ≡ true → a ≡ b
 eq_from_test a b e = grind (arith, nat_tests)
 
 -- the bounds of a coordinate of a range
-abbrev IsNearby : Dim → ℤ → Type 0
+abbrev pub IsNearby : Dim → ℤ → Type 0
 IsNearby (Range lo hi step align) x = IsUpTo 40 x
 IsNearby Flood x = Unit {0}
 
@@ -124,7 +120,7 @@ dim_has axis n c k (Range lo hi step align) x below near = (
 )
 dim_has axis n c k Flood x below near = (eq_from_test c k, eq-eqb c k)
 
-holder_below : (axes : List Axis) (ns ks : List ℕ) (dims : List Dim) (t : List ℤ) → EachSome ns → AreBelow ks ns → holder axes ns ks dims t < product ns
+pub holder_below : (axes : List Axis) (ns ks : List ℕ) (dims : List Dim) (t : List ℤ) → EachSome ns → AreBelow ks ns → holder axes ns ks dims t < product ns
 holder_below [] ns ks dims t some below = some_product ns some
 holder_below (a ∷ axes) [] ks dims t some below = some_product [] some
 holder_below (a ∷ axes) (n ∷ ns) [] dims t some below = some_product (n ∷ ns) some
@@ -133,7 +129,7 @@ holder_below (a ∷ axes) (n ∷ ns) (k ∷ ks) (d ∷ dims) [] some below = som
 holder_below (a ∷ axes) (n ∷ ns) (k ∷ ks) (d ∷ dims) (x ∷ t) some below =
     index_below (block_for a n k d x) (holder axes ns ks dims t) n (product ns) (dim_below a n k d x some.0 below.0) (holder_below axes ns ks dims t some.1 below.1)
 
-has_holder : (axes : List Axis) (ns ks : List ℕ) (dims : List Dim) (t : List ℤ) (p : ℕ) → EachSome ns → AreBelow ks ns → AllZip IsNearby dims t → length axes ≡ length ns → length dims ≡ length ns → p < product ns
+pub has_holder : (axes : List Axis) (ns ks : List ℕ) (dims : List Dim) (t : List ℤ) (p : ℕ) → EachSome ns → AreBelow ks ns → AllZip IsNearby dims t → length axes ≡ length ns → length dims ≡ length ns → p < product ns
     → (has_each axes ns (blocks_at ns p) ks dims t ≡ true) ↔ (p ≡ holder axes ns ks dims t)
 has_holder [] [] ks dims t p some low near l m below = (λ _. omega (arith, below), λ _. refl)
 has_holder (a ∷ axes) [] ks dims t p some low near l m below = absurd (omega (arith, l))
@@ -158,7 +154,7 @@ has_holder (a ∷ axes) (n ∷ ns) (k ∷ ks) (d ∷ dims) (x ∷ t) p some low 
     )
 
 -- ---- one number passes
-not_true : (b : Bool) → (b ≡ true → ⊥) → b ≡ false
+pub not_true : (b : Bool) → (b ≡ true → ⊥) → b ≡ false
 not_true true n = absurd (n refl)
 not_true false n = refl
 
@@ -169,7 +165,7 @@ none_passes f q k (suc n) before only =
     let rest : count_by f (numbers_from (suc k) n) ≡ 0 = none_passes f q (suc k) n (omega (arith, before)) (λ j h i t. only j (omega (arith, h)) (omega (arith, i)) t) in
     sum_by-cons (λ x. cond (f x) 1 0) k (numbers_from (suc k) n) ∙ (ap (λ b. cond b 1 0 + count_by f (numbers_from (suc k) n)) e ∙ omega (arith, rest))
 
-one_passes : (f : ℕ → Bool) (q k n : ℕ) → k ≤ q → q < k + n → f q ≡ true → ((j : ℕ) → k ≤ j → j < k + n → (f j ≡ true) → j ≡ q) → count_by f (numbers_from k n) ≡ 1
+pub one_passes : (f : ℕ → Bool) (q k n : ℕ) → k ≤ q → q < k + n → f q ≡ true → ((j : ℕ) → k ≤ j → j < k + n → (f j ≡ true) → j ≡ q) → count_by f (numbers_from k n) ≡ 1
 one_passes f q k zero low high passes only = absurd (omega (arith, low, high))
 one_passes f q k (suc n) low high passes only =
     by_order (λ after. one_passes f q (suc k) n after (omega (arith, high)) passes (λ j h i t. only j (omega (arith, h)) (omega (arith, i)) t)) (cases_lt k q)
@@ -186,7 +182,7 @@ one_passes f q k (suc n) low high passes only =
         sum_by-cons (λ x. cond (f x) 1 0) k (numbers_from (suc k) n) ∙ (ap (λ b. cond b 1 0 + count_by f (numbers_from (suc k) n)) e ∙ omega (arith, rest))
 
 -- ---- the parts of all owners
-near_of : (dims : List Dim) (t : List ℤ) → All HasBounds dims → AllZip Among (map coordinates dims) t → AllZip IsNearby dims t
+pub near_of : (dims : List Dim) (t : List ℤ) → All HasBounds dims → AllZip Among (map coordinates dims) t → AllZip IsNearby dims t
 near_of [] [] bounds z = tt
 near_of [] (x ∷ t) bounds z = absurd z
 near_of (d ∷ dims) [] bounds z = absurd z
@@ -226,3 +222,116 @@ parts_of_owners blocks to r are above below wide bounds receiver =
     let tells : (p : ℕ) → p < product ns → (has p t ≡ true) ↔ (p ≡ q) = λ p h. has_holder axes ns ks r.dims t p c.some low near (long ∙ sym three) (wide ∙ sym three) h in
     one_passes (λ from. has from t) q 0 (processors_of blocks.grid) (omega arith) (omega (arith, inside, count)) ((tells q inside).1 refl)
     (λ j h i e. (tells j (omega (arith, i, count))).0 e))))
+
+-- ---- the processor that has a tuple for a receiver
+at_none : (ns : List ℕ) → processor_at ns [] ≡ 0
+at_none [] = refl
+at_none (n ∷ ns) = refl
+
+holder_is : (axes : List Axis) (ns ks : List ℕ) (dims : List Dim) (t : List ℤ) → holder axes ns ks dims t ≡ processor_at ns (each_block_for axes ns ks dims t)
+holder_is [] ns ks dims t = sym (at_none ns)
+holder_is (a ∷ axes) [] ks dims t = refl
+holder_is (a ∷ axes) (n ∷ ns) [] dims t = refl
+holder_is (a ∷ axes) (n ∷ ns) (k ∷ ks) [] t = refl
+holder_is (a ∷ axes) (n ∷ ns) (k ∷ ks) (d ∷ dims) [] = refl
+holder_is (a ∷ axes) (n ∷ ns) (k ∷ ks) (d ∷ dims) (x ∷ t) = ap (λ m. block_for a n k d x * product ns + m) (holder_is axes ns ks dims t)
+
+pub owner_for_below : (blocks : Blocks) (to : ℕ) (r : Region) (t : List ℤ) → 1 ≤ r.rank → r.rank ≤ 3 → to < processors_of blocks.grid → owner_for blocks to r t < processors_of blocks.grid
+owner_for_below blocks to r t above below receiver =
+    let ns = cuts blocks.grid r.rank in
+    let axes = axes_at blocks r.rank in
+    let c : AreCuts blocks.grid r.rank = are_cuts blocks.grid r.rank above below in
+    let count = c.count in
+    let low : AreBelow (blocks_at ns to) ns = blocks_are_below ns to c.some (omega (arith, count, receiver)) in
+    let is = holder_is axes ns (blocks_at ns to) r.dims t in
+    let h = holder_below axes ns (blocks_at ns to) r.dims t c.some low in omega (arith, h, is, count)
+
+-- whether the processor has the tuple: whether it is its owner for the receiver
+pub has_owner_for : (blocks : Blocks) (from to : ℕ) (r : Region) (t : List ℤ) → AreBlocks blocks → 1 ≤ r.rank → r.rank ≤ 3 → length r.dims ≡ 3 → to < processors_of blocks.grid → from < processors_of blocks.grid → AllZip IsNearby r.dims t
+    → (has_each (axes_at blocks r.rank) (cuts blocks.grid r.rank) (blocks_at (cuts blocks.grid r.rank) from) (blocks_at (cuts blocks.grid r.rank) to) r.dims t ≡ true) ↔ (from ≡ owner_for blocks to r t)
+has_owner_for blocks from to r t are above below wide receiver inside near =
+    let ns = cuts blocks.grid r.rank in
+    let axes = axes_at blocks r.rank in
+    let c : AreCuts blocks.grid r.rank = are_cuts blocks.grid r.rank above below in
+    let three = c.three in
+    let count = c.count in
+    let long : length axes ≡ 3 = axes_three blocks r.rank are above below in
+    let low : AreBelow (blocks_at ns to) ns = blocks_are_below ns to c.some (omega (arith, count, receiver)) in
+    let tells = has_holder axes ns (blocks_at ns to) r.dims t from c.some low near (long ∙ sym three) (wide ∙ sym three) (omega (arith, inside, count)) in
+    (λ e. tells.0 e ∙ holder_is axes ns (blocks_at ns to) r.dims t, λ is. tells.1 (is ∙ sym (holder_is axes ns (blocks_at ns to) r.dims t)))
+
+pub bool_same : (a b : Bool) → (a ≡ true → b ≡ true) → (b ≡ true → a ≡ true) → a ≡ b
+bool_same true b there back = sym (there refl)
+bool_same false true there back = back refl
+bool_same false false there back = refl
+
+pub filter_among : {X : Type 0} (p q : X → Bool) (xs : List X) → ((x : X) → Among xs x → p x ≡ q x) → filter p xs ≡ filter q xs
+filter_among p q [] same = refl
+filter_among p q (x ∷ xs) same =
+    ap (λ b. cond b (x ∷ filter p xs) (filter p xs)) (same x (inl refl))
+    ∙ ap (λ l. cond (q x) (x ∷ l) l) (filter_among p q xs (λ y m. same y (inr m)))
+
+-- the test of an owner
+pub owner_test : (has : Bool) (from owner : ℕ) → (has ≡ true) ↔ (from ≡ owner) → has ≡ (owner == from)
+owner_test has from owner tells = bool_same has (owner == from) (λ e. eq-eqb owner from (sym (tells.0 e))) (λ e. tells.1 (sym (eq_from_test owner from e)))
+
+pub parts_by_owner : (blocks : Blocks) (from to : ℕ) (r : Region) → AreBlocks blocks → 1 ≤ r.rank → r.rank ≤ 3 → length r.dims ≡ 3 → All HasBounds r.dims → to < processors_of blocks.grid → from < processors_of blocks.grid
+    → members (owned_part blocks from to r) ≡ filter (λ t. owner_for blocks to r t == from) (members r)
+parts_by_owner blocks from to r are above below wide bounds receiver inside =
+    let ns = cuts blocks.grid r.rank in
+    let axes = axes_at blocks r.rank in
+    let c : AreCuts blocks.grid r.rank = are_cuts blocks.grid r.rank above below in
+    let three = c.three in
+    let long : length axes ≡ 3 = axes_three blocks r.rank are above below in
+    tuples-owned axes ns (blocks_at ns from) (blocks_at ns to) r.dims (long ∙ sym wide) (three ∙ sym wide) (blocks_length ns from ∙ (three ∙ sym wide)) (blocks_length ns to ∙ (three ∙ sym wide))
+    ∙ filter_among (has_each axes ns (blocks_at ns from) (blocks_at ns to) r.dims) (λ t. owner_for blocks to r t == from) (members r)
+    (λ t m. owner_test _ from (owner_for blocks to r t) (has_owner_for blocks from to r t are above below wide receiver inside (near_of r.dims t bounds (among_tuples (map coordinates r.dims) t m))))
+
+-- choices by a number below the count of processors have each element once
+pub chosen_once : {X : Type 0} (grid : List ℕ) (chosen : X → ℕ) (xs : List X) → ((x : X) → Among xs x → chosen x < processors_of grid)
+    → IsPermutation xs (flat_map (λ from. filter (λ x. chosen x == from) xs) (processors grid))
+chosen_once {X} grid chosen xs below =
+    parts_partition (λ from x. chosen x == from) (processors grid) xs
+    (all_from_among (λ x. count_by (λ from. chosen x == from) (processors grid) ≡ 1) xs (λ x m.
+    one_passes (λ from. chosen x == from) (chosen x) 0 (processors_of grid) (omega arith) (omega (arith, below x m)) (eq-eqb (chosen x) (chosen x) refl)
+    (λ j h i e. sym (eq_from_test (chosen x) j e))))
+
+-- without flood dimensions it is the owner
+ranges : (axes : List Axis) (ns ks : List ℕ) (dims : List Dim) (t : List ℤ) → length ns ≡ length axes → length ks ≡ length axes → length dims ≡ length axes → All IsRange dims → each_block_for axes ns ks dims t ≡ owning_blocks axes ns t
+ranges [] ns ks dims t l m n each = refl
+ranges (a ∷ axes) [] ks dims t l m n each = absurd (omega (arith, l))
+ranges (a ∷ axes) (i ∷ ns) [] dims t l m n each = absurd (omega (arith, m))
+ranges (a ∷ axes) (i ∷ ns) (k ∷ ks) [] t l m n each = absurd (omega (arith, n))
+ranges (a ∷ axes) (i ∷ ns) (k ∷ ks) (d ∷ dims) [] l m n each = refl
+ranges (a ∷ axes) (i ∷ ns) (k ∷ ks) (Flood ∷ dims) (x ∷ t) l m n each = absurd (each 0 Flood (omega arith))
+ranges (a ∷ axes) (i ∷ ns) (k ∷ ks) (Range lo hi step align ∷ dims) (x ∷ t) l m n each =
+    ap (λ cs. block_of a i x ∷ cs) (ranges axes ns ks dims t (omega (arith, l)) (omega (arith, m)) (omega (arith, n)) (λ k' e h. each (suc k') e (omega (arith, h))))
+
+pub owner_for_ranges : (blocks : Blocks) (to : ℕ) (r : Region) (t : List ℤ) → AreBlocks blocks → 1 ≤ r.rank → r.rank ≤ 3 → length r.dims ≡ 3 → All IsRange r.dims → owner_for blocks to r t ≡ owner_of blocks r.rank t
+owner_for_ranges blocks to r t are above below wide each =
+    let ns = cuts blocks.grid r.rank in
+    let axes = axes_at blocks r.rank in
+    let c : AreCuts blocks.grid r.rank = are_cuts blocks.grid r.rank above below in
+    let three = c.three in
+    let long : length axes ≡ 3 = axes_three blocks r.rank are above below in
+    ap (processor_at ns) (ranges axes ns (blocks_at ns to) r.dims t (three ∙ sym long) (blocks_length ns to ∙ (three ∙ sym long)) (wide ∙ sym long) each)
+
+-- the numbers of processors
+among_numbers : (k n m : ℕ) → Among (numbers_from k n) m → m < k + n
+among_numbers k zero m h = absurd h
+among_numbers k (suc n) m (inl e) = omega (arith, e)
+among_numbers k (suc n) m (inr h) = let later = among_numbers (suc k) n m h in omega (arith, later)
+
+pub processor_below : (grid : List ℕ) (p : ℕ) → Among (processors grid) p → p < processors_of grid
+processor_below grid p h = let below = among_numbers 0 (processors_of grid) p h in omega (arith, below)
+
+pub flat_among : {X : Type 0} (f g : ℕ → List X) (ns : List ℕ) → ((n : ℕ) → Among ns n → f n ≡ g n) → flat_map f ns ≡ flat_map g ns
+flat_among f g [] same = refl
+flat_among f g (n ∷ ns) same = ap (λ l. l ++ flat_map f ns) (same n (inl refl)) ∙ ap (λ l. g n ++ l) (flat_among f g ns (λ m h. same m (inr h)))
+
+-- where parts are chosen by owners, they have each element once
+pub parts_by_choice : {X : Type 0} (grid : List ℕ) (chosen : X → ℕ) (xs : List X) (part_of : ℕ → List X) → ((x : X) → Among xs x → chosen x < processors_of grid)
+    → ((from : ℕ) → from < processors_of grid → part_of from ≡ filter (λ x. chosen x == from) xs) → IsPermutation xs (flat_map part_of (processors grid))
+parts_by_choice {X} grid chosen xs part_of below same =
+    subst (IsPermutation xs) (sym (flat_among part_of (λ from. filter (λ x. chosen x == from) xs) (processors grid) (λ from h. same from (processor_below grid from h))))
+    (chosen_once grid chosen xs below)

@@ -41,6 +41,12 @@ pub record IsArrayBox (box : ArrayBox) : Type 0 where
   pub low : All IsFringe box.low
   pub high : All IsFringe box.high
 
+-- one dimension, one width below and one above for each of three, as the code's lists have them
+pub record HasThree (box : ArrayBox) : Type 0 where
+  pub dims : length box.shape.dims ≡ 3
+  pub low : length box.low ≡ 3
+  pub high : length box.high ≡ 3
+
 -- ---- the hull of storages in one dimension
 
 -- around what was there before and a range: from the least bound to the greatest

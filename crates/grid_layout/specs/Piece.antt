@@ -10,8 +10,8 @@ use Rattle.zpl_region.specs.Ends.{coordinate_count}
 use Rattle.zpl_region.specs.Hull.{all_from}
 use Rattle.grid_layout.specs.declared.axes.Axis.{Axis}
 use Rattle.grid_layout.specs.declared.blocks.Blocks.{Blocks}
-use Rattle.grid_layout.specs.Block.{block_first, block_last}
-use Rattle.grid_layout.specs.Grid.{cuts, blocks_at}
+use Rattle.grid_layout.specs.Block.{block_first, block_last, block_of}
+use Rattle.grid_layout.specs.Grid.{cuts, blocks_at, processor_at}
 use Rattle.grid_layout.specs.Layout.{Arrangement, laid_out, axes_at, held_box_of}
 
 -- no coordinate
@@ -72,6 +72,29 @@ owned_part blocks from to r =
     let ns = cuts blocks.grid r.rank in
     record { rank = r.rank; dims = each_owned (axes_at blocks r.rank) ns (blocks_at ns from) (blocks_at ns to) r.dims }
 
+-- ---- the same by owners
+
+-- the block that has a coordinate: in a flood dimension it is the receiver's, of the number k
+abbrev pub block_for : Axis → ℕ → ℕ → Dim → ℤ → ℕ
+block_for axis n k (Range lo hi step align) x = block_of axis n x
+block_for axis n k Flood x = k
+
+abbrev pub each_block_for : List Axis → List ℕ → List ℕ → List Dim → List ℤ → List ℕ
+each_block_for (axis ∷ axes) (n ∷ ns) (k ∷ ks) (dim ∷ dims) (x ∷ t) = block_for axis n k dim x ∷ each_block_for axes ns ks dims t
+each_block_for _ _ _ _ _ = []
+
+-- the processor that owns a tuple of a region for a receiver. Without flood dimensions it is the tuple's owner
+abbrev pub owner_for : Blocks → ℕ → Region → List ℤ → ℕ
+owner_for blocks to r t =
+    let ns = cuts blocks.grid r.rank in
+    processor_at ns (each_block_for (axes_at blocks r.rank) ns (blocks_at ns to) r.dims t)
+
+-- no dimension is flood
+abbrev pub IsRange : Dim → Type 0
+IsRange (Range lo hi step align) = Unit {0}
+IsRange Flood = ⊥
+
+-- ---- pieces
 abbrev pub piece_in : Blocks → Region → ℕ → ℕ → Region → List ℤ → Region
 piece_in blocks held from to region shift = owned_part blocks from to (needed_in blocks held to region shift)
 

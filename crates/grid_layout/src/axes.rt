@@ -136,7 +136,7 @@ impl Axis {
         requires axis { IsAxis self }
         requires few { count ≤ 64 }
         requires block { k < count }
-        requires shift { IsUpTo 41 d }
+        requires held { HasBounds held }
         requires dim { IsDim dim }
         ensures { result ≡ needed_dim self count k held d dim }
     {

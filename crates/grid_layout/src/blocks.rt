@@ -1,7 +1,7 @@
 //! The blocks into which the dimensions of each rank are cut.
 ghost use Rattle.std.specs.Prelude.{◌≡◌, ◌<◌, ◌≤◌, ◌-◌, ◌^◌, All, length, min, sum_by};
-ghost use Rattle.zpl_region.specs.Dim.{HasBounds, IsDim, IsUpTo};
-ghost use Rattle.zpl_region.specs.Region.{IsRegion, components};
+ghost use Rattle.zpl_region.specs.Dim.{HasAlign, HasBounds, IsDim, IsUpTo};
+ghost use Rattle.zpl_region.specs.Region.{IsRegion, components, moved};
 ghost use Rattle.grid_layout.specs.Grid.{processors_of};
 ghost use Rattle.zpl_region.specs.Hull.{IsBoxed};
 ghost use Rattle.grid_layout.specs.Layout.{HasWideBounds, AreAxes, AreBlocks, IsArrayBox, IsHull, around, axes_at, axes_of, blocks_of, held_of, hull_in, widened, own_first, own_last, owner_of};
@@ -144,6 +144,8 @@ impl Blocks {
         requires processor { p < processors_of self.now.grid }
         ensures first { result.0 ≡ own_first self.now rank p }
         ensures last { result.1 ≡ own_last self.now rank p }
+        ensures first_bounds { All (IsUpTo 41) result.0 }
+        ensures last_bounds { All (IsUpTo 41) result.1 }
     {
         let [planes, rows, columns] = self.axes_at(rank);
         let cuts = self.grid.cuts(rank);
@@ -172,6 +174,7 @@ impl Blocks {
         ensures held { result ≡ held_of self.now array.now p }
         ensures boxed { All IsBoxed result.dims }
         ensures bounds { All HasWideBounds result.dims }
+        ensures region { IsRegion result }
     {
         let rank = array.shape.rank;
         let [planes, rows, columns] = self.axes_at(rank);
@@ -193,10 +196,13 @@ impl Blocks {
     /// own block, moved by the shift, whose components past the rank count as 0.
     pub fn needed(&self, held: &Region, to: u32, region: &Region, shift: Vec3) -> Region
         requires blocks { AreBlocks self.now }
+        requires held { IsRegion held.now }
         requires receiver { to < processors_of self.now.grid }
         requires region { IsRegion region.now }
-        requires shift { All (IsUpTo 41) shift }
-        ensures { result ≡ needed_in self.now held.now to region.now shift }
+        ensures needed { result ≡ needed_in self.now held.now to region.now shift }
+        ensures bounds { All HasBounds result.dims }
+        ensures region { held.now.rank ≡ region.now.rank → All HasAlign (moved shift region.now).dims
+            → IsRegion result }
     {
         let rank = region.rank;
         let [planes, rows, columns] = self.axes_at(rank);
@@ -224,7 +230,8 @@ impl Blocks {
         requires below { region.now.rank ≤ 3 }
         requires owner { from < processors_of self.now.grid }
         requires receiver { to < processors_of self.now.grid }
-        ensures { result ≡ owned_part self.now from to region.now }
+        ensures owned { result ≡ owned_part self.now from to region.now }
+        ensures region { IsRegion region.now → IsRegion result }
     {
         let rank = region.rank;
         let [planes, rows, columns] = self.axes_at(rank);

@@ -1,6 +1,6 @@
 //! One dimension of a held box or of a piece.
 ghost use Rattle.std.specs.Prelude.{◌≡◌, ◌==◌, ◌^◌, ◌+◌, ◌≤◌, All};
-ghost use Rattle.zpl_region.specs.Dim.{IsDim, IsUpTo, dim_moved};
+ghost use Rattle.zpl_region.specs.Dim.{HasBounds, IsDim, IsUpTo, dim_moved};
 ghost use Rattle.zpl_region.specs.Ends.{coordinate_count, tuple_count};
 ghost use Rattle.zpl_region.specs.Region.{components};
 ghost use Rattle.zpl_region.specs.Hull.{IsBoxed, all_from, dim_emptied};
@@ -16,6 +16,9 @@ const PADDING: Dim = Dim::Range {
     step: 1,
     align: 0,
 };
+
+/// A shift by more than this moves each range of a region away from each held box.
+const FARTHEST_SHIFT: i64 = 1 << 41;
 
 /// The integers from `lo` to `hi`.
 pub(crate) fn all_from(lo: i64, hi: i64) -> Dim
@@ -40,7 +43,7 @@ pub(crate) fn emptied(dim: Dim) -> Dim
 }
 
 /// How many coordinates a dimension of a box has.
-pub(crate) fn size(dim: Dim) -> u64
+pub fn size(dim: Dim) -> u64
     requires boxed { IsBoxed dim }
     requires bounds { HasWideBounds dim }
     ensures size { result ≡ coordinate_count dim }
@@ -87,8 +90,9 @@ pub(crate) fn or_emptied(rank: u8, dims: &[Dim; 3]) -> Region
     Region { rank, dims }
 }
 
-/// The coordinates of a dimension from `lo` to `hi`.
-pub(crate) fn part(dim: Dim, lo: i64, hi: i64) -> Dim
+/// The coordinates of a dimension from `lo` to `hi`: `1..0` where the bounds are the wrong way round. A
+/// flood dimension stays flood.
+pub fn part(dim: Dim, lo: i64, hi: i64) -> Dim
     ensures { result ≡ part lo hi dim }
 {
     let Dim::Range {
@@ -149,7 +153,7 @@ fn moved(dim: Dim, d: i64) -> Dim
 
 /// The places that a dimension of indices, moved by `d`, names in a dimension of a held box.
 pub(crate) fn place(held: Dim, d: i64, dim: Dim) -> Dim
-    requires shift { IsUpTo 41 d }
+    requires held { HasBounds held }
     requires dim { IsDim dim }
     ensures { result ≡ place_dim held d dim }
 {
@@ -163,16 +167,17 @@ pub(crate) fn place(held: Dim, d: i64, dim: Dim) -> Dim
     if let Dim::Flood = dim {
         return part(all_from(0, 0), lo, hi);
     }
+    if d < -FARTHEST_SHIFT || d > FARTHEST_SHIFT {
+        return all_from(1, 0);
+    }
     part(moved(dim, d), lo, hi)
 }
 
 /// The components of a vector up to the rank, and 0 past it.
-pub(crate) fn components(rank: u8, v: &Vec3) -> Vec3
+pub fn components(rank: u8, v: &Vec3) -> Vec3
     requires above { 1 ≤ rank }
     requires below { rank ≤ 3 }
-    requires bounds { All (IsUpTo 41) v.now }
-    ensures components { result ≡ components rank v.now }
-    ensures bounds { All (IsUpTo 41) result }
+    ensures { result ≡ components rank v.now }
 {
     let [x, y, z] = *v;
     match rank {

@@ -1,12 +1,13 @@
 //! Layouts: the blocks of a grid with the arrays that are laid out over it.
-ghost use Rattle.std.specs.Prelude.{◌≡◌, ◌<◌, ◌≤◌, ◌≢◌, All, IfErr, IfOk, length};
+ghost use Rattle.std.specs.Prelude.{◌≡◌, ◌<◌, ◌≤◌, ◌≢◌, All, IfErr, IfOk, IsPermutation, flat_map, length};
 ghost use Rattle.grid_layout.specs.declared.layouts.LayoutFault.TheVariants.{NoMemory};
 ghost use Rattle.grid_layout.specs.Grid.{processors_of};
-ghost use Rattle.grid_layout.specs.Layout.{AreBlocks, IsArrayBox, held_box_of, laid_out, own_first, own_last, owner_of};
+ghost use Rattle.grid_layout.specs.Layout.{AreBlocks, IsArrayBox, box_at, held_box_of, laid_out, own_first, own_last, owner_of};
 ghost use Rattle.grid_layout.specs.Piece.{needed_of, piece_of};
-ghost use Rattle.grid_layout.specs.Words.{words_of};
-ghost use Rattle.zpl_region.specs.Dim.{IsUpTo};
-ghost use Rattle.zpl_region.specs.Region.{IsRegion};
+ghost use Rattle.grid_layout.specs.Words.{processors, words_of};
+ghost use Rattle.zpl_region.specs.Dim.{HasAlign, HasBounds, IsUpTo};
+ghost use Rattle.zpl_region.specs.Hull.{IsBoxed};
+ghost use Rattle.zpl_region.specs.Region.{IsRegion, members, moved};
 
 use crate::blocks::Blocks;
 use crate::boxes::ArrayBox;
@@ -79,6 +80,17 @@ impl Layout {
         self.blocks.grid
     }
 
+    /// A stored array.
+    pub fn array_box(&self, array: u32) -> ArrayBox
+        requires { array < length self.now.boxes }
+        ensures same { result ≡ box_at self.now array }
+        ensures sound { IsArrayBox result }
+        ensures boxes { All IsArrayBox self.now.boxes }
+    {
+        let _blocks = &self.blocks;
+        self.boxes[array as usize]
+    }
+
     /// The processor that owns a tuple. Each tuple has one, also one that no storage has.
     pub fn owner(&self, rank: u8, x: Vec3) -> u32
         requires above { 1 ≤ rank }
@@ -97,6 +109,8 @@ impl Layout {
         requires processor { p < processors_of self.now.grid }
         ensures first { result.0 ≡ own_first (laid_out self.now) rank p }
         ensures last { result.1 ≡ own_last (laid_out self.now) rank p }
+        ensures first_bounds { All (IsUpTo 41) result.0 }
+        ensures last_bounds { All (IsUpTo 41) result.1 }
     {
         self.blocks().own_block(rank, p)
     }
@@ -106,7 +120,9 @@ impl Layout {
     pub fn held_box(&self, array: u32, p: u32) -> Region
         requires array { array < length self.now.boxes }
         requires processor { p < processors_of self.now.grid }
-        ensures { result ≡ held_box_of self.now array p }
+        ensures held { result ≡ held_box_of self.now array p }
+        ensures boxed { All IsBoxed result.dims }
+        ensures region { IsRegion result }
     {
         self.blocks().held(&self.boxes[array as usize], p)
     }
@@ -117,8 +133,13 @@ impl Layout {
         requires array { array < length self.now.boxes }
         requires receiver { to < processors_of self.now.grid }
         requires region { IsRegion region.now }
-        requires shift { All (IsUpTo 41) shift }
-        ensures { result ≡ needed_of self.now array to region.now shift }
+        ensures needed { result ≡ needed_of self.now array to region.now shift }
+        ensures bounds { All HasBounds result.dims }
+        ensures pieces { IsPermutation (members result)
+            (flat_map (λ from. members (piece_of self.now array from to region.now shift))
+            (processors self.now.grid)) }
+        ensures region { (box_at self.now array).shape.rank ≡ region.now.rank
+            → All HasAlign (moved shift region.now).dims → IsRegion result }
     {
         let held = self.held_box(array, to);
         self.blocks().needed(&held, to, region, shift)
@@ -131,8 +152,9 @@ impl Layout {
         requires owner { from < processors_of self.now.grid }
         requires receiver { to < processors_of self.now.grid }
         requires region { IsRegion region.now }
-        requires shift { All (IsUpTo 41) shift }
-        ensures { result ≡ piece_of self.now array from to region.now shift }
+        ensures piece { result ≡ piece_of self.now array from to region.now shift }
+        ensures region { (box_at self.now array).shape.rank ≡ region.now.rank
+            → All HasAlign (moved shift region.now).dims → IsRegion result }
     {
         let needed = self.needed(array, to, region, shift);
         self.blocks().owned(from, to, &needed)

@@ -15,6 +15,11 @@ mod layouts;
 pub use axes::Axis;
 pub use blocks::Blocks;
 pub use boxes::ArrayBox;
+pub use dims::{components, part, size};
 pub use grids::{Grid, GridFault};
-pub use laws::{each_coordinate_has_one_block, each_tuple_has_one_owner, owners_partition_regions};
+pub use laws::{
+    each_coordinate_has_one_block, each_tuple_has_one_owner, held_boxes_lie_in_storages,
+    laid_out_blocks_are_blocks, owned_parts_go_by_owners, owners_partition_regions,
+    pieces_partition_needs,
+};
 pub use layouts::{Layout, LayoutFault};

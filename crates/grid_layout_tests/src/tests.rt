@@ -2,7 +2,7 @@
 ghost use Rattle.std.specs.Prelude.{◌≤◌, length};
 ghost use Rattle.grid_layout.specs.Layout.{IsArrayBox};
 
-use grid_layout::{ArrayBox, Grid, GridFault, Layout, LayoutFault};
+use grid_layout::{ArrayBox, Blocks, Grid, GridFault, Layout, LayoutFault};
 use zpl_region::{Dim, Region};
 
 /// Whether there is a grid of these factors, and how many processors it has.
@@ -62,4 +62,39 @@ fn five_squares_pass_the_limit(rt: HostRuntime) {
     assert!(rt; matches!(five, Err(LayoutFault::TooMuchStorage)));
     let four = Layout::new(rt.alloc(), grid, &[one, one, one, one]);
     assert!(rt; four.is_ok());
+}
+
+/// An array of 2^41 + 1 places in each of three dimensions.
+fn vast() -> ArrayBox
+    ensures { IsArrayBox result }
+{
+    let side = Dim::Range {
+        lo: -1_099_511_627_776,
+        hi: 1_099_511_627_776,
+        step: 1,
+        align: 0,
+    };
+    ArrayBox {
+        shape: Region {
+            rank: 3,
+            dims: [side, side, side],
+        },
+        low: [0, 0, 0],
+        high: [0, 0, 0],
+    }
+}
+
+#[test]
+fn words_past_64_bits(rt: HostRuntime) {
+    let one = vast();
+    let words: u128 = 2_199_023_255_553 * 2_199_023_255_553 * 2_199_023_255_553;
+    let single = Grid::new(&[1]).expect(&rt, "a grid of one processor");
+    assert_eq!(rt; Blocks::new(single, &[one]).words(&one), words);
+    assert_eq!(rt; Blocks::new(single, &[one]).words_of(&[one, one, one]), 3 * words);
+    let many = Grid::new(&[4, 4, 4]).expect(&rt, "a grid of 64 processors");
+    assert_eq!(rt; Blocks::new(many, &[one]).words(&one), words);
+    assert!(rt; matches!(
+        Layout::new(rt.alloc(), many, &[one]),
+        Err(LayoutFault::TooMuchStorage)
+    ));
 }

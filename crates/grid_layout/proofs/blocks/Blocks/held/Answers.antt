@@ -1,8 +1,10 @@
-use Rattle.std.proofs.Common.{◌≡◌, get_or, to_z, of_z, w64, pos, ◌∙◌, ap, arith}
+use Rattle.std.proofs.Common.{◌≡◌, get_or, to_z, of_z, w64, pos, ◌∙◌, ap, arith, subst, sym}
 use Rattle.std.proofs.lemmas.Int.{ints}
 use Rattle.zpl_region.specs.declared.dims.Dim.TheVariants.{Range}
 use Rattle.grid_layout.specs.Grid.{blocks_at, cuts}
 use Rattle.grid_layout.specs.Layout.{each_held, or_emptied}
+use Rattle.zpl_region.specs.Region.{IsRegion}
+use Rattle.grid_layout.proofs.HeldLemmas.{region_of_held}
 use Rattle.grid_layout.proofs.ThreeLemmas.{helds_told}
 use Rattle.grid_layout.proofs.blocks.Blocks.held.Goals as goal
 
@@ -25,3 +27,8 @@ returns-clause-held c =
     ∙ (ap (λ cs. each_held c.axes_at.result c.cuts-cuts.result cs box.low box.high box.shape.dims) c.blocks_at.ensures.numbers
     ∙ (ap (λ ns. each_held c.axes_at.result ns (blocks_at ns c.args.p) box.low box.high box.shape.dims) c.cuts-cuts.ensures.cuts
     ∙ ap (λ axes. each_held axes (cuts grid rank) (blocks_at (cuts grid rank) c.args.p) box.low box.high box.shape.dims) c.axes_at.ensures.axes)))
+
+pub returns-clause-region : goal.returns-clause-region
+returns-clause-region c =
+    subst IsRegion (sym (returns-clause-held c))
+    (region_of_held c.args.self.now c.args.array.now c.args.p c.requires.blocks c.requires.array (record { dims = omega arith; low = omega arith; high = omega arith }) c.requires.processor)

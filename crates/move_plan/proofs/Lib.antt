@@ -1,0 +1,4 @@
+pub mod PieceLemmas
+pub mod CodeLemmas
+pub mod RegionLemmas
+mod Examples

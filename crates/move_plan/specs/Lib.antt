@@ -1,0 +1,2 @@
+pub mod BorderPiece
+pub mod FloodPiece

@@ -1,0 +1,4 @@
+pub mod RequestLemmas
+pub mod HomeLemmas
+pub mod WholeLemmas
+mod Examples
