@@ -4,3 +4,5 @@ mod ExchangeExamples
 mod FoldExamples
 pub mod GridLemmas
 pub mod ScalarLemmas
+pub mod RegionLemmas
+pub mod StateLemmas

@@ -1,0 +1,984 @@
+-- The states that a processor may have are kept by its moves.
+use Rattle.std.proofs.Common.{◌≡◌, inl, ℕ, zero, suc, ◌+◌, ◌-◌, ◌<◌, ◌≤◌, ◌↔◌, Bool, true, false, List, [], ◌∷◌, ◌++◌, length, map, take, replicate, refl, sym, ap, ◌∙◌, subst, cond, ◌==◌, ℤ, pos, arith, append-nil, append_assoc, length-append, length-take}
+use Rattle.std.specs.Prelude.{Option, Some, None, IsSome, All, slice_get, slice_set, option_and_then, IsTrue}
+use Rattle.std.specs.List.{AllZip}
+use Rattle.std.specs.Option.{IsSomeAnd, option_map}
+use Rattle.std.proofs.lemmas.List.{length-map, length-replicate, map-append}
+use Rattle.std.proofs.lemmas.List.Elements.{All-nil, All-cons, All-append, All-head, All-tail, All-replicate}
+use Rattle.std.proofs.Math.ListN.{length-set}
+use Rattle.std.proofs.lemmas.Option.{slice_get_within}
+use Rattle.zpl_nums.specs.declared.ends.End.{End}
+use Rattle.zpl_nums.specs.declared.ends.TrapKind.{TrapKind}
+use Rattle.zpl_region.specs.declared.dims.Dim.{Dim}
+use Rattle.zpl_region.specs.declared.dims.Dim.TheVariants as dim
+use Rattle.zpl_region.specs.declared.regions.Region.{Region}
+use Rattle.zpl_region.specs.Dim.{HasStep}
+use Rattle.zpl_region.specs.Region.{components, padding, IsPadded, IsWithinLimit}
+use Rattle.zpl_region.specs.Tests.{is_within_limit}
+use Rattle.grid_links.specs.declared.messages.Message.{Message}
+use Rattle.grid_links.specs.Machine.{Ended, Blocked, Goes, Awaits, Takes, Refuses}
+use Rattle.node_form.specs.declared.tables.Tables.{Tables}
+use Rattle.node_form.specs.declared.instructions.Instr.{Instr}
+use Rattle.node_form.specs.declared.instructions.Instr.TheVariants as instr
+use Rattle.node_form.specs.declared.members.Member.{Member}
+use Rattle.node_form.specs.declared.arrays.ArrayRow.{ArrayRow}
+use Rattle.node_form.specs.declared.arrays.Item.{Item}
+use Rattle.node_form.specs.Control.{Registers, Control, Steps, Leaps, Ends, Outside, control, with_computed, with_row, checked, limited, branched}
+use Rattle.node_form.specs.Control.{part_dim, part_dims, region_of, register_value, formed_by, with_slot}
+use Rattle.node_form.specs.declared.instructions.RegionForm.{RegionForm}
+use Rattle.node_form.specs.declared.instructions.RegionForm.TheVariants.{Of, Inside, At, By}
+use Rattle.zpl_nums.specs.Integer.{is_true}
+use Rattle.zpl_nums.specs.declared.folds.Fold.{Fold}
+use Rattle.grid_meaning.proofs.RegionLemmas.{HasStep-outside, HasStep-inside, HasStep-moved, HasStep-strided, steps-each, padded-each, padded-behind, no_steps, places_steps}
+use Rattle.zpl_arrays.specs.Array.{array_of}
+use Rattle.grid_layout.specs.Layout.{laid_out}
+use Rattle.grid_meaning.specs.Stored.{arrangement_of, no_places}
+use Rattle.node_form.specs.declared.instructions.DimRow.{DimRow}
+use Rattle.node_form.specs.declared.instructions.DimRow.TheVariants as part
+use Rattle.node_form.specs.Value.{Computed, Gives, Divides, Lacks, and_then, mapped, read}
+use Rattle.std.proofs.lemmas.Int.{ints}
+use Rattle.node_form.specs.Fits.{Fits, FitsInstr, IsRank}
+use Rattle.grid_meaning.specs.Action.{Action, Feeding, WrongTag, WrongLength, ended_as, goes_on, prints}
+use Rattle.grid_meaning.specs.Collective.{Collective, Stage, Alone, Sends, TakesFrom, Last, Use, AtOnce, InLast, Asking, Kin, to_parent, agreeing_stages, star, tree, others, others_where, decided, keeping, voted, folded}
+use Rattle.grid_meaning.specs.Delivery.{edged, flooded, parted}
+use Rattle.grid_meaning.specs.Exchange.{started, finished, word_count}
+use Rattle.grid_meaning.specs.Gather.{gathered, gather_last, gather_stages, prints_gathered}
+use Rattle.grid_meaning.specs.Owner.{region_in, tuples_of}
+use Rattle.grid_meaning.specs.Place.{values_at}
+use Rattle.grid_meaning.specs.Remap.{remapped}
+use Rattle.grid_meaning.specs.Scan.{scanned_row}
+use Rattle.grid_meaning.specs.Local.{Local, left, processors, start_local, start_places}
+use Rattle.grid_meaning.specs.Rows.{collective}
+use Rattle.grid_meaning.specs.Turn.{act, act_at, fed, unless_ended, act_in, fed_at, controlled, fed_by, fed_in, sends, steps_on, takes, prints_text, prints_value, registers_of, with_registers}
+use Rattle.grid_meaning.specs.State.{ArePlaces, WritesNone, WritesNoArray, IsSlot, IsStore, HasParts, IsLocal, IsOutside, IsFresh, IsLooping, IsIn, IsAt, IsRequest, KeepsWords, IsPart, Stands, senders}
+
+-- ---- lists side by side
+module _ {A B : Type 0} (R : A → B → Type 0) where
+  AllZip-get : (xs : List A) (ys : List B) (i : ℕ) (x : A) → AllZip R xs ys → slice_get xs i ≡ Some x
+      → (y : B) × (slice_get ys i ≡ Some y) × R x y
+  AllZip-get [] ys i x all is = cc
+  AllZip-get (x' ∷ xs) [] i x all is = absurd all
+  AllZip-get (x' ∷ xs) (y ∷ ys) zero x all is =
+      let same : x' ≡ x = cc in
+      (y, refl, subst (λ z. R z y) same all.0)
+  AllZip-get (x' ∷ xs) (y ∷ ys) (suc i) x all is = AllZip-get xs ys i x all.1 is
+
+  AllZip-back : (xs : List A) (ys : List B) (i : ℕ) (y : B) → AllZip R xs ys → slice_get ys i ≡ Some y
+      → (x : A) × (slice_get xs i ≡ Some x) × R x y
+  AllZip-back [] [] i y all is = cc
+  AllZip-back [] (y' ∷ ys) i y all is = absurd all
+  AllZip-back (x ∷ xs) [] i y all is = cc
+  AllZip-back (x ∷ xs) (y' ∷ ys) zero y all is =
+      let same : y' ≡ y = cc in
+      (x, refl, subst (R x) same all.0)
+  AllZip-back (x ∷ xs) (y' ∷ ys) (suc i) y all is = AllZip-back xs ys i y all.1 is
+
+  AllZip-set : (xs : List A) (ys : List B) (i : ℕ) (x : A) (y : B) → AllZip R xs ys → slice_get xs i ≡ Some x → R x y
+      → AllZip R xs (slice_set ys i y)
+  AllZip-set [] ys i x y all is r = cc
+  AllZip-set (x' ∷ xs) [] i x y all is r = absurd all
+  AllZip-set (x' ∷ xs) (y' ∷ ys) zero x y all is r =
+      let same : x ≡ x' = cc in
+      (subst (λ z. R z y) same r, all.1)
+  AllZip-set (x' ∷ xs) (y' ∷ ys) (suc i) x y all is r = (all.0, AllZip-set xs ys i x y all.1 is r)
+
+-- ---- stages: the last one stands at the end alone
+abbrev IsNotLast : Stage → Type 0
+IsNotLast Alone = Unit {0}
+IsNotLast (Sends to) = Unit {0}
+IsNotLast (TakesFrom from) = Unit {0}
+IsNotLast Last = ⊥
+
+record EndsOnce (stages : List Stage) : Type 0 where
+  front : List Stage
+  is : stages ≡ front ++ Last ∷ []
+  before : All IsNotLast front
+
+EndsOnce-last : EndsOnce (Last ∷ [])
+EndsOnce-last = record { front = []; is = refl; before = All-nil IsNotLast }
+
+EndsOnce-cons : (stage : Stage) (stages : List Stage) → IsNotLast stage → EndsOnce stages → EndsOnce (stage ∷ stages)
+EndsOnce-cons stage stages not_last ends = record {
+  front = stage ∷ ends.front;
+  is = ap (λ rest. stage ∷ rest) ends.is;
+  before = All-cons IsNotLast stage ends.front not_last ends.before;
+}
+
+EndsOnce-sends : {A : Type 0} (to : A → ℕ) (list : List A) (stages : List Stage) → EndsOnce stages
+    → EndsOnce (map (λ a. Sends (to a)) list ++ stages)
+EndsOnce-sends to [] stages ends = ends
+EndsOnce-sends to (a ∷ list) stages ends = EndsOnce-cons (Sends (to a)) _ tt (EndsOnce-sends to list stages ends)
+
+EndsOnce-takes : (list : List ℕ) (stages : List Stage) → EndsOnce stages → EndsOnce (map TakesFrom list ++ stages)
+EndsOnce-takes [] stages ends = ends
+EndsOnce-takes (a ∷ list) stages ends = EndsOnce-cons (TakesFrom a) _ tt (EndsOnce-takes list stages ends)
+
+EndsOnce-parent : (parent : Option ℕ) (stages : List Stage) → EndsOnce stages → EndsOnce (to_parent parent ++ stages)
+EndsOnce-parent None stages ends = ends
+EndsOnce-parent (Some q) stages ends = EndsOnce-cons (Sends q) _ tt (EndsOnce-cons (TakesFrom q) _ tt ends)
+
+begins : (stages : List Stage) → EndsOnce stages → 0 < length stages
+begins stages ends = omega (arith, ap length ends.is, length-append ends.front (Last ∷ []))
+
+goes_further : (front : List Stage) (i : ℕ) (stage : Stage) → All IsNotLast front
+    → slice_get (front ++ Last ∷ []) i ≡ Some stage → IsNotLast stage → i + 1 < length (front ++ Last ∷ [])
+goes_further [] zero stage before is not_last = let same : Last ≡ stage = cc in absurd (subst IsNotLast (sym same) not_last)
+goes_further [] (suc i) stage before is not_last = cc
+goes_further (first ∷ front) zero stage before is not_last = omega (arith, length-append front (Last ∷ []))
+goes_further (first ∷ front) (suc i) stage before is not_last =
+    let rest = goes_further front i stage (All-tail IsNotLast first front before) is not_last in
+    omega arith
+
+more_stages : (stages : List Stage) (i : ℕ) (stage : Stage) → EndsOnce stages → slice_get stages i ≡ Some stage
+    → IsNotLast stage → i + 1 < length stages
+more_stages stages i stage ends is not_last =
+    subst (λ s. i + 1 < length s) (sym ends.is)
+    (goes_further ends.front i stage ends.before (subst (λ s. slice_get s i ≡ Some stage) ends.is is) not_last)
+
+-- what was taken in one turn more
+senders-more : (stages : List Stage) (i : ℕ) (stage : Stage) → slice_get stages i ≡ Some stage
+    → senders (take (i + 1) stages) ≡ senders (take i stages) ++ senders (stage ∷ [])
+senders-more [] i stage is = cc
+senders-more (first ∷ stages) zero stage is = let same : first ≡ stage = cc in ap (λ s. senders (s ∷ [])) same
+senders-more (first ∷ stages) (suc i) stage is =
+    let e : suc i + 1 ≡ suc (i + 1) = omega arith in
+    ap (λ n. senders (take n (first ∷ stages))) e
+    ∙ (further first (take (i + 1) stages)
+    ∙ (ap (λ list. senders (first ∷ []) ++ list) (senders-more stages i stage is)
+    ∙ (sym (append_assoc (senders (first ∷ [])) (senders (take i stages)) (senders (stage ∷ [])))
+    ∙ ap (λ list. list ++ senders (stage ∷ [])) (sym (further first (take i stages))))))
+  where
+    further : (one : Stage) (list : List Stage) → senders (one ∷ list) ≡ senders (one ∷ []) ++ senders list
+    further Alone list = refl
+    further (Sends to) list = refl
+    further (TakesFrom from) list = refl
+    further Last list = refl
+
+-- ---- the stages of each row end so
+module _ (code : Tables) (p : ℕ) where
+  EndsOnce-delivered : (to from : List ℕ) → EndsOnce (Alone ∷ (map Sends to ++ (map TakesFrom from ++ Last ∷ [])))
+  EndsOnce-delivered to from =
+      EndsOnce-cons Alone _ tt (EndsOnce-sends (λ q. q) to _ (EndsOnce-takes from _ EndsOnce-last))
+
+  EndsOnce-agreeing : (kin : Kin) → EndsOnce (agreeing_stages kin)
+  EndsOnce-agreeing kin =
+      EndsOnce-takes kin.children _
+      (EndsOnce-parent kin.parent _ (EndsOnce-sends (λ q. q) kin.children _ EndsOnce-last))
+
+  EndsOnce-started : (exchange : ℕ) (local : Local) (found : Option (List Item)) (c : Collective)
+      → option_map (started code p exchange) found ≡ Some c → EndsOnce (c.stages local)
+  EndsOnce-started exchange local None c is = cc
+  EndsOnce-started exchange local (Some items) c is =
+      let same : started code p exchange items ≡ c = cc in
+      subst (λ row. EndsOnce (row.stages local)) same
+      (EndsOnce-sends (λ q. q) (others_where code p (word_count code local items p)) _ EndsOnce-last)
+
+  EndsOnce-finished : (exchange : ℕ) (local : Local) (found : Option (List Item)) (c : Collective)
+      → option_map (finished code p exchange) found ≡ Some c → EndsOnce (c.stages local)
+  EndsOnce-finished exchange local None c is = cc
+  EndsOnce-finished exchange local (Some items) c is =
+      let same : finished code p exchange items ≡ c = cc in
+      subst (λ row. EndsOnce (row.stages local)) same
+      (EndsOnce-takes (others_where code p (λ q. word_count code local items q p)) _ EndsOnce-last)
+
+  EndsOnce-gather : (q : ℕ) (region : Region) → EndsOnce (gather_stages code q region)
+  EndsOnce-gather zero region =
+      EndsOnce-takes (others_where code 0 (λ q. length (tuples_of code q region))) _ EndsOnce-last
+  EndsOnce-gather (suc q) region = by (length (tuples_of code (suc q) region) == 0)
+    where
+      by : (none : Bool) → EndsOnce (cond none (Last ∷ []) (Sends 0 ∷ Last ∷ []))
+      by true = EndsOnce-last
+      by false = EndsOnce-cons (Sends 0) _ tt EndsOnce-last
+
+  EndsOnce-remapped : (array slot from : ℕ) (parts : List ℕ) (local : Local) (found : Option ArrayRow) (c : Collective)
+      → option_map (remapped code p array slot from parts) found ≡ Some c → EndsOnce (c.stages local)
+  EndsOnce-remapped array slot from parts local None c is = cc
+  EndsOnce-remapped array slot from parts local (Some row) c is =
+      let same : remapped code p array slot from parts row ≡ c = cc in
+      subst (λ row. EndsOnce (row.stages local)) same
+      (EndsOnce-cons Alone _ tt
+      (EndsOnce-sends (λ q. q) (others code p) _
+      (EndsOnce-takes (others code p) _
+      (EndsOnce-sends (λ entry. entry.0) local.kept _
+      (EndsOnce-takes _ _ EndsOnce-last)))))
+
+  EndsOnce-row : (row : Instr) (c : Collective) (local : Local) → collective code p row ≡ Some c
+      → EndsOnce (c.stages local)
+  EndsOnce-row (instr.Start exchange) c local is = EndsOnce-started exchange local (slice_get code.exchanges exchange) c is
+  EndsOnce-row (instr.Finish exchange) c local is = EndsOnce-finished exchange local (slice_get code.exchanges exchange) c is
+  EndsOnce-row (instr.Edge kind array slot shift) c local is =
+      let same : edged code p kind array slot shift ≡ c = cc in
+      subst (λ row. EndsOnce (row.stages local)) same (EndsOnce-delivered _ _)
+  EndsOnce-row (instr.Flood array target from source) c local is =
+      let same : flooded code p array target from source ≡ c = cc in
+      subst (λ row. EndsOnce (row.stages local)) same (EndsOnce-delivered _ _)
+  EndsOnce-row (instr.Part array target f from source) c local is =
+      let same : parted code p array target f from source ≡ c = cc in
+      subst (λ row. EndsOnce (row.stages local)) same (EndsOnce-delivered _ _)
+  EndsOnce-row (instr.Scan array slot f along from mask) c local is =
+      let same : scanned_row code p f along from mask array slot ≡ c = cc in
+      subst (λ row. EndsOnce (row.stages local)) same
+      (EndsOnce-sends (λ q. q) _ _ (EndsOnce-takes _ _ EndsOnce-last))
+  EndsOnce-row (instr.Gather truth array slot) c local is =
+      let same : gathered code p truth array slot ≡ c = cc in
+      subst (λ row. EndsOnce (row.stages local)) same (EndsOnce-gather p (region_in local slot))
+  EndsOnce-row (instr.Remap array slot from parts) c local is =
+      EndsOnce-remapped array slot from _ local (slice_get code.arrays from) c is
+  EndsOnce-row (instr.Vote group) c local is =
+      let same : voted code (star code p) group ≡ c = cc in
+      subst (λ row. EndsOnce (row.stages local)) same (EndsOnce-agreeing (star code p))
+  EndsOnce-row (instr.TreeVote group) c local is =
+      let same : voted code (tree code p) group ≡ c = cc in
+      subst (λ row. EndsOnce (row.stages local)) same (EndsOnce-agreeing (tree code p))
+  EndsOnce-row (instr.Fold scalar f) c local is =
+      let same : folded (star code p) scalar f ≡ c = cc in
+      subst (λ row. EndsOnce (row.stages local)) same (EndsOnce-agreeing (star code p))
+  EndsOnce-row (instr.TreeFold scalar f) c local is =
+      let same : folded (tree code p) scalar f ≡ c = cc in
+      subst (λ row. EndsOnce (row.stages local)) same (EndsOnce-agreeing (tree code p))
+  EndsOnce-row row c local is = cc
+
+-- ---- a row that is begun
+KeepsWords-fresh : (code : Tables) (p : ℕ) (kind : Use) (row : Collective) (local : Local) → IsFresh local
+    → KeepsWords code p kind row local
+KeepsWords-fresh code p AtOnce row local fresh = fresh.kept
+KeepsWords-fresh code p InLast row local fresh = (
+  ap (map (λ entry. entry.0)) fresh.kept ∙ sym (ap (λ n. senders (take n (row.stages local))) fresh.made),
+  subst (All (λ entry. row.awaits local entry.0 (length entry.1) ≡ true)) (sym fresh.kept)
+      (All-nil (λ entry. row.awaits local entry.0 (length entry.1) ≡ true)),
+)
+KeepsWords-fresh code p Asking row local fresh = (
+  subst (λ kept. IsPart (map (λ entry. entry.0) kept) (take (local.made - processors code) (others code p)))
+      (sym fresh.kept) tt,
+  subst (All (IsRequest row (record local { made = 0 }))) (sym fresh.kept) (All-nil (IsRequest row (record local { made = 0 }))),
+)
+
+IsIn-fresh : (code : Tables) (p : ℕ) (row : Option Collective) (local : Local)
+    → ((c : Collective) → row ≡ Some c → EndsOnce (c.stages local)) → IsFresh local → IsIn code p row local
+IsIn-fresh code p None local ends fresh = fresh
+IsIn-fresh code p (Some c) local ends fresh = (
+  omega (arith, begins (c.stages local) (ends c refl), fresh.made),
+  KeepsWords-fresh code p c.use_of_words c local fresh,
+)
+
+-- what holds of a row, if there is one
+abbrev IfFits : Tables → Option Instr → Type 0
+IfFits code None = Unit {0}
+IfFits code (Some row) = FitsInstr code row
+
+module _ (code : Tables) (p : ℕ) where
+  IsLooping-fresh : (local : Local) (region : Option Region) (all : Option (List Member)) → IsSome region → IsSome all
+      → IsOutside local → IsFresh local → IsLooping code p local region all
+  IsLooping-fresh local None all there here outside fresh = cc
+  IsLooping-fresh local (Some region) None there here outside fresh = cc
+  IsLooping-fresh local (Some region) (Some all) there here outside fresh = record {
+    fresh = fresh;
+    index = omega (arith, outside.index);
+    begins = inl outside.member;
+  }
+
+  some_row : {X : Type 0} (found : Option X) (P : X → Type 0) → IsSomeAnd found P → IsSome found
+  some_row None P h = absurd h
+  some_row (Some x) P h = refl
+
+  IsAt-fresh : (local : Local) (found : Option Instr) → IfFits code found → HasParts code p local → IsOutside local
+      → IsFresh local → IsAt code p local found
+  IsAt-fresh local None fits parts outside fresh = (outside, fresh)
+  IsAt-fresh local (Some (instr.Loop slot group)) fits parts outside fresh =
+      let slots = AllZip-get IsSlot code.slots local.slots slot fits.rank parts.slots fits.fit.0 in
+      IsLooping-fresh local (slice_get local.slots slot) (slice_get code.groups group)
+      (subst (λ (o : Option Region). IsSome o) (sym slots.1) refl)
+      (some_row (slice_get code.groups group) _ fits.fit.1) outside fresh
+  IsAt-fresh local (Some row) fits parts outside fresh =
+      (outside, IsIn-fresh code p (collective code p row) local (λ c is. EndsOnce-row code p row c local is) fresh)
+
+  module _ (fits_tables : Fits code) (instr_fits : (tables : Tables) (i : ℕ) (row : Instr) → Fits tables
+      → slice_get tables.code i ≡ Some row → FitsInstr tables row) where
+    if_fits : (at : ℕ) (found : Option Instr) → slice_get code.code at ≡ found → IfFits code found
+    if_fits at None is = tt
+    if_fits at (Some row) is = instr_fits code at row fits_tables is
+
+    -- another instruction is begun
+    IsLocal-left : (local : Local) (at : ℕ) → HasParts code p local → at ≤ length code.code → IsLocal code p (left local at)
+    IsLocal-left local at parts within = record {
+      parts = record {
+        scalars = parts.scalars;
+        cells = parts.cells;
+        slots = parts.slots;
+        stores = parts.stores;
+        flag = parts.flag;
+      };
+      at = within;
+      running = λ none. IsAt-fresh (left local at) (slice_get code.code at) (if_fits at (slice_get code.code at) refl)
+          (record {
+            scalars = parts.scalars;
+            cells = parts.cells;
+            slots = parts.slots;
+            stores = parts.stores;
+            flag = parts.flag;
+          }) (record { index = refl; member = refl }) (record { made = refl; kept = refl });
+      over = λ some. (record { index = refl; member = refl }, record { made = refl; kept = refl });
+    }
+
+    IsLocal-ended : (local : Local) (ending : End) → HasParts code p local → local.at ≤ length code.code
+        → IsLocal code p (ended_as local ending)
+    IsLocal-ended local ending parts within = record {
+      parts = record {
+        scalars = parts.scalars;
+        cells = parts.cells;
+        slots = parts.slots;
+        stores = parts.stores;
+        flag = parts.flag;
+      };
+      at = within;
+      running = λ none. cc;
+      over = λ some. (record { index = refl; member = refl }, record { made = refl; kept = refl });
+    }
+
+    -- ---- rows that need scalars and slots alone
+    -- what such a row may make of the registers, or where it may go
+    abbrev IsFine : Control → Type 0
+    IsFine (Steps registers) = (length registers.scalars ≡ code.scalars) × AllZip IsSlot code.slots registers.slots
+    IsFine (Leaps goal) = goal ≤ length code.code
+    IsFine (Ends ending) = Unit {0}
+    IsFine Outside = Unit {0}
+
+    abbrev IsKept : Action → Type 0
+    IsKept (Goes next sent shown) = IsLocal code p next
+    IsKept Ended = Unit {0}
+    IsKept (Blocked kind) = Unit {0}
+    IsKept (Awaits from) = Unit {0}
+
+    IsKept-controlled : (local : Local) (c : Control) → HasParts code p local → local.at < length code.code → IsFine c
+        → IsKept (controlled local c)
+    IsKept-controlled local (Steps registers) parts below fine =
+        IsLocal-left (with_registers local registers) (local.at + 1)
+        (record { scalars = fine.0; cells = parts.cells; slots = fine.1; stores = parts.stores; flag = parts.flag })
+        (omega arith)
+    IsKept-controlled local (Leaps goal) parts below fine = IsLocal-left local goal parts fine
+    IsKept-controlled local (Ends ending) parts below fine = IsLocal-ended local ending parts (omega arith)
+    IsKept-controlled local Outside parts below fine = tt
+
+    IsFine-computed : {X : Type 0} (value : Computed X) (line : ℕ) (next : X → Control)
+        → ((x : X) → value ≡ Gives x → IsFine (next x)) → IsFine (with_computed value line next)
+    IsFine-computed (Gives x) line next fine = fine x refl
+    IsFine-computed Divides line next fine = tt
+    IsFine-computed Lacks line next fine = tt
+
+    IsFine-row : {X : Type 0} (row : Option X) (next : X → Control) → ((x : X) → row ≡ Some x → IsFine (next x))
+        → IsFine (with_row row next)
+    IsFine-row (Some x) next fine = fine x refl
+    IsFine-row None next fine = tt
+
+    IsFine-checked : (registers : Registers) (b : Bool) (kind : TrapKind) (line : ℕ) → IsFine (Steps registers)
+        → IsFine (checked registers b kind line)
+    IsFine-checked registers true kind line fine = fine
+    IsFine-checked registers false kind line fine = tt
+
+    module _ (slot_fits : (tables : Tables) (i rank : ℕ) → Fits tables → slice_get tables.slots i ≡ Some rank → IsRank rank)
+        (limit_told : (r : Region) → All HasStep r.dims → IsTrue (is_within_limit r) ↔ IsWithinLimit r) where
+      -- a slot becomes a region of its rank, with steps and padding
+      IsFine-limited : (registers : Registers) (slot line rank : ℕ) (region : Region) (b : Bool) → is_within_limit region ≡ b
+          → IsFine (Steps registers) → slice_get code.slots slot ≡ Some rank → IsRank rank → region.rank ≡ rank
+          → All HasStep region.dims → IsPadded region.rank region.dims → IsFine (limited registers slot line region b)
+      IsFine-limited registers slot line rank region true is fine there ranked same steps padded = (
+        fine.0,
+        AllZip-set IsSlot code.slots registers.slots slot rank region fine.1 there (record {
+          ranked = same;
+          fits = record {
+            rank = subst IsRank (sym same) ranked;
+            steps = steps;
+            padded = padded;
+            limit = (limit_told region steps).0 is;
+          };
+        }),
+      )
+      IsFine-limited registers slot line rank region false is fine there ranked same steps padded = tt
+
+      -- ---- dimensions that are made
+      slot_steps : (registers : Registers) (slot number : ℕ) (region : Option Region) (d : Dim)
+          → slice_get registers.slots slot ≡ region → AllZip IsSlot code.slots registers.slots
+          → read (option_and_then (λ r. slice_get r.dims number) region) ≡ Gives d → HasStep d
+      slot_steps registers slot number None d there slots is = cc
+      slot_steps registers slot number (Some region) d there slots is =
+          let found = AllZip-back IsSlot code.slots registers.slots slot region slots there in
+          all_at region.dims number d found.2.fits.steps (read_is (slice_get region.dims number) is)
+        where
+          read_is : (o : Option Dim) → read o ≡ Gives d → o ≡ Some d
+          read_is (Some x) e = let same : x ≡ d = cc in ap Some same
+          read_is None e = cc
+
+          all_at : (dims : List Dim) (i : ℕ) (x : Dim) → All HasStep dims → slice_get dims i ≡ Some x → HasStep x
+          all_at [] i x all e = cc
+          all_at (first ∷ dims) zero x all e =
+              let same : first ≡ x = cc in
+              subst HasStep same (All-head HasStep first dims all)
+          all_at (first ∷ dims) (suc i) x all e = all_at dims i x (All-tail HasStep first dims all) e
+
+      span_steps : (lo hi : Computed ℤ) (d : Dim)
+          → and_then (λ low. mapped (λ high. dim.Range low high (pos 1) low) hi) lo ≡ Gives d → HasStep d
+      span_steps (Gives low) (Gives high) d is =
+          let same : dim.Range low high (pos 1) low ≡ d = cc in
+          subst HasStep same (omega (arith, ints))
+      span_steps (Gives low) Divides d is = cc
+      span_steps (Gives low) Lacks d is = cc
+      span_steps Divides hi d is = cc
+      span_steps Lacks hi d is = cc
+
+      part_steps : (registers : Registers) (number : ℕ) (part : DimRow) (d : Dim)
+          → AllZip IsSlot code.slots registers.slots → part_dim code registers number part ≡ Gives d → HasStep d
+      part_steps registers number (part.Span low high) d slots is =
+          span_steps (register_value code registers low) (register_value code registers high) d is
+      part_steps registers number part.Star d slots is =
+          let same : dim.Flood ≡ d = cc in
+          subst HasStep same tt
+      part_steps registers number (part.Copied slot) d slots is =
+          slot_steps registers slot number (slice_get registers.slots slot) d refl slots is
+
+      record Made (many : ℕ) (dims : List Dim) : Type 0 where
+        long : length dims ≡ many
+        steps : All HasStep dims
+
+      parts_made : (registers : Registers) (number : ℕ) (parts : List DimRow) (dims : List Dim)
+          → AllZip IsSlot code.slots registers.slots → part_dims code registers number parts ≡ Gives dims
+          → Made (length parts) dims
+      parts_made registers number [] dims slots is =
+          let same : [] ≡ dims = cc in
+          subst (Made 0) same (record { long = refl; steps = All-nil HasStep })
+      parts_made registers number (part ∷ parts) dims slots is =
+          by (part_dim code registers number part) (part_dims code registers (suc number) parts) refl
+          (λ ds more. parts_made registers (suc number) parts ds slots more) is
+        where
+          by : (first : Computed Dim) (rest : Computed (List Dim)) → part_dim code registers number part ≡ first
+              → ((ds : List Dim) → rest ≡ Gives ds → Made (length parts) ds)
+              → and_then (λ d. mapped (λ ds. d ∷ ds) rest) first ≡ Gives dims → Made (length (part ∷ parts)) dims
+          by (Gives d) (Gives ds) one more all =
+              let same : d ∷ ds ≡ dims = cc in
+              let made = more ds refl in
+              subst (Made (length (part ∷ parts))) same (record {
+                long = omega (arith, made.long);
+                steps = All-cons HasStep d ds (part_steps registers number part d slots one) made.steps;
+              })
+          by (Gives d) Divides one more all = cc
+          by (Gives d) Lacks one more all = cc
+          by Divides rest one more all = cc
+          by Lacks rest one more all = cc
+
+      -- ---- regions that are formed
+      IsFine-formed : (registers : Registers) (slot line rank : ℕ) (form : RegionForm) (shift : List ℤ) (region : Region)
+          → IsFine (Steps registers) → slice_get code.slots slot ≡ Some rank → IsSlot rank region
+          → IsFine (with_slot registers slot line (formed_by form shift region))
+      IsFine-formed registers slot line rank Of shift region fine there is =
+          IsFine-limited registers slot line rank _ _ refl fine there (subst IsRank is.ranked is.fits.rank) is.ranked
+          (steps-each _ HasStep-outside (components region.rank shift) region.dims is.fits.steps)
+          (padded-each _ refl region.rank (3 - region.rank) shift region.dims is.fits.padded)
+      IsFine-formed registers slot line rank Inside shift region fine there is =
+          IsFine-limited registers slot line rank _ _ refl fine there (subst IsRank is.ranked is.fits.rank) is.ranked
+          (steps-each _ HasStep-inside (components region.rank shift) region.dims is.fits.steps)
+          (padded-each _ refl region.rank (3 - region.rank) shift region.dims is.fits.padded)
+      IsFine-formed registers slot line rank At shift region fine there is =
+          IsFine-limited registers slot line rank _ _ refl fine there (subst IsRank is.ranked is.fits.rank) is.ranked
+          (steps-each _ HasStep-moved (components region.rank shift) region.dims is.fits.steps)
+          (padded-each _ refl region.rank (3 - region.rank) shift region.dims is.fits.padded)
+      IsFine-formed registers slot line rank By shift region fine there is =
+          IsFine-limited registers slot line rank _ _ refl fine there (subst IsRank is.ranked is.fits.rank) is.ranked
+          (steps-each _ HasStep-strided (components region.rank shift) region.dims is.fits.steps)
+          (padded-each _ refl region.rank (3 - region.rank) shift region.dims is.fits.padded)
+
+      -- ---- each row
+      -- a row that makes dimensions has three parts, as each has that is made of an array of three
+      abbrev IsWhole : Instr → Type 0
+      IsWhole (instr.Dims slot parts line) = length parts ≡ 3
+      IsWhole row = Unit {0}
+
+      IsFine-dims : (registers : Registers) (slot line rank : ℕ) (parts : List DimRow) (dims : List Dim)
+          → IsFine (Steps registers) → slice_get code.slots slot ≡ Some rank → length parts ≡ 3 → IsRank rank
+          → part_dims code registers 0 (take rank parts) ≡ Gives dims
+          → IsFine (with_slot registers slot line (region_of rank dims))
+      IsFine-dims registers slot line rank parts dims fine there three ranked is =
+          let made = parts_made registers 0 (take rank parts) dims fine.1 is in
+          let long : length dims ≡ rank = omega (arith, made.long, length-take rank parts, three, ranked.1) in
+          IsFine-limited registers slot line rank (region_of rank dims) _ refl fine there ranked refl
+          (All-append HasStep dims (replicate (3 - rank) padding) made.steps
+          (All-replicate HasStep (3 - rank) padding (omega (arith, ints))))
+          (padded-behind rank (3 - rank) dims long)
+
+      IsFine-control : (registers : Registers) (row : Instr) → FitsInstr code row → IsWhole row → IsFine (Steps registers)
+          → IsFine (control code registers row)
+      IsFine-control registers (instr.Set scalar expr line) fits whole fine =
+          IsFine-computed (register_value code registers expr) line _
+          (λ value is. (length-set registers.scalars scalar value ∙ fine.0, fine.1))
+      IsFine-control registers (instr.Fix slot region) fits whole fine = (
+        fine.0,
+        AllZip-set IsSlot code.slots registers.slots slot fits.rank region fine.1 fits.fit.0
+            (record { ranked = fits.fit.2; fits = fits.fit.1 }),
+      )
+      IsFine-control registers (instr.Dims slot parts line) fits whole fine =
+          IsFine-row (slice_get code.slots slot) _ (λ rank there.
+          IsFine-computed (part_dims code registers 0 (take rank parts)) line _ (λ dims is.
+          IsFine-dims registers slot line rank parts dims fine there whole (slot_fits code slot rank fits_tables there) is))
+      IsFine-control registers (instr.Formed form slot from shift line) fits whole fine =
+          IsFine-row (slice_get registers.slots from) _ (λ region there.
+          let found = AllZip-back IsSlot code.slots registers.slots from region fine.1 there in
+          let same : found.0 ≡ fits.rank =
+          let one = found.1 in let two = fits.fit.1 in cc in
+          IsFine-formed registers slot line fits.rank form shift region fine fits.fit.0
+          (subst (λ rank. IsSlot rank region) same found.2))
+      IsFine-control registers (instr.Need slot array shift line) fits whole fine =
+          IsFine-row (slice_get registers.slots slot) _ (λ region there.
+          IsFine-row (slice_get code.arrays array) _ (λ row here. IsFine-checked registers _ _ line fine))
+      IsFine-control registers (instr.Same target source kind line) fits whole fine =
+          IsFine-row (slice_get registers.slots target) _ (λ region there.
+          IsFine-row (slice_get registers.slots source) _ (λ other here. IsFine-checked registers _ _ line fine))
+      IsFine-control registers (instr.Fits slot shift line) fits whole fine =
+          IsFine-row (slice_get registers.slots slot) _ (λ region there. IsFine-checked registers _ _ line fine)
+      IsFine-control registers (instr.Jump goal) fits whole fine = fits.fit
+      IsFine-control registers (instr.Unless expr goal line) fits whole fine =
+          IsFine-computed (register_value code registers expr) line _ (λ value is.
+          branched_fine (is_true value) goal fits.fit.1)
+        where
+          branched_fine : (b : Bool) (goal : ℕ) → goal ≤ length code.code → IsFine (branched registers b goal)
+          branched_fine true goal within = fine
+          branched_fine false goal within = within
+      IsFine-control registers (instr.Trap kind line) fits whole fine = tt
+      IsFine-control registers instr.End fits whole fine = tt
+      IsFine-control registers row fits whole fine = tt
+
+    -- ---- rows that print
+    IsKept-prints : (q : ℕ) (local : Local) (bytes : List ℕ) → HasParts code p local → local.at < length code.code
+        → IsKept (prints q local bytes)
+    IsKept-prints zero local bytes parts below = IsLocal-left local (local.at + 1) parts (omega arith)
+    IsKept-prints (suc q) local bytes parts below = IsLocal-left local (local.at + 1) parts (omega arith)
+
+    IsKept-value : (local : Local) (value : Computed ℤ) (text : ℤ → List ℕ) → HasParts code p local
+        → local.at < length code.code → IsKept (prints_value p local value text)
+    IsKept-value local (Gives value) text parts below = IsKept-prints p local (text value) parts below
+    IsKept-value local Divides text parts below = IsLocal-ended local _ parts (omega arith)
+    IsKept-value local Lacks text parts below = tt
+
+    IsKept-text : (local : Local) (text : Option (List ℕ)) → HasParts code p local → local.at < length code.code
+        → IsKept (prints_text p local text)
+    IsKept-text local (Some text) parts below = IsKept-prints p local text parts below
+    IsKept-text local None parts below = tt
+
+    -- ---- rows that keep words until their last turn
+    abbrev IsFedKept : Feeding → Type 0
+    IsFedKept (Takes next) = IsLocal code p next
+    IsFedKept (Refuses kind) = Unit {0}
+
+    -- such a row, and a state in it
+    record Keeping (c : Collective) (local : Local) : Type 0 where
+      parts : HasParts code p local
+      below : local.at < length code.code
+      none : local.ended ≡ None
+      outside : IsOutside local
+      made : local.made < length (c.stages local)
+      kept : KeepsWords code p InLast c local
+      ends : EndsOnce (c.stages local)
+      stands : (next : Local) → next.at ≡ local.at → IsOutside next → (next.made < length (c.stages next))
+          → KeepsWords code p InLast c next → Stands code p next
+
+    -- one more turn, with words that are kept
+    abbrev stepped : Local → List (ℕ × List ℤ) → Local
+    stepped local more = record local { made = local.made + 1; kept = local.kept ++ more }
+
+    IsLocal-stepped : (c : Collective) (local : Local) (more : List (ℕ × List ℤ)) (stage : Stage) → Keeping c local
+        → slice_get (c.stages local) local.made ≡ Some stage → IsNotLast stage
+        → map (λ entry. entry.0) more ≡ senders (stage ∷ [])
+        → All (λ entry. c.awaits local entry.0 (length entry.1) ≡ true) more
+        → c.stages (stepped local more) ≡ c.stages local
+        → ((q many : ℕ) → c.awaits (stepped local more) q many ≡ c.awaits local q many)
+        → IsLocal code p (stepped local more)
+    IsLocal-stepped c local more stage k here not_last from fit same_stages same_awaits =
+        let next = stepped local more in
+        let further : next.made < length (c.stages next) =
+        omega (arith, ap length same_stages, more_stages (c.stages local) local.made stage k.ends here not_last) in
+        let all : map (λ (entry : ℕ × List ℤ). entry.0) next.kept ≡ senders (take next.made (c.stages next)) =
+        map-append (λ (entry : ℕ × List ℤ). entry.0) local.kept more
+        ∙ (ap (λ list. list ++ map (λ (entry : ℕ × List ℤ). entry.0) more) k.kept.0
+        ∙ (ap (λ list. senders (take local.made (c.stages local)) ++ list) from
+        ∙ (sym (senders-more (c.stages local) local.made stage here)
+        ∙ ap (λ stages. senders (take (local.made + 1) stages)) (sym same_stages)))) in
+        let awaited : All (λ entry. c.awaits next entry.0 (length entry.1) ≡ true) next.kept =
+        λ i d inside. same_awaits _ _
+        ∙ All-append (λ entry. c.awaits local entry.0 (length entry.1) ≡ true) local.kept more k.kept.1 fit i d inside in
+        record {
+          parts = record {
+            scalars = k.parts.scalars;
+            cells = k.parts.cells;
+            slots = k.parts.slots;
+            stores = k.parts.stores;
+            flag = k.parts.flag;
+          };
+          at = omega (arith, k.below);
+          running = λ none. k.stands next refl (record { index = k.outside.index; member = k.outside.member }) further
+              (all, awaited);
+          over = λ some. absurd (not_both local.ended k.none some);
+        }
+      where
+        not_both : (ended : Option End) → ended ≡ None → IsSome ended → ⊥
+        not_both None e h = cc
+        not_both (Some ending) e h = cc
+
+    -- a row that sends words and keeps words, and neither reads nor changes more of the state while it does
+    record IsCalm (c : Collective) (local : Local) : Type 0 where
+      alone : c.alone local ≡ None
+      taken : (from : ℕ) (words : List ℤ) → c.taken local from words ≡ Some (keeping local from words)
+      same_stages : (more : List (ℕ × List ℤ)) → c.stages (stepped local more) ≡ c.stages local
+      same_awaits : (more : List (ℕ × List ℤ)) (q many : ℕ) → c.awaits (stepped local more) q many ≡ c.awaits local q many
+
+    IsLocal-sent : (c : Collective) (local : Local) (to : ℕ) → Keeping c local → IsCalm c local
+        → slice_get (c.stages local) local.made ≡ Some (Sends to) → IsLocal code p (record local { made = local.made + 1 })
+    IsLocal-sent c local to k calm here =
+        subst (λ kept. IsLocal code p (record local { made = local.made + 1; kept = kept })) (append-nil local.kept)
+        (IsLocal-stepped c local [] (Sends to) k here tt refl
+        (All-nil (λ entry. c.awaits local entry.0 (length entry.1) ≡ true))
+        (calm.same_stages []) (calm.same_awaits []))
+
+    IsKept-sends : (c : Collective) (local : Local) (to : ℕ) (words : Option (List ℤ)) → Keeping c local → IsCalm c local
+        → slice_get (c.stages local) local.made ≡ Some (Sends to) → IsKept (sends c local to words)
+    IsKept-sends c local to (Some words) k calm here = IsLocal-sent c local to k calm here
+    IsKept-sends c local to None k calm here = tt
+
+    IsKept-in : (c : Collective) (local : Local) (stage : Option Stage) → Keeping c local → IsCalm c local
+        → IsKept (c.last local) → slice_get (c.stages local) local.made ≡ stage → IsKept (act_in c local stage)
+    IsKept-in c local (Some Alone) k calm last here = subst (λ next. IsKept (steps_on next)) (sym calm.alone) tt
+    IsKept-in c local (Some (Sends to)) k calm last here = IsKept-sends c local to (c.words_to local to) k calm here
+    IsKept-in c local (Some (TakesFrom from)) k calm last here = tt
+    IsKept-in c local (Some Last) k calm last here = last
+    IsKept-in c local None k calm last here = tt
+
+    IsFedKept-by : (c : Collective) (local : Local) (from : ℕ) (message : Message) → Keeping c local → IsCalm c local
+        → slice_get (c.stages local) local.made ≡ Some (TakesFrom from) → IsFedKept (fed_by c local from message)
+    IsFedKept-by c local from message k calm here =
+        by (message.tag == c.tag local) (c.awaits local from (length message.words)) refl
+      where
+        by : (tagged long : Bool) → c.awaits local from (length message.words) ≡ long
+            → IsFedKept (cond tagged (cond long (takes (c.taken local from message.words)) (Refuses WrongLength)) (Refuses WrongTag))
+        by true true fit =
+            subst (λ next. IsFedKept (takes next)) (sym (calm.taken from message.words))
+            (IsLocal-stepped c local ((from, message.words) ∷ []) (TakesFrom from) k here tt refl
+            (All-cons (λ entry. c.awaits local entry.0 (length entry.1) ≡ true) (from, message.words) [] fit
+            (All-nil (λ entry. c.awaits local entry.0 (length entry.1) ≡ true)))
+            (calm.same_stages ((from, message.words) ∷ [])) (calm.same_awaits ((from, message.words) ∷ [])))
+        by true false fit = tt
+        by false long fit = tt
+
+    IsFedKept-in : (c : Collective) (local : Local) (message : Message) (stage : Option Stage) → Keeping c local
+        → IsCalm c local → slice_get (c.stages local) local.made ≡ stage → IsFedKept (fed_in c local message stage)
+    IsFedKept-in c local message (Some Alone) k calm here = tt
+    IsFedKept-in c local message (Some (Sends to)) k calm here = tt
+    IsFedKept-in c local message (Some (TakesFrom from)) k calm here = IsFedKept-by c local from message k calm here
+    IsFedKept-in c local message (Some Last) k calm here = tt
+    IsFedKept-in c local message None k calm here = tt
+
+    -- ---- one value for all
+    IsCalm-voted : (kin : Kin) (group : ℕ) (local : Local) → IsCalm (voted code kin group) local
+    IsCalm-voted kin group local = record {
+      alone = refl;
+      taken = λ from words. refl;
+      same_stages = λ more. refl;
+      same_awaits = λ more q many. refl;
+    }
+
+    IsCalm-folded : (kin : Kin) (scalar : ℕ) (f : Fold) (local : Local) → IsCalm (folded kin scalar f) local
+    IsCalm-folded kin scalar f local = record {
+      alone = refl;
+      taken = λ from words. refl;
+      same_stages = λ more. refl;
+      same_awaits = λ more q many. refl;
+    }
+
+    IsLocal-set : (local : Local) (scalar : ℕ) (value : ℤ) → HasParts code p local → local.at < length code.code
+        → IsLocal code p (goes_on (record local { scalars = slice_set local.scalars scalar value }))
+    IsLocal-set local scalar value parts below =
+        IsLocal-left (record local { scalars = slice_set local.scalars scalar value }) (local.at + 1) (record {
+          scalars = length-set local.scalars scalar value ∙ parts.scalars;
+          cells = parts.cells;
+          slots = parts.slots;
+          stores = parts.stores;
+          flag = parts.flag;
+        }) (omega arith)
+
+    IsKept-folded : (kin : Kin) (scalar : ℕ) (f : Fold) (local : Local) → HasParts code p local
+        → local.at < length code.code → IsKept ((folded kin scalar f).last local)
+    IsKept-folded kin scalar f local parts below = IsLocal-set local scalar _ parts below
+
+    IsKept-decided : (group : ℕ) (local : Local) (flag : Option ℕ) → HasParts code p local
+        → local.at < length code.code → IsKept (decided code group local flag)
+    IsKept-decided group local None parts below =
+        IsLocal-left (record local { flag = None }) (local.at + 1) (record {
+          scalars = parts.scalars;
+          cells = parts.cells;
+          slots = parts.slots;
+          stores = parts.stores;
+          flag = tt;
+        }) (omega arith)
+    IsKept-decided group local (Some member) parts below =
+        IsLocal-ended (record local { flag = None }) _ (record {
+          scalars = parts.scalars;
+          cells = parts.cells;
+          slots = parts.slots;
+          stores = parts.stores;
+          flag = tt;
+        }) (omega arith)
+
+    -- ---- `gather`
+    IsCalm-gathered : (truth : Bool) (array slot : ℕ) (local : Local) → IsCalm (gathered code p truth array slot) local
+    IsCalm-gathered truth array slot local = record {
+      alone = refl;
+      taken = λ from words. refl;
+      same_stages = λ more. refl;
+      same_awaits = λ more q many. refl;
+    }
+
+    IsKept-gathered : (q : ℕ) (truth : Bool) (array : ℕ) (region : Region) (local : Local) → HasParts code p local
+        → local.at < length code.code → IsKept (gather_last code q truth array region local)
+    IsKept-gathered zero truth array region local parts below = by (values_at local.stores array (tuples_of code 0 region))
+      where
+        by : (own : Option (List ℤ)) → IsKept (prints_gathered code truth region local own)
+        by (Some own) = IsLocal-left local (local.at + 1) parts (omega arith)
+        by None = tt
+    IsKept-gathered (suc q) truth array region local parts below = IsLocal-left local (local.at + 1) parts (omega arith)
+
+    -- ---- each row
+    module _ (slot_fits : (tables : Tables) (i rank : ℕ) → Fits tables → slice_get tables.slots i ≡ Some rank → IsRank rank)
+        (limit_told : (r : Region) → All HasStep r.dims → IsTrue (is_within_limit r) ↔ IsWithinLimit r)
+        (local : Local) (is_local : IsLocal code p local) (none : local.ended ≡ None) where
+      keeping_in : (row : Instr) (c : Collective) → slice_get code.code local.at ≡ Some row → IsOutside local
+          → local.made < length (c.stages local) → KeepsWords code p InLast c local → EndsOnce (c.stages local)
+          → ((next : Local) → IsOutside next → (next.made < length (c.stages next)) → KeepsWords code p InLast c next
+          → IsAt code p next (Some row)) → Keeping c local
+      keeping_in row c here outside made kept ends again = record {
+        parts = is_local.parts;
+        below = slice_get_within code.code local.at row here;
+        none = none;
+        outside = outside;
+        made = made;
+        kept = kept;
+        ends = ends;
+        stands = λ next at out few words.
+            subst (IsAt code p next) (sym (ap (slice_get code.code) at ∙ here)) (again next out few words);
+      }
+
+      standing : (row : Instr) → slice_get code.code local.at ≡ Some row → IsAt code p local (Some row)
+      standing row here = subst (IsAt code p local) here (is_local.running none)
+
+      below_of : (row : Instr) → slice_get code.code local.at ≡ Some row → local.at < length code.code
+      below_of row here = slice_get_within code.code local.at row here
+
+      controlled_row : (row : Instr) → slice_get code.code local.at ≡ Some row → FitsInstr code row → IsWhole slot_fits limit_told row
+          → IsKept (controlled local (control code (registers_of local) row))
+      controlled_row row here fits whole =
+          IsKept-controlled local _ is_local.parts (below_of row here)
+          (IsFine-control slot_fits limit_told (registers_of local) row fits whole (is_local.parts.scalars, is_local.parts.slots))
+
+      kept_row : (row : Instr) → slice_get code.code local.at ≡ Some row → FitsInstr code row → WritesNoArray row
+          → IsKept (act_at code p local (Some row))
+      kept_row (instr.Set scalar expr line) here fits steady = controlled_row _ here fits tt
+      kept_row (instr.Fix slot region) here fits steady = controlled_row _ here fits tt
+      kept_row (instr.Dims slot parts line) here fits steady = controlled_row _ here fits steady
+      kept_row (instr.Formed form slot from shift line) here fits steady = controlled_row _ here fits tt
+      kept_row (instr.Need slot array shift line) here fits steady = controlled_row _ here fits tt
+      kept_row (instr.Same target source kind line) here fits steady = controlled_row _ here fits tt
+      kept_row (instr.Fits slot shift line) here fits steady = controlled_row _ here fits tt
+      kept_row (instr.Room array slot) here fits steady = absurd steady
+      kept_row (instr.Clear array) here fits steady = absurd steady
+      kept_row (instr.Loop slot group) here fits steady = absurd steady
+      kept_row (instr.Start exchange) here fits steady = absurd steady
+      kept_row (instr.Finish exchange) here fits steady = absurd steady
+      kept_row (instr.Edge kind array slot shift) here fits steady = absurd steady
+      kept_row (instr.Flood array target from source) here fits steady = absurd steady
+      kept_row (instr.Part array target f from source) here fits steady = absurd steady
+      kept_row (instr.Scan array slot f along from mask) here fits steady = absurd steady
+      kept_row (instr.Remap array slot from parts) here fits steady = absurd steady
+      kept_row (instr.Vote group) here fits steady =
+          let c = voted code (star code p) group in
+          let at = standing (instr.Vote group) here in
+          IsKept-in c local _ (keeping_in (instr.Vote group) c here at.0 at.1.0 at.1.1 (EndsOnce-agreeing code p (star code p))
+          (λ next out few words. (out, (few, words)))) (IsCalm-voted (star code p) group local)
+          (IsKept-decided group local _ is_local.parts (below_of _ here)) refl
+      kept_row (instr.TreeVote group) here fits steady =
+          let c = voted code (tree code p) group in
+          let at = standing (instr.TreeVote group) here in
+          IsKept-in c local _ (keeping_in (instr.TreeVote group) c here at.0 at.1.0 at.1.1 (EndsOnce-agreeing code p (tree code p))
+          (λ next out few words. (out, (few, words)))) (IsCalm-voted (tree code p) group local)
+          (IsKept-decided group local _ is_local.parts (below_of _ here)) refl
+      kept_row (instr.Fold scalar f) here fits steady =
+          let c = folded (star code p) scalar f in
+          let at = standing (instr.Fold scalar f) here in
+          IsKept-in c local _ (keeping_in (instr.Fold scalar f) c here at.0 at.1.0 at.1.1 (EndsOnce-agreeing code p (star code p))
+          (λ next out few words. (out, (few, words)))) (IsCalm-folded (star code p) scalar f local)
+          (IsKept-folded (star code p) scalar f local is_local.parts (below_of _ here)) refl
+      kept_row (instr.TreeFold scalar f) here fits steady =
+          let c = folded (tree code p) scalar f in
+          let at = standing (instr.TreeFold scalar f) here in
+          IsKept-in c local _ (keeping_in (instr.TreeFold scalar f) c here at.0 at.1.0 at.1.1 (EndsOnce-agreeing code p (tree code p))
+          (λ next out few words. (out, (few, words)))) (IsCalm-folded (tree code p) scalar f local)
+          (IsKept-folded (tree code p) scalar f local is_local.parts (below_of _ here)) refl
+      kept_row (instr.Print text) here fits steady =
+          IsKept-text local (slice_get code.texts text) is_local.parts (below_of _ here)
+      kept_row (instr.Number expr) here fits steady = IsKept-value local _ _ is_local.parts (below_of _ here)
+      kept_row (instr.Truth expr) here fits steady = IsKept-value local _ _ is_local.parts (below_of _ here)
+      kept_row (instr.Gather truth array slot) here fits steady =
+          let c = gathered code p truth array slot in
+          let at = standing (instr.Gather truth array slot) here in
+          IsKept-in c local _ (keeping_in (instr.Gather truth array slot) c here at.0 at.1.0 at.1.1
+          (EndsOnce-gather code p p (region_in local slot)) (λ next out few words. (out, (few, words))))
+          (IsCalm-gathered truth array slot local)
+          (IsKept-gathered p truth array (region_in local slot) local is_local.parts (below_of _ here)) refl
+      kept_row (instr.Jump goal) here fits steady = controlled_row _ here fits tt
+      kept_row (instr.Unless expr goal line) here fits steady = controlled_row _ here fits tt
+      kept_row (instr.Trap kind line) here fits steady = controlled_row _ here fits tt
+      kept_row instr.End here fits steady = controlled_row _ here fits tt
+
+      kept_next : (next : Option Instr) → slice_get code.code local.at ≡ next → WritesNone next
+          → IsKept (act_at code p local next)
+      kept_next None here steady = IsLocal-ended local _ is_local.parts is_local.at
+      kept_next (Some row) here steady = kept_row row here (instr_fits code local.at row fits_tables here) steady
+
+      -- ---- and messages
+      fed_row : (row : Instr) (message : Message) → slice_get code.code local.at ≡ Some row → WritesNoArray row
+          → IsFedKept (fed_at code p local message (Some row))
+      fed_row (instr.Room array slot) message here steady = absurd steady
+      fed_row (instr.Clear array) message here steady = absurd steady
+      fed_row (instr.Loop slot group) message here steady = absurd steady
+      fed_row (instr.Start exchange) message here steady = absurd steady
+      fed_row (instr.Finish exchange) message here steady = absurd steady
+      fed_row (instr.Edge kind array slot shift) message here steady = absurd steady
+      fed_row (instr.Flood array target from source) message here steady = absurd steady
+      fed_row (instr.Part array target f from source) message here steady = absurd steady
+      fed_row (instr.Scan array slot f along from mask) message here steady = absurd steady
+      fed_row (instr.Remap array slot from parts) message here steady = absurd steady
+      fed_row (instr.Vote group) message here steady =
+          let c = voted code (star code p) group in
+          let at = standing (instr.Vote group) here in
+          IsFedKept-in c local message _ (keeping_in (instr.Vote group) c here at.0 at.1.0 at.1.1
+          (EndsOnce-agreeing code p (star code p)) (λ next out few words. (out, (few, words))))
+          (IsCalm-voted (star code p) group local) refl
+      fed_row (instr.TreeVote group) message here steady =
+          let c = voted code (tree code p) group in
+          let at = standing (instr.TreeVote group) here in
+          IsFedKept-in c local message _ (keeping_in (instr.TreeVote group) c here at.0 at.1.0 at.1.1
+          (EndsOnce-agreeing code p (tree code p)) (λ next out few words. (out, (few, words))))
+          (IsCalm-voted (tree code p) group local) refl
+      fed_row (instr.Fold scalar f) message here steady =
+          let c = folded (star code p) scalar f in
+          let at = standing (instr.Fold scalar f) here in
+          IsFedKept-in c local message _ (keeping_in (instr.Fold scalar f) c here at.0 at.1.0 at.1.1
+          (EndsOnce-agreeing code p (star code p)) (λ next out few words. (out, (few, words))))
+          (IsCalm-folded (star code p) scalar f local) refl
+      fed_row (instr.TreeFold scalar f) message here steady =
+          let c = folded (tree code p) scalar f in
+          let at = standing (instr.TreeFold scalar f) here in
+          IsFedKept-in c local message _ (keeping_in (instr.TreeFold scalar f) c here at.0 at.1.0 at.1.1
+          (EndsOnce-agreeing code p (tree code p)) (λ next out few words. (out, (few, words))))
+          (IsCalm-folded (tree code p) scalar f local) refl
+      fed_row (instr.Gather truth array slot) message here steady =
+          let c = gathered code p truth array slot in
+          let at = standing (instr.Gather truth array slot) here in
+          IsFedKept-in c local message _ (keeping_in (instr.Gather truth array slot) c here at.0 at.1.0 at.1.1
+          (EndsOnce-gather code p p (region_in local slot)) (λ next out few words. (out, (few, words))))
+          (IsCalm-gathered truth array slot local) refl
+      fed_row row message here steady = tt
+
+      fed_next : (next : Option Instr) (message : Message) → slice_get code.code local.at ≡ next → WritesNone next
+          → IsFedKept (fed_at code p local message next)
+      fed_next None message here steady = tt
+      fed_next (Some row) message here steady = fed_row row message here steady
+
+    -- ---- moves and messages
+    module _ (slot_fits : (tables : Tables) (i rank : ℕ) → Fits tables → slice_get tables.slots i ≡ Some rank → IsRank rank)
+        (limit_told : (r : Region) → All HasStep r.dims → IsTrue (is_within_limit r) ↔ IsWithinLimit r) where
+      pub IsLocal-act : (local next : Local) (sent : Option (ℕ × Message)) (shown : List ℕ)
+          → WritesNone (slice_get code.code local.at) → IsLocal code p local → act code p local ≡ Goes next sent shown
+          → IsLocal code p next
+      IsLocal-act local next sent shown steady is_local goes = by local.ended refl
+        where
+          ended_is : (ended : Option End) (ending : End) (action : Action) → ended ≡ Some ending
+              → unless_ended ended action ≡ Ended
+          ended_is (Some e) ending action is = refl
+          ended_is None ending action is = cc
+
+          by : (ended : Option End) → local.ended ≡ ended → IsLocal code p next
+          by (Some ending) is =
+              let ended : act code p local ≡ Ended =
+              ended_is local.ended ending (act_at code p local (slice_get code.code local.at)) is in
+              let no : Ended ≡ Goes next sent shown = sym ended ∙ goes in cc
+          by None is =
+              let open_still : act code p local ≡ act_at code p local (slice_get code.code local.at) =
+              ap (λ e. unless_ended e (act_at code p local (slice_get code.code local.at))) is in
+              subst IsKept (sym open_still ∙ goes)
+              (kept_next slot_fits limit_told local is_local is (slice_get code.code local.at) refl steady)
+
+      pub IsLocal-fed : (local next : Local) (from : ℕ) (message : Message)
+          → WritesNone (slice_get code.code local.at) → IsLocal code p local → act code p local ≡ Awaits from
+          → fed code p local message ≡ Takes next → IsLocal code p next
+      IsLocal-fed local next from message steady is_local awaits takes = by local.ended refl
+        where
+          ended_is : (ended : Option End) (ending : End) (action : Action) → ended ≡ Some ending
+              → unless_ended ended action ≡ Ended
+          ended_is (Some e) ending action is = refl
+          ended_is None ending action is = cc
+
+          by : (ended : Option End) → local.ended ≡ ended → IsLocal code p next
+          by (Some ending) is =
+              let ended : act code p local ≡ Ended =
+              ended_is local.ended ending (act_at code p local (slice_get code.code local.at)) is in
+              let no : Ended ≡ Awaits from = sym ended ∙ awaits in cc
+          by None is =
+              subst IsFedKept takes
+              (fed_next slot_fits limit_told local is_local is (slice_get code.code local.at) message refl steady)
+
+      -- ---- the start
+      none_within : (rank : ℕ) → IsRank rank → is_within_limit (no_places rank) ≡ true
+      none_within zero ranked = absurd (omega (arith, ranked.0))
+      none_within (suc zero) ranked = refl
+      none_within (suc (suc zero)) ranked = refl
+      none_within (suc (suc (suc zero))) ranked = refl
+      none_within (suc (suc (suc (suc rank)))) ranked = absurd (omega (arith, ranked.1))
+
+      IsSlot-none : (rank : ℕ) → IsRank rank → IsSlot rank (no_places rank)
+      IsSlot-none rank ranked =
+          let steps = no_steps rank in
+          record {
+            ranked = refl;
+            fits = record {
+              rank = ranked;
+              steps = steps;
+              padded = padded-behind rank (3 - rank) _ (length-replicate rank _);
+              limit = (limit_told (no_places rank) steps).0 (none_within rank ranked);
+            };
+          }
+
+      slots_start : (ranks : List ℕ) → All IsRank ranks → AllZip IsSlot ranks (map no_places ranks)
+      slots_start [] all = tt
+      slots_start (rank ∷ ranks) all =
+          (IsSlot-none rank (All-head IsRank rank ranks all), slots_start ranks (All-tail IsRank rank ranks all))
+
+      IsStore-start : (row : ArrayRow) (is_stored : Bool) → row.stored ≡ is_stored
+          → IsStore code p row (array_of (start_places (laid_out (arrangement_of code)) p row row.stored) (λ t. pos 0))
+      IsStore-start row true is = record {
+        filled = record { filled = length-map _ _; steps = places_steps (laid_out (arrangement_of code)) p row row.stored };
+        places = subst (λ b. ArePlaces code p row b (start_places (laid_out (arrangement_of code)) p row b)) (sym is) refl;
+      }
+      IsStore-start row false is = record {
+        filled = record { filled = length-map _ _; steps = places_steps (laid_out (arrangement_of code)) p row row.stored };
+        places = subst (λ b. ArePlaces code p row b (start_places (laid_out (arrangement_of code)) p row b)) (sym is) (inl refl);
+      }
+
+      stores_start : (rows : List ArrayRow) → AllZip (IsStore code p) rows
+          (map (λ row. array_of (start_places (laid_out (arrangement_of code)) p row row.stored) (λ t. pos 0)) rows)
+      stores_start [] = tt
+      stores_start (row ∷ rows) = (IsStore-start row row.stored refl, stores_start rows)
+
+      pub IsLocal-start : IsLocal code p (start_local code p)
+      IsLocal-start =
+          let parts : HasParts code p (start_local code p) = record {
+            scalars = length-replicate code.scalars (pos 0);
+            cells = length-replicate code.cells (pos 0);
+            slots = slots_start code.slots fits_tables.slots;
+            stores = stores_start code.arrays;
+            flag = tt;
+          } in
+          IsLocal-left (start_local code p) 0 parts (omega arith)
