@@ -1,5 +1,6 @@
 //! Pieces, compared with a plain count over the places of a box.
-ghost use Rattle.std.specs.Prelude.{◌<◌, ◌≤◌, length};
+ghost use Rattle.std.specs.Prelude.{◌≡◌, ◌<◌, ◌≤◌, length};
+ghost use Rattle.zpl_region.specs.Dim.{HasStep};
 ghost use Rattle.zpl_region.specs.Region.{IsRegion};
 ghost use Rattle.grid_layout.specs.Grid.{processors_of};
 ghost use Rattle.grid_layout.specs.Layout.{IsArrayBox};
@@ -225,4 +226,103 @@ fn pieces_of_spaces(rt: HostRuntime) {
     compare_on(&rt, rt.alloc(), 3, &[5], &FEW_SHIFTS);
     compare_on(&rt, rt.alloc(), 3, &[2, 3], &FEW_SHIFTS);
     compare_on(&rt, rt.alloc(), 3, &[2, 2, 2], &FEW_SHIFTS);
+}
+
+/// Whether a dimension has a coordinate from `first` to `last`; a flood dimension has its position in
+/// each block.
+fn meets(dim: Dim, first: i64, last: i64) -> bool {
+    if let Dim::Flood = dim {
+        return true;
+    }
+    for x in -20..=20_i64 {
+        if has(dim, x) && first <= x && x <= last {
+            return true;
+        }
+    }
+    false
+}
+
+/// Compares what `to` needs of `from` of an array with flood columns.
+fn compare_flood_pair(
+    rt: &impl Abort,
+    layout: &Layout,
+    region: &Region,
+    shift: i64,
+    from: u32,
+    to: u32,
+)
+    requires array { 0 < length layout.now.boxes }
+    requires region { IsRegion region.now }
+    requires rank { region.now.rank ≡ 2 }
+    requires owner { from < processors_of layout.now.grid }
+    requires receiver { to < processors_of layout.now.grid }
+{
+    let piece = layout.piece(0, from, to, region, [shift, 3, 0]);
+    let held = layout.held_box(0, to);
+    let own = layout.own_block(2, to);
+    let other = layout.own_block(2, from);
+    let same_columns = own.0[1] == other.0[1] && own.1[1] == other.1[1];
+    let some_columns = meets(region.dims[1], own.0[1], own.1[1]);
+    for row in 0..10_u8 {
+        let y = i64::from(row).wrapping_sub(3);
+        let x = y.wrapping_sub(shift);
+        let row = has(region.dims[0], x) && own.0[0] <= x && x <= own.1[0];
+        let needed = row && some_columns && has(held.dims[0], y);
+        let want = needed && same_columns && other.0[0] <= y && y <= other.1[0];
+        let found = has(piece.dims[0], y) && has(piece.dims[1], 0);
+        assert_eq!(rt; found, want, "row {y} of {from} for {to}");
+    }
+}
+
+/// An array with flood columns, which stands beside a square.
+fn flood_array() -> ArrayBox
+    ensures { IsArrayBox result }
+{
+    ArrayBox {
+        shape: Region {
+            rank: 2,
+            dims: [LINE, Dim::Flood, PADDING],
+        },
+        low: [2, 0, 0],
+        high: [7, 0, 0],
+    }
+}
+
+/// Compares an array with flood columns on a grid, for one region.
+fn compare_flood_on(rt: &impl Abort, alloc: Global, region: &Region, factors: &[u32])
+    requires region { IsRegion region.now }
+    requires rank { region.now.rank ≡ 2 }
+    requires some { 1 ≤ length factors.now }
+    requires few { length factors.now ≤ 3 }
+{
+    let grid = Grid::new(factors).expect(rt, "a grid");
+    let layout = Layout::new(alloc, grid, &[flood_array(), array(2)]).expect(rt, "a layout");
+    let count = layout.grid().count();
+    for shift in FEW_SHIFTS {
+        for to in 0..count {
+            for from in 0..count {
+                compare_flood_pair(rt, &layout, region, shift, from, to);
+            }
+        }
+    }
+}
+
+/// Compares an array with flood columns on all grids.
+fn compare_floods(rt: &impl Abort, alloc: Global, columns: Dim)
+    requires { HasStep columns }
+{
+    let region = Region::new(2, [LINE, columns, PADDING]).expect(rt, "a small region");
+    assert!(rt; region.rank == 2);
+    compare_flood_on(rt, alloc, &region, &[1]);
+    compare_flood_on(rt, alloc, &region, &[5]);
+    compare_flood_on(rt, alloc, &region, &[2, 3]);
+    compare_flood_on(rt, alloc, &region, &[2, 2, 2]);
+    compare_flood_on(rt, alloc, &region, &[8, 8]);
+}
+
+#[test]
+fn pieces_of_flood_dimensions(rt: HostRuntime) {
+    compare_floods(&rt, rt.alloc(), Dim::Flood);
+    compare_floods(&rt, rt.alloc(), LINE);
+    compare_floods(&rt, rt.alloc(), PADDING);
 }
