@@ -7,17 +7,17 @@ mod ExamplesRegions
 mod ExamplesShattered
 mod ExamplesTypes
 mod Trees
-mod ListLemmas
-mod ReachedLemmas
+pub mod ListLemmas
+pub mod ReachedLemmas
 mod ExpansionLemmas
 mod ExamplesExpansion
-mod WalkLemmas
-mod FaultlessLemmas
-mod NameLemmas
+pub mod WalkLemmas
+pub mod FaultlessLemmas
+pub mod NameLemmas
 mod RankLemmas
 mod ShapeLemmas
 mod ExamplesChains
-mod FaultLemmas
+pub mod FaultLemmas
 mod KnownLemmas
-mod DeclaredLemmas
+pub mod DeclaredLemmas
 mod RankedLemmas

@@ -15,11 +15,11 @@ use Rattle.zpl_names.proofs.ListLemmas.{Among, among_from_Contains, Contains-fro
 
 -- ---- found or not
 
-abbrev found : Bool → Kind → Option Kind → Option Kind
+abbrev pub found : Bool → Kind → Option Kind → Option Kind
 found true kind later = Some kind
 found false kind later = later
 
-kind_in-cons : (first : Entry) (rest : List Entry) (text : List ℕ) →
+pub kind_in-cons : (first : Entry) (rest : List Entry) (text : List ℕ) →
     kind_in (first ∷ rest) text ≡ found (bytes_eq first.name.text text) first.kind
     (kind_in rest text)
 kind_in-cons first rest text = by (bytes_eq first.name.text text)

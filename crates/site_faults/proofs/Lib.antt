@@ -1,0 +1,9 @@
+pub mod CallLemmas
+pub mod FindingLemmas
+pub mod FormTold
+pub mod NodeLemmas
+pub mod OrderLemmas
+pub mod RegionTold
+pub mod StatementTold
+pub mod WalkRules
+pub mod WholeLemmas
