@@ -1,0 +1,5 @@
+mod Examples
+pub mod JoinLemmas
+pub mod ReachedLemmas
+pub mod TreeLemmas
+pub mod WalkLemmas

@@ -1,0 +1,5 @@
+//! Tests of `scan_plan` that use its public items alone.
+#![tactic(auto)]
+
+#[cfg(test)]
+mod tests;
