@@ -1,8 +1,10 @@
 //! The blocks of one dimension.
 ghost use Rattle.std.specs.Prelude.{◌≡◌, ◌≤◌, ◌<◌, ◌↔◌, IsTrue};
 ghost use Rattle.zpl_region.specs.Dim.{HasBounds, IsDim, IsUpTo};
-ghost use Rattle.grid_layout.specs.Block.{block_first, block_last, block_of, block_start, is_block_empty};
-ghost use Rattle.grid_layout.specs.Layout.{HasWideBounds, IsAxis, IsFringe, IsHull, axis_over, held_dim};
+ghost use Rattle.grid_layout.specs.Block.{block_first, block_last, block_of, block_start};
+ghost use Rattle.grid_layout.specs.Block.{is_block_empty};
+ghost use Rattle.grid_layout.specs.Layout.{HasWideBounds, IsAxis, IsFringe, IsHull, axis_over};
+ghost use Rattle.grid_layout.specs.Layout.{held_dim};
 ghost use Rattle.grid_layout.specs.Piece.{needed_dim, owned_dim};
 ghost use Rattle.zpl_region.specs.Hull.{IsBoxed};
 

@@ -4,7 +4,9 @@ ghost use Rattle.zpl_region.specs.Dim.{HasAlign, HasBounds, IsDim, IsUpTo};
 ghost use Rattle.zpl_region.specs.Region.{IsRegion, components, moved};
 ghost use Rattle.grid_layout.specs.Grid.{processors_of};
 ghost use Rattle.zpl_region.specs.Hull.{IsBoxed};
-ghost use Rattle.grid_layout.specs.Layout.{HasWideBounds, AreAxes, AreBlocks, IsArrayBox, IsHull, around, axes_at, axes_of, blocks_of, held_of, hull_in, widened, own_first, own_last, owner_of};
+ghost use Rattle.grid_layout.specs.Layout.{HasWideBounds, AreAxes, AreBlocks, IsArrayBox, IsHull};
+ghost use Rattle.grid_layout.specs.Layout.{around, axes_at, axes_of, blocks_of, held_of, hull_in};
+ghost use Rattle.grid_layout.specs.Layout.{widened, own_first, own_last, owner_of};
 ghost use Rattle.grid_layout.specs.Piece.{needed_in, owned_part};
 ghost use Rattle.grid_layout.specs.Words.{box_words};
 
@@ -43,8 +45,8 @@ fn around(hull: Option<(i64, i64)>, dim: Dim) -> Option<(i64, i64)>
     }
 }
 
-/// The bounds around a hull, or none, and a storage, where that has the rank, a tuple and a range in a
-/// dimension, counted from 0.
+/// The bounds around a hull, or none, and a storage, where that has the rank, a tuple and a range
+/// in a dimension, counted from 0.
 fn widened(rank: u8, place: usize, hull: Option<(i64, i64)>, array: &ArrayBox) -> Option<(i64, i64)>
     requires place { place < 3 }
     requires hull { IsHull hull }
@@ -192,8 +194,8 @@ impl Blocks {
         or_emptied(rank, &dims)
     }
 
-    /// The places of a held box that its processor needs for a region: the part of the region in its
-    /// own block, moved by the shift, whose components past the rank count as 0.
+    /// The places of a held box that its processor needs for a region: the part of the region in
+    /// its own block, moved by the shift, whose components past the rank count as 0.
     pub fn needed(&self, held: &Region, to: u32, region: &Region, shift: Vec3) -> Region
         requires blocks { AreBlocks self.now }
         requires held { IsRegion held.now }
@@ -201,7 +203,8 @@ impl Blocks {
         requires region { IsRegion region.now }
         ensures needed { result ≡ needed_in self.now held.now to region.now shift }
         ensures bounds { All HasBounds result.dims }
-        ensures region { held.now.rank ≡ region.now.rank → All HasAlign (moved shift region.now).dims
+        ensures region { held.now.rank ≡ region.now.rank
+            → All HasAlign (moved shift region.now).dims
             → IsRegion result }
     {
         let rank = region.rank;
@@ -222,8 +225,8 @@ impl Blocks {
         }
     }
 
-    /// The part of a region that processor `from` owns, for a receiver. In a flood dimension it is the
-    /// part of the processors with the receiver's block.
+    /// The part of a region that processor `from` owns, for a receiver. In a flood dimension it is
+    /// the part of the processors with the receiver's block.
     pub fn owned(&self, from: u32, to: u32, region: &Region) -> Region
         requires blocks { AreBlocks self.now }
         requires above { 1 ≤ region.now.rank }
@@ -250,8 +253,8 @@ impl Blocks {
         }
     }
 
-    /// How many words the held boxes of an array have on all processors, or 2^128 - 1 where they are
-    /// more.
+    /// How many words the held boxes of an array have on all processors, or 2^128 - 1 where they
+    /// are more.
     pub fn words(&self, array: &ArrayBox) -> u128
         requires blocks { AreBlocks self.now }
         requires array { IsArrayBox array.now }
@@ -264,8 +267,8 @@ impl Blocks {
         words
     }
 
-    /// How many words the held boxes of several arrays have on all processors, or 2^128 - 1 where they
-    /// are more.
+    /// How many words the held boxes of several arrays have on all processors, or 2^128 - 1 where
+    /// they are more.
     pub fn words_of(&self, boxes: &[ArrayBox]) -> u128
         requires blocks { AreBlocks self.now }
         requires boxes { All IsArrayBox boxes.now }

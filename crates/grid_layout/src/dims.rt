@@ -90,8 +90,8 @@ pub(crate) fn or_emptied(rank: u8, dims: &[Dim; 3]) -> Region
     Region { rank, dims }
 }
 
-/// The coordinates of a dimension from `lo` to `hi`: `1..0` where the bounds are the wrong way round. A
-/// flood dimension stays flood.
+/// The coordinates of a dimension from `lo` to `hi`: `1..0` where the bounds are the wrong way
+/// round. A flood dimension stays flood.
 pub fn part(dim: Dim, lo: i64, hi: i64) -> Dim
     ensures { result ≡ part lo hi dim }
 {

@@ -1,7 +1,9 @@
 //! Grids of processors.
-ghost use Rattle.std.specs.Prelude.{◌≡◌, ◌≤◌, ◌<◌, ◌++◌, ◌-◌, ◌∷◌, [], All, OkIff, length, replicate, slice_index_or};
+ghost use Rattle.std.specs.Prelude.{◌≡◌, ◌≤◌, ◌<◌, ◌++◌, ◌-◌, ◌∷◌, [], All, OkIff, length};
+ghost use Rattle.std.specs.Prelude.{replicate, slice_index_or};
 ghost use Rattle.std.specs.List.{AllZip};
-ghost use Rattle.grid_layout.specs.Grid.{IsGrid, blocks_at, cuts, processor_at, processors_of, product};
+ghost use Rattle.grid_layout.specs.Grid.{IsGrid, blocks_at, cuts, processor_at, processors_of};
+ghost use Rattle.grid_layout.specs.Grid.{product};
 
 use std::marker::Model;
 

@@ -1,8 +1,10 @@
 //! Layouts: the blocks of a grid with the arrays that are laid out over it.
-ghost use Rattle.std.specs.Prelude.{◌≡◌, ◌<◌, ◌≤◌, ◌≢◌, All, IfErr, IfOk, IsPermutation, flat_map, length};
+ghost use Rattle.std.specs.Prelude.{◌≡◌, ◌<◌, ◌≤◌, ◌≢◌, All, IfErr, IfOk, IsPermutation, flat_map};
+ghost use Rattle.std.specs.Prelude.{length};
 ghost use Rattle.grid_layout.specs.declared.layouts.LayoutFault.TheVariants.{NoMemory};
 ghost use Rattle.grid_layout.specs.Grid.{processors_of};
-ghost use Rattle.grid_layout.specs.Layout.{AreBlocks, IsArrayBox, box_at, held_box_of, laid_out, own_first, own_last, owner_of};
+ghost use Rattle.grid_layout.specs.Layout.{AreBlocks, IsArrayBox, box_at, held_box_of, laid_out};
+ghost use Rattle.grid_layout.specs.Layout.{own_first, own_last, owner_of};
 ghost use Rattle.grid_layout.specs.Piece.{needed_of, piece_of};
 ghost use Rattle.grid_layout.specs.Words.{processors, words_of};
 ghost use Rattle.zpl_region.specs.Dim.{HasAlign, HasBounds, IsUpTo};
@@ -49,9 +51,11 @@ impl Layout {
     /// The layout of these arrays.
     pub fn new(alloc: Global, grid: Grid, boxes: &[ArrayBox]) -> Result<Layout, LayoutFault>
         requires { All IsArrayBox boxes.now }
-        ensures layout { IfOk result (λ layout. layout ≡ record { grid = grid; boxes = boxes.now }) }
+        ensures layout { IfOk result (λ layout. layout
+            ≡ record { grid = grid; boxes = boxes.now }) }
         ensures fits { IfOk result (λ layout. words_of layout ≤ 16777216) }
-        ensures storage { IfErr result (λ fault. fault ≢ NoMemory → 16777216 < words_of (record { grid = grid; boxes = boxes.now })) }
+        ensures storage { IfErr result (λ fault. fault ≢ NoMemory
+            → 16777216 < words_of (record { grid = grid; boxes = boxes.now })) }
     {
         let blocks = Blocks::new(grid, boxes);
         if blocks.words_of(boxes) > STORAGE_LIMIT {
@@ -127,8 +131,8 @@ impl Layout {
         self.blocks().held(&self.boxes[array as usize], p)
     }
 
-    /// The places of an array that a processor needs for a region: the part of the region in its own
-    /// block, moved by the shift, within its held box.
+    /// The places of an array that a processor needs for a region: the part of the region in its
+    /// own block, moved by the shift, within its held box.
     pub fn needed(&self, array: u32, to: u32, region: &Region, shift: Vec3) -> Region
         requires array { array < length self.now.boxes }
         requires receiver { to < processors_of self.now.grid }

@@ -1,7 +1,7 @@
 //! How arrays are laid out over a grid of processors.
 //!
-//! The dimensions of a rank are cut into blocks. Each tuple has one owner, and each processor holds,
-//! of each array, its own block with a fringe around it.
+//! The dimensions of a rank are cut into blocks. Each tuple has one owner, and each processor
+//! holds, of each array, its own block with a fringe around it.
 #![tactic(auto)]
 
 mod axes;

@@ -91,14 +91,7 @@ fn lies(block: &(Vec3, Vec3), x: Vec3) -> bool {
 }
 
 /// Compares what `to` needs of `from` with a count over places.
-fn compare_pair(
-    rt: &impl Abort,
-    layout: &Layout,
-    region: &Region,
-    shift: Vec3,
-    from: u32,
-    to: u32,
-)
+fn compare_pair(rt: &impl Abort, layout: &Layout, region: &Region, shift: Vec3, from: u32, to: u32)
     requires array { 0 < length layout.now.boxes }
     requires region { IsRegion region.now }
     requires owner { from < processors_of layout.now.grid }
@@ -228,8 +221,8 @@ fn pieces_of_spaces(rt: HostRuntime) {
     compare_on(&rt, rt.alloc(), 3, &[2, 2, 2], &FEW_SHIFTS);
 }
 
-/// Whether a dimension has a coordinate from `first` to `last`; a flood dimension has its position in
-/// each block.
+/// Whether a dimension has a coordinate from `first` to `last`; a flood dimension has its position
+/// in each block.
 fn meets(dim: Dim, first: i64, last: i64) -> bool {
     if let Dim::Flood = dim {
         return true;

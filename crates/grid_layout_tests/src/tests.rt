@@ -90,11 +90,16 @@ fn words_past_64_bits(rt: HostRuntime) {
     let words: u128 = 2_199_023_255_553 * 2_199_023_255_553 * 2_199_023_255_553;
     let single = Grid::new(&[1]).expect(&rt, "a grid of one processor");
     assert_eq!(rt; Blocks::new(single, &[one]).words(&one), words);
-    assert_eq!(rt; Blocks::new(single, &[one]).words_of(&[one, one, one]), 3 * words);
+    assert_eq!(rt;
+        Blocks::new(single, &[one]).words_of(&[one, one, one]),
+        3 * words
+    );
     let many = Grid::new(&[4, 4, 4]).expect(&rt, "a grid of 64 processors");
     assert_eq!(rt; Blocks::new(many, &[one]).words(&one), words);
-    assert!(rt; matches!(
-        Layout::new(rt.alloc(), many, &[one]),
-        Err(LayoutFault::TooMuchStorage)
-    ));
+    assert!(rt;
+        matches!(
+            Layout::new(rt.alloc(), many, &[one]),
+            Err(LayoutFault::TooMuchStorage)
+        )
+    );
 }

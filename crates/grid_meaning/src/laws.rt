@@ -3,11 +3,12 @@ ghost use Rattle.std.specs.Prelude.{◌≡◌, ◌+◌, ◌<◌, ℕ, List, [], 
 ghost use Rattle.zpl_lists.specs.Front.{IsFrontOf};
 ghost use Rattle.node_form.specs.declared.tables.Tables.{Tables as Code};
 ghost use Rattle.grid_links.specs.Run.{after as world_after};
-ghost use Rattle.grid_meaning.specs.Grid.{after, after_from, given_turn, processors, system_over, IsOver};
+ghost use Rattle.grid_meaning.specs.Grid.{after, after_from, given_turn, processors, system_over};
+ghost use Rattle.grid_meaning.specs.Grid.{IsOver};
 ghost use Rattle.grid_meaning.specs.Order.{IsOrder, given};
 
-/// The grid after an order and more turns is what the further turns make of the grid after the order;
-/// and its world is that of the code's processors.
+/// The grid after an order and more turns is what the further turns make of the grid after the
+/// order; and its world is that of the code's processors.
 pub fn orders_go_on()
     ensures turn { (code : Code) (links : Option ℕ) (order : List ℕ) (p : ℕ) →
         after code links (order ++ p ∷ []) ≡ given_turn code links (after code links order) p }
@@ -25,7 +26,8 @@ pub fn printing_grows()
 
 /// A grid that is over stays as it is, but for the count of turns.
 pub fn over_stays()
-    ensures { (code : Code) (links : Option ℕ) (order more : List ℕ) → IsOver (after code links order) →
+    ensures { (code : Code) (links : Option ℕ) (order more : List ℕ)
+        → IsOver (after code links order) →
         after code links (order ++ more)
         ≡ record (after code links order) { turns = (after code links order).turns + length more } }
 {}
@@ -38,8 +40,10 @@ pub fn turns_count()
         length (after code links order).world.locals ≡ processors code }
 {}
 
-/// The first turns of an order that goes on round the processors are so many, and those of processors.
+/// The first turns of an order that goes on round the processors are so many, and those of
+/// processors.
 pub fn given_turns_are_orders()
     ensures many { (order : List ℕ) (count k : ℕ) → length (given order count k) ≡ k }
-    ensures below { (order : List ℕ) (count k : ℕ) → 0 < count → IsOrder count order → IsOrder count (given order count k) }
+    ensures below { (order : List ℕ) (count k : ℕ) → 0 < count → IsOrder count order
+        → IsOrder count (given order count k) }
 {}

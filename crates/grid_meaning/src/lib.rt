@@ -1,7 +1,8 @@
-//! What a grid of processors does: one turn of a processor, the grid after an order of turns, and what it shows.
+//! What a grid of processors does: one turn of a processor, the grid after an order of turns, and
+//! what it shows.
 //!
-//! The definitions stand in `specs/`; what runs is elsewhere. The functions here do nothing: each has a
-//! law of the definitions as its contract, and a call brings the law into a proof.
+//! The definitions stand in `specs/`; what runs is elsewhere. The functions here do nothing: each
+//! has a law of the definitions as its contract, and a call brings the law into a proof.
 #![tactic(auto)]
 
 mod every_order;

@@ -27,7 +27,8 @@ pub fn scalar_code_needs_no_links()
 /// move after another.
 pub fn scalar_code_goes_on()
     ensures moves { (code : Code) (p : ℕ) (local : Local) → Fits code → IsScalarCode code →
-        code.scalars ≤ length local.scalars → local.ended ≡ None → IsQuietMove local (act code p local) }
+        code.scalars ≤ length local.scalars → local.ended ≡ None
+        → IsQuietMove local (act code p local) }
     ensures not_stuck { (code : Code) (links : Option ℕ) (order : List ℕ) → Fits code →
         IsScalarCode code → ¬ IsStuck code links (after code links order) }
     ensures not_idle { (code : Code) (links : Option ℕ) (order : List ℕ) → Fits code →

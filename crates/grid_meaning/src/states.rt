@@ -20,7 +20,8 @@ pub fn states_are_kept()
         IsLocal code p local → act code p local ≡ Goes next sent shown → IsLocal code p next }
     ensures messages { (code : Code) (p : ℕ) (local next : Local) (from : ℕ) (message : OneMessage) →
         Fits code → WritesNone (slice_get code.code local.at) → IsLocal code p local →
-        act code p local ≡ Awaits from → fed code p local message ≡ Takes next → IsLocal code p next }
+        act code p local ≡ Awaits from → fed code p local message ≡ Takes next
+        → IsLocal code p next }
 {
     rows_fit();
     tests_tell_the_facts();

@@ -233,9 +233,10 @@ borders_near kind (a ∷ axes) [] ks v (d ∷ dims) t l m n o w s z = absurd (om
 borders_near kind (a ∷ axes) (i ∷ ns) [] v (d ∷ dims) t l m n o w s z = absurd (omega (arith, n))
 borders_near kind (a ∷ axes) (i ∷ ns) (k ∷ ks) [] (d ∷ dims) t l m n o w s z = absurd (omega (arith, o))
 borders_near kind (a ∷ axes) (i ∷ ns) (k ∷ ks) (u ∷ v) (d ∷ dims) [] l m n o w s z = absurd z
-borders_near kind (a ∷ axes) (i ∷ ns) (k ∷ ks) (u ∷ v) (d ∷ dims) (x ∷ t) l m n o w s z =
-    (border_near kind a i k u d x (All-head IsDimWithinLimit d dims w) (All-head (IsUpTo 31) u v s) z.0,
-    borders_near kind axes ns ks v dims t (omega (arith, l)) (omega (arith, m)) (omega (arith, n)) (omega (arith, o)) (All-tail IsDimWithinLimit d dims w) (All-tail (IsUpTo 31) u v s) z.1)
+borders_near kind (a ∷ axes) (i ∷ ns) (k ∷ ks) (u ∷ v) (d ∷ dims) (x ∷ t) l m n o w s z = (
+  border_near kind a i k u d x (All-head IsDimWithinLimit d dims w) (All-head (IsUpTo 31) u v s) z.0,
+  borders_near kind axes ns ks v dims t (omega (arith, l)) (omega (arith, m)) (omega (arith, n)) (omega (arith, o)) (All-tail IsDimWithinLimit d dims w) (All-tail (IsUpTo 31) u v s) z.1,
+)
 
 -- ---- vectors
 components_length : (rank : ℕ) (v : List ℤ) → length (components rank v) ≡ length v
@@ -371,9 +372,10 @@ floods_near (a ∷ axes) (i ∷ ns) [] (d ∷ target) source t l m n o is also e
 floods_near (a ∷ axes) (i ∷ ns) (k ∷ ks) (d ∷ target) [] t l m n o is also e z = absurd (omega (arith, o))
 floods_near (a ∷ axes) (i ∷ ns) (k ∷ ks) (d ∷ target) (s ∷ source) [] l m n o is also e z = absurd z
 floods_near (a ∷ axes) (i ∷ ns) (k ∷ ks) (d ∷ target) (s ∷ source) (x ∷ t) l m n o is also e z =
-    let both = and_parts (is_single s || is_same_set s d) (dims_spread target source) e in
-    (flood_near a i k d s x (All-head IsDim d target is) (All-head IsDim s source also) both.0 z.0,
-    floods_near axes ns ks target source t (omega (arith, l)) (omega (arith, m)) (omega (arith, n)) (omega (arith, o)) (All-tail IsDim d target is) (All-tail IsDim s source also) both.1 z.1)
+    let both = and_parts (is_single s || is_same_set s d) (dims_spread target source) e in (
+      flood_near a i k d s x (All-head IsDim d target is) (All-head IsDim s source also) both.0 z.0,
+      floods_near axes ns ks target source t (omega (arith, l)) (omega (arith, m)) (omega (arith, n)) (omega (arith, o)) (All-tail IsDim d target is) (All-tail IsDim s source also) both.1 z.1,
+    )
 
 -- ---- the law of floods
 module _ (blocks : Blocks) (target source : Region) (to : ℕ) (are : AreBlocks blocks) (is : IsRegion target) (also : IsRegion source) (ranks : target.rank ≡ source.rank) (wide : length target.dims ≡ 3) (long : length source.dims ≡ 3) (conforms : flood_conforms target source ≡ true) (inside : to < processors_of blocks.grid) where

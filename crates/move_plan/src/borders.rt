@@ -11,8 +11,8 @@ use zpl_arrays::border_coordinate;
 use zpl_nums::Border;
 use zpl_region::{Dim, Region, Vec3};
 
-/// The tuple from which a border statement takes the value at the tuple `x` of `d of R`. Components of
-/// `d` past the rank count as 0.
+/// The tuple from which a border statement takes the value at the tuple `x` of `d of R`. Components
+/// of `d` past the rank count as 0.
 pub fn border_source(kind: Border, region: &Region, d: Vec3, x: Vec3) -> Vec3
     requires region { IsRegion region.now }
     requires near { All (IsUpTo 41) x }
@@ -72,11 +72,7 @@ fn targets(region: &Region, d: &Vec3) -> Region
     let [planes, rows, columns] = region.dims;
     Region {
         rank: region.rank,
-        dims: [
-            outside(planes, u),
-            outside(rows, v),
-            outside(columns, w),
-        ],
+        dims: [outside(planes, u), outside(rows, v), outside(columns, w)],
     }
 }
 
@@ -117,9 +113,16 @@ fn piece_of(kind: Border, dim: Dim, d: i64, block: (i64, i64), own: Dim, still: 
     part(own, lo, hi)
 }
 
-/// The part of `d of R` in the own block of `to` whose sources `from` owns. In a flood dimension these
-/// are the sources of the processors with the block of `to`.
-pub fn border_piece(layout: &Layout, kind: Border, region: &Region, d: Vec3, from: u32, to: u32) -> Region
+/// The part of `d of R` in the own block of `to` whose sources `from` owns. In a flood dimension
+/// these are the sources of the processors with the block of `to`.
+pub fn border_piece(
+    layout: &Layout,
+    kind: Border,
+    region: &Region,
+    d: Vec3,
+    from: u32,
+    to: u32,
+) -> Region
     requires region { IsRegion region.now }
     requires shift { All (IsUpTo 31) d }
     requires owner { from < processors_of layout.now.grid }
@@ -137,9 +140,30 @@ pub fn border_piece(layout: &Layout, kind: Border, region: &Region, d: Vec3, fro
     Region {
         rank,
         dims: [
-            piece_of(kind, planes, u, (first[0], last[0]), own.dims[0], still.dims[0]),
-            piece_of(kind, rows, v, (first[1], last[1]), own.dims[1], still.dims[1]),
-            piece_of(kind, columns, w, (first[2], last[2]), own.dims[2], still.dims[2]),
+            piece_of(
+                kind,
+                planes,
+                u,
+                (first[0], last[0]),
+                own.dims[0],
+                still.dims[0],
+            ),
+            piece_of(
+                kind,
+                rows,
+                v,
+                (first[1], last[1]),
+                own.dims[1],
+                still.dims[1],
+            ),
+            piece_of(
+                kind,
+                columns,
+                w,
+                (first[2], last[2]),
+                own.dims[2],
+                still.dims[2],
+            ),
         ],
     }
 }

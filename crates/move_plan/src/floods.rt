@@ -45,8 +45,8 @@ pub fn flood_source(source: &Region, x: Vec3) -> Vec3
     ]
 }
 
-/// Of the coordinates `own`, those whose source lies from `first` to `last`: all or none where it is a
-/// single one, and else `still`.
+/// Of the coordinates `own`, those whose source lies from `first` to `last`: all or none where it
+/// is a single one, and else `still`.
 fn piece_of(single: Option<i64>, first: i64, last: i64, own: Dim, still: Dim) -> Dim
     ensures { result ≡ dim_flood_piece single first last own still }
 {
@@ -82,9 +82,21 @@ pub fn flood_piece(layout: &Layout, target: &Region, source: &Region, from: u32,
     Region {
         rank,
         dims: [
-            piece_of(single(planes), first[0], last[0], own.dims[0], still.dims[0]),
+            piece_of(
+                single(planes),
+                first[0],
+                last[0],
+                own.dims[0],
+                still.dims[0],
+            ),
             piece_of(single(rows), first[1], last[1], own.dims[1], still.dims[1]),
-            piece_of(single(columns), first[2], last[2], own.dims[2], still.dims[2]),
+            piece_of(
+                single(columns),
+                first[2],
+                last[2],
+                own.dims[2],
+                still.dims[2],
+            ),
         ],
     }
 }

@@ -1,7 +1,8 @@
 //! The laws of pieces that plans and the programs of processors stand on.
 //!
 //! Each law is the contract of a function that does nothing: a call brings the law into a proof.
-ghost use Rattle.std.specs.Prelude.{◌≡◌, ◌==◌, ◌<◌, ◌≤◌, ℕ, ℤ, List, All, IsTrue, IsPermutation, filter, flat_map, length};
+ghost use Rattle.std.specs.Prelude.{◌≡◌, ◌==◌, ◌<◌, ◌≤◌, ℕ, ℤ, List, All, IsTrue, IsPermutation};
+ghost use Rattle.std.specs.Prelude.{filter, flat_map, length};
 ghost use Rattle.zpl_nums.specs.declared.ends.Border.{Border};
 ghost use Rattle.zpl_region.specs.declared.regions.Region.{Region as Tuples};
 ghost use Rattle.zpl_region.specs.Dim.{IsDimWithinLimit, IsUpTo};
@@ -20,14 +21,18 @@ ghost use Rattle.move_plan.specs.FloodPiece.{flood_piece_in, flood_targets};
 /// A border's piece has the receiver's targets whose source the owner has, in their order; and the
 /// pieces of all owners have each target once.
 pub fn border_pieces_go_by_sources()
-    ensures piece { (blocks : Cut) (kind : Border) (r : Tuples) (d : List ℤ) (from to : ℕ) → AreBlocks blocks
-        → IsRegion r → All IsDimWithinLimit r.dims → length r.dims ≡ 3 → All (IsUpTo 31) d → length d ≡ 3
+    ensures piece { (blocks : Cut) (kind : Border) (r : Tuples) (d : List ℤ) (from to : ℕ)
+        → AreBlocks blocks
+        → IsRegion r → All IsDimWithinLimit r.dims → length r.dims ≡ 3 → All (IsUpTo 31) d
+        → length d ≡ 3
         → to < processors_of blocks.grid → from < processors_of blocks.grid
         → members (border_piece_in blocks kind r d from to)
         ≡ filter (λ t. owner_for blocks to r (border_source kind r d t) == from)
         (members (border_targets blocks r d to)) }
-    ensures partition { (blocks : Cut) (kind : Border) (r : Tuples) (d : List ℤ) (to : ℕ) → AreBlocks blocks
-        → IsRegion r → All IsDimWithinLimit r.dims → length r.dims ≡ 3 → All (IsUpTo 31) d → length d ≡ 3
+    ensures partition { (blocks : Cut) (kind : Border) (r : Tuples) (d : List ℤ) (to : ℕ)
+        → AreBlocks blocks
+        → IsRegion r → All IsDimWithinLimit r.dims → length r.dims ≡ 3 → All (IsUpTo 31) d
+        → length d ≡ 3
         → to < processors_of blocks.grid
         → IsPermutation (members (border_targets blocks r d to))
         (flat_map (λ from. members (border_piece_in blocks kind r d from to)) (processors blocks.grid)) }

@@ -1,7 +1,7 @@
 //! Which indices of a border or a flood a processor sets from values that another one owns.
 //!
-//! A piece is again a region: for `wrap` a block moved by an extent, for `reflect` a mirrored one. No
-//! call takes memory or walks over indices.
+//! A piece is again a region: for `wrap` a block moved by an extent, for `reflect` a mirrored one.
+//! No call takes memory or walks over indices.
 #![tactic(auto)]
 
 mod borders;

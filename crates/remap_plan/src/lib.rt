@@ -1,7 +1,8 @@
-//! Reads of an array at tuples that are computed: requests to the processors that own the tuples, and
-//! their answers.
+//! Reads of an array at tuples that are computed: requests to the processors that own the tuples,
+//! and their answers.
 //!
-//! Tuples are lists of words, one behind the other, each with as many components as the array's rank.
+//! Tuples are lists of words, one behind the other, each with as many components as the array's
+//! rank.
 #![tactic(auto)]
 
 mod homes;

@@ -1,5 +1,6 @@
 //! What is asked of a processor, and what it answers.
-ghost use Rattle.std.specs.Prelude.{◌≡◌, ◌<◌, ◌≤◌, ◌++◌, All, OnErr, OnOk, Some, length, take, vec_len};
+ghost use Rattle.std.specs.Prelude.{◌≡◌, ◌<◌, ◌≤◌, ◌++◌, All, OnErr, OnOk, Some, length, take};
+ghost use Rattle.std.specs.Prelude.{vec_len};
 ghost use Rattle.zpl_region.specs.Region.{members};
 ghost use Rattle.grid_layout.specs.Grid.{processors_of};
 ghost use Rattle.grid_layout.specs.Layout.{held_box_of};
@@ -24,8 +25,8 @@ fn append(into: &mut Vec<i64>, words: &[i64], before: usize) -> Result<(), Alloc
     Ok(())
 }
 
-/// Appends the wanted tuples whose home is `to`, in their order. Where memory lacks, the list stays as
-/// it was.
+/// Appends the wanted tuples whose home is `to`, in their order. Where memory lacks, the list stays
+/// as it was.
 pub fn asks(
     _alloc: Global,
     layout: &Layout,
@@ -35,7 +36,8 @@ pub fn asks(
     into: &mut Vec<i64>,
 ) -> Result<(), AllocError>
     requires { array < length layout.now.boxes }
-    ensures ok { OnOk result (into.new.items ≡ into.old.items ++ asks_of layout.now array to wanted.now) }
+    ensures ok { OnOk result (into.new.items
+        ≡ into.old.items ++ asks_of layout.now array to wanted.now) }
     ensures err { OnErr result (into.new.items ≡ into.old.items) }
 {
     let before = into.len();
@@ -49,8 +51,8 @@ pub fn asks(
     Ok(())
 }
 
-/// Appends the values at the tuples that `p` is asked for, in their order; `values` are those of its
-/// held box. Where memory lacks, the list stays as it was.
+/// Appends the values at the tuples that `p` is asked for, in their order; `values` are those of
+/// its held box. Where memory lacks, the list stays as it was.
 pub fn answers(
     _alloc: Global,
     layout: &Layout,

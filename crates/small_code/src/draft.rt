@@ -1,5 +1,6 @@
 //! Tables while they grow.
-ghost use Rattle.std.specs.Prelude.{◌≡◌, ◌<◌, ◌∷◌, [], ◌++◌, IfOk, OnOk, Some, length, slice_get, All};
+ghost use Rattle.std.specs.Prelude.{◌≡◌, ◌<◌, ◌∷◌, [], ◌++◌, IfOk, OnOk, Some, length, slice_get};
+ghost use Rattle.std.specs.Prelude.{All};
 ghost use Rattle.std.specs.Prelude.{slice_set};
 ghost use Rattle.node_form.specs.Fits.{Fits, FitsExpr, IsScalarWord};
 ghost use Rattle.grid_meaning.specs.Scalar.{IsScalarCode};

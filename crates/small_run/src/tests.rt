@@ -149,8 +149,8 @@ fn computes() -> [Instr; 3] {
     ]
 }
 
-/// Runs the program for at most so many turns, into a sink whose put of that number fails, and compares
-/// what the sink took and what came of the run.
+/// Runs the program for at most so many turns, into a sink whose put of that number fails, and
+/// compares what the sink took and what came of the run.
 fn expect(
     rt: &impl Abort,
     alloc: Global,

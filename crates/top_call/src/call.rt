@@ -38,10 +38,10 @@ pub fn zplgrid<F: Files, O: Sink, E: Sink>(
     out: &mut O,
     errs: &mut E,
 ) -> Ran
-    // The code is made of the text that the file of the words tells: over links of every capacity it
-    // is right after every order of turns, some order brings it in step to each bound of the meaning,
-    // and it comes to its end in time; and it is tidy. It was given no more turns than the words
-    // allow.
+    // The code is made of the text that the file of the words tells: over links of every capacity
+    // it is right after every order of turns, some order brings it in step to each bound of the
+    // meaning, and it comes to its end in time; and it is tidy. It was given no more turns than the
+    // words allow.
     ensures code { let call =
         call_of (map string_bytes words.now) (F.tells files.old) (F.may_fail files.old) in
         IfSome result.code (λ code.

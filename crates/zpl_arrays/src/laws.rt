@@ -2,7 +2,9 @@
 //! on.
 //!
 //! Each law is the contract of a function that does nothing: a call brings the law into a proof.
-ghost use Rattle.std.specs.Prelude.{◌≡◌, ◌≢◌, ℕ, ◌-◌, ℤ, pos, Bool, false, not, ◌&&◌, List, map, flat_map, length, slice_get, slice_index_or, IsTrue, Some, All, IsPermutation};
+ghost use Rattle.std.specs.Prelude.{◌≡◌, ◌≢◌, ℕ, ◌-◌, ℤ, pos, Bool, false, not, ◌&&◌, List, map};
+ghost use Rattle.std.specs.Prelude.{flat_map, length, slice_get, slice_index_or, IsTrue, Some, All};
+ghost use Rattle.std.specs.Prelude.{IsPermutation};
 ghost use Rattle.std.specs.List.{AllZip};
 ghost use Rattle.zpl_nums.specs.declared.ends.Border.{Border};
 ghost use Rattle.zpl_nums.specs.declared.ends.Border.TheVariants.{Wrap};
@@ -15,7 +17,8 @@ ghost use Rattle.zpl_region.specs.Hull.{IsBoxed};
 ghost use Rattle.zpl_region.specs.Region.{IsMember, IsRegion, members, outside_of, tuple_moved};
 ghost use Rattle.zpl_arrays.specs.Around.{around_source, copy_shift, copy_storage};
 ghost use Rattle.zpl_arrays.specs.AroundCopy.{around_copy, copied_from};
-ghost use Rattle.zpl_arrays.specs.Array.{Array, IsArray, array_of, element, flattened, has_place, place_among, updated};
+ghost use Rattle.zpl_arrays.specs.Array.{Array, IsArray, array_of, element, flattened, has_place};
+ghost use Rattle.zpl_arrays.specs.Array.{place_among, updated};
 ghost use Rattle.zpl_arrays.specs.Border.{border_conforms, border_source, border_sources};
 ghost use Rattle.zpl_arrays.specs.Conformity.{flood_conforms};
 ghost use Rattle.zpl_arrays.specs.Flood.{flood_source};
@@ -23,7 +26,8 @@ ghost use Rattle.zpl_arrays.specs.Fold.{kept_fold};
 ghost use Rattle.zpl_arrays.specs.Line.{line_through, masked_value};
 ghost use Rattle.zpl_arrays.specs.Reference.{IsCovered, is_reference, lies_in};
 ghost use Rattle.zpl_arrays.specs.Row.{running};
-ghost use Rattle.zpl_arrays.specs.Scan.{is_below, is_earlier_line, is_up_along, scanned, scanned_along};
+ghost use Rattle.zpl_arrays.specs.Scan.{is_below, is_earlier_line, is_up_along, scanned};
+ghost use Rattle.zpl_arrays.specs.Scan.{scanned_along};
 
 /// A tuple of a region stands at its place in row-major order, and at no other one.
 pub fn tuples_stand_at_their_places()
@@ -104,8 +108,8 @@ pub fn border_sources_are_sources()
 {}
 
 /// A read that wraps round is its copy, read with the copy's shift. Over the home box the copy is
-/// the array itself, and a `wrap` sets the home box's borders to what it holds there. A region lies in the home box where it lies in the copy's storage, both
-/// unmoved and moved by that shift.
+/// the array itself, and a `wrap` sets the home box's borders to what it holds there. A region lies
+/// in the home box where it lies in the copy's storage, both unmoved and moved by that shift.
 pub fn copies_hold_what_wraps_round()
     ensures read { (home : Tuples) (a : Array) (d t : List ℤ) → IsRegion home
         → All IsBoxed home.dims → length home.dims ≡ 3 → length d ≡ 3 → IsMember home t

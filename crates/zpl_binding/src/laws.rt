@@ -5,11 +5,14 @@ ghost use Rattle.zpl_tree.specs.Syntax.{Program};
 ghost use Rattle.zpl_names.specs.Expansion.{expanded_copies, Instance, instances_of, ShiftedRead};
 ghost use Rattle.zpl_binding.specs.Outcome.{Fails, RegionLimit};
 ghost use Rattle.zpl_binding.specs.Settings.{Setting, setting_of};
-ghost use Rattle.zpl_binding.specs.Declarations.{config_names, direction_names, known_of, names_of, region_names, value_names};
-ghost use Rattle.zpl_binding.specs.Formals.{AreClosed, HasActuals, IsCalled, IsListed, IsReadAround, Standing, StandsFor};
+ghost use Rattle.zpl_binding.specs.Declarations.{config_names, direction_names, known_of, names_of};
+ghost use Rattle.zpl_binding.specs.Declarations.{region_names, value_names};
+ghost use Rattle.zpl_binding.specs.Formals.{AreClosed, HasActuals, IsCalled, IsListed};
+ghost use Rattle.zpl_binding.specs.Formals.{IsReadAround, Standing, StandsFor};
 ghost use Rattle.zpl_binding.specs.Regions.{Known};
 ghost use Rattle.zpl_binding.specs.Copies.{copy_of, HasCopiesWithin, HasCopyPastLimit};
-ghost use Rattle.zpl_binding.specs.Bound.{Binds, Bound, faults_of, faults_of_settings, HasEntries, IsAcceptedWith, IsFormed, IsWithinLimits};
+ghost use Rattle.zpl_binding.specs.Bound.{Binds, Bound, faults_of, faults_of_settings, HasEntries};
+ghost use Rattle.zpl_binding.specs.Bound.{IsAcceptedWith, IsFormed, IsWithinLimits};
 
 /// Settings that a program accepts bind it, and in one way; so do those with which nothing but a
 /// copy of an array may be wrong. Where they bind it, the only faults are those of the settings

@@ -1,17 +1,24 @@
 //! The laws of names, and of what a program reaches by calls.
-ghost use Rattle.std.specs.Prelude.{◌≡◌, ◌<◌, ◌≤◌, ◌↔◌, ℕ, List, [], map, flat_map, sum_by, true, Some, None, All, Contains, IsSome};
+ghost use Rattle.std.specs.Prelude.{◌≡◌, ◌<◌, ◌≤◌, ◌↔◌, ℕ, List, [], map, flat_map, sum_by, true};
+ghost use Rattle.std.specs.Prelude.{Some, None, All, Contains, IsSome};
 ghost use Rattle.zpl_tree.specs.Syntax.{Expr, Inner, Program};
 ghost use Rattle.zpl_names.specs.Shapes.{Shapes};
 ghost use Rattle.zpl_names.specs.Kinds as kind;
 ghost use Rattle.zpl_names.specs.Kinds.{Rank, Signature};
 ghost use Rattle.zpl_names.specs.Scope.{Entry, Scope, kind_in};
-ghost use Rattle.zpl_names.specs.Ranks.{AreKnown, HasRanks, IsRank, inner_rank, operand_rank, own_rank, rank_of};
-ghost use Rattle.zpl_names.specs.Declared.{IsProcedureOf, Routine, entry_of, globals_of, routine_named, routines_of, scope_of};
+ghost use Rattle.zpl_names.specs.Ranks.{AreKnown, HasRanks, IsRank, inner_rank, operand_rank};
+ghost use Rattle.zpl_names.specs.Ranks.{own_rank, rank_of};
+ghost use Rattle.zpl_names.specs.Declared.{IsProcedureOf, Routine, entry_of, globals_of};
+ghost use Rattle.zpl_names.specs.Declared.{routine_named, routines_of, scope_of};
 ghost use Rattle.zpl_names.specs.Faults.{repeated};
-ghost use Rattle.zpl_names.specs.Reached.{IsClosed, IsDeepCall, IsHeight, IsReached, IsRecursion, longest_chain, sites_at};
-ghost use Rattle.zpl_names.specs.Sites.{Reach, Role, Site, expr_sites, handed, region_sites, routine_sites, text_sites, whole_rank, whole_sites};
-ghost use Rattle.zpl_names.specs.Accepted.{FaultKind, HasFault, HasKnownRank, IsClean, IsFaultless, region_faults, site_faults, HasNoFault, HasNoFaultUnder};
-ghost use Rattle.zpl_names.specs.Expansion.{Instance, callees, expanded, expanded_of, instances_from, instances_of, is_shallow};
+ghost use Rattle.zpl_names.specs.Reached.{IsClosed, IsDeepCall, IsHeight, IsReached, IsRecursion};
+ghost use Rattle.zpl_names.specs.Reached.{longest_chain, sites_at};
+ghost use Rattle.zpl_names.specs.Sites.{Reach, Role, Site, expr_sites, handed, region_sites};
+ghost use Rattle.zpl_names.specs.Sites.{routine_sites, text_sites, whole_rank, whole_sites};
+ghost use Rattle.zpl_names.specs.Accepted.{FaultKind, HasFault, HasKnownRank, IsClean, IsFaultless};
+ghost use Rattle.zpl_names.specs.Accepted.{region_faults, site_faults, HasNoFault, HasNoFaultUnder};
+ghost use Rattle.zpl_names.specs.Expansion.{Instance, callees, expanded, expanded_of};
+ghost use Rattle.zpl_names.specs.Expansion.{instances_from, instances_of, is_shallow};
 
 /// A name stands for nothing exactly where no entry has it, and where no name is a second one each
 /// stands for what its entry says.

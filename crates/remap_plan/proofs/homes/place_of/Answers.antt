@@ -35,7 +35,7 @@ overflow_mul-line c =
     let x2 : to_z w64 (of_z w64 (get_or x 2 (pos 0))) ≡ get_or x 2 (pos 0) = omega (arith, ints) in
     let some = some_at dims x 2 zero_dim c.requires.region.dims c.requires.member (omega arith) in
     let parts = parts_of c.place_along.result c.size.result (place_along (get_or dims 1 zero_dim) (get_or x 1 (pos 0))) (coordinate_count (get_or dims 2 zero_dim)) (place_along (get_or dims 2 zero_dim) (get_or x 2 (pos 0))) (place_among dims x) some
-      (places_told dims x zero_dim c.place_along.result c.size.result (place_along (get_or dims 1 zero_dim) (get_or x 1 (pos 0))) (coordinate_count (get_or dims 2 zero_dim)) (place_along (get_or dims 2 zero_dim) (get_or x 2 (pos 0))) (omega arith) (omega arith) (rw x0 at c.place_along.ensures) c.size.ensures.size refl refl refl) in
+    (places_told dims x zero_dim c.place_along.result c.size.result (place_along (get_or dims 1 zero_dim) (get_or x 1 (pos 0))) (coordinate_count (get_or dims 2 zero_dim)) (place_along (get_or dims 2 zero_dim) (get_or x 2 (pos 0))) (omega arith) (omega arith) (rw x0 at c.place_along.ensures) c.size.ensures.size refl refl refl) in
     let product = parts.product in
     let fits = c.requires.fits in
     omega (arith, product, fits)
@@ -49,7 +49,7 @@ overflow_add-line c =
     let x2 : to_z w64 (of_z w64 (get_or x 2 (pos 0))) ≡ get_or x 2 (pos 0) = omega (arith, ints) in
     let some = some_at dims x 2 zero_dim c.requires.region.dims c.requires.member (omega arith) in
     let parts = parts_of c.place_along.result c.size.result c.place_along-2.result (coordinate_count (get_or dims 2 zero_dim)) (place_along (get_or dims 2 zero_dim) (get_or x 2 (pos 0))) (place_among dims x) some
-      (places_told dims x zero_dim c.place_along.result c.size.result c.place_along-2.result (coordinate_count (get_or dims 2 zero_dim)) (place_along (get_or dims 2 zero_dim) (get_or x 2 (pos 0))) (omega arith) (omega arith) (rw x0 at c.place_along.ensures) c.size.ensures.size (rw x1 at c.place_along-2.ensures) refl refl) in
+    (places_told dims x zero_dim c.place_along.result c.size.result c.place_along-2.result (coordinate_count (get_or dims 2 zero_dim)) (place_along (get_or dims 2 zero_dim) (get_or x 2 (pos 0))) (omega arith) (omega arith) (rw x0 at c.place_along.ensures) c.size.ensures.size (rw x1 at c.place_along-2.ensures) refl refl) in
     let line = parts.line in
     let fits = c.requires.fits in
     omega (arith, line, fits)
@@ -62,7 +62,7 @@ overflow_add-result c =
     let x1 : to_z w64 (of_z w64 (get_or x 1 (pos 0))) ≡ get_or x 1 (pos 0) = omega (arith, ints) in
     let x2 : to_z w64 (of_z w64 (get_or x 2 (pos 0))) ≡ get_or x 2 (pos 0) = omega (arith, ints) in
     let whole = places_told dims x zero_dim c.place_along.result c.size.result c.place_along-2.result c.size-2.result c.place_along-3.result (omega arith) (omega arith)
-      (rw x0 at c.place_along.ensures) c.size.ensures.size (rw x1 at c.place_along-2.ensures) c.size-2.ensures.size (rw x2 at c.place_along-3.ensures) in
+    (rw x0 at c.place_along.ensures) c.size.ensures.size (rw x1 at c.place_along-2.ensures) c.size-2.ensures.size (rw x2 at c.place_along-3.ensures) in
     let fits = c.requires.fits in
     omega (arith, whole, fits)
 
