@@ -39,7 +39,8 @@ use Rattle.zpl_meaning.specs.Variables.{with_new_scalar}
 use Rattle.zpl_meaning.specs.Calls.{Called, actuals_in, entered, place_in}
 use Rattle.zpl_meaning.specs.Statement.{Context, line_of, assign_to, assign}
 use Rattle.zpl_meaning.specs.Statement.{with_result}
-use Rattle.zpl_meaning.specs.Statement.{border_thing, borders, under, test_of, arms_at, is_split}
+use Rattle.zpl_meaning.specs.Statement.{border_thing, borders, more_borders, under, test_of}
+use Rattle.zpl_meaning.specs.Statement.{arms_at, is_split}
 use Rattle.zpl_meaning.specs.Statement.{exec, exec_all, exec_form, exec_arms, exec_arm}
 use Rattle.zpl_meaning.specs.Statement.{exec_otherwise}
 use Rattle.zpl_meaning.specs.Program.{run_routine, call_at, setup_of, entry_call}
@@ -473,13 +474,21 @@ ends_border kind (Some edge) (Some (Fixed value)) line store = ends_goes_on stor
 ends_border kind (Some edge) None line store = ends_goes_on store
 ends_border kind None thing line store = ends_goes_on store
 
+ends_more : (place : Place) (kind : BorderKind) (names : List Name) (line : ℕ) (store : Store)
+    → Ends (more_borders place kind names line store)
+ends_more place kind [] line store = ends_goes_on store
+ends_more place kind (name ∷ names) line store =
+    ends_then_do _ (more_borders place kind names line)
+    (ends_border kind place.edge (thing_of place.environment name.text) line store)
+    (ends_more place kind names line)
+
 ends_borders : (place : Place) (kind : BorderKind) (names : List Name) (line : ℕ) (store : Store)
     → Ends (borders place kind names line store)
 ends_borders place kind [] line store = ends_goes_on store
 ends_borders place kind (name ∷ names) line store =
-    ends_then_do _ (borders place kind names line)
+    ends_then_do _ (more_borders place kind names line)
     (ends_border kind place.edge (thing_of place.environment name.text) line store)
-    (ends_borders place kind names line)
+    (ends_more place kind names line)
 
 module _ (n : ℕ) (call : Called → Store → Outcome) (calls : CallsEnd call) where
   abbrev within : Place → Context

@@ -313,8 +313,7 @@ single_traps context n at (Write line items) store h =
     atomic_with_value _ store (line_of context.place at) _ (λ text kind there e.
     done_is_no_trap kind there e)
 single_traps context n at (Border kind names) store h =
-    atomic_counting store (line_of context.place at) _ _
-    (atomic_borders context.place kind names (line_of context.place at) store h)
+    atomic_borders context.place kind names (line_of context.place at) store h
 single_traps context n at (Return value) store h =
     atomic_with_value _ store (line_of context.place at) _ (λ answer.
     atomic_goes_on store _ (line_of context.place at))

@@ -1,6 +1,7 @@
--- The values of terms. Reductions, scans, floods and remap reads are computed one after another,
--- inner before outer and left before right, each over its whole region; what is left of a term is a
--- field, which has a value, or traps, at each tuple by itself.
+-- The values of terms. Operators over regions come first, in the order of the text but for those
+-- that stand in another one's operand, which come before it; each has its values at all tuples of
+-- its region before the next one begins. What is left of a term is a field, which has a value, or
+-- traps, at each tuple by itself.
 use Rattle.std.specs.Prelude.{ℕ, Bool, true, false, ℤ, pos, unsigned_abs, List, [], ◌∷◌, map, Option}
 use Rattle.std.specs.Prelude.{Some, None, slice_index_or, ◌-◌}
 use Rattle.std.specs.List.{list_all}

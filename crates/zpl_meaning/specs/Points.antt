@@ -26,7 +26,7 @@ use Rattle.zpl_meaning.specs.Phases.{fields_in}
 use Rattle.zpl_meaning.specs.Outcome.{Outcome, ends, goes_on, counting, then_do, with_value, Test}
 use Rattle.zpl_meaning.specs.Outcome.{tested, wants_more, while_turns, repeat_turns}
 
--- `A op= e` is `A := A op e`
+-- an assignment with an operator takes the variable as the left operand
 abbrev pub assigned_expr : Name → Option Op → Expr → Expr
 assigned_expr name None value = value
 assigned_expr name (Some op) value = Pair name.at op (Named name.at name) value

@@ -1,5 +1,5 @@
 -- What statements do, with a bound on the turns of each loop that is entered.
-use Rattle.std.specs.Prelude.{ℕ, ◌+◌, ◌-◌, Bool, ◌&&◌, ℤ, pos, int_lt, if◌then◌else◌, List, []}
+use Rattle.std.specs.Prelude.{ℕ, ◌+◌, Bool, ◌&&◌, ℤ, pos, int_lt, if◌then◌else◌, List, []}
 use Rattle.std.specs.Prelude.{◌∷◌, length, Option, Some, None}
 use Rattle.zpl_nums.specs.declared.operators.Op.{Op}
 use Rattle.zpl_nums.specs.declared.ends.Border.{Border as BorderKind}
@@ -82,7 +82,7 @@ abbrev pub with_result : Option Thing → ℤ → Store → Store
 with_result (Some (Scalar target)) value store = with_scalar store target value
 with_result thing value store = store
 
--- a call as a statement
+-- A call as a statement. What is called so has no result, and asks for no place of one.
 abbrev pub invoke : Context → Name → Exprs → ℕ → Store → Outcome
 invoke context name actuals line store =
     with_value (actuals_in context.place store name actuals) store line (λ handed.
@@ -139,13 +139,21 @@ border_thing kind (Some edge) (Some (ArrayAt target home)) line store =
     border_array kind edge target line store
 border_thing kind edge thing line store = goes_on store
 
--- a statement for each name, in their order
+-- a statement for each name, in their order; behind the first each counts a step as it begins
+abbrev pub more_borders : Place → BorderKind → List Name → ℕ → Store → Outcome
+more_borders place kind [] line store = goes_on store
+more_borders place kind (name ∷ names) line store =
+    counting 1
+    (then_do
+    (border_thing kind place.edge (thing_of place.environment name.text) line store)
+    (more_borders place kind names line))
+
 abbrev pub borders : Place → BorderKind → List Name → ℕ → Store → Outcome
 borders place kind [] line store = goes_on store
 borders place kind (name ∷ names) line store =
     then_do
     (border_thing kind place.edge (thing_of place.environment name.text) line store)
-    (borders place kind names line)
+    (more_borders place kind names line)
 
 -- ---- `for`
 
@@ -254,10 +262,8 @@ abbrev mutual
       with_value (head_value context.place store head) store (line_of context.place at) (λ start.
       for_from n (thing_of context.place.environment head.name.text) start
       (exec_all context n body) store)
-  -- as many statements as arrays
   exec_form context n at (Border kind names) store =
-      counting (length names - 1)
-      (borders context.place kind names (line_of context.place at) store)
+      borders context.place kind names (line_of context.place at) store
   exec_form context n at (Write line items) store =
       with_value (print_text context.place store line items) store (line_of context.place at)
       (prints store)
