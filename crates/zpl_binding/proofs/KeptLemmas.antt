@@ -77,7 +77,7 @@ before-keeps P kept known (pre ∷ rest) region h =
 
 -- ---- spans
 
-span-step : (known : Known) (dim : DimText) → Holds HasStep (dim_of known dim)
+pub span-step : (known : Known) (dim : DimText) → Holds HasStep (dim_of known dim)
 span-step known (Blank at) = one-step
 span-step known (Star at) = tt
 span-step known (One index) =
@@ -158,12 +158,12 @@ known-kept P kept program settings =
 
 -- ---- the padding of a region, and its steps
 
-abbrev KeepsDim : (ℤ → Dim → Dim) → Type 0
+abbrev pub KeepsDim : (ℤ → Dim → Dim) → Type 0
 KeepsDim form =
     (form (pos 0) padding ≡ padding) ×
     ((d : ℤ) (dim : Dim) → HasStep dim → HasStep (form d dim))
 
-steps-keep : (form : ℤ → Dim → Dim) → KeepsDim form → (v : List ℤ) (dims : List Dim) →
+pub steps-keep : (form : ℤ → Dim → Dim) → KeepsDim form → (v : List ℤ) (dims : List Dim) →
     HaveSteps dims → HaveSteps (each form v dims)
 steps-keep form keeps [] dims h = h
 steps-keep form keeps (d ∷ v) [] h = tt
@@ -219,7 +219,7 @@ one-of P true c x y z h k l = h refl
 one-of P false true x y z h k l = k refl
 one-of P false false x y z h k l = l
 
-outside-dim : KeepsDim dim_outside_of
+pub outside-dim : KeepsDim dim_outside_of
 outside-dim = (refl, steps)
   where
     steps : (d : ℤ) (dim : Dim) → HasStep dim → HasStep (dim_outside_of d dim)
@@ -239,7 +239,7 @@ inside-dim = (refl, steps)
         (Range ((hi -ℤ d) +ℤ pos 1) hi step align) (Range lo ((lo -ℤ d) -ℤ pos 1) step align)
         (Range lo hi step align) (λ less. h) (λ less. h) h
 
-moved-dim : KeepsDim dim_moved
+pub moved-dim : KeepsDim dim_moved
 moved-dim = (refl, steps)
   where
     steps : (d : ℤ) (dim : Dim) → HasStep dim → HasStep (dim_moved d dim)
@@ -272,17 +272,17 @@ strided-dim = (refl, steps)
 
 -- ---- what is bound
 
-abbrev Formed : Region → Type 0
+abbrev pub Formed : Region → Type 0
 Formed r = HaveSteps r.dims × IsPadded r.rank r.dims
 
-formed-by : (form : ℤ → Dim → Dim) → KeepsDim form → (d : List ℤ) (r : Region) → Formed r →
+pub formed-by : (form : ℤ → Dim → Dim) → KeepsDim form → (d : List ℤ) (r : Region) → Formed r →
     Formed (formed form d r)
 formed-by form keeps d r h = (
   steps-keep form keeps (components r.rank d) r.dims h.0,
   padding-kept form keeps r.rank (3 - r.rank) d r.dims h.1,
 )
 
-formed-kept : IsKept Formed
+pub formed-kept : IsKept Formed
 formed-kept = record {
   over = λ dims h. (steps-of 3 dims h, padded 3 dims);
   outside = formed-by dim_outside_of outside-dim;

@@ -3,14 +3,14 @@ mod ExamplesSettings
 mod ExamplesValues
 mod ExamplesRegions
 mod ExamplesStorages
-mod OutcomeLemmas
+pub mod OutcomeLemmas
 mod BoundLemmas
 mod FormalLemmas
-mod ListLemmas
-mod DeclarationLemmas
-mod LimitLemmas
+pub mod ListLemmas
+pub mod DeclarationLemmas
+pub mod LimitLemmas
 mod ExamplesCopies
 mod BoxLemmas
 mod ExpandedLemmas
-mod KeptLemmas
+pub mod KeptLemmas
 mod ExamplesAccepted

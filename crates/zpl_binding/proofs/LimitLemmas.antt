@@ -68,10 +68,10 @@ all-given P xs ys h is = All-from_recursion P ys (all-held P ys (subst (EachHold
 
 -- ---- regions
 
-abbrev IsLimited : Region → Type 0
+abbrev pub IsLimited : Region → Type 0
 IsLimited region = IsTrue (is_within_limit region)
 
-limited-holds : (region : Region) → Holds IsLimited (limited region)
+pub limited-holds : (region : Region) → Holds IsLimited (limited region)
 limited-holds region = by (is_within_limit region) refl
   where
     by : (b : Bool) → is_within_limit region ≡ b →
@@ -79,7 +79,7 @@ limited-holds region = by (is_within_limit region) refl
     by true is = is
     by false is = tt
 
-abbrev HasLimited : Known → Type 0
+abbrev pub HasLimited : Known → Type 0
 HasLimited known = EachHolds IsLimited (map (λ one. one.outcome) known.regions)
 
 named-holds : (known : Known) (text : List ℕ) → HasLimited known →
@@ -117,7 +117,7 @@ spanned-holds : (dims : Outcome (List Dim)) →
 spanned-holds (Gives all) = limited-holds (region_over all)
 spanned-holds (Fails fault) = tt
 
-inner-holds : (known : Known) (inner : Inner) → HasLimited known →
+pub inner-holds : (known : Known) (inner : Inner) → HasLimited known →
     Holds IsLimited (inner_of known inner)
 inner-holds known (Rexpr [] (NamedRegion name) NoPost) h =
     by (is_region_name known name)
@@ -168,7 +168,7 @@ components-limited (suc count) (part ∷ parts) h =
     let each = both-true (is_component part) (list_all is_component parts) h in
     true-both (is_component part) _ each.0 (components-limited count parts each.1)
 
-vector-holds : (values : List (Computed ℤ)) (parts : Exprs) →
+pub vector-holds : (values : List (Computed ℤ)) (parts : Exprs) →
     Holds IsVector (vector_of values parts)
 vector-holds values parts = then-holds IsVector (values_of values parts) limited_vector fits
   where
@@ -202,7 +202,7 @@ limited-then : (storage : Outcome Region) → Holds IsLimited (and_then storage 
 limited-then (Gives storage) = limited-holds storage
 limited-then (Fails fault) = tt
 
-storage-holds : (known : Known) (borders : List Border) (region : Inner) →
+pub storage-holds : (known : Known) (borders : List Border) (region : Inner) →
     Holds IsLimited (storage_of known borders region)
 storage-holds known borders region =
     then-holds IsLimited (inner_of known region)

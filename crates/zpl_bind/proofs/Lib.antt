@@ -1,0 +1,12 @@
+pub mod DigitLemmas
+pub mod NumberLemmas
+pub mod TableLemmas
+pub mod VectorLemmas
+pub mod RegionLemmas
+pub mod KnownLemmas
+pub mod TextLemmas
+pub mod StorageLemmas
+pub mod StorageFaults
+pub mod GlobalLemmas
+pub mod BindLemmas
+pub mod FaultlessLemmas

@@ -1,0 +1,9 @@
+pub mod Fault
+pub mod Lists
+pub mod Tables
+pub mod Known
+pub mod Few
+pub mod Forms
+pub mod Texts
+pub mod Storages
+pub mod Once
