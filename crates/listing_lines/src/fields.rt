@@ -1,9 +1,11 @@
 //! The fields of lines.
-ghost use Rattle.std.specs.Prelude.{◌≡◌, ◌≢◌, ◌↔◌, ◌++◌, true, false, IsTrue, ℕ, List, All, OnOk, IfOk, IfSome, IsSomeAnd, MatchOption, None, ℤ};
+ghost use Rattle.std.specs.Prelude.{◌≡◌, ◌≢◌, ◌↔◌, ◌++◌, true, false, IsTrue, ℕ, List, All, OnOk};
+ghost use Rattle.std.specs.Prelude.{IfOk, IfSome, IsSomeAnd, MatchOption, None, ℤ};
 ghost use Rattle.hex.specs.Hex.{IsBytes};
 ghost use Rattle.zpl_nums.specs.Integer.{IsInteger};
 ghost use Rattle.listing_lines.specs.declared.fields.Field.{Field as Written};
-ghost use Rattle.listing_lines.specs.Field.{before, behind, numbers_text, bytes_text, field_text, has_count, IsField};
+ghost use Rattle.listing_lines.specs.Field.{before, behind, numbers_text, bytes_text, field_text};
+ghost use Rattle.listing_lines.specs.Field.{has_count, IsField};
 ghost use Rattle.listing_lines.specs.Reading.{has_byte, number_mark, letter_mark, mark_of};
 
 use crate::names::{Name, name_of};
@@ -129,7 +131,8 @@ fn write_numbers(
     numbers: &[i64],
     into: &mut Vec<u8>,
 ) -> Result<(), AllocError>
-    ensures { OnOk result (into.new.items ≡ into.old.items ++ numbers_text mark Nth.First numbers.now) }
+    ensures { OnOk result (into.new.items
+        ≡ into.old.items ++ numbers_text mark Nth.First numbers.now) }
 {
     let mut nth = Nth::First;
     for number in numbers {

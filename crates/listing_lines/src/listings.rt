@@ -1,5 +1,7 @@
 //! All lines of a listing.
-ghost use Rattle.std.specs.Prelude.{◌≡◌, ◌≢◌, ◌+◌, ◌^◌, ◌<◌, ◌≤◌, ◌++◌, [], ◌∷◌, ℕ, List, All, OnOk, OnErr, IfOk, IfErr, MatchOption, Some, None, if◌then◌else◌, length, reverse, slice_index};
+ghost use Rattle.std.specs.Prelude.{◌≡◌, ◌≢◌, ◌+◌, ◌^◌, ◌<◌, ◌≤◌, ◌++◌, [], ◌∷◌, ℕ, List, All};
+ghost use Rattle.std.specs.Prelude.{OnOk, OnErr, IfOk, IfErr, MatchOption, Some, None};
+ghost use Rattle.std.specs.Prelude.{if◌then◌else◌, length, reverse, slice_index};
 ghost use Rattle.listing_lines.specs.Form.{has_form};
 ghost use Rattle.listing_lines.specs.Line.{IsLine, line_text, lines_text};
 ghost use Rattle.listing_lines.specs.Listing.{AreLines, BeginsWithLine, Explains};
@@ -61,7 +63,8 @@ fn line_len(bytes: &[u8]) -> usize
 
 /// Whether a line may stand here: its form, and its part; if so, what comes behind it.
 fn next_part(part: Part, line: &Line) -> Option<Part>
-    ensures { result ≡ (if has_form line.now then part_behind part (role_of line.now.keyword) else None) }
+    ensures { result
+        ≡ (if has_form line.now then part_behind part (role_of line.now.keyword) else None) }
 {
     if has_form(line) {
         part_behind(part, role_of(line.keyword))
@@ -79,7 +82,8 @@ fn next_line<'a>(
     bytes: &'a [u8],
 ) -> Result<Option<(Line, Part, &'a [u8])>, AllocError>
     ensures { IfOk result (λ found. MatchOption found
-        (BeginsWithLine (record { part = part; openings = reverse openings.old.items }) bytes.now → ⊥)
+        (BeginsWithLine (record { part = part; openings = reverse openings.old.items }) bytes.now
+        → ⊥)
         (λ next. IsLine next.0
         × (place_behind (record { part = part; openings = reverse openings.old.items }) next.0
         ≡ Some (record { part = next.1; openings = reverse openings.new.items }))

@@ -16,7 +16,8 @@ pub(crate) fn is_number_byte(byte: u8) -> bool
 
 /// The number that is written so. Of other texts it may give one too.
 fn number_of(text: &[u8]) -> Option<i64>
-    ensures found { (number : ℤ) → IsInteger number → text.now ≡ signed_decimal number → result ≡ Some number }
+    ensures found { (number : ℤ) → IsInteger number → text.now ≡ signed_decimal number → result
+        ≡ Some number }
     ensures range { IfSome result IsInteger }
 {
     match str::from_utf8(text) {

@@ -1,5 +1,6 @@
 //! Which line may stand behind which.
-ghost use Rattle.std.specs.Prelude.{◌≡◌, Bool, true, false, Some, None, IfOk, MatchBool, OnOk, reverse};
+ghost use Rattle.std.specs.Prelude.{◌≡◌, Bool, true, false, Some, None, IfOk, MatchBool, OnOk};
+ghost use Rattle.std.specs.Prelude.{reverse};
 ghost use Rattle.listing_lines.specs.Place.{is_end, open_behind, part_behind, role_of};
 
 use crate::keywords::Keyword;

@@ -3,7 +3,8 @@ ghost use Rattle.std.specs.Prelude.{◌≡◌, ◌≤◌, Some, length, map};
 ghost use Rattle.zpl_names.specs.Kinds as kind;
 ghost use Rattle.zpl_names.specs.Ranks as ranks;
 ghost use Rattle.zpl_names.specs.Shapes as spec;
-ghost use Rattle.zpl_tree.specs.View.{base_type_of, bracket_of, dim_of, dims_of, dir_of, inner_of, name_of, posts_of, pre_of};
+ghost use Rattle.zpl_tree.specs.View.{base_type_of, bracket_of, dim_of, dims_of, dir_of, inner_of};
+ghost use Rattle.zpl_tree.specs.View.{name_of, posts_of, pre_of};
 ghost use Rattle.name_kinds.specs.Reach.{scope_of};
 ghost use Rattle.name_kinds.specs.Region.{HasFewDims};
 ghost use Rattle.name_kinds.specs.Seen.{current_of, kind_of, shape_of, shapes_of};
@@ -71,7 +72,8 @@ pub fn ditto_rank(
     )
 }
 
-/// The rank of a region, for a hint and the rank of the innermost prefix, each 0 where there is none.
+/// The rank of a region, for a hint and the rank of the innermost prefix, each 0 where there is
+/// none.
 pub fn inner_rank(scope: &Scope<'_>, hint: Rank, prefix: Rank, inner: &Inner<'_>) -> Rank
     ensures { result ≡ ranks.inner_rank (scope_of scope.now) hint prefix (inner_of inner.now) }
 {

@@ -9,8 +9,8 @@ use crate::kinds::Kind;
 use crate::names::Names;
 use zpl_tree::Name;
 
-/// The parameters and local variables of a procedure, which hide global names; the global names; and
-/// whether variables are out of reach.
+/// The parameters and local variables of a procedure, which hide global names; the global names;
+/// and whether variables are out of reach.
 #[derive(Clone, Copy)]
 pub struct Scope<'a> {
     /// The names of the procedure.

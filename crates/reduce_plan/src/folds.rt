@@ -1,5 +1,6 @@
 //! Partial folds over a block.
-ghost use Rattle.std.specs.Prelude.{◌≡◌, ◌↔◌, ◌≤◌, ◌<◌, ◌^◌, ◌++◌, All, IsTrue, OnErr, OnOk, filter, length, map};
+ghost use Rattle.std.specs.Prelude.{◌≡◌, ◌↔◌, ◌≤◌, ◌<◌, ◌^◌, ◌++◌, All, IsTrue, OnErr, OnOk};
+ghost use Rattle.std.specs.Prelude.{filter, length, map};
 ghost use Rattle.zpl_nums.specs.Fold.{folded};
 ghost use Rattle.zpl_region.specs.Dim.{IsCoordinate, IsDim};
 ghost use Rattle.zpl_region.specs.Hull.{all_from};
@@ -115,8 +116,8 @@ fn fold_at(fold: Fold, block: &Region, values: &[i64], tuples: &Region) -> i64
 }
 
 /// Appends the partial folds of a block of the source: for each index of `within` that agrees with
-/// some tuple of the block in each dimension that the target doesn't collapse, in row-major order, the
-/// fold of the values at these tuples. Without memory `into` stays as it was.
+/// some tuple of the block in each dimension that the target doesn't collapse, in row-major order,
+/// the fold of the values at these tuples. Without memory `into` stays as it was.
 pub fn partials(
     alloc: Global,
     fold: Fold,

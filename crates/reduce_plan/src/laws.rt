@@ -1,7 +1,8 @@
 //! The laws of partial folds that plans and rows stand on.
 //!
 //! Each law is the contract of a function that does nothing: a call brings the law into a proof.
-ghost use Rattle.std.specs.Prelude.{◌≡◌, ◌<◌, ℕ, ℤ, List, All, IsPermutation, filter, flat_map, length, map};
+ghost use Rattle.std.specs.Prelude.{◌≡◌, ◌<◌, ℕ, ℤ, List, All, IsPermutation, filter, flat_map};
+ghost use Rattle.std.specs.Prelude.{length, map};
 ghost use Rattle.zpl_nums.specs.declared.folds.Fold.{Fold as Operator};
 ghost use Rattle.zpl_nums.specs.Fold.{folded};
 ghost use Rattle.zpl_region.specs.declared.regions.Region.{Region as Tuples};
@@ -16,8 +17,8 @@ ghost use Rattle.grid_layout.specs.Piece.{owned_part};
 ghost use Rattle.grid_layout.specs.Words.{processors};
 ghost use Rattle.reduce_plan.specs.Partial.{is_reached, partials_of};
 
-/// The partial folds of a block that has the values of a function are the partial reductions of that
-/// function over the block, at the indices that it reaches.
+/// The partial folds of a block that has the values of a function are the partial reductions of
+/// that function over the block, at the indices that it reaches.
 pub fn partial_folds_are_reductions_over_the_block()
     ensures { (op : Operator) (target within block : Tuples) (e : List ℤ → ℤ)
         → All HasStep block.dims

@@ -1,8 +1,8 @@
 //! How partial reductions and joins over all processors are shared out over a grid.
 //!
 //! A partial reduction is computed from partial folds: each processor folds, for each index of the
-//! target that its block of the source reaches, the values there, and the owner of the index joins what it
-//! is sent. Votes and folds of scalars go over a tree of the processors.
+//! target that its block of the source reaches, the values there, and the owner of the index joins
+//! what it is sent. Votes and folds of scalars go over a tree of the processors.
 #![tactic(auto)]
 
 mod folds;

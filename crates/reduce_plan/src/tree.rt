@@ -32,7 +32,8 @@ fn below(count: u32, number: u32, p: u32) -> Option<u32>
 /// The processors from 0 on make a tree: each but 0 is a child of its parent and of no other
 /// processor, the parent has a smaller number, and all are reached from 0.
 pub fn processors_are_a_tree()
-    ensures one_parent { (count p c : ℕ) → Contains (children_of p count) (Some c) ↔ ((c < count) × (parent_of c ≡ Some p)) }
+    ensures one_parent { (count p c : ℕ) → Contains (children_of p count) (Some c)
+        ↔ ((c < count) × (parent_of c ≡ Some p)) }
     ensures upwards { (p q : ℕ) → parent_of p ≡ Some q → q < p }
     ensures root { (p : ℕ) → (parent_of p ≡ None) ↔ (p ≡ 0) }
     ensures whole { (count p : ℕ) → p < count → IsInTree count p }

@@ -122,14 +122,29 @@ fn compare(
     requires ranks { target.now.rank ≡ block.now.rank }
 {
     let values = values_of(alloc, block)?;
-    for fold in [Fold::Sum, Fold::Prod, Fold::Max, Fold::Min, Fold::All, Fold::Any] {
+    for fold in [
+        Fold::Sum,
+        Fold::Prod,
+        Fold::Max,
+        Fold::Min,
+        Fold::All,
+        Fold::Any,
+    ] {
         let mut folds = Vec::new(alloc);
         folds.push(77)?;
         partials(alloc, fold, target, target, block, &values, &mut folds)?;
         let want = counted(alloc, fold, collapsed, target, block)?;
-        assert_eq!(rt; folds.len(), want.len().wrapping_add(1), "{fold:?} {collapsed:?}");
+        assert_eq!(rt;
+            folds.len(),
+            want.len().wrapping_add(1),
+            "{fold:?} {collapsed:?}"
+        );
         for (i, value) in want.iter().enumerate() {
-            assert_eq!(rt; folds.get(i.wrapping_add(1)), Some(value), "{fold:?} {collapsed:?} at {i}");
+            assert_eq!(rt;
+                folds.get(i.wrapping_add(1)),
+                Some(value),
+                "{fold:?} {collapsed:?} at {i}"
+            );
         }
     }
     Ok(())
@@ -164,14 +179,23 @@ fn on_targets(rt: &impl Abort, alloc: Global, block: &Region, step: i64) -> Resu
     Ok(())
 }
 
-#[test]
-fn parts_of_a_space(rt: HostRuntime) -> Result<(), Fail> {
+/// Compares the partial folds of parts of a space, whose rows have a step between them.
+fn parts_with_step(rt: &impl Abort, alloc: Global, step: i64) -> Result<(), AllocError>
+    requires { pos 1 ≤ℤ step }
+{
     for (from, to) in [(1, 7), (1, 3), (4, 7), (5, 4), (2, 6)] {
-        for step in 1..=3_i64 {
-            let block = space(every(1, 3, 1), every(from, to, step), every(2, 4, 1));
-            on_targets(&rt, rt.alloc(), &block.ok_or("a region")?, step)?;
+        if let Some(block) = space(every(1, 3, 1), every(from, to, step), every(2, 4, 1)) {
+            on_targets(rt, alloc, &block, step)?;
         }
     }
+    Ok(())
+}
+
+#[test]
+fn parts_of_a_space(rt: HostRuntime) -> Result<(), Fail> {
+    parts_with_step(&rt, rt.alloc(), 1)?;
+    parts_with_step(&rt, rt.alloc(), 2)?;
+    parts_with_step(&rt, rt.alloc(), 3)?;
     Ok(())
 }
 

@@ -1,5 +1,5 @@
 -- Lemmas on what stands before lines.
-use Rattle.std.proofs.Common.{◌≡◌, ℕ, zero, suc, ◌+◌, ◌-◌, ◌<◌, ◌≤◌, ◌⊎◌, inl, inr, Bool, true, false, cond, not, ◌&&◌, ◌||◌, List, [], ◌∷◌, ◌++◌, map, take, replicate, length, get_or, ℤ, ◌<ℤ◌, refl, sym, ◌∙◌, ap, subst, arith, add-one, zero-add, append_assoc}
+use Rattle.std.proofs.Common.{◌≡◌, ℕ, zero, suc, ◌+◌, ◌<◌, ◌⊎◌, inl, inr, Bool, true, false, cond, not, ◌&&◌, ◌||◌, List, [], ◌∷◌, ◌++◌, map, take, replicate, length, get_or, ℤ, ◌<ℤ◌, refl, sym, ◌∙◌, ap, arith, add-one, zero-add, append_assoc}
 use Rattle.std.specs.List.{filter, zip}
 use Rattle.std.specs.Int.RustNames.{int_lt}
 use Rattle.std.specs.Ordering.{int_eq}
@@ -21,7 +21,7 @@ use Rattle.grid_layout.specs.Words.{numbers_from, processors}
 use Rattle.zpl_region.proofs.ListLemmas.{Among, Rises, cons_same, int_eq-true, int_lt-true}
 use Rattle.zpl_region.proofs.DimLemmas.{Rises-coordinates}
 use Rattle.zpl_region.proofs.TupleLemmas.{AllRise, IsBefore, Rises-tuples}
-use Rattle.zpl_arrays.proofs.FoldLemmas.{InTwo, fold_in_two}
+use Rattle.zpl_arrays.proofs.FoldLemmas.{fold_in_two}
 use Rattle.scan_plan.specs.Line.{heads}
 use Rattle.scan_plan.specs.Scan.{LineTotal, before, fold_of_totals, folds_between, gone_through, lines_of, parts_of, precedes, sums}
 

@@ -1,7 +1,7 @@
 -- Lemmas on going through the lines of all parts.
 use Rattle.std.proofs.Common.{◌≡◌, ◌≢◌, Result, Ok, Err, ℕ, zero, suc, ◌+◌, ◌-◌, ◌*◌, ◌<◌, ◌≤◌, ◌⊎◌, inl, inr, Bool, true, false, cond, not, ◌&&◌, Option, Some, None, List, [], ◌∷◌, ◌++◌, All, map, set, take, length, get_or, slice_get, ℤ, pos, ◌+ℤ◌, unsigned_abs, refl, sym, ◌∙◌, ap, subst, arith, add-one, append_assoc}
 use Rattle.std.specs.Prelude.{if◌then◌else◌, option_map, OnOk, is_ok}
-use Rattle.std.specs.List.{AllZip, filter, find, fold, zip}
+use Rattle.std.specs.List.{AllZip, filter, find, zip}
 use Rattle.std.specs.Ordering.{int_eq}
 use Rattle.std.proofs.lemmas.Bool.{and_from, and_parts, false≢true}
 use Rattle.std.proofs.lemmas.Bool.Decides.{Decides-int_eq}
@@ -22,7 +22,7 @@ use Rattle.zpl_region.proofs.DimLemmas.{Among-coordinates}
 use Rattle.zpl_region.proofs.EndLemmas.{among_at, between_ends}
 use Rattle.zpl_region.proofs.HullLemmas.{has_steps}
 use Rattle.zpl_region.proofs.LawLemmas.{members_iff, next_member}
-use Rattle.zpl_region.proofs.ListLemmas.{Contains-from_among, cons_same, int_eq-true}
+use Rattle.zpl_region.proofs.ListLemmas.{Contains-from_among, cons_same}
 use Rattle.zpl_region.proofs.TestLemmas.{is_member_iff}
 use Rattle.zpl_arrays.specs.Array.{place_among}
 use Rattle.zpl_arrays.proofs.ArrayLemmas.{only_place, place_of_tuple}

@@ -1,8 +1,11 @@
 pub mod BeforeLemmas
 pub mod BehindLemmas
+pub mod BlockLemmas
+pub mod BlockScanLemmas
 pub mod GoneLemmas
 pub mod LineLemmas
 pub mod OwnedLemmas
 pub mod ScanLemmas
 pub mod StepLemmas
 pub mod SumLemmas
+pub mod WholeLemmas

@@ -1,5 +1,5 @@
 -- Lemmas on the lines of a region, their first tuples and their numbers.
-use Rattle.std.proofs.Common.{◌≡◌, ◌≢◌, ◌↔◌, ℕ, zero, suc, ◌+◌, ◌-◌, ◌*◌, ◌/◌, ◌%◌, ◌^◌, ◌<◌, ◌≤◌, ◌⊎◌, inl, inr, Bool, true, false, cond, ◌&&◌, Option, Some, None, List, [], ◌∷◌, All, map, drop, replicate, length, get_or, slice_get, ℤ, pos, ◌≤ℤ◌, ◌-ℤ◌, unsigned_abs, refl, sym, ◌∙◌, ap, subst, arith, add-one, rules}
+use Rattle.std.proofs.Common.{◌≡◌, ℕ, zero, suc, ◌+◌, ◌-◌, ◌*◌, ◌/◌, ◌%◌, ◌<◌, ◌≤◌, Bool, true, false, ◌&&◌, Option, Some, None, List, [], ◌∷◌, All, map, drop, replicate, length, get_or, ℤ, pos, ◌≤ℤ◌, ◌-ℤ◌, unsigned_abs, refl, sym, ◌∙◌, ap, subst, arith}
 use Rattle.std.specs.Prelude.{◌==◌, if◌then◌else◌}
 use Rattle.std.specs.List.{AllZip}
 use Rattle.std.specs.Ordering.{int_eq}
@@ -13,7 +13,7 @@ use Rattle.std.proofs.lemmas.Option.{slice_get_within}
 use Rattle.zpl_region.specs.declared.dims.Dim.{Dim}
 use Rattle.zpl_region.specs.declared.dims.Dim.TheVariants.{Range, Flood}
 use Rattle.zpl_region.specs.declared.regions.Region.{Region}
-use Rattle.zpl_region.specs.Dim.{HasStep, IsCoordinate, IsDim, IsUpTo, coordinates}
+use Rattle.zpl_region.specs.Dim.{HasStep, IsCoordinate, IsDim, IsUpTo}
 use Rattle.zpl_region.specs.Ends.{coordinate_count, first_of, least_member, tuple_count}
 use Rattle.zpl_region.specs.Hull.{all_from}
 use Rattle.zpl_region.specs.Region.{IsMember, IsRegion, members, padding}
@@ -239,7 +239,7 @@ line_place (suc k) (d ∷ dims) (x ∷ t) h steps z =
         joined_up p q m r a o e = ap (λ s. (s + q) * m + r) e ∙ regrouped a o q m r
 
 -- ---- which tuples are on a line
-same_tuple : (t : List ℤ) → is_same_tuple t t ≡ true
+pub same_tuple : (t : List ℤ) → is_same_tuple t t ≡ true
 same_tuple [] = refl
 same_tuple (x ∷ t) = ap (λ b. b && is_same_tuple t t) (int_eq-true x) ∙ same_tuple t
 

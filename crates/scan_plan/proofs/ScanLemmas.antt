@@ -1,5 +1,5 @@
 -- Lemmas on the scan of a block, value by value.
-use Rattle.std.proofs.Common.{◌≡◌, ℕ, zero, suc, ◌+◌, ◌*◌, ◌/◌, ◌<◌, ◌≤◌, drop, replicate, Option, Some, None, List, [], ◌∷◌, ◌++◌, map, take, length, get_or, slice_get, ℤ, pos, refl, sym, ◌∙◌, ap, subst, arith, add-one}
+use Rattle.std.proofs.Common.{◌≡◌, ℕ, ◌+◌, ◌*◌, ◌/◌, ◌<◌, ◌≤◌, drop, replicate, Option, Some, None, List, [], ◌∷◌, ◌++◌, map, take, length, get_or, ℤ, pos, refl, sym, ◌∙◌, ap, subst, arith, add-one}
 use Rattle.std.specs.Prelude.{nat_eq, Bool, true, false}
 use Rattle.std.proofs.lemmas.Bool.Decides.{nat_tests}
 use Rattle.std.specs.List.{filter}
@@ -7,7 +7,7 @@ use Rattle.std.proofs.lemmas.List.{length-map, map-append}
 use Rattle.zpl_region.specs.declared.dims.Dim.TheVariants.{Flood}
 use Rattle.zpl_region.specs.Ends.{coordinate_count, tuple_count}
 use Rattle.zpl_nums.specs.declared.folds.Fold.{Fold}
-use Rattle.zpl_nums.specs.Fold.{folded, joined, unit_of}
+use Rattle.zpl_nums.specs.Fold.{joined, unit_of}
 use Rattle.zpl_region.specs.declared.regions.Region.{Region}
 use Rattle.zpl_region.specs.Region.{IsRegion, members}
 use Rattle.grid_layout.specs.declared.blocks.Blocks.{Blocks}

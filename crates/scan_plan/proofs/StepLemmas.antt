@@ -1,10 +1,10 @@
 -- Lemmas on going through the values of a block: the folds of its lines so far.
-use Rattle.std.proofs.Common.{◌≡◌, ◌≢◌, ℕ, zero, suc, ◌+◌, ◌-◌, ◌*◌, ◌/◌, ◌<◌, ◌≤◌, ◌⊎◌, inl, inr, Bool, true, false, cond, not, ◌&&◌, ◌||◌, Option, Some, None, List, [], ◌∷◌, ◌++◌, All, map, set, take, replicate, length, get_or, slice_get, ℤ, pos, ◌<ℤ◌, ◌≤ℤ◌, refl, sym, ◌∙◌, ap, subst, arith, add-one, rules}
+use Rattle.std.proofs.Common.{◌≡◌, ◌≢◌, ℕ, zero, suc, ◌+◌, ◌*◌, ◌<◌, ◌≤◌, ◌⊎◌, inl, inr, Bool, true, false, cond, not, ◌&&◌, ◌||◌, Option, Some, None, List, [], ◌∷◌, ◌++◌, All, map, set, take, replicate, length, get_or, slice_get, ℤ, pos, refl, sym, ◌∙◌, ap, subst, arith, add-one}
 use Rattle.std.specs.Prelude.{nat_eq}
 use Rattle.std.specs.List.{filter, fold}
 use Rattle.std.specs.Int.RustNames.{int_le, int_lt}
 use Rattle.std.specs.Ordering.{int_eq}
-use Rattle.std.proofs.lemmas.Bool.{and_parts, false≢true}
+use Rattle.std.proofs.lemmas.Bool.{false≢true}
 use Rattle.std.proofs.lemmas.Bool.Decides.{Decides-int_eq, nat_tests}
 use Rattle.std.proofs.lemmas.Int.{ints}
 use Rattle.std.proofs.lemmas.List.{map-append}
@@ -20,7 +20,7 @@ use Rattle.zpl_region.specs.Region.{IsMember, IsRegion, is_before, members}
 use Rattle.zpl_region.specs.Ends.{coordinate_count, tuple_count}
 use Rattle.zpl_region.proofs.EndLemmas.{among_at, length-tuple_count}
 use Rattle.zpl_region.proofs.HullLemmas.{has_steps}
-use Rattle.zpl_region.proofs.ListLemmas.{Among, Rises, cons_same, int_eq-true, int_lt-false, int_lt-true, test_from_le}
+use Rattle.zpl_region.proofs.ListLemmas.{Among, Rises, int_eq-true, int_lt-false}
 use Rattle.zpl_region.proofs.TupleLemmas.{IsBefore}
 use Rattle.zpl_arrays.specs.Array.{place_among}
 use Rattle.zpl_arrays.specs.Row.{joined_with, kept_values}
@@ -211,7 +211,7 @@ along_of_head zero (d ∷ dims) (x ∷ t) (y ∷ u) l = refl
 along_of_head (suc k) (d ∷ dims) (x ∷ t) (y ∷ u) l = ap (λ b. int_eq y x && b) (along_of_head k dims t u (omega arith))
 
 -- u is up to t on its line where it is on the line and t doesn't stand before it
-up_along_is : (k : ℕ) (t u : List ℤ) → is_up_along k t u ≡ (is_along k t u && not (is_before t u))
+pub up_along_is : (k : ℕ) (t u : List ℤ) → is_up_along k t u ≡ (is_along k t u && not (is_before t u))
 up_along_is k [] u = refl
 up_along_is k (x ∷ t) [] = by_dim k
   where

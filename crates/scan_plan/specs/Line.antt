@@ -1,5 +1,5 @@
 -- Lines of a region: the tuples that differ in the coordinate of one dimension alone, and their totals.
-use Rattle.std.specs.Prelude.{ℕ, zero, suc, ◌+◌, ◌-◌, ◌*◌, ◌/◌, ◌%◌, ◌==◌, Bool, true, false, ◌&&◌, if◌then◌else◌, Option, None, ℤ, List, [], ◌∷◌, map, filter, slice_index_or}
+use Rattle.std.specs.Prelude.{ℕ, zero, suc, ◌+◌, ◌-◌, ◌*◌, ◌/◌, ◌%◌, ◌==◌, Bool, false, ◌&&◌, if◌then◌else◌, Option, Some, None, ℤ, List, [], ◌∷◌, map, filter, slice_index_or}
 use Rattle.std.specs.Ordering.{int_eq}
 use Rattle.zpl_nums.specs.declared.folds.Fold.{Fold}
 use Rattle.zpl_nums.specs.Fold.{folded}
@@ -57,6 +57,10 @@ line_number n inner i = i / (n * inner) * inner + i % inner
 -- the value at a tuple, if it isn't masked out: the values stand in row-major order
 abbrev pub value_at : Region → List (Option ℤ) → List ℤ → Option ℤ
 value_at r values t = slice_index_or values (place_among r.dims t) None
+
+-- the values of a function, those aside that a mask leaves out
+abbrev pub masked : (List ℤ → Bool) → (List ℤ → ℤ) → List ℤ → Option ℤ
+masked is_kept e t = if is_kept t then Some (e t) else None
 
 -- the fold over the values at some tuples, those aside that are masked out
 abbrev pub fold_at : Fold → (List ℤ → Option ℤ) → List (List ℤ) → ℤ

@@ -1,5 +1,5 @@
 -- A scan on one processor's block, from the totals of all processors' lines and the block's own values.
-use Rattle.std.specs.Prelude.{ℕ, zero, suc, ◌-◌, Bool, not, ◌&&◌, if◌then◌else◌, Option, Some, None, ℤ, List, [], ◌∷◌, ◌++◌, map, filter, find, option_map}
+use Rattle.std.specs.Prelude.{ℕ, zero, suc, Bool, not, ◌&&◌, if◌then◌else◌, Option, Some, None, ℤ, List, [], ◌∷◌, ◌++◌, map, filter, find, option_map}
 use Rattle.std.specs.List.{zip}
 use Rattle.zpl_nums.specs.declared.folds.Fold.{Fold}
 use Rattle.zpl_nums.specs.Fold.{folded, joined}
@@ -7,7 +7,7 @@ use Rattle.zpl_region.specs.declared.regions.Region.{Region}
 use Rattle.zpl_region.specs.Region.{is_before, members}
 use Rattle.zpl_region.specs.Tests.{is_member}
 use Rattle.zpl_arrays.specs.Array.{place_among}
-use Rattle.zpl_arrays.specs.Scan.{is_up_along}
+use Rattle.zpl_arrays.specs.Scan.{is_up_along, scanned, scanned_along}
 use Rattle.grid_layout.specs.declared.blocks.Blocks.{Blocks}
 use Rattle.grid_layout.specs.Piece.{owned_part}
 use Rattle.grid_layout.specs.Words.{processors}
@@ -51,6 +51,11 @@ abbrev pub block_scan : Fold → ℕ → Blocks → ℕ → Region → List (Lis
 block_scan op along blocks p region all value =
     let part = owned_part blocks p p region in
     map (scan_at op along part (lines_of (line_dim region.rank along) (parts_of blocks p region) all) value) (members part)
+
+-- what it is meant to be, at x: the definition's scan over the whole region, in row-major order or along a dimension
+abbrev pub whole_scan : ℕ → Fold → Region → (List ℤ → Bool) → (List ℤ → ℤ) → List ℤ → ℤ
+whole_scan zero op region is_kept e x = scanned op region is_kept e x
+whole_scan (suc k) op region is_kept e x = scanned_along (suc k) op region is_kept e x
 
 -- ---- how the totals are gone through
 

@@ -1,5 +1,6 @@
 //! Lines of a region, their first tuples and their numbers.
-ghost use Rattle.std.specs.Prelude.{◌≡◌, ◌+◌, ◌-◌, ◌*◌, ◌<◌, ◌≤◌, ◌^◌, drop, length, option_map, slice_index_or};
+ghost use Rattle.std.specs.Prelude.{◌≡◌, ◌+◌, ◌-◌, ◌*◌, ◌<◌, ◌≤◌, ◌^◌, drop, length, option_map};
+ghost use Rattle.std.specs.Prelude.{slice_index_or};
 ghost use Rattle.zpl_region.specs.declared.dims.Dim.{Dim as Dimension};
 ghost use Rattle.zpl_region.specs.Dim.{IsDim};
 ghost use Rattle.zpl_region.specs.Ends.{coordinate_count, tuple_count};
@@ -86,7 +87,8 @@ impl Lines {
         requires dim { k < 3 }
         requires some { 0 < length (members region.now) }
         requires fits { length (members region.now) < 2 ^ 64 }
-        ensures along { result.along ≡ coordinate_count (slice_index_or region.now.dims k Dimension.Flood) }
+        ensures along { result.along
+            ≡ coordinate_count (slice_index_or region.now.dims k Dimension.Flood) }
         ensures inner { result.inner ≡ tuple_count (drop (k + 1) region.now.dims) }
         ensures dims { length region.now.dims ≡ 3 }
     {

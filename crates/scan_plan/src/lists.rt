@@ -1,5 +1,6 @@
 //! The line totals of all processors.
-ghost use Rattle.std.specs.Prelude.{◌≡◌, ◌<◌, [], IfOk, length, replicate, slice_index_or, slice_set};
+ghost use Rattle.std.specs.Prelude.{◌≡◌, ◌<◌, [], IfOk, length, replicate, slice_index_or};
+ghost use Rattle.std.specs.Prelude.{slice_set};
 
 use std::alloc::{AllocError, Global};
 use std::marker::Model;

@@ -1,5 +1,6 @@
 //! Scans on one processor's block.
-ghost use Rattle.std.specs.Prelude.{◌≡◌, ◌≤◌, ◌<◌, ◌^◌, ◌++◌, ◌-◌, IfOk, IfSome, List, OnErr, OnOk, length, map, option_map, slice_index_or};
+ghost use Rattle.std.specs.Prelude.{◌≡◌, ◌≤◌, ◌<◌, ◌^◌, ◌++◌, ◌-◌, IfOk, IfSome, List, OnErr, OnOk};
+ghost use Rattle.std.specs.Prelude.{length, map, option_map, slice_index_or};
 ghost use Rattle.std.specs.List.{zip};
 ghost use Rattle.zpl_nums.specs.Fold.{unit_of};
 ghost use Rattle.zpl_region.specs.declared.dims.Dim.{Dim as Dimension};
@@ -9,7 +10,8 @@ ghost use Rattle.grid_layout.specs.Grid.{processors_of};
 ghost use Rattle.grid_layout.specs.Layout.{AreBlocks, laid_out};
 ghost use Rattle.grid_layout.specs.Piece.{owned_part};
 ghost use Rattle.scan_plan.specs.Line.{heads, line_dim, value_at};
-ghost use Rattle.scan_plan.specs.Scan.{LineTotal, before, block_scan, gone_through, line_behind, lines_of, parts_of, sums};
+ghost use Rattle.scan_plan.specs.Scan.{LineTotal, before, block_scan, gone_through, line_behind};
+ghost use Rattle.scan_plan.specs.Scan.{lines_of, parts_of, sums};
 
 use crate::lines::{Lines, heads, line_dim};
 use crate::lists::Totals;
@@ -61,7 +63,8 @@ fn add_totals(fold: Fold, along: u8, own: &Region, part: &Region, totals: &[i64]
     requires part_dims { length part.now.dims ≡ 3 }
     requires along { along ≤ 3 }
     requires fits { length (members own.now) < 2 ^ 64 }
-    requires alone { 1 ≤ along → coordinate_count (slice_index_or own.now.dims (along - 1) Dimension.Flood) ≤ 1 }
+    requires alone { 1 ≤ along
+        → coordinate_count (slice_index_or own.now.dims (along - 1) Dimension.Flood) ≤ 1 }
     requires filled { length kept.old ≡ length (members own.now) }
     ensures { (lines : List LineTotal) → kept.old ≡ gone_through fold along (members own.now) lines
         → kept.new ≡ gone_through fold along (members own.now) (lines ++ zip (members part.now) totals.now) }
@@ -125,11 +128,11 @@ fn befores(
     Ok(kept)
 }
 
-/// Appends the scan on processor `p`'s part of a region, from the totals of all processors' lines and
-/// the values of the part: at each tuple what stands before its line, joined with the values of the line
-/// up to and with the tuple, those aside that are masked out and so `None`. Lines run along a dimension,
-/// counted from 1, or along the last one where `along` is 0 and the scan goes in row-major order. Without
-/// memory `into` stays as it was.
+/// Appends the scan on processor `p`'s part of a region, from the totals of all processors' lines
+/// and the values of the part: at each tuple what stands before its line, joined with the values of
+/// the line up to and with the tuple, those aside that are masked out and so `None`. Lines run
+/// along a dimension, counted from 1, or along the last one where `along` is 0 and the scan goes in
+/// row-major order. Without memory `into` stays as it was.
 pub fn scan_block(
     alloc: Global,
     fold: Fold,
@@ -145,7 +148,8 @@ pub fn scan_block(
     requires along { along ≤ region.now.rank }
     requires processor { p < processors_of layout.now.grid }
     requires lists { length all.now ≡ processors_of layout.now.grid }
-    requires filled { length values.now ≡ length (members (owned_part (laid_out layout.now) p p region.now)) }
+    requires filled { length values.now
+        ≡ length (members (owned_part (laid_out layout.now) p p region.now)) }
     ensures ok { OnOk result (into.new.items ≡ into.old.items
         ++ block_scan fold along (laid_out layout.now) p region.now all.now
         (value_at (owned_part (laid_out layout.now) p p region.now) values.now)) }

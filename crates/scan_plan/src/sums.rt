@@ -9,8 +9,9 @@ use zpl_nums::{Fold, join, unit};
 use zpl_region::Region;
 
 /// Appends the total of each line of a block: the fold over its values, those aside that are masked
-/// out and so `None`. Lines run along a dimension, counted from 1, or along the last one where `along`
-/// is 0, and stand in the row-major order of their first tuples. Without memory `into` stays as it was.
+/// out and so `None`. Lines run along a dimension, counted from 1, or along the last one where
+/// `along` is 0, and stand in the row-major order of their first tuples. Without memory `into`
+/// stays as it was.
 pub fn totals(
     alloc: Global,
     fold: Fold,

@@ -113,7 +113,17 @@ fn compare(
         };
         let values = values_of(alloc, &part)?;
         let mut scanned = Vec::new(alloc);
-        scan_block(alloc, fold, along, region, layout, p, &all, &values, &mut scanned)?;
+        scan_block(
+            alloc,
+            fold,
+            along,
+            region,
+            layout,
+            p,
+            &all,
+            &values,
+            &mut scanned,
+        )?;
         assert_eq!(rt; scanned.len(), values.len(), "on {p} along {along}");
         for (i, value) in scanned.iter().enumerate() {
             let x = part.nth(i as u64).unwrap_or([0, 0, 0]);
@@ -175,7 +185,12 @@ fn grid(factors: (u32, u32, u32)) -> Option<Grid> {
 }
 
 /// Compares the scans over a region on grids of one to eight processors.
-fn on_grids(rt: &impl Abort, alloc: Global, shape: ArrayBox, region: &Region) -> Result<(), AllocError>
+fn on_grids(
+    rt: &impl Abort,
+    alloc: Global,
+    shape: ArrayBox,
+    region: &Region,
+) -> Result<(), AllocError>
     requires shape { IsArrayBox shape }
     requires region { IsRegion region.now }
     requires fits { length (members region.now) < 2 ^ 64 }

@@ -51,7 +51,8 @@ fn shapes_differ(shape: Option<Shape>, other: Option<Shape>) -> bool
     }
 }
 
-// Whether what a name stands for fits a `var` parameter. A config or a constant there is told apart.
+// Whether what a name stands for fits a `var` parameter. A config or a constant there is told
+// apart.
 fn fits_reference(base: &Base<'_>, kind: Option<Kind<'_>>) -> bool
     ensures { result ≡ faults.fits_reference (base_type_of base.now) (known_of kind.entry) }
 {

@@ -163,7 +163,8 @@ impl<'a> Findings<'a> {
     // Tells a fault: of two the one that comes first in the text stays.
     #[tactic(auto, unfolding(crate::specs::Findings::tells))]
     fn keep(&mut self, found: Found)
-        ensures { state_of self.new ≡ tells (kind_of found.kind) (found.at ∷ []) (state_of self.old) }
+        ensures { state_of self.new
+            ≡ tells (kind_of found.kind) (found.at ∷ []) (state_of self.old) }
     {
         self.fault = match self.fault {
             None => Some(found),
@@ -177,7 +178,8 @@ impl<'a> Findings<'a> {
 
     /// Adds a call behind the others.
     pub fn add_call(&mut self, call: Called<'a>) -> Result<(), AllocError>
-        ensures { OnOk result (state_of self.new ≡ with_call (Some (call_site_of call.entry)) (state_of self.old)) }
+        ensures { OnOk result (state_of self.new
+            ≡ with_call (Some (call_site_of call.entry)) (state_of self.old)) }
     {
         self.calls.push(call)?;
         Ok(())

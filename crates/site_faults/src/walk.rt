@@ -2,7 +2,8 @@
 ghost use Rattle.std.specs.Prelude.{◌≡◌, ◌++◌, IfOk, OnOk, map};
 ghost use Rattle.zpl_names.specs.Sites as sites;
 ghost use Rattle.zpl_tree.specs.Syntax as plain;
-ghost use Rattle.zpl_tree.specs.View.{base_of, bracket_of, dim_of, dims_of, dir_of, expr_of, exprs_of, inner_of, posts_of, pre_of};
+ghost use Rattle.zpl_tree.specs.View.{base_of, bracket_of, dim_of, dims_of, dir_of, expr_of};
+ghost use Rattle.zpl_tree.specs.View.{exprs_of, inner_of, posts_of, pre_of};
 ghost use Rattle.name_kinds.specs.Part.{part_of};
 ghost use Rattle.name_kinds.specs.Region.{HasFewDims};
 ghost use Rattle.site_faults.specs.Reach.{reach_of, role_of};

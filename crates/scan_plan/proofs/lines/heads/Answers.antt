@@ -1,8 +1,7 @@
-use Rattle.std.proofs.Common.{◌≡◌, pos, [], ◌∷◌, get_or, sym, ◌∙◌, ap, subst, arith}
+use Rattle.std.proofs.Common.{pos, sym, ◌∙◌, subst, arith}
 use Rattle.zpl_region.specs.declared.dims.Dim.{Dim}
 use Rattle.zpl_region.specs.declared.dims.Dim.TheVariants.{Range}
 use Rattle.zpl_region.specs.Region.{IsRegion}
-use Rattle.scan_plan.specs.Line.{changed_at, first_alone}
 use Rattle.scan_plan.proofs.LineLemmas.{heads_0, heads_1, heads_2, heads_region}
 use Rattle.scan_plan.proofs.lines.heads.Goals as goal
 use Rattle.scan_plan.proofs.lines.heads.Goals.{in-0, in-1, in_default}

@@ -1,9 +1,8 @@
-use Rattle.std.proofs.Common.{◌≡◌, w64, to_z, of_z, ℤ, pos, get_or, set, Some, None, inl, inr, refl, sym, ◌∙◌, ap, subst, arith, length}
+use Rattle.std.proofs.Common.{◌≡◌, w64, to_z, of_z, ℤ, pos, get_or, set, inl, inr, refl, sym, ◌∙◌, ap, arith, length}
 use Rattle.std.proofs.lemmas.Int.{ints}
 use Rattle.zpl_nums.specs.Fold.{joined}
 use Rattle.zpl_region.proofs.EndLemmas.{first_member}
 use Rattle.zpl_region.proofs.HullLemmas.{has_steps}
-use Rattle.scan_plan.specs.Scan.{line_behind}
 use Rattle.scan_plan.proofs.GoneLemmas.{added_all, added_none, added_step, changed, none_from_default, set_long}
 use Rattle.scan_plan.proofs.scans.add_totals.Goals as goal
 use Rattle.scan_plan.proofs.scans.add_totals.Goals.{in-Some-line_behind, in_default-line_behind}

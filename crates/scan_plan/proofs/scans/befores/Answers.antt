@@ -1,4 +1,4 @@
-use Rattle.std.proofs.Common.{◌≡◌, Vec, Global, ◌-◌, ◌+◌, ◌<◌, ◌≤◌, w64, to_z, of_z, ℤ, List, [], ◌++◌, length, replicate, take, drop, get_or, map, refl, sym, ◌∙◌, ap, subst, arith}
+use Rattle.std.proofs.Common.{◌≡◌, Vec, Global, ◌-◌, ◌<◌, ◌≤◌, w64, to_z, of_z, ℤ, [], ◌++◌, length, replicate, take, get_or, map, sym, ◌∙◌, ap, subst, arith}
 use Rattle.std.specs.List.{zip}
 use Rattle.std.proofs.lemmas.Int.{ints}
 use Rattle.zpl_nums.specs.Fold.{unit_of}

@@ -1,9 +1,7 @@
-use Rattle.std.proofs.Common.{◌≡◌, ◌-◌, ◌≤ℤ◌, ◌<ℤ◌, Some, None, w64, to_z, of_z, get_or, set, pos, sym, ◌∙◌, ap, subst, arith}
-use Rattle.std.specs.Prelude.{if◌then◌else◌}
+use Rattle.std.proofs.Common.{◌≡◌, ◌-◌, ◌≤ℤ◌, ◌<ℤ◌, w64, to_z, of_z, get_or, set, pos, sym, ◌∙◌, ap, subst, arith}
 use Rattle.std.proofs.lemmas.Int.{ints}
 use Rattle.zpl_region.specs.declared.dims.Dim.TheVariants.{Flood}
 use Rattle.zpl_region.specs.Region.{is_before}
-use Rattle.zpl_arrays.specs.Array.{place_among}
 use Rattle.scan_plan.proofs.BehindLemmas.{behind_missing, behind_none, behind_past, behind_some, found_member}
 use Rattle.scan_plan.proofs.scans.line_behind.Goals as goal
 

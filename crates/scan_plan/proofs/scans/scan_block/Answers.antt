@@ -1,4 +1,4 @@
-use Rattle.std.proofs.Common.{◌≡◌, ◌+◌, ◌*◌, ◌/◌, ◌<◌, ◌≤◌, Vec, Global, w64, to_z, of_z, ℤ, List, pos, None, Some, get_or, set, length, map, refl, sym, ◌∙◌, ap, subst, arith, rules}
+use Rattle.std.proofs.Common.{◌≡◌, ◌/◌, ◌<◌, Vec, Global, w64, to_z, of_z, ℤ, pos, None, get_or, set, length, map, sym, ◌∙◌, ap, subst, arith}
 use Rattle.std.proofs.lemmas.Int.{ints}
 use Rattle.zpl_nums.specs.Fold.{joined}
 use Rattle.zpl_region.specs.declared.regions.Region.{Region}
@@ -6,12 +6,12 @@ use Rattle.zpl_region.specs.Region.{IsRegion, members}
 use Rattle.grid_layout.specs.declared.blocks.Blocks.{Blocks}
 use Rattle.grid_layout.specs.Layout.{laid_out}
 use Rattle.grid_layout.specs.Piece.{owned_part}
-use Rattle.scan_plan.specs.Line.{heads, line_dim, line_number, value_at}
-use Rattle.scan_plan.specs.Scan.{before, scan_at}
-use Rattle.scan_plan.proofs.GoneLemmas.{appended, none_from_default, pushed}
+use Rattle.scan_plan.specs.Line.{heads, line_dim, line_number}
+use Rattle.scan_plan.specs.Scan.{before}
+use Rattle.scan_plan.proofs.GoneLemmas.{none_from_default, pushed}
 use Rattle.scan_plan.proofs.LineLemmas.{along_of, inner_of}
 use Rattle.scan_plan.proofs.OwnedLemmas.{owned_region}
-use Rattle.scan_plan.proofs.ScanLemmas.{LinesTold, length-so_far, length-stepped, lines_for, lines_told, no_scan, number_told, scanned_all, scanned_none, scanned_one, some_from_test}
+use Rattle.scan_plan.proofs.ScanLemmas.{LinesTold, length-so_far, length-stepped, lines_for, lines_told, number_told, scanned_none, scanned_one, some_from_test}
 use Rattle.scan_plan.proofs.StepLemmas.{stepped}
 use Rattle.scan_plan.proofs.SumLemmas.{get_or_any}
 use Rattle.scan_plan.proofs.scans.scan_block.Goals as goal

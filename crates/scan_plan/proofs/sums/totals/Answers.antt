@@ -1,8 +1,8 @@
-use Rattle.std.proofs.Common.{◌≡◌, ◌+◌, ◌*◌, ◌/◌, ◌<◌, ◌≤◌, Vec, Global, w64, to_z, of_z, ℤ, pos, None, Some, get_or, set, length, replicate, refl, sym, ◌∙◌, ap, subst, arith, rules}
+use Rattle.std.proofs.Common.{◌≡◌, ◌/◌, ◌<◌, Vec, Global, w64, to_z, of_z, ℤ, pos, None, get_or, set, length, replicate, sym, ◌∙◌, ap, arith, rules}
 use Rattle.std.proofs.lemmas.Int.{ints}
 use Rattle.zpl_nums.specs.Fold.{joined, unit_of}
 use Rattle.zpl_region.specs.Region.{members}
-use Rattle.scan_plan.specs.Line.{heads, line_dim, line_number, totals_of, value_at}
+use Rattle.scan_plan.specs.Line.{line_dim, line_number, value_at}
 use Rattle.scan_plan.proofs.GoneLemmas.{appended, none_from_default}
 use Rattle.scan_plan.proofs.LineLemmas.{along_of, inner_of}
 use Rattle.scan_plan.proofs.ScanLemmas.{LinesTold, folds_all, folds_none, folds_one, length-folds, lines_told, no_totals, number_told}
