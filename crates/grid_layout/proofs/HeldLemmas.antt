@@ -1,5 +1,5 @@
 -- What a processor holds: places of the storage, and all those that it owns. What it needs is in the pieces of all owners.
-use Rattle.std.proofs.Common.{◌≡◌, refl, sym, ◌∙◌, ap, subst, arith, ℕ, zero, suc, ◌+◌, ◌-◌, ◌*◌, ◌<◌, ◌≤◌, Bool, true, false, not, ◌&&◌, List, [], ◌∷◌, length, get_or, map, All, IsPermutation, ℤ, pos, ◌+ℤ◌, ◌-ℤ◌, ◌*ℤ◌, ◌≤ℤ◌, ◌<ℤ◌}
+use Rattle.std.proofs.Common.{◌≡◌, refl, sym, ◌∙◌, ap, subst, arith, ℕ, zero, suc, ◌<◌, ◌≤◌, Bool, true, false, not, ◌&&◌, List, [], ◌∷◌, length, get_or, All, IsPermutation, ℤ, pos, ◌+ℤ◌, ◌-ℤ◌, ◌*ℤ◌, ◌≤ℤ◌}
 use Rattle.std.specs.Prelude.{◌==◌, if◌then◌else◌, int_le}
 use Rattle.std.specs.Int.{int_max, int_min}
 use Rattle.std.specs.List.{AllZip, flat_map}
@@ -11,9 +11,9 @@ use Rattle.std.proofs.lemmas.List.Elements.{AllZip-get_or}
 use Rattle.zpl_region.specs.declared.dims.Dim.{Dim}
 use Rattle.zpl_region.specs.declared.dims.Dim.TheVariants.{Range, Flood}
 use Rattle.zpl_region.specs.declared.regions.Region.{Region}
-use Rattle.zpl_region.specs.Dim.{HasBounds, HasStep, IsCoordinate, IsDim, IsMultiple, coordinates}
+use Rattle.zpl_region.specs.Dim.{HasBounds, HasStep, IsCoordinate, IsMultiple}
 use Rattle.zpl_region.specs.Ends.{has_none, tuple_count}
-use Rattle.zpl_region.specs.Hull.{all_from, dim_emptied, emptied}
+use Rattle.zpl_region.specs.Hull.{all_from, emptied}
 use Rattle.zpl_region.specs.Region.{IsMember, IsRegion, members, padding}
 use Rattle.zpl_region.proofs.EndLemmas.{length-tuple_count}
 use Rattle.zpl_region.proofs.HullLemmas.{has_steps, no_count}
@@ -25,13 +25,13 @@ use Rattle.grid_layout.specs.declared.boxes.ArrayBox.{ArrayBox}
 use Rattle.grid_layout.specs.Block.{block_first, block_last, block_start, is_block_empty}
 use Rattle.grid_layout.specs.Grid.{blocks_at, cuts, processors_of}
 use Rattle.grid_layout.specs.Layout.{AreBlocks, Arrangement, HasThree, IsArrayBox, IsBoxDim, IsFringe, axes_at, box_at, each_held, held_box_of, held_dim, held_of, laid_out, no_box, or_emptied}
-use Rattle.grid_layout.specs.Piece.{needed_in, needed_of, nothing, owned_part, owner_for, piece_of}
+use Rattle.grid_layout.specs.Piece.{needed_of, nothing, owner_for, piece_of}
 use Rattle.grid_layout.specs.Words.{processors}
 use Rattle.grid_layout.proofs.BlockLemmas.{last_of_more}
 use Rattle.grid_layout.proofs.OwnerLemmas.{AreCuts, are_cuts, axes_three}
 use Rattle.grid_layout.proofs.PartLemmas.{AreBelow, blocks_are_below, blocks_length, has_dim, has_each, has_owner_for, near_of, parts_of_owners}
 use Rattle.grid_layout.proofs.SoundLemmas.{all_by_number, blocks_are, emptied_length, by_number, held_is_region, held_number, helds_are, needed_has_bounds, needed_length, no_axis}
-use Rattle.grid_layout.proofs.ThreeLemmas.{by_three, rebuilt, three}
+use Rattle.grid_layout.proofs.ThreeLemmas.{rebuilt, three}
 
 -- ---- coordinates
 unit_multiple : (x align step : ℤ) → step ≡ pos 1 → IsMultiple step (x -ℤ align)

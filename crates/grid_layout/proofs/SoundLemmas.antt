@@ -1,16 +1,15 @@
 -- Blocks, held boxes, needs and parts are what the calls take.
-use Rattle.std.proofs.Common.{◌≡◌, refl, sym, ◌∙◌, ap, subst, arith, ℕ, zero, suc, ◌+◌, ◌-◌, ◌*◌, ◌<◌, ◌≤◌, ◌^◌, Bool, true, false, cond, Option, Some, None, List, [], ◌∷◌, ◌++◌, drop, length, get_or, replicate, map, All, ℤ, pos, neg_ℤ, ◌+ℤ◌, ◌-ℤ◌, ◌≤ℤ◌, ◌<ℤ◌, ◌⊎◌, inl, inr, rules}
+use Rattle.std.proofs.Common.{◌≡◌, refl, sym, ◌∙◌, ap, subst, arith, ℕ, zero, suc, ◌+◌, ◌-◌, ◌<◌, ◌≤◌, ◌^◌, Bool, true, false, Option, Some, None, List, [], ◌∷◌, ◌++◌, length, get_or, All, ℤ, pos, neg_ℤ, ◌+ℤ◌, ◌-ℤ◌, ◌≤ℤ◌, ◌<ℤ◌, ◌⊎◌, inl, inr, rules}
 use Rattle.std.specs.Prelude.{◌==◌, int_le, if◌then◌else◌, fold}
 use Rattle.std.specs.Int.{int_max, int_min}
-use Rattle.std.specs.List.{AllZip}
 use Rattle.std.proofs.lemmas.Int.{clamps, ints}
 use Rattle.std.proofs.lemmas.List.{get_or-drop, get_or-replicate}
 use Rattle.std.proofs.lemmas.List.Elements.{All-from_recursion, All-head, All-tail, AllZip-get_or}
 use Rattle.zpl_region.specs.declared.dims.Dim.{Dim}
 use Rattle.zpl_region.specs.declared.dims.Dim.TheVariants.{Range, Flood}
 use Rattle.zpl_region.specs.declared.regions.Region.{Region}
-use Rattle.zpl_region.specs.Dim.{HasAlign, HasBounds, HasStep, IsDim, IsUpTo, dim_moved, extent}
-use Rattle.zpl_region.specs.Ends.{coordinate_count, has_none, tuple_count}
+use Rattle.zpl_region.specs.Dim.{HasAlign, HasBounds, HasStep, IsDim, IsUpTo, dim_moved}
+use Rattle.zpl_region.specs.Ends.{coordinate_count, has_none}
 use Rattle.zpl_region.specs.Hull.{all_from, dim_emptied, emptied}
 use Rattle.zpl_region.specs.Region.{IsPadded, IsRegion, components, each, moved, padding}
 use Rattle.zpl_region.proofs.DimLemmas.{pos-extent}
@@ -21,9 +20,9 @@ use Rattle.grid_layout.specs.declared.axes.Axis.{Axis}
 use Rattle.grid_layout.specs.declared.blocks.Blocks.{Blocks}
 use Rattle.grid_layout.specs.declared.boxes.ArrayBox.{ArrayBox}
 use Rattle.grid_layout.specs.Block.{block_first, block_last, is_block_empty}
-use Rattle.grid_layout.specs.Grid.{blocks_at, cuts, cuts_of, factors_of, processors_of, product}
+use Rattle.grid_layout.specs.Grid.{blocks_at, cuts, cuts_of, factors_of, processors_of}
 use Rattle.grid_layout.specs.Layout.{AreAxes, AreBlocks, IsArrayBox, IsAxis, IsFringe, IsHull, around, axes_at, axes_of, axis_over, blocks_of, counts, each_held, held_dim, held_of, hull_in, or_emptied, widened}
-use Rattle.grid_layout.specs.Piece.{each_needed, each_owned, needed_dim, needed_in, nothing, owned_dim, owned_part, part, place_dim, range_or_nothing}
+use Rattle.grid_layout.specs.Piece.{each_owned, needed_dim, needed_in, nothing, owned_dim, owned_part, part, place_dim, range_or_nothing}
 use Rattle.grid_layout.proofs.BlockLemmas.{test_fails}
 use Rattle.grid_layout.proofs.DimLemmas.{part_is_dim}
 use Rattle.grid_layout.proofs.OwnerLemmas.{AreCuts, are_cuts, axes_three}

@@ -1,8 +1,7 @@
 -- What the code answers, dimension by dimension.
-use Rattle.std.proofs.Common.{◌≡◌, refl, sym, ◌∙◌, ap, subst, arith, ℕ, zero, suc, ◌-◌, ◌<◌, ◌≤◌, ◌^◌, Bool, true, false, List, [], ◌∷◌, Option, Some, None, length, get_or, All, ℤ, pos, neg_ℤ, ◌+ℤ◌, ◌-ℤ◌, ◌≤ℤ◌, ◌<ℤ◌}
-use Rattle.std.specs.Prelude.{if◌then◌else◌, int_le, int_lt}
-use Rattle.std.specs.Int.{int_max, int_min}
-use Rattle.std.proofs.lemmas.Int.{clamps, ints}
+use Rattle.std.proofs.Common.{◌≡◌, refl, sym, ◌∙◌, ap, subst, arith, ℕ, zero, suc, ◌<◌, false, List, [], ◌∷◌, length, get_or, All, ℤ, pos, ◌+ℤ◌, ◌-ℤ◌, ◌≤ℤ◌, ◌<ℤ◌}
+use Rattle.std.specs.Prelude.{int_lt}
+use Rattle.std.proofs.lemmas.Int.{ints}
 use Rattle.std.proofs.lemmas.List.Elements.{All-cons, All-head, All-tail}
 use Rattle.zpl_nums.specs.declared.ends.Border.{Border}
 use Rattle.zpl_region.specs.declared.dims.Dim.{Dim}
@@ -17,7 +16,7 @@ use Rattle.zpl_arrays.specs.Flood.{dim_flood_source, each_flood_source}
 use Rattle.grid_layout.specs.declared.blocks.Blocks.{Blocks}
 use Rattle.grid_layout.specs.Layout.{Arrangement, laid_out, own_first, own_last}
 use Rattle.grid_layout.specs.Piece.{owned_part, part}
-use Rattle.grid_layout.proofs.ThreeLemmas.{by_three, rebuilt, three, three_same}
+use Rattle.grid_layout.proofs.ThreeLemmas.{rebuilt, three, three_same}
 use Rattle.move_plan.specs.BorderPiece.{border_piece_of, border_targets, dim_border_piece, each_border_piece, target_bounds}
 use Rattle.move_plan.specs.FloodPiece.{dim_flood_piece, each_flood_piece, flood_piece_of, flood_targets}
 

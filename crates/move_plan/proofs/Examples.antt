@@ -5,7 +5,6 @@ use Rattle.zpl_region.specs.declared.dims.Dim.TheVariants.{Flood}
 use Rattle.zpl_region.specs.declared.regions.Region.{Region}
 use Rattle.zpl_region.specs.Region.{padding, members}
 use Rattle.zpl_region.specs.Hull.{all_from}
-use Rattle.grid_layout.specs.declared.boxes.ArrayBox.{ArrayBox}
 use Rattle.grid_layout.specs.Layout.{Arrangement}
 use Rattle.grid_layout.specs.Words.{processors}
 use Rattle.move_plan.specs.BorderPiece.{border_piece_of}

@@ -1,9 +1,8 @@
 -- Pieces have the targets whose source the owner has.
-use Rattle.std.proofs.Common.{◌≡◌, ◌^◌, ◌↔◌, refl, sym, ◌∙◌, ap, subst, arith, ℕ, zero, suc, ◌+◌, ◌*◌, ◌<◌, ◌≤◌, Bool, true, false, cond, ◌&&◌, ◌||◌, Option, Some, None, List, [], ◌∷◌, length, map, All, IsPermutation, IsTrue, ℤ, pos, neg_ℤ, ◌+ℤ◌, ◌-ℤ◌, ◌*ℤ◌, ◌≤ℤ◌, ◌<ℤ◌, ◌⊎◌, inl, inr}
+use Rattle.std.proofs.Common.{◌≡◌, ◌^◌, ◌↔◌, refl, sym, ◌∙◌, ap, subst, arith, ℕ, zero, suc, ◌<◌, Bool, true, false, ◌&&◌, ◌||◌, Option, Some, None, List, [], ◌∷◌, length, map, All, IsPermutation, ℤ, pos, neg_ℤ, ◌+ℤ◌, ◌-ℤ◌, ◌*ℤ◌, ◌≤ℤ◌, ◌<ℤ◌, ◌⊎◌, inl, inr}
 use Rattle.std.specs.Prelude.{◌==◌, if◌then◌else◌, int_le, int_lt, is_some, unwrap_or}
 use Rattle.std.specs.Int.{int_max, int_min}
 use Rattle.std.specs.List.{AllZip, filter, flat_map}
-use Rattle.std.specs.Ordering.{int_eq}
 use Rattle.std.proofs.lemmas.Bool.{and_parts, eq-eqb, or_cases}
 use Rattle.std.proofs.lemmas.Int.{clamps, ints}
 use Rattle.std.proofs.lemmas.List.Elements.{All-head, All-tail, filter_agree}
@@ -12,14 +11,14 @@ use Rattle.zpl_nums.specs.declared.ends.Border.TheVariants.{Wrap, Reflect}
 use Rattle.zpl_region.specs.declared.dims.Dim.{Dim}
 use Rattle.zpl_region.specs.declared.dims.Dim.TheVariants.{Range, Flood}
 use Rattle.zpl_region.specs.declared.regions.Region.{Region}
-use Rattle.zpl_region.specs.Dim.{HasBounds, HasStep, IsDim, IsDimWithinLimit, IsUpTo, coordinates, dim_met, dim_outside_of, extent}
+use Rattle.zpl_region.specs.Dim.{IsDim, IsDimWithinLimit, IsUpTo, coordinates, dim_outside_of, extent}
 use Rattle.zpl_region.specs.Ends.{single_of}
 use Rattle.zpl_region.specs.Progression.{is_between}
-use Rattle.zpl_region.specs.Region.{IsMember, IsRegion, components, each, members, outside_of, tuples}
+use Rattle.zpl_region.specs.Region.{IsRegion, components, each, members, tuples}
 use Rattle.zpl_region.specs.Tests.{is_same_set}
 use Rattle.zpl_region.proofs.DimLemmas.{among_range, coordinates-met, pos-extent}
 use Rattle.zpl_region.proofs.EndLemmas.{single_iff}
-use Rattle.zpl_region.proofs.ListLemmas.{Among, among_filtered, int_eq-false, int_eq-true, int_lt-false, int_lt-true, cases_order_z, le_from_test, test_from_le}
+use Rattle.zpl_region.proofs.ListLemmas.{Among, among_filtered, int_eq-false, int_lt-false, int_lt-true, cases_order_z, le_from_test, test_from_le}
 use Rattle.zpl_region.proofs.TupleLemmas.{among_tuples, filter-tuples}
 use Rattle.zpl_arrays.specs.Border.{border_source, dim_border_source, each_border_source}
 use Rattle.zpl_arrays.specs.Conformity.{dims_spread, flood_conforms, is_single}
@@ -29,7 +28,7 @@ use Rattle.grid_layout.specs.declared.blocks.Blocks.{Blocks}
 use Rattle.grid_layout.specs.Block.{block_first, block_last}
 use Rattle.grid_layout.specs.Grid.{blocks_at, cuts, processors_of}
 use Rattle.grid_layout.specs.Layout.{AreBlocks, axes_at, each_bound}
-use Rattle.grid_layout.specs.Piece.{each_owned, nothing, owned_dim, owned_part, owner_for, part}
+use Rattle.grid_layout.specs.Piece.{each_owned, nothing, owned_dim, owner_for, part}
 use Rattle.grid_layout.specs.Words.{processors}
 use Rattle.grid_layout.proofs.OwnerLemmas.{AreCuts, are_cuts, axes_three}
 use Rattle.grid_layout.proofs.PartLemmas.{IsNearby, blocks_length, bool_same, coordinates-owned, coordinates-part, filter_among, has_dim, has_each, has_owner_for, owner_for_below, owner_test, parts_by_choice}

@@ -1,5 +1,5 @@
 -- Pieces are regions that calls take.
-use Rattle.std.proofs.Common.{◌≡◌, refl, sym, ◌∙◌, ap, subst, arith, ℕ, zero, suc, ◌+◌, ◌<◌, ◌≤◌, ◌^◌, Bool, true, false, List, [], ◌∷◌, Option, Some, None, length, get_or, All, ℤ, pos, neg_ℤ, ◌+ℤ◌, ◌-ℤ◌, ◌≤ℤ◌}
+use Rattle.std.proofs.Common.{◌≡◌, refl, sym, ◌∙◌, ap, subst, arith, ℕ, zero, suc, ◌<◌, ◌≤◌, ◌^◌, Bool, true, false, List, [], ◌∷◌, Option, Some, None, length, get_or, All, ℤ, pos, neg_ℤ, ◌+ℤ◌, ◌-ℤ◌}
 use Rattle.std.specs.Prelude.{if◌then◌else◌, int_lt}
 use Rattle.std.proofs.lemmas.Int.{ints}
 use Rattle.zpl_nums.specs.declared.ends.Border.{Border}
@@ -16,12 +16,11 @@ use Rattle.grid_layout.specs.declared.blocks.Blocks.{Blocks}
 use Rattle.grid_layout.specs.Block.{block_first, block_last}
 use Rattle.grid_layout.specs.Grid.{blocks_at, cuts, processors_of}
 use Rattle.grid_layout.specs.Layout.{AreBlocks, axes_at, each_bound, own_first, own_last}
-use Rattle.grid_layout.specs.Piece.{nothing, owned_part, part}
+use Rattle.grid_layout.specs.Piece.{nothing, owned_part}
 use Rattle.grid_layout.proofs.DimLemmas.{part_is_dim}
 use Rattle.grid_layout.proofs.OwnerLemmas.{AreCuts, are_cuts, axes_three}
 use Rattle.grid_layout.proofs.PartLemmas.{blocks_length}
 use Rattle.grid_layout.proofs.SoundLemmas.{block_past, by_number, component_past, components_length, cut_past, no_axis, nothing_is, owned_is_region, owned_length, padded_at, region_by_number}
-use Rattle.grid_layout.proofs.ThreeLemmas.{bounds_told}
 use Rattle.move_plan.specs.BorderPiece.{border_piece_in, border_targets, dim_border_piece, each_border_piece, target_bounds}
 use Rattle.move_plan.specs.FloodPiece.{dim_flood_piece, each_flood_piece}
 use Rattle.move_plan.proofs.CodeLemmas.{component_up_to, floods_told, outsides_told, pieces_told}

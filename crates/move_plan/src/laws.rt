@@ -35,7 +35,8 @@ pub fn border_pieces_go_by_sources()
         → length d ≡ 3
         → to < processors_of blocks.grid
         → IsPermutation (members (border_targets blocks r d to))
-        (flat_map (λ from. members (border_piece_in blocks kind r d from to)) (processors blocks.grid)) }
+        (flat_map (λ from. members (border_piece_in blocks kind r d from to))
+        (processors blocks.grid)) }
 {}
 
 /// A flood's piece has the receiver's targets whose source the owner has, in their order, where the
@@ -53,5 +54,6 @@ pub fn flood_pieces_go_by_sources()
         → length source.dims ≡ 3 → IsTrue (flood_conforms target source)
         → to < processors_of blocks.grid
         → IsPermutation (members (flood_targets blocks target to))
-        (flat_map (λ from. members (flood_piece_in blocks target source from to)) (processors blocks.grid)) }
+        (flat_map (λ from. members (flood_piece_in blocks target source from to))
+        (processors blocks.grid)) }
 {}

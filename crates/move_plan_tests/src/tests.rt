@@ -133,7 +133,14 @@ fn borders_on(rt: &impl Abort, alloc: Global, kind: Border, factors: &[u32])
     let layout = layout(rt, alloc, factors);
     let region = plane(rt, line(0, 4), line(1, 5));
     let count = layout.grid().count();
-    for d in [[3, 0, 0], [-2, 0, 0], [0, 1, 5], [0, -4, 0], [2, -3, 0], [-1, 1, 0]] {
+    for d in [
+        [3, 0, 0],
+        [-2, 0, 0],
+        [0, 1, 5],
+        [0, -4, 0],
+        [2, -3, 0],
+        [-1, 1, 0],
+    ] {
         for from in 0..count {
             for to in 0..count {
                 compare_border(rt, &layout, kind, &region, d, (from, to));
@@ -153,7 +160,13 @@ fn borders(rt: HostRuntime) {
 }
 
 /// Compares a flood's piece with a count.
-fn compare_flood(rt: &impl Abort, layout: &Layout, target: &Region, source: &Region, pair: (u32, u32))
+fn compare_flood(
+    rt: &impl Abort,
+    layout: &Layout,
+    target: &Region,
+    source: &Region,
+    pair: (u32, u32),
+)
     requires target { IsRegion target.now }
     requires target_rank { target.now.rank ≡ 2 }
     requires source { IsRegion source.now }
@@ -231,6 +244,10 @@ fn sources_of_a_border_row(rt: HostRuntime) {
         (Border::Wrap, -3, -2, 1),
         (Border::Wrap, 0, 2, 2),
     ] {
-        assert_eq!(rt; line_source(&region, kind, d, x), want, "{kind:?} {d} at {x}");
+        assert_eq!(rt;
+            line_source(&region, kind, d, x),
+            want,
+            "{kind:?} {d} at {x}"
+        );
     }
 }

@@ -1,5 +1,5 @@
 -- Requests and answers, computed.
-use Rattle.std.specs.Prelude.{◌≡◌, refl, ℕ, ℤ, pos, negsuc, List, [], ◌∷◌, map, Some, None}
+use Rattle.std.specs.Prelude.{◌≡◌, refl, pos, [], ◌∷◌, map, Some, None}
 use Rattle.zpl_region.specs.Region.{padding}
 use Rattle.zpl_region.specs.Hull.{all_from}
 use Rattle.grid_layout.specs.Layout.{Arrangement}

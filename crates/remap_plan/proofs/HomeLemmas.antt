@@ -1,17 +1,16 @@
 -- Tuples, their homes and their places.
-use Rattle.std.proofs.Common.{◌≡◌, ◌↔◌, refl, sym, ◌∙◌, ap, subst, arith, ℕ, zero, suc, ◌+◌, ◌-◌, ◌*◌, ◌/◌, ◌<◌, ◌≤◌, ◌^◌, ◌⊎◌, inl, inr, Bool, true, false, Option, Some, None, List, [], ◌∷◌, ◌++◌, length, get_or, drop, take, map, replicate, slice_get, All, IsTrue, ℤ, pos, ◌+ℤ◌, ◌-ℤ◌, ◌≤ℤ◌, unsigned_abs}
+use Rattle.std.proofs.Common.{◌≡◌, ◌↔◌, refl, sym, ◌∙◌, ap, subst, arith, ℕ, zero, suc, ◌+◌, ◌-◌, ◌*◌, ◌/◌, ◌<◌, ◌≤◌, ◌⊎◌, inl, inr, Bool, true, false, Some, None, List, [], ◌∷◌, ◌++◌, length, get_or, drop, take, All, IsTrue, ℤ, pos, ◌-ℤ◌, ◌≤ℤ◌, unsigned_abs}
 use Rattle.std.specs.Prelude.{if◌then◌else◌}
 use Rattle.std.specs.List.{AllZip}
 use Rattle.std.proofs.Math.Seq.{get_or-append_seam}
 use Rattle.std.proofs.lemmas.Bool.{cases_lt}
-use Rattle.std.proofs.lemmas.Int.{ints}
 use Rattle.std.proofs.lemmas.List.{get_or_append_left, length-append}
 use Rattle.std.proofs.lemmas.Option.{slice_get_within}
 use Rattle.zpl_region.specs.declared.dims.Dim.{Dim}
-use Rattle.zpl_region.specs.declared.dims.Dim.TheVariants.{Range, Flood}
+use Rattle.zpl_region.specs.declared.dims.Dim.TheVariants.{Range}
 use Rattle.zpl_region.specs.declared.regions.Region.{Region}
 use Rattle.zpl_region.specs.Dim.{HasStep, IsCoordinate, IsDim}
-use Rattle.zpl_region.specs.Ends.{coordinate_count, first_of, tuple_count}
+use Rattle.zpl_region.specs.Ends.{coordinate_count, first_of}
 use Rattle.zpl_region.specs.Hull.{IsBoxed}
 use Rattle.zpl_region.specs.Region.{IsMember, IsRegion, members}
 use Rattle.zpl_region.specs.Tests.{is_member}
@@ -19,7 +18,7 @@ use Rattle.zpl_region.proofs.DimLemmas.{Among-coordinates}
 use Rattle.zpl_region.proofs.EndLemmas.{some_coordinate}
 use Rattle.zpl_region.proofs.HullLemmas.{first-all_from, has_steps}
 use Rattle.zpl_region.proofs.TestLemmas.{is_member_iff}
-use Rattle.zpl_arrays.specs.Array.{each_has_place, element, has_place, place_along, place_among}
+use Rattle.zpl_arrays.specs.Array.{place_along, place_among}
 use Rattle.zpl_arrays.proofs.ArrayLemmas.{place_of_member, place_of_tuple}
 use Rattle.grid_layout.specs.Grid.{processors_of}
 use Rattle.grid_layout.specs.Layout.{Arrangement, HasThree, IsArrayBox, box_at, held_box_of, laid_out, no_box, owner_of}

@@ -1,19 +1,16 @@
 -- Requests and answers.
-use Rattle.std.proofs.Common.{◌≡◌, refl, sym, ◌∙◌, ap, subst, arith, ℕ, zero, suc, ◌+◌, ◌-◌, ◌*◌, ◌/◌, ◌<◌, ◌≤◌, ◌^◌, Bool, true, false, cond, ◌&&◌, Option, Some, None, List, [], ◌∷◌, ◌++◌, length, get_or, map, drop, take, replicate, All, IsPermutation, IsTrue, ℤ, pos, ◌-ℤ◌, ◌≤ℤ◌, unsigned_abs}
+use Rattle.std.proofs.Common.{◌≡◌, refl, sym, ◌∙◌, ap, arith, ℕ, suc, ◌+◌, ◌-◌, ◌*◌, ◌<◌, Bool, true, false, cond, ◌&&◌, Some, None, List, [], ◌∷◌, ◌++◌, length, map, drop, take, All, IsPermutation, ℤ}
 use Rattle.std.specs.Prelude.{◌==◌, if◌then◌else◌, is_some}
-use Rattle.std.specs.List.{AllZip, filter, flat_map}
-use Rattle.std.proofs.lemmas.Int.{ints}
+use Rattle.std.specs.List.{filter, flat_map}
 use Rattle.std.proofs.lemmas.List.Elements.{filter-append, filter_agree}
 use Rattle.std.proofs.lemmas.List.{map-append}
 use Rattle.std.proofs.lemmas.List.Concat.{flat_map-append}
-use Rattle.zpl_region.specs.declared.regions.Region.{Region}
 use Rattle.zpl_region.specs.Tests.{is_member}
-use Rattle.grid_layout.specs.Grid.{processors_of}
 use Rattle.grid_layout.specs.Layout.{Arrangement, IsArrayBox, box_at, laid_out, no_box, owner_of}
 use Rattle.grid_layout.specs.Words.{processors}
 use Rattle.grid_layout.proofs.OwnerLemmas.{owner_is_one}
 use Rattle.grid_layout.proofs.PartLemmas.{parts_by_choice}
-use Rattle.remap_plan.specs.Request.{asked_of, asks_of, has_home, home_of, is_home, is_number, rank_of, storage_of}
+use Rattle.remap_plan.specs.Request.{asked_of, has_home, is_home, is_number, rank_of, storage_of}
 use Rattle.remap_plan.specs.Tuples.{filled, first_tuples, joined, tuple_at, tuples_in}
 
 -- ---- each wanted tuple is asked once

@@ -1,13 +1,11 @@
 -- What is asked are whole tuples, and they are at home.
-use Rattle.std.proofs.Common.{◌≡◌, refl, sym, ◌∙◌, ap, subst, arith, ℕ, zero, suc, ◌+◌, ◌-◌, ◌*◌, ◌/◌, ◌<◌, ◌≤◌, Bool, true, false, cond, Option, Some, None, List, [], ◌∷◌, ◌++◌, length, get_or, drop, take, All, ℤ, min}
-use Rattle.std.specs.Prelude.{◌==◌}
-use Rattle.std.specs.List.{filter}
-use Rattle.std.proofs.Math.Nat.{mul-div_cancel, mul-le-mul_right, div-mul-le_self}
+use Rattle.std.proofs.Common.{◌≡◌, refl, sym, ◌∙◌, ap, subst, arith, ℕ, zero, suc, ◌+◌, ◌*◌, ◌/◌, ◌<◌, ◌≤◌, true, false, Option, Some, None, List, [], ◌∷◌, ◌++◌, length, drop, take, All, ℤ, min}
+use Rattle.std.proofs.Math.Nat.{mul-div_cancel, div-mul-le_self}
 use Rattle.std.proofs.Math.Seq.{drop-append-add, take-append_seam}
 use Rattle.std.proofs.lemmas.Bool.{eqb-true}
 use Rattle.std.proofs.lemmas.List.{length-append, length-drop, length-take}
 use Rattle.std.proofs.lemmas.List.Elements.{All-append, All-cons, All-filter, All-head, All-nil, All-tail}
-use Rattle.zpl_region.proofs.ListLemmas.{Among, all_from_among, among_filtered}
+use Rattle.zpl_region.proofs.ListLemmas.{all_from_among, among_filtered}
 use Rattle.grid_layout.specs.Layout.{Arrangement, IsArrayBox, box_at, no_box}
 use Rattle.remap_plan.specs.Request.{asked_of, asks_of, home_of, is_home, is_number, rank_of}
 use Rattle.remap_plan.specs.Tuples.{first_tuples, joined, tuple_at, tuples_in}

@@ -80,7 +80,14 @@ fn compare(rt: &impl Abort, alloc: Global, layout: &Layout, p: u32, values: &[i6
 fn remaps_over_two_by_two(rt: HostRuntime) {
     let grid = Grid::new(&[2, 2]).expect(&rt, "a grid");
     let layout = Layout::new(rt.alloc(), grid, &[square()]).expect(&rt, "a layout");
-    compare(&rt, rt.alloc(), &layout, 0, &[11, 12, 21, 22], &[22, 12, 22]);
+    compare(
+        &rt,
+        rt.alloc(),
+        &layout,
+        0,
+        &[11, 12, 21, 22],
+        &[22, 12, 22],
+    );
     compare(&rt, rt.alloc(), &layout, 1, &[13, 14, 23, 24], &[]);
     compare(&rt, rt.alloc(), &layout, 2, &[31, 32, 41, 42], &[41]);
     compare(&rt, rt.alloc(), &layout, 3, &[33, 34, 43, 44], &[34]);

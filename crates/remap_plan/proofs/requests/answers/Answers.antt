@@ -1,4 +1,4 @@
-use Rattle.std.proofs.Common.{◌≡◌, ◌∙◌, sym, ap, arith, get_or, to_z, of_z, w64, pos, ℤ, List, Vec, Global}
+use Rattle.std.proofs.Common.{◌≡◌, ◌∙◌, ap, arith, get_or, to_z, of_z, w64, pos}
 use Rattle.std.proofs.lemmas.Int.{ints}
 use Rattle.remap_plan.specs.Request.{held_value}
 use Rattle.remap_plan.proofs.HomeLemmas.{held_here}

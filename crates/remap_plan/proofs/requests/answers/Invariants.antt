@@ -1,4 +1,4 @@
-use Rattle.std.proofs.Common.{◌≡◌, ◌++◌, map, vec_len}
+use Rattle.std.proofs.Common.{◌≡◌, ◌++◌, map}
 use Rattle.remap_plan.specs.Request.{held_value}
 use Rattle.remap_plan.specs.Tuples.{first_tuples}
 use Rattle.remap_plan.proofs.requests.answers.Given as goal

@@ -1,4 +1,4 @@
-use Rattle.std.proofs.Common.{◌≡◌, ◌∙◌, refl, sym, ap, arith, ◌+◌, ◌-◌, ◌*◌, ◌++◌, take, drop, List, ℤ, Vec, Global}
+use Rattle.std.proofs.Common.{◌≡◌, ◌∙◌, refl, sym, ap, ◌+◌, ◌-◌, ◌*◌, ◌++◌, take, drop, List, ℤ, Vec, Global}
 use Rattle.remap_plan.specs.Request.{is_home}
 use Rattle.remap_plan.specs.Tuples.{tuple_at}
 use Rattle.remap_plan.proofs.RequestLemmas.{asked_more, asked_same, range_is_tuple}

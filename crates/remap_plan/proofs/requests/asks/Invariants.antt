@@ -1,4 +1,4 @@
-use Rattle.std.proofs.Common.{◌≡◌, ◌++◌, vec_len}
+use Rattle.std.proofs.Common.{◌≡◌, ◌++◌}
 use Rattle.std.specs.List.{filter}
 use Rattle.remap_plan.specs.Request.{is_home}
 use Rattle.remap_plan.specs.Tuples.{first_tuples, joined}
