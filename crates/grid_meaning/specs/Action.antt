@@ -5,8 +5,8 @@ use Rattle.grid_links.specs.declared.messages.Message.{Message}
 use Rattle.grid_links.specs.Machine.{Act, Goes, Fed}
 use Rattle.grid_meaning.specs.Local.{Local, left}
 
--- What is wrong where a processor is stuck: a message's tag or length, or a place that isn't held; or that no meaning was given
--- so far to the row that is next: good code never comes to such a row.
+-- What is wrong where a processor is stuck: a message's tag or length, or a place that isn't held; or that the row that is next
+-- names what isn't in its table.
 pub data StuckKind : Type 0 where
   WrongTag : StuckKind
   WrongLength : StuckKind

@@ -10,6 +10,7 @@ use Rattle.zpl_nums.specs.declared.folds.Fold.{Fold}
 use Rattle.zpl_nums.specs.Fold.{folded, joined}
 use Rattle.zpl_region.specs.Region.{outside_of}
 use Rattle.zpl_region.specs.declared.regions.Region.{Region}
+use Rattle.zpl_arrays.specs.Array.{Array}
 use Rattle.zpl_arrays.specs.Border.{border_source}
 use Rattle.zpl_arrays.specs.Flood.{flood_source}
 use Rattle.zpl_arrays.specs.Fold.{agrees}
@@ -18,10 +19,10 @@ use Rattle.grid_meaning.specs.Action.{moves, goes_on}
 use Rattle.grid_meaning.specs.Collective.{Collective, Alone, Sends, TakesFrom, Last, AtOnce, others_where, row_tag}
 use Rattle.grid_meaning.specs.Local.{Local}
 use Rattle.grid_meaning.specs.Owner.{owner_for, region_in, tuples_of}
-use Rattle.grid_meaning.specs.Place.{value_at, values_at, with_values}
+use Rattle.grid_meaning.specs.Place.{value_at, values_at, with_value, with_values}
 
--- The tuples of one processor for which another has a word, or the processor itself one, in row-major order; the word for a
--- tuple, none where a place that it needs isn't held; all tuples that the first turn sets by the processor's own words; and
+-- The tuples for which one processor (the first number) has a word for another (the second), in row-major order; the word for
+-- a tuple, none where a place that it needs isn't held; all tuples that the first turn sets by the processor's own words; and
 -- what a word that is received sets its tuple to, beside the value that is there.
 pub record Delivery : Type 0 where
   pub array : ℕ
@@ -35,19 +36,21 @@ each_word word [] = Some []
 each_word word (t ∷ tuples) =
     option_and_then (λ value. option_map (λ rest. value ∷ rest) (each_word word tuples)) (word t)
 
-abbrev pub each_combined : (ℤ → ℤ → ℤ) → List ℤ → List ℤ → List ℤ
-each_combined f (old ∷ olds) (word ∷ words) = f old word ∷ each_combined f olds words
-each_combined f olds words = []
-
--- the words for some tuples written, or combined with what is there
+-- the words for some tuples written; or combined with what is there, one after another
 abbrev pub with_words : Delivery → Local → List (List ℤ) → List ℤ → Option Local
 with_words d local tuples words =
     option_map (λ stores. record local { stores = stores }) (with_values d.array tuples words local.stores)
 
+abbrev pub combined_into : Delivery → List (List ℤ) → List ℤ → List Array → Option (List Array)
+combined_into d (t ∷ tuples) (word ∷ words) stores =
+    option_and_then (λ old.
+    option_and_then (combined_into d tuples words) (with_value stores d.array t (d.combined old word)))
+    (value_at stores d.array t)
+combined_into d tuples words stores = Some stores
+
 abbrev pub with_combined : Delivery → Local → List (List ℤ) → List ℤ → Option Local
 with_combined d local tuples words =
-    option_and_then (λ old. with_words d local tuples (each_combined d.combined old words))
-    (values_at local.stores d.array tuples)
+    option_map (λ stores. record local { stores = stores }) (combined_into d tuples words local.stores)
 
 -- the first turn is the processor's own; then words go to the others, come from the others, and one more turn is made
 abbrev pub delivered : Tables → ℕ → Delivery → Collective
@@ -68,7 +71,7 @@ delivered code p d = record {
 abbrev pub replaced : ℤ → ℤ → ℤ
 replaced old word = word
 
--- ---- `wrap` and `reflect`: the tuples of `d of R`, each from its source, which is another tuple of the array
+-- ---- `wrap` and `reflect`: the tuples of `d of R`, each from its source, a tuple of the same array
 abbrev pub border_targets : Tables → Border → Region → List ℤ → ℕ → ℕ → List (List ℤ)
 border_targets code kind region shift from to =
     filter (λ t. owner_for code region to (border_source kind region shift t) == from)

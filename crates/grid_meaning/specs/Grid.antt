@@ -84,7 +84,7 @@ counting p turn grid world = record {
   words = grid.words + sum_by (λ message. length message.words) (sent_in turn);
 }
 
--- A turn is given to p. It counts whatever it is; all but a move changes nothing else.
+-- A turn is given to p. It counts whatever it is, a stuck one too; all but a move changes nothing else.
 abbrev pub given_turn : Tables → Option ℕ → Grid → ℕ → Grid
 given_turn code links grid p =
     counting p (next_turn code links grid p) grid (run.given_turn (system_over code links) grid.world p)

@@ -1,5 +1,5 @@
 -- `remap`: each processor asks the others for the values at tuples that its index arrays hold, and answers what they ask.
-use Rattle.std.specs.Prelude.{ℕ, zero, suc, ◌-◌, ◌*◌, ◌%◌, ◌/◌, ◌==◌, nat_le, Bool, true, false, ℤ, pos, List, [], ◌∷◌, ◌++◌, drop, filter, length, map, option_and_then, take, Option, Some, None, if◌then◌else◌}
+use Rattle.std.specs.Prelude.{ℕ, zero, suc, ◌-◌, ◌*◌, ◌%◌, ◌/◌, ◌==◌, nat_le, Bool, ◌||◌, true, false, ℤ, pos, List, [], ◌∷◌, ◌++◌, drop, filter, length, map, option_and_then, take, Option, Some, None, if◌then◌else◌}
 use Rattle.std.specs.List.{flat_map, list_all}
 use Rattle.std.specs.Option.{option_map}
 use Rattle.zpl_region.specs.declared.regions.Region.{Region}
@@ -64,12 +64,13 @@ module _ (code : Tables) (p : ℕ) (array slot from : ℕ) (parts : List ℕ) (r
   abbrev pub wants : Local → Option (List Want)
   wants local = wants_at local parts (tuples_of code p (region_in local slot))
 
-  -- those whose tuple a processor owns, and those whose tuple isn't in the storage
+  -- those whose tuple a processor owns; and those that it settles by itself: its own, and those outside the storage
   abbrev pub wants_of : ℕ → List Want → List Want
   wants_of q all = filter (λ want. is_number (home code storage want.tuple) q) all
 
-  abbrev pub wants_outside : List Want → List Want
-  wants_outside all = filter (λ want. is_none (home code storage want.tuple)) all
+  abbrev pub wants_at_once : List Want → List Want
+  wants_at_once all =
+      filter (λ want. is_number (home code storage want.tuple) p || is_none (home code storage want.tuple)) all
 
   abbrev pub some_wants : Option (List Want) → ℕ → List Want
   some_wants (Some all) q = wants_of q all
@@ -98,14 +99,19 @@ module _ (code : Tables) (p : ℕ) (array slot from : ℕ) (parts : List ℕ) (r
       option_map (λ stores. record local { stores = stores })
       (with_values array (map (λ want. want.index) which) values local.stores)
 
-  -- what the processor owns itself, and 0 where a tuple isn't in the storage
+  -- what the processor owns itself, and 0 where a tuple isn't in the storage: index by index
+  abbrev pub first_value : Local → Want → Option ℤ
+  first_value local want =
+      if is_none (home code storage want.tuple) then Some (pos 0) else value_at local.stores from want.tuple
+
+  abbrev pub first_values : Local → List Want → Option (List ℤ)
+  first_values local [] = Some []
+  first_values local (want ∷ rest) =
+      option_and_then (λ value. option_map (λ values. value ∷ values) (first_values local rest)) (first_value local want)
+
   abbrev pub remap_own : Local → List Want → Option Local
   remap_own local all =
-      let own = wants_of p all in
-      let outside = wants_outside all in
-      option_and_then (written outside (map (λ want. pos 0) outside))
-      (option_and_then (λ values. written own values local)
-      (values_at local.stores from (map (λ want. want.tuple) own)))
+      let first = wants_at_once all in option_and_then (λ values. written first values local) (first_values local first)
 
   abbrev pub answer : Local → ℕ → Option (List ℤ)
   answer local q = values_at local.stores from (requested (words_from local.kept q))

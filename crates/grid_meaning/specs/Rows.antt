@@ -12,7 +12,7 @@ use Rattle.grid_meaning.specs.Gather.{gathered}
 use Rattle.grid_meaning.specs.Remap.{remapped}
 use Rattle.grid_meaning.specs.Scan.{scanned_row}
 
--- what a row does on processor p, if it is one of these and has a meaning so far
+-- what a row does on processor p, if it is one of these
 abbrev pub collective : Tables → ℕ → Instr → Option Collective
 collective code p (instr.Start exchange) = option_map (started code p exchange) (slice_get code.exchanges exchange)
 collective code p (instr.Finish exchange) = option_map (finished code p exchange) (slice_get code.exchanges exchange)

@@ -15,7 +15,7 @@ use Rattle.grid_meaning.specs.Action.{Action, Unheld, moves, goes_on}
 use Rattle.grid_meaning.specs.Collective.{Collective, Sends, TakesFrom, Last, InLast, keeping, others_where, row_tag}
 use Rattle.grid_meaning.specs.Delivery.{each_word}
 use Rattle.grid_meaning.specs.Local.{Local}
-use Rattle.grid_meaning.specs.Owner.{region_in, tuples_of}
+use Rattle.grid_meaning.specs.Owner.{owner_for, region_in, tuples_of}
 use Rattle.grid_meaning.specs.Place.{own_part, value_at, with_values}
 
 -- the number of the dimension along which lines run, counted from 0: the last one where the scan is over all
@@ -72,7 +72,8 @@ module _ (code : Tables) (p : ℕ) (f : Fold) (along : ℕ) (from : ℕ) (mask :
   line_totals local region = each_word (line_total local region) (line_heads code p region (line_dim region along))
 
   -- ---- what stands before a line of the own part: lines of any processor, each told by its head. In a scan over all these are
-  -- earlier lines, and in each scan those parts of the same line that begin before
+  -- earlier lines, and in each scan those parts of the same line that begin before. In a flood dimension, whose one position each
+  -- block has, the lines of the processors with p's block count
   abbrev pub is_before_line : ℕ → ℕ → ℤ → List ℤ → List ℤ → Bool
   is_before_line zero k start head other =
       is_earlier_line k head other || (is_same_tuple head (with_coordinate k start other) && is_below k start other)
@@ -93,7 +94,8 @@ module _ (code : Tables) (p : ℕ) (f : Fold) (along : ℕ) (from : ℕ) (mask :
       let k = line_dim region along in
       let start = line_start code p region k in
       fold (λ so_far entry.
-      joined_before (is_before_line along k start head) (line_heads code entry.0 region k) entry.1 so_far)
+      joined_before (λ other. owner_for code region p other == entry.0 && is_before_line along k start head other)
+      (line_heads code entry.0 region k) entry.1 so_far)
       (unit_of f) (all_totals local own)
 
   -- ---- the last turn: each line of the own part, from what stands before it on. All values are those from before the turn

@@ -8,7 +8,7 @@ use Rattle.zpl_region.specs.declared.dims.Dim.{Dim}
 use Rattle.zpl_region.specs.declared.dims.Dim.TheVariants as dim
 use Rattle.zpl_region.specs.declared.regions.Region.{Region}
 use Rattle.zpl_region.specs.Hull.{all_from}
-use Rattle.zpl_region.specs.Region.{members}
+use Rattle.zpl_region.specs.Region.{IsPadded, members}
 use Rattle.zpl_arrays.specs.Array.{Array, IsArray}
 use Rattle.grid_layout.specs.Layout.{laid_out, held_of, own_first, own_last}
 use Rattle.node_form.specs.declared.arrays.ArrayDim.{ArrayDim}
@@ -49,6 +49,7 @@ AreRoomIn rows lows highs dims = ⊤
 pub record IsRoom (code : Tables) (p : ℕ) (row : ArrayRow) (places : Region) : Type 0 where
   pub some : members places ≢ []
   pub ranked : places.rank ≡ row.rank
+  pub padded : IsPadded places.rank places.dims
   pub many : length places.dims ≡ 3
   pub dims : let blocks = laid_out (arrangement_of code) in
       AreRoomIn row.dims (own_first blocks row.rank p) (own_last blocks row.rank p) places.dims
@@ -113,14 +114,14 @@ IsPart [] ys = ⊤
 IsPart (x ∷ xs) [] = ⊥
 IsPart (x ∷ xs) (y ∷ ys) = ((x ≡ y) × IsPart xs ys) ⊎ IsPart (x ∷ xs) ys
 
--- the words that are kept are those that the row has taken and not used, each of a length that it awaits; of
--- requests these are the ones with words, such as may be taken; they come behind as many turns as there are processors
 -- a request that may be taken in a state, with words in it
 abbrev pub IsRequest : Collective → Local → ℕ × List ℤ → Type 0
 IsRequest row local entry =
     (0 < length entry.1) × (row.awaits local entry.0 (length entry.1) ≡ true)
     × IsSome (row.taken local entry.0 entry.1)
 
+-- the words that are kept are those that the row has taken and not used, each of a length that it awaits; of
+-- requests these are the ones with words, such as may be taken; they come behind as many turns as there are processors
 abbrev pub KeepsWords : Tables → ℕ → Use → Collective → Local → Type 0
 KeepsWords code p AtOnce row local = local.kept ≡ []
 KeepsWords code p InLast row local =

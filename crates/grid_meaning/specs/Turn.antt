@@ -1,8 +1,7 @@
 -- One turn of a processor: what its next instruction does by itself, and what a message does that it awaits.
 --
---   StuckKind   why a processor is stuck
---   Action      what it does by itself: it sees no link, so being stuck comes before a full one
---   act, fed    what a processor does, and what a message makes of its state
+--   act, fed    what a processor does, and what a message makes of its state: neither sees a link, so being stuck comes before a
+--               full one
 --   turn_at     its turn, by the messages for it and the room on its own links
 use Rattle.std.specs.Prelude.{ℕ, ◌+◌, ◌==◌, ℤ, List, [], length, Option, Some, None, slice_get, if◌then◌else◌}
 use Rattle.std.specs.Fmt.{signed_decimal}
@@ -31,7 +30,7 @@ registers_of local = record { scalars = local.scalars; slots = local.slots }
 abbrev pub with_registers : Local → Registers → Local
 with_registers local registers = record local { scalars = registers.scalars; slots = registers.slots }
 
--- what is neither such a row nor any other that has a meaning leaves the processor stuck
+-- what is neither such a row nor any other leaves the processor stuck
 abbrev pub controlled : Local → Control → Action
 controlled local (Steps registers) = moves (goes_on (with_registers local registers)) []
 controlled local (Leaps goal) = moves (goes_to local goal) []
