@@ -1,7 +1,7 @@
 -- Totals and scans of 11 14 / 31 34 cut in two, computed on small rows.
 use Rattle.std.proofs.Common.{◌≡◌, refl, List, [], ◌∷◌, Some, None, Option, ℤ, pos}
 use Rattle.std.specs.Int.{int_wrap}
-use Rattle.zpl_nums.specs.declared.folds.Fold.TheVariants.{Sum, Max}
+use Rattle.zpl_nums.specs.declared.folds.Fold.TheVariants.{Sum}
 use Rattle.zpl_region.specs.declared.dims.Dim.{Dim}
 use Rattle.zpl_region.specs.declared.regions.Region.{Region}
 use Rattle.zpl_region.specs.Hull.{all_from}

@@ -2,6 +2,7 @@ pub mod BeforeLemmas
 pub mod BehindLemmas
 pub mod BlockLemmas
 pub mod BlockScanLemmas
+pub mod Examples
 pub mod GoneLemmas
 pub mod LineLemmas
 pub mod OwnedLemmas

@@ -18,11 +18,11 @@ use Rattle.scan_plan.proofs.scans.befores.Goals as goal
 use Rattle.scan_plan.proofs.scans.befores.Goals.{After-heads-own, then-along-eq0, else-along-eq0}
 
 pub heads-own-requires-clause-region : goal.heads-own-requires-clause-region
-heads-own-requires-clause-region c = subst IsRegion (sym c.owned.ensures) (owned_region c.args.blocks.now c.args.p c.args.p c.args.region.now c.requires.blocks c.requires.region)
+heads-own-requires-clause-region c = subst IsRegion (sym c.owned.ensures.owned) (owned_region c.args.blocks.now c.args.p c.args.p c.args.region.now c.requires.blocks c.requires.region)
 
 own_is : (c : After-heads-own) → ◌≡◌ {A = Region} c.heads-own.result (heads (line_dim c.args.region.now.rank c.args.along) (owned_part c.args.blocks.now c.args.p c.args.p c.args.region.now))
 own_is c =
-    c.heads-own.ensures.heads ∙ (ap (λ k. heads k c.owned.result) c.line_dim-k.ensures ∙ ap (heads (line_dim c.args.region.now.rank c.args.along)) c.owned.ensures)
+    c.heads-own.ensures.heads ∙ (ap (λ k. heads k c.owned.result) c.line_dim-k.ensures ∙ ap (heads (line_dim c.args.region.now.rank c.args.along)) c.owned.ensures.owned)
 
 pub loop-q-init : goal.loop-q-init
 loop-q-init c =
@@ -34,7 +34,7 @@ loop-q-init c =
 
 pub heads-part-requires-clause-region : goal.heads-part-requires-clause-region
 heads-part-requires-clause-region c =
-    subst IsRegion (sym c.owned-in-loop-q.ensures) (owned_region c.args.blocks.now c.loop-q.q c.args.p c.args.region.now c.requires.blocks c.requires.region)
+    subst IsRegion (sym c.owned-in-loop-q.ensures.owned) (owned_region c.args.blocks.now c.loop-q.q c.args.p c.args.region.now c.requires.blocks c.requires.region)
 
 pub add_totals-requires-clause-alone : goal.add_totals-requires-clause-alone
 add_totals-requires-clause-alone c = λ some.
@@ -52,7 +52,7 @@ loop-q-preserved c =
     let below : c.loop-q.q < processors_of blocks.grid = omega (arith, c.count-q-end.ensures.count) in
     let so_far = lines_of k (take q parts) (take q all) in
     let part_is : ◌≡◌ {A = Region} c.heads-part.result (heads k (get_or parts q (owned_part blocks 0 c.args.p c.args.region.now))) =
-    c.heads-part.ensures.heads ∙ ap (heads k) (c.owned-in-loop-q.ensures ∙ sym (part_at blocks c.args.p q c.args.region.now below)) in
+    c.heads-part.ensures.heads ∙ ap (heads k) (c.owned-in-loop-q.ensures.owned ∙ sym (part_at blocks c.args.p q c.args.region.now below)) in
     written_back c.loop-q.kept.len c.add_totals.new.kept c.loop-q.kept.items (omega (arith, c.deref_mut.ensures.len)) (omega arith)
     ∙ (c.add_totals.ensures so_far (c.deref_mut.ensures.value ∙ c.loop-q.invariant)
     ∙ ap (gone_through c.args.fold c.args.along (members c.heads-own.result))

@@ -18,7 +18,7 @@ use Rattle.scan_plan.proofs.scans.scan_block.Goals as goal
 use Rattle.scan_plan.proofs.scans.scan_block.Goals.{After-owned, After-of-lines, After-number-line, Joined-value, in-Some, in_default}
 
 part_is : (c : After-owned) → ◌≡◌ {A = Region} c.owned.result (owned_part (laid_out c.args.layout.now) c.args.p c.args.p c.args.region.now)
-part_is c = c.owned.ensures ∙ ap (λ (b : Blocks). owned_part b c.args.p c.args.p c.args.region.now) c.blocks-blocks.ensures.blocks
+part_is c = c.owned.ensures.owned ∙ ap (λ (b : Blocks). owned_part b c.args.p c.args.p c.args.region.now) c.blocks-blocks.ensures.blocks
 
 is_region : (c : After-owned) → IsRegion (owned_part (laid_out c.args.layout.now) c.args.p c.args.p c.args.region.now)
 is_region c =
