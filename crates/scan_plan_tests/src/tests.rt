@@ -1,5 +1,5 @@
 //! Scans cut over the blocks of grids, compared with plain counts over all tuples.
-ghost use Rattle.std.specs.Prelude.{◌≡◌, ◌≤◌, ◌<◌, ◌^◌, ◌≤ℤ◌, IfOk, IfSome, length, pos};
+ghost use Rattle.std.specs.Prelude.{◌≡◌, ◌≤◌, ◌<◌, ◌^◌, IfOk, IfSome, length};
 ghost use Rattle.zpl_region.specs.Dim.{HasStep};
 ghost use Rattle.zpl_region.specs.Region.{IsRegion, members};
 ghost use Rattle.grid_layout.specs.Grid.{processors_of};
@@ -134,15 +134,14 @@ fn compare(
     Ok(())
 }
 
-/// The numbers from 1 to `hi` with a step between them, from `first` on.
+/// The numbers from 1 to `hi` with a step of at least 1 between them, from `first` on.
 fn every(first: i64, hi: i64, step: i64) -> Dim
-    requires { pos 1 ≤ℤ step }
     ensures { HasStep result }
 {
     Dim::Range {
         lo: 1,
         hi,
-        step,
+        step: step.max(1),
         align: first,
     }
 }
