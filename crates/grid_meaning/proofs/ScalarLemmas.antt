@@ -28,7 +28,7 @@ use Rattle.grid_meaning.specs.Grid.{Grid, system_over, start_grid, next_turn, co
 use Rattle.grid_meaning.proofs.GridLemmas.{seen, length-after}
 
 -- ---- what a row does
-IsSilent-controlled : (local : Local) (c : Control) → IsSilent (controlled local c)
+pub IsSilent-controlled : (local : Local) (c : Control) → IsSilent (controlled local c)
 IsSilent-controlled local (Steps registers) = refl
 IsSilent-controlled local (Leaps goal) = refl
 IsSilent-controlled local (Ends ending) = refl
@@ -38,11 +38,11 @@ IsSilent-prints : (p : ℕ) (local : Local) (bytes : List ℕ) → IsSilent (pri
 IsSilent-prints zero local bytes = refl
 IsSilent-prints (suc p) local bytes = refl
 
-IsSilent-text : (p : ℕ) (local : Local) (text : Option (List ℕ)) → IsSilent (prints_text p local text)
+pub IsSilent-text : (p : ℕ) (local : Local) (text : Option (List ℕ)) → IsSilent (prints_text p local text)
 IsSilent-text p local (Some text) = IsSilent-prints p local text
 IsSilent-text p local None = tt
 
-IsSilent-value : (p : ℕ) (local : Local) (value : Computed ℤ) (text : ℤ → List ℕ) → IsSilent (prints_value p local value text)
+pub IsSilent-value : (p : ℕ) (local : Local) (value : Computed ℤ) (text : ℤ → List ℕ) → IsSilent (prints_value p local value text)
 IsSilent-value p local (Gives value) text = IsSilent-prints p local (text value)
 IsSilent-value p local Divides text = refl
 IsSilent-value p local Lacks text = tt

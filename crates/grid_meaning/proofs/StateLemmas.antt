@@ -1,5 +1,5 @@
 -- The states that a processor may have are kept by its moves.
-use Rattle.std.proofs.Common.{◌≡◌, inl, ℕ, zero, suc, ◌+◌, ◌-◌, ◌<◌, ◌≤◌, ◌↔◌, Bool, true, false, List, [], ◌∷◌, ◌++◌, length, map, take, replicate, refl, sym, ap, ◌∙◌, subst, cond, ◌==◌, ℤ, pos, arith, append-nil, append_assoc, length-append, length-take}
+use Rattle.std.proofs.Common.{◌≡◌, inl, ℕ, zero, suc, ◌+◌, ◌-◌, ◌<◌, ◌≤◌, ◌↔◌, Bool, true, false, List, [], ◌∷◌, ◌++◌, length, map, take, drop, replicate, refl, sym, ap, ◌∙◌, subst, cond, ◌==◌, ℤ, pos, arith, append-nil, append_assoc, length-append, length-take}
 use Rattle.std.specs.Prelude.{Option, Some, None, IsSome, All, slice_get, slice_set, option_and_then, IsTrue}
 use Rattle.std.specs.List.{AllZip}
 use Rattle.std.specs.Option.{IsSomeAnd, option_map}
@@ -8,6 +8,7 @@ use Rattle.std.proofs.lemmas.List.Elements.{All-nil, All-cons, All-append, All-h
 use Rattle.std.proofs.Math.ListN.{length-set}
 use Rattle.std.proofs.lemmas.Option.{slice_get_within}
 use Rattle.zpl_nums.specs.declared.ends.End.{End}
+use Rattle.zpl_nums.specs.declared.ends.Border.{Border}
 use Rattle.zpl_nums.specs.declared.ends.TrapKind.{TrapKind}
 use Rattle.zpl_region.specs.declared.dims.Dim.{Dim}
 use Rattle.zpl_region.specs.declared.dims.Dim.TheVariants as dim
@@ -30,7 +31,7 @@ use Rattle.node_form.specs.declared.instructions.RegionForm.TheVariants.{Of, Ins
 use Rattle.zpl_nums.specs.Integer.{is_true}
 use Rattle.zpl_nums.specs.declared.folds.Fold.{Fold}
 use Rattle.grid_meaning.proofs.RegionLemmas.{HasStep-outside, HasStep-inside, HasStep-moved, HasStep-strided, steps-each, padded-each, padded-behind, no_steps, places_steps}
-use Rattle.zpl_arrays.specs.Array.{array_of}
+use Rattle.zpl_arrays.specs.Array.{Array, array_of, has_place, updated}
 use Rattle.grid_layout.specs.Layout.{laid_out}
 use Rattle.grid_meaning.specs.Stored.{arrangement_of, no_places}
 use Rattle.node_form.specs.declared.instructions.DimRow.{DimRow}
@@ -40,17 +41,18 @@ use Rattle.std.proofs.lemmas.Int.{ints}
 use Rattle.node_form.specs.Fits.{Fits, FitsInstr, IsRank}
 use Rattle.grid_meaning.specs.Action.{Action, Feeding, WrongTag, WrongLength, ended_as, goes_on, prints}
 use Rattle.grid_meaning.specs.Collective.{Collective, Stage, Alone, Sends, TakesFrom, Last, Use, AtOnce, InLast, Asking, Kin, to_parent, agreeing_stages, star, tree, others, others_where, decided, keeping, voted, folded}
-use Rattle.grid_meaning.specs.Delivery.{edged, flooded, parted}
-use Rattle.grid_meaning.specs.Exchange.{started, finished, word_count}
+use Rattle.grid_meaning.specs.Delivery.{Delivery, delivered, each_word, edged, edging, flooded, flooding, parted, parting, combined_into, with_combined, with_words}
+use Rattle.grid_meaning.specs.Exchange.{started, finished, places_of, word_count, words_written}
 use Rattle.grid_meaning.specs.Gather.{gathered, gather_last, gather_stages, prints_gathered}
 use Rattle.grid_meaning.specs.Owner.{region_in, tuples_of}
-use Rattle.grid_meaning.specs.Place.{values_at}
+use Rattle.grid_meaning.specs.Place.{held_with, value_at, values_at, where_held, with_value, with_values}
 use Rattle.grid_meaning.specs.Remap.{remapped}
-use Rattle.grid_meaning.specs.Scan.{scanned_row}
+use Rattle.grid_meaning.specs.Scan.{line_dim, line_heads, line_of, line_totals, scan_done, scan_last, scan_values, scanned_row, with_line, with_lines}
 use Rattle.grid_meaning.specs.Local.{Local, left, processors, start_local, start_places}
+use Rattle.grid_meaning.specs.Room.{cleared, with_store, zeros_at}
 use Rattle.grid_meaning.specs.Rows.{collective}
-use Rattle.grid_meaning.specs.Turn.{act, act_at, fed, unless_ended, act_in, fed_at, controlled, fed_by, fed_in, sends, steps_on, takes, prints_text, prints_value, registers_of, with_registers}
-use Rattle.grid_meaning.specs.State.{ArePlaces, WritesNone, WritesNoArray, IsSlot, IsStore, HasParts, IsLocal, IsOutside, IsFresh, IsLooping, IsIn, IsAt, IsRequest, KeepsWords, IsPart, Stands, senders}
+use Rattle.grid_meaning.specs.Turn.{act, act_at, act_together, fed_together, fed, unless_ended, act_in, fed_at, controlled, fed_by, fed_in, sends, steps_on, takes, prints_text, prints_value, registers_of, with_registers}
+use Rattle.grid_meaning.specs.State.{ArePlaces, StandsSteady, IsSteady, IsSlot, IsStore, HasParts, IsLocal, IsOutside, IsFresh, IsLooping, IsIn, IsAt, IsRequest, KeepsWords, IsPart, Stands, senders}
 
 -- ---- lists side by side
 module _ {A B : Type 0} (R : A → B → Type 0) where
@@ -741,6 +743,262 @@ module _ (code : Tables) (p : ℕ) where
         by None = tt
     IsKept-gathered (suc q) truth array region local parts below = IsLocal-left local (local.at + 1) parts (omega arith)
 
+    -- ---- rows that write to stores
+    abbrev AreStores : List Array → Type 0
+    AreStores stores = AllZip (IsStore code p) code.arrays stores
+
+    abbrev IfStores : Option (List Array) → Type 0
+    IfStores None = Unit {0}
+    IfStores (Some stores) = AreStores stores
+
+    IfStores-then : (first : Option (List Array)) (next : List Array → Option (List Array)) → IfStores first
+        → ((stores : List Array) → AreStores stores → IfStores (next stores)) → IfStores (option_and_then next first)
+    IfStores-then None next all goes = tt
+    IfStores-then (Some stores) next all goes = goes stores all
+
+    IsStore-updated : (row : ArrayRow) (store : Array) (t : List ℤ) (value : ℤ) → IsStore code p row store
+        → IsStore code p row (updated store t value)
+    IsStore-updated row store t value is = record {
+      filled = record { filled = length-set store.values _ value ∙ is.filled.filled; steps = is.filled.steps };
+      places = is.places;
+    }
+
+    IfStores-value : (stores : List Array) (array : ℕ) (t : List ℤ) (value : ℤ) → AreStores stores
+        → IfStores (with_value stores array t value)
+    IfStores-value stores array t value all = by (slice_get stores array) refl
+      where
+        held : (store : Array) (b : Bool) → slice_get stores array ≡ Some store
+            → IfStores (option_map (slice_set stores array) (where_held b (updated store t value)))
+        held store true is =
+            let found = AllZip-back (IsStore code p) code.arrays stores array store all is in
+            AllZip-set (IsStore code p) code.arrays stores array found.0 (updated store t value) all found.1
+            (IsStore-updated found.0 store t value found.2)
+        held store false is = tt
+
+        by : (found : Option Array) → slice_get stores array ≡ found
+            → IfStores (option_map (slice_set stores array) (option_and_then (held_with t value) found))
+        by None is = tt
+        by (Some store) is = held store (has_place store.storage t) is
+
+    IfStores-values : (array : ℕ) (places : List (List ℤ)) (values : List ℤ) (stores : List Array) → AreStores stores
+        → IfStores (with_values array places values stores)
+    IfStores-values array [] values stores all = all
+    IfStores-values array (t ∷ places) [] stores all = all
+    IfStores-values array (t ∷ places) (value ∷ values) stores all =
+        IfStores-then (with_value stores array t value) (with_values array places values)
+        (IfStores-value stores array t value all) (λ more are. IfStores-values array places values more are)
+
+    IfStores-written : (local : Local) (from to : ℕ) (items : List Item) (words : List ℤ) (stores : List Array)
+        → AreStores stores → IfStores (words_written code local from to items words stores)
+    IfStores-written local from to [] words stores all = all
+    IfStores-written local from to (item ∷ items) words stores all =
+        let places = places_of code local from to item in
+        IfStores-then (with_values item.array places (take (length places) words) stores)
+        (words_written code local from to items (drop (length places) words))
+        (IfStores-values item.array places (take (length places) words) stores all)
+        (λ more are. IfStores-written local from to items (drop (length places) words) more are)
+
+    -- only the stores of a state change
+    record OnlyStores (old next : Local) : Type 0 where
+      stores : List Array
+      is : next ≡ record old { stores = stores }
+      are : AreStores stores
+
+    abbrev IfOnly : Local → Option Local → Type 0
+    IfOnly old None = Unit {0}
+    IfOnly old (Some next) = OnlyStores old next
+
+    IfOnly-stores : (old : Local) (stores : Option (List Array)) → IfStores stores
+        → IfOnly old (option_map (λ s. record old { stores = s }) stores)
+    IfOnly-stores old None all = tt
+    IfOnly-stores old (Some stores) all = record { stores = stores; is = refl; are = all }
+
+    IfOnly-then : {X : Type 0} (old : Local) (found : Option X) (next : X → Option Local) → ((x : X) → IfOnly old (next x))
+        → IfOnly old (option_and_then next found)
+    IfOnly-then old None next goes = tt
+    IfOnly-then old (Some x) next goes = goes x
+
+    -- such a row uses words at once
+    record Using (c : Collective) (local : Local) : Type 0 where
+      parts : HasParts code p local
+      below : local.at < length code.code
+      outside : IsOutside local
+      none_kept : local.kept ≡ []
+      none : local.ended ≡ None
+      ends : EndsOnce (c.stages local)
+      stands : (next : Local) → next.at ≡ local.at → IsOutside next → next.made < length (c.stages next)
+          → next.kept ≡ [] → Stands code p next
+      same_stages : (stores : List Array) → c.stages (record local { made = local.made + 1; stores = stores }) ≡ c.stages local
+      alone : IfOnly local (c.alone local)
+      taken : (from : ℕ) (words : List ℤ) → IfOnly local (c.taken local from words)
+
+    IsLocal-used : (c : Collective) (local : Local) (stores : List Array) (stage : Stage) → Using c local → AreStores stores
+        → slice_get (c.stages local) local.made ≡ Some stage → IsNotLast stage
+        → IsLocal code p (record local { made = local.made + 1; stores = stores })
+    IsLocal-used c local stores stage u are here not_last =
+        let next = record local { made = local.made + 1; stores = stores } in
+        record {
+          parts = record {
+            scalars = u.parts.scalars;
+            cells = u.parts.cells;
+            slots = u.parts.slots;
+            stores = are;
+            flag = u.parts.flag;
+          };
+          at = omega (arith, u.below);
+          running = λ none. u.stands next refl (record { index = u.outside.index; member = u.outside.member })
+              (omega (
+                arith,
+                ap length (u.same_stages stores),
+                more_stages (c.stages local) local.made stage u.ends here not_last,
+              )) u.none_kept;
+          over = λ some. absurd (not_both local.ended u.none some);
+        }
+      where
+        not_both : (ended : Option End) → ended ≡ None → IsSome ended → ⊥
+        not_both None e h = cc
+        not_both (Some ending) e h = cc
+
+    used_alone : (c : Collective) (local : Local) (next : Option Local) → Using c local → IfOnly local next
+        → slice_get (c.stages local) local.made ≡ Some Alone → IsKept (steps_on next)
+    used_alone c local None u only here = tt
+    used_alone c local (Some next) u only here =
+        subst (λ (n : Local). IsLocal code p (record n { made = n.made + 1 })) (sym only.is)
+        (IsLocal-used c local only.stores Alone u only.are here tt)
+
+    used_sends : (c : Collective) (local : Local) (to : ℕ) (words : Option (List ℤ)) → Using c local
+        → slice_get (c.stages local) local.made ≡ Some (Sends to) → IsKept (sends c local to words)
+    used_sends c local to (Some words) u here = IsLocal-used c local local.stores (Sends to) u u.parts.stores here tt
+    used_sends c local to None u here = tt
+
+    used_in : (c : Collective) (local : Local) (stage : Option Stage) → Using c local → IsKept (c.last local)
+        → slice_get (c.stages local) local.made ≡ stage → IsKept (act_in c local stage)
+    used_in c local (Some Alone) u last here = used_alone c local (c.alone local) u u.alone here
+    used_in c local (Some (Sends to)) u last here = used_sends c local to (c.words_to local to) u here
+    used_in c local (Some (TakesFrom from)) u last here = tt
+    used_in c local (Some Last) u last here = last
+    used_in c local None u last here = tt
+
+    used_takes : (c : Collective) (local : Local) (from : ℕ) (next : Option Local) → Using c local → IfOnly local next
+        → slice_get (c.stages local) local.made ≡ Some (TakesFrom from) → IsFedKept (takes next)
+    used_takes c local from None u only here = tt
+    used_takes c local from (Some next) u only here =
+        subst (λ (n : Local). IsLocal code p (record n { made = n.made + 1 })) (sym only.is)
+        (IsLocal-used c local only.stores (TakesFrom from) u only.are here tt)
+
+    used_by : (c : Collective) (local : Local) (from : ℕ) (message : Message) → Using c local
+        → slice_get (c.stages local) local.made ≡ Some (TakesFrom from) → IsFedKept (fed_by c local from message)
+    used_by c local from message u here = by (message.tag == c.tag local) (c.awaits local from (length message.words))
+      where
+        by : (tagged long : Bool)
+            → IsFedKept (cond tagged (cond long (takes (c.taken local from message.words)) (Refuses WrongLength)) (Refuses WrongTag))
+        by true true = used_takes c local from (c.taken local from message.words) u (u.taken from message.words) here
+        by true false = tt
+        by false long = tt
+
+    used_fed : (c : Collective) (local : Local) (message : Message) (stage : Option Stage) → Using c local
+        → slice_get (c.stages local) local.made ≡ stage → IsFedKept (fed_in c local message stage)
+    used_fed c local message (Some Alone) u here = tt
+    used_fed c local message (Some (Sends to)) u here = tt
+    used_fed c local message (Some (TakesFrom from)) u here = used_by c local from message u here
+    used_fed c local message (Some Last) u here = tt
+    used_fed c local message None u here = tt
+
+    -- ---- deliveries
+    IfOnly-words : (d : Delivery) (local : Local) (tuples : List (List ℤ)) (words : List ℤ) → AreStores local.stores
+        → IfOnly local (with_words d local tuples words)
+    IfOnly-words d local tuples words are =
+        IfOnly-stores local _ (IfStores-values d.array tuples words local.stores are)
+
+    IfStores-found : (found : Option ℤ) (next : ℤ → Option (List Array)) → ((old : ℤ) → IfStores (next old))
+        → IfStores (option_and_then next found)
+    IfStores-found None next goes = tt
+    IfStores-found (Some old) next goes = goes old
+
+    IfStores-combined : (d : Delivery) (tuples : List (List ℤ)) (words : List ℤ) (stores : List Array) → AreStores stores
+        → IfStores (combined_into d tuples words stores)
+    IfStores-combined d [] words stores all = all
+    IfStores-combined d (t ∷ tuples) [] stores all = all
+    IfStores-combined d (t ∷ tuples) (word ∷ words) stores all =
+        IfStores-found (value_at stores d.array t) _ (λ old.
+        IfStores-then (with_value stores d.array t (d.combined old word)) (combined_into d tuples words)
+        (IfStores-value stores d.array t (d.combined old word) all)
+        (λ more are. IfStores-combined d tuples words more are))
+
+    IfOnly-combined : (d : Delivery) (local : Local) (tuples : List (List ℤ)) (words : List ℤ) → AreStores local.stores
+        → IfOnly local (with_combined d local tuples words)
+    IfOnly-combined d local tuples words are =
+        IfOnly-stores local _ (IfStores-combined d tuples words local.stores are)
+
+    IfOnly-own : (d : Delivery) (local : Local) → AreStores local.stores
+        → IfOnly local ((delivered code p d).alone local)
+    IfOnly-own d local are =
+        IfOnly-then local (each_word (d.word local) (d.own local)) _ (λ words. IfOnly-words d local (d.own local) words are)
+
+    -- ---- lines of a scan
+    module _ (f : Fold) (along from : ℕ) (mask : Option ℕ) (array : ℕ) where
+      OnlyStores-line : (old local : Local) (region : Region) (own head : List ℤ) → OnlyStores old local
+          → IfOnly old (with_line code p f along from mask array old region own head local)
+      OnlyStores-line old local region own head only =
+          IfOnly-then old (scan_values old from mask (line_of code p region (line_dim region along) head)) _ (λ values.
+          moved_on (with_values array _ _ local.stores) (IfStores-values array _ _ local.stores stores_are))
+        where
+          stores_are : AreStores local.stores
+          stores_are = subst AreStores (sym (ap (λ (l : Local). l.stores) only.is)) only.are
+
+          moved_on : (stores : Option (List Array)) → IfStores stores
+              → IfOnly old (option_map (λ s. record local { stores = s }) stores)
+          moved_on None all = tt
+          moved_on (Some stores) all = record {
+            stores = stores;
+            is = ap (λ (l : Local). record l { stores = stores }) only.is;
+            are = all;
+          }
+
+      OnlyStores-lines : (old local : Local) (region : Region) (own : List ℤ) (heads : List (List ℤ)) → OnlyStores old local
+          → IfOnly old (with_lines code p f along from mask array old region own heads local)
+      OnlyStores-lines old local region own [] only = only
+      OnlyStores-lines old local region own (head ∷ heads) only =
+          then_lines (with_line code p f along from mask array old region own head local)
+          (OnlyStores-line old local region own head only)
+          (λ next more. OnlyStores-lines old next region own heads more)
+        where
+          then_lines : (first : Option Local) → IfOnly old first
+              → ((next : Local) → OnlyStores old next
+              → IfOnly old (with_lines code p f along from mask array old region own heads next))
+              → IfOnly old (option_and_then (with_lines code p f along from mask array old region own heads) first)
+          then_lines None only goes = tt
+          then_lines (Some next) only goes = goes next only
+
+      IsKept-scan : (local : Local) (region : Region) → HasParts code p local → local.at < length code.code
+          → IsKept (scan_last code p f along from mask array local region)
+      IsKept-scan local region parts below =
+          done (option_and_then (λ own. with_lines code p f along from mask array local region own
+          (line_heads code p region (line_dim region along)) local) (line_totals code p f along from mask local region))
+          (IfOnly-then local (line_totals code p f along from mask local region) _ (λ own.
+          OnlyStores-lines local local region own _ (record { stores = local.stores; is = refl; are = parts.stores })))
+        where
+          done : (next : Option Local) → IfOnly local next → IsKept (scan_done code p f along from mask next)
+          done None only = tt
+          done (Some next) only =
+              subst (λ n. IsLocal code p (goes_on n)) (sym only.is)
+              (IsLocal-left (record local { stores = only.stores }) (local.at + 1) (record {
+                scalars = parts.scalars;
+                cells = parts.cells;
+                slots = parts.slots;
+                stores = only.are;
+                flag = parts.flag;
+              }) (omega arith))
+
+    IsCalm-scanned : (f : Fold) (along from : ℕ) (mask : Option ℕ) (array slot : ℕ) (local : Local)
+        → IsCalm (scanned_row code p f along from mask array slot) local
+    IsCalm-scanned f along from mask array slot local = record {
+      alone = refl;
+      taken = λ q words. refl;
+      same_stages = λ more. refl;
+      same_awaits = λ more q many. refl;
+    }
+
     -- ---- each row
     module _ (slot_fits : (tables : Tables) (i rank : ℕ) → Fits tables → slice_get tables.slots i ≡ Some rank → IsRank rank)
         (limit_told : (r : Region) → All HasStep r.dims → IsTrue (is_within_limit r) ↔ IsWithinLimit r)
@@ -761,6 +1019,127 @@ module _ (code : Tables) (p : ℕ) where
             subst (IsAt code p next) (sym (ap (slice_get code.code) at ∙ here)) (again next out few words);
       }
 
+      using_in : (row : Instr) (c : Collective) → slice_get code.code local.at ≡ Some row → IsOutside local
+          → local.kept ≡ [] → EndsOnce (c.stages local)
+          → ((next : Local) → IsOutside next → (next.made < length (c.stages next)) → next.kept ≡ []
+          → IsAt code p next (Some row))
+          → ((stores : List Array) → c.stages (record local { made = local.made + 1; stores = stores }) ≡ c.stages local)
+          → IfOnly local (c.alone local) → ((from : ℕ) (words : List ℤ) → IfOnly local (c.taken local from words))
+          → Using c local
+      using_in row c here outside none_kept ends again same alone taken = record {
+        parts = is_local.parts;
+        below = slice_get_within code.code local.at row here;
+        outside = outside;
+        none_kept = none_kept;
+        none = none;
+        ends = ends;
+        stands = λ next at out few kept.
+            subst (IsAt code p next) (sym (ap (slice_get code.code) at ∙ here)) (again next out few kept);
+        same_stages = same;
+        alone = alone;
+        taken = taken;
+      }
+
+      using_edge : (kind : Border) (array slot : ℕ) (shift : List ℤ)
+          → slice_get code.code local.at ≡ Some (instr.Edge kind array slot shift)
+          → Using (edged code p kind array slot shift) local
+      using_edge kind array slot shift here =
+          let at = subst (IsAt code p local) here (is_local.running none) in
+          let d = edging code p kind array slot shift in
+          using_in (instr.Edge kind array slot shift) (edged code p kind array slot shift) here at.0 at.1.1
+          (EndsOnce-delivered code p _ _) (λ next out few kept. (out, (few, kept))) (λ stores. refl)
+          (IfOnly-own d local is_local.parts.stores) (λ from words. IfOnly-combined d local _ words is_local.parts.stores)
+
+      using_flood : (array target from source : ℕ)
+          → slice_get code.code local.at ≡ Some (instr.Flood array target from source)
+          → Using (flooded code p array target from source) local
+      using_flood array target from source here =
+          let at = subst (IsAt code p local) here (is_local.running none) in
+          let d = flooding code p array target from source in
+          using_in (instr.Flood array target from source) (flooded code p array target from source) here at.0 at.1.1
+          (EndsOnce-delivered code p _ _) (λ next out few kept. (out, (few, kept))) (λ stores. refl)
+          (IfOnly-own d local is_local.parts.stores) (λ q words. IfOnly-combined d local _ words is_local.parts.stores)
+
+      using_part : (array target : ℕ) (f : Fold) (from source : ℕ)
+          → slice_get code.code local.at ≡ Some (instr.Part array target f from source)
+          → Using (parted code p array target f from source) local
+      using_part array target f from source here =
+          let at = subst (IsAt code p local) here (is_local.running none) in
+          let d = parting code p array target f from source in
+          using_in (instr.Part array target f from source) (parted code p array target f from source) here at.0 at.1.1
+          (EndsOnce-delivered code p _ _) (λ next out few kept. (out, (few, kept))) (λ stores. refl)
+          (IfOnly-own d local is_local.parts.stores) (λ q words. IfOnly-combined d local _ words is_local.parts.stores)
+
+      using_start : (exchange : ℕ) (items : List Item) → slice_get code.exchanges exchange ≡ Some items
+          → slice_get code.code local.at ≡ Some (instr.Start exchange) → Using (started code p exchange items) local
+      using_start exchange items is here =
+          let at = subst (IsAt code p local) here (is_local.running none) in
+          let in_row = subst (λ o. IsIn code p (option_map (started code p exchange) o) local) is at.1 in
+          using_in (instr.Start exchange) (started code p exchange items) here at.0 in_row.1
+          (EndsOnce-sends (λ q. q) _ _ EndsOnce-last)
+          (λ next out few kept.
+          (out, subst (λ o. IsIn code p (option_map (started code p exchange) o) next) (sym is) (few, kept)))
+          (λ stores. refl) tt (λ from words. tt)
+
+      using_finish : (exchange : ℕ) (items : List Item) → slice_get code.exchanges exchange ≡ Some items
+          → slice_get code.code local.at ≡ Some (instr.Finish exchange) → Using (finished code p exchange items) local
+      using_finish exchange items is here =
+          let at = subst (IsAt code p local) here (is_local.running none) in
+          let in_row = subst (λ o. IsIn code p (option_map (finished code p exchange) o) local) is at.1 in
+          using_in (instr.Finish exchange) (finished code p exchange items) here at.0 in_row.1
+          (EndsOnce-takes _ _ EndsOnce-last)
+          (λ next out few kept.
+          (out, subst (λ o. IsIn code p (option_map (finished code p exchange) o) next) (sym is) (few, kept)))
+          (λ stores. refl) tt
+          (λ from words. IfOnly-stores local _ (IfStores-written local from p items words local.stores is_local.parts.stores))
+
+      kept_start : (exchange : ℕ) → slice_get code.code local.at ≡ Some (instr.Start exchange) → (found : Option (List Item))
+          → slice_get code.exchanges exchange ≡ found
+          → IsKept (act_together (option_map (started code p exchange) found) local Outside)
+      kept_start exchange here None is = tt
+      kept_start exchange here (Some items) is =
+          used_in (started code p exchange items) local _ (using_start exchange items is here)
+          (IsLocal-left local (local.at + 1) is_local.parts (omega (arith, slice_get_within code.code local.at _ here))) refl
+
+      kept_finish : (exchange : ℕ) → slice_get code.code local.at ≡ Some (instr.Finish exchange) → (found : Option (List Item))
+          → slice_get code.exchanges exchange ≡ found
+          → IsKept (act_together (option_map (finished code p exchange) found) local Outside)
+      kept_finish exchange here None is = tt
+      kept_finish exchange here (Some items) is =
+          used_in (finished code p exchange items) local _ (using_finish exchange items is here)
+          (IsLocal-left local (local.at + 1) is_local.parts (omega (arith, slice_get_within code.code local.at _ here))) refl
+
+      fed_start : (exchange : ℕ) (message : Message) → slice_get code.code local.at ≡ Some (instr.Start exchange)
+          → (found : Option (List Item)) → slice_get code.exchanges exchange ≡ found
+          → IsFedKept (fed_together (option_map (started code p exchange) found) local message)
+      fed_start exchange message here None is = tt
+      fed_start exchange message here (Some items) is =
+          used_fed (started code p exchange items) local message _ (using_start exchange items is here) refl
+
+      fed_finish : (exchange : ℕ) (message : Message) → slice_get code.code local.at ≡ Some (instr.Finish exchange)
+          → (found : Option (List Item)) → slice_get code.exchanges exchange ≡ found
+          → IsFedKept (fed_together (option_map (finished code p exchange) found) local message)
+      fed_finish exchange message here None is = tt
+      fed_finish exchange message here (Some items) is =
+          used_fed (finished code p exchange items) local message _ (using_finish exchange items is here) refl
+
+      kept_clear : (array : ℕ) (found : Option Array) → slice_get local.stores array ≡ found → local.at < length code.code
+          → IsKept (cleared local array found)
+      kept_clear array None is below = tt
+      kept_clear array (Some store) is below =
+          let found = AllZip-back (IsStore code p) code.arrays local.stores array store is_local.parts.stores is in
+          IsLocal-left (with_store local array (zeros_at store.storage)) (local.at + 1) (record {
+            scalars = is_local.parts.scalars;
+            cells = is_local.parts.cells;
+            slots = is_local.parts.slots;
+            stores = AllZip-set (IsStore code p) code.arrays local.stores array found.0 (zeros_at store.storage)
+                is_local.parts.stores found.1 (record {
+                  filled = record { filled = length-map _ _; steps = found.2.filled.steps };
+                  places = found.2.places;
+                });
+            flag = is_local.parts.flag;
+          }) (omega arith)
+
       standing : (row : Instr) → slice_get code.code local.at ≡ Some row → IsAt code p local (Some row)
       standing row here = subst (IsAt code p local) here (is_local.running none)
 
@@ -773,7 +1152,7 @@ module _ (code : Tables) (p : ℕ) where
           IsKept-controlled local _ is_local.parts (below_of row here)
           (IsFine-control slot_fits limit_told (registers_of local) row fits whole (is_local.parts.scalars, is_local.parts.slots))
 
-      kept_row : (row : Instr) → slice_get code.code local.at ≡ Some row → FitsInstr code row → WritesNoArray row
+      kept_row : (row : Instr) → slice_get code.code local.at ≡ Some row → FitsInstr code row → IsSteady row
           → IsKept (act_at code p local (Some row))
       kept_row (instr.Set scalar expr line) here fits steady = controlled_row _ here fits tt
       kept_row (instr.Fix slot region) here fits steady = controlled_row _ here fits tt
@@ -783,14 +1162,26 @@ module _ (code : Tables) (p : ℕ) where
       kept_row (instr.Same target source kind line) here fits steady = controlled_row _ here fits tt
       kept_row (instr.Fits slot shift line) here fits steady = controlled_row _ here fits tt
       kept_row (instr.Room array slot) here fits steady = absurd steady
-      kept_row (instr.Clear array) here fits steady = absurd steady
+      kept_row (instr.Clear array) here fits steady = kept_clear array (slice_get local.stores array) refl (below_of _ here)
       kept_row (instr.Loop slot group) here fits steady = absurd steady
-      kept_row (instr.Start exchange) here fits steady = absurd steady
-      kept_row (instr.Finish exchange) here fits steady = absurd steady
-      kept_row (instr.Edge kind array slot shift) here fits steady = absurd steady
-      kept_row (instr.Flood array target from source) here fits steady = absurd steady
-      kept_row (instr.Part array target f from source) here fits steady = absurd steady
-      kept_row (instr.Scan array slot f along from mask) here fits steady = absurd steady
+      kept_row (instr.Start exchange) here fits steady = kept_start exchange here (slice_get code.exchanges exchange) refl
+      kept_row (instr.Finish exchange) here fits steady = kept_finish exchange here (slice_get code.exchanges exchange) refl
+      kept_row (instr.Edge kind array slot shift) here fits steady =
+          used_in (edged code p kind array slot shift) local _ (using_edge kind array slot shift here)
+          (IsLocal-left local (local.at + 1) is_local.parts (omega (arith, below_of _ here))) refl
+      kept_row (instr.Flood array target from source) here fits steady =
+          used_in (flooded code p array target from source) local _ (using_flood array target from source here)
+          (IsLocal-left local (local.at + 1) is_local.parts (omega (arith, below_of _ here))) refl
+      kept_row (instr.Part array target f from source) here fits steady =
+          used_in (parted code p array target f from source) local _ (using_part array target f from source here)
+          (IsLocal-left local (local.at + 1) is_local.parts (omega (arith, below_of _ here))) refl
+      kept_row (instr.Scan array slot f along from mask) here fits steady =
+          let c = scanned_row code p f along from mask array slot in
+          let at = standing (instr.Scan array slot f along from mask) here in
+          IsKept-in c local _ (keeping_in (instr.Scan array slot f along from mask) c here at.0 at.1.0 at.1.1
+          (EndsOnce-sends (λ q. q) _ _ (EndsOnce-takes _ _ EndsOnce-last)) (λ next out few words. (out, (few, words))))
+          (IsCalm-scanned f along from mask array slot local)
+          (IsKept-scan f along from mask array local (region_in local slot) is_local.parts (below_of _ here)) refl
       kept_row (instr.Remap array slot from parts) here fits steady = absurd steady
       kept_row (instr.Vote group) here fits steady =
           let c = voted code (star code p) group in
@@ -832,23 +1223,32 @@ module _ (code : Tables) (p : ℕ) where
       kept_row (instr.Trap kind line) here fits steady = controlled_row _ here fits tt
       kept_row instr.End here fits steady = controlled_row _ here fits tt
 
-      kept_next : (next : Option Instr) → slice_get code.code local.at ≡ next → WritesNone next
+      kept_next : (next : Option Instr) → slice_get code.code local.at ≡ next → StandsSteady next
           → IsKept (act_at code p local next)
       kept_next None here steady = IsLocal-ended local _ is_local.parts is_local.at
       kept_next (Some row) here steady = kept_row row here (instr_fits code local.at row fits_tables here) steady
 
       -- ---- and messages
-      fed_row : (row : Instr) (message : Message) → slice_get code.code local.at ≡ Some row → WritesNoArray row
+      fed_row : (row : Instr) (message : Message) → slice_get code.code local.at ≡ Some row → IsSteady row
           → IsFedKept (fed_at code p local message (Some row))
       fed_row (instr.Room array slot) message here steady = absurd steady
-      fed_row (instr.Clear array) message here steady = absurd steady
       fed_row (instr.Loop slot group) message here steady = absurd steady
-      fed_row (instr.Start exchange) message here steady = absurd steady
-      fed_row (instr.Finish exchange) message here steady = absurd steady
-      fed_row (instr.Edge kind array slot shift) message here steady = absurd steady
-      fed_row (instr.Flood array target from source) message here steady = absurd steady
-      fed_row (instr.Part array target f from source) message here steady = absurd steady
-      fed_row (instr.Scan array slot f along from mask) message here steady = absurd steady
+      fed_row (instr.Start exchange) message here steady =
+          fed_start exchange message here (slice_get code.exchanges exchange) refl
+      fed_row (instr.Finish exchange) message here steady =
+          fed_finish exchange message here (slice_get code.exchanges exchange) refl
+      fed_row (instr.Edge kind array slot shift) message here steady =
+          used_fed (edged code p kind array slot shift) local message _ (using_edge kind array slot shift here) refl
+      fed_row (instr.Flood array target from source) message here steady =
+          used_fed (flooded code p array target from source) local message _ (using_flood array target from source here) refl
+      fed_row (instr.Part array target f from source) message here steady =
+          used_fed (parted code p array target f from source) local message _ (using_part array target f from source here) refl
+      fed_row (instr.Scan array slot f along from mask) message here steady =
+          let c = scanned_row code p f along from mask array slot in
+          let at = standing (instr.Scan array slot f along from mask) here in
+          IsFedKept-in c local message _ (keeping_in (instr.Scan array slot f along from mask) c here at.0 at.1.0 at.1.1
+          (EndsOnce-sends (λ q. q) _ _ (EndsOnce-takes _ _ EndsOnce-last)) (λ next out few words. (out, (few, words))))
+          (IsCalm-scanned f along from mask array slot local) refl
       fed_row (instr.Remap array slot from parts) message here steady = absurd steady
       fed_row (instr.Vote group) message here steady =
           let c = voted code (star code p) group in
@@ -882,7 +1282,7 @@ module _ (code : Tables) (p : ℕ) where
           (IsCalm-gathered truth array slot local) refl
       fed_row row message here steady = tt
 
-      fed_next : (next : Option Instr) (message : Message) → slice_get code.code local.at ≡ next → WritesNone next
+      fed_next : (next : Option Instr) (message : Message) → slice_get code.code local.at ≡ next → StandsSteady next
           → IsFedKept (fed_at code p local message next)
       fed_next None message here steady = tt
       fed_next (Some row) message here steady = fed_row row message here steady
@@ -891,7 +1291,7 @@ module _ (code : Tables) (p : ℕ) where
     module _ (slot_fits : (tables : Tables) (i rank : ℕ) → Fits tables → slice_get tables.slots i ≡ Some rank → IsRank rank)
         (limit_told : (r : Region) → All HasStep r.dims → IsTrue (is_within_limit r) ↔ IsWithinLimit r) where
       pub IsLocal-act : (local next : Local) (sent : Option (ℕ × Message)) (shown : List ℕ)
-          → WritesNone (slice_get code.code local.at) → IsLocal code p local → act code p local ≡ Goes next sent shown
+          → StandsSteady (slice_get code.code local.at) → IsLocal code p local → act code p local ≡ Goes next sent shown
           → IsLocal code p next
       IsLocal-act local next sent shown steady is_local goes = by local.ended refl
         where
@@ -912,7 +1312,7 @@ module _ (code : Tables) (p : ℕ) where
               (kept_next slot_fits limit_told local is_local is (slice_get code.code local.at) refl steady)
 
       pub IsLocal-fed : (local next : Local) (from : ℕ) (message : Message)
-          → WritesNone (slice_get code.code local.at) → IsLocal code p local → act code p local ≡ Awaits from
+          → StandsSteady (slice_get code.code local.at) → IsLocal code p local → act code p local ≡ Awaits from
           → fed code p local message ≡ Takes next → IsLocal code p next
       IsLocal-fed local next from message steady is_local awaits takes = by local.ended refl
         where

@@ -1,8 +1,9 @@
 -- What a processor does by itself, and what a message makes of its state.
-use Rattle.std.specs.Prelude.{ℕ, zero, suc, ◌+◌, List, [], Some, None}
+use Rattle.std.specs.Prelude.{ℕ, zero, suc, ◌+◌, ◌<◌, List, [], Some, None, ⊤}
+use Rattle.std.specs.Option.{IfSome}
 use Rattle.zpl_nums.specs.declared.ends.End.{End}
 use Rattle.grid_links.specs.declared.messages.Message.{Message}
-use Rattle.grid_links.specs.Machine.{Act, Goes, Fed}
+use Rattle.grid_links.specs.Machine.{Act, Goes, Awaits, Fed}
 use Rattle.grid_meaning.specs.Local.{Local, left}
 
 -- What is wrong where a processor is stuck: a message's tag or length, or a place that isn't held; or that the row that is next
@@ -44,3 +45,9 @@ ends local ending = moves (ended_as local ending) []
 abbrev pub prints : ℕ → Local → List ℕ → Action
 prints zero local bytes = moves (goes_on local) bytes
 prints (suc p) local bytes = moves (goes_on local) []
+
+-- whom it sends to, or awaits, is one of so many processors
+abbrev pub NamesBelow : ℕ → Action → Type 0
+NamesBelow count (Goes next sent shown) = IfSome sent (λ message. message.0 < count)
+NamesBelow count (Awaits from) = from < count
+NamesBelow count action = ⊤

@@ -77,28 +77,34 @@ border_targets code kind region shift from to =
     filter (λ t. owner_for code region to (border_source kind region shift t) == from)
     (tuples_of code to (outside_of shift region))
 
-abbrev pub edged : Tables → ℕ → Border → ℕ → ℕ → List ℤ → Collective
-edged code p kind array slot shift = delivered code p (record {
+abbrev pub edging : Tables → ℕ → Border → ℕ → ℕ → List ℤ → Delivery
+edging code p kind array slot shift = record {
   array = array;
   targets = λ local. border_targets code kind (region_in local slot) shift;
   word = λ local t. value_at local.stores array (border_source kind (region_in local slot) shift t);
   own = λ local. border_targets code kind (region_in local slot) shift p p;
   combined = replaced;
-})
+}
+
+abbrev pub edged : Tables → ℕ → Border → ℕ → ℕ → List ℤ → Collective
+edged code p kind array slot shift = delivered code p (edging code p kind array slot shift)
 
 -- ---- `flood`: the tuples of a target, each from its source in another region
 abbrev pub flood_targets : Tables → Region → Region → ℕ → ℕ → List (List ℤ)
 flood_targets code target source from to =
     filter (λ t. owner_for code source to (flood_source source t) == from) (tuples_of code to target)
 
-abbrev pub flooded : Tables → ℕ → ℕ → ℕ → ℕ → ℕ → Collective
-flooded code p array target from source = delivered code p (record {
+abbrev pub flooding : Tables → ℕ → ℕ → ℕ → ℕ → ℕ → Delivery
+flooding code p array target from source = record {
   array = array;
   targets = λ local. flood_targets code (region_in local target) (region_in local source);
   word = λ local t. value_at local.stores from (flood_source (region_in local source) t);
   own = λ local. flood_targets code (region_in local target) (region_in local source) p p;
   combined = replaced;
-})
+}
+
+abbrev pub flooded : Tables → ℕ → ℕ → ℕ → ℕ → ℕ → Collective
+flooded code p array target from source = delivered code p (flooding code p array target from source)
 
 -- ---- `part`: the tuples of a target, each from those of the source that agree with it outside the collapsed dimensions. Each
 -- processor folds its own ones, and a word that is received is joined
@@ -109,12 +115,15 @@ abbrev pub part_targets : Tables → Region → Region → ℕ → ℕ → List 
 part_targets code target source from to =
     filter (λ t. list_any (agrees target.dims t) (tuples_of code from source)) (tuples_of code to target)
 
-abbrev pub parted : Tables → ℕ → ℕ → ℕ → Fold → ℕ → ℕ → Collective
-parted code p array target f from source = delivered code p (record {
+abbrev pub parting : Tables → ℕ → ℕ → ℕ → Fold → ℕ → ℕ → Delivery
+parting code p array target f from source = record {
   array = array;
   targets = λ local. part_targets code (region_in local target) (region_in local source);
   word = λ local t. option_map (folded f)
       (values_at local.stores from (reaching code (region_in local target) (region_in local source) p t));
   own = λ local. tuples_of code p (region_in local target);
   combined = joined f;
-})
+}
+
+abbrev pub parted : Tables → ℕ → ℕ → ℕ → Fold → ℕ → ℕ → Collective
+parted code p array target f from source = delivered code p (parting code p array target f from source)

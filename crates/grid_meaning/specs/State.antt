@@ -162,23 +162,16 @@ pub record IsLocal (code : Tables) (p : ℕ) (local : Local) : Type 0 where
   pub running : local.ended ≡ None → Stands code p local
   pub over : IsSome local.ended → IsOutside local × IsFresh local
 
--- ---- rows for which it is proved so far that their moves keep such a state: those that write no array
+-- ---- rows for which it is proved so far that their moves keep such a state: all but `loop`, `room` and `remap`
 -- a row that makes dimensions has three parts, as each has that is made of an array of three
-abbrev pub WritesNoArray : Instr → Type 0
-WritesNoArray (instr.Dims slot parts line) = length parts ≡ 3
-WritesNoArray (instr.Room array slot) = ⊥
-WritesNoArray (instr.Clear array) = ⊥
-WritesNoArray (instr.Loop slot group) = ⊥
-WritesNoArray (instr.Start exchange) = ⊥
-WritesNoArray (instr.Finish exchange) = ⊥
-WritesNoArray (instr.Edge kind array slot shift) = ⊥
-WritesNoArray (instr.Flood array target from source) = ⊥
-WritesNoArray (instr.Part array target f from source) = ⊥
-WritesNoArray (instr.Scan array slot f along from mask) = ⊥
-WritesNoArray (instr.Remap array slot from parts) = ⊥
-WritesNoArray row = ⊤
+abbrev pub IsSteady : Instr → Type 0
+IsSteady (instr.Dims slot parts line) = length parts ≡ 3
+IsSteady (instr.Room array slot) = ⊥
+IsSteady (instr.Loop slot group) = ⊥
+IsSteady (instr.Remap array slot from parts) = ⊥
+IsSteady row = ⊤
 
 -- behind the last instruction there is none
-abbrev pub WritesNone : Option Instr → Type 0
-WritesNone None = ⊤
-WritesNone (Some row) = WritesNoArray row
+abbrev pub StandsSteady : Option Instr → Type 0
+StandsSteady None = ⊤
+StandsSteady (Some row) = IsSteady row

@@ -7,12 +7,14 @@
 
 mod every_order;
 mod laws;
+mod partners;
 mod processors;
 mod scalar;
 mod states;
 
 pub use every_order::{orders_are_dominated, orders_end_alike, small_links_are_enough};
 pub use laws::{given_turns_are_orders, orders_go_on, over_stays, printing_grows, turns_count};
+pub use partners::partners_are_processors;
 pub use processors::Processors;
 pub use scalar::{scalar_code_goes_on, scalar_code_needs_no_links};
 pub use states::states_are_kept;

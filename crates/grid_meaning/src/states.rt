@@ -5,21 +5,21 @@ ghost use Rattle.grid_links.specs.declared.messages.Message.{Message as OneMessa
 ghost use Rattle.node_form.specs.Fits.{Fits};
 ghost use Rattle.node_form.specs.declared.tables.Tables.{Tables as Code};
 ghost use Rattle.grid_meaning.specs.Local.{Local, start_local};
-ghost use Rattle.grid_meaning.specs.State.{IsLocal, WritesNone};
+ghost use Rattle.grid_meaning.specs.State.{IsLocal, StandsSteady};
 ghost use Rattle.grid_meaning.specs.Turn.{act, fed};
 
 use node_form::rows_fit;
 use zpl_region::tests_tell_the_facts;
 
-/// A processor starts in a state that it may have, and each move keeps it in one, for the rows that
-/// write no array: by itself, and with a message that it awaits.
+/// A processor starts in a state that it may have, and each move keeps it in one, by itself and with a
+/// message that it awaits, for all rows but `loop`, `room` and `remap`.
 pub fn states_are_kept()
     ensures start { (code : Code) (p : ℕ) → Fits code → IsLocal code p (start_local code p) }
     ensures moves { (code : Code) (p : ℕ) (local next : Local) (sent : Option (ℕ × OneMessage))
-        (shown : List ℕ) → Fits code → WritesNone (slice_get code.code local.at) →
+        (shown : List ℕ) → Fits code → StandsSteady (slice_get code.code local.at) →
         IsLocal code p local → act code p local ≡ Goes next sent shown → IsLocal code p next }
     ensures messages { (code : Code) (p : ℕ) (local next : Local) (from : ℕ) (message : OneMessage) →
-        Fits code → WritesNone (slice_get code.code local.at) → IsLocal code p local →
+        Fits code → StandsSteady (slice_get code.code local.at) → IsLocal code p local →
         act code p local ≡ Awaits from → fed code p local message ≡ Takes next
         → IsLocal code p next }
 {
