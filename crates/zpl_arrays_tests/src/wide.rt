@@ -184,6 +184,29 @@ fn regions_of_reductions_and_floods(rt: HostRuntime) {
     }
 }
 
+/// Compares the source of a flood at `x` with the only coordinate of the region, where it has just one.
+fn flood_source(rt: &impl Abort, number: u32, x: i64) {
+    let source = region(rt, 1, number);
+    let line = dim(number, 0);
+    let mut wanted = x;
+    for y in -3..=6_i64 {
+        if has(line, y) && count(line) == 1 {
+            wanted = y;
+        }
+    }
+    let found = flood_coordinate(&source, 1, x);
+    assert_eq!(rt; found, wanted, "{source:?} at {x}");
+}
+
+#[test]
+fn sources_of_floods(rt: HostRuntime) {
+    for number in 0..331_u32 {
+        for x in -3..=6_i64 {
+            flood_source(&rt, number, x);
+        }
+    }
+}
+
 /// Compares the source of a coordinate with the wanted one.
 fn border_source(rt: &impl Abort, kind: Border, dim: Dim, d: i64, x: i64, wanted: i64)
     requires { IsDim dim }
