@@ -16,18 +16,6 @@ pub struct Parts<'a> {
     pub exchanges: &'a [&'a [Item]],
 }
 
-/// For one processor, without rows.
-pub const NOTHING: Parts<'static> = Parts {
-    grid: [1, 0, 0],
-    scalars: 0,
-    cells: 0,
-    slots: &[],
-    texts: &[],
-    exprs: &[],
-    groups: &[],
-    exchanges: &[],
-};
-
 /// The tables of these parts, arrays and instructions.
 pub fn tables(
     alloc: Global,

@@ -1,5 +1,5 @@
 //! Whole programs and their listings.
-use crate::parts::{NOTHING, PADDING, Parts, range, tables};
+use crate::parts::{PADDING, Parts, range, tables};
 use listing_lines::read_lines;
 use node_form::{ArrayRow, ExprOp, Instr, Member, NodeProgram};
 use node_text::write_listing;
@@ -43,6 +43,35 @@ const WAITS: [&[u8]; 15] = [
     b"end",
 ];
 
+const SUM: [ExprOp; 3] = [ExprOp::Scalar(0), ExprOp::Const(1), ExprOp::Pair(Op::Add)];
+
+const HI_TEXTS: [&[u8]; 1] = [b"hi"];
+
+const HI_EXPRS: [&[ExprOp]; 2] = [&[ExprOp::Const(20)], &SUM];
+
+const HI_CODE: [Instr; 4] = [
+    Instr::Set {
+        scalar: 0,
+        expr: 0,
+        line: 1,
+    },
+    Instr::Print { text: 0 },
+    Instr::Number { expr: 1 },
+    Instr::End,
+];
+
+const WAITS_EXPRS: [&[ExprOp]; 2] = [&[ExprOp::Const(1)], &[ExprOp::Scalar(0)]];
+
+const ACC: Member = Member::Acc {
+    scalar: 0,
+    fold: Fold::Sum,
+    expr: 0,
+    mask: None,
+    line: 1,
+};
+
+const WAITS_GROUPS: [&[Member]; 1] = [&[ACC]];
+
 /// Lists a program behind a byte that is there already, compares, and reads the lines again.
 pub fn expect(
     rt: &impl Abort,
@@ -74,44 +103,30 @@ pub fn expect(
 
 #[test]
 fn a_text_and_a_sum(rt: HostRuntime) -> Result<(), Fail> {
-    let sum: [ExprOp; 3] = [ExprOp::Scalar(0), ExprOp::Const(1), ExprOp::Pair(Op::Add)];
     let parts = Parts {
         grid: [2, 0, 0],
         scalars: 1,
-        texts: &[b"hi"],
-        exprs: &[&[ExprOp::Const(20)], &sum],
-        ..NOTHING
+        cells: 0,
+        slots: &[],
+        texts: &HI_TEXTS,
+        exprs: &HI_EXPRS,
+        groups: &[],
+        exchanges: &[],
     };
-    let set = Instr::Set {
-        scalar: 0,
-        expr: 0,
-        line: 1,
-    };
-    let code = [
-        set,
-        Instr::Print { text: 0 },
-        Instr::Number { expr: 1 },
-        Instr::End,
-    ];
-    expect(&rt, rt.alloc(), parts, &[], &code, &HI)
+    expect(&rt, rt.alloc(), parts, &[], &HI_CODE, &HI)
 }
 
 #[test]
 fn a_loop_and_a_fold(rt: HostRuntime) -> Result<(), Fail> {
-    let acc = Member::Acc {
-        scalar: 0,
-        fold: Fold::Sum,
-        expr: 0,
-        mask: None,
-        line: 1,
-    };
     let parts = Parts {
         grid: [2, 0, 0],
         scalars: 1,
+        cells: 0,
         slots: &[1],
-        exprs: &[&[ExprOp::Const(1)], &[ExprOp::Scalar(0)]],
-        groups: &[&[acc]],
-        ..NOTHING
+        texts: &[],
+        exprs: &WAITS_EXPRS,
+        groups: &WAITS_GROUPS,
+        exchanges: &[],
     };
     let region = Region {
         rank: 1,

@@ -1,5 +1,5 @@
 //! Each kind of row.
-use crate::parts::{NOTHING, PADDING, Parts, UNUSED};
+use crate::parts::{PADDING, Parts, UNUSED};
 use crate::programs::expect;
 use node_form::{ArrayDim, ArrayRow, DimRow, ExprOp, Instr, Item, Member, RegionForm, SameKind};
 use std::test::Fail;
@@ -95,22 +95,36 @@ const UNARY: [ExprOp; 4] = [
     ExprOp::Abs,
 ];
 
-const BINARY: [Op; 15] = [
-    Op::Sub,
-    Op::Mul,
-    Op::Div,
-    Op::Rem,
-    Op::Eq,
-    Op::Ne,
-    Op::Lt,
-    Op::Le,
-    Op::Gt,
-    Op::Ge,
-    Op::And,
-    Op::Or,
-    Op::Max,
-    Op::Min,
-    Op::Add,
+const BINARY: [ExprOp; 29] = [
+    ExprOp::Scalar(0),
+    ExprOp::Const(1),
+    ExprOp::Pair(Op::Sub),
+    ExprOp::Const(2),
+    ExprOp::Pair(Op::Mul),
+    ExprOp::Const(3),
+    ExprOp::Pair(Op::Div),
+    ExprOp::Const(4),
+    ExprOp::Pair(Op::Rem),
+    ExprOp::Const(5),
+    ExprOp::Pair(Op::Eq),
+    ExprOp::Const(6),
+    ExprOp::Pair(Op::Ne),
+    ExprOp::Const(7),
+    ExprOp::Pair(Op::Lt),
+    ExprOp::Const(8),
+    ExprOp::Pair(Op::Le),
+    ExprOp::Const(9),
+    ExprOp::Pair(Op::Gt),
+    ExprOp::Const(10),
+    ExprOp::Pair(Op::Ge),
+    ExprOp::Const(11),
+    ExprOp::Pair(Op::And),
+    ExprOp::Const(12),
+    ExprOp::Pair(Op::Or),
+    ExprOp::Const(13),
+    ExprOp::Pair(Op::Max),
+    ExprOp::Const(14),
+    ExprOp::Pair(Op::Min),
 ];
 
 const PLACES: [ExprOp; 7] = [
@@ -324,28 +338,26 @@ const ENDS: [Instr; 10] = [
     Instr::End,
 ];
 
+const TEXTS: [&[u8]; 2] = [b"", b"\x00\xff"];
+
+const EXPRS: [&[ExprOp]; 3] = [&UNARY, &BINARY, &PLACES];
+
+const GROUPS: [&[Member]; 2] = [&[], &MEMBERS];
+
+const EXCHANGES: [&[Item]; 2] = [&[], &[BEYOND]];
+
 #[test]
 fn each_kind_of_row(rt: HostRuntime) -> Result<(), Fail> {
     let alloc = rt.alloc();
-    let mut binary = vec![in alloc; ExprOp::Scalar(0)]?;
-    let mut number: i64 = 0;
-    for op in BINARY {
-        if matches!(op, Op::Add) {
-            break;
-        }
-        number = number.wrapping_add(1);
-        binary.push(ExprOp::Const(number))?;
-        binary.push(ExprOp::Pair(op))?;
-    }
     let parts = Parts {
         grid: [2, 1, 0],
         scalars: 1,
         cells: 1,
         slots: &[2],
-        texts: &[b"", b"\x00\xff"],
-        exprs: &[&UNARY, &binary, &PLACES],
-        groups: &[&[], &MEMBERS],
-        exchanges: &[&[], &[BEYOND]],
+        texts: &TEXTS,
+        exprs: &EXPRS,
+        groups: &GROUPS,
+        exchanges: &EXCHANGES,
     };
     let mut code = Vec::from_slice(alloc, &REGIONS)?;
     code.extend_from_slice(&MOVES)?;
