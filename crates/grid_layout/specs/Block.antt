@@ -26,7 +26,8 @@ abbrev pub block_last : Axis → ℕ → ℕ → ℤ
 block_last axis count c =
     if suc c == count then pos (2 ^ 40) else block_start axis count (suc c) -ℤ pos 1
 
--- whether the block has no coordinate: it begins where the next one does. The outermost ones always have some
+-- whether the block has no coordinate: it begins where the next one does. The outermost ones always
+-- have some
 abbrev pub is_block_empty : Axis → ℕ → ℕ → Bool
 is_block_empty axis count zero = false
 is_block_empty axis count (suc c) =

@@ -1,5 +1,5 @@
--- Grids of processors: their factors, and how the dimensions of a rank are cut into blocks. The processors are numbered in
--- row-major order.
+-- Grids of processors: their factors, and how the dimensions of a rank are cut into blocks. The
+-- processors are numbered in row-major order.
 use Rattle.std.specs.Prelude.{◌≡◌, ℕ, zero, suc, ◌-◌, ◌+◌, ◌*◌, ◌/◌, ◌%◌, ◌≤◌, List, [], ◌∷◌, ◌++◌, drop, length, replicate, All}
 
 -- the factors: what stands before the first 0
@@ -16,7 +16,8 @@ product (n ∷ numbers) = n * product numbers
 abbrev pub processors_of : List ℕ → ℕ
 processors_of grid = product (factors_of grid)
 
--- at least one factor stands in front, only 0 stands behind them, and there are at most 64 processors
+-- at least one factor stands in front, only 0 stands behind them, and there are at most 64
+-- processors
 pub record IsGrid (grid : List ℕ) : Type 0 where
   pub some : 1 ≤ length (factors_of grid)
   pub absent : All (λ factor. factor ≡ 0) (drop (length (factors_of grid)) grid)
@@ -24,8 +25,8 @@ pub record IsGrid (grid : List ℕ) : Type 0 where
 
 -- ---- the blocks of a rank
 
--- into how many blocks each dimension of a rank is cut. The last one has the surplus factors, multiplied; a dimension without
--- a factor is one block
+-- into how many blocks each dimension of a rank is cut. The last one has the surplus factors,
+-- multiplied; a dimension without a factor is one block
 abbrev pub cuts_of : ℕ → List ℕ → List ℕ
 cuts_of zero factors = []
 cuts_of (suc zero) factors = product factors ∷ []

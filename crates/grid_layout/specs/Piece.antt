@@ -29,8 +29,9 @@ part lo hi Flood = Flood
 
 -- ---- what a processor needs
 
--- the places that a dimension of indices, moved by d, names in a dimension of a held box. A flood dimension of the array has
--- its one position whatever the coordinate is, and the position of a flood dimension of the indices is written 0
+-- the places that a dimension of indices, moved by d, names in a dimension of a held box. A flood
+-- dimension of the array has its one position whatever the coordinate is, and the position of a
+-- flood dimension of the indices is written 0
 abbrev pub place_dim : Dim → ℤ → Dim → Dim
 place_dim Flood d dim = if coordinate_count dim == 0 then nothing else Flood
 place_dim (Range lo hi step align) d Flood = part lo hi (all_from (pos 0) (pos 0))
@@ -56,8 +57,8 @@ needed_in blocks held to region shift =
 
 -- ---- what of it another one owns
 
--- the part of a dimension in the owner's block, of the number c; of a flood dimension, that of the owner with the receiver's
--- block, of the number k
+-- the part of a dimension in the owner's block, of the number c; of a flood dimension, that of the
+-- owner with the receiver's block, of the number k
 abbrev pub owned_dim : Axis → ℕ → ℕ → ℕ → Dim → Dim
 owned_dim axis n c k (Range lo hi step align) = part (block_first axis n c) (block_last axis n c) (Range lo hi step align)
 owned_dim axis n c k Flood = if c == k then Flood else nothing
@@ -83,7 +84,8 @@ abbrev pub each_block_for : List Axis → List ℕ → List ℕ → List Dim →
 each_block_for (axis ∷ axes) (n ∷ ns) (k ∷ ks) (dim ∷ dims) (x ∷ t) = block_for axis n k dim x ∷ each_block_for axes ns ks dims t
 each_block_for _ _ _ _ _ = []
 
--- the processor that owns a tuple of a region for a receiver. Without flood dimensions it is the tuple's owner
+-- the processor that owns a tuple of a region for a receiver. Without flood dimensions it is the
+-- tuple's owner
 abbrev pub owner_for : Blocks → ℕ → Region → List ℤ → ℕ
 owner_for blocks to r t =
     let ns = cuts blocks.grid r.rank in

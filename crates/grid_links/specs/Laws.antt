@@ -136,8 +136,8 @@ pub record KeepsMessages {L M K : Type 0} (system : System L M K) : Type 0 where
       → taken_from from (moves_of system order to)
       ≤ length (sent_by to (moves_of system order from))
 
--- a process makes no more moves than an order has turns; and where none makes more than so many, all
--- together make at most that many times how many there are
+-- a process makes no more moves than an order has turns; and where none makes more than so many,
+-- all together make at most that many times how many there are
 pub record CountsMoves {L M K : Type 0} (system : System L M K) : Type 0 where
   pub each : (order : List ℕ) (p : ℕ) → length (moves_of system order p) ≤ length order
   pub all : (order : List ℕ) (most : ℕ)

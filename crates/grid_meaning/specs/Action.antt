@@ -6,16 +6,16 @@ use Rattle.grid_links.specs.declared.messages.Message.{Message}
 use Rattle.grid_links.specs.Machine.{Act, Goes, Awaits, Fed}
 use Rattle.grid_meaning.specs.Local.{Local, left}
 
--- What is wrong where a processor is stuck: a message's tag or length, or a place that isn't held; or that the row that is next
--- names what isn't in its table.
+-- What is wrong where a processor is stuck: a message's tag or length, or a place that isn't held;
+-- or that the row that is next names what isn't in its table.
 pub data StuckKind : Type 0 where
   WrongTag : StuckKind
   WrongLength : StuckKind
   Unheld : StuckKind
   Undefined : StuckKind
 
--- It has ended; it is stuck; it makes a move, with a new state, at most one message to a named processor, and the bytes that
--- are printed; or it awaits a message of a named processor.
+-- It has ended; it is stuck; it makes a move, with a new state, at most one message to a named
+-- processor, and the bytes that are printed; or it awaits a message of a named processor.
 abbrev pub Action : Type 0
 Action = Act Local Message StuckKind
 

@@ -17,25 +17,26 @@ use Rattle.grid_meaning.specs.Action.{Action, moves, goes_on, ends}
 use Rattle.grid_meaning.specs.Local.{Local, processors, processor_numbers}
 
 -- ---- stages
--- One turn: without a message; with a message to a processor; with one from a processor, on which it waits; or the last one,
--- which leaves the row.
+-- One turn: without a message; with a message to a processor; with one from a processor, on which
+-- it waits; or the last one, which leaves the row.
 pub data Stage : Type 0 where
   Alone : Stage
   Sends : (to : ℕ) → Stage
   TakesFrom : (from : ℕ) → Stage
   Last : Stage
 
--- What becomes of the words of a message: they are used in the turn that takes them, or kept until the last turn; or so those of
--- requests, if there are any, and those of answers are used at once.
+-- What becomes of the words of a message: they are used in the turn that takes them, or kept until
+-- the last turn; or so those of requests, if there are any, and those of answers are used at once.
 pub data Use : Type 0 where
   AtOnce : Use
   InLast : Use
   Asking : Use
 
--- What a row does on a processor: its turns, one after another, which `made` counts along; the tag of its messages; what a
--- turn without a message makes of the state; the words for a processor, none where a place of theirs isn't held; whether a
--- message from a processor may have so many words; what such words make of the state, nothing where a place of theirs
--- isn't held; when they are used; and what the last turn does.
+-- What a row does on a processor: its turns, one after another, which `made` counts along; the tag
+-- of its messages; what a turn without a message makes of the state; the words for a processor,
+-- none where a place of theirs isn't held; whether a message from a processor may have so many
+-- words; what such words make of the state, nothing where a place of theirs isn't held; when they
+-- are used; and what the last turn does.
 pub record Collective : Type 0 where
   pub stages : Local → List Stage
   pub tag : Local → ℕ
@@ -77,7 +78,8 @@ abbrev pub word_from : Local → ℕ → ℤ
 word_from local from = word_or_zero (find (λ entry. entry.0 == from) local.kept)
 
 -- ---- one value for all
--- From whom a processor takes values, and to whom it sends what they and its own come to: they are a tree.
+-- From whom a processor takes values, and to whom it sends what they and its own come to: they are
+-- a tree.
 pub record Kin : Type 0 where
   pub children : List ℕ
   pub parent : Option ℕ

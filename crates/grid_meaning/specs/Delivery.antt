@@ -1,4 +1,5 @@
--- Rows in which processors send each other words for places of one array: `wrap`, `reflect`, `flood` and `part`.
+-- Rows in which processors send each other words for places of one array: `wrap`, `reflect`,
+-- `flood` and `part`.
 --
 --   Delivery, delivered   for which tuples words go, and what becomes of them
 --   edged, flooded, parted   the rows
@@ -21,9 +22,10 @@ use Rattle.grid_meaning.specs.Local.{Local}
 use Rattle.grid_meaning.specs.Owner.{owner_for, region_in, tuples_of}
 use Rattle.grid_meaning.specs.Place.{value_at, values_at, with_value, with_values}
 
--- The tuples for which one processor (the first number) has a word for another (the second), in row-major order; the word for
--- a tuple, none where a place that it needs isn't held; all tuples that the first turn sets by the processor's own words; and
--- what a word that is received sets its tuple to, beside the value that is there.
+-- The tuples for which one processor (the first number) has a word for another (the second), in
+-- row-major order; the word for a tuple, none where a place that it needs isn't held; all tuples
+-- that the first turn sets by the processor's own words; and what a word that is received sets its
+-- tuple to, beside the value that is there.
 pub record Delivery : Type 0 where
   pub array : ℕ
   pub targets : Local → ℕ → ℕ → List (List ℤ)
@@ -52,7 +54,8 @@ abbrev pub with_combined : Delivery → Local → List (List ℤ) → List ℤ �
 with_combined d local tuples words =
     option_map (λ stores. record local { stores = stores }) (combined_into d tuples words local.stores)
 
--- the first turn is the processor's own; then words go to the others, come from the others, and one more turn is made
+-- the first turn is the processor's own; then words go to the others, come from the others, and one
+-- more turn is made
 abbrev pub delivered : Tables → ℕ → Delivery → Collective
 delivered code p d = record {
   stages = λ local.

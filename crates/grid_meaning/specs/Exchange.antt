@@ -1,4 +1,5 @@
--- Exchanges: `start` sends to each other processor the places that it needs, and `finish` receives them.
+-- Exchanges: `start` sends to each other processor the places that it needs, and `finish` receives
+-- them.
 use Rattle.std.specs.Prelude.{ℕ, ◌*◌, ◌==◌, ℤ, List, [], ◌∷◌, ◌++◌, drop, length, map, option_and_then, slice_get, sum_by, take, Option, Some, None}
 use Rattle.std.specs.Option.{option_map}
 use Rattle.zpl_region.specs.declared.regions.Region.{Region}

@@ -20,8 +20,8 @@ pub use Rattle.grid_meaning.specs.Local.{processors}
 use Rattle.grid_meaning.specs.Local.{Local, start_locals}
 use Rattle.grid_meaning.specs.Turn.{Turn, act, fed}
 
--- The processors' states and the messages on their way; what processor 0 has printed; and how many turns were given,
--- messages sent, and words in them.
+-- The processors' states and the messages on their way; what processor 0 has printed; and how many
+-- turns were given, messages sent, and words in them.
 pub record Grid : Type 0 where
   pub world : World Local Message
   pub printed : List ℕ
@@ -84,7 +84,8 @@ counting p turn grid world = record {
   words = grid.words + sum_by (λ message. length message.words) (sent_in turn);
 }
 
--- A turn is given to p. It counts whatever it is, a stuck one too; all but a move changes nothing else.
+-- A turn is given to p. It counts whatever it is, a stuck one too; all but a move changes nothing
+-- else.
 abbrev pub given_turn : Tables → Option ℕ → Grid → ℕ → Grid
 given_turn code links grid p =
     counting p (next_turn code links grid p) grid (run.given_turn (system_over code links) grid.world p)

@@ -15,11 +15,12 @@ use Rattle.node_form.specs.declared.tables.Tables.{Tables}
 use Rattle.node_form.specs.Grid.{processors_of}
 use Rattle.grid_meaning.specs.Stored.{arrangement_of, box_of, no_places}
 
--- The next instruction, and the turns that were made in it; of a loop, how many indices are done, and the
--- member with which the next turn begins; the least member that met a zero divisor, until a vote; how the
--- processor ended, once it has; its scalars, the regions of its slots, the cells of a loop, and for each array
--- the places that it holds, with their values; and the words that it keeps of messages taken in this
--- instruction, with their senders. Outside a loop `index` and `member` are 0, and inside one `made` is 0.
+-- The next instruction, and the turns that were made in it; of a loop, how many indices are done,
+-- and the member with which the next turn begins; the least member that met a zero divisor, until a
+-- vote; how the processor ended, once it has; its scalars, the regions of its slots, the cells of a
+-- loop, and for each array the places that it holds, with their values; and the words that it keeps
+-- of messages taken in this instruction, with their senders. Outside a loop `index` and `member`
+-- are 0, and inside one `made` is 0.
 pub record Local : Type 0 where
   pub at : ℕ
   pub made : ℕ
@@ -33,7 +34,8 @@ pub record Local : Type 0 where
   pub stores : List Array
   pub kept : List (ℕ × List ℤ)
 
--- An instruction is left: the one with this number is next, and of the turns in the old one nothing stays.
+-- An instruction is left: the one with this number is next, and of the turns in the old one nothing
+-- stays.
 abbrev pub left : Local → ℕ → Local
 left local at = record local { at = at; made = 0; index = 0; member = 0; kept = [] }
 
@@ -45,7 +47,8 @@ abbrev pub processor_numbers : Tables → List ℕ
 processor_numbers code = range_with_len 0 (processors code)
 
 -- ---- the start
--- the places of an array that processor p holds at the start: its held box of a stored one, and none of a temporary
+-- the places of an array that processor p holds at the start: its held box of a stored one, and
+-- none of a temporary
 abbrev pub start_places : Blocks → ℕ → ArrayRow → Bool → Region
 start_places blocks p row true = held_of blocks (box_of row) p
 start_places blocks p row false = no_places row.rank

@@ -1,4 +1,5 @@
--- A turn of `loop`: what the members of a group do at one index, or at a shattered member up to where it goes back.
+-- A turn of `loop`: what the members of a group do at one index, or at a shattered member up to
+-- where it goes back.
 use Rattle.std.specs.Prelude.{ℕ, ◌+◌, nat_lt, ℤ, List, [], Option, Some, None, if◌then◌else◌, slice_get}
 use Rattle.zpl_region.specs.declared.regions.Region.{Region}
 use Rattle.zpl_region.specs.Region.{members}

@@ -3,7 +3,8 @@
 --   moved_by       a tuple moved by a vector
 --   value_at       the value at a place, where it is held
 --   with_value     the arrays with another value at a place, where it is held
---   values_at      the values at places, where all are held; with_values the arrays with others there
+--   values_at      the values at places, where all are held; with_values the arrays with others
+-- there
 --   own_part       the part of a region within a processor's own block
 use Rattle.std.specs.Prelude.{ℕ, Bool, true, false, ℤ, ◌+ℤ◌, List, [], ◌∷◌, option_and_then, slice_get, slice_set, Option, Some, None}
 use Rattle.std.specs.Option.{option_map}

@@ -1,4 +1,5 @@
--- `remap`: each processor asks the others for the values at tuples that its index arrays hold, and answers what they ask.
+-- `remap`: each processor asks the others for the values at tuples that its index arrays hold, and
+-- answers what they ask.
 use Rattle.std.specs.Prelude.{ℕ, zero, suc, ◌-◌, ◌*◌, ◌%◌, ◌/◌, ◌==◌, nat_le, Bool, ◌||◌, true, false, ℤ, pos, List, [], ◌∷◌, ◌++◌, drop, filter, length, map, option_and_then, take, Option, Some, None, if◌then◌else◌}
 use Rattle.std.specs.List.{flat_map, list_all}
 use Rattle.std.specs.Option.{option_map}
@@ -64,7 +65,8 @@ module _ (code : Tables) (p : ℕ) (array slot from : ℕ) (parts : List ℕ) (r
   abbrev pub wants : Local → Option (List Want)
   wants local = wants_at local parts (tuples_of code p (region_in local slot))
 
-  -- those whose tuple a processor owns; and those that it settles by itself: its own, and those outside the storage
+  -- those whose tuple a processor owns; and those that it settles by itself: its own, and those
+  -- outside the storage
   abbrev pub wants_of : ℕ → List Want → List Want
   wants_of q all = filter (λ want. is_number (home code storage want.tuple) q) all
 

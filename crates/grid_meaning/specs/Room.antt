@@ -1,4 +1,5 @@
--- Rows on a store alone: `room` makes the places of a temporary, and `clear` sets those of a stored array to 0.
+-- Rows on a store alone: `room` makes the places of a temporary, and `clear` sets those of a stored
+-- array to 0.
 use Rattle.std.specs.Prelude.{ℕ, Bool, true, false, pos, List, [], ◌∷◌, slice_set, Option, Some, None}
 use Rattle.zpl_region.specs.declared.dims.Dim.{Dim}
 use Rattle.zpl_region.specs.declared.dims.Dim.TheVariants as dim
@@ -23,8 +24,8 @@ zeros_at places = array_of places (λ t. pos 0)
 abbrev pub with_store : Local → ℕ → Array → Local
 with_store local array store = record local { stores = slice_set local.stores array store }
 
--- in a dimension a temporary has the range that is wanted, or the flood position; a flood dimension of the region gives
--- `0..0` where the temporary's isn't flood
+-- in a dimension a temporary has the range that is wanted, or the flood position; a flood dimension
+-- of the region gives `0..0` where the temporary's isn't flood
 abbrev pub room_dim : ArrayDim → Dim → Dim
 room_dim Star d = dim.Flood
 room_dim (Range a b c e) dim.Flood = all_from (pos 0) (pos 0)

@@ -1,5 +1,5 @@
--- Code of the rows that small programs need: `set`, `print`, `number`, `jump`, `unless` and `end`. They need scalars alone, and
--- send and take no message.
+-- Code of the rows that small programs need: `set`, `print`, `number`, `jump`, `unless` and `end`.
+-- They need scalars alone, and send and take no message.
 use Rattle.std.specs.Prelude.{◌≡◌, length, All, None, ⊤}
 use Rattle.grid_links.specs.Machine.{Ended, Blocked, Goes, Awaits}
 use Rattle.node_form.specs.declared.instructions.Instr.{Instr}

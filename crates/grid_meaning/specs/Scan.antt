@@ -1,4 +1,5 @@
--- `scan`: each processor folds its part of each line, tells the others, and joins what stands before its own values.
+-- `scan`: each processor folds its part of each line, tells the others, and joins what stands
+-- before its own values.
 use Rattle.std.specs.Prelude.{ℕ, zero, suc, ◌+◌, ◌-◌, ◌==◌, Bool, true, false, ◌&&◌, ◌||◌, ℤ, pos, List, [], ◌∷◌, ◌++◌, filter, fold, length, map, option_and_then, slice_index_or, Option, Some, None, if◌then◌else◌}
 use Rattle.std.specs.Option.{option_map}
 use Rattle.zpl_nums.specs.Integer.{is_true}
@@ -18,7 +19,8 @@ use Rattle.grid_meaning.specs.Local.{Local}
 use Rattle.grid_meaning.specs.Owner.{owner_for, region_in, tuples_of}
 use Rattle.grid_meaning.specs.Place.{own_part, value_at, with_values}
 
--- the number of the dimension along which lines run, counted from 0: the last one where the scan is over all
+-- the number of the dimension along which lines run, counted from 0: the last one where the scan is
+-- over all
 abbrev pub line_dim : Region → ℕ → ℕ
 line_dim region zero = region.rank - 1
 line_dim region (suc along) = along
@@ -72,8 +74,8 @@ module _ (code : Tables) (p : ℕ) (f : Fold) (along : ℕ) (from : ℕ) (mask :
   line_totals local region = each_word (line_total local region) (line_heads code p region (line_dim region along))
 
   -- ---- what stands before a line of the own part: lines of any processor, each told by its head. In a scan over all these are
-  -- earlier lines, and in each scan those parts of the same line that begin before. In a flood dimension, whose one position each
-  -- block has, the lines of the processors with p's block count
+  -- earlier lines, and in each scan those parts of the same line that begin before. In a flood
+  -- dimension, whose one position each block has, the lines of the processors with p's block count
   abbrev pub is_before_line : ℕ → ℕ → ℤ → List ℤ → List ℤ → Bool
   is_before_line zero k start head other =
       is_earlier_line k head other || (is_same_tuple head (with_coordinate k start other) && is_below k start other)

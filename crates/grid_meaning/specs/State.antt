@@ -1,4 +1,5 @@
--- The states that a processor may have: what holds of its scalars, slots, cells and stores, and how far it is in a row.
+-- The states that a processor may have: what holds of its scalars, slots, cells and stores, and how
+-- far it is in a row.
 --
 --   IsLocal   a local state that can be, for a program whose tables fit
 use Rattle.std.specs.Prelude.{◌≡◌, ◌⊎◌, ◌≢◌, ℕ, ◌-◌, ◌<◌, ◌≤◌, true, false, Bool, ℤ, pos, ◌≤ℤ◌, List, [], ◌∷◌, length, map, take, slice_get, Option, Some, None, All, ⊤}
@@ -45,7 +46,8 @@ abbrev pub AreRoomIn : List ArrayDim → List ℤ → List ℤ → List Dim → 
 AreRoomIn (row ∷ rows) (low ∷ lows) (high ∷ highs) (d ∷ dims) = IsRoomIn row low high d × AreRoomIn rows lows highs dims
 AreRoomIn rows lows highs dims = ⊤
 
--- A temporary holds no place; or some, which are within the own block, and flood in its flood dimensions.
+-- A temporary holds no place; or some, which are within the own block, and flood in its flood
+-- dimensions.
 pub record IsRoom (code : Tables) (p : ℕ) (row : ArrayRow) (places : Region) : Type 0 where
   pub some : members places ≢ []
   pub ranked : places.rank ≡ row.rank
@@ -86,8 +88,8 @@ pub record IsOutside (local : Local) : Type 0 where
   pub index : local.index ≡ 0
   pub member : local.member ≡ 0
 
--- The turns of a loop so far are told by its index and member alone: a turn begins with the first member, or at an index
--- with one that may be run again.
+-- The turns of a loop so far are told by its index and member alone: a turn begins with the first
+-- member, or at an index with one that may be run again.
 pub record IsInLoop (all : List Member) (indices : ℕ) (local : Local) : Type 0 where
   pub fresh : IsFresh local
   pub index : local.index ≤ indices
@@ -120,8 +122,9 @@ IsRequest row local entry =
     (0 < length entry.1) × (row.awaits local entry.0 (length entry.1) ≡ true)
     × IsSome (row.taken local entry.0 entry.1)
 
--- the words that are kept are those that the row has taken and not used, each of a length that it awaits; of
--- requests these are the ones with words, such as may be taken; they come behind as many turns as there are processors
+-- the words that are kept are those that the row has taken and not used, each of a length that it
+-- awaits; of requests these are the ones with words, such as may be taken; they come behind as many
+-- turns as there are processors
 abbrev pub KeepsWords : Tables → ℕ → Use → Collective → Local → Type 0
 KeepsWords code p AtOnce row local = local.kept ≡ []
 KeepsWords code p InLast row local =
@@ -155,7 +158,8 @@ pub record HasParts (code : Tables) (p : ℕ) (local : Local) : Type 0 where
   pub stores : AllZip (IsStore code p) code.arrays local.stores
   pub flag : IfSome local.flag (λ member. Any (λ all. member < length all) code.groups)
 
--- and it is at an instruction, or behind the last one, and has made turns in it as they may be; or it has ended
+-- and it is at an instruction, or behind the last one, and has made turns in it as they may be; or
+-- it has ended
 pub record IsLocal (code : Tables) (p : ℕ) (local : Local) : Type 0 where
   pub parts : HasParts code p local
   pub at : local.at ≤ length code.code

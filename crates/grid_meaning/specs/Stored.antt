@@ -43,7 +43,8 @@ box_of row = record {
 abbrev pub stored : List ArrayRow → List ArrayRow
 stored rows = filter (λ row. row.stored) rows
 
--- a layout has the stored arrays alone: the one with this number among all arrays has that one there
+-- a layout has the stored arrays alone: the one with this number among all arrays has that one
+-- there
 abbrev pub box_number : Tables → ℕ → ℕ
 box_number code array = length (stored (take array code.arrays))
 

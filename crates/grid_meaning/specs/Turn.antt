@@ -1,6 +1,8 @@
--- One turn of a processor: what its next instruction does by itself, and what a message does that it awaits.
+-- One turn of a processor: what its next instruction does by itself, and what a message does that
+-- it awaits.
 --
---   act, fed    what a processor does, and what a message makes of its state: neither sees a link, so being stuck comes before a
+--   act, fed    what a processor does, and what a message makes of its state: neither sees a link,
+-- so being stuck comes before a
 --               full one
 --   turn_at     its turn, by the messages for it and the room on its own links
 use Rattle.std.specs.Prelude.{ℕ, ◌+◌, ◌==◌, ℤ, List, [], length, Option, Some, None, slice_get, if◌then◌else◌}
@@ -42,7 +44,8 @@ controlled local Outside = Blocked Undefined
 abbrev pub expression_value : Tables → Local → ℕ → Computed ℤ
 expression_value code local expr = register_value code (registers_of local) expr
 
--- Every processor computes the value; a zero divisor is a trap at line 0. Where tables fit nothing is lacking.
+-- Every processor computes the value; a zero divisor is a trap at line 0. Where tables fit nothing
+-- is lacking.
 abbrev pub prints_value : ℕ → Local → Computed ℤ → (ℤ → List ℕ) → Action
 prints_value p local (Gives value) text = prints p local (text value)
 prints_value p local Divides text = ends local (Trap DivideByZero 0)
@@ -132,6 +135,7 @@ Turn = TurnOf Local Message StuckKind
 abbrev pub processes : Tables → Processes Local Message StuckKind
 processes code = record { act = act code; fed = fed code }
 
--- One turn of processor p: by the oldest message of each link to it, and by which of its own links have room.
+-- One turn of processor p: by the oldest message of each link to it, and by which of its own links
+-- have room.
 abbrev pub turn_at : Tables → ℕ → Local → Heads Message → Rooms → Turn
 turn_at code p local heads rooms = turn_of (processes code) p local heads rooms

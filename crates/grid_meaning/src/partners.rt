@@ -6,8 +6,8 @@ ghost use Rattle.grid_meaning.specs.Grid.{after, processors};
 ghost use Rattle.grid_meaning.specs.Local.{Local};
 ghost use Rattle.grid_meaning.specs.Turn.{act};
 
-/// There is a link from each processor to each. A processor sends to processors and awaits messages of
-/// processors alone, where the words that it keeps are of processors.
+/// There is a link from each processor to each. A processor sends to processors and awaits messages
+/// of processors alone, where the words that it keeps are of processors.
 pub fn partners_are_processors()
     ensures links { (code : Code) (links : Option ℕ) (order : List ℕ) →
         length (after code links order).world.links ≡ processors code * processors code }

@@ -11,8 +11,8 @@ ghost use Rattle.grid_meaning.specs.Turn.{act, fed};
 use node_form::rows_fit;
 use zpl_region::tests_tell_the_facts;
 
-/// A processor starts in a state that it may have, and each move keeps it in one, by itself and with a
-/// message that it awaits, for all rows but `loop`, `room` and `remap`.
+/// A processor starts in a state that it may have, and each move keeps it in one, alone and with
+/// a message that it awaits, for all rows but `loop`, `room` and `remap`.
 pub fn states_are_kept()
     ensures start { (code : Code) (p : ℕ) → Fits code → IsLocal code p (start_local code p) }
     ensures moves { (code : Code) (p : ℕ) (local next : Local) (sent : Option (ℕ × OneMessage))

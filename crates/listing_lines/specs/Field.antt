@@ -100,7 +100,8 @@ has_count Shifted numbers = are_shift numbers
 has_count Cell numbers = is_one numbers
 has_count Coord numbers = is_coordinate numbers
 
--- A field of a line, where it is one of bytes just where the line is that of a text. Its numbers are of 64 bits.
+-- A field of a line, where it is one of bytes just where the line is that of a text. Its numbers
+-- are of 64 bits.
 abbrev pub IsField : Bool → Field → Type 0
 IsField true (field.Name name) = ⊥
 IsField true (field.Numbers mark numbers) = ⊥

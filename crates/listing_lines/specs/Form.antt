@@ -184,7 +184,8 @@ abbrev pub is_array : Keyword → Bool
 is_array key.Array = true
 is_array keyword = false
 
--- the fields of the line are those that its keyword wants: of an array's, all those of a stored one or all those of a temporary
+-- the fields of the line are those that its keyword wants: of an array's, all those of a stored one
+-- or all those of a temporary
 abbrev pub has_form : Line → Bool
 has_form line =
     fits_slots line.fields (form_of line.keyword) || (is_array line.keyword && fits_slots line.fields hidden_form)

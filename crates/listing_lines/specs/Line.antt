@@ -11,7 +11,8 @@ use Rattle.listing_lines.specs.Field.{IsField, field_text}
 abbrev pub spaced : List ℕ → List ℕ
 spaced text = 32 ∷ text
 
--- a line without the newline at its end: the keyword, and behind it the fields, each behind one space
+-- a line without the newline at its end: the keyword, and behind it the fields, each behind one
+-- space
 abbrev pub line_text : Line → List ℕ
 line_text line = keyword_text line.keyword ++ flat_map (λ field. spaced (field_text field)) line.fields
 

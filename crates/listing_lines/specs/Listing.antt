@@ -28,8 +28,8 @@ pub record BeginsWithLine (place : Place) (bytes : List ℕ) : Type 0 where
   pub stands : place_behind place line ≡ Some next
   pub written : bytes ≡ line_text line ++ 10 ∷ rest
 
--- Lines in their places stand before the one with this number, and what comes there isn't one; or it is the end, though
--- a part is missing. Lines are counted from 1.
+-- Lines in their places stand before the one with this number, and what comes there isn't one; or
+-- it is the end, though a part is missing. Lines are counted from 1.
 pub record IsBadLine (bytes : List ℕ) (number : ℕ) : Type 0 where
   pub front : List Line
   pub place : Place

@@ -72,7 +72,8 @@ part_behind part.Code role.Instruction = Some part.Code
 part_behind other role = None
 
 -- ---- openings
--- what a line makes of the members that are open, the innermost first; nothing where it can't stand here
+-- what a line makes of the members that are open, the innermost first; nothing where it can't stand
+-- here
 abbrev pub else_begun : List Opening → Option (List Opening)
 else_begun (If ∷ openings) = Some (Else ∷ openings)
 else_begun openings = None

@@ -12,15 +12,17 @@ use Rattle.grid_layout.specs.declared.blocks.Blocks.{Blocks}
 use Rattle.grid_layout.specs.Layout.{Arrangement, laid_out, own_first, own_last}
 use Rattle.grid_layout.specs.Piece.{owned_part, part}
 
--- from where to where a target lies whose source lies from first to last. What a wrap takes from one side it brings back by the
--- wrap of the other side; a mirror image is its own, and turns the order round
+-- from where to where a target lies whose source lies from first to last. What a wrap takes from
+-- one side it brings back by the wrap of the other side; a mirror image is its own, and turns the
+-- order round
 abbrev pub target_bounds : Border → ℤ → Dim → ℤ → ℤ → ℤ × ℤ
 target_bounds Wrap d dim first last = (dim_border_source Wrap (neg_ℤ d) dim first, dim_border_source Wrap (neg_ℤ d) dim last)
 target_bounds Reflect d dim first last =
     if int_eq d (pos 0) then (first, last) else (dim_border_source Reflect d dim last, dim_border_source Reflect d dim first)
 
--- of a receiver's targets, those whose sources lie in an owner's block, from first to last: a range of them. Where nothing moves,
--- as in a flood dimension, they are the targets that the owner itself has
+-- of a receiver's targets, those whose sources lie in an owner's block, from first to last: a range
+-- of them. Where nothing moves, as in a flood dimension, they are the targets that the owner itself
+-- has
 abbrev pub dim_border_piece : Border → ℤ → Dim → ℤ → ℤ → Dim → Dim → Dim
 dim_border_piece kind d Flood first last own still = still
 dim_border_piece kind d (Range lo hi step align) first last own still =

@@ -8,8 +8,8 @@ use Rattle.grid_layout.specs.declared.blocks.Blocks.{Blocks}
 use Rattle.grid_layout.specs.Layout.{Arrangement, laid_out, own_first, own_last}
 use Rattle.grid_layout.specs.Piece.{nothing, owned_part}
 
--- where the source has a single coordinate: all of a receiver's indices, if that coordinate lies in the owner's block, from first
--- to last. Where it has none, the indices that the owner itself has
+-- where the source has a single coordinate: all of a receiver's indices, if that coordinate lies in
+-- the owner's block, from first to last. Where it has none, the indices that the owner itself has
 abbrev pub dim_flood_piece : Option ℤ → ℤ → ℤ → Dim → Dim → Dim
 dim_flood_piece (Some y) first last own still = if is_between first last y then own else nothing
 dim_flood_piece None first last own still = still

@@ -31,8 +31,9 @@ pub record Registers : Type 0 where
   pub scalars : List ℤ
   pub slots : List Region
 
--- What a row does: it goes on with the next instruction, or with the one of this number, or it ends the run. Some other row
--- needs more than registers; nor is said what a row does whose numbers aren't in their tables.
+-- What a row does: it goes on with the next instruction, or with the one of this number, or it ends
+-- the run. Some other row needs more than registers; nor is said what a row does whose numbers
+-- aren't in their tables.
 pub data Control : Type 0 where
   Steps : (registers : Registers) → Control
   Leaps : (goal : ℕ) → Control

@@ -48,7 +48,8 @@ operands_of Neg = 1
 operands_of Not = 1
 operands_of Abs = 1
 
--- how many values are on the stack after the words, where this many were on it; nothing where an operand is missing
+-- how many values are on the stack after the words, where this many were on it; nothing where an
+-- operand is missing
 abbrev pub depth_from : ℕ → List ExprOp → Option ℕ
 depth_from depth [] = Some depth
 depth_from depth (word ∷ words) =

@@ -81,7 +81,8 @@ pub record FitsArray (row : ArrayRow) : Type 0 where
   pub without_storage : row.stored ≡ false → All IsUnusedOrStar row.dims
 
 -- ---- expressions
--- the numbers in the word are in their tables, and its array, its vector and its coordinate are of this rank
+-- the numbers in the word are in their tables, and its array, its vector and its coordinate are of
+-- this rank
 abbrev pub FitsWord : Tables → ℕ → ExprOp → Type 0
 FitsWord tables rank (word.Const value) = Unit {0}
 FitsWord tables rank (word.Scalar scalar) = scalar < tables.scalars
@@ -123,7 +124,8 @@ abbrev pub HasExpr : Tables → ℕ → ℕ → Type 0
 HasExpr tables rank expr = IsSomeAnd (slice_get tables.exprs expr) (All (FitsWord tables rank))
 
 -- ---- groups
--- the numbers in the member are in their tables, and its array, its expression and its mask are of this rank
+-- the numbers in the member are in their tables, and its array, its expression and its mask are of
+-- this rank
 abbrev pub FitsMember : Tables → ℕ → Member → Type 0
 FitsMember tables rank (member.Put array expr mask line) =
     HasArray tables rank array × HasExpr tables rank expr × IfSome mask (HasExpr tables rank)
@@ -163,7 +165,8 @@ unfoldable pub FitsExchange : Tables → List Item → Type 0
 FitsExchange tables items = All (FitsItem tables) items
 
 -- ---- instructions
--- a region that stands in a row: within the limit, with steps of at least 1, and padded past its rank
+-- a region that stands in a row: within the limit, with steps of at least 1, and padded past its
+-- rank
 pub record FitsRegion (region : Region) : Type 0 where
   pub rank : IsRank region.rank
   pub steps : All HasStep region.dims
@@ -195,15 +198,16 @@ abbrev pub IsIndexArray : Tables → ℕ → ℕ → ℕ → Type 0
 IsIndexArray tables rank target array =
     HasArray tables rank array × IsTemporary tables array × (array ≡ target → ⊥)
 
--- A `remap` reads a stored array without flood dimension, by as many temporaries of the target's rank as it has dimensions.
+-- A `remap` reads a stored array without flood dimension, by as many temporaries of the target's
+-- rank as it has dimensions.
 pub record FitsRemap (tables : Tables) (rank target : ℕ) (parts : List (Option ℕ)) (row : ArrayRow) : Type 0 where
   pub stored : row.stored ≡ true
   pub ranges : All IsRange row.dims
   pub given : All (λ part. IsSomeAnd part (IsIndexArray tables rank target)) (take row.rank parts)
   pub absent : All IsNone (drop row.rank parts)
 
--- The numbers in the instruction are in their tables, and its slots, arrays, group and vector are of this rank, where it
--- has any. A goal may also be the number of instructions.
+-- The numbers in the instruction are in their tables, and its slots, arrays, group and vector are
+-- of this rank, where it has any. A goal may also be the number of instructions.
 abbrev pub FitsAt : Tables → ℕ → Instr → Type 0
 FitsAt tables rank (instr.Set scalar expr line) = (scalar < tables.scalars) × HasScalarExpr tables expr
 FitsAt tables rank (instr.Fix slot region) = HasSlot tables rank slot × FitsRegion region × (region.rank ≡ rank)
@@ -251,7 +255,8 @@ pub record FitsInstr (tables : Tables) (row : Instr) : Type 0 where
   pub fit : FitsAt tables rank row
 
 -- ---- tables
--- the tables fit. That a number of scalars or cells and a line are below 2 ^ 32 needs no rule: they are `u32`
+-- the tables fit. That a number of scalars or cells and a line are below 2 ^ 32 needs no rule: they
+-- are `u32`
 pub record Fits (tables : Tables) : Type 0 where
   pub grid : IsGrid tables.grid
   pub slots : All IsRank tables.slots
@@ -266,7 +271,8 @@ pub record Fits (tables : Tables) : Type 0 where
 abbrev pub Keeps : {X : Type 0} → List X → List X → Type 0
 Keeps {X} old new = (k : ℕ) (row : X) → slice_get old k ≡ Some row → slice_get new k ≡ Some row
 
--- what was a number of the old tables is one of the new tables, for the same slot, array, expression or group
+-- what was a number of the old tables is one of the new tables, for the same slot, array,
+-- expression or group
 pub record Grows (old new : Tables) : Type 0 where
   pub scalars : old.scalars ≤ new.scalars
   pub cells : old.cells ≤ new.cells

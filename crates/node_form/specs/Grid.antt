@@ -11,7 +11,8 @@ factors_of (suc n ∷ grid) = suc n ∷ factors_of grid
 abbrev pub processors_of : List ℕ → ℕ
 processors_of grid = fold (λ count factor. count * factor) 1 (factors_of grid)
 
--- at least one factor stands in front, each at least 1, only 0 stands behind them, and there are at most 64 processors
+-- at least one factor stands in front, each at least 1, only 0 stands behind them, and there are at
+-- most 64 processors
 pub record IsGrid (grid : List ℕ) : Type 0 where
   pub some : 1 ≤ length (factors_of grid)
   pub absent : All (λ factor. factor ≡ 0) (drop (length (factors_of grid)) grid)

@@ -8,8 +8,9 @@ use Rattle.node_form.specs.declared.tables.Tables.{Tables}
 use Rattle.node_form.specs.Value.{Computed, Gives, Divides, Lacks, and_then, read, Operands, value_of}
 
 -- ---- an index, and what is known there
--- How the arrays in a store are reached at an index: the index; the value of an array at the index moved by a vector, where
--- that place is held; and the store with a new value of an array at the index, where that place is held.
+-- How the arrays in a store are reached at an index: the index; the value of an array at the index
+-- moved by a vector, where that place is held; and the store with a new value of an array at the
+-- index, where that place is held.
 pub record Access (S : Type 0) : Type 0 where
   pub index : List ℤ
   pub element : S → ℕ → List ℤ → Option ℤ
@@ -34,8 +35,8 @@ abbrev pub value_at : {S : Type 0} → Tables → Access S → Point S → ℕ �
 value_at tables access point expr = and_then (value_of (operands_at access point)) (read (slice_get tables.exprs expr))
 
 -- ---- members that open and close
--- Members are run, or skipped up to the one that closes an opening: so many more are open within it, and the skipping ends
--- at its `else` too, where it has to.
+-- Members are run, or skipped up to the one that closes an opening: so many more are open within
+-- it, and the skipping ends at its `else` too, where it has to.
 pub data Mode : Type 0 where
   Runs : Mode
   Skips : (depth : ℕ) (to_else : Bool) → Mode
@@ -62,7 +63,8 @@ skipped depth to_else CloseWhile = skipped_closing depth to_else
 skipped depth to_else (OpenRepeat mask line) = Skips (suc depth) to_else
 skipped depth to_else (Until expr) = skipped_closing depth to_else
 
--- the numbers of the members that are open, the innermost first: behind one member, and behind members from a number on
+-- the numbers of the members that are open, the innermost first: behind one member, and behind
+-- members from a number on
 abbrev pub open_numbers : ℕ → List ℕ → Member → List ℕ
 open_numbers number numbers (Put array expr mask line) = numbers
 open_numbers number numbers (Cell cell expr mask line) = numbers
@@ -95,16 +97,17 @@ abbrev pub outermost_of : List Member → ℕ → ℕ
 outermost_of members number = last_or number (open_before members number)
 
 -- ---- one member
--- What a member does: the members behind it go on in a mode; or those from its opening on are run again, in the next turn; or
--- it met a zero divisor; or a place that isn't held.
+-- What a member does: the members behind it go on in a mode; or those from its opening on are run
+-- again, in the next turn; or it met a zero divisor; or a place that isn't held.
 pub data Step (S : Type 0) : Type 0 where
   GoesOn : (mode : Mode) (point : Point S) → Step S
   GoesBack : (point : Point S) → Step S
   DividesHere : Step S
   LacksHere : Step S
 
--- What members do at an index, up to the end of the turn: all is done; or the next turn begins at this member; or this member,
--- or the outermost one that encloses it, met a zero divisor, and the rest is left out; or a place isn't held.
+-- What members do at an index, up to the end of the turn: all is done; or the next turn begins at
+-- this member; or this member, or the outermost one that encloses it, met a zero divisor, and the
+-- rest is left out; or a place isn't held.
 pub data Ran (S : Type 0) : Type 0 where
   Through : (point : Point S) → Ran S
   Again : (member : ℕ) (point : Point S) → Ran S
@@ -209,7 +212,7 @@ units_from depth unit [] = []
 units_from depth unit (member ∷ members) =
     next_unit (depth_behind depth member) (unit ++ member ∷ []) (λ depth unit. units_from depth unit members)
 
--- The units of a group: its outermost members, each with all that it encloses. Node code runs them one after another at each
--- index; a flat program runs each of them over all indices.
+-- The units of a group: its outermost members, each with all that it encloses. Node code runs them
+-- one after another at each index; a flat program runs each of them over all indices.
 abbrev pub units : List Member → List (List Member)
 units members = units_from 0 [] members

@@ -8,7 +8,8 @@ use Rattle.node_form.specs.declared.members.Member.TheVariants.{Put, Cell, Acc, 
 use Rattle.node_form.specs.declared.nests.Opening.{Opening}
 use Rattle.node_form.specs.declared.nests.Opening.TheVariants.{If, Else, While, Repeat}
 
--- Members one after another, as a tree: `after` are those behind the first one and what it encloses.
+-- Members one after another, as a tree: `after` are those behind the first one and what it
+-- encloses.
 pub data Nest : Type 0 where
   Nothing : Nest
   Putting : (array expr : ℕ) (mask : Option ℕ) (line : ℕ) (after : Nest) → Nest
@@ -38,8 +39,8 @@ pub record IsNest (members : List Member) : Type 0 where
   pub spelled : members_of tree ≡ members
 
 -- ---- what is open
--- what the members that close or go on make of the openings that are open, the innermost first; nothing where another one
--- is the innermost
+-- what the members that close or go on make of the openings that are open, the innermost first;
+-- nothing where another one is the innermost
 abbrev pub else_begun : List Opening → Option (List Opening)
 else_begun (If ∷ openings) = Some (Else ∷ openings)
 else_begun openings = None
@@ -75,8 +76,8 @@ abbrev pub opened : List Opening → List Member → Option (List Opening)
 opened openings [] = Some openings
 opened openings (member ∷ members) = option_and_then (λ next. opened next members) (open_behind openings member)
 
--- Where an opening at a depth stands among those in front of a member; or that the member opened it. Depths count from the
--- innermost.
+-- Where an opening at a depth stands among those in front of a member; or that the member opened
+-- it. Depths count from the innermost.
 abbrev pub found : Opening → ℕ → ControlFlow Opening ℕ
 found opening zero = Break opening
 found opening (suc depth) = Continue depth

@@ -87,8 +87,8 @@ IsNamedByPart tables thing (part.Copied slot) = thing ≡ Slot slot
 abbrev pub IsNamedByGroup : Tables → Thing → ℕ → Type 0
 IsNamedByGroup tables thing group = IsSomeAnd (slice_get tables.groups group) (Any (IsNamedByMember tables thing))
 
--- The row names it, or an expression of the row does, or the group of its loop or an expression of that, or the exchange
--- of its start or finish.
+-- The row names it, or an expression of the row does, or the group of its loop or an expression of
+-- that, or the exchange of its start or finish.
 abbrev pub IsNamed : Tables → Instr → Thing → Type 0
 IsNamed tables (instr.Set scalar expr line) thing = (thing ≡ Scalar scalar) ⊎ IsNamedByExpr tables thing expr
 IsNamed tables (instr.Fix slot region) thing = thing ≡ Slot slot
@@ -128,8 +128,8 @@ IsNamed tables (instr.Remap array slot from parts) thing =
     ⊎ ((thing ≡ Slot slot) ⊎ ((thing ≡ Array from) ⊎ Any (λ part. IsSomeAnd part (λ read. thing ≡ Array read)) parts))
 
 -- ---- what a row does with a thing
--- The row, if there is one, writes the thing just where the touch says so; it names the thing and doesn't write it where
--- the touch is a reading one; and else it doesn't name it.
+-- The row, if there is one, writes the thing just where the touch says so; it names the thing and
+-- doesn't write it where the touch is a reading one; and else it doesn't name it.
 pub record IsTouch (tables : Tables) (row : Option Instr) (thing : Thing) (touch : Touch) : Type 0 where
   pub writes : (touch ≡ Writes) ↔ IsSomeAnd row (λ instr. IsWritten tables instr thing)
   pub reads : (touch ≡ Reads) ↔ IsSomeAnd row (λ instr. IsNamed tables instr thing × (IsWritten tables instr thing → ⊥))

@@ -9,8 +9,9 @@ use Rattle.node_form.specs.declared.words.ExprOp.TheVariants.{Const, Scalar, Her
 use Rattle.node_form.specs.Expression.{Expression, Constant, Variable, Element, Neighbour, CellValue, Coordinate, Operation, Negation, Denial, Absolute}
 
 -- ---- outcomes
--- What is computed: a value; or none, for a divisor is 0; or none, for something that is read isn't there, as a place that
--- isn't held. Of several causes in one expression the first in postfix order counts.
+-- What is computed: a value; or none, for a divisor is 0; or none, for something that is read isn't
+-- there, as a place that isn't held. Of several causes in one expression the first in postfix order
+-- counts.
 pub data Computed (X : Type 0) : Type 0 where
   Gives : (value : X) → Computed X
   Divides : Computed X
@@ -37,8 +38,8 @@ divided (Some value) = Gives value
 divided None = Divides
 
 -- ---- operands
--- What words read: scalars; and at an index the cells, the index, and the value of an array at the index moved by a
--- vector, where that place is held.
+-- What words read: scalars; and at an index the cells, the index, and the value of an array at the
+-- index moved by a vector, where that place is held.
 pub record Operands : Type 0 where
   pub scalars : List ℤ
   pub cells : List ℤ

@@ -15,8 +15,8 @@ use Rattle.zpl_arrays.specs.Fold.{agrees, partly_reduced}
 abbrev pub is_reached : Region → Region → List ℤ → Bool
 is_reached target block x = list_any (agrees target.dims x) (members block)
 
--- for each index of `within` that the block reaches, in row-major order: the fold of the block's values at the tuples that
--- agree with it
+-- for each index of `within` that the block reaches, in row-major order: the fold of the block's
+-- values at the tuples that agree with it
 abbrev pub partials_of : Fold → Region → Region → Array → List ℤ
 partials_of op target within block =
     map (partly_reduced op target block.storage (element block)) (filter (is_reached target block.storage) (members within))

@@ -1,4 +1,5 @@
--- Reads of an array at tuples that are computed: which processor has a tuple, what is asked of it, and what it answers.
+-- Reads of an array at tuples that are computed: which processor has a tuple, what is asked of it,
+-- and what it answers.
 use Rattle.std.specs.Prelude.{ℕ, ◌==◌, Bool, false, if◌then◌else◌, ℤ, List, map, filter, Option, Some, None, is_some}
 use Rattle.zpl_region.specs.declared.regions.Region.{Region}
 use Rattle.zpl_region.specs.Tests.{is_member}

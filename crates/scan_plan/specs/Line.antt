@@ -1,4 +1,5 @@
--- Lines of a region: the tuples that differ in the coordinate of one dimension alone, and their totals.
+-- Lines of a region: the tuples that differ in the coordinate of one dimension alone, and their
+-- totals.
 use Rattle.std.specs.Prelude.{ℕ, zero, suc, ◌+◌, ◌-◌, ◌*◌, ◌/◌, ◌%◌, ◌==◌, Bool, false, ◌&&◌, if◌then◌else◌, Option, Some, None, ℤ, List, [], ◌∷◌, map, filter, slice_index_or}
 use Rattle.std.specs.Ordering.{int_eq}
 use Rattle.zpl_nums.specs.declared.folds.Fold.{Fold}
@@ -13,8 +14,8 @@ use Rattle.zpl_arrays.specs.Array.{place_among}
 use Rattle.zpl_arrays.specs.Row.{kept_values}
 use Rattle.zpl_arrays.specs.Scan.{is_same_tuple}
 
--- the dimension along which the lines of a scan run, counted from 0: the last one for a scan in row-major order, which is
--- `along` 0, and else `along` counted from 1
+-- the dimension along which the lines of a scan run, counted from 0: the last one for a scan in
+-- row-major order, which is `along` 0, and else `along` counted from 1
 abbrev pub line_dim : ℕ → ℕ → ℕ
 line_dim rank zero = rank - 1
 line_dim rank (suc k) = k
@@ -48,7 +49,8 @@ head_of k (dim ∷ dims) [] = []
 head_of zero (dim ∷ dims) (x ∷ xs) = first_of dim ∷ xs
 head_of (suc k) (dim ∷ dims) (x ∷ xs) = x ∷ head_of k dims xs
 
--- the number of the line of the tuple at a place, where lines have n tuples, each `inner` places behind the one before it
+-- the number of the line of the tuple at a place, where lines have n tuples, each `inner` places
+-- behind the one before it
 abbrev pub line_number : ℕ → ℕ → ℕ → ℕ
 line_number n inner i = i / (n * inner) * inner + i % inner
 

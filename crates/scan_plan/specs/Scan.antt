@@ -1,4 +1,5 @@
--- A scan on one processor's block, from the totals of all processors' lines and the block's own values.
+-- A scan on one processor's block, from the totals of all processors' lines and the block's own
+-- values.
 use Rattle.std.specs.Prelude.{ℕ, zero, suc, Bool, not, ◌&&◌, if◌then◌else◌, Option, Some, None, ℤ, List, [], ◌∷◌, ◌++◌, map, filter, find, option_map}
 use Rattle.std.specs.List.{zip}
 use Rattle.zpl_nums.specs.declared.folds.Fold.{Fold}
@@ -17,7 +18,8 @@ use Rattle.scan_plan.specs.Line.{fold_at, head_of, heads, is_along, line_dim}
 abbrev pub LineTotal : Type 0
 LineTotal = List ℤ × ℤ
 
--- the parts of a region that the processors own, for the receiver p: in a flood dimension those with p's block own it
+-- the parts of a region that the processors own, for the receiver p: in a flood dimension those
+-- with p's block own it
 abbrev pub parts_of : Blocks → ℕ → Region → List Region
 parts_of blocks p region = map (λ q. owned_part blocks q p region) (processors blocks.grid)
 
@@ -27,8 +29,8 @@ lines_of k [] all = []
 lines_of k (part ∷ parts) [] = []
 lines_of k (part ∷ parts) (totals ∷ all) = zip (members (heads k part)) totals ++ lines_of k parts all
 
--- the line that begins with g counts for the line that begins with h: it stands before it, and on one line with it where the
--- scan is along a dimension
+-- the line that begins with g counts for the line that begins with h: it stands before it, and on
+-- one line with it where the scan is along a dimension
 abbrev pub precedes : ℕ → List ℤ → List ℤ → Bool
 precedes zero h g = is_before g h
 precedes (suc k) h g = is_along k h g && is_before g h
@@ -40,7 +42,8 @@ fold_of_totals op is_kept lines = folded op (map (λ line. line.1) (filter (λ l
 abbrev pub before : Fold → ℕ → List LineTotal → List ℤ → ℤ
 before op along lines h = fold_of_totals op (precedes along h) lines
 
--- the scan at x: what stands before the part's line that x is on, and that line's values up to and with x
+-- the scan at x: what stands before the part's line that x is on, and that line's values up to and
+-- with x
 abbrev pub scan_at : Fold → ℕ → Region → List LineTotal → (List ℤ → Option ℤ) → List ℤ → ℤ
 scan_at op along part lines value x =
     let k = line_dim part.rank along in
@@ -52,15 +55,16 @@ block_scan op along blocks p region all value =
     let part = owned_part blocks p p region in
     map (scan_at op along part (lines_of (line_dim region.rank along) (parts_of blocks p region) all) value) (members part)
 
--- what it is meant to be, at x: the definition's scan over the whole region, in row-major order or along a dimension
+-- what it is meant to be, at x: the definition's scan over the whole region, in row-major order or
+-- along a dimension
 abbrev pub whole_scan : ℕ → Fold → Region → (List ℤ → Bool) → (List ℤ → ℤ) → List ℤ → ℤ
 whole_scan zero op region is_kept e x = scanned op region is_kept e x
 whole_scan (suc k) op region is_kept e x = scanned_along (suc k) op region is_kept e x
 
 -- ---- how the totals are gone through
 
--- for tuples in ascending order: the fold of the lines that stand before the first of them, before the second but not before the
--- first, and so on
+-- for tuples in ascending order: the fold of the lines that stand before the first of them, before
+-- the second but not before the first, and so on
 abbrev pub folds_between : Fold → List (List ℤ) → List LineTotal → List ℤ
 folds_between op [] lines = []
 folds_between op (h ∷ hs) lines =
@@ -71,8 +75,9 @@ abbrev pub gone_through : Fold → ℕ → List (List ℤ) → List LineTotal �
 gone_through op zero hs lines = folds_between op hs lines
 gone_through op (suc k) hs lines = map (before op (suc k) lines) hs
 
--- the number of the first own line behind one that begins with h, the own lines being given by their first tuples: of all where
--- the scan goes in row-major order, and else of the one that h is on
+-- the number of the first own line behind one that begins with h, the own lines being given by
+-- their first tuples: of all where the scan goes in row-major order, and else of the one that h is
+-- on
 abbrev pub line_behind : ℕ → Region → List ℤ → Option ℕ
 line_behind zero own h = option_map (place_among own.dims) (find (is_before h) (members own))
 line_behind (suc k) own h =

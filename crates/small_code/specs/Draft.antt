@@ -31,7 +31,8 @@ tables_of scalars texts exprs code = record {
 abbrev pub first_tables : ℕ → Tables
 first_tables scalars = tables_of scalars (newline ∷ []) [] []
 
--- a row of small programs whose numbers are in their tables; a goal may also be the number of instructions
+-- a row of small programs whose numbers are in their tables; a goal may also be the number of
+-- instructions
 abbrev pub FitsRow : Tables → Instr → Type 0
 FitsRow tables (Set scalar expr line) = (scalar < tables.scalars) × (expr < length tables.exprs)
 FitsRow tables (Print text) = text < length tables.texts
@@ -41,7 +42,8 @@ FitsRow tables (Unless expr goal line) = (expr < length tables.exprs) × (goal �
 FitsRow tables End = Unit {0}
 FitsRow tables row = ⊥
 
--- what holds of tables while they grow: they fit, expressions and rows need scalars alone, and the first text is a newline
+-- what holds of tables while they grow: they fit, expressions and rows need scalars alone, and the
+-- first text is a newline
 pub record IsDraft (tables : Tables) : Type 0 where
   pub fits : Fits tables
   pub scalar_exprs : All (All IsScalarWord) tables.exprs

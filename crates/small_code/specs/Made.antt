@@ -15,8 +15,8 @@ abbrev pub CanBeMade : List ℕ → List Name → Stmts → Type 0
 CanBeMade name names body =
     AreDistinct (name ∷ []) (texts_of names) × AreFine (texts_of names) MOST_LOOPS body
 
--- so it is, and the code is what is emitted for the statements, and an `end`; its tables fit, and its
--- rows need scalars alone
+-- so it is, and the code is what is emitted for the statements, and an `end`; its tables fit, and
+-- its rows need scalars alone
 pub record IsMade (source name : List ℕ) (names : List Name) (body : Stmts) (code : Tables) : Type 0
   where
     pub distinct : AreDistinct (name ∷ []) (texts_of names)

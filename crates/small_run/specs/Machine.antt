@@ -15,7 +15,8 @@ processor_of machine = record {
       { at = machine.at; ended = machine.ended; scalars = machine.scalars.items };
 }
 
--- each number that the code names is there, its rows are those of scalar code, and the stack is as deep as the longest expression
+-- each number that the code names is there, its rows are those of scalar code, and the stack is as
+-- deep as the longest expression
 pub record IsReady (machine : Inside) : Type 0 where
   pub fits : Fits machine.code.now
   pub rows : IsScalarCode machine.code.now

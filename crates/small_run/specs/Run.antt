@@ -6,8 +6,8 @@ use Rattle.node_form.specs.declared.tables.Tables.{Tables}
 use Rattle.grid_meaning.specs.Grid.{Grid, after}
 use Rattle.grid_meaning.specs.Order.{given}
 
--- The grid of one processor after so many turns. Links hold any number of messages; scalar code does
--- the same over all others.
+-- The grid of one processor after so many turns. Links hold any number of messages; scalar code
+-- does the same over all others.
 abbrev pub after_turns : Tables → ℕ → Grid
 after_turns code k = after code None (given [] 1 k)
 

@@ -9,7 +9,8 @@ use Rattle.zpl_region.specs.Ends.{has_none}
 use Rattle.zpl_region.specs.Hull.{hull_with}
 use Rattle.zpl_region.specs.Region.{moved}
 
--- over lo..hi: lo and the remainder, from 0 on, of x + d - lo by the extent. In a flood dimension it is x
+-- over lo..hi: lo and the remainder, from 0 on, of x + d - lo by the extent. In a flood dimension
+-- it is x
 abbrev pub dim_around : ℤ → Dim → ℤ → ℤ
 dim_around d (Range lo hi step align) x = lo +ℤ int_rem_euclid ((x +ℤ d) -ℤ lo) (pos (extent lo hi))
 dim_around d Flood x = x
@@ -44,6 +45,6 @@ zeros (d ∷ v) = pos 0 ∷ zeros v
 abbrev pub copy_shift : Region → List ℤ → List ℤ
 copy_shift home d = if has_none home then zeros d else each_rest d home.dims
 
--- the copy's storage: the hull of the home box and of the home box moved by that shift
+-- what stores the copy: the least box that has the home box and the moved home box within it
 abbrev pub copy_storage : Region → List ℤ → Region
 copy_storage home d = hull_with home (moved (copy_shift home d) home)

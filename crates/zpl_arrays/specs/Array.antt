@@ -39,7 +39,8 @@ flattened (dim ∷ dims) [] = []
 flattened (Flood ∷ dims) (x ∷ t) = pos 0 ∷ flattened dims t
 flattened (Range lo hi step align ∷ dims) (x ∷ t) = x ∷ flattened dims t
 
--- the place of a coordinate among those of its dimension, and of a tuple in row-major order, both counted from 0
+-- the place of a coordinate among those of its dimension, and of a tuple in row-major order, both
+-- counted from 0
 abbrev pub place_along : Dim → ℤ → ℕ
 place_along (Range lo hi step align) x =
     unsigned_abs (x -ℤ first_of (Range lo hi step align)) / unsigned_abs step

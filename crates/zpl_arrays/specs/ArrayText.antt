@@ -16,8 +16,9 @@ number_text z = signed_decimal z
 abbrev pub truth_text : ℤ → List ℕ
 truth_text z = if is_true z then codes "true" else codes "false"
 
--- what is printed of the tuples over these dimensions, text being what is printed at one tuple: a line has a space (32)
--- between each two, each line of a plane ends with a newline (10), and each plane of a space with one more
+-- what is printed of the tuples over these dimensions, text being what is printed at one tuple: a
+-- line has a space (32) between each two, each line of a plane ends with a newline (10), and each
+-- plane of a space with one more
 abbrev pub text_by_rank : ℕ → List Dim → (List ℤ → List ℕ) → List ℕ
 text_by_rank zero dims text = []
 text_by_rank (suc zero) dims text = join_with_byte 32 (map text (tuples (map coordinates dims)))

@@ -23,7 +23,8 @@ each_border_conforms (d ∷ v) (dim ∷ dims) = dim_border_conforms d dim && eac
 abbrev pub border_conforms : List ℤ → Region → Bool
 border_conforms d r = each_border_conforms (components r.rank d) r.dims
 
--- the source of the coordinate x: from the opposite side, an extent away, or mirrored at the near bound
+-- the source of the coordinate x: from the opposite side, an extent away, or mirrored at the near
+-- bound
 abbrev pub dim_border_source : Border → ℤ → Dim → ℤ → ℤ
 dim_border_source kind d Flood x = x
 dim_border_source Wrap d (Range lo hi step align) x =

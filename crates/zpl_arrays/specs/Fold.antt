@@ -23,6 +23,7 @@ agrees (dim ∷ target) [] t = true
 agrees (dim ∷ target) (x ∷ xs) [] = true
 agrees (dim ∷ target) (x ∷ xs) (y ∷ t) = (is_collapsed dim || int_eq y x) && agrees target xs t
 
--- `op<<[source] e` at x: over the tuples of the source that agree with x. The source is never masked
+-- `op<<[source] e` at x: over the tuples of the source that agree with x. The source is never
+-- masked
 abbrev pub partly_reduced : Fold → Region → Region → (List ℤ → ℤ) → List ℤ → ℤ
 partly_reduced op target source e x = kept_fold op (agrees target.dims x) e (members source)

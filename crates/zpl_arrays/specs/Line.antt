@@ -12,7 +12,8 @@ is_on_line k (x ∷ xs) [] = false
 is_on_line zero (x ∷ xs) (y ∷ t) = is_same_tuple xs t
 is_on_line (suc k) (x ∷ xs) (y ∷ t) = int_eq y x && is_on_line k xs t
 
--- the region's tuples on the line through x along the k-th dimension, k counted from 1, in ascending order
+-- the region's tuples on the line through x along the k-th dimension, k counted from 1, in
+-- ascending order
 abbrev pub line_through : ℕ → Region → List ℤ → List (List ℤ)
 line_through k r x = filter (is_on_line (k - 1) x) (members r)
 

@@ -1,5 +1,6 @@
--- Where a reference lies: the region under which an array is read or written, moved by the reference's shift, within the
--- array's storage. A read that wraps round is checked unmoved, within the home box.
+-- Where a reference lies: the region under which an array is read or written, moved by the
+-- reference's shift, within the array's storage. A read that wraps round is checked unmoved, within
+-- the home box.
 use Rattle.std.specs.Prelude.{Bool, true, false, ◌&&◌, ◌||◌, ℤ, List, [], ◌∷◌}
 use Rattle.zpl_region.specs.declared.dims.Dim.{Dim}
 use Rattle.zpl_region.specs.declared.dims.Dim.TheVariants.{Range, Flood}
@@ -8,8 +9,8 @@ use Rattle.zpl_region.specs.Ends.{has_none}
 use Rattle.zpl_region.specs.Region.{moved}
 use Rattle.zpl_region.specs.Tests.{is_dim_in_box}
 
--- the coordinates lie from the storage's lower bound to its upper one. Everything lies in a flood dimension of the
--- storage, and a flood dimension in no range
+-- the coordinates lie from the storage's lower bound to its upper one. Everything lies in a flood
+-- dimension of the storage, and a flood dimension in no range
 abbrev pub dim_lies_in : Dim → Dim → Bool
 dim_lies_in dim Flood = true
 dim_lies_in Flood (Range lo hi step align) = false

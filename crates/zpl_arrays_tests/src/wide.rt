@@ -184,7 +184,8 @@ fn regions_of_reductions_and_floods(rt: HostRuntime) {
     }
 }
 
-/// Compares the source of a flood at `x` with the only coordinate of the region, where it has just one.
+/// Compares the source of a flood at `x` with the only coordinate of the region, where it has just
+/// one.
 fn flood_source(rt: &impl Abort, number: u32, x: i64) {
     let source = region(rt, 1, number);
     let line = dim(number, 0);

@@ -7,8 +7,8 @@ use Rattle.zpl_meaning.specs.Program.{Meaning}
 use Rattle.grid_meaning.specs.Grid.{processors, after, IsOver}
 use Rattle.grid_meaning.specs.Order.{IsOrder, given}
 
--- the most `while` and `repeat` that one shattered statement of the program has; no program that
--- has code so far has such a statement
+-- the greatest number of `while` and `repeat` that are within one shattered statement; no program
+-- that has code so far has such a statement
 abbrev pub shattered_loops : Program → ℕ
 shattered_loops program = 0
 

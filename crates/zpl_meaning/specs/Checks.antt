@@ -45,8 +45,9 @@ has_mask_within store over = by over.mask
     by None = true
     by (Some mask) = is_within store over.region mask.array
 
--- The region that holds at the reference, moved by its shift, lies in the storage; of a read that
--- wraps round it lies in the home box unmoved. Of a remap read the array isn't checked here.
+-- A reference reads within the array's storage: what counts is the region in force there, moved by
+-- the shift. A read that wraps round has to have that region, unmoved, within the home box. The
+-- array of a remap read isn't looked at here.
 abbrev mutual
   pub refers : Store → Term → Bool
   refers store (Constant value) = true

@@ -49,8 +49,8 @@ abbrev pub setup_of : Program → Known → List Border → Frame → Setup
 setup_of program known borders frame =
     record { program = program; known = known; borders = borders; globals = frame.names }
 
--- the entry procedure, with neither parameters nor current regions; it has no result, and asks for no
--- place of one
+-- the entry procedure, with neither parameters nor current regions; it has no result, and asks for
+-- no place of one
 abbrev pub entry_call : Program → Called
 entry_call program =
     record { name = program.name.text; actuals = []; currents = no_currents; result = 0 }

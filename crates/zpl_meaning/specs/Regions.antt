@@ -1,5 +1,6 @@
 -- The regions that stand in statements. Their bounds are computed from the store, in text order,
--- and all bounds of a bracket before its limit is tested; a form that goes past the limit traps too.
+-- and all bounds of a bracket before its limit is tested; a form that goes past the limit traps
+-- too.
 use Rattle.std.specs.Prelude.{ℕ, suc, Bool, true, false, ℤ, List, [], ◌∷◌, Option, Some}
 use Rattle.std.specs.Prelude.{None}
 use Rattle.zpl_nums.specs.declared.ends.TrapKind.TheVariants as trap

@@ -52,8 +52,8 @@ is_entry (Some routine) = is_bare routine.procedure.params routine.procedure.res
 abbrev pub no_entry : Program → List ℕ
 no_entry program = at_if (not (is_entry (entry_of program))) program.name.at
 
--- Faults that speak of the current region are judged over every chain of calls from the entry
--- procedure on. In declarations and vectors there is none, which the text alone tells.
+-- A fault about the current region counts where some chain of calls that begins at the entry
+-- procedure meets it. What stands outside statements has no such region: there the text decides.
 abbrev pub HasFault : Program → FaultKind → ℕ → Type 0
 HasFault program UnknownName at = Contains (in_text unknown_names program) at
 HasFault program TwiceNamed at = Contains (names_twice program) at

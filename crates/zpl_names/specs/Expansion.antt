@@ -349,6 +349,6 @@ loops_at (AtStmt reach at prefixes form) =
     if not (is_above_zero reach.shattered) && is_shattered reach form then form_loops form else 0
 loops_at site = 0
 
--- the most `while` and `repeat` that one shattered statement of the program has
+-- the greatest number of `while` and `repeat` that are within one shattered statement
 abbrev pub shattered_loops : Program → ℕ
 shattered_loops program = greatest_of loops_at (text_sites program)

@@ -49,8 +49,8 @@ unknown_names (AtStmt reach at prefixes (Border border names)) =
     flat_map (unless_taken reach is_array) names
 unknown_names site = []
 
--- ---- TwiceNamed: a second global of one name, or a second parameter or local variable of one name
--- in a procedure; at the second name
+-- ---- TwiceNamed: a global has an earlier global's name, or what a procedure declares has that of
+-- an earlier parameter or local variable; its place is the later name's
 
 abbrev pub repeated : List Name → List Name → List ℕ
 repeated before [] = []
@@ -68,8 +68,8 @@ abbrev pub unknown_types : Site → List ℕ
 unknown_types (AtBase (Other name)) = name.at ∷ []
 unknown_types site = []
 
--- ---- TypeClash: an integer stands where a boolean is wanted, a `for` variable is a boolean, or a
--- bound of a dimension has a parallel operator or a remap read; at the expression or the variable
+-- ---- TypeClash: what must be a boolean is an integer, a `for` counts with a boolean, or the bound
+-- of a dimension holds an operator over a region or a remap read; its place is that part's own
 
 abbrev pub is_integer_in : Reach → Expr → Bool
 is_integer_in reach expr = is_integer (type_of reach.scope expr)
@@ -249,9 +249,9 @@ rank_clashes (AtStmt reach at prefixes (Border border names)) =
     names
 rank_clashes site = []
 
--- ---- NoRegion: an array statement, an operator, a blank or a ditto has no current region of its
--- rank, or a declaration of a region or a variable has a blank or a ditto; at the statement,
--- operator, blank or ditto
+-- ---- NoRegion: the current region of a rank is asked for where there is none, by a statement on
+-- arrays, an operator over regions, a blank or a ditto; a region's or a variable's declaration
+-- never has one. Its place is that of what asks
 
 abbrev pub is_absent : Current → Bool
 is_absent Absent = true
@@ -448,8 +448,8 @@ not_assignable (AtCall reach place name actuals) =
     fixed_actuals reach (formals_in (kind_at reach name)) actuals
 not_assignable site = []
 
--- ---- Arguments: number, type, rank, flood dimensions or form of actuals are wrong; at the call's
--- name
+-- ---- Arguments: a call hands on more or fewer actuals than there are parameters, or one that its
+-- parameter doesn't take: for its type, its shape or its form. Its place is that of the call's name
 
 -- a shape differs from another in its rank or a flood dimension
 abbrev pub is_other_shape : Shape → Shape → Bool

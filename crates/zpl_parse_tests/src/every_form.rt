@@ -1,4 +1,5 @@
-//! A program with each form of the grammar, and its tree, written by hand from the grammar and the places of the tokens.
+//! A program with each form of the grammar, and its tree, written by hand from the grammar and the
+//! places of the tokens.
 use super::reading::tree_of;
 use std::alloc::AllocError;
 use std::test::Fail;

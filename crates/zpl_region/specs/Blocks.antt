@@ -11,7 +11,8 @@ pub record Block : Type 0 where
   pub high : ℤ
   pub is_own : Bool
 
--- whether the block has the coordinate. In a flood dimension the receiver's block has the one position
+-- whether the block has the coordinate. In a flood dimension the receiver's block has the one
+-- position
 abbrev pub block_has : Block → Dim → ℤ → Bool
 block_has block (Range lo hi step align) x = is_between block.low block.high x
 block_has block Flood x = block.is_own

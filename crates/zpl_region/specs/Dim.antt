@@ -23,8 +23,9 @@ IsMultiple step z = (q : ℤ) × (z ≡ q *ℤ step)
 abbrev pub is_multiple : ℤ → ℤ → Bool
 is_multiple step z = int_eq (int_rem z step) (pos 0)
 
--- x is a coordinate of the dimension: of a range it lies in the bounds and differs from the alignment by a multiple of
--- the step. The one position of a flood dimension has no coordinate, and is written 0
+-- x is a coordinate of the dimension: of a range it lies in the bounds and differs from the
+-- alignment by a multiple of the step. The one position of a flood dimension has no coordinate, and
+-- is written 0
 abbrev pub IsCoordinate : Dim → ℤ → Type 0
 IsCoordinate (Range lo hi step align) x = (lo ≤ℤ x) × (x ≤ℤ hi) × IsMultiple step (x -ℤ align)
 IsCoordinate Flood x = x ≡ pos 0
@@ -110,7 +111,8 @@ abbrev pub dim_moved : ℤ → Dim → Dim
 dim_moved d Flood = Flood
 dim_moved d (Range lo hi step align) = Range (lo +ℤ d) (hi +ℤ d) step (align +ℤ d)
 
--- `by`: the step times the size of d, aligned with the least coordinate, or with the greatest for a negative d
+-- `by`: the step times the size of d, aligned with the least coordinate, or with the greatest for a
+-- negative d
 abbrev pub dim_strided : ℤ → Dim → Dim
 dim_strided d Flood = Flood
 dim_strided d (Range lo hi step align) =

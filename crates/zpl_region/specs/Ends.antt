@@ -1,4 +1,5 @@
--- How many coordinates a dimension has, and its first and last one, by arithmetic on its bounds: no list is made.
+-- How many coordinates a dimension has, and its first and last one, by arithmetic on its bounds: no
+-- list is made.
 use Rattle.std.specs.Prelude.{ℕ, ◌+◌, ◌-◌, ◌*◌, ◌/◌, ◌==◌, Bool, Option, Some, None, ℤ, pos, ◌+ℤ◌, ◌-ℤ◌, unsigned_abs, if◌then◌else◌, List, [], ◌∷◌, map}
 use Rattle.std.specs.Int.{int_rem_euclid}
 use Rattle.zpl_region.specs.declared.dims.Dim.{Dim}

@@ -14,7 +14,8 @@ terms p = progression p.first p.step p.count
 abbrev pub is_between : ℤ → ℤ → ℤ → Bool
 is_between lo hi x = int_le lo x && int_le x hi
 
--- the normal form: no two progressions in it have the same numbers. All numbers are from -2^40 to 2^40
+-- the normal form: no two progressions in it have the same numbers. All numbers are from -2^40 to
+-- 2^40
 pub record IsNormal (p : Progression) : Type 0 where
   pub rising : 0 < p.step
   pub low : neg_ℤ (pos (2 ^ 40)) ≤ℤ p.first

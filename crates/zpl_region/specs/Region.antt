@@ -100,7 +100,8 @@ each_met (l ∷ lo) [] dims = dims
 each_met (l ∷ lo) (h ∷ hi) [] = []
 each_met (l ∷ lo) (h ∷ hi) (dim ∷ dims) = dim_met l h dim ∷ each_met lo hi dims
 
--- the box begins up to 2^40 and ends from -2^40 on, so that the part of a region in it has bounds from -2^40 to 2^40
+-- the box begins up to 2^40 and ends from -2^40 on, so that the part of a region in it has bounds
+-- from -2^40 to 2^40
 abbrev pub HasReach : List ℤ → List ℤ → Type 0
 HasReach lo hi = All (λ z. z ≤ℤ pos (2 ^ 40)) lo × All (λ z. neg_ℤ (pos (2 ^ 40)) ≤ℤ z) hi
 

@@ -1,4 +1,5 @@
--- What is asked of dimensions and regions, as tests. They compare bounds and counts, and walk no range.
+-- What is asked of dimensions and regions, as tests. They compare bounds and counts, and walk no
+-- range.
 use Rattle.std.specs.Prelude.{ℕ, ◌^◌, ◌==◌, nat_le, Bool, true, false, ◌&&◌, ◌||◌, ℤ, pos, neg_ℤ, ◌-ℤ◌, int_le, List, [], ◌∷◌}
 use Rattle.std.specs.List.{list_all}
 use Rattle.std.specs.Ordering.{int_eq}
@@ -27,8 +28,9 @@ is_member r t = are_coordinates r.dims t
 
 -- ---- same sets
 
--- m numbers from f on with a step of s, and n numbers from g on with a step of u, are the same: there are none, or they
--- begin with the same one, and that is the only one or the steps are the same
+-- m numbers from f on with a step of s, and n numbers from g on with a step of u, are the same:
+-- there are none, or they begin with the same one, and that is the only one or the steps are the
+-- same
 abbrev pub same_numbers : ℕ → ℤ → ℤ → ℕ → ℤ → ℤ → Bool
 same_numbers m f s n g u = (m == n) && ((m == 0) || (int_eq f g && ((m == 1) || int_eq s u)))
 
@@ -67,6 +69,7 @@ each_is_in_box (l ∷ lo) [] dims = true
 each_is_in_box (l ∷ lo) (h ∷ hi) [] = true
 each_is_in_box (l ∷ lo) (h ∷ hi) (dim ∷ dims) = is_dim_in_box l h dim && each_is_in_box lo hi dims
 
--- whether all tuples of the region lie in the box from lo to hi, as those of a region without tuples do
+-- whether all tuples of the region lie in the box from lo to hi, as those of a region without
+-- tuples do
 abbrev pub is_in_box : List ℤ → List ℤ → Region → Bool
 is_in_box lo hi r = has_none r || each_is_in_box (components r.rank lo) (components r.rank hi) r.dims
