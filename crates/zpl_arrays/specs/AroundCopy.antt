@@ -4,8 +4,9 @@ use Rattle.zpl_region.specs.declared.regions.Region.{Region}
 use Rattle.zpl_arrays.specs.Around.{around_source, copy_storage, zeros}
 use Rattle.zpl_arrays.specs.Array.{Array, array_of, element}
 
--- where a tuple of the copy has its value from: in the home box from itself, and around it an
--- extent or more away
+-- where a tuple of the copy has its value from: in the home box from itself, and outside it from
+-- the tuple one extent away in each dimension that it is outside of. The home box is a box: its
+-- ranges have steps of 1
 abbrev pub copied_from : Region → List ℤ → List ℤ
 copied_from home t = around_source home (zeros t) t
 
