@@ -1,5 +1,5 @@
 -- Programs whose processors come to one value, or wait for one that never comes.
-use Rattle.std.proofs.Common.{◌≡◌, ℕ, List, [], ◌∷◌, map, replicate, Option, Some, None, pos, ℤ, codes, refl}
+use Rattle.std.proofs.Common.{◌≡◌, ℕ, ◌*◌, List, [], ◌∷◌, ◌++◌, map, take, drop, replicate, Option, Some, None, pos, ℤ, codes, refl}
 use Rattle.std.specs.Fmt.{digits}
 use Rattle.std.specs.Int.{int_wrap}
 use Rattle.zpl_nums.specs.declared.operators.Op.TheVariants as op
@@ -16,6 +16,7 @@ use Rattle.node_form.specs.declared.members.Member.TheVariants.{Acc, Cell}
 use Rattle.node_form.specs.declared.words.ExprOp.TheVariants.{Const, Scalar, Coord, Pair}
 use Rattle.node_form.specs.declared.instructions.Instr.{Instr}
 use Rattle.node_form.specs.declared.instructions.Instr.TheVariants as instr
+use Rattle.grid_meaning.specs.Collective.{kept_with}
 use Rattle.grid_meaning.specs.Grid.{Grid, next_turn, after}
 use Rattle.grid_meaning.specs.Order.{given}
 
@@ -146,3 +147,24 @@ tree_traps : endings (divides_after (instr.TreeVote 0) (Some 1) 40)
     ≡ replicate 3 (Some (Trap DivideByZero 8))
 unfolding int_wrap
 tree_traps = refl
+
+-- ---- What is kept ascends by sender: of a processor in a tree, its parent's word stands before its children's.
+parent_first : kept_with 0 (pos 9 ∷ []) ((3, pos 5 ∷ []) ∷ (4, pos 7 ∷ []) ∷ [])
+    ≡ (0, pos 9 ∷ []) ∷ (3, pos 5 ∷ []) ∷ (4, pos 7 ∷ []) ∷ []
+parent_first = refl
+
+between : kept_with 3 (pos 5 ∷ []) ((0, pos 9 ∷ []) ∷ (4, pos 7 ∷ []) ∷ [])
+    ≡ (0, pos 9 ∷ []) ∷ (3, pos 5 ∷ []) ∷ (4, pos 7 ∷ []) ∷ []
+between = refl
+
+-- of four processors the second has taken a word of its child, sent to its parent and taken the answer
+abbrev kept_of_second : Grid → List (List (ℕ × List ℤ))
+kept_of_second grid = map (λ local. local.kept) (take 1 (drop 1 grid.world.locals))
+
+abbrev four_join : Tables
+four_join = record (three_join (instr.TreeFold 0 f.Sum)) { grid = 4 ∷ 0 ∷ 0 ∷ [] }
+
+parent_and_child : kept_of_second (after four_join None (given [] 4 (4 * 2) ++ 3 ∷ (3 ∷ (3 ∷ (3 ∷ (3 ∷ [])))) ++ 2 ∷ (2 ∷ []) ++ 1 ∷ (1 ∷ []) ++ 0 ∷ (0 ∷ (0 ∷ [])) ++ 1 ∷ []))
+    ≡ ((0, pos 12 ∷ []) ∷ (3, pos 12 ∷ []) ∷ []) ∷ []
+unfolding int_wrap
+parent_and_child = refl

@@ -110,7 +110,7 @@ seen code links world p local action =
     (run.rooms_at links (run.count_of (system_over code links)) world.links p) action
 
 -- each turn of a processor that has ended is Over
-over_at : (code : Tables) (links : Option ℕ) (grid : Grid) (p : ℕ) (locals : List Local) (i : ℕ)
+pub over_at : (code : Tables) (links : Option ℕ) (grid : Grid) (p : ℕ) (locals : List Local) (i : ℕ)
     → All (λ local. IsSome local.ended) locals
     → run.turn_or_over (system_over code links) grid.world p (slice_get locals i) ≡ Over
 over_at code links grid p [] i ended = refl

@@ -7,3 +7,7 @@ pub mod ScalarLemmas
 pub mod PartnerLemmas
 pub mod RegionLemmas
 pub mod StateLemmas
+pub mod LoopLemmas
+pub mod RemapLemmas
+pub mod RoomLemmas
+pub mod WorldLemmas

@@ -75,6 +75,13 @@ steps-each f keeps (d ∷ v) (dim ∷ dims) all =
     All-cons HasStep (f d dim) (each f v dims) (keeps d dim (All-head HasStep dim dims all))
     (steps-each f keeps v dims (All-tail HasStep dim dims all))
 
+pub length-each : (f : ℤ → Dim → Dim) (v : List ℤ) (dims : List Dim) → length (each f v dims) ≡ length dims
+length-each f [] dims = refl
+length-each f (d ∷ v) [] = refl
+length-each f (d ∷ v) (dim ∷ dims) =
+    let rest = length-each f v dims in
+    omega arith
+
 -- ---- padding
 padding-each : (f : ℤ → Dim → Dim) → f (pos 0) padding ≡ padding → (v : List ℤ) (k : ℕ)
     → each f (components zero v) (replicate k padding) ≡ replicate k padding

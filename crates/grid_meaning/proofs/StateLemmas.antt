@@ -1,12 +1,15 @@
 -- The states that a processor may have are kept by its moves.
-use Rattle.std.proofs.Common.{◌≡◌, inl, ℕ, zero, suc, ◌+◌, ◌-◌, ◌<◌, ◌≤◌, ◌↔◌, Bool, true, false, List, [], ◌∷◌, ◌++◌, length, map, take, drop, replicate, refl, sym, ap, ◌∙◌, subst, cond, ◌==◌, ℤ, pos, arith, append-nil, append_assoc, length-append, length-take}
-use Rattle.std.specs.Prelude.{Option, Some, None, IsSome, All, slice_get, slice_set, option_and_then, IsTrue}
-use Rattle.std.specs.List.{AllZip}
-use Rattle.std.specs.Option.{IsSomeAnd, option_map}
-use Rattle.std.proofs.lemmas.List.{length-map, length-replicate, map-append}
+use Rattle.std.proofs.Common.{◌≡◌, ◌≢◌, inl, inr, ℕ, zero, suc, ◌+◌, ◌-◌, ◌*◌, ◌%◌, ◌<◌, ◌≤◌, ◌↔◌, Bool, true, false, List, [], ◌∷◌, ◌++◌, length, map, take, drop, replicate, refl, sym, ap, ◌∙◌, subst, cond, ◌==◌, ℤ, pos, arith, append_assoc, length-append, length-take}
+use Rattle.std.specs.Prelude.{fold, nat_lt, Option, Some, None, IsSome, All, slice_get, slice_set, option_and_then, IsTrue}
+use Rattle.std.specs.List.{AllZip, Any, filter_map}
+use Rattle.std.proofs.lemmas.Bool.Decides.{nat_tests}
+use Rattle.std.specs.Option.{IfSome, IsNone, IsSomeAnd, option_map}
+use Rattle.std.proofs.lemmas.List.Sums.{fold-append}
+use Rattle.zpl_region.specs.Hull.{all_from}
+use Rattle.std.proofs.lemmas.List.{length-map, length-replicate, take-append-drop}
 use Rattle.std.proofs.lemmas.List.Elements.{All-nil, All-cons, All-append, All-head, All-tail, All-replicate}
 use Rattle.std.proofs.Math.ListN.{length-set}
-use Rattle.std.proofs.lemmas.Option.{slice_get_within}
+use Rattle.std.proofs.lemmas.Option.{get_or_from_slice_get, slice_get_within}
 use Rattle.zpl_nums.specs.declared.ends.End.{End}
 use Rattle.zpl_nums.specs.declared.ends.Border.{Border}
 use Rattle.zpl_nums.specs.declared.ends.TrapKind.{TrapKind}
@@ -14,7 +17,8 @@ use Rattle.zpl_region.specs.declared.dims.Dim.{Dim}
 use Rattle.zpl_region.specs.declared.dims.Dim.TheVariants as dim
 use Rattle.zpl_region.specs.declared.regions.Region.{Region}
 use Rattle.zpl_region.specs.Dim.{HasStep}
-use Rattle.zpl_region.specs.Region.{components, padding, IsPadded, IsWithinLimit}
+use Rattle.zpl_region.specs.Ends.{has_none}
+use Rattle.zpl_region.specs.Region.{components, members, padding, IsPadded, IsWithinLimit}
 use Rattle.zpl_region.specs.Tests.{is_within_limit}
 use Rattle.grid_links.specs.declared.messages.Message.{Message}
 use Rattle.grid_links.specs.Machine.{Ended, Blocked, Goes, Awaits, Takes, Refuses}
@@ -24,13 +28,17 @@ use Rattle.node_form.specs.declared.instructions.Instr.TheVariants as instr
 use Rattle.node_form.specs.declared.members.Member.{Member}
 use Rattle.node_form.specs.declared.arrays.ArrayRow.{ArrayRow}
 use Rattle.node_form.specs.declared.arrays.Item.{Item}
+use Rattle.node_form.specs.Group.{Ran, Runs, Through, Again, Divided, Unheld}
+use Rattle.grid_meaning.proofs.LoopLemmas.{IsKeptRan, kept_ran}
+use Rattle.grid_meaning.proofs.RemapLemmas.{IfApart, IsApart, IsAsked, IsAsked-request, IsOther, IsPart-later, IsPart-next, IsRequest-asked, asked_by, length-others, long_stages, parts_apart, same_stages, values_apart}
+use Rattle.grid_meaning.proofs.RoomLemmas.{is_room, room_steps}
 use Rattle.node_form.specs.Control.{Registers, Control, Steps, Leaps, Ends, Outside, control, with_computed, with_row, checked, limited, branched}
 use Rattle.node_form.specs.Control.{part_dim, part_dims, region_of, register_value, formed_by, with_slot}
 use Rattle.node_form.specs.declared.instructions.RegionForm.{RegionForm}
 use Rattle.node_form.specs.declared.instructions.RegionForm.TheVariants.{Of, Inside, At, By}
 use Rattle.zpl_nums.specs.Integer.{is_true}
 use Rattle.zpl_nums.specs.declared.folds.Fold.{Fold}
-use Rattle.grid_meaning.proofs.RegionLemmas.{HasStep-outside, HasStep-inside, HasStep-moved, HasStep-strided, steps-each, padded-each, padded-behind, no_steps, places_steps}
+use Rattle.grid_meaning.proofs.RegionLemmas.{HasStep-outside, HasStep-inside, HasStep-moved, HasStep-strided, steps-each, padded-each, padded-behind, length-each, no_steps, places_steps}
 use Rattle.zpl_arrays.specs.Array.{Array, array_of, has_place, updated}
 use Rattle.grid_layout.specs.Layout.{laid_out}
 use Rattle.grid_meaning.specs.Stored.{arrangement_of, no_places}
@@ -38,21 +46,22 @@ use Rattle.node_form.specs.declared.instructions.DimRow.{DimRow}
 use Rattle.node_form.specs.declared.instructions.DimRow.TheVariants as part
 use Rattle.node_form.specs.Value.{Computed, Gives, Divides, Lacks, and_then, mapped, read}
 use Rattle.std.proofs.lemmas.Int.{ints}
-use Rattle.node_form.specs.Fits.{Fits, FitsInstr, IsRank}
+use Rattle.node_form.specs.Fits.{Fits, FitsArray, FitsGroup, FitsInstr, FitsRemap, IsIndexArray, IsRank}
 use Rattle.grid_meaning.specs.Action.{Action, Feeding, WrongTag, WrongLength, ended_as, goes_on, prints}
-use Rattle.grid_meaning.specs.Collective.{Collective, Stage, Alone, Sends, TakesFrom, Last, Use, AtOnce, InLast, Asking, Kin, to_parent, agreeing_stages, star, tree, others, others_where, decided, keeping, voted, folded}
+use Rattle.grid_meaning.specs.Collective.{Collective, Stage, Alone, Sends, TakesFrom, Last, Use, AtOnce, InLast, Asking, Kin, to_parent, agreeing_stages, star, tree, others, others_where, decided, keeping, kept_with, voted, folded}
 use Rattle.grid_meaning.specs.Delivery.{Delivery, delivered, each_word, edged, edging, flooded, flooding, parted, parting, combined_into, with_combined, with_words}
 use Rattle.grid_meaning.specs.Exchange.{started, finished, places_of, word_count, words_written}
 use Rattle.grid_meaning.specs.Gather.{gathered, gather_last, gather_stages, prints_gathered}
+use Rattle.grid_meaning.specs.Loop.{access_at, after_members, flagged, looped, next_index, point_of, turn_at_index, with_point}
 use Rattle.grid_meaning.specs.Owner.{region_in, tuples_of}
-use Rattle.grid_meaning.specs.Place.{held_with, value_at, values_at, where_held, with_value, with_values}
-use Rattle.grid_meaning.specs.Remap.{remapped}
+use Rattle.grid_meaning.specs.Place.{held_with, own_part, value_at, values_at, where_held, with_value, with_values}
+use Rattle.grid_meaning.specs.Remap.{Want, is_asking, owns_all, remap_own, remapped, request_taken, some_wants, wants, wants_at_once, written}
 use Rattle.grid_meaning.specs.Scan.{line_dim, line_heads, line_of, line_totals, scan_done, scan_last, scan_values, scanned_row, with_line, with_lines}
 use Rattle.grid_meaning.specs.Local.{Local, left, processors, start_local, start_places}
-use Rattle.grid_meaning.specs.Room.{cleared, with_store, zeros_at}
+use Rattle.grid_meaning.specs.Room.{cleared, room_of, roomed, with_store, zeros_at}
 use Rattle.grid_meaning.specs.Rows.{collective}
 use Rattle.grid_meaning.specs.Turn.{act, act_at, act_together, fed_together, fed, unless_ended, act_in, fed_at, controlled, fed_by, fed_in, sends, steps_on, takes, prints_text, prints_value, registers_of, with_registers}
-use Rattle.grid_meaning.specs.State.{ArePlaces, StandsSteady, IsSteady, IsSlot, IsStore, HasParts, IsLocal, IsOutside, IsFresh, IsLooping, IsIn, IsAt, IsRequest, KeepsWords, IsPart, Stands, senders}
+use Rattle.grid_meaning.specs.State.{ArePlaces, NextHasThree, HasThree, placed, ascending, IsSlot, IsStore, HasParts, IsLocal, IsOutside, IsFresh, IsLooping, IsInLoop, IsIn, IsAt, IsRequest, KeepsWords, IsPart, Stands, senders}
 
 -- ---- lists side by side
 module _ {A B : Type 0} (R : A → B → Type 0) where
@@ -156,6 +165,31 @@ senders-more (first ∷ stages) (suc i) stage is =
     further (TakesFrom from) list = refl
     further Last list = refl
 
+-- ---- senders in ascending order
+ascending-more : (front rest : List ℕ) → ascending (front ++ rest) ≡ fold placed (ascending front) rest
+ascending-more front rest = fold-append placed [] front rest
+
+-- an entry is put where its sender is
+senders-kept : (from : ℕ) (words : List ℤ) (kept : List (ℕ × List ℤ))
+    → map (λ entry. entry.0) (kept_with from words kept) ≡ placed (map (λ entry. entry.0) kept) from
+senders-kept from words [] = refl
+senders-kept from words (entry ∷ kept) = by (nat_lt from entry.0) (senders-kept from words kept)
+  where
+    by : (before : Bool) → map (λ entry. entry.0) (kept_with from words kept) ≡ placed (map (λ entry. entry.0) kept) from → map (λ (e : ℕ × List ℤ). e.0) (cond before ((from, words) ∷ (entry ∷ kept)) (entry ∷ kept_with from words kept))
+        ≡ cond before (from ∷ (entry.0 ∷ map (λ (e : ℕ × List ℤ). e.0) kept)) (entry.0 ∷ placed (map (λ (e : ℕ × List ℤ). e.0) kept) from)
+    by true rest = refl
+    by false rest = ap (λ list. entry.0 ∷ list) rest
+
+All-kept : (P : ℕ × List ℤ → Type 0) (from : ℕ) (words : List ℤ) (kept : List (ℕ × List ℤ)) → P (from, words)
+    → All P kept → All P (kept_with from words kept)
+All-kept P from words [] one all = All-cons P (from, words) [] one all
+All-kept P from words (entry ∷ kept) one all =
+    by (nat_lt from entry.0) (All-kept P from words kept one (All-tail P entry kept all))
+  where
+    by : (before : Bool) → All P (kept_with from words kept) → All P (cond before ((from, words) ∷ (entry ∷ kept)) (entry ∷ kept_with from words kept))
+    by true rest = All-cons P (from, words) (entry ∷ kept) one all
+    by false rest = All-cons P entry (kept_with from words kept) (All-head P entry kept all) rest
+
 -- ---- the stages of each row end so
 module _ (code : Tables) (p : ℕ) where
   EndsOnce-delivered : (to from : List ℕ) → EndsOnce (Alone ∷ (map Sends to ++ (map TakesFrom from ++ Last ∷ [])))
@@ -245,7 +279,7 @@ KeepsWords-fresh : (code : Tables) (p : ℕ) (kind : Use) (row : Collective) (lo
     → KeepsWords code p kind row local
 KeepsWords-fresh code p AtOnce row local fresh = fresh.kept
 KeepsWords-fresh code p InLast row local fresh = (
-  ap (map (λ entry. entry.0)) fresh.kept ∙ sym (ap (λ n. senders (take n (row.stages local))) fresh.made),
+  ap (map (λ entry. entry.0)) fresh.kept ∙ sym (ap (λ n. ascending (senders (take n (row.stages local)))) fresh.made),
   subst (All (λ entry. row.awaits local entry.0 (length entry.1) ≡ true)) (sym fresh.kept)
       (All-nil (λ entry. row.awaits local entry.0 (length entry.1) ≡ true)),
 )
@@ -294,7 +328,7 @@ module _ (code : Tables) (p : ℕ) where
   IsAt-fresh local (Some row) fits parts outside fresh =
       (outside, IsIn-fresh code p (collective code p row) local (λ c is. EndsOnce-row code p row c local is) fresh)
 
-  module _ (fits_tables : Fits code) (instr_fits : (tables : Tables) (i : ℕ) (row : Instr) → Fits tables
+  module _ (inside : p < processors code) (fits_tables : Fits code) (instr_fits : (tables : Tables) (i : ℕ) (row : Instr) → Fits tables
       → slice_get tables.code i ≡ Some row → FitsInstr tables row) where
     if_fits : (at : ℕ) (found : Option Instr) → slice_get code.code at ≡ found → IfFits code found
     if_fits at None is = tt
@@ -303,6 +337,7 @@ module _ (code : Tables) (p : ℕ) where
     -- another instruction is begun
     IsLocal-left : (local : Local) (at : ℕ) → HasParts code p local → at ≤ length code.code → IsLocal code p (left local at)
     IsLocal-left local at parts within = record {
+      number = inside;
       parts = record {
         scalars = parts.scalars;
         cells = parts.cells;
@@ -325,6 +360,7 @@ module _ (code : Tables) (p : ℕ) where
     IsLocal-ended : (local : Local) (ending : End) → HasParts code p local → local.at ≤ length code.code
         → IsLocal code p (ended_as local ending)
     IsLocal-ended local ending parts within = record {
+      number = inside;
       parts = record {
         scalars = parts.scalars;
         cells = parts.cells;
@@ -382,11 +418,13 @@ module _ (code : Tables) (p : ℕ) where
       -- a slot becomes a region of its rank, with steps and padding
       IsFine-limited : (registers : Registers) (slot line rank : ℕ) (region : Region) (b : Bool) → is_within_limit region ≡ b
           → IsFine (Steps registers) → slice_get code.slots slot ≡ Some rank → IsRank rank → region.rank ≡ rank
-          → All HasStep region.dims → IsPadded region.rank region.dims → IsFine (limited registers slot line region b)
-      IsFine-limited registers slot line rank region true is fine there ranked same steps padded = (
+          → length region.dims ≡ 3 → All HasStep region.dims → IsPadded region.rank region.dims
+          → IsFine (limited registers slot line region b)
+      IsFine-limited registers slot line rank region true is fine there ranked same many steps padded = (
         fine.0,
         AllZip-set IsSlot code.slots registers.slots slot rank region fine.1 there (record {
           ranked = same;
+          many = many;
           fits = record {
             rank = subst IsRank (sym same) ranked;
             steps = steps;
@@ -395,7 +433,7 @@ module _ (code : Tables) (p : ℕ) where
           };
         }),
       )
-      IsFine-limited registers slot line rank region false is fine there ranked same steps padded = tt
+      IsFine-limited registers slot line rank region false is fine there ranked same many steps padded = tt
 
       -- ---- dimensions that are made
       slot_steps : (registers : Registers) (slot number : ℕ) (region : Option Region) (d : Dim)
@@ -472,27 +510,22 @@ module _ (code : Tables) (p : ℕ) where
           → IsFine (with_slot registers slot line (formed_by form shift region))
       IsFine-formed registers slot line rank Of shift region fine there is =
           IsFine-limited registers slot line rank _ _ refl fine there (subst IsRank is.ranked is.fits.rank) is.ranked
-          (steps-each _ HasStep-outside (components region.rank shift) region.dims is.fits.steps)
+          (length-each _ (components region.rank shift) region.dims ∙ is.many) (steps-each _ HasStep-outside (components region.rank shift) region.dims is.fits.steps)
           (padded-each _ refl region.rank (3 - region.rank) shift region.dims is.fits.padded)
       IsFine-formed registers slot line rank Inside shift region fine there is =
           IsFine-limited registers slot line rank _ _ refl fine there (subst IsRank is.ranked is.fits.rank) is.ranked
-          (steps-each _ HasStep-inside (components region.rank shift) region.dims is.fits.steps)
+          (length-each _ (components region.rank shift) region.dims ∙ is.many) (steps-each _ HasStep-inside (components region.rank shift) region.dims is.fits.steps)
           (padded-each _ refl region.rank (3 - region.rank) shift region.dims is.fits.padded)
       IsFine-formed registers slot line rank At shift region fine there is =
           IsFine-limited registers slot line rank _ _ refl fine there (subst IsRank is.ranked is.fits.rank) is.ranked
-          (steps-each _ HasStep-moved (components region.rank shift) region.dims is.fits.steps)
+          (length-each _ (components region.rank shift) region.dims ∙ is.many) (steps-each _ HasStep-moved (components region.rank shift) region.dims is.fits.steps)
           (padded-each _ refl region.rank (3 - region.rank) shift region.dims is.fits.padded)
       IsFine-formed registers slot line rank By shift region fine there is =
           IsFine-limited registers slot line rank _ _ refl fine there (subst IsRank is.ranked is.fits.rank) is.ranked
-          (steps-each _ HasStep-strided (components region.rank shift) region.dims is.fits.steps)
+          (length-each _ (components region.rank shift) region.dims ∙ is.many) (steps-each _ HasStep-strided (components region.rank shift) region.dims is.fits.steps)
           (padded-each _ refl region.rank (3 - region.rank) shift region.dims is.fits.padded)
 
       -- ---- each row
-      -- a row that makes dimensions has three parts, as each has that is made of an array of three
-      abbrev IsWhole : Instr → Type 0
-      IsWhole (instr.Dims slot parts line) = length parts ≡ 3
-      IsWhole row = Unit {0}
-
       IsFine-dims : (registers : Registers) (slot line rank : ℕ) (parts : List DimRow) (dims : List Dim)
           → IsFine (Steps registers) → slice_get code.slots slot ≡ Some rank → length parts ≡ 3 → IsRank rank
           → part_dims code registers 0 (take rank parts) ≡ Gives dims
@@ -501,11 +534,12 @@ module _ (code : Tables) (p : ℕ) where
           let made = parts_made registers 0 (take rank parts) dims fine.1 is in
           let long : length dims ≡ rank = omega (arith, made.long, length-take rank parts, three, ranked.1) in
           IsFine-limited registers slot line rank (region_of rank dims) _ refl fine there ranked refl
+          (omega (arith, length-append dims (replicate (3 - rank) padding), length-replicate (3 - rank) padding, long, ranked.1))
           (All-append HasStep dims (replicate (3 - rank) padding) made.steps
           (All-replicate HasStep (3 - rank) padding (omega (arith, ints))))
           (padded-behind rank (3 - rank) dims long)
 
-      IsFine-control : (registers : Registers) (row : Instr) → FitsInstr code row → IsWhole row → IsFine (Steps registers)
+      IsFine-control : (registers : Registers) (row : Instr) → FitsInstr code row → HasThree code row → IsFine (Steps registers)
           → IsFine (control code registers row)
       IsFine-control registers (instr.Set scalar expr line) fits whole fine =
           IsFine-computed (register_value code registers expr) line _
@@ -513,7 +547,7 @@ module _ (code : Tables) (p : ℕ) where
       IsFine-control registers (instr.Fix slot region) fits whole fine = (
         fine.0,
         AllZip-set IsSlot code.slots registers.slots slot fits.rank region fine.1 fits.fit.0
-            (record { ranked = fits.fit.2; fits = fits.fit.1 }),
+            (record { ranked = fits.fit.2; many = whole; fits = fits.fit.1 }),
       )
       IsFine-control registers (instr.Dims slot parts line) fits whole fine =
           IsFine-row (slice_get code.slots slot) _ (λ rank there.
@@ -580,31 +614,31 @@ module _ (code : Tables) (p : ℕ) where
       stands : (next : Local) → next.at ≡ local.at → IsOutside next → (next.made < length (c.stages next))
           → KeepsWords code p InLast c next → Stands code p next
 
-    -- one more turn, with words that are kept
+    -- one more turn, with these words kept
     abbrev stepped : Local → List (ℕ × List ℤ) → Local
-    stepped local more = record local { made = local.made + 1; kept = local.kept ++ more }
+    stepped local kept = record local { made = local.made + 1; kept = kept }
 
-    IsLocal-stepped : (c : Collective) (local : Local) (more : List (ℕ × List ℤ)) (stage : Stage) → Keeping c local
+    IsLocal-stepped : (c : Collective) (local : Local) (kept : List (ℕ × List ℤ)) (stage : Stage) → Keeping c local
         → slice_get (c.stages local) local.made ≡ Some stage → IsNotLast stage
-        → map (λ entry. entry.0) more ≡ senders (stage ∷ [])
-        → All (λ entry. c.awaits local entry.0 (length entry.1) ≡ true) more
-        → c.stages (stepped local more) ≡ c.stages local
-        → ((q many : ℕ) → c.awaits (stepped local more) q many ≡ c.awaits local q many)
-        → IsLocal code p (stepped local more)
-    IsLocal-stepped c local more stage k here not_last from fit same_stages same_awaits =
-        let next = stepped local more in
+        → map (λ entry. entry.0) kept ≡ fold placed (map (λ entry. entry.0) local.kept) (senders (stage ∷ []))
+        → All (λ entry. c.awaits local entry.0 (length entry.1) ≡ true) kept
+        → c.stages (stepped local kept) ≡ c.stages local
+        → ((q many : ℕ) → c.awaits (stepped local kept) q many ≡ c.awaits local q many)
+        → IsLocal code p (stepped local kept)
+    IsLocal-stepped c local kept stage k here not_last from fit same_stages same_awaits =
+        let next = stepped local kept in
         let further : next.made < length (c.stages next) =
         omega (arith, ap length same_stages, more_stages (c.stages local) local.made stage k.ends here not_last) in
-        let all : map (λ (entry : ℕ × List ℤ). entry.0) next.kept ≡ senders (take next.made (c.stages next)) =
-        map-append (λ (entry : ℕ × List ℤ). entry.0) local.kept more
-        ∙ (ap (λ list. list ++ map (λ (entry : ℕ × List ℤ). entry.0) more) k.kept.0
-        ∙ (ap (λ list. senders (take local.made (c.stages local)) ++ list) from
-        ∙ (sym (senders-more (c.stages local) local.made stage here)
-        ∙ ap (λ stages. senders (take (local.made + 1) stages)) (sym same_stages)))) in
+        let all : map (λ (entry : ℕ × List ℤ). entry.0) next.kept ≡ ascending (senders (take next.made (c.stages next))) =
+        from
+        ∙ (ap (λ list. fold placed list (senders (stage ∷ []))) k.kept.0
+        ∙ (sym (ascending-more (senders (take local.made (c.stages local))) (senders (stage ∷ [])))
+        ∙ (ap ascending (sym (senders-more (c.stages local) local.made stage here))
+        ∙ ap (λ stages. ascending (senders (take (local.made + 1) stages))) (sym same_stages)))) in
         let awaited : All (λ entry. c.awaits next entry.0 (length entry.1) ≡ true) next.kept =
-        λ i d inside. same_awaits _ _
-        ∙ All-append (λ entry. c.awaits local entry.0 (length entry.1) ≡ true) local.kept more k.kept.1 fit i d inside in
+        λ i d inside. same_awaits _ _ ∙ fit i d inside in
         record {
+          number = inside;
           parts = record {
             scalars = k.parts.scalars;
             cells = k.parts.cells;
@@ -632,10 +666,8 @@ module _ (code : Tables) (p : ℕ) where
     IsLocal-sent : (c : Collective) (local : Local) (to : ℕ) → Keeping c local → IsCalm c local
         → slice_get (c.stages local) local.made ≡ Some (Sends to) → IsLocal code p (record local { made = local.made + 1 })
     IsLocal-sent c local to k calm here =
-        subst (λ kept. IsLocal code p (record local { made = local.made + 1; kept = kept })) (append-nil local.kept)
-        (IsLocal-stepped c local [] (Sends to) k here tt refl
-        (All-nil (λ entry. c.awaits local entry.0 (length entry.1) ≡ true))
-        (calm.same_stages []) (calm.same_awaits []))
+        IsLocal-stepped c local local.kept (Sends to) k here tt refl k.kept.1
+        (calm.same_stages local.kept) (calm.same_awaits local.kept)
 
     IsKept-sends : (c : Collective) (local : Local) (to : ℕ) (words : Option (List ℤ)) → Keeping c local → IsCalm c local
         → slice_get (c.stages local) local.made ≡ Some (Sends to) → IsKept (sends c local to words)
@@ -659,10 +691,10 @@ module _ (code : Tables) (p : ℕ) where
             → IsFedKept (cond tagged (cond long (takes (c.taken local from message.words)) (Refuses WrongLength)) (Refuses WrongTag))
         by true true fit =
             subst (λ next. IsFedKept (takes next)) (sym (calm.taken from message.words))
-            (IsLocal-stepped c local ((from, message.words) ∷ []) (TakesFrom from) k here tt refl
-            (All-cons (λ entry. c.awaits local entry.0 (length entry.1) ≡ true) (from, message.words) [] fit
-            (All-nil (λ entry. c.awaits local entry.0 (length entry.1) ≡ true)))
-            (calm.same_stages ((from, message.words) ∷ [])) (calm.same_awaits ((from, message.words) ∷ [])))
+            (IsLocal-stepped c local (kept_with from message.words local.kept) (TakesFrom from) k here tt
+            (senders-kept from message.words local.kept)
+            (All-kept (λ entry. c.awaits local entry.0 (length entry.1) ≡ true) from message.words local.kept fit k.kept.1)
+            (calm.same_stages _) (calm.same_awaits _))
         by true false fit = tt
         by false long fit = tt
 
@@ -838,6 +870,7 @@ module _ (code : Tables) (p : ℕ) where
     IsLocal-used c local stores stage u are here not_last =
         let next = record local { made = local.made + 1; stores = stores } in
         record {
+          number = inside;
           parts = record {
             scalars = u.parts.scalars;
             cells = u.parts.cells;
@@ -1001,6 +1034,9 @@ module _ (code : Tables) (p : ℕ) where
 
     -- ---- each row
     module _ (slot_fits : (tables : Tables) (i rank : ℕ) → Fits tables → slice_get tables.slots i ≡ Some rank → IsRank rank)
+        (array_fits : (tables : Tables) (i : ℕ) (row : ArrayRow) → Fits tables → slice_get tables.arrays i ≡ Some row → FitsArray row)
+        (group_fits : (tables : Tables) (i : ℕ) (members : List Member) → Fits tables → slice_get tables.groups i ≡ Some members
+        → FitsGroup tables members)
         (limit_told : (r : Region) → All HasStep r.dims → IsTrue (is_within_limit r) ↔ IsWithinLimit r)
         (local : Local) (is_local : IsLocal code p local) (none : local.ended ≡ None) where
       keeping_in : (row : Instr) (c : Collective) → slice_get code.code local.at ≡ Some row → IsOutside local
@@ -1140,160 +1176,567 @@ module _ (code : Tables) (p : ℕ) where
             flag = is_local.parts.flag;
           }) (omega arith)
 
+      -- ---- `loop`
+      not_ended : IsSome local.ended → ⊥
+      not_ended some = by local.ended none some
+        where
+          by : (ended : Option End) → ended ≡ None → IsSome ended → ⊥
+          by None e h = cc
+          by (Some ending) e h = cc
+
+      writes_kept : (t : List ℤ) (stores : List Array) (array : ℕ) (value : ℤ) → AreStores stores
+          → IfSome ((access_at t).with_element stores array value) AreStores
+      writes_kept t stores array value are =
+          as_some (with_value stores array t value) (IfStores-value stores array t value are)
+        where
+          as_some : (found : Option (List Array)) → IfStores found → IfSome found AreStores
+          as_some None all = tt
+          as_some (Some more) all = all
+
+      flag_kept : (group member : ℕ) (all : List Member) → slice_get code.groups group ≡ Some all → member < length all
+          → (flag : Option ℕ) → IfSome flag (λ m. Any (λ members. m < length members) code.groups)
+          → IfSome (flagged flag member) (λ m. Any (λ members. m < length members) code.groups)
+      flag_kept group member all grouped below flag is = by flag is
+        where
+          here : Any (λ members. member < length members) code.groups
+          here = (
+            group,
+            all,
+            slice_get_within code.groups group all grouped,
+            get_or_from_slice_get code.groups group all all grouped,
+            below,
+          )
+
+          least : (b : Bool) (old : ℕ) → Any (λ members. old < length members) code.groups
+              → IfSome (cond b (Some member) (Some old)) (λ m. Any (λ members. m < length members) code.groups)
+          least true old there = here
+          least false old there = there
+
+          by : (flag : Option ℕ) → IfSome flag (λ m. Any (λ members. m < length members) code.groups)
+              → IfSome (flagged flag member) (λ m. Any (λ members. m < length members) code.groups)
+          by None old = here
+          by (Some old) there = least (nat_lt member old) old there
+
+      module _ (slot group : ℕ) (here : slice_get code.code local.at ≡ Some (instr.Loop slot group)) (region : Region)
+          (there : slice_get local.slots slot ≡ Some region) (all : List Member)
+          (grouped : slice_get code.groups group ≡ Some all) where
+        in_loop : IsInLoop all (length (members (own_part code p region))) local
+        in_loop =
+            subst (λ a. IsLooping code p local (Some region) a) grouped
+            (subst (λ r. IsLooping code p local r (slice_get code.groups group)) there
+            (subst (IsAt code p local) here (is_local.running none)))
+
+        IsLocal-looping : (next : Local) → HasParts code p next → next.at ≡ local.at → next.slots ≡ local.slots
+            → next.ended ≡ local.ended → IsInLoop all (length (members (own_part code p region))) next → IsLocal code p next
+        IsLocal-looping next parts same_at same_slots same_end looping = record {
+          number = inside;
+          parts = parts;
+          at = omega (arith, is_local.at, same_at);
+          running = λ open_still. subst (IsAt code p next) (sym (ap (slice_get code.code) same_at ∙ here))
+              (subst (λ r. IsLooping code p next r (slice_get code.groups group)) (sym (ap (λ s. slice_get s slot) same_slots ∙ there))
+              (subst (λ a. IsLooping code p next (Some region) a) (sym grouped) looping));
+          over = λ some. absurd (not_ended (subst (λ (e : Option End). IsSome e) same_end some));
+        }
+
+        kept_ran_on : (t : List ℤ) → local.index < length (members (own_part code p region)) → (ran : Ran (List Array))
+            → IsKeptRan code (access_at t) AreStores (writes_kept t) code.scalars code.cells all ran
+            → IsKept (after_members local ran)
+        kept_ran_on t below (Through point) is =
+            IsLocal-looping (next_index (with_point local point)) (record {
+              scalars = is.scalars_are;
+              cells = is.cells_are;
+              slots = is_local.parts.slots;
+              stores = is.store_is;
+              flag = is_local.parts.flag;
+            }) refl refl refl (record {
+              fresh = record { made = in_loop.fresh.made; kept = in_loop.fresh.kept };
+              index = omega (arith, below);
+              begins = inl refl;
+            })
+        kept_ran_on t below (Again member point) is =
+            IsLocal-looping (record (with_point local point) { member = member }) (record {
+              scalars = is.0.scalars_are;
+              cells = is.0.cells_are;
+              slots = is_local.parts.slots;
+              stores = is.0.store_is;
+              flag = is_local.parts.flag;
+            }) refl refl refl (record {
+              fresh = record { made = in_loop.fresh.made; kept = in_loop.fresh.kept };
+              index = in_loop.index;
+              begins = inr (below, is.1);
+            })
+        kept_ran_on t below (Divided member point) is =
+            IsLocal-looping (record (next_index (with_point local point)) { flag = flagged local.flag member }) (record {
+              scalars = is.0.scalars_are;
+              cells = is.0.cells_are;
+              slots = is_local.parts.slots;
+              stores = is.0.store_is;
+              flag = flag_kept group member all grouped is.1 local.flag is_local.parts.flag;
+            }) refl refl refl (record {
+              fresh = record { made = in_loop.fresh.made; kept = in_loop.fresh.kept };
+              index = omega (arith, below);
+              begins = inl refl;
+            })
+        kept_ran_on t below Unheld is = tt
+
+        kept_index : (t : Option (List ℤ)) → slice_get (members (own_part code p region)) local.index ≡ t
+            → IsKept (turn_at_index code all local t)
+        kept_index (Some t) is =
+            kept_ran_on t (slice_get_within (members (own_part code p region)) local.index t is) _
+            (kept_ran code (access_at t) AreStores (writes_kept t) code.scalars code.cells all local.member Runs
+            (drop local.member all) (point_of local) (group_fits code group all fits_tables grouped).nest refl (record {
+              scalars_are = is_local.parts.scalars;
+              cells_are = is_local.parts.cells;
+              store_is = is_local.parts.stores;
+            }))
+        kept_index None is =
+            IsLocal-left local (local.at + 1) is_local.parts (omega (arith, slice_get_within code.code local.at _ here))
+
+      kept_loop : (slot group : ℕ) → slice_get code.code local.at ≡ Some (instr.Loop slot group) → (region : Option Region)
+          → slice_get local.slots slot ≡ region → (all : Option (List Member)) → slice_get code.groups group ≡ all
+          → IsKept (looped code p local region all)
+      kept_loop slot group here None there None grouped = tt
+      kept_loop slot group here None there (Some all) grouped = tt
+      kept_loop slot group here (Some region) there None grouped = tt
+      kept_loop slot group here (Some region) there (Some all) grouped =
+          kept_index slot group here region there all grouped _ refl
+
+      -- ---- `room`
+      is_row : (array : ℕ) (row : ArrayRow) (P : ArrayRow → Type 0) → slice_get code.arrays array ≡ Some row
+          → IsSomeAnd (slice_get code.arrays array) P → P row
+      is_row array row P is there = subst (λ (o : Option ArrayRow). IsSomeAnd o P) is there
+
+      IsStore-room : (row : ArrayRow) (region : Region) → FitsArray row → length row.dims ≡ 3 → row.stored ≡ false
+          → IsSlot row.rank region → (empty : Bool) → has_none (own_part code p region) ≡ empty
+          → IsStore code p row (zeros_at (room_of row (own_part code p region) empty))
+      IsStore-room row region fits three temporary slot true is = record {
+        filled = record { filled = length-map _ _; steps = no_steps row.rank };
+        places = subst (λ b. ArePlaces code p row b (no_places row.rank)) (sym temporary) (inl refl);
+      }
+      IsStore-room row region fits three temporary slot false is = record {
+        filled = record { filled = length-map _ _; steps = room_steps code p row region fits three slot is };
+        places = subst (λ b. ArePlaces code p row b (room_of row (own_part code p region) false)) (sym temporary)
+            (inr (is_room code p row region fits three slot is));
+      }
+
+      kept_room : (array slot : ℕ) → slice_get code.code local.at ≡ Some (instr.Room array slot)
+          → FitsInstr code (instr.Room array slot) → HasThree code (instr.Room array slot) → (row : Option ArrayRow)
+          → slice_get code.arrays array ≡ row → (region : Option Region) → slice_get local.slots slot ≡ region
+          → IsKept (roomed code p local array row region)
+      kept_room array slot here fits three None is None there = tt
+      kept_room array slot here fits three None is (Some region) there = tt
+      kept_room array slot here fits three (Some row) is None there = tt
+      kept_room array slot here fits three (Some row) is (Some region) there =
+          let found = AllZip-back IsSlot code.slots local.slots slot region is_local.parts.slots there in
+          let ranked : row.rank ≡ fits.rank = is_row array row (λ r. r.rank ≡ fits.rank) is fits.fit.1 in
+          let same : found.0 ≡ row.rank = let one = found.1 in let two = fits.fit.0 in cc in
+          let store = zeros_at (room_of row (own_part code p region) (has_none (own_part code p region))) in
+          IsLocal-left (with_store local array store) (local.at + 1) (record {
+            scalars = is_local.parts.scalars;
+            cells = is_local.parts.cells;
+            slots = is_local.parts.slots;
+            stores = AllZip-set (IsStore code p) code.arrays local.stores array row store is_local.parts.stores is
+                (IsStore-room row region (array_fits code array row fits_tables is)
+                (subst (λ (o : Option ArrayRow). IfSome o (λ r. length r.dims ≡ 3)) is three)
+                (is_row array row (λ r. r.stored ≡ false) is fits.fit.2)
+                (subst (λ rank. IsSlot rank region) same found.2) _ refl);
+            flag = is_local.parts.flag;
+          }) (omega (arith, slice_get_within code.code local.at _ here))
+
+      -- ---- `remap`
+      -- one more turn, after which this is the state
+      abbrev IfNext : Option Local → Type 0
+      IfNext None = Unit {0}
+      IfNext (Some next) = IsLocal code p (record next { made = next.made + 1 })
+
+      steps_next : (next : Option Local) → IfNext next → IsKept (steps_on next)
+      steps_next None is = tt
+      steps_next (Some next) is = is
+
+      takes_next : (next : Option Local) → IfNext next → IsFedKept (takes next)
+      takes_next None is = tt
+      takes_next (Some next) is = is
+
+      module _ (array slot from : ℕ) (ps : List ℕ) (row : ArrayRow) (apart : All (λ part. part ≢ array) ps)
+          (below : local.at < length code.code) (outside : IsOutside local)
+          (in_row : IsIn code p (Some (remapped code p array slot from ps row)) local)
+          (again : (next : Local) → next.at ≡ local.at → IsOutside next
+          → IsIn code p (Some (remapped code p array slot from ps row)) next → Stands code p next) where
+        abbrev remap_row : Collective
+        remap_row = remapped code p array slot from ps row
+
+        remap_ends : EndsOnce (remap_row.stages local)
+        remap_ends = EndsOnce-remapped code p array slot from ps local (Some row) remap_row refl
+
+        still_asked : (next : Local) → All (IsRequest remap_row (record next { made = 0 })) local.kept
+        still_asked next =
+            λ i d within. IsRequest-asked code p array slot from ps row next _
+            (IsAsked-request code p array slot from ps row local _ (in_row.1.1 i d within))
+
+        -- words are written to the target, or nothing is
+        wrote : (stores : List Array) (stage : Stage) → AreStores stores → IsApart array local.stores stores
+            → slice_get (remap_row.stages local) local.made ≡ Some stage → IsNotLast stage
+            → IsLocal code p (record local { made = local.made + 1; stores = stores })
+        wrote stores stage are same here not_last =
+            let next = record local { made = local.made + 1; stores = stores } in
+            let longer : next.made < length (remap_row.stages next) =
+            omega (
+              arith,
+              ap length (same_stages code p array slot from ps row local next refl refl same apart),
+              more_stages (remap_row.stages local) local.made stage remap_ends here not_last,
+            ) in
+            record {
+              number = inside;
+              parts = record {
+                scalars = is_local.parts.scalars;
+                cells = is_local.parts.cells;
+                slots = is_local.parts.slots;
+                stores = are;
+                flag = is_local.parts.flag;
+              };
+              at = is_local.at;
+              running = λ open_still. again next refl (record { index = outside.index; member = outside.member })
+                  (longer, (IsPart-later _ (others code p) local.made (processors code) in_row.1.0, still_asked next));
+              over = λ some. absurd (not_ended some);
+            }
+
+        wrote_words : (places : List (List ℤ)) (words : List ℤ) (stage : Stage)
+            → slice_get (remap_row.stages local) local.made ≡ Some stage → IsNotLast stage
+            → IfNext (option_map (λ stores. record local { stores = stores }) (with_values array places words local.stores))
+        wrote_words places words stage here not_last =
+            by (with_values array places words local.stores)
+            (IfStores-values array places words local.stores is_local.parts.stores)
+            (values_apart array places words local.stores)
+          where
+            by : (stores : Option (List Array)) → IfStores stores → IfApart array local.stores stores
+                → IfNext (option_map (λ s. record local { stores = s }) stores)
+            by None are same = tt
+            by (Some stores) are same = wrote stores stage are same here not_last
+
+        stayed : (stage : Stage) → slice_get (remap_row.stages local) local.made ≡ Some stage → IsNotLast stage
+            → IsLocal code p (record local { made = local.made + 1 })
+        stayed stage here not_last =
+            wrote local.stores stage is_local.parts.stores (record { same = λ other e. refl }) here not_last
+
+        -- a request is kept
+        kept_request : (q : ℕ) (words : List ℤ) → slice_get (remap_row.stages local) local.made ≡ Some (TakesFrom q)
+            → local.made ≤ 2 * (processors code - 1) → IsAsked code p array slot from ps row (q, words)
+            → IsLocal code p (record (keeping local q words) { made = local.made + 1 })
+        kept_request q words here early asked =
+            let next = record (keeping local q words) { made = local.made + 1 } in
+            let many = length-others code p inside in
+            let by = asked_by (others code p) _ local.made q here (omega (arith, many, early)) in
+            let before : local.made - processors code ≡ by.k = omega (arith, by.is, many) in
+            let behind : suc by.k ≡ local.made + 1 - processors code = omega (arith, by.is, many) in
+            let longer : next.made < length (remap_row.stages next) =
+            omega (arith, long_stages code p array slot from ps row next, many, early) in
+            let senders_are : IsPart (map (λ (entry : ℕ × List ℤ). entry.0) next.kept) (take (local.made + 1 - processors code) (others code p)) =
+            subst (λ n. IsPart (map (λ (entry : ℕ × List ℤ). entry.0) next.kept) (take n (others code p))) behind
+            (subst (λ list. IsPart list (take (suc by.k) (others code p))) (sym (senders-kept q words local.kept))
+            (IsPart-next code p by.k q _ by.there
+            (subst (λ n. IsPart (map (λ (entry : ℕ × List ℤ). entry.0) local.kept) (take n (others code p))) before in_row.1.0))) in
+            record {
+              number = inside;
+              parts = record {
+                scalars = is_local.parts.scalars;
+                cells = is_local.parts.cells;
+                slots = is_local.parts.slots;
+                stores = is_local.parts.stores;
+                flag = is_local.parts.flag;
+              };
+              at = is_local.at;
+              running = λ open_still. again next refl (record { index = outside.index; member = outside.member }) (
+                longer,
+                (
+                  senders_are,
+                  All-kept (IsRequest remap_row (record next { made = 0 })) q words local.kept
+                      (IsRequest-asked code p array slot from ps row next (q, words) asked) (still_asked next),
+                ),
+              );
+              over = λ some. absurd (not_ended some);
+            }
+
+        remap_taken : (q : ℕ) (words : List ℤ) → slice_get (remap_row.stages local) local.made ≡ Some (TakesFrom q)
+            → remap_row.awaits local q (length words) ≡ true → IfNext (remap_row.taken local q words)
+        remap_taken q words here fit = by (is_asking code p array slot from ps row local) refl
+          where
+            whole : is_asking code p array slot from ps row local ≡ true → (length words % row.rank == 0) ≡ true
+            whole asking = subst (λ b. cond b (length words % row.rank == 0)
+                (length words == length (some_wants code p array slot from ps row (wants code p array slot from ps row local) q)) ≡ true) asking fit
+
+            as_words : (none : Bool) → (length words == 0) ≡ none → is_asking code p array slot from ps row local ≡ true
+                → owns_all code p array slot from ps row words ≡ true → IfNext (Some (cond none local (keeping local q words)))
+            as_words true empty asking owned = stayed (TakesFrom q) here tt
+            as_words false some asking owned =
+                let early : local.made ≤ 2 * (processors code - 1) = grind (arith, nat_tests) in
+                kept_request q words here early (record {
+                  some = grind (arith, nat_tests);
+                  whole = whole asking;
+                  owned = owned;
+                })
+
+            as_owned : (owned : Bool) → owns_all code p array slot from ps row words ≡ owned
+                → is_asking code p array slot from ps row local ≡ true
+                → IfNext (request_taken code p array slot from ps row local q words owned)
+            as_owned true owned asking = as_words (length words == 0) refl asking owned
+            as_owned false owned asking = tt
+
+            by : (asking : Bool) → is_asking code p array slot from ps row local ≡ asking
+                → IfNext (cond asking (request_taken code p array slot from ps row local q words (owns_all code p array slot from ps row words))
+                (written code p array slot from ps row (some_wants code p array slot from ps row (wants code p array slot from ps row local) q) words local))
+            by true asking = as_owned (owns_all code p array slot from ps row words) refl asking
+            by false asking = wrote_words _ words (TakesFrom q) here tt
+
+        remap_alone : slice_get (remap_row.stages local) local.made ≡ Some Alone → IfNext (remap_row.alone local)
+        remap_alone here = by (wants code p array slot from ps row local)
+          where
+            with_values_of : (all : List Want) (values : Option (List ℤ))
+                → IfNext (option_and_then (λ found. written code p array slot from ps row (wants_at_once code p array slot from ps row all) found local) values)
+            with_values_of all None = tt
+            with_values_of all (Some values) = wrote_words _ values Alone here tt
+
+            by : (all : Option (List Want)) → IfNext (option_and_then (remap_own code p array slot from ps row local) all)
+            by None = tt
+            by (Some all) = with_values_of all _
+
+        remap_in : (stage : Option Stage) → slice_get (remap_row.stages local) local.made ≡ stage
+            → IsKept (act_in remap_row local stage)
+        remap_in (Some Alone) here = steps_next _ (remap_alone here)
+        remap_in (Some (Sends to)) here = by (remap_row.words_to local to)
+          where
+            by : (words : Option (List ℤ)) → IsKept (sends remap_row local to words)
+            by (Some words) = stayed (Sends to) here tt
+            by None = tt
+        remap_in (Some (TakesFrom q)) here = tt
+        remap_in (Some Last) here = IsLocal-left local (local.at + 1) is_local.parts (omega (arith, below))
+        remap_in None here = tt
+
+        remap_by : (q : ℕ) (message : Message) → slice_get (remap_row.stages local) local.made ≡ Some (TakesFrom q)
+            → IsFedKept (fed_by remap_row local q message)
+        remap_by q message here = by (message.tag == remap_row.tag local) (remap_row.awaits local q (length message.words)) refl
+          where
+            by : (tagged long : Bool) → remap_row.awaits local q (length message.words) ≡ long
+                → IsFedKept (cond tagged (cond long (takes (remap_row.taken local q message.words)) (Refuses WrongLength)) (Refuses WrongTag))
+            by true true fit = takes_next _ (remap_taken q message.words here fit)
+            by true false fit = tt
+            by false long fit = tt
+
+        remap_fed : (message : Message) (stage : Option Stage) → slice_get (remap_row.stages local) local.made ≡ stage
+            → IsFedKept (fed_in remap_row local message stage)
+        remap_fed message (Some Alone) here = tt
+        remap_fed message (Some (Sends to)) here = tt
+        remap_fed message (Some (TakesFrom q)) here = remap_by q message here
+        remap_fed message (Some Last) here = tt
+        remap_fed message None here = tt
+
+      remap_apart : (array slot from : ℕ) (parts : List (Option ℕ)) (row : ArrayRow)
+          → FitsInstr code (instr.Remap array slot from parts) → slice_get code.arrays from ≡ Some row
+          → All (λ part. part ≢ array) (filter_map (λ part. part) parts)
+      remap_apart array slot from parts row fits is =
+          let remap = is_row from row (FitsRemap code fits.rank array parts) is fits.fit.3 in
+          parts_apart array parts
+          (subst (All (IsOther array)) (take-append-drop row.rank parts)
+          (All-append (IsOther array) (take row.rank parts) (drop row.rank parts)
+          (λ i d within. given _ (remap.given i d within)) (λ i d within. absent _ (remap.absent i d within))))
+        where
+          given : (part : Option ℕ) → IsSomeAnd part (IsIndexArray code fits.rank array) → IsOther array part
+          given None there = tt
+          given (Some part) there = there.2
+
+          absent : (part : Option ℕ) → IsNone part → IsOther array part
+          absent None there = tt
+          absent (Some part) there = cc
+
+      module _ (array slot from : ℕ) (parts : List (Option ℕ))
+          (here : slice_get code.code local.at ≡ Some (instr.Remap array slot from parts))
+          (fits : FitsInstr code (instr.Remap array slot from parts)) where
+        remap_at : IsAt code p local (Some (instr.Remap array slot from parts))
+        remap_at = subst (IsAt code p local) here (is_local.running none)
+
+        remap_again : (row : ArrayRow) → slice_get code.arrays from ≡ Some row → (next : Local) → next.at ≡ local.at → IsOutside next
+            → IsIn code p (Some (remapped code p array slot from (filter_map (λ part. part) parts) row)) next → Stands code p next
+        remap_again row is next same out in_row =
+            subst (IsAt code p next) (sym (ap (slice_get code.code) same ∙ here))
+            (out, subst (λ o. IsIn code p (option_map (remapped code p array slot from (filter_map (λ part. part) parts)) o) next) (sym is) in_row)
+
+        remap_row_in : (row : ArrayRow) → slice_get code.arrays from ≡ Some row
+            → IsIn code p (Some (remapped code p array slot from (filter_map (λ part. part) parts) row)) local
+        remap_row_in row is =
+            subst (λ o. IsIn code p (option_map (remapped code p array slot from (filter_map (λ part. part) parts)) o) local) is remap_at.1
+
+        kept_remap : (found : Option ArrayRow) → slice_get code.arrays from ≡ found
+            → IsKept (act_together (option_map (remapped code p array slot from (filter_map (λ part. part) parts)) found) local Outside)
+        kept_remap None is = tt
+        kept_remap (Some row) is =
+            remap_in array slot from _ row (remap_apart array slot from parts row fits is)
+            (slice_get_within code.code local.at _ here) remap_at.0 (remap_row_in row is) (remap_again row is) _ refl
+
+        fed_remap : (message : Message) (found : Option ArrayRow) → slice_get code.arrays from ≡ found
+            → IsFedKept (fed_together (option_map (remapped code p array slot from (filter_map (λ part. part) parts)) found) local message)
+        fed_remap message None is = tt
+        fed_remap message (Some row) is =
+            remap_fed array slot from _ row (remap_apart array slot from parts row fits is)
+            (slice_get_within code.code local.at _ here) remap_at.0 (remap_row_in row is) (remap_again row is) message _ refl
+
       standing : (row : Instr) → slice_get code.code local.at ≡ Some row → IsAt code p local (Some row)
       standing row here = subst (IsAt code p local) here (is_local.running none)
 
       below_of : (row : Instr) → slice_get code.code local.at ≡ Some row → local.at < length code.code
       below_of row here = slice_get_within code.code local.at row here
 
-      controlled_row : (row : Instr) → slice_get code.code local.at ≡ Some row → FitsInstr code row → IsWhole slot_fits limit_told row
+      controlled_row : (row : Instr) → slice_get code.code local.at ≡ Some row → FitsInstr code row → HasThree code row
           → IsKept (controlled local (control code (registers_of local) row))
       controlled_row row here fits whole =
           IsKept-controlled local _ is_local.parts (below_of row here)
           (IsFine-control slot_fits limit_told (registers_of local) row fits whole (is_local.parts.scalars, is_local.parts.slots))
 
-      kept_row : (row : Instr) → slice_get code.code local.at ≡ Some row → FitsInstr code row → IsSteady row
+      kept_row : (row : Instr) → slice_get code.code local.at ≡ Some row → FitsInstr code row → HasThree code row
           → IsKept (act_at code p local (Some row))
-      kept_row (instr.Set scalar expr line) here fits steady = controlled_row _ here fits tt
-      kept_row (instr.Fix slot region) here fits steady = controlled_row _ here fits tt
-      kept_row (instr.Dims slot parts line) here fits steady = controlled_row _ here fits steady
-      kept_row (instr.Formed form slot from shift line) here fits steady = controlled_row _ here fits tt
-      kept_row (instr.Need slot array shift line) here fits steady = controlled_row _ here fits tt
-      kept_row (instr.Same target source kind line) here fits steady = controlled_row _ here fits tt
-      kept_row (instr.Fits slot shift line) here fits steady = controlled_row _ here fits tt
-      kept_row (instr.Room array slot) here fits steady = absurd steady
-      kept_row (instr.Clear array) here fits steady = kept_clear array (slice_get local.stores array) refl (below_of _ here)
-      kept_row (instr.Loop slot group) here fits steady = absurd steady
-      kept_row (instr.Start exchange) here fits steady = kept_start exchange here (slice_get code.exchanges exchange) refl
-      kept_row (instr.Finish exchange) here fits steady = kept_finish exchange here (slice_get code.exchanges exchange) refl
-      kept_row (instr.Edge kind array slot shift) here fits steady =
+      kept_row (instr.Set scalar expr line) here fits three = controlled_row _ here fits tt
+      kept_row (instr.Fix slot region) here fits three = controlled_row _ here fits three
+      kept_row (instr.Dims slot parts line) here fits three = controlled_row _ here fits three
+      kept_row (instr.Formed form slot from shift line) here fits three = controlled_row _ here fits tt
+      kept_row (instr.Need slot array shift line) here fits three = controlled_row _ here fits tt
+      kept_row (instr.Same target source kind line) here fits three = controlled_row _ here fits tt
+      kept_row (instr.Fits slot shift line) here fits three = controlled_row _ here fits tt
+      kept_row (instr.Room array slot) here fits three =
+          kept_room array slot here fits three (slice_get code.arrays array) refl (slice_get local.slots slot) refl
+      kept_row (instr.Clear array) here fits three = kept_clear array (slice_get local.stores array) refl (below_of _ here)
+      kept_row (instr.Loop slot group) here fits three =
+          kept_loop slot group here (slice_get local.slots slot) refl (slice_get code.groups group) refl
+      kept_row (instr.Start exchange) here fits three = kept_start exchange here (slice_get code.exchanges exchange) refl
+      kept_row (instr.Finish exchange) here fits three = kept_finish exchange here (slice_get code.exchanges exchange) refl
+      kept_row (instr.Edge kind array slot shift) here fits three =
           used_in (edged code p kind array slot shift) local _ (using_edge kind array slot shift here)
           (IsLocal-left local (local.at + 1) is_local.parts (omega (arith, below_of _ here))) refl
-      kept_row (instr.Flood array target from source) here fits steady =
+      kept_row (instr.Flood array target from source) here fits three =
           used_in (flooded code p array target from source) local _ (using_flood array target from source here)
           (IsLocal-left local (local.at + 1) is_local.parts (omega (arith, below_of _ here))) refl
-      kept_row (instr.Part array target f from source) here fits steady =
+      kept_row (instr.Part array target f from source) here fits three =
           used_in (parted code p array target f from source) local _ (using_part array target f from source here)
           (IsLocal-left local (local.at + 1) is_local.parts (omega (arith, below_of _ here))) refl
-      kept_row (instr.Scan array slot f along from mask) here fits steady =
+      kept_row (instr.Scan array slot f along from mask) here fits three =
           let c = scanned_row code p f along from mask array slot in
           let at = standing (instr.Scan array slot f along from mask) here in
           IsKept-in c local _ (keeping_in (instr.Scan array slot f along from mask) c here at.0 at.1.0 at.1.1
           (EndsOnce-sends (λ q. q) _ _ (EndsOnce-takes _ _ EndsOnce-last)) (λ next out few words. (out, (few, words))))
           (IsCalm-scanned f along from mask array slot local)
           (IsKept-scan f along from mask array local (region_in local slot) is_local.parts (below_of _ here)) refl
-      kept_row (instr.Remap array slot from parts) here fits steady = absurd steady
-      kept_row (instr.Vote group) here fits steady =
+      kept_row (instr.Remap array slot from parts) here fits three =
+          kept_remap array slot from parts here fits (slice_get code.arrays from) refl
+      kept_row (instr.Vote group) here fits three =
           let c = voted code (star code p) group in
           let at = standing (instr.Vote group) here in
           IsKept-in c local _ (keeping_in (instr.Vote group) c here at.0 at.1.0 at.1.1 (EndsOnce-agreeing code p (star code p))
           (λ next out few words. (out, (few, words)))) (IsCalm-voted (star code p) group local)
           (IsKept-decided group local _ is_local.parts (below_of _ here)) refl
-      kept_row (instr.TreeVote group) here fits steady =
+      kept_row (instr.TreeVote group) here fits three =
           let c = voted code (tree code p) group in
           let at = standing (instr.TreeVote group) here in
           IsKept-in c local _ (keeping_in (instr.TreeVote group) c here at.0 at.1.0 at.1.1 (EndsOnce-agreeing code p (tree code p))
           (λ next out few words. (out, (few, words)))) (IsCalm-voted (tree code p) group local)
           (IsKept-decided group local _ is_local.parts (below_of _ here)) refl
-      kept_row (instr.Fold scalar f) here fits steady =
+      kept_row (instr.Fold scalar f) here fits three =
           let c = folded (star code p) scalar f in
           let at = standing (instr.Fold scalar f) here in
           IsKept-in c local _ (keeping_in (instr.Fold scalar f) c here at.0 at.1.0 at.1.1 (EndsOnce-agreeing code p (star code p))
           (λ next out few words. (out, (few, words)))) (IsCalm-folded (star code p) scalar f local)
           (IsKept-folded (star code p) scalar f local is_local.parts (below_of _ here)) refl
-      kept_row (instr.TreeFold scalar f) here fits steady =
+      kept_row (instr.TreeFold scalar f) here fits three =
           let c = folded (tree code p) scalar f in
           let at = standing (instr.TreeFold scalar f) here in
           IsKept-in c local _ (keeping_in (instr.TreeFold scalar f) c here at.0 at.1.0 at.1.1 (EndsOnce-agreeing code p (tree code p))
           (λ next out few words. (out, (few, words)))) (IsCalm-folded (tree code p) scalar f local)
           (IsKept-folded (tree code p) scalar f local is_local.parts (below_of _ here)) refl
-      kept_row (instr.Print text) here fits steady =
+      kept_row (instr.Print text) here fits three =
           IsKept-text local (slice_get code.texts text) is_local.parts (below_of _ here)
-      kept_row (instr.Number expr) here fits steady = IsKept-value local _ _ is_local.parts (below_of _ here)
-      kept_row (instr.Truth expr) here fits steady = IsKept-value local _ _ is_local.parts (below_of _ here)
-      kept_row (instr.Gather truth array slot) here fits steady =
+      kept_row (instr.Number expr) here fits three = IsKept-value local _ _ is_local.parts (below_of _ here)
+      kept_row (instr.Truth expr) here fits three = IsKept-value local _ _ is_local.parts (below_of _ here)
+      kept_row (instr.Gather truth array slot) here fits three =
           let c = gathered code p truth array slot in
           let at = standing (instr.Gather truth array slot) here in
           IsKept-in c local _ (keeping_in (instr.Gather truth array slot) c here at.0 at.1.0 at.1.1
           (EndsOnce-gather code p p (region_in local slot)) (λ next out few words. (out, (few, words))))
           (IsCalm-gathered truth array slot local)
           (IsKept-gathered p truth array (region_in local slot) local is_local.parts (below_of _ here)) refl
-      kept_row (instr.Jump goal) here fits steady = controlled_row _ here fits tt
-      kept_row (instr.Unless expr goal line) here fits steady = controlled_row _ here fits tt
-      kept_row (instr.Trap kind line) here fits steady = controlled_row _ here fits tt
-      kept_row instr.End here fits steady = controlled_row _ here fits tt
+      kept_row (instr.Jump goal) here fits three = controlled_row _ here fits tt
+      kept_row (instr.Unless expr goal line) here fits three = controlled_row _ here fits tt
+      kept_row (instr.Trap kind line) here fits three = controlled_row _ here fits tt
+      kept_row instr.End here fits three = controlled_row _ here fits tt
 
-      kept_next : (next : Option Instr) → slice_get code.code local.at ≡ next → StandsSteady next
+      kept_next : (next : Option Instr) → slice_get code.code local.at ≡ next → IfSome next (HasThree code)
           → IsKept (act_at code p local next)
-      kept_next None here steady = IsLocal-ended local _ is_local.parts is_local.at
-      kept_next (Some row) here steady = kept_row row here (instr_fits code local.at row fits_tables here) steady
+      kept_next None here three = IsLocal-ended local _ is_local.parts is_local.at
+      kept_next (Some row) here three = kept_row row here (instr_fits code local.at row fits_tables here) three
 
       -- ---- and messages
-      fed_row : (row : Instr) (message : Message) → slice_get code.code local.at ≡ Some row → IsSteady row
+      fed_row : (row : Instr) (message : Message) → slice_get code.code local.at ≡ Some row
           → IsFedKept (fed_at code p local message (Some row))
-      fed_row (instr.Room array slot) message here steady = absurd steady
-      fed_row (instr.Loop slot group) message here steady = absurd steady
-      fed_row (instr.Start exchange) message here steady =
+      fed_row (instr.Start exchange) message here =
           fed_start exchange message here (slice_get code.exchanges exchange) refl
-      fed_row (instr.Finish exchange) message here steady =
+      fed_row (instr.Finish exchange) message here =
           fed_finish exchange message here (slice_get code.exchanges exchange) refl
-      fed_row (instr.Edge kind array slot shift) message here steady =
+      fed_row (instr.Edge kind array slot shift) message here =
           used_fed (edged code p kind array slot shift) local message _ (using_edge kind array slot shift here) refl
-      fed_row (instr.Flood array target from source) message here steady =
+      fed_row (instr.Flood array target from source) message here =
           used_fed (flooded code p array target from source) local message _ (using_flood array target from source here) refl
-      fed_row (instr.Part array target f from source) message here steady =
+      fed_row (instr.Part array target f from source) message here =
           used_fed (parted code p array target f from source) local message _ (using_part array target f from source here) refl
-      fed_row (instr.Scan array slot f along from mask) message here steady =
+      fed_row (instr.Scan array slot f along from mask) message here =
           let c = scanned_row code p f along from mask array slot in
           let at = standing (instr.Scan array slot f along from mask) here in
           IsFedKept-in c local message _ (keeping_in (instr.Scan array slot f along from mask) c here at.0 at.1.0 at.1.1
           (EndsOnce-sends (λ q. q) _ _ (EndsOnce-takes _ _ EndsOnce-last)) (λ next out few words. (out, (few, words))))
           (IsCalm-scanned f along from mask array slot local) refl
-      fed_row (instr.Remap array slot from parts) message here steady = absurd steady
-      fed_row (instr.Vote group) message here steady =
+      fed_row (instr.Remap array slot from parts) message here =
+          fed_remap array slot from parts here (instr_fits code local.at _ fits_tables here) message (slice_get code.arrays from) refl
+      fed_row (instr.Vote group) message here =
           let c = voted code (star code p) group in
           let at = standing (instr.Vote group) here in
           IsFedKept-in c local message _ (keeping_in (instr.Vote group) c here at.0 at.1.0 at.1.1
           (EndsOnce-agreeing code p (star code p)) (λ next out few words. (out, (few, words))))
           (IsCalm-voted (star code p) group local) refl
-      fed_row (instr.TreeVote group) message here steady =
+      fed_row (instr.TreeVote group) message here =
           let c = voted code (tree code p) group in
           let at = standing (instr.TreeVote group) here in
           IsFedKept-in c local message _ (keeping_in (instr.TreeVote group) c here at.0 at.1.0 at.1.1
           (EndsOnce-agreeing code p (tree code p)) (λ next out few words. (out, (few, words))))
           (IsCalm-voted (tree code p) group local) refl
-      fed_row (instr.Fold scalar f) message here steady =
+      fed_row (instr.Fold scalar f) message here =
           let c = folded (star code p) scalar f in
           let at = standing (instr.Fold scalar f) here in
           IsFedKept-in c local message _ (keeping_in (instr.Fold scalar f) c here at.0 at.1.0 at.1.1
           (EndsOnce-agreeing code p (star code p)) (λ next out few words. (out, (few, words))))
           (IsCalm-folded (star code p) scalar f local) refl
-      fed_row (instr.TreeFold scalar f) message here steady =
+      fed_row (instr.TreeFold scalar f) message here =
           let c = folded (tree code p) scalar f in
           let at = standing (instr.TreeFold scalar f) here in
           IsFedKept-in c local message _ (keeping_in (instr.TreeFold scalar f) c here at.0 at.1.0 at.1.1
           (EndsOnce-agreeing code p (tree code p)) (λ next out few words. (out, (few, words))))
           (IsCalm-folded (tree code p) scalar f local) refl
-      fed_row (instr.Gather truth array slot) message here steady =
+      fed_row (instr.Gather truth array slot) message here =
           let c = gathered code p truth array slot in
           let at = standing (instr.Gather truth array slot) here in
           IsFedKept-in c local message _ (keeping_in (instr.Gather truth array slot) c here at.0 at.1.0 at.1.1
           (EndsOnce-gather code p p (region_in local slot)) (λ next out few words. (out, (few, words))))
           (IsCalm-gathered truth array slot local) refl
-      fed_row row message here steady = tt
+      fed_row row message here = tt
 
-      fed_next : (next : Option Instr) (message : Message) → slice_get code.code local.at ≡ next → StandsSteady next
+      fed_next : (next : Option Instr) (message : Message) → slice_get code.code local.at ≡ next
           → IsFedKept (fed_at code p local message next)
-      fed_next None message here steady = tt
-      fed_next (Some row) message here steady = fed_row row message here steady
+      fed_next None message here = tt
+      fed_next (Some row) message here = fed_row row message here
 
     -- ---- moves and messages
     module _ (slot_fits : (tables : Tables) (i rank : ℕ) → Fits tables → slice_get tables.slots i ≡ Some rank → IsRank rank)
+        (array_fits : (tables : Tables) (i : ℕ) (row : ArrayRow) → Fits tables → slice_get tables.arrays i ≡ Some row → FitsArray row)
+        (group_fits : (tables : Tables) (i : ℕ) (members : List Member) → Fits tables → slice_get tables.groups i ≡ Some members
+        → FitsGroup tables members)
         (limit_told : (r : Region) → All HasStep r.dims → IsTrue (is_within_limit r) ↔ IsWithinLimit r) where
       pub IsLocal-act : (local next : Local) (sent : Option (ℕ × Message)) (shown : List ℕ)
-          → StandsSteady (slice_get code.code local.at) → IsLocal code p local → act code p local ≡ Goes next sent shown
+          → NextHasThree code local → IsLocal code p local → act code p local ≡ Goes next sent shown
           → IsLocal code p next
-      IsLocal-act local next sent shown steady is_local goes = by local.ended refl
+      IsLocal-act local next sent shown three is_local goes = by local.ended refl
         where
           ended_is : (ended : Option End) (ending : End) (action : Action) → ended ≡ Some ending
               → unless_ended ended action ≡ Ended
@@ -1309,12 +1752,12 @@ module _ (code : Tables) (p : ℕ) where
               let open_still : act code p local ≡ act_at code p local (slice_get code.code local.at) =
               ap (λ e. unless_ended e (act_at code p local (slice_get code.code local.at))) is in
               subst IsKept (sym open_still ∙ goes)
-              (kept_next slot_fits limit_told local is_local is (slice_get code.code local.at) refl steady)
+              (kept_next slot_fits array_fits group_fits limit_told local is_local is (slice_get code.code local.at) refl three)
 
       pub IsLocal-fed : (local next : Local) (from : ℕ) (message : Message)
-          → StandsSteady (slice_get code.code local.at) → IsLocal code p local → act code p local ≡ Awaits from
+          → IsLocal code p local → act code p local ≡ Awaits from
           → fed code p local message ≡ Takes next → IsLocal code p next
-      IsLocal-fed local next from message steady is_local awaits takes = by local.ended refl
+      IsLocal-fed local next from message is_local awaits takes = by local.ended refl
         where
           ended_is : (ended : Option End) (ending : End) (action : Action) → ended ≡ Some ending
               → unless_ended ended action ≡ Ended
@@ -1328,7 +1771,7 @@ module _ (code : Tables) (p : ℕ) where
               let no : Ended ≡ Awaits from = sym ended ∙ awaits in cc
           by None is =
               subst IsFedKept takes
-              (fed_next slot_fits limit_told local is_local is (slice_get code.code local.at) message refl steady)
+              (fed_next slot_fits array_fits group_fits limit_told local is_local is (slice_get code.code local.at) message refl)
 
       -- ---- the start
       none_within : (rank : ℕ) → IsRank rank → is_within_limit (no_places rank) ≡ true
@@ -1343,6 +1786,13 @@ module _ (code : Tables) (p : ℕ) where
           let steps = no_steps rank in
           record {
             ranked = refl;
+            many = omega (
+              arith,
+              length-append (replicate rank (all_from (pos 1) (pos 0))) (replicate (3 - rank) padding),
+              length-replicate rank (all_from (pos 1) (pos 0)),
+              length-replicate (3 - rank) padding,
+              ranked.1,
+            );
             fits = record {
               rank = ranked;
               steps = steps;

@@ -61,9 +61,14 @@ others code p = filter (λ q. not (q == p)) (processor_numbers code)
 abbrev pub others_where : Tables → ℕ → (ℕ → ℕ) → List ℕ
 others_where code p many = filter (λ q. nat_lt 0 (many q)) (others code p)
 
--- ---- what is kept
+-- ---- what is kept: words with their senders, who ascend
+abbrev pub kept_with : ℕ → List ℤ → List (ℕ × List ℤ) → List (ℕ × List ℤ)
+kept_with from words [] = (from, words) ∷ []
+kept_with from words (entry ∷ kept) =
+    if nat_lt from entry.0 then (from, words) ∷ (entry ∷ kept) else entry ∷ kept_with from words kept
+
 abbrev pub keeping : Local → ℕ → List ℤ → Local
-keeping local from words = record local { kept = local.kept ++ (from, words) ∷ [] }
+keeping local from words = record local { kept = kept_with from words local.kept }
 
 -- the first of some words
 abbrev pub first_word : List ℤ → ℤ
@@ -109,7 +114,7 @@ agreeing_stages kin =
     map TakesFrom kin.children ++ (to_parent kin.parent ++ (map Sends kin.children ++ Last ∷ []))
 
 module _ (kin : Kin) (join : ℤ → ℤ → ℤ) (own : Local → ℤ) where
-  -- the own value joined with those that were kept, in the order in which they came
+  -- the own value joined with those that were kept, in ascending order of their senders
   abbrev pub joined_values : Local → ℤ
   joined_values local = fold (λ value entry. join value (first_word entry.1)) (own local) local.kept
 

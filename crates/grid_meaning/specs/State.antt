@@ -2,7 +2,7 @@
 -- far it is in a row.
 --
 --   IsLocal   a local state that can be, for a program whose tables fit
-use Rattle.std.specs.Prelude.{◌≡◌, ◌⊎◌, ◌≢◌, ℕ, ◌-◌, ◌<◌, ◌≤◌, true, false, Bool, ℤ, pos, ◌≤ℤ◌, List, [], ◌∷◌, length, map, take, slice_get, Option, Some, None, All, ⊤}
+use Rattle.std.specs.Prelude.{◌≡◌, ◌⊎◌, ◌≢◌, ℕ, ◌-◌, ◌<◌, ◌≤◌, nat_lt, if◌then◌else◌, true, false, Bool, ℤ, pos, ◌≤ℤ◌, List, [], ◌∷◌, fold, length, map, take, slice_get, Option, Some, None, All, ⊤}
 use Rattle.std.specs.List.{AllZip, Any, filter_map}
 use Rattle.std.specs.Option.{IfSome, IsSomeAnd, IsSome}
 use Rattle.zpl_region.specs.declared.dims.Dim.{Dim}
@@ -28,9 +28,11 @@ use Rattle.grid_meaning.specs.Rows.{collective}
 use Rattle.grid_meaning.specs.Stored.{arrangement_of, box_of, no_places}
 
 -- ---- slots and stores
--- a slot's region has its rank, steps of at least 1 and no more than the limit
+-- a slot's region has its rank and three dimensions, padded past the rank, steps of at least 1 and
+-- no more than the limit
 pub record IsSlot (rank : ℕ) (region : Region) : Type 0 where
   pub ranked : region.rank ≡ rank
+  pub many : length region.dims ≡ 3
   pub fits : FitsRegion region
 
 -- the places of a temporary in one dimension, between these bounds of the own block
@@ -110,6 +112,14 @@ sender_of Last = None
 abbrev pub senders : List Stage → List ℕ
 senders stages = filter_map sender_of stages
 
+-- numbers in ascending order: each is put in its place among those that ascend
+abbrev pub placed : List ℕ → ℕ → List ℕ
+placed [] n = n ∷ []
+placed (m ∷ numbers) n = if nat_lt n m then n ∷ (m ∷ numbers) else m ∷ placed numbers n
+
+abbrev pub ascending : List ℕ → List ℕ
+ascending numbers = fold placed [] numbers
+
 -- some of a list's elements, in its order
 abbrev pub IsPart : List ℕ → List ℕ → Type 0
 IsPart [] ys = ⊤
@@ -122,13 +132,13 @@ IsRequest row local entry =
     (0 < length entry.1) × (row.awaits local entry.0 (length entry.1) ≡ true)
     × IsSome (row.taken local entry.0 entry.1)
 
--- the words that are kept are those that the row has taken and not used, each of a length that it
--- awaits; of requests these are the ones with words, such as may be taken; they come behind as many
--- turns as there are processors
+-- the words that are kept are those that the row has taken and not used, by ascending senders, each
+-- of a length that it awaits; of requests these are the ones with words, such as may be taken; they
+-- come behind as many turns as there are processors
 abbrev pub KeepsWords : Tables → ℕ → Use → Collective → Local → Type 0
 KeepsWords code p AtOnce row local = local.kept ≡ []
 KeepsWords code p InLast row local =
-    (map (λ entry. entry.0) local.kept ≡ senders (take local.made (row.stages local)))
+    (map (λ entry. entry.0) local.kept ≡ ascending (senders (take local.made (row.stages local))))
     × All (λ entry. row.awaits local entry.0 (length entry.1) ≡ true) local.kept
 KeepsWords code p Asking row local =
     IsPart (map (λ entry. entry.0) local.kept) (take (local.made - processors code) (others code p))
@@ -158,24 +168,22 @@ pub record HasParts (code : Tables) (p : ℕ) (local : Local) : Type 0 where
   pub stores : AllZip (IsStore code p) code.arrays local.stores
   pub flag : IfSome local.flag (λ member. Any (λ all. member < length all) code.groups)
 
--- and it is at an instruction, or behind the last one, and has made turns in it as they may be; or
--- it has ended
+-- and it is one of the program's processors, and at an instruction, or behind the last one, and has
+-- made turns in it as they may be; or it has ended
 pub record IsLocal (code : Tables) (p : ℕ) (local : Local) : Type 0 where
+  pub number : p < processors code
   pub parts : HasParts code p local
   pub at : local.at ≤ length code.code
   pub running : local.ended ≡ None → Stands code p local
   pub over : IsSome local.ended → IsOutside local × IsFresh local
 
--- ---- rows for which it is proved so far that their moves keep such a state: all but `loop`, `room` and `remap`
--- a row that makes dimensions has three parts, as each has that is made of an array of three
-abbrev pub IsSteady : Instr → Type 0
-IsSteady (instr.Dims slot parts line) = length parts ≡ 3
-IsSteady (instr.Room array slot) = ⊥
-IsSteady (instr.Loop slot group) = ⊥
-IsSteady (instr.Remap array slot from parts) = ⊥
-IsSteady row = ⊤
+-- ---- what a program's types give: an array of three has three elements
+abbrev pub HasThree : Tables → Instr → Type 0
+HasThree code (instr.Fix slot region) = length region.dims ≡ 3
+HasThree code (instr.Dims slot parts line) = length parts ≡ 3
+HasThree code (instr.Room array slot) = IfSome (slice_get code.arrays array) (λ row. length row.dims ≡ 3)
+HasThree code row = ⊤
 
--- behind the last instruction there is none
-abbrev pub StandsSteady : Option Instr → Type 0
-StandsSteady None = ⊤
-StandsSteady (Some row) = IsSteady row
+-- of the next row, if there is one
+abbrev pub NextHasThree : Tables → Local → Type 0
+NextHasThree code local = IfSome (slice_get code.code local.at) (HasThree code)

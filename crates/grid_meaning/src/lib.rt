@@ -13,7 +13,10 @@ mod scalar;
 mod states;
 
 pub use every_order::{orders_are_dominated, orders_end_alike, small_links_are_enough};
-pub use laws::{given_turns_are_orders, orders_go_on, over_stays, printing_grows, turns_count};
+pub use laws::{
+    given_turns_are_orders, grids_show_their_worlds, orders_go_on, over_stays, printing_grows,
+    turns_count,
+};
 pub use partners::partners_are_processors;
 pub use processors::Processors;
 pub use scalar::{scalar_code_goes_on, scalar_code_needs_no_links};

@@ -1,5 +1,5 @@
-use Rattle.grid_meaning.proofs.PartnerLemmas.{links-after, names-act}
+use Rattle.grid_meaning.proofs.PartnerLemmas.{links-after, kept-below, names-local}
 use Rattle.grid_meaning.proofs.partners.partners_are_processors.Goals as goal
 
 pub returns : goal.returns
-returns c = record { links = links-after; named = λ code p local inside kept. names-act code p inside local kept }
+returns c = record { links = links-after; kept = kept-below; named = names-local }
