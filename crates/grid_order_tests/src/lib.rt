@@ -1,0 +1,5 @@
+//! Tests of orders of turns, through their public calls.
+#![tactic(auto)]
+
+#[cfg(test)]
+mod tests;
