@@ -21,6 +21,7 @@ fn expect(
     count: u32,
     wanted: Result<&[u32], OrderFault>,
 ) {
+    assert!(rt; text.len() < 100);
     match (read_order(alloc, text, count), wanted) {
         (Ok(order), Ok(turns)) => expect_turns(rt, order, turns),
         (Ok(_), Err(_)) => panic!(rt; "taken: {text:?}"),
@@ -77,6 +78,7 @@ fn keeps_repeated_items_short(rt: HostRuntime) -> Result<(), Fail> {
     for _item in 0..1000 {
         text.extend_from_slice(b"9x1000000 ")?;
     }
+    assert!(&rt; text.len() == 10_000);
     let mut order = read_order(rt.alloc(), text.as_slice(), 10)
         .ok()
         .ok_or("no order")?;
