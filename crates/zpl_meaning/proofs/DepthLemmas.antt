@@ -49,20 +49,20 @@ use Rattle.zpl_meaning.specs.Program.{first_frame, outcome_of}
 use Rattle.zpl_meaning.specs.Depth.{outcome_down}
 
 -- ---- all sites of a list
-abbrev Each : (Site → Type 0) → List Site → Type 0
+abbrev pub Each : (Site → Type 0) → List Site → Type 0
 Each P [] = Unit {0}
 Each P (site ∷ sites) = P site × Each P sites
 
 module _ (P : Site → Type 0) where
-  each_left : (xs ys : List Site) → Each P (xs ++ ys) → Each P xs
+  pub each_left : (xs ys : List Site) → Each P (xs ++ ys) → Each P xs
   each_left [] ys h = tt
   each_left (x ∷ xs) ys h = (h.0, each_left xs ys h.1)
 
-  each_right : (xs ys : List Site) → Each P (xs ++ ys) → Each P ys
+  pub each_right : (xs ys : List Site) → Each P (xs ++ ys) → Each P ys
   each_right [] ys h = h
   each_right (x ∷ xs) ys h = each_right xs ys h.1
 
-  each_from : (xs : List Site) → ((x : Site) → Contains xs x → P x) → Each P xs
+  pub each_from : (xs : List Site) → ((x : Site) → Contains xs x → P x) → Each P xs
   each_from [] h = tt
   each_from (x ∷ xs) h = (
     h x (zero, omega arith, refl),

@@ -8,3 +8,8 @@ pub mod MoreLemmas
 pub mod ScalarLemmas
 pub mod TrapLemmas
 pub mod DepthLemmas
+pub mod ProperLemmas
+pub mod StatementLemmas
+pub mod NamesLemmas
+pub mod VisitLemmas
+pub mod GivenLemmas

@@ -4,10 +4,12 @@ pub mod Computed
 pub mod Context
 pub mod Depth
 pub mod Fields
+pub mod Given
 pub mod Outcome
 pub mod Phases
 pub mod Points
 pub mod Program
+pub mod Proper
 pub mod Regions
 pub mod Scalars
 pub mod Settled
@@ -18,4 +20,5 @@ pub mod Term
 pub mod Text
 pub mod Value
 pub mod Variables
+pub mod Visited
 pub mod Wanting

@@ -1,5 +1,5 @@
 //! The laws of the meaning.
-ghost use Rattle.std.specs.Prelude.{◌≡◌, ◌≢◌, ◌≤◌, ◌↔◌, ◌+◌, ◌∷◌, ℕ, ℤ, List, None};
+ghost use Rattle.std.specs.Prelude.{◌≡◌, ◌≢◌, ◌≤◌, ◌↔◌, ◌+◌, ◌∷◌, ℕ, ℤ, List, None, Contains};
 ghost use Rattle.zpl_lists.specs.Front.{IsFrontOf};
 ghost use Rattle.zpl_nums.specs.declared.ends.End.TheVariants.{More, Trap};
 ghost use Rattle.zpl_nums.specs.declared.ends.TrapKind.{TrapKind};
@@ -30,8 +30,23 @@ ghost use Rattle.zpl_meaning.specs.Wanting.{IsWithoutLoops, RepeatWants, SomeRun
 ghost use Rattle.zpl_meaning.specs.Wanting.{WhileWants};
 ghost use Rattle.zpl_meaning.specs.Program.{mean_of, outcome_of, steps_of};
 ghost use Rattle.zpl_meaning.specs.Depth.{outcome_down};
+ghost use Rattle.zpl_meaning.specs.Given.{IsGiven};
+ghost use Rattle.zpl_region.specs.declared.regions.Region.{Region};
+ghost use Rattle.zpl_binding.specs.Outcome.{outcome_of as value_named};
+ghost use Rattle.zpl_binding.specs.Vectors.{vector_of};
+ghost use Rattle.zpl_binding.specs.Declarations.{known_of};
+ghost use Rattle.zpl_binding.specs.Storages.{arrays_of, borders_of, home_of, Shaped, storage_of};
+ghost use Rattle.zpl_binding.specs.Bound.{IsAcceptedWith, vectors_in};
+ghost use Rattle.zpl_tree.specs.Grammar.{IsProgram};
+ghost use Rattle.zpl_meaning.specs.Proper.{IsProperStmt};
+ghost use Rattle.zpl_meaning.specs.Visited.{first_setup, IsVisited};
 
-use zpl_names::{faultless_programs_are_shallow, faultless_programs_have_faultless_sites};
+use zpl_binding::accepted_settings_bind;
+use zpl_names::{
+    declared_ranks_are_at_most_three, faultless_programs_are_shallow,
+    faultless_programs_have_faultless_sites, faultless_programs_leave_nothing_open,
+    procedures_are_there, ranks_are_at_most_three,
+};
 
 /// What a program prints with a bound on its loops begins what it prints with a greater one.
 pub fn meaning_grows()
@@ -134,4 +149,46 @@ pub fn no_call_is_cut_off()
 {
     faultless_programs_have_faultless_sites();
     faultless_programs_are_shallow();
+}
+
+/// No program of the grammar without faults meets an answer that stands in for a missing one: at
+/// each place where one of its statements is run, names stand for what is asked for, ranks have
+/// current regions, forms have a meaning, and procedures are there, whatever values variables have.
+pub fn no_stand_in_is_met()
+    ensures { (program : Program) (settings : List Setting) → IsProgram program →
+        IsFaultless program → (place : Place) (stmt : Stmt) →
+        IsVisited (first_setup program settings) place stmt → IsProperStmt place stmt }
+{
+    faultless_programs_have_faultless_sites();
+    faultless_programs_leave_nothing_open();
+    declared_ranks_are_at_most_three();
+    procedures_are_there();
+    ranks_are_at_most_three();
+}
+
+/// With accepted settings all that is computed before the run has a value, so that none stands in
+/// for a failed one: configs and constants, declared regions, directions, vectors in statements,
+/// and the storage and the home box of each declared array.
+pub fn what_is_computed_has_a_value()
+    ensures values { (program : Program) (settings : List Setting) →
+        IsAcceptedWith program settings → (text : List ℕ) (default : ℤ) →
+        IsGiven ℤ (value_named default (known_of program settings).values text) }
+    ensures regions { (program : Program) (settings : List Setting) →
+        IsAcceptedWith program settings → (text : List ℕ) (default : Region) →
+        IsGiven Region (value_named default (known_of program settings).regions text) }
+    ensures directions { (program : Program) (settings : List Setting) →
+        IsAcceptedWith program settings → (text : List ℕ) (default : List ℤ) →
+        IsGiven (List ℤ) (value_named default (known_of program settings).directions text) }
+    ensures vectors { (program : Program) (settings : List Setting) →
+        IsAcceptedWith program settings → (parts : Exprs) → Contains (vectors_in program) parts →
+        IsGiven (List ℤ) (vector_of (known_of program settings).values parts) }
+    ensures storages { (program : Program) (settings : List Setting) →
+        IsAcceptedWith program settings → (array : Shaped) → Contains (arrays_of program) array →
+        IsGiven Region
+        (storage_of (known_of program settings) (borders_of program) array.region) }
+    ensures homes { (program : Program) (settings : List Setting) →
+        IsAcceptedWith program settings → (array : Shaped) → Contains (arrays_of program) array →
+        IsGiven Region (home_of (known_of program settings) array.region) }
+{
+    accepted_settings_bind();
 }
