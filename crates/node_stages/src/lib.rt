@@ -1,0 +1,17 @@
+//! The stages of rows in which the processors of a grid work together: what a processor does in its
+//! next turn of such a row, by the turns that it has made in it.
+//!
+//! Nothing here takes memory, and no list of stages is made: a stage is found by one walk over the
+//! processors.
+#![tactic(auto)]
+
+mod boxes;
+mod exchanges;
+mod kin;
+mod partners;
+mod stages;
+
+pub use boxes::box_number;
+pub use exchanges::{finish_stage, item_piece, start_stage};
+pub use kin::Kin;
+pub use stages::Stage;
