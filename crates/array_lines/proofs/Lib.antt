@@ -1,0 +1,5 @@
+pub mod AxisLemmas
+pub mod ReadLemmas
+pub mod RunLemmas
+pub mod SpotLemmas
+pub mod WayLemmas

@@ -1,0 +1,15 @@
+//! Arrays, read and written line by line under regions.
+//!
+//! A region is walked by arithmetic, along the lines of its last dimension. No call takes memory for
+//! a tuple.
+#![tactic(auto)]
+
+mod axes;
+mod reads;
+mod sides;
+mod ways;
+
+pub use axes::Axis;
+pub use reads::{Reading, push_read};
+pub use sides::Way;
+pub use ways::{ways_around, ways_flooded, ways_shifted};
