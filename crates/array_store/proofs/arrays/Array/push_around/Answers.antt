@@ -1,0 +1,12 @@
+use Rattle.std.proofs.Common.{◌≡◌, ◌++◌, pos, subst}
+use Rattle.std.specs.Result.{OnOk}
+use Rattle.zpl_region.specs.declared.dims.Dim.TheVariants.{Flood}
+use Rattle.zpl_arrays.specs.Around.{around_source}
+use Rattle.array_store.proofs.ReadLemmas.{read_where}
+use Rattle.array_store.proofs.arrays.Array.push_around.Goals as goal
+
+pub returns : goal.returns
+returns c =
+    subst (λ l. OnOk c.push_at.result (c.push_at.new.out.items ≡ c.args.out.now.items ++ l))
+    (read_where c.args.self.now c.ways_around.result (around_source c.args.home.now c.args.shift.now) c.args.region.now Flood c.push_at.ensures.dims c.ways_around.ensures.gone)
+    c.push_at.ensures.values

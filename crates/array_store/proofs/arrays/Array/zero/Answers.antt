@@ -1,0 +1,28 @@
+use Rattle.std.proofs.Common.{◌≡◌, ℕ, length, replicate, ℤ, List, pos, refl, sym, ◌∙◌, ap, arith}
+use Rattle.std.proofs.lemmas.List.{length-replicate}
+use Rattle.zpl_region.specs.Region.{members}
+use Rattle.zpl_region.proofs.EndLemmas.{length-tuple_count}
+use Rattle.zpl_region.proofs.HullLemmas.{has_steps}
+use Rattle.zpl_arrays.specs.Array.{Array}
+use Rattle.array_store.proofs.ReadLemmas.{zeros}
+use Rattle.array_store.proofs.arrays.Array.zero.Goals as goal
+use Rattle.array_store.proofs.arrays.Array.zero.Goals.{After-loop}
+
+pub count-count-requires-clause-fits : goal.count-count-requires-clause-fits
+count-count-requires-clause-fits c = omega (arith, length-tuple_count c.args.storage.dims (has_steps c.args.storage.dims c.requires.region.dims), c.requires.few)
+
+values_are : (c : After-loop) → c.loop.values.items ≡ replicate (length (members c.args.storage)) (pos 0)
+values_are c =
+    let all : c.loop.counter ≡ c.count-count.result = omega arith in
+    c.loop.invariant ∙ ap (λ n. replicate n (pos 0)) (all ∙ c.count-count.ensures)
+
+pub invariant_of-result : goal.invariant_of-result
+invariant_of-result c = record {
+  region = c.requires.region;
+  few = c.requires.few;
+  filled = ap length (values_are (goal.at.invariant_of-result c).After-loop) ∙ length-replicate _ _;
+}
+
+pub returns : goal.returns
+returns c =
+    ap (λ (vs : List ℤ). let a : Array = record { storage = c.args.storage; values = vs } in a) (values_are (goal.at.returns c).After-loop ∙ zeros (members c.args.storage))

@@ -1,0 +1,190 @@
+//! Arrays.
+ghost use Rattle.std.specs.Prelude.{◌≡◌, ◌<◌, ◌≤◌, ◌++◌, All, IfOk, IfSome, OnOk, length, map, pos};
+ghost use Rattle.zpl_region.specs.Dim.{IsUpTo};
+ghost use Rattle.zpl_region.specs.Ends.{tuple_count};
+ghost use Rattle.zpl_region.specs.Region.{IsRegion, members, tuple_moved};
+ghost use Rattle.zpl_arrays.specs.Around.{around_source};
+ghost use Rattle.zpl_arrays.specs.Array.{element, has_place};
+ghost use Rattle.array_store.specs.Stored.{flat_coordinate, place_in};
+ghost use Rattle.zpl_meaning.specs.Points.{left_at};
+ghost use Rattle.array_lines.specs.Read.{IsWay, read_at};
+ghost use Rattle.zpl_meaning.specs.Variables.{zero_array};
+
+use array_lines::{Reading, Way, push_read, ways_around, ways_shifted};
+use region_places::place;
+use std::alloc::{AllocError, Global};
+use std::marker::Model;
+use zpl_region::{Dim, Region, Vec3};
+
+/// An array: where it is stored, and its values.
+#[derive(Drop)]
+pub struct Array {
+    storage: Region,
+    values: Vec<i64>,
+}
+
+impl Model for Array {
+    ghost use Rattle.zpl_arrays.specs.Array.{Array as Plain};
+    ghost use Rattle.array_store.specs.Stored.{IsStored};
+
+    ghost Value = { Plain };
+
+    ghost view = { λ a. record { storage = a.storage; values = a.values.items } };
+
+    ghost invariant = { λ a. IsStored (record { storage = a.storage; values = a.values.items }) };
+}
+
+/// A coordinate, or 0 in a flood dimension of a storage.
+fn flat(dim: Dim, x: i64) -> i64
+    ensures { result ≡ flat_coordinate dim x }
+{
+    match dim {
+        Dim::Range { .. } => x,
+        Dim::Flood => 0,
+    }
+}
+
+/// The place of a tuple in a storage, if it has one, whatever its coordinates are in flood
+/// dimensions.
+fn spot(storage: &Region, tuple: &Vec3) -> Option<u64>
+    requires region { IsRegion storage.now }
+    requires few { tuple_count storage.now.dims ≤ 4194304 }
+    ensures place { result ≡ place_in storage.now tuple.now }
+    ensures below { IfSome result (λ place. place < length (members storage.now)) }
+{
+    let [planes, rows, columns] = storage.dims;
+    let [x, y, z] = *tuple;
+    let plane = flat(planes, x);
+    let row = flat(rows, y);
+    let column = flat(columns, z);
+    let flattened = [plane, row, column];
+    if storage.contains(flattened) {
+        Some(place(storage, &flattened))
+    } else {
+        None
+    }
+}
+
+impl Array {
+    /// An array of zeros.
+    pub fn zero(alloc: Global, storage: Region) -> Result<Array, AllocError>
+        requires region { IsRegion storage }
+        requires few { tuple_count storage.dims ≤ 4194304 }
+        ensures { IfOk result (λ array. array ≡ zero_array storage) }
+    {
+        let count = storage.count();
+        let mut values = Vec::with_capacity(alloc, count as usize)?;
+        for _ in 0..count {
+            values.push(0)?;
+        }
+        Ok(Array { storage, values })
+    }
+
+    /// A copy.
+    pub fn copy(&self, alloc: Global) -> Result<Array, AllocError>
+        ensures { IfOk result (λ array. array ≡ self.now) }
+    {
+        let values = Vec::from_slice(alloc, &self.values)?;
+        Ok(Array {
+            storage: self.storage,
+            values,
+        })
+    }
+
+    /// Where it is stored.
+    pub fn storage(&self) -> &Region
+        ensures storage { result.now ≡ self.now.storage }
+        ensures region { IsRegion result.now }
+        ensures few { tuple_count result.now.dims ≤ 4194304 }
+    {
+        &self.storage
+    }
+
+    /// Its values, in row-major order of the storage.
+    pub fn values(&self) -> &[i64]
+        ensures { result.now ≡ self.now.values }
+    {
+        &self.values
+    }
+
+    /// Its value at a tuple, or 0 where the tuple has no place.
+    pub fn element(&self, tuple: &Vec3) -> i64
+        ensures { result ≡ element self.now tuple.now }
+    {
+        match spot(&self.storage, tuple) {
+            Some(place) => self.values.get(place as usize).copied().unwrap_or(0),
+            None => 0,
+        }
+    }
+
+    /// Gives it another value at a tuple. Where the tuple has no place nothing changes.
+    pub fn set(&mut self, tuple: &Vec3, value: i64)
+        ensures { self.new
+            ≡ left_at (has_place self.old.storage tuple.now) self.old tuple.now value }
+    {
+        if let Some(place) = spot(&self.storage, tuple) {
+            self.values[place as usize] = value;
+        }
+    }
+
+    /// Appends what it has at each tuple of a region, in row-major order, where each coordinate goes
+    /// a way first. The value of a tuple without a place is 0.
+    fn push_at(
+        &self,
+        ways: [Way; 3],
+        region: &Region,
+        out: &mut Vec<i64>,
+    ) -> Result<(), AllocError>
+        requires ways { All IsWay ways }
+        requires region { IsRegion region.now }
+        requires points { tuple_count region.now.dims ≤ 4194304 }
+        ensures values { OnOk result (out.new.items ≡ out.old.items
+            ++ map (read_at self.now (pos 0) ways) (members region.now)) }
+        ensures dims { length region.now.dims ≡ 3 }
+    {
+        let [_, _, _] = region.dims;
+        let reading = Reading {
+            values: &self.values,
+            ways,
+            default: 0,
+        };
+        push_read(&self.storage, &reading, region, out)
+    }
+
+    /// Appends `A@d`, read under one region, at each tuple of another: mostly the same.
+    pub fn push_shifted(
+        &self,
+        over: &Region,
+        shift: &Vec3,
+        region: &Region,
+        out: &mut Vec<i64>,
+    ) -> Result<(), AllocError>
+        requires over { IsRegion over.now }
+        requires near { All (IsUpTo 41) shift.now }
+        requires region { IsRegion region.now }
+        requires points { tuple_count region.now.dims ≤ 4194304 }
+        ensures { OnOk result (out.new.items ≡ out.old.items
+            ++ map (λ t. element self.now (tuple_moved shift.now over.now t)) (members region.now)) }
+    {
+        self.push_at(ways_shifted(over, shift), region, out)
+    }
+
+    /// Appends `A@^d`, with A's home box, at each tuple of a region.
+    pub fn push_around(
+        &self,
+        home: &Region,
+        shift: &Vec3,
+        region: &Region,
+        out: &mut Vec<i64>,
+    ) -> Result<(), AllocError>
+        requires home { IsRegion home.now }
+        requires some { 0 < tuple_count home.now.dims }
+        requires near { All (IsUpTo 41) shift.now }
+        requires region { IsRegion region.now }
+        requires points { tuple_count region.now.dims ≤ 4194304 }
+        ensures { OnOk result (out.new.items ≡ out.old.items
+            ++ map (λ t. element self.now (around_source home.now shift.now t)) (members region.now)) }
+    {
+        self.push_at(ways_around(home, shift), region, out)
+    }
+}
