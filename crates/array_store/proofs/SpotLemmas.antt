@@ -41,6 +41,7 @@ flat_three dims t d e l w =
     one : (dim : Dim) (dims : List Dim) (x : ℤ) (t : List ℤ) → flat_coordinate dim x ∷ flattened dims t ≡ flattened (dim ∷ dims) (x ∷ t)
     one (Range lo hi step align) dims x t = refl
     one Flood dims x t = refl
+
     by : (p q r : Dim) (x y z : ℤ) → flat_coordinate p x ∷ flat_coordinate q y ∷ flat_coordinate r z ∷ [] ≡ flattened (p ∷ q ∷ r ∷ []) (x ∷ y ∷ z ∷ [])
     by p q r x y z =
         ap (λ l. flat_coordinate p x ∷ flat_coordinate q y ∷ l) (one r [] z [])

@@ -34,6 +34,15 @@ impl Model for Array {
     ghost invariant = { λ a. IsStored (record { storage = a.storage; values = a.values.items }) };
 }
 
+/// The dimensions of a region, of which there are always three.
+fn three_dims(region: &Region) -> [Dim; 3]
+    ensures dims { result ≡ region.now.dims }
+    ensures three { length region.now.dims ≡ 3 }
+{
+    let [planes, rows, columns] = region.dims;
+    [planes, rows, columns]
+}
+
 /// A coordinate, or 0 in a flood dimension of a storage.
 fn flat(dim: Dim, x: i64) -> i64
     ensures { result ≡ flat_coordinate dim x }
@@ -129,20 +138,13 @@ impl Array {
 
     /// Appends what it has at each tuple of a region, in row-major order, where each coordinate goes
     /// a way first. The value of a tuple without a place is 0.
-    fn push_at(
-        &self,
-        ways: [Way; 3],
-        region: &Region,
-        out: &mut Vec<i64>,
-    ) -> Result<(), AllocError>
+    fn push_at(&self, ways: [Way; 3], region: &Region, out: &mut Vec<i64>) -> Result<(), AllocError>
         requires ways { All IsWay ways }
         requires region { IsRegion region.now }
         requires points { tuple_count region.now.dims ≤ 4194304 }
-        ensures values { OnOk result (out.new.items ≡ out.old.items
+        ensures { OnOk result (out.new.items ≡ out.old.items
             ++ map (read_at self.now (pos 0) ways) (members region.now)) }
-        ensures dims { length region.now.dims ≡ 3 }
     {
-        let [_, _, _] = region.dims;
         let reading = Reading {
             values: &self.values,
             ways,
@@ -166,6 +168,7 @@ impl Array {
         ensures { OnOk result (out.new.items ≡ out.old.items
             ++ map (λ t. element self.now (tuple_moved shift.now over.now t)) (members region.now)) }
     {
+        let _dims = three_dims(region);
         self.push_at(ways_shifted(over, shift), region, out)
     }
 
@@ -185,6 +188,7 @@ impl Array {
         ensures { OnOk result (out.new.items ≡ out.old.items
             ++ map (λ t. element self.now (around_source home.now shift.now t)) (members region.now)) }
     {
+        let _dims = three_dims(region);
         self.push_at(ways_around(home, shift), region, out)
     }
 }

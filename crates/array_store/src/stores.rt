@@ -102,8 +102,8 @@ impl Store {
     /// Leaves only so many scalars and arrays.
     pub fn cut_back(&mut self, scalars: usize, arrays: usize)
         ensures { self.new ≡ record {
-            scalars = take scalars self.old.scalars;
-            arrays = take arrays self.old.arrays;
+          scalars = take scalars self.old.scalars;
+          arrays = take arrays self.old.arrays;
         } }
     {
         self.scalars.truncate(scalars);

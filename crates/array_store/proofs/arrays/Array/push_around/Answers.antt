@@ -8,5 +8,5 @@ use Rattle.array_store.proofs.arrays.Array.push_around.Goals as goal
 pub returns : goal.returns
 returns c =
     subst (λ l. OnOk c.push_at.result (c.push_at.new.out.items ≡ c.args.out.now.items ++ l))
-    (read_where c.args.self.now c.ways_around.result (around_source c.args.home.now c.args.shift.now) c.args.region.now Flood c.push_at.ensures.dims c.ways_around.ensures.gone)
-    c.push_at.ensures.values
+    (read_where c.args.self.now c.ways_around.result (around_source c.args.home.now c.args.shift.now) c.args.region.now Flood c.three_dims-dims.ensures.three c.ways_around.ensures.gone)
+    c.push_at.ensures
