@@ -1,0 +1,3 @@
+mod StackLemmas
+mod StartLemmas
+mod StoreLemmas

@@ -1,0 +1,465 @@
+-- Where tuples stand in a store: arithmetic on the bounds of its box.
+use Rattle.std.proofs.Common.{◌≡◌, ℕ, ◌+◌, ◌*◌, ◌/◌, ◌<◌, ◌≤◌, Bool, true, false, cond, ◌&&◌, List, [], ◌∷◌, All, length, map, replicate, get_or, ℤ, pos, negsuc, ◌+ℤ◌, ◌-ℤ◌, ◌*ℤ◌, ◌≤ℤ◌, unsigned_abs, refl, sym, ◌∙◌, ap, subst, arith}
+use Rattle.std.specs.Prelude.{Option, Some, None}
+use Rattle.std.specs.Int.RustNames.{int_le}
+use Rattle.std.proofs.lemmas.Int.{ints, clamps}
+use Rattle.std.proofs.Math.Bool.{and-true}
+use Rattle.std.proofs.Math.Nat.{mul-le-mul_left, mul-le-mul_right}
+use Rattle.std.proofs.lemmas.List.Elements.{recursion_from_All}
+use Rattle.zpl_region.specs.declared.dims.Dim.{Dim}
+use Rattle.zpl_region.specs.declared.dims.Dim.TheVariants.{Range, Flood}
+use Rattle.zpl_region.specs.Dim.{HasStep, IsDim, IsUpTo, is_multiple}
+use Rattle.std.specs.Int.{saturate_signed}
+use mir.Syntax.{w64}
+use mir.Val.{to_z, of_z}
+use Rattle.std.specs.Prelude.{FitsSigned}
+use Rattle.std.proofs.lemmas.Int.{to_z-of_z}
+use Rattle.grid_layout.specs.Layout.{HasWideBounds}
+use Rattle.zpl_region.specs.Ends.{coordinate_count, first_of, tuple_count}
+use Rattle.zpl_region.specs.Hull.{IsBoxed, all_from}
+use Rattle.zpl_region.specs.Tests.{is_coordinate, are_coordinates}
+use Rattle.zpl_region.proofs.DimLemmas.{multiple_passes, pos-extent}
+use Rattle.zpl_region.proofs.HullLemmas.{first-all_from, count-all_from}
+use Rattle.zpl_region.proofs.ProgressionLemmas.{between-true, true-between}
+use Rattle.zpl_region.specs.declared.regions.Region.{Region}
+use Rattle.zpl_arrays.specs.Array.{Array, array_of, element, each_has_place, has_place, place_along, place_among}
+use Rattle.std.specs.Option.{option_map}
+use Rattle.std.specs.Prelude.{slice_get}
+use Rattle.std.proofs.Math.ListN.{set, length-set}
+use Rattle.std.proofs.lemmas.Option.{slice_get_within, slice_get-get_or, get_or_from_slice_get}
+use Rattle.std.proofs.lemmas.List.{get_or-set_same, set-set, set-get_or}
+use Rattle.node_local.specs.Undo.{with_place}
+use Rattle.zpl_region.specs.Region.{members}
+use Rattle.node_local.specs.Store.{place_in}
+use Rattle.grid_meaning.specs.Place.{held_value, moved_by, where_held}
+use Rattle.node_form.specs.Value.{unmoved}
+use Rattle.node_local.specs.Reading.{boxed_value, is_flat, is_flat_coordinate}
+use Rattle.std.specs.Ordering.{int_eq}
+
+-- ---- one dimension
+-- the place of a coordinate in a dimension, if it has one
+abbrev pub dim_place : Dim → ℤ → Option ℕ
+dim_place dim x = where_held (each_has_place (dim ∷ []) (x ∷ [])) (place_along dim x)
+
+-- a range of a box is the numbers from its bound to the other
+boxed_range : (d : Dim) (lo hi step align : ℤ) → IsBoxed d → d ≡ Range lo hi step align
+    → d ≡ all_from lo hi
+boxed_range d lo hi step align boxed is =
+    let parts : (step ≡ pos 1) × (align ≡ lo) = subst IsBoxed is boxed in
+    is ∙ (ap (λ s. Range lo hi s align) parts.0 ∙ ap (λ a. Range lo hi (pos 1) a) parts.1)
+
+coordinate_inside : (lo hi x : ℤ) → lo ≤ℤ x → x ≤ℤ hi → is_coordinate (all_from lo hi) x ≡ true
+coordinate_inside lo hi x low high =
+    let whole : x -ℤ lo ≡ (x -ℤ lo) *ℤ pos 1 = omega (arith, ints) in
+    ap (λ b. b && is_multiple (pos 1) (x -ℤ lo)) (between-true lo hi x low high)
+    ∙ multiple_passes 1 (x -ℤ lo) (x -ℤ lo) (omega arith) whole
+
+place_along-all_from : (lo hi x : ℤ) → place_along (all_from lo hi) x ≡ unsigned_abs (x -ℤ lo)
+place_along-all_from lo hi x =
+    let whole : unsigned_abs (x -ℤ first_of (all_from lo hi)) / 1 ≡ unsigned_abs (x -ℤ first_of (all_from lo hi)) = omega arith in
+    whole ∙ ap (λ f. unsigned_abs (x -ℤ f)) (first-all_from lo hi)
+
+pub dim_place-inside : (d : Dim) (lo hi step align x : ℤ) → IsBoxed d → d ≡ Range lo hi step align
+    → lo ≤ℤ x → x ≤ℤ hi → dim_place d x ≡ Some (unsigned_abs (x -ℤ lo))
+dim_place-inside d lo hi step align x boxed is low high =
+    ap (λ e. dim_place e x) (boxed_range d lo hi step align boxed is)
+    ∙ (ap (λ b. where_held (b && true) (place_along (all_from lo hi) x)) (coordinate_inside lo hi x low high)
+    ∙ ap Some (place_along-all_from lo hi x))
+
+-- outside the bounds it has none
+is_outside : (lo hi x : ℤ) (b : Bool) → (int_le lo x && int_le x hi) ≡ b
+    → ((lo ≤ℤ x) × (x ≤ℤ hi) → ⊥) → b ≡ false
+is_outside lo hi x true e out = absurd (out (true-between lo hi x e))
+is_outside lo hi x false e out = refl
+
+pub dim_place-outside : (d : Dim) (lo hi step align x : ℤ) → d ≡ Range lo hi step align
+    → ((lo ≤ℤ x) × (x ≤ℤ hi) → ⊥) → dim_place d x ≡ None
+dim_place-outside d lo hi step align x is out =
+    ap (λ e. dim_place e x) is
+    ∙ ap (λ b. where_held ((b && is_multiple step (x -ℤ align)) && true) (place_along (Range lo hi step align) x))
+    (is_outside lo hi x (int_le lo x && int_le x hi) refl out)
+
+pub dim_place-below : (d : Dim) (lo hi step align x : ℤ) → IsBoxed d → d ≡ Range lo hi step align
+    → lo ≤ℤ x → x ≤ℤ hi → unsigned_abs (x -ℤ lo) < coordinate_count d
+dim_place-below d lo hi step align x boxed is low high =
+    let same = ap coordinate_count (boxed_range d lo hi step align boxed is) ∙ count-all_from lo hi in
+    omega (arith, ints, clamps, same, pos-extent lo hi)
+
+-- ---- three dimensions
+-- whether a dimension has a place for a coordinate
+abbrev has : Dim → ℤ → Bool
+has dim x = each_has_place (dim ∷ []) (x ∷ [])
+
+has-first : (d : Dim) (x : ℤ) (dims : List Dim) (t : List ℤ)
+    → each_has_place (d ∷ dims) (x ∷ t) ≡ (has d x && each_has_place dims t)
+has-first (Range lo hi step align) x dims t = ap (λ b. b && each_has_place dims t) (sym (and-true (is_coordinate (Range lo hi step align) x)))
+has-first Flood x dims t = refl
+
+has-three : (a b c : Dim) (x y z : ℤ)
+    → each_has_place (a ∷ b ∷ c ∷ []) (x ∷ y ∷ z ∷ []) ≡ (has a x && (has b y && has c z))
+has-three a b c x y z =
+    has-first a x (b ∷ c ∷ []) (y ∷ z ∷ []) ∙ ap (λ h. has a x && h) (has-first b y (c ∷ []) (z ∷ []))
+
+-- the place of a tuple, by those of its coordinates; none where one of them has none
+abbrev pub joined_places : Option ℕ → Option ℕ → Option ℕ → ℕ → ℕ → Option ℕ
+joined_places (Some p) (Some q) (Some s) m n = Some ((p * m + q) * n + s)
+joined_places (Some p) (Some q) None m n = None
+joined_places (Some p) None s m n = None
+joined_places None q s m n = None
+
+abbrev pub place_three : Dim → Dim → Dim → ℤ → ℤ → ℤ → Option ℕ
+place_three a b c x y z =
+    where_held (each_has_place (a ∷ b ∷ c ∷ []) (x ∷ y ∷ z ∷ [])) (place_among (a ∷ b ∷ c ∷ []) (x ∷ y ∷ z ∷ []))
+
+by_tests : (i j k : Bool) (p q s m n : ℕ)
+    → where_held (i && (j && k)) (p * (m * (n * 1)) + (q * (n * 1) + (s * 1 + 0)))
+    ≡ joined_places (where_held i p) (where_held j q) (where_held k s) m n
+by_tests true true true p q s m n =
+    let whole : p * (m * (n * 1)) + (q * (n * 1) + (s * 1 + 0)) ≡ (p * m + q) * n + s = omega arith in
+    ap Some whole
+by_tests true true false p q s m n = refl
+by_tests true false k p q s m n = refl
+by_tests false j k p q s m n = refl
+
+pub place_three-joined : (a b c : Dim) (x y z : ℤ) → place_three a b c x y z
+    ≡ joined_places (dim_place a x) (dim_place b y) (dim_place c z) (coordinate_count b) (coordinate_count c)
+place_three-joined a b c x y z =
+    ap (λ h. where_held h (place_among (a ∷ b ∷ c ∷ []) (x ∷ y ∷ z ∷ []))) (has-three a b c x y z)
+    ∙ by_tests (has a x) (has b y) (has c z) (place_along a x) (place_along b y) (place_along c z) (coordinate_count b) (coordinate_count c)
+
+-- ---- what saturates
+-- a number that is small stays as it is
+kept_small : (z m : ℤ) → m ≡ saturate_signed w64 z → IsUpTo 41 z → m ≡ z
+kept_small (pos n) m e h = omega (arith, ints)
+kept_small (negsuc n) m e h = omega (arith, ints)
+
+same_small : (z : ℤ) → IsUpTo 41 z → saturate_signed w64 z ≡ z
+same_small z small = kept_small z (saturate_signed w64 z) refl small
+
+-- and one that is small afterwards was so before
+was_small : (z m : ℤ) → m ≡ saturate_signed w64 z → IsUpTo 41 m → m ≡ z
+was_small (pos n) m e h = omega (arith, ints)
+was_small (negsuc n) m e h = omega (arith, ints)
+
+small_same : (z : ℤ) → IsUpTo 41 (saturate_signed w64 z) → saturate_signed w64 z ≡ z
+small_same z small = was_small z (saturate_signed w64 z) refl small
+
+false_between : (lo hi x : ℤ) → (int_le lo x && int_le x hi) ≡ false → (lo ≤ℤ x) × (x ≤ℤ hi) → ⊥
+false_between lo hi x e inside =
+    let both : true ≡ false = sym (between-true lo hi x inside.0 inside.1) ∙ e in cc
+
+-- ---- a coordinate past the ends of its type has no place, and so has none at the end
+pub dim_place-saturated : (d : Dim) (z : ℤ) → IsBoxed d → HasWideBounds d
+    → dim_place d (saturate_signed w64 z) ≡ dim_place d z
+dim_place-saturated (Range lo hi step align) z boxed wide =
+    by_bounds (int_le lo z && int_le z hi) refl
+  where
+    by_bounds : (b : Bool) → (int_le lo z && int_le z hi) ≡ b
+        → dim_place (Range lo hi step align) (saturate_signed w64 z) ≡ dim_place (Range lo hi step align) z
+    by_bounds true e =
+        let inside = true-between lo hi z e in
+        let small : IsUpTo 41 z = (omega (arith, ints), omega (arith, ints)) in
+        ap (dim_place (Range lo hi step align)) (same_small z small)
+    by_bounds false e =
+        dim_place-outside (Range lo hi step align) lo hi step align (saturate_signed w64 z) refl
+        (λ within. let same = small_same z (omega (arith, ints), omega (arith, ints)) in false_between lo hi z e (subst (λ y. (lo ≤ℤ y) × (y ≤ℤ hi)) same within))
+        ∙ sym (dim_place-outside (Range lo hi step align) lo hi step align z refl (false_between lo hi z e))
+dim_place-saturated Flood z boxed wide = refl
+
+-- ---- places are below the number of values
+cell_below : (p q a m : ℕ) → p < a → q < m → p * m + q < a * m
+cell_below p q a m h l =
+    let next : p + 1 ≤ a = omega arith in
+    let more : (p + 1) * m ≤ a * m = mul-le-mul_right m next in
+    omega (arith, more)
+
+-- the place of a tuple, and that of its line, are within the store
+pub record IsWithin (p q s m n : ℕ) (values : ℕ) : Type 0 where
+  pub line : p * m + q ≤ (p * m + q) * n
+  pub place : (p * m + q) * n + s < values
+
+within_line : (k n : ℕ) → 0 < n → k ≤ k * n
+within_line k n some =
+    let next : 1 ≤ n = omega arith in
+    let more : k * 1 ≤ k * n = mul-le-mul_left k next in omega (arith, more)
+
+pub places_within : (a b c : Dim) (p q s m n values : ℕ) → p < coordinate_count a
+    → q < coordinate_count b → s < coordinate_count c → m ≡ coordinate_count b
+    → n ≡ coordinate_count c → values ≡ tuple_count (a ∷ b ∷ c ∷ []) → IsWithin p q s m n values
+places_within a b c p q s m n values h k l e f filled =
+    let line = cell_below p q (coordinate_count a) m h (omega arith) in
+    let place = cell_below (p * m + q) s (coordinate_count a * m) n line (omega arith) in
+    let whole : values ≡ coordinate_count a * m * n =
+    filled ∙ (ap (λ v. coordinate_count a * (v * (coordinate_count c * 1))) (sym e) ∙ (ap (λ v. coordinate_count a * (m * (v * 1))) (sym f) ∙ omega arith)) in
+    record {
+      line = within_line (p * m + q) n (omega arith);
+      place = omega (arith, place, whole);
+    }
+
+-- ---- for the code: three dimensions by number
+pub at_coordinate : {r : Option ℕ} (d : Dim) (x : ℤ) → FitsSigned w64 x
+    → r ≡ dim_place d (to_z w64 (of_z w64 x)) → r ≡ dim_place d x
+at_coordinate d x fits told = told ∙ ap (dim_place d) (to_z-of_z w64 x fits)
+
+abbrev whole_place : List Dim → ℤ → ℤ → ℤ → Option ℕ
+whole_place dims x y z = where_held (each_has_place dims (x ∷ y ∷ z ∷ [])) (place_among dims (x ∷ y ∷ z ∷ []))
+
+place_of_three : (dims : List Dim) (e : Dim) (x y z : ℤ) → length dims ≡ 3 → whole_place dims x y z
+    ≡ joined_places (dim_place (get_or dims 0 e) x) (dim_place (get_or dims 1 e) y) (dim_place (get_or dims 2 e) z)
+    (coordinate_count (get_or dims 1 e)) (coordinate_count (get_or dims 2 e))
+place_of_three [] e x y z many = absurd (omega arith)
+place_of_three (a ∷ []) e x y z many = absurd (omega arith)
+place_of_three (a ∷ b ∷ []) e x y z many = absurd (omega arith)
+place_of_three (a ∷ b ∷ c ∷ []) e x y z many = place_three-joined a b c x y z
+place_of_three (a ∷ b ∷ c ∷ d ∷ dims) e x y z many = absurd (omega arith)
+
+pub second_none : {r : Option ℕ} (dims : List Dim) (e : Dim) (x y z : ℤ) (p : ℕ) → length dims ≡ 3 → r ≡ None
+    → Some p ≡ dim_place (get_or dims 0 e) x → None ≡ dim_place (get_or dims 1 e) y
+    → r ≡ whole_place dims x y z
+second_none dims e x y z p many none first second =
+    none ∙ sym (place_of_three dims e x y z many
+    ∙ (ap (λ k. joined_places k (dim_place (get_or dims 1 e) y) (dim_place (get_or dims 2 e) z) (coordinate_count (get_or dims 1 e)) (coordinate_count (get_or dims 2 e))) (sym first)
+    ∙ ap (λ k. joined_places (Some p) k (dim_place (get_or dims 2 e) z) (coordinate_count (get_or dims 1 e)) (coordinate_count (get_or dims 2 e))) (sym second)))
+
+pub third_none : {r : Option ℕ} (dims : List Dim) (e : Dim) (x y z : ℤ) (p q : ℕ) → length dims ≡ 3 → r ≡ None
+    → Some p ≡ dim_place (get_or dims 0 e) x → Some q ≡ dim_place (get_or dims 1 e) y
+    → None ≡ dim_place (get_or dims 2 e) z → r ≡ whole_place dims x y z
+third_none dims e x y z p q many none first second third =
+    none ∙ sym (place_of_three dims e x y z many
+    ∙ (ap (λ k. joined_places k (dim_place (get_or dims 1 e) y) (dim_place (get_or dims 2 e) z) (coordinate_count (get_or dims 1 e)) (coordinate_count (get_or dims 2 e))) (sym first)
+    ∙ (ap (λ k. joined_places (Some p) k (dim_place (get_or dims 2 e) z) (coordinate_count (get_or dims 1 e)) (coordinate_count (get_or dims 2 e))) (sym second)
+    ∙ ap (λ k. joined_places (Some p) (Some q) k (coordinate_count (get_or dims 1 e)) (coordinate_count (get_or dims 2 e))) (sym third))))
+
+pub all_some : (dims : List Dim) (e : Dim) (x y z : ℤ) (p q s m n : ℕ) → length dims ≡ 3
+    → Some p ≡ dim_place (get_or dims 0 e) x → Some q ≡ dim_place (get_or dims 1 e) y
+    → Some s ≡ dim_place (get_or dims 2 e) z → m ≡ coordinate_count (get_or dims 1 e)
+    → n ≡ coordinate_count (get_or dims 2 e) → Some ((p * m + q) * n + s) ≡ whole_place dims x y z
+all_some dims e x y z p q s m n many first second third f g =
+    sym (place_of_three dims e x y z many
+    ∙ (ap (λ k. joined_places k (dim_place (get_or dims 1 e) y) (dim_place (get_or dims 2 e) z) (coordinate_count (get_or dims 1 e)) (coordinate_count (get_or dims 2 e))) (sym first)
+    ∙ (ap (λ k. joined_places (Some p) k (dim_place (get_or dims 2 e) z) (coordinate_count (get_or dims 1 e)) (coordinate_count (get_or dims 2 e))) (sym second)
+    ∙ (ap (λ k. joined_places (Some p) (Some q) k (coordinate_count (get_or dims 1 e)) (coordinate_count (get_or dims 2 e))) (sym third)
+    ∙ (ap (λ k. joined_places (Some p) (Some q) (Some s) k (coordinate_count (get_or dims 2 e))) (sym f)
+    ∙ ap (λ k. joined_places (Some p) (Some q) (Some s) m k) (sym g))))))
+
+pub all_within : (dims : List Dim) (e : Dim) (p q s m n : ℕ) → length dims ≡ 3
+    → p < coordinate_count (get_or dims 0 e) → q < coordinate_count (get_or dims 1 e)
+    → s < coordinate_count (get_or dims 2 e) → m ≡ coordinate_count (get_or dims 1 e)
+    → n ≡ coordinate_count (get_or dims 2 e) → IsWithin p q s m n (tuple_count dims)
+all_within [] e p q s m n many h k l f g = absurd (omega arith)
+all_within (a ∷ []) e p q s m n many h k l f g = absurd (omega arith)
+all_within (a ∷ b ∷ []) e p q s m n many h k l f g = absurd (omega arith)
+all_within (a ∷ b ∷ c ∷ []) e p q s m n many h k l f g =
+    places_within a b c p q s m n (tuple_count (a ∷ b ∷ c ∷ [])) h k l f g refl
+all_within (a ∷ b ∷ c ∷ d ∷ dims) e p q s m n many h k l f g = absurd (omega arith)
+
+-- ---- tuples of three
+pub three_of : (t : List ℤ) → length t ≡ 3 → t ≡ get_or t 0 (pos 0) ∷ get_or t 1 (pos 0) ∷ get_or t 2 (pos 0) ∷ []
+three_of [] many = absurd (omega arith)
+three_of (x ∷ []) many = absurd (omega arith)
+three_of (x ∷ y ∷ []) many = absurd (omega arith)
+three_of (x ∷ y ∷ z ∷ []) many = refl
+three_of (x ∷ y ∷ z ∷ w ∷ t) many = absurd (omega arith)
+
+-- the place of a tuple, from its components as they are passed
+pub place_of_tuple : {r : Option ℕ} (storage : Region) (t : List ℤ) (x y z : ℤ) → length t ≡ 3
+    → x ≡ get_or t 0 (pos 0) → y ≡ get_or t 1 (pos 0) → z ≡ get_or t 2 (pos 0)
+    → r ≡ whole_place storage.dims x y z → r ≡ place_in storage t
+place_of_tuple storage t x y z many e f g told =
+    let whole : x ∷ y ∷ z ∷ [] ≡ t =
+    ap (λ u. u ∷ y ∷ z ∷ []) e ∙ (ap (λ u. get_or t 0 (pos 0) ∷ u ∷ z ∷ []) f
+    ∙ (ap (λ u. get_or t 0 (pos 0) ∷ get_or t 1 (pos 0) ∷ u ∷ []) g ∙ sym (three_of t many))) in
+    told ∙ ap (place_in storage) whole
+
+-- the value at a tuple stands at its place
+pub held_by_place : (a : Array) (t : List ℤ)
+    → held_value t a ≡ option_map (λ k. get_or a.values k (pos 0)) (place_in a.storage t)
+held_by_place a t = by_test (has_place a.storage t)
+  where
+    by_test : (b : Bool) → where_held b (cond b (get_or a.values (place_among a.storage.dims t) (pos 0)) (pos 0))
+        ≡ option_map (λ k. get_or a.values k (pos 0)) (where_held b (place_among a.storage.dims t))
+    by_test true = refl
+    by_test false = refl
+
+-- ---- a tuple moved past the ends
+and-none : (b : Bool) → (b && false) ≡ false
+and-none true = refl
+and-none false = refl
+
+-- a tuple of three has no place where there are not three dimensions
+none_one : (a : Dim) (x y z : ℤ) → whole_place (a ∷ []) x y z ≡ None
+none_one a x y z =
+    ap (λ h. where_held h (place_among (a ∷ []) (x ∷ y ∷ z ∷ []))) (has-first a x [] (y ∷ z ∷ []) ∙ and-none (has a x))
+
+none_two : (a b : Dim) (x y z : ℤ) → whole_place (a ∷ b ∷ []) x y z ≡ None
+none_two a b x y z =
+    ap (λ h. where_held h (place_among (a ∷ b ∷ []) (x ∷ y ∷ z ∷ [])))
+    (has-first a x (b ∷ []) (y ∷ z ∷ [])
+    ∙ (ap (λ h. has a x && h) (has-first b y [] (z ∷ []) ∙ and-none (has b y)) ∙ and-none (has a x)))
+
+none_more : (a b c d : Dim) (dims : List Dim) (x y z : ℤ) → whole_place (a ∷ b ∷ c ∷ d ∷ dims) x y z ≡ None
+none_more a b c d dims x y z =
+    ap (λ h. where_held h (place_among (a ∷ b ∷ c ∷ d ∷ dims) (x ∷ y ∷ z ∷ [])))
+    (has-first a x (b ∷ c ∷ d ∷ dims) (y ∷ z ∷ [])
+    ∙ (ap (λ h. has a x && h) (has-first b y (c ∷ d ∷ dims) (z ∷ [])
+    ∙ (ap (λ h. has b y && h) (has-first c z (d ∷ dims) [] ∙ and-none (has c z)) ∙ and-none (has b y)))
+    ∙ and-none (has a x)))
+
+saturated_place : (dims : List Dim) (x y z : ℤ) → All IsBoxed dims → All HasWideBounds dims
+    → whole_place dims (saturate_signed w64 x) (saturate_signed w64 y) (saturate_signed w64 z) ≡ whole_place dims x y z
+saturated_place [] x y z boxed wide = refl
+saturated_place (a ∷ []) x y z boxed wide =
+    none_one a (saturate_signed w64 x) (saturate_signed w64 y) (saturate_signed w64 z) ∙ sym (none_one a x y z)
+saturated_place (a ∷ b ∷ []) x y z boxed wide =
+    none_two a b (saturate_signed w64 x) (saturate_signed w64 y) (saturate_signed w64 z) ∙ sym (none_two a b x y z)
+saturated_place (a ∷ b ∷ c ∷ d ∷ dims) x y z boxed wide =
+    none_more a b c d dims (saturate_signed w64 x) (saturate_signed w64 y) (saturate_signed w64 z)
+    ∙ sym (none_more a b c d dims x y z)
+saturated_place (a ∷ b ∷ c ∷ []) x y z boxed wide =
+    let boxes = recursion_from_All IsBoxed (a ∷ b ∷ c ∷ []) boxed in
+    let wides = recursion_from_All HasWideBounds (a ∷ b ∷ c ∷ []) wide in
+    place_three-joined a b c (saturate_signed w64 x) (saturate_signed w64 y) (saturate_signed w64 z)
+    ∙ (ap (λ k. joined_places k (dim_place b (saturate_signed w64 y)) (dim_place c (saturate_signed w64 z)) (coordinate_count b) (coordinate_count c)) (dim_place-saturated a x boxes.0 wides.0)
+    ∙ (ap (λ k. joined_places (dim_place a x) k (dim_place c (saturate_signed w64 z)) (coordinate_count b) (coordinate_count c)) (dim_place-saturated b y boxes.1.0 wides.1.0)
+    ∙ (ap (λ k. joined_places (dim_place a x) (dim_place b y) k (coordinate_count b) (coordinate_count c)) (dim_place-saturated c z boxes.1.1.0 wides.1.1.0)
+    ∙ sym (place_three-joined a b c x y z))))
+
+-- the value at a moved tuple, whose components stop at the ends of their type
+pub held-saturated : {r : Option ℤ} (a : Array) (x y z : ℤ) (t : List ℤ) → All IsBoxed a.storage.dims
+    → All HasWideBounds a.storage.dims → t ≡ x ∷ y ∷ z ∷ []
+    → r ≡ held_value (saturate_signed w64 x ∷ saturate_signed w64 y ∷ saturate_signed w64 z ∷ []) a
+    → r ≡ held_value t a
+held-saturated a x y z t boxed wide is told =
+    told ∙ (held_by_place a (saturate_signed w64 x ∷ saturate_signed w64 y ∷ saturate_signed w64 z ∷ [])
+    ∙ (ap (option_map (λ k. get_or a.values k (pos 0))) (saturated_place a.storage.dims x y z boxed wide)
+    ∙ (sym (held_by_place a (x ∷ y ∷ z ∷ [])) ∙ ap (λ u. held_value u a) (sym is))))
+
+-- a tuple of three moved by a vector of three
+pub moved_three : (shift t : List ℤ) → length shift ≡ 3 → length t ≡ 3
+    → moved_by shift t ≡ (get_or t 0 (pos 0) +ℤ get_or shift 0 (pos 0)) ∷ (get_or t 1 (pos 0) +ℤ get_or shift 1 (pos 0)) ∷ (get_or t 2 (pos 0) +ℤ get_or shift 2 (pos 0)) ∷ []
+moved_three shift t many three =
+    ap (λ s. moved_by s t) (three_of shift many) ∙ ap (moved_by (get_or shift 0 (pos 0) ∷ get_or shift 1 (pos 0) ∷ get_or shift 2 (pos 0) ∷ [])) (three_of t three)
+
+pub moved_unmoved : (t : List ℤ) → length t ≡ 3 → moved_by unmoved t ≡ t
+moved_unmoved t three =
+    let zero_x : get_or t 0 (pos 0) +ℤ pos 0 ≡ get_or t 0 (pos 0) = omega (arith, ints) in
+    let zero_y : get_or t 1 (pos 0) +ℤ pos 0 ≡ get_or t 1 (pos 0) = omega (arith, ints) in
+    let zero_z : get_or t 2 (pos 0) +ℤ pos 0 ≡ get_or t 2 (pos 0) = omega (arith, ints) in
+    ap (moved_by unmoved) (three_of t three)
+    ∙ (ap (λ u. u ∷ (get_or t 1 (pos 0) +ℤ pos 0) ∷ (get_or t 2 (pos 0) +ℤ pos 0) ∷ []) zero_x
+    ∙ (ap (λ u. get_or t 0 (pos 0) ∷ u ∷ (get_or t 2 (pos 0) +ℤ pos 0) ∷ []) zero_y
+    ∙ (ap (λ u. get_or t 0 (pos 0) ∷ get_or t 1 (pos 0) ∷ u ∷ []) zero_z ∙ sym (three_of t three))))
+
+-- ---- tuples of the box
+-- a tuple of the box has a place, and 0 in each flood dimension
+moved_test : (c f h : Bool) → (c && (f && h)) ≡ (f && (c && h))
+moved_test true true h = refl
+moved_test true false h = refl
+moved_test false true h = refl
+moved_test false false h = refl
+
+joined_test : (c f h : Bool) → (c && (f && h)) ≡ ((c && f) && h)
+joined_test true f h = refl
+joined_test false f h = refl
+
+members_by_place : (dims : List Dim) (t : List ℤ) → are_coordinates dims t ≡ (is_flat dims t && each_has_place dims t)
+members_by_place [] [] = refl
+members_by_place [] (x ∷ t) = refl
+members_by_place (Range lo hi step align ∷ dims) [] = refl
+members_by_place (Flood ∷ dims) [] = refl
+members_by_place (Range lo hi step align ∷ dims) (x ∷ t) =
+    ap (λ u. is_coordinate (Range lo hi step align) x && u) (members_by_place dims t)
+    ∙ moved_test (is_coordinate (Range lo hi step align) x) (is_flat dims t) (each_has_place dims t)
+members_by_place (Flood ∷ dims) (x ∷ t) =
+    ap (λ u. int_eq x (pos 0) && u) (members_by_place dims t)
+    ∙ joined_test (int_eq x (pos 0)) (is_flat dims t) (each_has_place dims t)
+
+pub boxed_flat : {r : Option ℤ} (a : Array) (t : List ℤ) → is_flat a.storage.dims t ≡ true → r ≡ held_value t a
+    → r ≡ boxed_value t a
+boxed_flat a t flat told =
+    told ∙ ap (λ h. where_held h (element a t))
+    (sym (members_by_place a.storage.dims t ∙ ap (λ f. f && has_place a.storage t) flat))
+
+pub not_boxed : (a : Array) (t : List ℤ) → is_flat a.storage.dims t ≡ false → None ≡ boxed_value t a
+not_boxed a t flat =
+    sym (ap (λ h. where_held h (element a t))
+    (members_by_place a.storage.dims t ∙ ap (λ f. f && has_place a.storage t) flat))
+
+-- of three dimensions, by number
+pub flat_of_three : {r : Bool} (dims : List Dim) (e : Dim) (t : List ℤ) → length dims ≡ 3 → length t ≡ 3
+    → r ≡ (is_flat_coordinate (get_or dims 0 e) (get_or t 0 (pos 0))
+    && (is_flat_coordinate (get_or dims 1 e) (get_or t 1 (pos 0)) && is_flat_coordinate (get_or dims 2 e) (get_or t 2 (pos 0))))
+    → r ≡ is_flat dims t
+flat_of_three [] e t many three told = absurd (omega arith)
+flat_of_three (a ∷ []) e t many three told = absurd (omega arith)
+flat_of_three (a ∷ b ∷ []) e t many three told = absurd (omega arith)
+flat_of_three (a ∷ b ∷ c ∷ d ∷ dims) e t many three told = absurd (omega arith)
+flat_of_three (a ∷ b ∷ c ∷ []) e [] many three told = absurd (omega arith)
+flat_of_three (a ∷ b ∷ c ∷ []) e (x ∷ []) many three told = absurd (omega arith)
+flat_of_three (a ∷ b ∷ c ∷ []) e (x ∷ y ∷ []) many three told = absurd (omega arith)
+flat_of_three (a ∷ b ∷ c ∷ []) e (x ∷ y ∷ z ∷ w ∷ t) many three told = absurd (omega arith)
+flat_of_three (a ∷ b ∷ c ∷ []) e (x ∷ y ∷ z ∷ []) many three told =
+    told ∙ sym (first a x (b ∷ c ∷ []) (y ∷ z ∷ [])
+    ∙ ap (λ u. is_flat_coordinate a x && u) (first b y (c ∷ []) (z ∷ [])
+    ∙ ap (λ u. is_flat_coordinate b y && u) (first c z [] [] ∙ and-true (is_flat_coordinate c z))))
+  where
+    first : (d : Dim) (x : ℤ) (dims : List Dim) (t : List ℤ)
+        → is_flat (d ∷ dims) (x ∷ t) ≡ (is_flat_coordinate d x && is_flat dims t)
+    first (Range lo hi step align) x dims t = refl
+    first Flood x dims t = refl
+
+-- ---- zeros
+boxed_step : (d : Dim) → IsBoxed d → HasStep d
+boxed_step (Range lo hi step align) boxed = subst (λ s. pos 1 ≤ℤ s) (sym boxed.0) (omega (arith, ints))
+boxed_step Flood boxed = tt
+
+pub boxed_steps : (dims : List Dim) → All IsBoxed dims → All HasStep dims
+boxed_steps dims are = λ k e below. boxed_step (get_or dims k e) (are k e below)
+
+wide_of : (d : Dim) → IsDim d → HasWideBounds d
+wide_of (Range lo hi step align) is =
+    let low : IsUpTo 40 lo = is.1.0 in
+    let high : IsUpTo 40 hi = is.1.1 in
+    ((omega (arith, ints, low), omega (arith, ints, low)), (omega (arith, ints, high), omega (arith, ints, high)))
+wide_of Flood is = tt
+
+pub wide_bounds : (dims : List Dim) → All IsDim dims → All HasWideBounds dims
+wide_bounds dims are = λ k e below. wide_of (get_or dims k e) (are k e below)
+
+pub zeros_of : (storage : Region) → array_of storage (λ t. pos 0) ≡ record { storage = storage; values = replicate (length (members storage)) (pos 0) }
+zeros_of storage = ap (λ values. record { storage = storage; values = values }) (map-zeros (members storage))
+  where
+    map-zeros : (ts : List (List ℤ)) → map (λ t. pos 0) ts ≡ replicate (length ts) (pos 0)
+    map-zeros [] = refl
+    map-zeros (t ∷ ts) = ap (λ values. pos 0 ∷ values) (map-zeros ts)
+
+-- ---- for the code
+pub three_tests : {a b c a' b' c' : Bool} → a ≡ a' → b ≡ b' → c ≡ c' → (a && (b && c)) ≡ (a' && (b' && c'))
+three_tests {a} {b} {c} {a'} {b'} {c'} e f g =
+    ap (λ t. t && (b && c)) e ∙ (ap (λ t. a' && (t && c)) f ∙ ap (λ t. a' && (b' && t)) g)
+
+pub held_three : {r : Option ℤ} {a b c a' b' c' : ℤ} (s : Array) → r ≡ held_value (a ∷ b ∷ c ∷ []) s → a ≡ a' → b ≡ b' → c ≡ c'
+    → r ≡ held_value (a' ∷ b' ∷ c' ∷ []) s
+held_three {r} {a} {b} {c} {a'} {b'} {c'} s told e f g =
+    told ∙ (ap (λ u. held_value (u ∷ b ∷ c ∷ []) s) e ∙ (ap (λ u. held_value (a' ∷ u ∷ c ∷ []) s) f ∙ ap (λ u. held_value (a' ∷ b' ∷ u ∷ []) s) g))
+
+-- a store with a new value gets its old one back
+pub put_back : (stores : List Array) (array place : ℕ) (store new : Array) (old value : ℤ)
+    → slice_get stores array ≡ Some store → slice_get store.values place ≡ Some old
+    → new ≡ record store { values = set store.values place value }
+    → with_place (set stores array new) array place old (slice_get (set stores array new) array) ≡ stores
+put_back stores array place store new old value found was is =
+    let there : array < length stores = slice_get_within stores array store found in
+    let longer : array < length (set stores array new) = omega (arith, length-set {A = Array}) in
+    let written : slice_get (set stores array new) array ≡ Some new =
+    slice_get-get_or (set stores array new) array new longer ∙ ap Some (get_or-set_same stores array new new there) in
+    let values : set new.values place old ≡ store.values =
+    ap (λ (s : Array). set s.values place old) is
+    ∙ (set-set store.values place value old
+    ∙ (ap (λ v. set store.values place v) (sym (get_or_from_slice_get store.values place old old was)) ∙ set-get_or store.values place old)) in
+    let again : record new { values = set new.values place old } ≡ store =
+    ap (λ v. record new { values = v }) values ∙ ap (λ (s : Array). record { storage = s.storage; values = store.values }) is in
+    ap (with_place (set stores array new) array place old) written
+    ∙ (ap (λ s. set (set stores array new) array s) again
+    ∙ (set-set stores array new store
+    ∙ (ap (λ s. set stores array s) (sym (get_or_from_slice_get stores array store store found)) ∙ set-get_or stores array store)))

@@ -1,0 +1,234 @@
+//! The places of an array that a processor holds, with their values in one vector.
+ghost use Rattle.std.specs.Prelude.{◌≡◌, ◌<◌, ◌*◌, ◌+◌, ◌^◌, length, All, IfOk, IfSome, IsTrue};
+ghost use Rattle.std.specs.Prelude.{[], ◌∷◌, slice_get, slice_set, true};
+ghost use Rattle.zpl_region.specs.Ends.{coordinate_count, tuple_count};
+ghost use Rattle.zpl_region.specs.Hull.{IsBoxed};
+ghost use Rattle.zpl_arrays.specs.Array.{each_has_place, place_along, place_among};
+ghost use Rattle.grid_layout.specs.Layout.{HasWideBounds};
+ghost use Rattle.grid_meaning.specs.Place.{moved_by, where_held, held_value};
+ghost use Rattle.grid_meaning.specs.Room.{zeros_at};
+ghost use Rattle.node_local.specs.Reading.{boxed_value, is_flat, is_flat_coordinate};
+ghost use Rattle.node_local.specs.Store.{IsFlat, place_in};
+
+use grid_layout::size;
+use std::alloc::{AllocError, Global};
+use std::marker::Model;
+use zpl_region::{Dim, Region, Vec3};
+
+/// The greatest bound that a box may have, and the least one with the sign turned.
+const FARTHEST: i64 = 1 << 41;
+
+/// The places of an array that a processor holds, and their values in row-major order.
+///
+/// The places are a box: the value of a tuple is found by arithmetic on its bounds.
+#[derive(Debug, Drop)]
+pub(crate) struct FlatStore {
+    shape: Region,
+    values: Vec<i64>,
+}
+
+impl Model for FlatStore {
+    ghost use Rattle.zpl_arrays.specs.Array.{Array};
+
+    ghost Value = { Array };
+
+    ghost view = { λ store. record { storage = store.shape; values = store.values.items } };
+
+    ghost use Rattle.node_local.specs.Store.{IsFlat};
+
+    ghost invariant = { λ store. IsFlat store.shape store.values.items };
+}
+
+/// How many tuples a box has.
+fn tuples(dims: &[Dim; 3]) -> u128
+    requires boxed { All IsBoxed dims.now }
+    requires bounds { All HasWideBounds dims.now }
+    ensures { result ≡ tuple_count dims.now }
+{
+    let [planes, rows, columns] = *dims;
+    u128::from(size(planes)) * u128::from(size(rows)) * u128::from(size(columns))
+}
+
+/// Whether a dimension is one of a box, with bounds from -2^41 to 2^41.
+fn is_boxed(dim: Dim) -> bool
+    ensures { IsTrue result → IsBoxed dim × HasWideBounds dim }
+{
+    match dim {
+        Dim::Range {
+            lo,
+            hi,
+            step,
+            align,
+        } => {
+            step == 1
+                && align == lo
+                && -FARTHEST <= lo
+                && lo <= FARTHEST
+                && -FARTHEST <= hi
+                && hi <= FARTHEST
+        }
+        Dim::Flood => true,
+    }
+}
+
+/// Whether the region is a box.
+fn is_box(dims: &[Dim; 3]) -> bool
+    ensures boxed { IsTrue result → All IsBoxed dims.now }
+    ensures bounds { IsTrue result → All HasWideBounds dims.now }
+{
+    let [planes, rows, columns] = *dims;
+    is_boxed(planes) && is_boxed(rows) && is_boxed(columns)
+}
+
+/// The place of a coordinate among those of a dimension of a box; `None` where it has none. All
+/// coordinates have the one place of a flood dimension.
+fn place_along(dim: Dim, x: i64) -> Option<usize>
+    requires boxed { IsBoxed dim }
+    requires bounds { HasWideBounds dim }
+    ensures place { result ≡ where_held (each_has_place (dim ∷ []) (x ∷ [])) (place_along dim x) }
+    ensures below { IfSome result (λ place. place < coordinate_count dim) }
+{
+    match dim {
+        Dim::Range { lo, hi, .. } => {
+            if lo <= x && x <= hi {
+                Some(x.abs_diff(lo) as usize)
+            } else {
+                None
+            }
+        }
+        Dim::Flood => Some(0),
+    }
+}
+
+/// The place of a tuple in the row-major order of a box; `None` where it has none.
+fn place_among(dims: &[Dim; 3], x: i64, y: i64, z: i64) -> Option<usize>
+    requires boxed { All IsBoxed dims.now }
+    requires bounds { All HasWideBounds dims.now }
+    requires few { tuple_count dims.now < 2 ^ 64 }
+    ensures place { result ≡ where_held (each_has_place dims.now (x ∷ y ∷ z ∷ []))
+        (place_among dims.now (x ∷ y ∷ z ∷ [])) }
+    ensures below { IfSome result (λ place. place < tuple_count dims.now) }
+{
+    let [planes, rows, columns] = *dims;
+    let plane = place_along(planes, x)?;
+    let row = place_along(rows, y)?;
+    let column = place_along(columns, z)?;
+    Some((plane * size(rows) as usize + row) * size(columns) as usize + column)
+}
+
+/// Whether the coordinate is 0 where the dimension is flood.
+fn is_flat_coordinate(dim: Dim, x: i64) -> bool
+    ensures { result ≡ is_flat_coordinate dim x }
+{
+    match dim {
+        Dim::Range { .. } => true,
+        Dim::Flood => x == 0,
+    }
+}
+
+/// Whether a tuple has 0 in each flood dimension.
+fn is_flat(dims: &[Dim; 3], x: &Vec3) -> bool
+    ensures { result ≡ is_flat dims.now x.now }
+{
+    let [planes, rows, columns] = *dims;
+    let [a, b, c] = *x;
+    let plane = is_flat_coordinate(planes, a);
+    let row = is_flat_coordinate(rows, b);
+    let column = is_flat_coordinate(columns, c);
+    plane & (row & column)
+}
+
+impl FlatStore {
+    /// A store with 0 at each of these places.
+    pub(crate) fn zeros(alloc: Global, shape: Region) -> Result<FlatStore, AllocError>
+        requires boxed { All IsBoxed shape.dims }
+        requires bounds { All HasWideBounds shape.dims }
+        ensures { IfOk result (λ store. store ≡ zeros_at shape) }
+    {
+        let Ok(many) = usize::try_from(tuples(&shape.dims)) else {
+            return Err(AllocError);
+        };
+        Ok(FlatStore {
+            shape,
+            values: vec![in alloc; 0; many]?,
+        })
+    }
+
+    /// The store of these places, with these values in row-major order; `None` where the places are
+    /// no box, or there isn't a value for each.
+    pub(crate) fn of(shape: Region, values: Vec<i64>) -> Option<FlatStore>
+        ensures { IfSome result (λ store.
+            store ≡ record { storage = shape; values = values.items }) }
+    {
+        if is_box(&shape.dims) && tuples(&shape.dims) == values.len() as u128 {
+            Some(FlatStore { shape, values })
+        } else {
+            None
+        }
+    }
+
+    /// The places.
+    pub(crate) fn shape(&self) -> Region
+        ensures { result ≡ self.now.storage }
+    {
+        self.shape
+    }
+
+    /// Where the value of a tuple stands; `None` where it has no place.
+    pub(crate) fn place(&self, index: &Vec3) -> Option<usize>
+        ensures place { result ≡ place_in self.now.storage index.now }
+        ensures below { IfSome result (λ place. place < length self.now.values) }
+    {
+        let _values = &self.values;
+        let [x, y, z] = *index;
+        place_among(&self.shape.dims, x, y, z)
+    }
+
+    /// The value at a tuple; `None` where it has no place.
+    pub(crate) fn value_at(&self, index: &Vec3) -> Option<i64>
+        ensures { result ≡ held_value index.now self.now }
+    {
+        let place = self.place(index)?;
+        Some(self.values[place])
+    }
+
+    /// The value at a tuple moved by a vector; `None` where it has no place. A coordinate past the
+    /// ends of its type has no place, and the end of the type has none either.
+    pub(crate) fn value_beside(&self, index: &Vec3, shift: Vec3) -> Option<i64>
+        ensures { result ≡ held_value (moved_by shift index.now) self.now }
+    {
+        let [x, y, z] = *index;
+        let [a, b, c] = shift;
+        let _shape = &self.shape;
+        let moved = [
+            x.saturating_add(a),
+            y.saturating_add(b),
+            z.saturating_add(c),
+        ];
+        self.value_at(&moved)
+    }
+
+    /// The value at a tuple of the box; `None` where the tuple isn't one.
+    pub(crate) fn boxed_value(&self, x: &Vec3) -> Option<i64>
+        ensures { result ≡ boxed_value x.now self.now }
+    {
+        if is_flat(&self.shape.dims, x) {
+            self.value_at(x)
+        } else {
+            None
+        }
+    }
+
+    /// Puts a value at a place of the row, and gives the one that was there.
+    pub(crate) fn replace(&mut self, place: usize, value: i64) -> i64
+        requires { place < length self.old.values }
+        ensures old { slice_get self.old.values place ≡ Some result }
+        ensures new { self.new ≡ record self.old {
+          values = slice_set self.old.values place value;
+        } }
+    {
+        let old = self.values[place];
+        self.values[place] = value;
+        old
+    }
+}
