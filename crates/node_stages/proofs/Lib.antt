@@ -1,3 +1,4 @@
+pub mod OwnLemmas
 pub mod PartnerLemmas
 pub mod PieceLemmas
 pub mod StageLemmas

@@ -2,6 +2,9 @@
 use Rattle.std.proofs.Common.{◌≡◌, ℕ, zero, suc, ◌+◌, ◌<◌, ◌≤◌, ◌==◌, ◌&&◌, not, Bool, true, false, cond, nat_lt, get_or, List, [], ◌∷◌, ◌++◌, length, map, refl, ap, ◌∙◌, subst, sym, arith, length-append}
 use Rattle.std.specs.Prelude.{Option, Some, None, filter, slice_get}
 use Rattle.std.specs.List.{range_with_len}
+use Rattle.std.proofs.Math.ListN.{set}
+use Rattle.std.proofs.Common.{◌≢◌, below_more, get_or-set_other, get_or-set_same}
+use Rattle.std.proofs.lemmas.Bool.Decides.{nat_tests}
 use Rattle.node_stages.specs.Partners.{flagged}
 
 -- ---- one processor more
@@ -100,3 +103,26 @@ pub flagged-clear : (flags : List Bool) (q : ℕ) → get_or flags q false ≡ f
 flagged-clear flags q is =
     let none : length (flagged flags q) + 0 ≡ length (flagged flags q) = omega arith in
     flagged-more flags q ∙ (ap (λ b. length (flagged flags q) + cond b 1 0) is ∙ none)
+
+-- ---- one flag more
+pub flags_step : (flags : List Bool) (q : ℕ) (flag : Bool) (test : ℕ → Bool) → q < length flags
+    → ((k : ℕ) → k < q → get_or flags k false ≡ test k) → flag ≡ test q
+    → (k : ℕ) → k < q + 1 → get_or (set flags q flag) k false ≡ test k
+flags_step flags q flag test within before is =
+    below_more _ q (λ k low. get_or-set_other flags q k flag false (omega arith) ∙ before k low)
+    (get_or-set_same flags q flag false within ∙ is)
+
+pub apart_and : (q p : ℕ) (b : Bool) → q ≢ p → b ≡ (not (q == p) && b)
+apart_and q p b apart =
+    let no : (q == p) ≡ false = grind (arith, nat_tests) in
+    sym (ap (λ same. not same && b) no)
+
+pub same_and : (q p : ℕ) (b : Bool) → q ≡ p → false ≡ (not (q == p) && b)
+same_and q p b same =
+    let yes_same : (q == p) ≡ true = grind (arith, nat_tests) in
+    sym (ap (λ one. not one && b) yes_same)
+
+pub same_not : (q p : ℕ) (b : Bool) → q ≡ p → not (q == p) ≡ (not (q == p) && b)
+same_not q p b same =
+    let one : (q == p) ≡ true = grind (arith, nat_tests) in
+    ap not one ∙ sym (ap (λ t. not t && b) one)

@@ -1,5 +1,5 @@
 pub mod Kin
-pub mod Place
 pub mod Partners
+pub mod Place
 pub mod Slots
 pub mod Stage

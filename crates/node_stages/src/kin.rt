@@ -77,6 +77,13 @@ impl Kin {
         }
     }
 
+    /// The parent: none of processor 0.
+    pub fn parent(&self) -> Option<u32>
+        ensures { result ≡ self.now.parent }
+    {
+        self.parent
+    }
+
     /// What the processor does when it has made so many turns of the row.
     pub fn stage(&self, made: u64) -> Stage
         requires { made < length (agreeing_stages self.now) }

@@ -7,11 +7,13 @@
 
 mod boxes;
 mod exchanges;
+mod gathers;
 mod kin;
 mod partners;
 mod stages;
 
 pub use boxes::box_number;
 pub use exchanges::{finish_stage, item_piece, start_stage};
+pub use gathers::{gather_stage, own_tuples};
 pub use kin::Kin;
 pub use stages::Stage;
