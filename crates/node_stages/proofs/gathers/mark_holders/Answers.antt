@@ -26,6 +26,6 @@ loop-q-preserved c =
     flags_step c.loop-q.flags c.loop-q.q c.if-q-p.flags (λ k. not (k == c.args.p) && nat_lt 0 (length (tuples_of c.args.code.now k c.args.region.now)))
     (omega arith) c.loop-q.invariant
     (elim c.if-q-p.branch [
-      then-q-p w ↦ w.flags-is ∙ (w.has_tuples.ensures ∙ apart_and c.loop-q.q c.args.p _ w.if-q-p.true)
-    | else-q-p w ↦ w.flags-is ∙ same_not c.loop-q.q c.args.p _ w.if-q-p.false
+      | then-q-p w ↦ w.flags-is ∙ (w.has_tuples.ensures ∙ apart_and c.loop-q.q c.args.p _ w.if-q-p.true)
+      | else-q-p w ↦ w.flags-is ∙ same_not c.loop-q.q c.args.p _ w.if-q-p.false
     ])
