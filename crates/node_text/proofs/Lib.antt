@@ -1,2 +1,2 @@
-mod Examples
-pub mod Rests
+pub mod Read
+pub mod Shorter

@@ -1,3 +1,1 @@
-pub mod Fields
 pub mod Listing
-pub mod Rows

@@ -1,33 +1,35 @@
--- The listing of a program.
-use Rattle.std.specs.Prelude.{ℕ, List, [], ◌∷◌, ◌++◌, map}
-use Rattle.std.specs.List.{flat_map}
+-- Bytes that are the listing of a program, and why others aren't one.
+use Rattle.std.specs.Prelude.{◌≡◌, ℕ, List}
 use Rattle.node_form.specs.declared.tables.Tables.{Tables}
-use Rattle.node_form.specs.Grid.{factors_of}
-use Rattle.listing_lines.specs.declared.keywords.Keyword.TheVariants as key
+use Rattle.node_form.specs.Fits.{Fits}
 use Rattle.listing_lines.specs.declared.lines.Line.{Line}
-use Rattle.listing_lines.specs.Line.{lines_text}
-use Rattle.node_text.specs.declared.fields.Said.TheVariants.{Number}
-use Rattle.node_text.specs.Rows.{line_of, array_line, text_line, expr_line, group_lines, exchange_lines, instr_line}
+use Rattle.listing_lines.specs.Listing.{AreLines, IsBadLine}
+use Rattle.listing_rows.specs.Listing.{listing_of}
+use Rattle.listing_rules.specs.declared.faults.ListFault.{ListFault}
+use Rattle.listing_rules.specs.declared.faults.ListFault.TheVariants.{BadLine, BadTable, NoMemory}
+use Rattle.listing_rules.specs.Reads.{IsNumber}
+use Rattle.listing_rules.specs.Room.{HasRoom}
+use Rattle.listing_rules.specs.Stages.{AreTables, Breaks}
 
--- the lines that each listing begins with
-abbrev pub head_lines : Tables → List Line
-head_lines tables =
-    line_of key.Version (Number 1 ∷ []) ∷ line_of key.Grid (map Number (factors_of tables.grid))
-    ∷ line_of key.Scalars (Number tables.scalars ∷ []) ∷ line_of key.Slots (map Number tables.slots)
-    ∷ line_of key.Cells (Number tables.cells ∷ []) ∷ []
+-- The bytes are lines that tell the tables: what these are written as. They fit, and have room.
+pub record IsListing (bytes : List ℕ) (tables : Tables) : Type 0 where
+  pub lines : List Line
+  pub are : AreLines bytes lines
+  pub rows : AreTables lines tables
+  pub written : bytes ≡ listing_of tables
+  pub fits : Fits tables
+  pub room : HasRoom tables
 
--- the rows that aren't instructions
-abbrev pub body_lines : Tables → List Line
-body_lines tables =
-    map array_line tables.arrays ++ (map text_line tables.texts ++ (map (expr_line tables) tables.exprs
-    ++ (flat_map group_lines tables.groups ++ flat_map (exchange_lines tables) tables.exchanges)))
+-- All lines have their forms, and the line with this number is the first that breaks a rule of
+-- tables.
+pub record IsBadTable (bytes : List ℕ) (number : ℕ) : Type 0 where
+  pub lines : List Line
+  pub are : AreLines bytes lines
+  pub left : List Line
+  pub breaks : Breaks lines left
+  pub counted : IsNumber lines left number
 
-abbrev pub code_lines : Tables → List Line
-code_lines tables = line_of key.Code [] ∷ map (instr_line tables) tables.code
-
-unfoldable pub lines_of : Tables → List Line
-lines_of tables = head_lines tables ++ (body_lines tables ++ code_lines tables)
-
--- the bytes of the listing
-unfoldable pub listing_of : Tables → List ℕ
-listing_of tables = lines_text (lines_of tables)
+abbrev pub Explains : List ℕ → ListFault → Type 0
+Explains bytes (BadLine number) = IsBadLine bytes number
+Explains bytes (BadTable number) = IsBadTable bytes number
+Explains bytes NoMemory = Unit {0}

@@ -1,11 +1,10 @@
-//! The listing of a node program: what a program's tables are written as.
-//!
-//! Each row becomes a line, a keyword with its fields, and `listing_lines` writes it.
+//! The listing of a node program: written, and read again.
 #![tactic(auto)]
 
-mod fields;
-mod instructions;
+mod laws;
 mod listings;
-mod rows;
 
-pub use listings::write_listing;
+pub use laws::{bytes_have_one_program, what_is_read_is_written_back};
+pub use listing_rows::write_listing;
+pub use listing_rules::ListFault;
+pub use listings::read_listing;

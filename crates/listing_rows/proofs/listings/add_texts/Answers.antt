@@ -1,0 +1,11 @@
+use Rattle.std.proofs.Common.{◌≡◌, ◌++◌, [], ◌∷◌, Some, rules}
+use Rattle.std.specs.Prelude.{slice_get}
+use Rattle.listing_rows.specs.Rows.{text_line}
+use Rattle.listing_rows.proofs.Rests.{pushed}
+use Rattle.listing_rows.proofs.listings.add_texts.Goals as goal
+
+pub loop-i-preserved : goal.loop-i-preserved
+loop-i-preserved c =
+    let here : slice_get c.args.tables.now.texts c.loop-i.i ≡ Some c.unwrap-row.result.now = search rules in
+    let grown : c.push.new.self.items ≡ c.loop-i.lines.items ++ text_line c.unwrap-row.result.now ∷ [] = search rules in
+    pushed text_line c.args.tables.now.texts c.loop-i.i c.unwrap-row.result.now c.loop-i.lines.items c.push.new.self.items _ here grown c.loop-i.invariant

@@ -1,0 +1,11 @@
+pub mod BlocksLemmas
+pub mod FactsLemmas
+pub mod GridLemmas
+pub mod GroupLemmas
+pub mod OneTables
+pub mod OneWay
+pub mod ReadsLemmas
+pub mod RoomLemmas
+pub mod SameLemmas
+pub mod Sound
+pub mod TablesLemmas

@@ -1,0 +1,16 @@
+use Rattle.std.proofs.Common.{◌≤◌, List, length, drop}
+use Rattle.node_form.specs.declared.arrays.Item.{Item}
+use Rattle.listing_rules.specs.declared.parts.Part.TheVariants as part
+use Rattle.listing_rules.specs.Rules.{belongs, IsItemLine}
+use Rattle.listing_rules.proofs.ReadsLemmas.{Going}
+use Rattle.listing_rules.proofs.reads.read_items.Given as goal
+
+abbrev pub invariant-loop-line : goal.invariant-loop-line
+invariant-loop-line l = record {
+  going : Going (belongs part.Items) (λ (done : List Item). IsItemLine l.known.tables) (drop l.fn.from l.lines) l.rows.items (drop l.at l.lines);
+  inside : l.at ≤ length l.lines;
+  on : l.fn.from ≤ l.at;
+}
+
+abbrev pub decreases-loop-line : goal.decreases-loop-line
+decreases-loop-line l = length (drop l.at l.lines)

@@ -1,0 +1,13 @@
+-- There are fewer lines than bytes.
+use Rattle.std.proofs.Common.{◌*◌, ◌≤◌, List, [], ◌∷◌, length, arith}
+use Rattle.listing_lines.specs.declared.lines.Line.{Line}
+use Rattle.listing_lines.specs.Line.{line_text, lines_text}
+use Rattle.listing_lines.proofs.Steps.{length_more}
+use Rattle.std.proofs.lemmas.List.{append_assoc}
+
+pub lines_shorter : (lines : List Line) → 2 * length lines ≤ length (lines_text lines)
+lines_shorter [] = omega arith
+lines_shorter (line ∷ lines) =
+    let more = length_more (lines_text (line ∷ lines)) (lines_text lines) line (append_assoc (line_text line) (10 ∷ []) (lines_text lines)) in
+    let others = lines_shorter lines in
+    omega (arith, more, others)

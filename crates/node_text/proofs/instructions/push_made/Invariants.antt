@@ -1,8 +1,0 @@
-use Rattle.std.proofs.Common.{◌≡◌, ◌++◌, drop, map}
-use Rattle.node_text.specs.declared.fields.Said.TheVariants.{Made}
-use Rattle.node_text.specs.Fields.{fields_of}
-use Rattle.node_text.proofs.instructions.push_made.Given as goal
-
-abbrev pub invariant-loop-part : goal.invariant-loop-part
-invariant-loop-part l =
-    l.fields.items ++ fields_of (map Made (drop l.part-index l.parts)) ≡ l.initial.fields.items ++ fields_of (map Made l.parts)

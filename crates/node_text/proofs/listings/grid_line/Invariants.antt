@@ -1,9 +1,0 @@
-use Rattle.std.proofs.Common.{◌≡◌, ◌++◌, drop, map}
-use Rattle.node_form.specs.Grid.{factors_of}
-use Rattle.node_text.specs.declared.fields.Said.TheVariants.{Number}
-use Rattle.node_text.specs.Fields.{fields_of}
-use Rattle.node_text.proofs.listings.grid_line.Given as goal
-
-abbrev pub invariant-loop-factor : goal.invariant-loop-factor
-invariant-loop-factor l =
-    l.fields.items ++ fields_of (map Number (factors_of (drop l.factor-index l.grid))) ≡ fields_of (map Number (factors_of l.grid))
