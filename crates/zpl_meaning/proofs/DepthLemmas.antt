@@ -75,7 +75,7 @@ SameCalls one other text =
     (called : Called) (store : Store) → called.name ≡ text
     → one called store ≡ other called store
 
-same_with_value : {A : Type 0} (computed : Computed A) (store : Store) (line : ℕ)
+pub same_with_value : {A : Type 0} (computed : Computed A) (store : Store) (line : ℕ)
     (f g : A → Outcome) → ((value : A) → f value ≡ g value)
     → with_value computed store line f ≡ with_value computed store line g
 same_with_value (Gives value) store line f g h = h value

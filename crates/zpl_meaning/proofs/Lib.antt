@@ -13,3 +13,4 @@ pub mod StatementLemmas
 pub mod NamesLemmas
 pub mod VisitLemmas
 pub mod GivenLemmas
+pub mod CallLemmas

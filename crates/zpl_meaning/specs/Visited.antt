@@ -99,3 +99,10 @@ first_setup program settings =
     let known = known_of program settings in
     let borders = borders_of program in
     setup_of program known borders (first_frame program known borders)
+
+-- the procedure that is called is visited, wherever its body is run
+abbrev pub IsVisitedCall : Setup → Called → Type 0
+IsVisitedCall setup called =
+    (routine : Routine) (store : Store) →
+    routine_named setup.program called.name ≡ Some routine →
+    IsVisited setup (body_place setup routine called store) routine.procedure.body

@@ -11,7 +11,7 @@ ghost use Rattle.zpl_names.specs.Accepted.{IsFaultless};
 ghost use Rattle.zpl_binding.specs.Settings.{Setting};
 ghost use Rattle.zpl_names.specs.Sites.{Role};
 ghost use Rattle.zpl_meaning.specs.Store.{Store};
-ghost use Rattle.zpl_meaning.specs.Context.{Place};
+ghost use Rattle.zpl_meaning.specs.Context.{Place, Setup};
 ghost use Rattle.zpl_meaning.specs.Value.{value_of};
 ghost use Rattle.zpl_meaning.specs.Settled.{Placed};
 ghost use Rattle.zpl_meaning.specs.Phases.{scalar_in, scalars_in};
@@ -39,7 +39,7 @@ ghost use Rattle.zpl_binding.specs.Storages.{arrays_of, borders_of, home_of, Sha
 ghost use Rattle.zpl_binding.specs.Bound.{IsAcceptedWith, vectors_in};
 ghost use Rattle.zpl_tree.specs.Grammar.{IsProgram};
 ghost use Rattle.zpl_meaning.specs.Proper.{IsProperStmt};
-ghost use Rattle.zpl_meaning.specs.Visited.{first_setup, IsVisited};
+ghost use Rattle.zpl_meaning.specs.Visited.{first_setup, IsVisited, IsVisitedCall};
 
 use zpl_binding::accepted_settings_bind;
 use zpl_names::{
@@ -192,3 +192,14 @@ pub fn what_is_computed_has_a_value()
 {
     accepted_settings_bind();
 }
+
+/// A visited statement makes no call but visited ones: what another call would do makes no
+/// difference to it.
+pub fn visited_statements_make_visited_calls()
+    ensures { (setup : Setup) (n : ℕ) (one other : Called → Store → Outcome) →
+        ((called : Called) (store : Store) → IsVisitedCall setup called →
+        one called store ≡ other called store) →
+        (place : Place) (stmt : Stmt) → IsVisited setup place stmt → (store : Store) →
+        exec (record { place = place; call = one }) n stmt store ≡
+        exec (record { place = place; call = other }) n stmt store }
+{}

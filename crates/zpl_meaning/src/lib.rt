@@ -10,5 +10,6 @@ mod laws;
 
 pub use laws::{
     endings_stay, loops_alone_want_more, meaning_grows, no_call_is_cut_off, no_stand_in_is_met,
-    scalars_have_their_values, traps_leave_nothing_behind, what_is_computed_has_a_value,
+    scalars_have_their_values, traps_leave_nothing_behind, visited_statements_make_visited_calls,
+    what_is_computed_has_a_value,
 };
