@@ -46,7 +46,7 @@ use Rattle.zpl_meaning.specs.Context.{Over, Currents, Place}
 use Rattle.zpl_meaning.specs.Regions.{edge_in, under_prefix}
 use Rattle.zpl_meaning.specs.Points.{assigned_expr}
 use Rattle.zpl_meaning.specs.Calls.{actual_thing}
-use Rattle.zpl_meaning.specs.Proper.{IsVariable, IsArray, HasCurrent, IsUnderCurrent, IsRead}
+use Rattle.zpl_meaning.specs.Proper.{IsProperScalar, IsVariable, IsArray, HasCurrent, IsUnderCurrent, IsRead}
 use Rattle.zpl_meaning.specs.Proper.{IsProper, IsProperWhole, IsProperMask, IsArrayRank}
 use Rattle.zpl_meaning.specs.Proper.{IsProperPrefix, IsTarget, IsPlainAssign, IsProperActual}
 use Rattle.zpl_meaning.specs.Proper.{AreProperActuals, IsProperCall, IsProperAssign, IsPoint}
@@ -60,7 +60,7 @@ use Rattle.zpl_meaning.proofs.ProperLemmas.{IsClean, Clean, not_false, taken, Is
 use Rattle.zpl_meaning.proofs.ProperLemmas.{has_current, covers_over, Fits, reach_at}
 use Rattle.zpl_meaning.proofs.ProperLemmas.{RankLaws, array_rank_is, above_zero, both_zero}
 use Rattle.zpl_meaning.proofs.ProperLemmas.{none_is_not, or_false, read_array, read_of, fixed_read}
-use Rattle.zpl_meaning.proofs.ProperLemmas.{variable_read, region_rank, whole_suits, proper}
+use Rattle.zpl_meaning.proofs.ProperLemmas.{variable_read, zero_rank, region_rank, whole_suits, proper}
 use Rattle.zpl_meaning.proofs.ProperLemmas.{region_proper}
 
 -- ---- ranks
@@ -227,6 +227,25 @@ scalar_value_read currents rank (Some (kind.Procedure signature)) thing h e z ot
     absurd (true≢false (sym e))
 scalar_value_read currents rank None thing h e z other = absurd (true≢false (sym e))
 
+-- the rank of such a name
+scalar_value_rank : (kind : Option Kind) (thing : Option Thing) → IsNamed kind thing
+    → is_value kind ≡ true → is_above_zero (first_rank (value_rank kind) (Some 0)) ≡ false
+    → first_rank (value_rank kind) (Some 0) ≡ Some 0
+scalar_value_rank (Some (kind.Config base)) thing h e z = refl
+scalar_value_rank (Some (kind.Constant base)) thing h e z = refl
+scalar_value_rank (Some (kind.Scalar base)) thing h e z = refl
+scalar_value_rank (Some (kind.Array base shape)) thing h e z = by (option_map length shape) h.1 z
+  where
+    by : (r : Rank) → IsArrayRank r → is_above_zero (first_rank r (Some 0)) ≡ false
+        → first_rank r (Some 0) ≡ Some 0
+    by (Some (suc n)) p z = absurd (true≢false z)
+    by (Some zero) p z = absurd p
+    by None p z = absurd p
+scalar_value_rank (Some (kind.Region shape)) thing h e z = absurd (true≢false (sym e))
+scalar_value_rank (Some (kind.Direction r)) thing h e z = absurd (true≢false (sym e))
+scalar_value_rank (Some (kind.Procedure signature)) thing h e z = absurd (true≢false (sym e))
+scalar_value_rank None thing h e z = absurd (true≢false (sym e))
+
 and_false : (a b : Bool) → a ≡ true → a && b ≡ false → b ≡ false
 and_false true b h e = e
 and_false false b h e = absurd (true≢false (sym h))
@@ -275,10 +294,13 @@ module _ (laws : RankLaws) where
       (rank_of place.scope place.prefix place.prefix expr) expr)
       → IsExpr expr_level expr
       → is_above_zero (rank_of place.scope place.prefix place.prefix expr) ≡ false
-      → IsProper place (rank_of place.scope place.prefix place.prefix expr) expr
-  scalar_proper place shapes shattered result expr fits known sites g e =
-      whole_proper place shapes shattered result place.prefix expr fits fits.prefix known sites g
-      (none_asked (rank_of place.scope place.prefix place.prefix expr) e)
+      → (rank_of place.scope place.prefix place.prefix expr ≡ Some 0)
+      × IsProper place (rank_of place.scope place.prefix place.prefix expr) expr
+  scalar_proper place shapes shattered result expr fits known sites g e = (
+    sym (zero_rank (rank_of place.scope place.prefix place.prefix expr) known e),
+    whole_proper place shapes shattered result place.prefix expr fits fits.prefix known sites g
+        (none_asked (rank_of place.scope place.prefix place.prefix expr) e),
+  )
 
   module _ (place : Place) (shapes : Shapes) (shattered : Rank) (result : Option Base)
       (fits : Fits place shapes) where
@@ -286,7 +308,7 @@ module _ (laws : RankLaws) where
     reach = reach_at place shapes shattered result
 
     limit_proper : (expr : Expr) → Clean (whole_sites reach Limit expr) → IsExpr expr_level expr
-        → IsProperWhole place Limit expr
+        → IsProperScalar place Limit expr
     limit_proper expr h g =
         scalar_proper place shapes shattered result expr fits h.0.ranked h.1 g
         (no_place (is_above_zero (rank_of place.scope place.prefix place.prefix expr)) _
@@ -294,7 +316,7 @@ module _ (laws : RankLaws) where
 
     return_proper : (base : Option Base) (expr : Expr)
         → Clean (whole_sites reach (Result base) expr) → IsExpr expr_level expr
-        → IsProperWhole place (Result None) expr
+        → IsProperScalar place (Result None) expr
     return_proper base expr h g =
         scalar_proper place shapes shattered result expr fits h.0.ranked h.1 g
         (no_place (is_above_zero (rank_of place.scope place.prefix place.prefix expr)) _
@@ -302,7 +324,7 @@ module _ (laws : RankLaws) where
 
     test_proper : (expr : Expr) → Clean (whole_sites reach TestRole expr)
         → IsExpr expr_level expr → is_above_zero (test_rank reach expr) ≡ false
-        → IsProperWhole place TestRole expr
+        → IsProperScalar place TestRole expr
     test_proper expr h g e =
         scalar_proper place shapes shattered result expr fits h.0.ranked h.1 g e
 
@@ -491,17 +513,20 @@ module _ (laws : RankLaws) where
     scalar_other : (actual : Expr)
         → is_above_zero (rank_of place.scope place.prefix place.prefix actual) ≡ false
         → Clean (whole_sites reach Actual actual) → IsExpr expr_level actual
-        → IsProperWhole place Actual actual
+        → IsProperScalar place Actual actual
     scalar_other actual e h g =
         scalar_proper place shapes shattered result actual fits h.0.ranked h.1 g e
 
     value_proper : (actual : Expr)
         → is_above_zero (rank_of place.scope place.prefix place.prefix actual) ≡ false
-        → IsActual actual → IsExpr expr_level actual → IsProperWhole place Actual actual
-    value_proper (Named at name) e h g =
-        scalar_value_read place.currents _ (kind_of place.scope name)
-        (thing_of place.environment name.text) (fits.names name)
-        (taken reach is_value name h.none.known) e _
+        → IsActual actual → IsExpr expr_level actual → IsProperScalar place Actual actual
+    value_proper (Named at name) e h g = (
+      scalar_value_rank (kind_of place.scope name) (thing_of place.environment name.text)
+          (fits.names name) (taken reach is_value name h.none.known) e,
+      scalar_value_read place.currents _ (kind_of place.scope name)
+          (thing_of place.environment name.text) (fits.names name)
+          (taken reach is_value name h.none.known) e _,
+    )
     value_proper (Number at value) e h g = scalar_other (Number at value) e h g
     value_proper (Truth at value) e h g = scalar_other (Truth at value) e h g
     value_proper (Coord at k) e h g = scalar_other (Coord at k) e h g
@@ -1191,8 +1216,8 @@ module _ (laws : RankLaws) where
   step_proper : (place : Place) (shapes : Shapes) (shattered : Rank) (result : Option Base)
       → Fits place shapes → (step : Option Expr)
       → Clean (step_sites (reach_at place shapes shattered result) step) → IsStep step
-      → IsProperWhole place Limit (step_expr step)
-  step_proper place shapes shattered result fits None h g = tt
+      → IsProperScalar place Limit (step_expr step)
+  step_proper place shapes shattered result fits None h g = (refl, tt)
   step_proper place shapes shattered result fits (Some step) h g =
       limit_proper place shapes shattered result fits step h g
 

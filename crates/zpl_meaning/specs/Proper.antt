@@ -173,6 +173,11 @@ abbrev mutual
 abbrev pub IsProperWhole : Place → Role → Expr → Type 0
 IsProperWhole place role expr = IsProper place (rank_in place role expr) expr
 
+-- where a scalar is taken: its rank is 0
+abbrev pub IsProperScalar : Place → Role → Expr → Type 0
+IsProperScalar place role expr =
+    (rank_in place role expr ≡ Some 0) × IsProperWhole place role expr
+
 -- ---- prefixes
 
 abbrev pub IsProperMask : Environment → Option MaskText → Type 0
@@ -210,7 +215,7 @@ IsPlainAssign place name op value =
 
 -- what a parameter takes: a value, a variable, or an array
 abbrev pub IsProperActual : Place → Formal → Expr → Type 0
-IsProperActual place (ScalarFormal false base) actual = IsProperWhole place Actual actual
+IsProperActual place (ScalarFormal false base) actual = IsProperScalar place Actual actual
 IsProperActual place (ScalarFormal true base) actual =
     IsVariable (actual_thing place.environment actual)
 IsProperActual place (ArrayFormal by_ref base shape) actual =
@@ -288,13 +293,13 @@ abbrev mutual
 abbrev pub AreProperTests : Place → Arms → Type 0
 AreProperTests place NoArm = Unit {0}
 AreProperTests place (ThenArm (Tested at test body) rest) =
-    IsProperWhole place Test test × AreProperTests place rest
+    IsProperScalar place Test test × AreProperTests place rest
 
 -- what tests of rank 0 ask for; the other statements in it are asked by themselves
 abbrev pub HasProperTests : Place → Form → Type 0
 HasProperTests place (If arms otherwise) = AreProperTests place arms
-HasProperTests place (While test body) = IsProperWhole place Test test
-HasProperTests place (Repeat body until test) = IsProperWhole place Test test
+HasProperTests place (While test body) = IsProperScalar place Test test
+HasProperTests place (Repeat body until test) = IsProperScalar place Test test
 HasProperTests place form = Unit {0}
 
 -- a statement with tests, which is shattered or not
@@ -331,12 +336,12 @@ IsProperForm place (Repeat body until test) =
     (Repeat body until test)
 IsProperForm place (For head body) =
     IsVariable (thing_of place.environment head.name.text)
-    × IsProperWhole place Limit head.first × IsProperWhole place Limit head.last
-    × IsProperWhole place Limit (step_expr head.step)
+    × IsProperScalar place Limit head.first × IsProperScalar place Limit head.last
+    × IsProperScalar place Limit (step_expr head.step)
 IsProperForm place (Border kind names) =
     IsSome place.edge × AreArrays place.environment names
 IsProperForm place (Write line items) = AreProperItems place items
-IsProperForm place (Return value) = IsProperWhole place (Result None) value
+IsProperForm place (Return value) = IsProperScalar place (Result None) value
 
 -- its prefixes, each under those before it, and what stands behind them
 abbrev pub IsProperUnder : Place → List Prefix → Form → Type 0
