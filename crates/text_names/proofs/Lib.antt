@@ -1,0 +1,5 @@
+pub mod DeclareLemmas
+pub mod FoundLemmas
+pub mod HeadLemmas
+pub mod StopLemmas
+pub mod TextLemmas

@@ -1,0 +1,5 @@
+pub mod Declares
+pub mod Found
+pub mod Heads
+pub mod Stops
+pub mod Text
