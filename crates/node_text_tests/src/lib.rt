@@ -6,8 +6,4 @@ mod parts;
 #[cfg(test)]
 mod programs;
 #[cfg(test)]
-mod reading;
-#[cfg(test)]
 mod rows;
-#[cfg(test)]
-mod rules;
