@@ -1,0 +1,22 @@
+//! Programs without faults.
+ghost use Rattle.std.specs.Prelude.{◌≡◌};
+ghost use Rattle.std.specs.Coded.{Coded-set};
+ghost use Rattle.std.proofs.Props.{props};
+ghost use Rattle.zpl_tree.specs.View.{syntax_of};
+ghost use Rattle.zpl_names.specs.Accepted.{IsFaultless};
+ghost use Rattle.rank_types.specs.Symbols.{symbols_of};
+
+use crate::symbols::Symbols;
+use zpl_tree::Program;
+
+/// A program without faults, and its global names.
+#[derive(Drop)]
+pub struct Typed<'a> {
+    /// The program.
+    pub program: &'a Program<'a>,
+    /// Its global names with their kinds, in the order of the text.
+    pub globals: Symbols<'a>,
+    pub ghost faultless: { IsFaultless (syntax_of program.now) } by { Prim.hlevel props },
+    pub ghost named: { globals ≡ symbols_of (syntax_of program.now) }
+        by { Coded-set globals-code _ _ },
+}
