@@ -94,11 +94,7 @@ fn word_rank(tables: &Tables, word: ExprOp) -> u8
 }
 
 /// The line of an expression in these tables.
-pub fn expr_line(
-    alloc: Global,
-    tables: &Tables,
-    words: &[ExprOp],
-) -> Result<Line, AllocError>
+pub fn expr_line(alloc: Global, tables: &Tables, words: &[ExprOp]) -> Result<Line, AllocError>
     ensures { IfOk result (λ line. line ≡ expr_line tables.now words.now) }
 {
     let mut fields = Vec::new(alloc);
