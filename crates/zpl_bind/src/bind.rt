@@ -28,17 +28,29 @@ use zpl_parts::{Part, parts_of_text};
 use zpl_region::{Region, Vec3};
 use zpl_tree::{Decl, Program};
 
+/// What declarations come to.
+#[derive(Drop)]
+pub struct Declared<'a> {
+    /// What is known of their names.
+    pub known: Known<'a>,
+    /// What they are bound to.
+    pub bound: Bound,
+}
+
 /// What settings bind a program to: the values of configs and constants, the declared regions, the
 /// directions with the vectors in statements, and the storages of arrays. The copies that reads
 /// which wrap round need aren't looked at. Where a bracket of a declaration has a fourth dimension,
 /// as in no program without faults, the answer is `RegionLimit`.
-pub fn bind_declarations(
+pub fn bind_declarations<'a>(
     alloc: Global,
-    program: &Program<'_>,
+    program: &Program<'a>,
     settings: &Settings,
-) -> Result<Bound, BindFault>
-    ensures bound { IfOk result (λ bound.
-        Binds (syntax_of program.now) (settings_of settings.now) (bound_of bound)) }
+) -> Result<Declared<'a>, BindFault>
+    ensures known { IfOk result (λ declared. IsKnown declared.known) }
+    ensures computed { IfOk result (λ declared. known_in declared.known
+        ≡ known_of (syntax_of program.now) (settings_of settings.now)) }
+    ensures bound { IfOk result (λ declared.
+        Binds (syntax_of program.now) (settings_of settings.now) (bound_of declared.bound)) }
     ensures accepted { IsFaultless (syntax_of program.now) →
         OnOk result (faults_of (syntax_of program.now) (settings_of settings.now) ≡ []) }
     ensures err { IsFaultless (syntax_of program.now) → IfErr result (λ fault. IsAmong fault
@@ -53,12 +65,13 @@ pub fn bind_declarations(
     let storages = storages_of(alloc, &known, parts.as_slice(), program.decls)?;
     let values = known.values.values(alloc)?;
     let regions = known.regions.values(alloc)?;
-    Ok(Bound {
+    let bound = Bound {
         values: Values::of(values),
         regions: Regions::of(regions),
         vectors: Vectors::of(vectors),
         storages: Regions::of(storages),
-    })
+    };
+    Ok(Declared { known, bound })
 }
 
 /// What the declarations of a program come to.

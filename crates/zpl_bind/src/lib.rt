@@ -16,7 +16,11 @@ mod texts;
 mod values;
 mod vectors;
 
-pub use bind::bind_declarations;
+pub use bind::{Declared, bind_declarations};
 pub use faults::BindFault;
+pub use known::Known;
 pub use lists::{Bound, Regions, Values, Vectors};
+pub use regions::{inner_of, limited, no_region};
 pub use settings::Settings;
+pub use tables::Table;
+pub use vectors::dir_of;

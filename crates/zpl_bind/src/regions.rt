@@ -237,7 +237,7 @@ fn region_named(known: &Known<'_>, name: &Name<'_>) -> Region
 }
 
 /// A region without tuples.
-fn no_region() -> Region
+pub fn no_region() -> Region
     ensures { result ≡ no_region }
 {
     Region {

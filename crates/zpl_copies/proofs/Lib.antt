@@ -1,0 +1,14 @@
+pub mod ListLemmas
+pub mod ShapeLemmas
+pub mod BoxLemmas
+pub mod FlowLemmas
+pub mod UseLemmas
+pub mod ArrayLemmas
+pub mod PartLemmas
+pub mod UseOfLemmas
+pub mod ClosureLemmas
+pub mod FewLemmas
+pub mod StepLemmas
+pub mod CopyLemmas
+pub mod VectorLemmas
+pub mod VisitLemmas
