@@ -1,5 +1,5 @@
 -- The names of a procedure, and the sites of its head, over the names in reach there.
-use Rattle.std.specs.Prelude.{List, [], ◌∷◌, ◌++◌, map, flat_map, Some, option_to_list}
+use Rattle.std.specs.Prelude.{List, ◌∷◌, ◌++◌, map, flat_map, option_to_list}
 use Rattle.zpl_tree.specs.Syntax.{Name, Param, Procedure, VarDef, Integer}
 use Rattle.zpl_names.specs.Kinds as kind
 use Rattle.zpl_names.specs.Scope.{Entry, Scope}

@@ -1,4 +1,4 @@
-use Rattle.std.proofs.Common.{◌≡◌, [], drop, map}
+use Rattle.std.proofs.Common.{◌≡◌, drop, map}
 use Rattle.zpl_tree.specs.View.{define_of}
 use Rattle.zpl_names.specs.Declared as spec
 use Rattle.zpl_names.specs.Sites as sites

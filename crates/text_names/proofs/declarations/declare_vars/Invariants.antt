@@ -3,7 +3,6 @@ use Rattle.zpl_tree.specs.View.{var_of}
 use Rattle.zpl_names.specs.Declared as spec
 use Rattle.zpl_names.specs.Sites as sites
 use Rattle.site_faults.specs.Found.{found_in}
-use Rattle.text_names.specs.Declares as kinds
 use Rattle.text_names.specs.Found.{goes_on}
 use Rattle.text_names.proofs.declarations.declare_vars.Given as goal
 

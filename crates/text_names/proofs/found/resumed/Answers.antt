@@ -1,7 +1,6 @@
-use Rattle.std.proofs.Common.{Option, Some, None, ap, false, sym, ◌≡◌, ◌∙◌, [], ◌∷◌}
-use Rattle.zpl_names.specs.Accepted as kind
+use Rattle.std.proofs.Common.{ap, false, sym, ◌∙◌, [], ◌∷◌}
 use Rattle.site_faults.specs.Findings.{State, tells}
-use Rattle.site_faults.specs.Found.{found_in, found_of, kind_of}
+use Rattle.site_faults.specs.Found.{found_in, kind_of}
 use Rattle.text_names.proofs.FoundLemmas.{told-alone}
 use Rattle.text_names.proofs.found.resumed.Goals as goal
 

@@ -1,4 +1,4 @@
-use Rattle.std.proofs.Common.{map, ap, sym, ◌++◌, ◌∙◌}
+use Rattle.std.proofs.Common.{map, ap, sym, ◌++◌}
 use Rattle.zpl_tree.specs.View.{param_of, var_of}
 use Rattle.name_kinds.specs.Reach.{scope_of}
 use Rattle.text_names.specs.Heads.{param_entries, var_entries}
