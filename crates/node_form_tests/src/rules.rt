@@ -2,12 +2,12 @@
 use crate::parts::{FOUR, NOTHING, PADDING, Parts, TEMPORARY, UNUSED, fix, range, tables};
 use node_form::{
     ArrayDim, ArrayRow, DimRow, ExchangeRow, ExprOp, ExprRow, GroupRow, Instr, Item, Member,
-    RegionForm, Tables,
+    RegionForm, SameKind, Tables,
 };
 use std::alloc::{AllocError, Global};
 use std::process::Abort;
 use std::test::Fail;
-use zpl_nums::{Border, Fold, Op};
+use zpl_nums::{Border, Fold, Op, TrapKind};
 use zpl_region::{Dim, Region};
 
 /// A stored array of rank 2, `1..4` and a flood dimension.
@@ -635,6 +635,147 @@ fn collectives(rt: HostRuntime) -> Result<(), Fail> {
             remap(0, 0, [index, None, None]),
             remap(1, 0, [None, None, None]),
             remap(1, 0, [index, index, None]),
+        ],
+        false,
+    )?;
+    Ok(())
+}
+
+#[test]
+fn loops_of_members(rt: HostRuntime) -> Result<(), Fail> {
+    let again = Member::OpenWhile {
+        expr: 2,
+        mask: Some(2),
+        line: 1,
+    };
+    let add = |scalar, expr| Member::Acc {
+        scalar,
+        fold: Fold::Sum,
+        expr,
+        mask: None,
+        line: 1,
+    };
+    all_groups(
+        &rt,
+        rt.alloc(),
+        &[&[again, PUT_FOUR, Member::CloseWhile], &[add(0, 2)]],
+        true,
+    )?;
+    all_groups(
+        &rt,
+        rt.alloc(),
+        &[
+            &[again],
+            &[Member::CloseWhile],
+            &[again, Member::Otherwise, Member::CloseWhile],
+            &[again, Member::Until { expr: 2 }],
+        ],
+        false,
+    )?;
+    all_groups(&rt, rt.alloc(), &[&[add(1, 2)], &[add(0, 5)]], false)?;
+    Ok(())
+}
+
+#[test]
+fn rows_that_test_regions(rt: HostRuntime) -> Result<(), Fail> {
+    let same = |target, source| Instr::Same {
+        target,
+        source,
+        kind: SameKind::Part,
+        line: 1,
+    };
+    let fits = |slot, shift| Instr::Fits {
+        slot,
+        shift,
+        line: 1,
+    };
+    all_instrs(
+        &rt,
+        rt.alloc(),
+        &[same(0, 2), same(1, 1), fits(1, [1, -2_147_483_648, 0])],
+        true,
+    )?;
+    all_instrs(
+        &rt,
+        rt.alloc(),
+        &[
+            same(0, 1),
+            same(3, 0),
+            same(0, 3),
+            fits(0, [0, 1, 0]),
+            fits(0, [2_147_483_649, 0, 0]),
+            fits(3, [0, 0, 0]),
+        ],
+        false,
+    )?;
+    Ok(())
+}
+
+#[test]
+fn rows_of_all_processors(rt: HostRuntime) -> Result<(), Fail> {
+    let part = |array, source| Instr::Part {
+        array,
+        target: 0,
+        fold: Fold::Max,
+        from: 0,
+        source,
+    };
+    let gather = |array, slot| Instr::Gather {
+        truth: true,
+        array,
+        slot,
+    };
+    all_instrs(
+        &rt,
+        rt.alloc(),
+        &[part(1, 2), gather(0, 0), gather(3, 1)],
+        true,
+    )?;
+    all_instrs(
+        &rt,
+        rt.alloc(),
+        &[
+            part(3, 2),
+            part(1, 1),
+            part(4, 2),
+            gather(0, 1),
+            gather(4, 0),
+            gather(0, 3),
+        ],
+        false,
+    )?;
+    Ok(())
+}
+
+#[test]
+fn other_rows(rt: HostRuntime) -> Result<(), Fail> {
+    let tree = |scalar| Instr::TreeFold {
+        scalar,
+        fold: Fold::Any,
+    };
+    let trap = Instr::Trap {
+        kind: TrapKind::RegionMismatch,
+        line: 4_294_967_295,
+    };
+    all_instrs(
+        &rt,
+        rt.alloc(),
+        &[
+            tree(0),
+            trap,
+            Instr::Number { expr: 1 },
+            Instr::Finish { exchange: 0 },
+        ],
+        true,
+    )?;
+    all_instrs(
+        &rt,
+        rt.alloc(),
+        &[
+            tree(1),
+            Instr::Number { expr: 2 },
+            Instr::Number { expr: 5 },
+            Instr::Finish { exchange: 1 },
         ],
         false,
     )?;
