@@ -1,0 +1,12 @@
+pub mod PartLemmas
+pub mod LoopLemmas
+pub mod FormLemmas
+pub mod TupleLemmas
+pub mod RunLemmas
+pub mod VisitedLemmas
+pub mod KeepLemmas
+pub mod HeldLemmas
+pub mod MetLemmas
+pub mod OwnLemmas
+pub mod ResultLemmas
+pub mod KnownLemmas

@@ -1,0 +1,144 @@
+-- The own names of procedures stand for variables alone, so that a procedure, a region or a
+-- direction in a procedure's scope is a global one.
+use Rattle.std.proofs.Common.{◌≡◌, ℕ, Bool, true, false, cond, inl, inr, List, [], ◌∷◌, ◌++◌, map}
+use Rattle.std.proofs.Common.{Option, Some, None, option_map, refl, sym, subst}
+use Rattle.std.specs.Prelude.{find}
+use Rattle.std.specs.List.{AllByRecursion, flat_map}
+use Rattle.std.specs.Option.{option_or}
+use Rattle.std.specs.Str.{bytes_eq}
+use Rattle.zpl_tree.specs.Syntax.{Name, Base, Bracket, NoBracket, Bracketed, Param, VarDef, Decl}
+use Rattle.zpl_tree.specs.Syntax.{Config, Constant, Regions, Directions, Vars, Defined, Program}
+use Rattle.zpl_tree.specs.Syntax as plain
+use Rattle.zpl_names.specs.Kinds as kind
+use Rattle.zpl_names.specs.Kinds.{Kind, Signature}
+use Rattle.zpl_names.specs.Scope.{Entry, Scope, kind_in, kind_of}
+use Rattle.zpl_names.specs.Shapes.{variable_kind}
+use Rattle.zpl_names.specs.Declared.{entry_for, head_scope, own_entries, Routine}
+use Rattle.zpl_names.specs.Declared.{routines_behind, routines_of, routine_named, scope_of, globals_of}
+use Rattle.zpl_names.specs.Declared.{with_procedure}
+use Rattle.zpl_names.proofs.ListLemmas.{Among}
+
+abbrev IsOwn : Option Kind → Type 0
+IsOwn None = Unit {0}
+IsOwn (Some (kind.Scalar base)) = Unit {0}
+IsOwn (Some (kind.Array base shape)) = Unit {0}
+IsOwn (Some (kind.Config base)) = ⊥
+IsOwn (Some (kind.Constant base)) = ⊥
+IsOwn (Some (kind.Region shape)) = ⊥
+IsOwn (Some (kind.Direction rank)) = ⊥
+IsOwn (Some (kind.Procedure signature)) = ⊥
+
+abbrev AllOwn : List Entry → Type 0
+AllOwn entries = AllByRecursion (λ entry. IsOwn (Some entry.kind)) entries
+
+own_append : (xs ys : List Entry) → AllOwn xs → AllOwn ys → AllOwn (xs ++ ys)
+own_append [] ys h k = k
+own_append (x ∷ xs) ys h k = (h.0, own_append xs ys h.1 k)
+
+own_variable : (scope : Scope) (shape : Bracket) (base : Base)
+    → IsOwn (Some (variable_kind scope shape base))
+own_variable scope NoBracket base = tt
+own_variable scope (Bracketed inner) base = tt
+
+own_each : (thing : Kind) → IsOwn (Some thing) → (names : List Name)
+    → AllOwn (map (entry_for thing) names)
+own_each thing h [] = tt
+own_each thing h (name ∷ names) = (h, own_each thing h names)
+
+own_flat : {A : Type 0} (f : A → List Entry) → ((a : A) → AllOwn (f a)) → (list : List A)
+    → AllOwn (flat_map f list)
+own_flat f h [] = tt
+own_flat f h (a ∷ rest) = own_append (f a) (flat_map f rest) (h a) (own_flat f h rest)
+
+all_own : (earlier : List Entry) (procedure : plain.Procedure)
+    → AllOwn (own_entries earlier procedure)
+all_own earlier procedure =
+    let scope = head_scope earlier procedure in
+    own_append
+    (flat_map (λ param. map (entry_for (variable_kind scope param.shape param.base)) param.names)
+    procedure.params) _
+    (own_flat (λ (param : Param). map (entry_for (variable_kind scope param.shape param.base))
+    param.names)
+    (λ param. own_each (variable_kind scope param.shape param.base)
+    (own_variable scope param.shape param.base) param.names) procedure.params)
+    (own_flat (λ (var : VarDef). map (entry_for (variable_kind scope var.shape var.base)) var.names)
+    (λ var. own_each (variable_kind scope var.shape var.base)
+    (own_variable scope var.shape var.base) var.names) procedure.locals)
+
+own_in : (entries : List Entry) (text : List ℕ) → AllOwn entries → IsOwn (kind_in entries text)
+own_in [] text h = tt
+own_in (first ∷ rest) text h = by (bytes_eq first.name.text text) (own_in rest text h.1)
+  where
+    by : (b : Bool) → IsOwn (kind_in rest text)
+        → IsOwn (option_map (λ entry. entry.kind)
+        (cond b (Some first) (find (λ entry. bytes_eq entry.name.text text) rest)))
+    by true later = h.0
+    by false later = later
+
+-- a kind that no own name has
+abbrev pub IsGlobal : Kind → Type 0
+IsGlobal (kind.Scalar base) = ⊥
+IsGlobal (kind.Array base shape) = ⊥
+IsGlobal (kind.Config base) = Unit {0}
+IsGlobal (kind.Constant base) = Unit {0}
+IsGlobal (kind.Region shape) = Unit {0}
+IsGlobal (kind.Direction rank) = Unit {0}
+IsGlobal (kind.Procedure signature) = Unit {0}
+
+among_globals : (own globals : Option Kind) (thing : Kind) → IsOwn own → IsGlobal thing
+    → option_or own globals ≡ Some thing → globals ≡ Some thing
+among_globals None globals thing h is e = e
+among_globals (Some (kind.Scalar base)) globals thing h is e =
+    let same : kind.Scalar base ≡ thing = cc in absurd (subst IsGlobal (sym same) is)
+among_globals (Some (kind.Array base shape)) globals thing h is e =
+    let same : kind.Array base shape ≡ thing = cc in absurd (subst IsGlobal (sym same) is)
+among_globals (Some (kind.Config base)) globals thing h is e = absurd h
+among_globals (Some (kind.Constant base)) globals thing h is e = absurd h
+among_globals (Some (kind.Region shape)) globals thing h is e = absurd h
+among_globals (Some (kind.Direction rank)) globals thing h is e = absurd h
+among_globals (Some (kind.Procedure other)) globals thing h is e = absurd h
+
+-- ---- procedures of the text
+
+record IsBehind (routine : Routine) : Type 0 where
+  earlier : List Entry
+  own : routine.own ≡ own_entries earlier routine.procedure
+
+routine_behind : (decls : List Decl) (earlier : List Entry) (routine : Routine)
+    → Among (routines_behind earlier decls) routine → IsBehind routine
+routine_behind [] earlier routine m = absurd m
+routine_behind (Defined procedure ∷ decls) earlier routine (inl e) =
+    subst IsBehind e (record { earlier = earlier; own = refl })
+routine_behind (Defined procedure ∷ decls) earlier routine (inr m) =
+    routine_behind decls (with_procedure earlier procedure) routine m
+routine_behind (Config defines ∷ decls) earlier routine m = routine_behind decls _ routine m
+routine_behind (Constant defines ∷ decls) earlier routine m = routine_behind decls _ routine m
+routine_behind (Regions regions ∷ decls) earlier routine m = routine_behind decls _ routine m
+routine_behind (Directions directions ∷ decls) earlier routine m =
+    routine_behind decls _ routine m
+routine_behind (Vars vars ∷ decls) earlier routine m = routine_behind decls _ routine m
+
+pub global_kind : (program : Program) (routine : Routine) → Among (routines_of program) routine
+    → (name : Name) (thing : Kind) → IsGlobal thing
+    → kind_of (scope_of program routine) name ≡ Some thing
+    → kind_in (globals_of program) name.text ≡ Some thing
+global_kind program routine m name thing is e =
+    let behind = routine_behind program.decls [] routine m in
+    among_globals (kind_in routine.own name.text) (kind_in (globals_of program) name.text) thing
+    (subst (λ entries. IsOwn (kind_in entries name.text)) (sym behind.own)
+    (own_in (own_entries behind.earlier routine.procedure) name.text
+    (all_own behind.earlier routine.procedure))) is e
+
+find_among : {A : Type 0} (p : A → Bool) (xs : List A) (x : A) → find p xs ≡ Some x → Among xs x
+find_among p [] x e = cc
+find_among p (y ∷ ys) x e = by (p y) e (find_among p ys x)
+  where
+    by : (b : Bool) → cond b (Some y) (find p ys) ≡ Some x
+        → (find p ys ≡ Some x → Among ys x) → Among (y ∷ ys) x
+    by true e later = inl cc
+    by false e later = inr (later e)
+
+pub named_among : (program : Program) (text : List ℕ) (routine : Routine)
+    → routine_named program text ≡ Some routine → Among (routines_of program) routine
+named_among program text routine e =
+    find_among (λ routine. bytes_eq routine.procedure.name.text text) (routines_of program) routine e

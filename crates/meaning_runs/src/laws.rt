@@ -1,0 +1,109 @@
+//! The laws of what runs come to.
+ghost use Rattle.std.specs.Prelude.{◌≡◌, ◌↔◌, ◌<◌, ℕ, ℤ, length, List, Contains, Option, Some};
+ghost use Rattle.zpl_nums.specs.declared.ends.End.TheVariants.{More};
+ghost use Rattle.zpl_region.specs.declared.regions.Region.{Region};
+ghost use Rattle.zpl_tree.specs.Syntax.{Expr, Form, Name, Posts, Pre, Prefix, Prefixed, Program};
+ghost use Rattle.zpl_tree.specs.Syntax.{Return, Stmt};
+ghost use Rattle.zpl_tree.specs.Grammar.{IsProgram};
+ghost use Rattle.zpl_names.specs.Kinds as kind;
+ghost use Rattle.zpl_names.specs.Scope.{kind_of};
+ghost use Rattle.zpl_names.specs.Accepted.{IsFaultless};
+ghost use Rattle.zpl_binding.specs.Outcome.{BindFault, Fails, Gives, RegionLimit};
+ghost use Rattle.zpl_binding.specs.Settings.{Setting};
+ghost use Rattle.zpl_binding.specs.Regions.{before, behind};
+ghost use Rattle.zpl_binding.specs.Declarations.{known_of, names_of};
+ghost use Rattle.zpl_binding.specs.Bound.{IsAcceptedWith};
+ghost use Rattle.zpl_meaning.specs.Context.{Place};
+ghost use Rattle.zpl_meaning.specs.Store.{Store};
+ghost use Rattle.zpl_meaning.specs.Program.{mean_of};
+ghost use Rattle.zpl_meaning.specs.Proper.{IsProperStmt};
+ghost use Rattle.zpl_meaning.specs.Visited.{first_setup, IsVisited};
+ghost use Rattle.meaning_runs.specs.Met.{ComesUnder, IsMet, opening_of};
+ghost use Rattle.meaning_runs.specs.Tuple.{IsMetBy};
+ghost use Rattle.meaning_runs.specs.Stops.{SomeLoopStops};
+ghost use Rattle.meaning_runs.specs.Held.{HasPlaces};
+ghost use Rattle.meaning_runs.specs.Forms.{HasVectors};
+
+use zpl_binding::bound_lists_follow_the_text;
+use zpl_meaning::{no_stand_in_is_met, what_is_computed_has_a_value};
+
+/// A run wants more exactly where it comes to a loop that wants a turn which it may not make: a
+/// `while`, a `repeat` or a `for`, or one in a shattered statement for some tuple.
+pub fn more_comes_of_loops()
+    ensures { (program : Program) (settings : List Setting) (n : ℕ) →
+        ((mean_of program settings n).ending ≡ More) ↔
+        SomeLoopStops (opening_of program settings n) }
+{}
+
+/// Each statement that a run comes to is visited.
+pub fn met_statements_are_visited()
+    ensures { (program : Program) (settings : List Setting) (n deeper : ℕ) (place : Place)
+        (stmt : Stmt) (store : Store) →
+        IsMet (opening_of program settings n) deeper place stmt store →
+        IsVisited (first_setup program settings) place stmt }
+{}
+
+/// In a program of the grammar without faults each statement that a run comes to is proper where it
+/// stands, so that no answer stands in there for a missing one.
+pub fn met_statements_are_proper()
+    ensures { (program : Program) (settings : List Setting) → IsProgram program →
+        IsFaultless program → (n deeper : ℕ) (place : Place) (stmt : Stmt) (store : Store) →
+        IsMet (opening_of program settings n) deeper place stmt store → IsProperStmt place stmt }
+{
+    no_stand_in_is_met();
+}
+
+/// At each statement that a run comes to, the store has each scalar and each array that a name
+/// stands for, and the array of each mask; so it has behind the statement's prefixes, and wherever
+/// the run of a tuple comes to in a shattered one.
+pub fn stores_have_what_names_stand_for()
+    ensures statements { (program : Program) (settings : List Setting) (n deeper : ℕ)
+        (place : Place) (stmt : Stmt) (store : Store) →
+        IsMet (opening_of program settings n) deeper place stmt store → HasPlaces store place }
+    ensures behind { (program : Program) (settings : List Setting) (n deeper : ℕ)
+        (place inner : Place) (at : ℕ) (prefixes : List Prefix) (form : Form) (store : Store) →
+        IsMet (opening_of program settings n) deeper place (Prefixed at prefixes form) store →
+        ComesUnder store prefixes place inner → HasPlaces store inner }
+    ensures tuples { (program : Program) (settings : List Setting) (n deeper : ℕ)
+        (place inner : Place) (at : ℕ) (prefixes : List Prefix) (form : Form) (store : Store) →
+        IsMet (opening_of program settings n) deeper place (Prefixed at prefixes form) store →
+        ComesUnder store prefixes place inner →
+        (line : ℕ) (tuple : List ℤ) (part : Form) (later : Store) →
+        IsMetBy inner line n form store tuple part later → HasPlaces later inner }
+{}
+
+/// In a program without faults, at each `return` that a run comes to the store has a scalar for the
+/// answer.
+pub fn answers_have_places()
+    ensures { (program : Program) (settings : List Setting) (n : ℕ) → IsFaultless program →
+        (deeper : ℕ) (place inner : Place) (at : ℕ) (prefixes : List Prefix) (value : Expr)
+        (store : Store) →
+        IsMet (opening_of program settings n) deeper place (Prefixed at prefixes (Return value))
+        store →
+        ComesUnder store prefixes place inner → inner.result < length store.scalars }
+{}
+
+/// Each name that stands for a region or a direction where a run comes to is among those for which
+/// one was computed. With accepted settings, the only fault of forms around a region that stands in
+/// a statement is the limit of regions.
+pub fn regions_have_been_computed()
+    ensures regions { (program : Program) (settings : List Setting) (n deeper : ℕ) (place : Place)
+        (stmt : Stmt) (store : Store) →
+        IsMet (opening_of program settings n) deeper place stmt store →
+        (name : Name) (shape : Option kind.Shape) → kind_of place.scope name ≡ Some (kind.Region shape) →
+        Contains (names_of (known_of program settings).regions) name.text }
+    ensures directions { (program : Program) (settings : List Setting) (n deeper : ℕ)
+        (place : Place) (stmt : Stmt) (store : Store) →
+        IsMet (opening_of program settings n) deeper place stmt store →
+        (name : Name) (rank : kind.Rank) → kind_of place.scope name ≡ Some (kind.Direction rank) →
+        Contains (names_of (known_of program settings).directions) name.text }
+    ensures forms { (program : Program) (settings : List Setting) →
+        IsAcceptedWith program settings → (pre : List Pre) (region : Region) (post : Posts)
+        (fault : BindFault) → HasVectors program post →
+        before (known_of program settings) pre
+        (behind (known_of program settings) (Gives region) post) ≡ Fails fault →
+        fault ≡ RegionLimit }
+{
+    bound_lists_follow_the_text();
+    what_is_computed_has_a_value();
+}
