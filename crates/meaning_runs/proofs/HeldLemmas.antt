@@ -329,10 +329,11 @@ handed_has store environment (formal ∷ formals) NoExpr values has = tt
 handed_has store environment (ScalarFormal false base ∷ formals) (ThenExpr actual rest) [] has = tt
 handed_has store environment (ScalarFormal false base ∷ formals) (ThenExpr actual rest)
     (value ∷ values) has = (tt, handed_has store environment formals rest values has)
-handed_has store environment (ScalarFormal true base ∷ formals) (ThenExpr actual rest) values has = (
-  referred_has store _ (actual_has store environment actual has),
-  handed_has store environment formals rest values has,
-)
+handed_has store environment (ScalarFormal true base ∷ formals) (ThenExpr actual rest) values
+    has = (
+      referred_has store _ (actual_has store environment actual has),
+      handed_has store environment formals rest values has,
+    )
 handed_has store environment (ArrayFormal true base shape ∷ formals) (ThenExpr actual rest) values
     has = (
       referred_has store _ (actual_has store environment actual has),

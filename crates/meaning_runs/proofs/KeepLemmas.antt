@@ -11,9 +11,11 @@ use Rattle.zpl_nums.specs.Integer.{is_true}
 use Rattle.zpl_arrays.specs.Array.{Array}
 use Rattle.zpl_tree.specs.Syntax.{Name, Expr, Number, Truth, Coord, Named, Shifted, Around, Remap}
 use Rattle.zpl_tree.specs.Syntax.{Call, Paren, Neg, Not, Abs, Pair, Reduce, Scan, Flood}
-use Rattle.zpl_tree.specs.Syntax.{Bracket, NoBracket, Bracketed, VarDef, Prefix, Stmt, Prefixed, Stmts, NoStmt, ThenStmt, Form}
+use Rattle.zpl_tree.specs.Syntax.{Bracket, NoBracket, Bracketed, VarDef, Prefix, Stmt, Prefixed}
+use Rattle.zpl_tree.specs.Syntax.{Stmts, NoStmt, ThenStmt, Form}
 use Rattle.zpl_tree.specs.Syntax.{Assign, Invoke, Block, If, While, Repeat, For, Border, Write}
-use Rattle.zpl_tree.specs.Syntax.{Return, Arm, Tested, Arms, NoArm, ThenArm, Otherwise, NoElse, Else}
+use Rattle.zpl_tree.specs.Syntax.{Return, Arm, Tested, Arms, NoArm, ThenArm, Otherwise, NoElse}
+use Rattle.zpl_tree.specs.Syntax.{Else}
 use Rattle.zpl_names.specs.Kinds.{Rank}
 use Rattle.zpl_names.specs.Sites.{Role, Assigned, tests_rank}
 use Rattle.zpl_names.specs.Declared.{Routine, routine_named}
@@ -39,7 +41,8 @@ use Rattle.zpl_meaning.specs.Calls.{Handed, Copied, CopiedArray, Referred, Calle
 use Rattle.zpl_meaning.specs.Calls.{with_formals, actuals_in, entered, place_in}
 use Rattle.zpl_meaning.specs.Statement.{Context, Start, line_of, assign_to, assign, with_result}
 use Rattle.zpl_meaning.specs.Statement.{border_thing, borders, more_borders, head_value, for_from}
-use Rattle.zpl_meaning.specs.Statement.{under, test_of, arms_at, is_split, exec, exec_all, exec_form}
+use Rattle.zpl_meaning.specs.Statement.{under, test_of, arms_at, is_split, exec, exec_all}
+use Rattle.zpl_meaning.specs.Statement.{exec_form}
 use Rattle.zpl_meaning.specs.Statement.{exec_arms, exec_arm, exec_otherwise}
 use Rattle.zpl_meaning.specs.Program.{run_routine, call_at}
 
@@ -55,7 +58,10 @@ same_store store = record { scalars = omega arith; arrays = omega arith }
 pub and_then : (one two three : Store) → IsNoShorter one two → IsNoShorter two three
     → IsNoShorter one three
 and_then one two three h k =
-    record { scalars = omega (arith, h.scalars, k.scalars); arrays = omega (arith, h.arrays, k.arrays) }
+    record {
+      scalars = omega (arith, h.scalars, k.scalars);
+      arrays = omega (arith, h.arrays, k.arrays);
+    }
 
 pub with_scalar_keeps : (store : Store) (place : ℕ) (value : ℤ)
     → IsNoShorter store (with_scalar store place value)
@@ -73,7 +79,8 @@ new_scalar_keeps store value = record {
   arrays = omega arith;
 }
 
-pub new_array_keeps : (store : Store) (array : Array) → IsNoShorter store (with_new_array store array)
+pub new_array_keeps : (store : Store) (array : Array)
+    → IsNoShorter store (with_new_array store array)
 new_array_keeps store array = record {
   scalars = omega arith;
   arrays = omega (arith, length-append store.arrays (array ∷ []));
@@ -434,7 +441,8 @@ module _ (n : ℕ) (call : Called → Store → Outcome) (calls : CallsKeep call
     form_keeps (Write line items) place at store =
         value_keeps _ store (line_of place at) _ (λ text. same_store store)
     form_keeps (Return value) place at store =
-        value_keeps _ store (line_of place at) _ (λ answer. with_scalar_keeps store place.result answer)
+        value_keeps _ store (line_of place at) _
+        (λ answer. with_scalar_keeps store place.result answer)
 
     arms_keep : (arms : Arms) (place : Place) (at : ℕ) (last : Store → Outcome)
         → AlwaysKeeps last → AlwaysKeeps (exec_arms (within place) n at arms last)
@@ -509,8 +517,8 @@ routine_keeps setup n call calls None called store = same_store store
 routine_keeps setup n call calls (Some routine) called store =
     let frame = entered setup routine called.actuals store in
     let place = place_in setup routine called frame in
-    let after = (exec (record { place = place; call = call }) n routine.procedure.body frame.store).store
-    in
+    let context : Context = record { place = place; call = call } in
+    let after = (exec context n routine.procedure.body frame.store).store in
     cut_back_keeps store after
     (and_then store frame.store after (entered_keeps setup routine called.actuals store)
     (exec_keeps n call calls routine.procedure.body place frame.store))

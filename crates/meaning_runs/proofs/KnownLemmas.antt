@@ -11,9 +11,12 @@ use Rattle.std.proofs.lemmas.Slice.Eq.{bytes_eq-Decides}
 use Rattle.zpl_region.specs.declared.regions.Region.{Region}
 use Rattle.zpl_region.specs.Region.{outside_of, inside_of, moved, strided}
 use Rattle.zpl_region.specs.Tests.{is_within_limit}
-use Rattle.zpl_tree.specs.Syntax.{Name, Base, Bracket, NoBracket, Bracketed, Define, RegionDef, DirDef}
-use Rattle.zpl_tree.specs.Syntax.{VarDef, Decl, Config, Constant, Regions, Directions, Vars, Defined}
-use Rattle.zpl_tree.specs.Syntax.{Pre, Dir, NamedDir, Vector, Posts, NoPost, ThenPost, Exprs, Program}
+use Rattle.zpl_tree.specs.Syntax.{Name, Base, Bracket, NoBracket, Bracketed, Define, RegionDef}
+use Rattle.zpl_tree.specs.Syntax.{DirDef}
+use Rattle.zpl_tree.specs.Syntax.{VarDef, Decl, Config, Constant, Regions, Directions, Vars}
+use Rattle.zpl_tree.specs.Syntax.{Defined}
+use Rattle.zpl_tree.specs.Syntax.{Pre, Dir, NamedDir, Vector, Posts, NoPost, ThenPost, Exprs}
+use Rattle.zpl_tree.specs.Syntax.{Program}
 use Rattle.zpl_tree.specs.Syntax.{Prefix, Stmt, Prefixed}
 use Rattle.zpl_tree.specs.Syntax as plain
 use Rattle.zpl_names.specs.Kinds as kind
@@ -21,7 +24,8 @@ use Rattle.zpl_names.specs.Kinds.{Kind}
 use Rattle.zpl_names.specs.Scope.{Entry, Scope, kind_in, kind_of}
 use Rattle.zpl_names.specs.Shapes.{variable_kind}
 use Rattle.zpl_names.specs.Declared.{declaring, entry_for, with_define, with_region, with_direction}
-use Rattle.zpl_names.specs.Declared.{with_variables, with_procedure, with_each, with_decl, globals_of}
+use Rattle.zpl_names.specs.Declared.{with_variables, with_procedure, with_each, with_decl}
+use Rattle.zpl_names.specs.Declared.{globals_of}
 use Rattle.zpl_names.specs.Declared.{Routine, routines_of, scope_of}
 use Rattle.zpl_names.proofs.ListLemmas.{Among, Contains-from_among}
 use Rattle.zpl_names.proofs.FaultlessLemmas.{split, left-among, right-among}
@@ -320,7 +324,8 @@ module _ (program : Program) (settings : List Setting) (n : ℕ) where
       names_of (known_of program settings).regions ≡ flat_map region_names program.decls
       → (deeper : ℕ) (place : Place) (stmt : Stmt) (store : Store)
       → IsMet (opening_of program settings n) deeper place stmt store
-      → (name : Name) (shape : Option kind.Shape) → kind_of place.scope name ≡ Some (kind.Region shape)
+      → (name : Name) (shape : Option kind.Shape)
+      → kind_of place.scope name ≡ Some (kind.Region shape)
       → Contains (names_of (known_of program settings).regions) name.text
   region_computed names deeper place stmt store met name shape e =
       let has = met_scope deeper place stmt store met in

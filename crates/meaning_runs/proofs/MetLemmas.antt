@@ -29,7 +29,8 @@ use Rattle.meaning_runs.specs.Met.{opening_of, context_at, body_store, IsMet}
 use Rattle.meaning_runs.specs.Tuple.{IsMetAt, IsMetBy, point_at}
 use Rattle.meaning_runs.specs.Held.{HasMasks, HasPlaces}
 use Rattle.meaning_runs.proofs.KeepLemmas.{IsNoShorter, same_store, and_then, AlwaysKeeps}
-use Rattle.meaning_runs.proofs.KeepLemmas.{exec_keeps, all_keep, point_keeps, points_keep, calls_keep}
+use Rattle.meaning_runs.proofs.KeepLemmas.{exec_keeps, all_keep, point_keeps, points_keep}
+use Rattle.meaning_runs.proofs.KeepLemmas.{calls_keep}
 use Rattle.meaning_runs.proofs.KeepLemmas.{new_scalar_keeps, with_scalar_keeps}
 use Rattle.meaning_runs.proofs.HeldLemmas.{HasEach, Has, has_places, later_has, under_has}
 use Rattle.meaning_runs.proofs.HeldLemmas.{HasAllHanded, handed_has, later_all_handed, later_masks}
@@ -85,7 +86,8 @@ module _ (runner : Runner) (one : (stmt : Stmt) → AlwaysKeeps (runner.one stmt
   arms_longer at arms otherwise store part later
       (in_arms.InRest offset own test body rest last same next after holds comes) =
       arms_longer _ rest last same next after comes
-  arms_longer at arms otherwise store part later (in_arms.InElse offset body same next after comes) =
+  arms_longer at arms otherwise store part later
+      (in_arms.InElse offset body same next after comes) =
       all_longer body same next after comes
 
   form_longer : (at : ℕ) (form : Form) (store : Store) (part : Stmt) (later : Store)
@@ -121,8 +123,8 @@ module _ (opening : Opening) where
   all_keeps deeper place stmts =
       all_keep opening.bound _ (calls_keep opening.setup opening.bound deeper) stmts place
 
-  pub goes_longer : (deeper : ℕ) (place : Place) (at : ℕ) (form : Form) (store : Store) (part : Stmt)
-      (later : Store)
+  pub goes_longer : (deeper : ℕ) (place : Place) (at : ℕ) (form : Form) (store : Store)
+      (part : Stmt) (later : Store)
       → GoesTo (context_at opening deeper place) opening.bound at form store part later
       → IsNoShorter store later
   goes_longer deeper place at form store part later
@@ -166,7 +168,8 @@ record IsCallHeld (store : Store) (place : Place) (called : Called) (before : St
 call_held : (place : Place) (store : Store) (form : Form) (called : Called) (before : Store)
     → MakesCall place store form called before → HasEach store place.environment.names
     → HasMasks store place.currents → IsCallHeld store place called before
-call_held place store form called before (MakesCall.AsStatement name actuals handed has) names masks =
+call_held place store form called before (MakesCall.AsStatement name actuals handed has) names
+    masks =
     record {
       longer = same_store store;
       handed = actuals_have place store name actuals handed has names;

@@ -14,7 +14,8 @@ use Rattle.zpl_names.specs.Kinds.{Kind, Signature}
 use Rattle.zpl_names.specs.Scope.{Entry, Scope, kind_in, kind_of}
 use Rattle.zpl_names.specs.Shapes.{variable_kind}
 use Rattle.zpl_names.specs.Declared.{entry_for, head_scope, own_entries, Routine}
-use Rattle.zpl_names.specs.Declared.{routines_behind, routines_of, routine_named, scope_of, globals_of}
+use Rattle.zpl_names.specs.Declared.{routines_behind, routines_of, routine_named, scope_of}
+use Rattle.zpl_names.specs.Declared.{globals_of}
 use Rattle.zpl_names.specs.Declared.{with_procedure}
 use Rattle.zpl_names.proofs.ListLemmas.{Among}
 
@@ -141,4 +142,5 @@ find_among p (y ∷ ys) x e = by (p y) e (find_among p ys x)
 pub named_among : (program : Program) (text : List ℕ) (routine : Routine)
     → routine_named program text ≡ Some routine → Among (routines_of program) routine
 named_among program text routine e =
-    find_among (λ routine. bytes_eq routine.procedure.name.text text) (routines_of program) routine e
+    find_among (λ routine. bytes_eq routine.procedure.name.text text) (routines_of program) routine
+    e

@@ -1,6 +1,7 @@
 -- A `return` that a run comes to has a place for its answer.
 use Rattle.std.proofs.Common.{◌≡◌, ℕ, suc, ◌+◌, ◌<◌, Bool, true, false, not, inl, inr, pos}
-use Rattle.std.proofs.Common.{List, [], ◌∷◌, ◌++◌, length, Option, Some, None, IsSome, Contains, refl}
+use Rattle.std.proofs.Common.{List, [], ◌∷◌, ◌++◌, length, Option, Some, None, IsSome, Contains}
+use Rattle.std.proofs.Common.{refl}
 use Rattle.std.proofs.Common.{sym, ap, ◌∙◌, subst, arith, length-append, true≢false, zero}
 use Rattle.std.specs.Prelude.{is_some, is_none}
 use Rattle.zpl_tree.specs.Syntax.{Name, Expr, Exprs, Prefix, Program, Stmt, Prefixed, Stmts}
@@ -13,7 +14,8 @@ use Rattle.zpl_names.specs.Scope.{kind_of, kind_in, is_procedure}
 use Rattle.zpl_names.specs.Shapes.{unknown_shapes}
 use Rattle.zpl_names.specs.Declared.{Routine, routines_of, routine_named, entry_of}
 use Rattle.zpl_names.specs.Declared.{scope_of, globals_of}
-use Rattle.zpl_names.specs.Sites.{Reach, in_body, under_prefix, under_prefixes, inside, Site, AtCall}
+use Rattle.zpl_names.specs.Sites.{Reach, in_body, under_prefix, under_prefixes, inside, Site}
+use Rattle.zpl_names.specs.Sites.{AtCall}
 use Rattle.zpl_names.specs.Sites.{AtStmt, AsStatement, Limit, Test as TestRole, whole_sites}
 use Rattle.zpl_names.specs.Sites.{prefixes_sites, step_sites, test_rank, arms_rank, stmt_sites}
 use Rattle.zpl_names.specs.Sites.{stmts_sites, form_sites, arms_sites, arm_sites, otherwise_sites}
@@ -378,7 +380,8 @@ under_result store prefixes place inner
 
 told_part : (program : Program) (routine : Routine) (part : Stmt)
     → IsPartTold program routine part → ToldOf program routine part
-told_part program routine (Prefixed at prefixes form) h = stmt_told program routine at prefixes form h
+told_part program routine (Prefixed at prefixes form) h =
+    stmt_told program routine at prefixes form h
 
 told_body : (program : Program) (routine : Routine) (body : Stmt)
     → Clean (outermost_sites (in_body (scope_of program routine) unknown_shapes)

@@ -23,8 +23,10 @@ use Rattle.zpl_meaning.specs.Outcome.{for_turns, while_turns, repeat_turns}
 use Rattle.zpl_meaning.specs.Points.{shattered}
 use Rattle.zpl_meaning.specs.Variables.{with_new_scalar}
 use Rattle.zpl_meaning.specs.Calls.{Called, Handed, actuals_in}
-use Rattle.zpl_meaning.specs.Statement.{Context, Start, line_of, exec, exec_all, exec_form, exec_arms}
-use Rattle.zpl_meaning.specs.Statement.{exec_otherwise, under, head_value, for_from, is_split, test_of}
+use Rattle.zpl_meaning.specs.Statement.{Context, Start, line_of, exec, exec_all, exec_form}
+use Rattle.zpl_meaning.specs.Statement.{exec_arms}
+use Rattle.zpl_meaning.specs.Statement.{exec_otherwise, under, head_value, for_from, is_split}
+use Rattle.zpl_meaning.specs.Statement.{test_of}
 use Rattle.zpl_meaning.specs.Statement.{with_result}
 use Rattle.zpl_meaning.specs.Program.{call_at, run_routine, entry_call, mean_of}
 use Rattle.zpl_meaning.specs.Wanting.{ThenWants, HasNoLoopIn, ForWants}
@@ -67,8 +69,8 @@ module _ (context : Context) (n : ℕ) where
   -- one that may be shattered
   split_wants : (at : ℕ) (form : Form) (store : Store) (whole : Bool) (parts : Store → Outcome)
       → is_split context form ≡ whole
-      → (choose whole (shattered context.place (line_of context.place at) n form) parts store).ending
-      ≡ More
+      → (choose whole (shattered context.place (line_of context.place at) n form) parts
+      store).ending ≡ More
       → (Goal : Type 0) → (StopsAt context n at form store → Goal)
       → (is_split context form ≡ false → (parts store).ending ≡ More → Goal) → Goal
   split_wants at form store true parts is e Goal stops found =
@@ -186,7 +188,8 @@ module _ (context : Context) (n : ℕ) where
         (MakesCall.AsStatement name actuals ran.0 ran.1) ran.2
 
     answer_finds : (at offset : ℕ) (target name : Name) (actuals : Exprs) (store : Store)
-        → (exec_form context n at (Assign target None (Call offset name actuals)) store).ending ≡ More
+        → (exec_form context n at (Assign target None (Call offset name actuals)) store).ending
+        ≡ More
         → CallFinds (Assign target None (Call offset name actuals)) store → Goal
     answer_finds at offset target name actuals store e found =
         let rest : Store → Outcome = λ after.
@@ -539,8 +542,8 @@ module _ (opening : Opening) where
       routine.procedure.body (body_store setup routine called before)).ending ≡ More
       → (call_at setup opening.bound (suc deeper) called before).ending ≡ More
   routine_wants deeper called before routine named more =
-      ap (λ found. (run_routine setup opening.bound (call_at setup opening.bound deeper) found called
-      before).ending) named ∙ more
+      ap (λ found. (run_routine setup opening.bound (call_at setup opening.bound deeper) found
+      called before).ending) named ∙ more
 
   met_wants : (deeper : ℕ) (place : Place) (stmt : Stmt) (store : Store)
       → IsMet opening deeper place stmt store

@@ -173,13 +173,15 @@ module _ (place : Place) (line n : ℕ) (form : Form) (store : Store) where
   pub tuple_found : (shattered place line n form store).ending ≡ More
       → SomeTupleStops place line n form store
   tuple_found e =
-      let ran = value_wants checked store line (λ _. all_runs store (runs_of outcome_at tuples)) e in
+      let ran = value_wants checked store line
+      (λ _. all_runs store (runs_of outcome_at tuples)) e in
       let wanting = (tuples_exact store (runs_of outcome_at tuples)).0 ran.2 in
       let from = mapped to_run tuples wanting.run
       (among_from_Contains (runs_of outcome_at tuples) wanting.run wanting.there) in
       let more : (outcome_at from.0).ending ≡ More =
       ap (λ (run : Run). run.outcome.ending) from.2 ∙ wanting.wants in
-      let found = loop_found (point_at place line form from.0) n form (at_tuple from.0 store) more in
+      let found = loop_found (point_at place line form from.0) n form (at_tuple from.0 store) more
+      in
       record {
         tuple = from.0;
         runs = record {

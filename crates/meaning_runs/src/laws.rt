@@ -90,7 +90,8 @@ pub fn regions_have_been_computed()
     ensures regions { (program : Program) (settings : List Setting) (n deeper : ℕ) (place : Place)
         (stmt : Stmt) (store : Store) →
         IsMet (opening_of program settings n) deeper place stmt store →
-        (name : Name) (shape : Option kind.Shape) → kind_of place.scope name ≡ Some (kind.Region shape) →
+        (name : Name) (shape : Option kind.Shape) →
+        kind_of place.scope name ≡ Some (kind.Region shape) →
         Contains (names_of (known_of program settings).regions) name.text }
     ensures directions { (program : Program) (settings : List Setting) (n deeper : ℕ)
         (place : Place) (stmt : Stmt) (store : Store) →
