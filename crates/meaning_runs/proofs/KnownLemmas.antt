@@ -40,7 +40,7 @@ use Rattle.zpl_meaning.specs.Store.{Store}
 use Rattle.zpl_meaning.specs.Context.{Place}
 use Rattle.zpl_meaning.specs.Given.{IsGiven}
 use Rattle.zpl_meaning.specs.Regions.{under_prefix}
-use Rattle.meaning_runs.specs.Forms.{HasVectors}
+use Rattle.meaning_runs.specs.Computed.{HasVectors}
 use Rattle.meaning_runs.specs.Met.{ComesUnder, opening_of, IsMet}
 use Rattle.meaning_runs.proofs.OwnLemmas.{global_kind, named_among}
 
@@ -284,6 +284,31 @@ decl_directions text (Vars vars) earlier h =
 decl_directions text (Defined procedure) earlier h =
     inl (procedure_none IsDirectionKind direction_only text procedure earlier h)
 
+-- ---- global regions and directions
+
+module _ (program : Program) (settings : List Setting) where
+  pub region_named :
+      names_of (known_of program settings).regions ≡ flat_map region_names program.decls
+      → (text : List ℕ) (shape : Option kind.Shape)
+      → kind_in (globals_of program) text ≡ Some (kind.Region shape)
+      → Contains (names_of (known_of program settings).regions) text
+  region_named names text shape e =
+      Contains-from_among (names_of (known_of program settings).regions) text
+      (subst (λ all. Among all text) (sym names)
+      (in_declarations IsRegionKind region_only text region_names (decl_regions text)
+      program (kind.Region shape) e tt))
+
+  pub direction_named :
+      names_of (known_of program settings).directions ≡ flat_map direction_names program.decls
+      → (text : List ℕ) (rank : kind.Rank)
+      → kind_in (globals_of program) text ≡ Some (kind.Direction rank)
+      → Contains (names_of (known_of program settings).directions) text
+  direction_named names text rank e =
+      Contains-from_among (names_of (known_of program settings).directions) text
+      (subst (λ all. Among all text) (sym names)
+      (in_declarations IsDirectionKind direction_only text direction_names (decl_directions text)
+      program (kind.Direction rank) e tt))
+
 -- ---- the scope of a statement that a run comes to
 
 record HasScope (program : Program) (place : Place) : Type 0 where
@@ -329,12 +354,9 @@ module _ (program : Program) (settings : List Setting) (n : ℕ) where
       → Contains (names_of (known_of program settings).regions) name.text
   region_computed names deeper place stmt store met name shape e =
       let has = met_scope deeper place stmt store met in
-      let global = global_kind program has.routine has.member name (kind.Region shape) tt
-      (subst (λ scope. kind_of scope name ≡ Some (kind.Region shape)) has.scope e) in
-      Contains-from_among (names_of (known_of program settings).regions) name.text
-      (subst (λ all. Among all name.text) (sym names)
-      (in_declarations IsRegionKind region_only name.text region_names (decl_regions name.text)
-      program (kind.Region shape) global tt))
+      region_named program settings names name.text shape
+      (global_kind program has.routine has.member name (kind.Region shape) tt
+      (subst (λ scope. kind_of scope name ≡ Some (kind.Region shape)) has.scope e))
 
   pub direction_computed :
       names_of (known_of program settings).directions ≡ flat_map direction_names program.decls
@@ -344,12 +366,9 @@ module _ (program : Program) (settings : List Setting) (n : ℕ) where
       → Contains (names_of (known_of program settings).directions) name.text
   direction_computed names deeper place stmt store met name rank e =
       let has = met_scope deeper place stmt store met in
-      let global = global_kind program has.routine has.member name (kind.Direction rank) tt
-      (subst (λ scope. kind_of scope name ≡ Some (kind.Direction rank)) has.scope e) in
-      Contains-from_among (names_of (known_of program settings).directions) name.text
-      (subst (λ all. Among all name.text) (sym names)
-      (in_declarations IsDirectionKind direction_only name.text direction_names
-      (decl_directions name.text) program (kind.Direction rank) global tt))
+      direction_named program settings names name.text rank
+      (global_kind program has.routine has.member name (kind.Direction rank) tt
+      (subst (λ scope. kind_of scope name ≡ Some (kind.Direction rank)) has.scope e))
 
 -- ---- forms of a region
 

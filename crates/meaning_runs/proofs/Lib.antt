@@ -10,3 +10,5 @@ pub mod MetLemmas
 pub mod OwnLemmas
 pub mod ResultLemmas
 pub mod KnownLemmas
+pub mod SiteLemmas
+pub mod ComputedLemmas

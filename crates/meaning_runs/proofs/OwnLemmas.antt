@@ -119,16 +119,23 @@ routine_behind (Directions directions ∷ decls) earlier routine m =
     routine_behind decls _ routine m
 routine_behind (Vars vars ∷ decls) earlier routine m = routine_behind decls _ routine m
 
+pub global_in : (program : Program) (routine : Routine) → Among (routines_of program) routine
+    → (text : List ℕ) (thing : Kind) → IsGlobal thing
+    → option_or (kind_in routine.own text) (kind_in (globals_of program) text) ≡ Some thing
+    → kind_in (globals_of program) text ≡ Some thing
+global_in program routine m text thing is e =
+    let behind = routine_behind program.decls [] routine m in
+    among_globals (kind_in routine.own text) (kind_in (globals_of program) text) thing
+    (subst (λ entries. IsOwn (kind_in entries text)) (sym behind.own)
+    (own_in (own_entries behind.earlier routine.procedure) text
+    (all_own behind.earlier routine.procedure))) is e
+
 pub global_kind : (program : Program) (routine : Routine) → Among (routines_of program) routine
     → (name : Name) (thing : Kind) → IsGlobal thing
     → kind_of (scope_of program routine) name ≡ Some thing
     → kind_in (globals_of program) name.text ≡ Some thing
 global_kind program routine m name thing is e =
-    let behind = routine_behind program.decls [] routine m in
-    among_globals (kind_in routine.own name.text) (kind_in (globals_of program) name.text) thing
-    (subst (λ entries. IsOwn (kind_in entries name.text)) (sym behind.own)
-    (own_in (own_entries behind.earlier routine.procedure) name.text
-    (all_own behind.earlier routine.procedure))) is e
+    global_in program routine m name.text thing is e
 
 find_among : {A : Type 0} (p : A → Bool) (xs : List A) (x : A) → find p xs ≡ Some x → Among xs x
 find_among p [] x e = cc

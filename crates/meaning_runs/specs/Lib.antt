@@ -1,5 +1,5 @@
 pub mod Comes
-pub mod Forms
+pub mod Computed
 pub mod Held
 pub mod Met
 pub mod Runner

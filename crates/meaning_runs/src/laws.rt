@@ -7,6 +7,9 @@ ghost use Rattle.zpl_tree.specs.Syntax.{Return, Stmt};
 ghost use Rattle.zpl_tree.specs.Grammar.{IsProgram};
 ghost use Rattle.zpl_names.specs.Kinds as kind;
 ghost use Rattle.zpl_names.specs.Scope.{kind_of};
+ghost use Rattle.zpl_names.specs.Shapes.{unknown_shapes};
+ghost use Rattle.zpl_names.specs.Declared.{Routine, routines_of};
+ghost use Rattle.zpl_names.specs.Sites.{routine_sites, Site};
 ghost use Rattle.zpl_names.specs.Accepted.{IsFaultless};
 ghost use Rattle.zpl_binding.specs.Outcome.{BindFault, Fails, Gives, RegionLimit};
 ghost use Rattle.zpl_binding.specs.Settings.{Setting};
@@ -22,7 +25,7 @@ ghost use Rattle.meaning_runs.specs.Met.{ComesUnder, IsMet, opening_of};
 ghost use Rattle.meaning_runs.specs.Tuple.{IsMetBy};
 ghost use Rattle.meaning_runs.specs.Stops.{SomeLoopStops};
 ghost use Rattle.meaning_runs.specs.Held.{HasPlaces};
-ghost use Rattle.meaning_runs.specs.Forms.{HasVectors};
+ghost use Rattle.meaning_runs.specs.Computed.{HasVectors, IsComputedAt};
 
 use zpl_binding::bound_lists_follow_the_text;
 use zpl_meaning::{no_stand_in_is_met, what_is_computed_has_a_value};
@@ -83,10 +86,15 @@ pub fn answers_have_places()
         ComesUnder store prefixes place inner → inner.result < length store.scalars }
 {}
 
-/// Each name that stands for a region or a direction where a run comes to is among those for which
-/// one was computed. With accepted settings, the only fault of forms around a region that stands in
-/// a statement is the limit of regions.
+/// In a program without faults, each region and each direction that a statement of the text names is
+/// among those for which one was computed, and so are the vectors there; and where a run comes to,
+/// each name that stands for a region or a direction is. With accepted settings, the only fault of
+/// forms around a region that stands in a statement is the limit of regions.
 pub fn regions_have_been_computed()
+    ensures sites { (program : Program) (settings : List Setting) → IsFaultless program →
+        (routine : Routine) → Contains (routines_of program) routine → (site : Site) →
+        Contains (routine_sites program unknown_shapes routine) site →
+        IsComputedAt program (known_of program settings) site }
     ensures regions { (program : Program) (settings : List Setting) (n deeper : ℕ) (place : Place)
         (stmt : Stmt) (store : Store) →
         IsMet (opening_of program settings n) deeper place stmt store →
