@@ -1,11 +1,12 @@
 -- Each region and each direction that a statement of a program without faults names is among those
 -- that were computed.
-use Rattle.std.proofs.Common.{◌≡◌, ℕ, Bool, true, false, not, cond, ◌||◌, inl, inr, List, [], ◌∷◌, ◌++◌}
-use Rattle.std.proofs.Common.{Option, Some, None, Contains, refl, sym, ap, ◌∙◌, subst, true≢false}
+use Rattle.std.proofs.Common.{◌≡◌, Bool, true, false, not, ◌||◌, List, [], ◌∷◌}
+use Rattle.std.proofs.Common.{Option, Some, None, Contains, refl, sym, ap, ◌∙◌, true≢false}
 use Rattle.std.specs.List.{AllByRecursion, flat_map}
 use Rattle.std.specs.Option.{option_or}
 use Rattle.std.proofs.lemmas.List.Elements.{All-from_recursion}
-use Rattle.zpl_tree.specs.Syntax.{Name, Pre, RegionBase, NamedRegion, Ditto, NamedDir, Vector, Rexpr}
+use Rattle.zpl_tree.specs.Syntax.{Name, Pre, RegionBase, NamedRegion, Ditto, NamedDir, Vector}
+use Rattle.zpl_tree.specs.Syntax.{Rexpr}
 use Rattle.zpl_tree.specs.Syntax.{Dims, Posts, Program}
 use Rattle.zpl_names.specs.Kinds as kind
 use Rattle.zpl_names.specs.Kinds.{Kind}
@@ -17,19 +18,20 @@ use Rattle.zpl_names.specs.Sites.{Reach, Site, AtWhole, AtExpr, AtCall, AtNamed,
 use Rattle.zpl_names.specs.Sites.{AtMask, AtStmt, AtBase, AtPosts, AtProcedure, routine_sites}
 use Rattle.zpl_names.specs.Faults.{unless_taken, unknown_base}
 use Rattle.zpl_names.specs.Accepted.{IsFaultless, HasNoFault}
-use Rattle.zpl_names.proofs.ListLemmas.{Among, among_from_Contains, Contains-from_among}
+use Rattle.zpl_names.proofs.ListLemmas.{Among, among_from_Contains}
 use Rattle.zpl_names.proofs.NameLemmas.{empty_parts, no_place}
 use Rattle.zpl_names.proofs.FaultlessLemmas.{clean-routine}
 use Rattle.zpl_binding.specs.Settings.{Setting}
 use Rattle.zpl_binding.specs.Regions.{Known}
 use Rattle.zpl_binding.specs.Declarations.{known_of, region_names, direction_names, names_of}
-use Rattle.meaning_runs.specs.Computed.{HasVectors, HasDirections, HasBase, IsComputedAt}
+use Rattle.meaning_runs.specs.Computed.{HasBase, IsComputedAt}
 use Rattle.meaning_runs.proofs.OwnLemmas.{IsGlobal, global_in}
 use Rattle.meaning_runs.proofs.SiteLemmas.{IsIn, Told, site_told}
 use Rattle.meaning_runs.proofs.KnownLemmas.{region_named, direction_named}
 
 -- what is in reach where variables may not be
-reached_region : (constants : Bool) (found : Option Kind) → is_region (in_reach constants found) ≡ true
+reached_region : (constants : Bool) (found : Option Kind)
+    → is_region (in_reach constants found) ≡ true
     → (shape : Option kind.Shape) × (found ≡ Some (kind.Region shape))
 reached_region false (Some (kind.Region shape)) e = (shape, refl)
 reached_region true (Some (kind.Region shape)) e = (shape, refl)
@@ -176,5 +178,6 @@ pub site_computed : (program : Program) (settings : List Setting) → Follow pro
 site_computed program settings follow clean routine there site at =
     let member = among_from_Contains (routines_of program) routine there in
     let among = among_from_Contains (routine_sites program unknown_shapes routine) site at in
-    at_site program settings follow routine member site (site_told program routine member site among)
+    at_site program settings follow routine member site
+    (site_told program routine member site among)
     (clean-routine program clean unknown_shapes routine member site among)

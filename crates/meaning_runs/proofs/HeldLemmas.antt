@@ -269,7 +269,7 @@ module _ (known : Known) (borders : List Border) (before : Store) where
 
 -- ---- what is handed on
 
-abbrev HasHanded : Store → Handed → Type 0
+abbrev pub HasHanded : Store → Handed → Type 0
 HasHanded store (Copied value) = Unit {0}
 HasHanded store (CopiedArray array home) = Unit {0}
 HasHanded store (Referred thing) = HasThing store thing

@@ -12,3 +12,4 @@ pub mod ResultLemmas
 pub mod KnownLemmas
 pub mod SiteLemmas
 pub mod ComputedLemmas
+pub mod ApartLemmas

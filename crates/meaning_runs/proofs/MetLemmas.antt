@@ -144,7 +144,7 @@ module _ (opening : Opening) where
       (one_keeps deeper place) (all_keeps deeper place) body set next after comes))
 
 -- what a call hands on is there
-actuals_have : (place : Place) (store : Store) (name : Name) (actuals : Exprs)
+pub actuals_have : (place : Place) (store : Store) (name : Name) (actuals : Exprs)
     (handed : List Handed) → actuals_in place store name actuals ≡ Gives handed
     → HasEach store place.environment.names → HasAllHanded store handed
 actuals_have place store name actuals handed e has =
@@ -231,7 +231,7 @@ module _ (program : Program) (settings : List Setting) (n : ℕ) where
       has_places store start.setup.globals place
       (met_has start (globals_first program settings n) deeper place stmt store met)
 
-  inner_has : (deeper : ℕ) (place inner : Place) (at : ℕ) (prefixes : List Prefix) (form : Form)
+  pub inner_has : (deeper : ℕ) (place inner : Place) (at : ℕ) (prefixes : List Prefix) (form : Form)
       (store : Store) → IsMet start deeper place (Prefixed at prefixes form) store
       → ComesUnder store prefixes place inner → Has store start.setup.globals inner
   inner_has deeper place inner at prefixes form store met comes =

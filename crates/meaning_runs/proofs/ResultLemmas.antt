@@ -36,8 +36,18 @@ use Rattle.zpl_meaning.proofs.DepthLemmas.{Each, each_left, each_right, each_fro
 use Rattle.meaning_runs.specs.Met.{ComesUnder, MakesCall, Opening, opening_of, context_at}
 use Rattle.meaning_runs.specs.Met.{body_store, IsMet}
 use Rattle.meaning_runs.proofs.PartLemmas.{goes_among}
-use Rattle.meaning_runs.proofs.KeepLemmas.{entered_keeps}
-use Rattle.meaning_runs.proofs.MetLemmas.{goes_longer}
+use Rattle.meaning_runs.proofs.KeepLemmas.{IsNoShorter, same_store, calls_keep}
+use Rattle.meaning_runs.proofs.MetLemmas.{goes_longer, actuals_have, inner_has}
+use Rattle.meaning_runs.proofs.HeldLemmas.{Has, HasAllHanded}
+use Rattle.meaning_runs.proofs.ApartLemmas.{AllApart, apart_names, apart_append, entered_apart}
+use Rattle.meaning_runs.specs.Held.{IsApart, HasResult}
+use Rattle.std.proofs.lemmas.List.Elements.{All-from_recursion}
+use Rattle.zpl_meaning.specs.Computed.{Gives}
+use Rattle.zpl_meaning.specs.Store.{Thing, Environment}
+use Rattle.zpl_meaning.specs.Context.{Setup}
+use Rattle.zpl_meaning.specs.Calls.{Handed, actuals_in, entered}
+use Rattle.zpl_meaning.specs.Program.{call_at}
+use Rattle.meaning_runs.specs.Met.{call_of}
 use Rattle.meaning_runs.proofs.OwnLemmas.{global_kind, named_among}
 
 -- ---- the sites of the statements in one
@@ -365,11 +375,16 @@ abbrev ToldOf : Program → Routine → Stmt → Type 0
 ToldOf program routine (Prefixed at prefixes form) =
     IsStmtTold program routine at prefixes form
 
+-- the place for the answer
+record IsHeld (place : Place) (store : Store) : Type 0 where
+  below : place.result < length store.scalars
+  apart : AllApart place.result place.environment.names
+
 record HasAnswer (program : Program) (place : Place) (stmt : Stmt) (store : Store) : Type 0 where
   routine : Routine
   member : Among (routines_of program) routine
   told : ToldOf program routine stmt
-  there : IsSome routine.procedure.result → place.result < length store.scalars
+  there : IsSome routine.procedure.result → IsHeld place store
 
 under_result : (store : Store) (prefixes : List Prefix) (place inner : Place)
     → ComesUnder store prefixes place inner → inner.result ≡ place.result
@@ -377,6 +392,26 @@ under_result store prefixes place inner (ComesUnder.Bare same) = refl
 under_result store prefixes place inner
     (ComesUnder.Behind prefix rest outer last over is comes) =
     under_result store rest (under_prefix_at outer prefix over) last comes
+
+under_environment : (store : Store) (prefixes : List Prefix) (place inner : Place)
+    → ComesUnder store prefixes place inner → inner.environment ≡ place.environment
+under_environment store prefixes place inner (ComesUnder.Bare same) = refl
+under_environment store prefixes place inner
+    (ComesUnder.Behind prefix rest outer last over is comes) =
+    under_environment store rest (under_prefix_at outer prefix over) last comes
+
+-- it is the same behind prefixes, and later
+under_held : (store later : Store) (prefixes : List Prefix) (place inner : Place)
+    → ComesUnder store prefixes place inner → IsNoShorter store later → IsHeld place store
+    → IsHeld inner later
+under_held store later prefixes place inner comes longer held =
+    let result = under_result store prefixes place inner comes in
+    let below = held.below in record {
+      below = omega (arith, below, longer.scalars, result);
+      apart = subst (λ (at : ℕ). AllApart at inner.environment.names) (sym result)
+          (subst (λ (e : Environment). AllApart place.result e.names)
+          (sym (under_environment store prefixes place inner comes)) held.apart);
+    }
 
 told_part : (program : Program) (routine : Routine) (part : Stmt)
     → IsPartTold program routine part → ToldOf program routine part
@@ -430,15 +465,39 @@ module _ (program : Program) (settings : List Setting) (n : ℕ) (clean : IsFaul
       by [] (Some base) e = absurd (true≢false (sym e))
       by (param ∷ params) result e = absurd (true≢false (sym e))
 
+  -- a procedure whose answer is taken
+  answer_held : (place : Place) (store : Store) (name : Name) (actuals : Exprs)
+      (handed : List Handed) (callee : Routine) (called : Called)
+      → actuals_in place store name actuals ≡ Gives handed
+      → Has store start.setup.globals place → called.actuals ≡ handed
+      → called.result ≡ length store.scalars
+      → IsHeld (body_place start.setup callee called (with_new_scalar store (pos 0)))
+      (body_store start.setup callee called (with_new_scalar store (pos 0)))
+  answer_held place store name actuals handed callee called e has given result =
+      let before = with_new_scalar store (pos 0) in
+      let one_more : length (store.scalars ++ pos 0 ∷ []) ≡ length store.scalars + 1 =
+      length-append store.scalars (pos 0 ∷ []) in
+      let all = subst (HasAllHanded store) (sym given)
+      (actuals_have place store name actuals handed e has.names) in
+      let frame = entered start.setup callee called.actuals before in
+      let apart = entered_apart start.setup callee called.actuals store before
+      (omega (arith, one_more)) all in
+      let below = apart.below in record {
+        below = omega (arith, below, result);
+        apart = subst (λ (at : ℕ). AllApart at (frame.names ++ start.setup.globals)) (sym result)
+            (apart_append (length store.scalars) frame.names start.setup.globals apart.names
+            (apart_names store start.setup.globals has.globals_there));
+      }
+
   called_answer : (place : Place) (at : ℕ) (prefixes : List Prefix) (form : Form) (store : Store)
       (called : Called) (before : Store) (routine callee : Routine)
       → Among (routines_of program) routine → IsStmtTold program routine at prefixes form
-      → MakesCall place store form called before
+      → Has store start.setup.globals place → MakesCall place store form called before
       → routine_named program called.name ≡ Some callee
       → HasAnswer program (body_place start.setup callee called before) callee.procedure.body
       (body_store start.setup callee called before)
-  called_answer place at prefixes form store called before routine callee m told
-      (MakesCall.AsStatement name actuals handed has) named =
+  called_answer place at prefixes form store called before routine callee m told has
+      (MakesCall.AsStatement name actuals handed e) named =
       let member = named_among program name.text callee named in record {
         routine = callee;
         member = member;
@@ -446,17 +505,14 @@ module _ (program : Program) (settings : List Setting) (n : ℕ) (clean : IsFaul
         there = none_some callee.procedure.result
             (invoked_bare program routine m at prefixes name actuals told callee named);
       }
-  called_answer place at prefixes form store called before routine callee m told
-      (MakesCall.AsAnswer target name offset actuals handed has) named =
-      let member = named_among program name.text callee named in
-      let one_more : length (store.scalars ++ pos 0 ∷ []) ≡ length store.scalars + 1 =
-      length-append store.scalars (pos 0 ∷ []) in
-      let longer = entered_keeps start.setup callee handed (with_new_scalar store (pos 0)) in
-      record {
+  called_answer place at prefixes form store called before routine callee m told has
+      (MakesCall.AsAnswer target name offset actuals handed e) named =
+      let member = named_among program name.text callee named in record {
         routine = callee;
         member = member;
         told = procedure_told callee member;
-        there = λ some. omega (arith, one_more, longer.scalars);
+        there = λ some. answer_held place store name actuals handed callee
+            (call_of place name handed (length store.scalars)) e has refl refl;
       }
 
   met_answer : (deeper : ℕ) (place : Place) (stmt : Stmt) (store : Store)
@@ -471,30 +527,43 @@ module _ (program : Program) (settings : List Setting) (n : ℕ) (clean : IsFaul
   met_answer deeper place stmt store
       (IsMet.Holds less outer inner at prefixes form from part later met comes goes) =
       let before = met_answer less outer (Prefixed at prefixes form) from met in
-      let longer = goes_longer start less inner at form from part later goes in
-      let same = under_result from prefixes outer inner comes in record {
+      let longer = goes_longer start less inner at form from part later goes in record {
         routine = before.routine;
         member = before.member;
         told = told_part program before.routine part
             (part_told program before.routine at prefixes form part before.told
             (goes_among (context_at start less inner) start.bound at form from part later goes));
-        there = λ some.
-            let below = before.there some in omega (arith, below, longer.scalars, same);
+        there = λ some. under_held from later prefixes outer inner comes longer (before.there some);
       }
   met_answer deeper place stmt store
       (IsMet.Calls less outer inner at prefixes form from called before routine met comes makes
       named) =
       let outside = met_answer (suc less) outer (Prefixed at prefixes form) from met in
       called_answer inner at prefixes form from called before outside.routine routine
-      outside.member outside.told makes named
+      outside.member outside.told
+      (inner_has program settings n (suc less) outer inner at prefixes form from met comes) makes
+      named
 
   pub return_there : (deeper : ℕ) (place inner : Place) (at : ℕ) (prefixes : List Prefix)
       (value : Expr) (store : Store)
       → IsMet start deeper place (Prefixed at prefixes (Return value)) store
-      → ComesUnder store prefixes place inner → inner.result < length store.scalars
+      → ComesUnder store prefixes place inner → HasResult store inner
   return_there deeper place inner at prefixes value store met comes =
       let before = met_answer deeper place (Prefixed at prefixes (Return value)) store met in
-      let below = before.there (return_answers program before.routine at prefixes value before.told)
-      in
-      let same = under_result store prefixes place inner comes in
-      omega (arith, below, same)
+      let held = under_held store store prefixes place inner comes (same_store store)
+      (before.there (return_answers program before.routine at prefixes value before.told)) in
+      record {
+        there = held.below;
+        apart = All-from_recursion (λ (entry : List ℕ × Thing). IsApart inner.result entry.1)
+            inner.environment.names held.apart;
+      }
+
+-- the scalar is there when a call has answered
+pub answer_taken : (setup : Setup) (n deeper : ℕ) (called : Called) (store : Store)
+    → length store.scalars
+    < length (call_at setup n deeper called (with_new_scalar store (pos 0))).store.scalars
+answer_taken setup n deeper called store =
+    let one_more : length (store.scalars ++ pos 0 ∷ []) ≡ length store.scalars + 1 =
+    length-append store.scalars (pos 0 ∷ []) in
+    let longer = calls_keep setup n deeper called (with_new_scalar store (pos 0)) in
+    omega (arith, one_more, longer.scalars)

@@ -1,5 +1,6 @@
 -- The sites of a procedure's statements: their scopes, and the vectors that stand there.
-use Rattle.std.proofs.Common.{◌≡◌, Bool, true, false, cond, inl, inr, List, [], ◌∷◌, ◌++◌, map, Option}
+use Rattle.std.proofs.Common.{◌≡◌, Bool, true, false, cond, inl, inr, List, [], ◌∷◌, ◌++◌, map}
+use Rattle.std.proofs.Common.{Option}
 use Rattle.std.proofs.Common.{Some, None, option_to_list, Contains, refl, sym, ap, ◌∙◌, subst}
 use Rattle.std.specs.List.{flat_map}
 use Rattle.zpl_nums.specs.declared.operators.Op.{Op}
@@ -14,18 +15,20 @@ use Rattle.zpl_tree.specs.Syntax.{For, Border, Write, Return, Arm, Tested, Arms,
 use Rattle.zpl_tree.specs.Syntax.{Otherwise, NoElse, Else, Base, Program, Decl, Config, Constant}
 use Rattle.zpl_tree.specs.Syntax.{Regions, Directions, Vars, Defined}
 use Rattle.zpl_names.specs.Kinds.{Rank}
-use Rattle.zpl_names.specs.Scope.{Entry, constants_of}
+use Rattle.zpl_names.specs.Scope.{Entry}
 use Rattle.zpl_names.specs.Ranks.{inner_rank, own_rank, is_index, mask_rank}
-use Rattle.zpl_names.specs.Shapes.{Shapes, unknown_shapes}
+use Rattle.zpl_names.specs.Shapes.{unknown_shapes}
 use Rattle.zpl_names.specs.Declared.{Routine, routine_of, routines_of, routines_behind, scope_of}
 use Rattle.zpl_names.specs.Declared.{globals_of, with_decl, with_procedure}
-use Rattle.zpl_names.specs.Sites.{Reach, in_body, in_vector, over_source, under_prefix, under_prefixes}
+use Rattle.zpl_names.specs.Sites.{Reach, in_body, in_vector, over_source, under_prefix}
+use Rattle.zpl_names.specs.Sites.{under_prefixes}
 use Rattle.zpl_names.specs.Sites.{inside, Role, Bound, Component, Limit, Result, Test as TestRole}
 use Rattle.zpl_names.specs.Sites.{Printed, Actual, Operand, Assigned, whole_rank, Site, AtWhole}
-use Rattle.zpl_names.specs.Sites.{AtExpr, AtCall, AtNamed, AtDir, AtRegion, AtMask, AtStmt}
+use Rattle.zpl_names.specs.Sites.{AtExpr, AtDir, AtRegion, AtMask}
 use Rattle.zpl_names.specs.Sites.{index_sites, expr_sites, exprs_sites, actuals_sites, dir_sites}
-use Rattle.zpl_names.specs.Sites.{components_sites, region_sites, posts_sites, dims_sites, dim_sites}
-use Rattle.zpl_names.specs.Sites.{whole_sites, prefix_sites, prefixes_sites, value_sites, item_sites}
+use Rattle.zpl_names.specs.Sites.{components_sites, region_sites, posts_sites, dims_sites}
+use Rattle.zpl_names.specs.Sites.{dim_sites}
+use Rattle.zpl_names.specs.Sites.{whole_sites, prefixes_sites, value_sites, item_sites}
 use Rattle.zpl_names.specs.Sites.{step_sites, stmt_sites, stmts_sites, form_sites, arms_sites}
 use Rattle.zpl_names.specs.Sites.{arm_sites, otherwise_sites, body_sites, outermost_sites}
 use Rattle.zpl_names.specs.Sites.{routine_sites, arms_rank, test_rank, each_sites, decl_sites}
@@ -103,7 +106,8 @@ module _ (program : Program) (routine : Routine) where
   both : {xs ys : List Site} → Goes xs → Goes ys → Goes (xs ++ ys)
   both {xs} {ys} one other =
       record {
-        go = λ h. join xs ys (one.go (each_left InText xs ys h)) (other.go (each_right InText xs ys h));
+        go = λ h. join xs ys (one.go (each_left InText xs ys h))
+            (other.go (each_right InText xs ys h));
       }
 
   again : (reach within : Reach) → within.scope ≡ reach.scope → within.declared ≡ reach.declared

@@ -1,5 +1,5 @@
 -- What a store has.
-use Rattle.std.specs.Prelude.{◌<◌, length, All, Option, Some, None}
+use Rattle.std.specs.Prelude.{◌≢◌, ℕ, ◌<◌, length, All, Option, Some, None}
 use Rattle.zpl_meaning.specs.Store.{Thing, Scalar, ArrayAt, Fixed, Names, Store}
 use Rattle.zpl_meaning.specs.Context.{Mask, Over, Currents, Place}
 
@@ -30,3 +30,16 @@ pub record HasMasks (store : Store) (currents : Currents) : Type 0 where
 pub record HasPlaces (store : Store) (place : Place) : Type 0 where
   pub names : HasNames store place.environment.names
   pub masks : HasMasks store place.currents
+
+-- ---- the answer of a procedure
+
+-- it isn't the scalar at the place
+abbrev pub IsApart : ℕ → Thing → Type 0
+IsApart place (Scalar other) = other ≢ place
+IsApart place (ArrayAt other home) = Unit {0}
+IsApart place (Fixed value) = Unit {0}
+
+-- the scalar that takes it is there, and no name stands for it
+pub record HasResult (store : Store) (place : Place) : Type 0 where
+  pub there : place.result < length store.scalars
+  pub apart : All (λ entry. IsApart place.result entry.1) place.environment.names

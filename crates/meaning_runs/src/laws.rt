@@ -1,5 +1,5 @@
 //! The laws of what runs come to.
-ghost use Rattle.std.specs.Prelude.{◌≡◌, ◌↔◌, ◌<◌, ℕ, ℤ, length, List, Contains, Option, Some};
+ghost use Rattle.std.specs.Prelude.{◌≡◌, ◌↔◌, ◌<◌, ℕ, ℤ, length, pos, List, Contains, Option, Some};
 ghost use Rattle.zpl_nums.specs.declared.ends.End.TheVariants.{More};
 ghost use Rattle.zpl_region.specs.declared.regions.Region.{Region};
 ghost use Rattle.zpl_tree.specs.Syntax.{Expr, Form, Name, Posts, Pre, Prefix, Prefixed, Program};
@@ -16,15 +16,17 @@ ghost use Rattle.zpl_binding.specs.Settings.{Setting};
 ghost use Rattle.zpl_binding.specs.Regions.{before, behind};
 ghost use Rattle.zpl_binding.specs.Declarations.{known_of, names_of};
 ghost use Rattle.zpl_binding.specs.Bound.{IsAcceptedWith};
-ghost use Rattle.zpl_meaning.specs.Context.{Place};
+ghost use Rattle.zpl_meaning.specs.Context.{Place, Setup};
+ghost use Rattle.zpl_meaning.specs.Variables.{with_new_scalar};
+ghost use Rattle.zpl_meaning.specs.Calls.{Called};
 ghost use Rattle.zpl_meaning.specs.Store.{Store};
-ghost use Rattle.zpl_meaning.specs.Program.{mean_of};
+ghost use Rattle.zpl_meaning.specs.Program.{call_at, mean_of};
 ghost use Rattle.zpl_meaning.specs.Proper.{IsProperStmt};
 ghost use Rattle.zpl_meaning.specs.Visited.{first_setup, IsVisited};
 ghost use Rattle.meaning_runs.specs.Met.{ComesUnder, IsMet, opening_of};
 ghost use Rattle.meaning_runs.specs.Tuple.{IsMetBy};
 ghost use Rattle.meaning_runs.specs.Stops.{SomeLoopStops};
-ghost use Rattle.meaning_runs.specs.Held.{HasPlaces};
+ghost use Rattle.meaning_runs.specs.Held.{HasPlaces, HasResult};
 ghost use Rattle.meaning_runs.specs.Computed.{HasVectors, IsComputedAt};
 
 use zpl_binding::bound_lists_follow_the_text;
@@ -76,20 +78,24 @@ pub fn stores_have_what_names_stand_for()
 {}
 
 /// In a program without faults, at each `return` that a run comes to the store has a scalar for the
-/// answer.
+/// answer, which no name stands for. Wherever a call has answered, the store has the scalar that
+/// was added for it.
 pub fn answers_have_places()
-    ensures { (program : Program) (settings : List Setting) (n : ℕ) → IsFaultless program →
+    ensures given { (program : Program) (settings : List Setting) (n : ℕ) → IsFaultless program →
         (deeper : ℕ) (place inner : Place) (at : ℕ) (prefixes : List Prefix) (value : Expr)
         (store : Store) →
         IsMet (opening_of program settings n) deeper place (Prefixed at prefixes (Return value))
         store →
-        ComesUnder store prefixes place inner → inner.result < length store.scalars }
+        ComesUnder store prefixes place inner → HasResult store inner }
+    ensures taken { (setup : Setup) (n deeper : ℕ) (called : Called) (store : Store) →
+        length store.scalars <
+        length (call_at setup n deeper called (with_new_scalar store (pos 0))).store.scalars }
 {}
 
-/// In a program without faults, each region and each direction that a statement of the text names is
-/// among those for which one was computed, and so are the vectors there; and where a run comes to,
-/// each name that stands for a region or a direction is. With accepted settings, the only fault of
-/// forms around a region that stands in a statement is the limit of regions.
+/// In a program without faults, each region and each direction that a statement of the text names
+/// is among those for which one was computed, and so are the vectors there; and where a run comes
+/// to, each name that stands for a region or a direction is. With accepted settings, the only fault
+/// of forms around a region that stands in a statement is the limit of regions.
 pub fn regions_have_been_computed()
     ensures sites { (program : Program) (settings : List Setting) → IsFaultless program →
         (routine : Routine) → Contains (routines_of program) routine → (site : Site) →
