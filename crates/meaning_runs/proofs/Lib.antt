@@ -13,3 +13,6 @@ pub mod KnownLemmas
 pub mod SiteLemmas
 pub mod ComputedLemmas
 pub mod ApartLemmas
+pub mod EndLemmas
+pub mod StopLemmas
+pub mod TrapRunLemmas

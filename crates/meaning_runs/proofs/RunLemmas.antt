@@ -443,7 +443,7 @@ module _ (opening : Opening) where
       (ComesUnder.Behind prefix rest place inner ran.0 ran.1 comes))
 
   -- the body of what is called is met
-  abbrev IsCallMet : ℕ → Called → Store → Type 0
+  abbrev pub IsCallMet : ℕ → Called → Store → Type 0
   IsCallMet deeper called before =
       (less : ℕ) (routine : Routine) → deeper ≡ suc less
       → routine_named setup.program called.name ≡ Some routine
@@ -460,7 +460,7 @@ module _ (opening : Opening) where
       (place : Place) (store : Store) → IsMet opening deeper place stmt store
       → (exec (ctx deeper place) opening.bound stmt store).ending ≡ More → SomeLoopStops opening
 
-  met_call : (deeper : ℕ) (place inner : Place) (at : ℕ) (prefixes : List Prefix) (form : Form)
+  pub met_call : (deeper : ℕ) (place inner : Place) (at : ℕ) (prefixes : List Prefix) (form : Form)
       (store : Store) (called : Called) (before : Store)
       → IsMet opening deeper place (Prefixed at prefixes form) store
       → ComesUnder store prefixes place inner → MakesCall inner store form called before
@@ -514,7 +514,7 @@ module _ (opening : Opening) where
           (body_store setup routine called before) (met less routine refl is) e
 
   -- the whole run
-  abbrev entered_run : Outcome
+  abbrev pub entered_run : Outcome
   entered_run =
       call_at setup opening.bound longest_chain (entry_call setup.program) opening.store
 

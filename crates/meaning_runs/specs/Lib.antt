@@ -4,4 +4,5 @@ pub mod Held
 pub mod Met
 pub mod Runner
 pub mod Stops
+pub mod Traps
 pub mod Tuple

@@ -1,6 +1,7 @@
 //! The laws of what runs come to.
 ghost use Rattle.std.specs.Prelude.{◌≡◌, ◌↔◌, ◌<◌, ℕ, ℤ, length, pos, List, Contains, Option, Some};
-ghost use Rattle.zpl_nums.specs.declared.ends.End.TheVariants.{More};
+ghost use Rattle.zpl_nums.specs.declared.ends.End.TheVariants.{More, Trap};
+ghost use Rattle.zpl_nums.specs.declared.ends.TrapKind.{TrapKind};
 ghost use Rattle.zpl_region.specs.declared.regions.Region.{Region};
 ghost use Rattle.zpl_tree.specs.Syntax.{Expr, Form, Name, Posts, Pre, Prefix, Prefixed, Program};
 ghost use Rattle.zpl_tree.specs.Syntax.{Return, Stmt};
@@ -26,6 +27,7 @@ ghost use Rattle.zpl_meaning.specs.Visited.{first_setup, IsVisited};
 ghost use Rattle.meaning_runs.specs.Met.{ComesUnder, IsMet, opening_of};
 ghost use Rattle.meaning_runs.specs.Tuple.{IsMetBy};
 ghost use Rattle.meaning_runs.specs.Stops.{SomeLoopStops};
+ghost use Rattle.meaning_runs.specs.Traps.{SomeStatementTraps};
 ghost use Rattle.meaning_runs.specs.Held.{HasPlaces, HasResult};
 ghost use Rattle.meaning_runs.specs.Computed.{HasVectors, IsComputedAt};
 
@@ -38,6 +40,15 @@ pub fn more_comes_of_loops()
     ensures { (program : Program) (settings : List Setting) (n : ℕ) →
         ((mean_of program settings n).ending ≡ More) ↔
         SomeLoopStops (opening_of program settings n) }
+{}
+
+/// A run ends with a trap, and its line, exactly where it comes to a statement that traps so by
+/// itself: in a prefix, a test, the head of a `for` or the actuals of a call, or as a statement with
+/// no other in it.
+pub fn traps_come_of_statements()
+    ensures { (program : Program) (settings : List Setting) (n : ℕ) (kind : TrapKind) (line : ℕ) →
+        ((mean_of program settings n).ending ≡ Trap kind line) ↔
+        SomeStatementTraps (opening_of program settings n) kind line }
 {}
 
 /// Each statement that a run comes to is visited.
