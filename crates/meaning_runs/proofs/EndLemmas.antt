@@ -1,5 +1,5 @@
 -- How an outcome that ends with a trap comes about.
-use Rattle.std.proofs.Common.{◌≡◌, ℕ, zero, suc, Bool, true, false, ◌⊎◌, inl, inr, ℤ, Option, refl, sym}
+use Rattle.std.proofs.Common.{◌≡◌, ℕ, zero, suc, Bool, true, false, ◌⊎◌, inl, inr, ℤ, refl}
 use Rattle.std.proofs.Common.{ap, ◌∙◌}
 use Rattle.zpl_nums.specs.Integer.{is_true}
 use Rattle.zpl_nums.specs.declared.ends.End.{End}
@@ -148,12 +148,17 @@ module _ (kind : TrapKind) (line : ℕ) where
           inl (record { is = is ∙ ap Traps kinds; same = lines })
 
   module _ (test : Test) (body : Store → Outcome) (Goal : Type 0) where
-    pub while_traps : (n : ℕ) (store : Store) → Ends (while_turns n test body store)
+    -- what follows from a loop that traps, where it does from its test and from each turn
+    abbrev pub WhileTraps : ℕ → Store → Type 0
+    WhileTraps n store =
+        Ends (while_turns n test body store)
         → ((left : ℕ) (last : Store) → ComesToTest test body n store left last
         → Stops (test.value last) test.line → Goal)
         → ((left : ℕ) (turn : Store) → ComesToTest test body n store (suc left) turn
         → Holds test turn true → Ends (body turn) → Goal)
         → Goal
+
+    pub while_traps : (n : ℕ) (store : Store) → WhileTraps n store
     while_traps zero store e stops in_turn =
         by (tested_traps test wants_more goes_on store e)
       where
@@ -170,13 +175,7 @@ module _ (kind : TrapKind) (line : ℕ) where
       where
         turn : Holds test store true
             → Ends (body store) ⊎ Follows (body store) (while_turns n test body)
-            → (Ends (while_turns n test body (body store).store)
-            → ((left : ℕ) (last : Store) → ComesToTest test body n (body store).store left last
-            → Stops (test.value last) test.line → Goal)
-            → ((left : ℕ) (turn : Store) → ComesToTest test body n (body store).store (suc left) turn
-            → Holds test turn true → Ends (body turn) → Goal)
-            → Goal)
-            → Goal
+            → WhileTraps n (body store).store → Goal
         turn holds (inl trap) deeper =
             in_turn n store (ComesToTest.Enters (suc n) store) holds trap
         turn holds (inr f) deeper =
@@ -188,26 +187,14 @@ module _ (kind : TrapKind) (line : ℕ) where
 
         chosen : (truth : Bool) → Holds test store truth
             → Ends (choose truth (λ s. then_do (body s) (while_turns n test body)) goes_on store)
-            → (Ends (while_turns n test body (body store).store)
-            → ((left : ℕ) (last : Store) → ComesToTest test body n (body store).store left last
-            → Stops (test.value last) test.line → Goal)
-            → ((left : ℕ) (turn : Store) → ComesToTest test body n (body store).store (suc left) turn
-            → Holds test turn true → Ends (body turn) → Goal)
-            → Goal)
-            → Goal
+            → WhileTraps n (body store).store → Goal
         chosen true holds e deeper =
             turn holds (then_traps (body store) (while_turns n test body) e) deeper
         chosen false holds e deeper = done_no_trap kind line e
 
         by : Stops (test.value store) test.line
             ⊎ Chosen test (λ s. then_do (body s) (while_turns n test body)) goes_on store
-            → (Ends (while_turns n test body (body store).store)
-            → ((left : ℕ) (last : Store) → ComesToTest test body n (body store).store left last
-            → Stops (test.value last) test.line → Goal)
-            → ((left : ℕ) (turn : Store) → ComesToTest test body n (body store).store (suc left) turn
-            → Holds test turn true → Ends (body turn) → Goal)
-            → Goal)
-            → Goal
+            → WhileTraps n (body store).store → Goal
         by (inl trap) deeper = stops (suc n) store (ComesToTest.Enters (suc n) store) trap
         by (inr c) deeper = chosen c.truth c.holds c.ends deeper
 
@@ -216,12 +203,16 @@ module _ (kind : TrapKind) (line : ℕ) where
       pub done : (body turn).ending ≡ Done
       pub trap : Stops (test.value (body turn).store) test.line
 
-    pub repeat_traps : (n : ℕ) (store : Store) → Ends (repeat_turns n test body store)
+    abbrev pub RepeatTraps : ℕ → Store → Type 0
+    RepeatTraps n store =
+        Ends (repeat_turns n test body store)
         → ((left : ℕ) (turn : Store) → ComesToTurn test body n store (suc left) turn
         → EndsBehind turn → Goal)
         → ((left : ℕ) (turn : Store) → ComesToTurn test body n store (suc left) turn
         → Ends (body turn) → Goal)
         → Goal
+
+    pub repeat_traps : (n : ℕ) (store : Store) → RepeatTraps n store
     repeat_traps zero store e stops in_turn = more_no_trap kind line e
     repeat_traps (suc n) store e stops in_turn =
         by (then_traps (body store) (tested test goes_on (repeat_turns n test body)) e)
@@ -229,13 +220,7 @@ module _ (kind : TrapKind) (line : ℕ) where
       where
         chosen : (body store).ending ≡ Done → (truth : Bool) → Holds test (body store).store truth
             → Ends (choose truth goes_on (repeat_turns n test body) (body store).store)
-            → (Ends (repeat_turns n test body (body store).store)
-            → ((left : ℕ) (turn : Store) → ComesToTurn test body n (body store).store (suc left) turn
-            → EndsBehind turn → Goal)
-            → ((left : ℕ) (turn : Store) → ComesToTurn test body n (body store).store (suc left) turn
-            → Ends (body turn) → Goal)
-            → Goal)
-            → Goal
+            → RepeatTraps n (body store).store → Goal
         chosen done true holds e deeper = done_no_trap kind line e
         chosen done false holds e deeper =
             deeper e
@@ -247,38 +232,29 @@ module _ (kind : TrapKind) (line : ℕ) where
         behind_it : (body store).ending ≡ Done
             → Stops (test.value (body store).store) test.line
             ⊎ Chosen test goes_on (repeat_turns n test body) (body store).store
-            → (Ends (repeat_turns n test body (body store).store)
-            → ((left : ℕ) (turn : Store) → ComesToTurn test body n (body store).store (suc left) turn
-            → EndsBehind turn → Goal)
-            → ((left : ℕ) (turn : Store) → ComesToTurn test body n (body store).store (suc left) turn
-            → Ends (body turn) → Goal)
-            → Goal)
-            → Goal
+            → RepeatTraps n (body store).store → Goal
         behind_it done (inl trap) deeper =
             stops n store (ComesToTurn.Enters (suc n) store) (record { done = done; trap = trap })
         behind_it done (inr c) deeper = chosen done c.truth c.holds c.ends deeper
 
         by : Ends (body store)
             ⊎ Follows (body store) (tested test goes_on (repeat_turns n test body))
-            → (Ends (repeat_turns n test body (body store).store)
-            → ((left : ℕ) (turn : Store) → ComesToTurn test body n (body store).store (suc left) turn
-            → EndsBehind turn → Goal)
-            → ((left : ℕ) (turn : Store) → ComesToTurn test body n (body store).store (suc left) turn
-            → Ends (body turn) → Goal)
-            → Goal)
-            → Goal
+            → RepeatTraps n (body store).store → Goal
         by (inl trap) deeper = in_turn n store (ComesToTurn.Enters (suc n) store) trap
         by (inr f) deeper =
             behind_it f.done
             (tested_traps test goes_on (repeat_turns n test body) (body store).store f.ends) deeper
 
   module _ (count : Count) (set : ℤ → Store → Store) (body : Store → Outcome) (Goal : Type 0) where
-    pub for_traps : (n : ℕ) (value : ℤ) (store : Store)
-        → Ends (for_turns n count set body value store)
+    abbrev pub ForTraps : ℕ → ℤ → Store → Type 0
+    ForTraps n value store =
+        Ends (for_turns n count set body value store)
         → ((left : ℕ) (reached : ℤ) (turn : Store)
         → ComesToValue count set body n value store (suc left) reached turn
         → is_past count reached ≡ false → Ends (body (set reached turn)) → Goal)
         → Goal
+
+    pub for_traps : (n : ℕ) (value : ℤ) (store : Store) → ForTraps n value store
     for_traps zero value store e in_turn = by (is_past count value) e
       where
         by : (past : Bool) → Ends (choose past goes_on wants_more store) → Goal
@@ -291,14 +267,7 @@ module _ (kind : TrapKind) (line : ℕ) where
         turn : is_past count value ≡ false
             → Ends (body (set value store)) ⊎ Follows (body (set value store))
             (for_turns n count set body (next_value count value))
-            → (Ends (for_turns n count set body (next_value count value)
-            (body (set value store)).store)
-            → ((left : ℕ) (reached : ℤ) (turn : Store)
-            → ComesToValue count set body n (next_value count value) (body (set value store)).store
-            (suc left) reached turn
-            → is_past count reached ≡ false → Ends (body (set reached turn)) → Goal)
-            → Goal)
-            → Goal
+            → ForTraps n (next_value count value) (body (set value store)).store → Goal
         turn past (inl trap) deeper =
             in_turn n value store (ComesToValue.Enters (suc n) value store) past trap
         turn past (inr f) deeper =
@@ -307,14 +276,7 @@ module _ (kind : TrapKind) (line : ℕ) where
 
         by : (past : Bool) → is_past count value ≡ past
             → Ends (choose past goes_on (turn_of count set body n value) store)
-            → (Ends (for_turns n count set body (next_value count value)
-            (body (set value store)).store)
-            → ((left : ℕ) (reached : ℤ) (turn : Store)
-            → ComesToValue count set body n (next_value count value) (body (set value store)).store
-            (suc left) reached turn
-            → is_past count reached ≡ false → Ends (body (set reached turn)) → Goal)
-            → Goal)
-            → Goal
+            → ForTraps n (next_value count value) (body (set value store)).store → Goal
         by true past e deeper = done_no_trap kind line e
         by false past e deeper =
             turn past (then_traps (body (set value store))

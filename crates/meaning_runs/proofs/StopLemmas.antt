@@ -1,47 +1,38 @@
 -- A run ends with a trap exactly where a statement that it comes to traps by itself.
-use Rattle.std.proofs.Common.{◌≡◌, ℕ, zero, suc, ◌+◌, Bool, true, false, ◌⊎◌, inl, inr, ℤ, pos, List}
-use Rattle.std.proofs.Common.{[], ◌∷◌, length, Option, Some, None, refl, sym, ap, ◌∙◌, subst}
-use Rattle.std.specs.Prelude.{◌↔◌, int_lt}
-use Rattle.zpl_nums.specs.declared.ends.End.TheVariants.{Done, Trap, More}
+use Rattle.std.proofs.Common.{◌≡◌, ℕ, Bool, true, false, ◌⊎◌, inl, inr, pos, List}
+use Rattle.std.proofs.Common.{length, Option, Some, None, refl, sym, ap, ◌∙◌, subst}
+use Rattle.std.specs.Prelude.{int_lt}
+use Rattle.zpl_nums.specs.declared.ends.End.TheVariants.{Done}
 use Rattle.zpl_nums.specs.declared.ends.TrapKind.{TrapKind}
 use Rattle.zpl_nums.specs.declared.operators.Op.{Op}
 use Rattle.zpl_tree.specs.Syntax.{Name, Expr, Number, Truth, Coord, Named, Shifted, Around, Remap}
 use Rattle.zpl_tree.specs.Syntax.{Call, Paren, Neg, Not, Abs, Pair, Reduce, Scan, Flood, Exprs}
-use Rattle.zpl_tree.specs.Syntax.{ForHead, Prefix, Program, Stmt, Prefixed, Stmts, NoStmt, ThenStmt}
-use Rattle.zpl_tree.specs.Syntax.{Form, Assign, Invoke, Block, If, While, Repeat, For, Border, Write}
+use Rattle.zpl_tree.specs.Syntax.{ForHead, Stmt, Stmts, NoStmt, ThenStmt}
+use Rattle.zpl_tree.specs.Syntax.{Form, Assign, Invoke, Block, If, While, Repeat, For, Border}
+use Rattle.zpl_tree.specs.Syntax.{Write}
 use Rattle.zpl_tree.specs.Syntax.{Return, Tested, Arms, NoArm, ThenArm, Otherwise, NoElse, Else}
-use Rattle.zpl_names.proofs.ListLemmas.{Among}
-use Rattle.zpl_names.specs.Declared.{Routine, routine_named}
-use Rattle.zpl_names.specs.Reached.{longest_chain}
-use Rattle.zpl_binding.specs.Settings.{Setting}
-use Rattle.zpl_meaning.specs.Computed.{Gives, Traps}
+use Rattle.zpl_meaning.specs.Computed.{Gives}
 use Rattle.zpl_meaning.specs.Store.{Thing, Scalar, ArrayAt, Fixed, Store, thing_of, scalar_at}
 use Rattle.zpl_meaning.specs.Store.{cut_back}
-use Rattle.zpl_meaning.specs.Context.{Over, Setup, Place}
-use Rattle.zpl_meaning.specs.Regions.{over_in, under_prefix}
-use Rattle.zpl_meaning.specs.Outcome.{Outcome, goes_on, choose, then_do, is_past, for_turns}
+use Rattle.zpl_meaning.specs.Outcome.{Outcome, goes_on, choose, then_do, for_turns}
 use Rattle.zpl_meaning.specs.Outcome.{while_turns, repeat_turns}
 use Rattle.zpl_meaning.specs.Points.{shattered}
 use Rattle.zpl_meaning.specs.Variables.{with_new_scalar}
 use Rattle.zpl_meaning.specs.Calls.{Called, Handed, actuals_in}
-use Rattle.zpl_meaning.specs.Statement.{Context, Start, line_of, exec, exec_all, exec_form, exec_arms}
-use Rattle.zpl_meaning.specs.Statement.{exec_otherwise, under, head_value, for_from, is_split}
+use Rattle.zpl_meaning.specs.Statement.{Context, Start, line_of, exec, exec_all, exec_form}
+use Rattle.zpl_meaning.specs.Statement.{exec_arms}
+use Rattle.zpl_meaning.specs.Statement.{exec_otherwise, head_value, for_from, is_split}
 use Rattle.zpl_meaning.specs.Statement.{test_of, arms_at, with_result}
-use Rattle.zpl_meaning.specs.Program.{call_at, run_routine, entry_call, mean_of}
-use Rattle.zpl_meaning.specs.Visited.{parts_of, body_place, IsCall}
+use Rattle.zpl_meaning.specs.Visited.{IsCall}
 use Rattle.zpl_meaning.specs.Wanting.{Holds}
 use Rattle.meaning_runs.specs.Runner.{runner_at}
-use Rattle.meaning_runs.specs.Comes.{ComesInAll, ComesInArms, ComesIn, ComesToTest, ComesToTurn}
-use Rattle.meaning_runs.specs.Met.{ComesUnder, IsCounting, set_at, GoesTo, call_of, MakesCall}
-use Rattle.meaning_runs.specs.Met.{Opening, opening_of, context_at, body_store, IsMet}
-use Rattle.meaning_runs.specs.Traps.{ArmTraps, TestTraps, TrapsAt, PrefixTraps, StmtTraps}
-use Rattle.meaning_runs.specs.Traps.{SomeStatementTraps}
-use Rattle.meaning_runs.proofs.PartLemmas.{by_parts, goes_among}
-use Rattle.meaning_runs.proofs.TupleLemmas.{value_goes}
-use Rattle.meaning_runs.proofs.EndLemmas.{done_no_trap, then_goes, tested_goes, while_same}
-use Rattle.meaning_runs.proofs.EndLemmas.{repeat_same, for_turn, for_same, turn_of, Ends, then_stays}
-use Rattle.meaning_runs.proofs.EndLemmas.{value_stops, Stops, GoesOn, value_traps, Follows}
-use Rattle.meaning_runs.proofs.EndLemmas.{then_traps, Chosen, tested_traps, while_traps, EndsBehind}
+use Rattle.meaning_runs.specs.Comes.{ComesInAll, ComesInArms, ComesIn}
+use Rattle.meaning_runs.specs.Met.{IsCounting, set_at, GoesTo, call_of, MakesCall}
+use Rattle.meaning_runs.specs.Traps.{ArmTraps, TestTraps, TrapsAt}
+use Rattle.meaning_runs.proofs.EndLemmas.{done_no_trap}
+use Rattle.meaning_runs.proofs.EndLemmas.{Ends}
+use Rattle.meaning_runs.proofs.EndLemmas.{Stops, GoesOn, value_traps, Follows}
+use Rattle.meaning_runs.proofs.EndLemmas.{then_traps, Chosen, tested_traps, while_traps}
 use Rattle.meaning_runs.proofs.EndLemmas.{repeat_traps, for_traps}
 
 false_no_true : {A : Type 0} → false ≡ true → A
@@ -91,13 +82,18 @@ module _ (kind : TrapKind) (line : ℕ) (context : Context) (n : ℕ) where
         all_trap body store e (λ part later comes. found part later
         (ComesInArms.InElse at body store part later comes))
 
-    arms_trap : (arms : Arms) (at : ℕ) (otherwise : Otherwise) (store : Store)
-        → Trapped (exec_arms context n at arms (exec_otherwise context n otherwise) store)
+    -- what follows from arms that trap, where it does from a test and from a statement in them
+    abbrev ArmsTrap : Arms → ℕ → Otherwise → Store → Type 0
+    ArmsTrap arms at otherwise store =
+        Trapped (exec_arms context n at arms (exec_otherwise context n otherwise) store)
         → (ArmTraps (runner_at context n) at arms store kind line → Goal)
         → ((part : Stmt) (later : Store)
         → ComesInArms (runner_at context n) at arms otherwise store part later
         → Trapped (one part later) → Goal)
         → Goal
+
+    arms_trap : (arms : Arms) (at : ℕ) (otherwise : Otherwise) (store : Store)
+        → ArmsTrap arms at otherwise store
     arms_trap NoArm at otherwise store e stops found = else_trap otherwise at store e found
     arms_trap (ThenArm (Tested own test body) rest) at otherwise store e stops found =
         by (tested_traps kind line (test_of context.place test at) (all body)
@@ -107,13 +103,7 @@ module _ (kind : TrapKind) (line : ℕ) (context : Context) (n : ℕ) where
         chosen : (truth : Bool) → Holds (test_of context.place test at) store truth
             → Trapped (choose truth (all body)
             (exec_arms context n (arms_at rest) rest (exec_otherwise context n otherwise)) store)
-            → (Trapped (exec_arms context n (arms_at rest) rest
-            (exec_otherwise context n otherwise) store)
-            → (ArmTraps (runner_at context n) (arms_at rest) rest store kind line → Goal)
-            → ((part : Stmt) (later : Store)
-            → ComesInArms (runner_at context n) (arms_at rest) rest otherwise store part later
-            → Trapped (one part later) → Goal) → Goal)
-            → Goal
+            → ArmsTrap rest (arms_at rest) otherwise store → Goal
         chosen true holds e deeper =
             all_trap body store e (λ part later comes. found part later
             (ComesInArms.InFirst at own test body rest otherwise store part later holds comes))
@@ -127,13 +117,7 @@ module _ (kind : TrapKind) (line : ℕ) (context : Context) (n : ℕ) where
             (test_of context.place test at).line
             ⊎ Chosen kind line (test_of context.place test at) (all body)
             (exec_arms context n (arms_at rest) rest (exec_otherwise context n otherwise)) store
-            → (Trapped (exec_arms context n (arms_at rest) rest
-            (exec_otherwise context n otherwise) store)
-            → (ArmTraps (runner_at context n) (arms_at rest) rest store kind line → Goal)
-            → ((part : Stmt) (later : Store)
-            → ComesInArms (runner_at context n) (arms_at rest) rest otherwise store part later
-            → Trapped (one part later) → Goal) → Goal)
-            → Goal
+            → ArmsTrap rest (arms_at rest) otherwise store → Goal
         by (inl trap) deeper =
             stops (subst (λ (l : ℕ). ArmTraps (runner_at context n) at
             (ThenArm (Tested own test body) rest) store kind l) trap.same
@@ -242,8 +226,8 @@ module _ (kind : TrapKind) (line : ℕ) (context : Context) (n : ℕ) where
 
         by : Stops kind line (head_value context.place store head) (line_of context.place at)
             ⊎ GoesOn kind line (head_value context.place store head)
-            (λ start. for_from n (thing_of context.place.environment head.name.text) start (all body)
-            store)
+            (λ start. for_from n (thing_of context.place.environment head.name.text) start
+            (all body) store)
             → Goal
         by (inl trap) =
             own (subst (λ (l : ℕ). TrapsAt context n at (For head body) store kind l) trap.same

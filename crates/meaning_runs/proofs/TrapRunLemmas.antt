@@ -1,24 +1,24 @@
 -- A run ends with a trap exactly where a statement that it comes to traps by itself: the run.
-use Rattle.std.proofs.Common.{◌≡◌, ℕ, zero, suc, Bool, true, false, ◌⊎◌, inl, inr, ℤ, pos, List, []}
-use Rattle.std.proofs.Common.{◌∷◌, length, Option, Some, None, refl, sym, ap, ◌∙◌, subst}
+use Rattle.std.proofs.Common.{◌≡◌, ℕ, zero, suc, Bool, true, false, ◌⊎◌, inl, inr, pos, List, []}
+use Rattle.std.proofs.Common.{◌∷◌, length, Option, Some, None, refl, ap, ◌∙◌, subst}
 use Rattle.std.specs.Prelude.{◌↔◌, int_lt}
-use Rattle.zpl_nums.specs.declared.ends.End.TheVariants.{Done, Trap, More}
+use Rattle.zpl_nums.specs.declared.ends.End.TheVariants.{Trap}
 use Rattle.zpl_nums.specs.declared.ends.TrapKind.{TrapKind}
-use Rattle.zpl_tree.specs.Syntax.{Name, Expr, Call, Exprs, ForHead, Prefix, Program, Stmt, Prefixed}
-use Rattle.zpl_tree.specs.Syntax.{Stmts, NoStmt, ThenStmt, Form, Assign, Invoke, Block, If, While}
-use Rattle.zpl_tree.specs.Syntax.{Repeat, For, Border, Write, Return, Tested, Arms, NoArm, ThenArm}
-use Rattle.zpl_tree.specs.Syntax.{Otherwise, NoElse, Else}
+use Rattle.zpl_tree.specs.Syntax.{Name, Exprs, ForHead, Prefix, Program, Stmt, Prefixed}
+use Rattle.zpl_tree.specs.Syntax.{Stmts, Form, If, While}
+use Rattle.zpl_tree.specs.Syntax.{Repeat, For, Arms}
+use Rattle.zpl_tree.specs.Syntax.{Otherwise}
 use Rattle.zpl_names.proofs.ListLemmas.{Among}
 use Rattle.zpl_names.specs.Declared.{Routine, routine_named}
 use Rattle.zpl_names.specs.Reached.{longest_chain}
 use Rattle.zpl_binding.specs.Settings.{Setting}
-use Rattle.zpl_meaning.specs.Computed.{Gives, Traps}
-use Rattle.zpl_meaning.specs.Store.{Scalar, Store, thing_of, scalar_at, cut_back}
-use Rattle.zpl_meaning.specs.Context.{Over, Setup, Place}
+use Rattle.zpl_meaning.specs.Computed.{Traps}
+use Rattle.zpl_meaning.specs.Store.{Store, thing_of, scalar_at, cut_back}
+use Rattle.zpl_meaning.specs.Context.{Setup, Place}
 use Rattle.zpl_meaning.specs.Regions.{over_in, under_prefix}
 use Rattle.zpl_nums.specs.Integer.{is_true}
 use Rattle.zpl_meaning.specs.Outcome.{Outcome, goes_on, wants_more, choose, then_do, Test, tested}
-use Rattle.zpl_meaning.specs.Outcome.{is_past, next_value, for_turns}
+use Rattle.zpl_meaning.specs.Outcome.{next_value, for_turns}
 use Rattle.zpl_meaning.specs.Outcome.{while_turns, repeat_turns}
 use Rattle.zpl_meaning.specs.Points.{shattered}
 use Rattle.zpl_meaning.specs.Variables.{with_new_scalar}
@@ -28,7 +28,6 @@ use Rattle.zpl_meaning.specs.Statement.{exec_otherwise, under, head_value, for_f
 use Rattle.zpl_meaning.specs.Statement.{test_of, arms_at, with_result}
 use Rattle.zpl_meaning.specs.Program.{call_at, run_routine, entry_call, mean_of}
 use Rattle.zpl_meaning.specs.Visited.{parts_of, body_place, IsCall}
-use Rattle.zpl_meaning.specs.Wanting.{Holds}
 use Rattle.meaning_runs.specs.Runner.{runner_at}
 use Rattle.meaning_runs.specs.Comes.{ComesInAll, ComesInArms, ComesIn}
 use Rattle.meaning_runs.specs.Met.{ComesUnder, IsCounting, set_at, GoesTo, call_of, MakesCall}
@@ -38,7 +37,7 @@ use Rattle.meaning_runs.specs.Traps.{SomeStatementTraps}
 use Rattle.meaning_runs.proofs.PartLemmas.{by_parts, goes_among}
 use Rattle.meaning_runs.proofs.TupleLemmas.{value_goes}
 use Rattle.meaning_runs.proofs.EndLemmas.{done_no_trap, then_goes, tested_goes, while_same}
-use Rattle.meaning_runs.proofs.EndLemmas.{repeat_same, for_turn, for_same, turn_of, Ends, then_stays}
+use Rattle.meaning_runs.proofs.EndLemmas.{repeat_same, for_turn, for_same, Ends, then_stays}
 use Rattle.meaning_runs.proofs.EndLemmas.{value_stops, Stops, GoesOn, value_traps}
 use Rattle.meaning_runs.proofs.StopLemmas.{form_traps}
 use Rattle.meaning_runs.proofs.RunLemmas.{IsCallMet, met_call, entered_run}
@@ -107,8 +106,8 @@ module _ (context : Context) (n : ℕ) where
       choose_false (is_split context (Repeat body until test))
       (split_run offset (Repeat body until test)) (repeat_turns n condition (all body)) same whole
       ∙ (repeat_same condition (all body) n same (suc left) turn comes
-      ∙ (then_goes (all body turn) (tested condition goes_on (repeat_turns left condition (all body)))
-      done
+      ∙ (then_goes (all body turn)
+      (tested condition goes_on (repeat_turns left condition (all body))) done
       ∙ value_stops trap condition.line (condition.value behind) behind condition.line
       (λ value. choose (is_true value) goes_on (repeat_turns left condition (all body)) behind) is
       refl))
@@ -184,7 +183,8 @@ module _ (context : Context) (n : ℕ) where
       store).ending
   for_is at head body store counting =
       value_goes (head_value context.place store head) store (line_of context.place at)
-      (λ start. for_from n (thing_of context.place.environment head.name.text) start (all body) store)
+      (λ start. for_from n (thing_of context.place.environment head.name.text) start (all body)
+      store)
       counting.start counting.has
       ∙ (ap (λ thing. (for_from n thing counting.start (all body) store).ending) counting.is_scalar
       ∙ choose_false (int_lt counting.start.count.by (pos 1)) goes_on
@@ -217,7 +217,8 @@ module _ (context : Context) (n : ℕ) where
   traps_end at form store kind line (TrapsAt.Head offset head body from trap is) =
       value_stops trap (line_of context.place offset) (head_value context.place from head) from
       (line_of context.place offset)
-      (λ start. for_from n (thing_of context.place.environment head.name.text) start (all body) from)
+      (λ start. for_from n (thing_of context.place.environment head.name.text) start (all body)
+      from)
       is refl
   traps_end at form store kind line (TrapsAt.Actuals offset same name actuals from trap call is) =
       called offset same name actuals from trap call is
@@ -226,7 +227,8 @@ module _ (context : Context) (n : ℕ) where
           (kind : TrapKind) → IsCall form name actuals
           → actuals_in context.place store name actuals ≡ Traps kind
           → Ends kind (line_of context.place at) (exec_form context n at form store)
-      called at form name actuals store kind (IsCall.AsStatement {name = same} {actuals = given}) is =
+      called at form name actuals store kind
+          (IsCall.AsStatement {name = same} {actuals = given}) is =
           value_stops kind (line_of context.place at) (actuals_in context.place store same given)
           store (line_of context.place at)
           (λ handed. context.call (call_of context.place same handed 0) store) is refl
@@ -391,8 +393,8 @@ module _ (kind : TrapKind) (line : ℕ) (opening : Opening) where
       routine.procedure.body (body_store setup routine called before))
       → Trapped (call_at setup opening.bound (suc deeper) called before)
   routine_ends deeper called before routine named e =
-      ap (λ found. (run_routine setup opening.bound (call_at setup opening.bound deeper) found called
-      before).ending) named ∙ e
+      ap (λ found. (run_routine setup opening.bound (call_at setup opening.bound deeper) found
+      called before).ending) named ∙ e
 
   met_ends : (deeper : ℕ) (place : Place) (stmt : Stmt) (store : Store)
       → IsMet opening deeper place stmt store
@@ -424,14 +426,15 @@ prefix_ends opening deeper store next prefixes place kind line
     (PrefixTraps.ThisPrefix prefix rest outer trap is) =
     value_stops trap (line_of outer prefix.at) (over_in outer store prefix) store
     (line_of outer prefix.at)
-    (λ given. under (context_at opening deeper (under_prefix outer prefix given)) rest store next) is
-    refl
+    (λ given. under (context_at opening deeper (under_prefix outer prefix given)) rest store next)
+    is refl
 prefix_ends opening deeper store next prefixes place kind line
     (PrefixTraps.LaterPrefix prefix rest outer over trap where_at is later) =
     value_goes (over_in outer store prefix) store (line_of outer prefix.at)
     (λ given. under (context_at opening deeper (under_prefix outer prefix given)) rest store next)
     over is
-    ∙ prefix_ends opening deeper store next rest (under_prefix outer prefix over) trap where_at later
+    ∙ prefix_ends opening deeper store next rest (under_prefix outer prefix over) trap where_at
+    later
 
 stmt_ends : (opening : Opening) (deeper : ℕ) (place : Place) (stmt : Stmt) (store : Store)
     (kind : TrapKind) (line : ℕ) → StmtTraps opening deeper place stmt store kind line

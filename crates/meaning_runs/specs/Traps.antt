@@ -1,6 +1,5 @@
 -- Where a run traps: at a statement that it comes to, by that statement itself.
-use Rattle.std.specs.Prelude.{◌≡◌, ℕ, suc, true, false, List, ◌∷◌, Option, Some, None}
-use Rattle.zpl_nums.specs.declared.operators.Op.{Op}
+use Rattle.std.specs.Prelude.{◌≡◌, ℕ, suc, true, false, List, ◌∷◌}
 use Rattle.zpl_nums.specs.declared.ends.End.TheVariants.{Done, Trap}
 use Rattle.zpl_nums.specs.declared.ends.TrapKind.{TrapKind}
 use Rattle.zpl_tree.specs.Syntax.{Name, Expr, Exprs, ForHead, Prefix, Stmt, Prefixed, Stmts, Form}

@@ -43,8 +43,8 @@ pub fn more_comes_of_loops()
 {}
 
 /// A run ends with a trap, and its line, exactly where it comes to a statement that traps so by
-/// itself: in a prefix, a test, the head of a `for` or the actuals of a call, or as a statement with
-/// no other in it.
+/// itself: in a prefix, a test, the head of a `for` or the actuals of a call, or as a statement
+/// with no other in it.
 pub fn traps_come_of_statements()
     ensures { (program : Program) (settings : List Setting) (n : ℕ) (kind : TrapKind) (line : ℕ) →
         ((mean_of program settings n).ending ≡ Trap kind line) ↔
