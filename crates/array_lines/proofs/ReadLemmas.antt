@@ -48,7 +48,7 @@ map_three f xs d a b c h p q r = ap (map f) (three_of xs d h) ∙ cons_same (sym
 
 -- ---- by tests
 
-abbrev has_along : Dim → ℤ → Bool
+abbrev pub has_along : Dim → ℤ → Bool
 has_along (Range lo hi step align) x = is_coordinate (Range lo hi step align) x
 has_along Flood x = true
 
@@ -65,7 +65,7 @@ three_tests p r c x y z =
     place_by_tests p (r ∷ c ∷ []) x (y ∷ z ∷ [])
     ∙ ap (λ b. has_along p x && b) (place_by_tests r (c ∷ []) y (z ∷ []) ∙ ap (λ b. has_along r y && b) (place_by_tests c [] z []))
 
-place_is : (p q s m n : ℕ) → p * (m * (n * 1)) + (q * (n * 1) + (s * 1 + 0)) ≡ (p * m + q) * n + s
+pub place_is : (p q s m n : ℕ) → p * (m * (n * 1)) + (q * (n * 1) + (s * 1 + 0)) ≡ (p * m + q) * n + s
 place_is p q s m n = omega arith
 
 -- a choice by three tests, and one after the other
@@ -93,31 +93,31 @@ element_by_spots p r c values default x y z =
 
 -- ---- lines of a region
 
-map_of_one : (f : List ℤ → ℤ) (zs : List ℤ) → map f (tuples (zs ∷ [])) ≡ map (λ z. f (z ∷ [])) zs
+map_of_one : {X : Type 0} (f : List ℤ → X) (zs : List ℤ) → map f (tuples (zs ∷ [])) ≡ map (λ z. f (z ∷ [])) zs
 map_of_one f [] = refl
 map_of_one f (z ∷ zs) = ap (λ rest. f (z ∷ []) ∷ rest) (map_of_one f zs)
 
-map_within : (f : List ℤ → ℤ) (x : ℤ) (ts : List (List ℤ)) → map f (map (λ t. x ∷ t) ts) ≡ map (λ t. f (x ∷ t)) ts
+map_within : {X : Type 0} (f : List ℤ → X) (x : ℤ) (ts : List (List ℤ)) → map f (map (λ t. x ∷ t) ts) ≡ map (λ t. f (x ∷ t)) ts
 map_within f x [] = refl
 map_within f x (t ∷ ts) = ap (λ rest. f (x ∷ t) ∷ rest) (map_within f x ts)
 
-pub map_of_tuples : (f : List ℤ → ℤ) (xs : List ℤ) (rest : List (List ℤ)) → map f (tuples (xs ∷ rest)) ≡ flat_map (λ x. map (λ t. f (x ∷ t)) (tuples rest)) xs
+pub map_of_tuples : {X : Type 0} (f : List ℤ → X) (xs : List ℤ) (rest : List (List ℤ)) → map f (tuples (xs ∷ rest)) ≡ flat_map (λ x. map (λ t. f (x ∷ t)) (tuples rest)) xs
 map_of_tuples f [] rest = refl
 map_of_tuples f (x ∷ xs) rest =
     map-append f (map (λ t. x ∷ t) (tuples rest)) (tuples (xs ∷ rest))
     ∙ (ap (λ l. l ++ map f (tuples (xs ∷ rest))) (map_within f x (tuples rest))
     ∙ ap (λ l. map (λ t. f (x ∷ t)) (tuples rest) ++ l) (map_of_tuples f xs rest))
 
-pub flat_same : (f g : ℤ → List ℤ) (xs : List ℤ) → ((x : ℤ) → f x ≡ g x) → flat_map f xs ≡ flat_map g xs
+pub flat_same : {X : Type 0} (f g : ℤ → List X) (xs : List ℤ) → ((x : ℤ) → f x ≡ g x) → flat_map f xs ≡ flat_map g xs
 flat_same f g [] h = refl
 flat_same f g (x ∷ xs) h = ap (λ l. l ++ flat_map f xs) (h x) ∙ ap (λ l. g x ++ l) (flat_same f g xs h)
 
-map_same : (f g : ℤ → ℤ) (xs : List ℤ) → ((x : ℤ) → f x ≡ g x) → map f xs ≡ map g xs
+map_same : {X : Type 0} (f g : ℤ → X) (xs : List ℤ) → ((x : ℤ) → f x ≡ g x) → map f xs ≡ map g xs
 map_same f g [] h = refl
 map_same f g (x ∷ xs) h = cons_same (h x) (map_same f g xs h)
 
 -- the values of a region by lines
-pub map_by_lines : (f : List ℤ → ℤ) (g : ℤ → ℤ → ℤ → ℤ) (xs ys zs : List ℤ) → ((x y z : ℤ) → f (x ∷ y ∷ z ∷ []) ≡ g x y z)
+pub map_by_lines : {X : Type 0} (f : List ℤ → X) (g : ℤ → ℤ → ℤ → X) (xs ys zs : List ℤ) → ((x y z : ℤ) → f (x ∷ y ∷ z ∷ []) ≡ g x y z)
     → map f (tuples (xs ∷ ys ∷ zs ∷ [])) ≡ flat_map (λ x. flat_map (λ y. map (g x y) zs) ys) xs
 map_by_lines f g xs ys zs h =
     map_of_tuples f xs (ys ∷ zs ∷ [])

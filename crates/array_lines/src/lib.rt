@@ -10,6 +10,6 @@ mod sides;
 mod ways;
 
 pub use axes::Axis;
-pub use reads::{Reading, push_read};
-pub use sides::Way;
+pub use reads::{Reading, line_of, push_read};
+pub use sides::{Side, Way};
 pub use ways::{ways_around, ways_flooded, ways_shifted};

@@ -56,8 +56,9 @@ fn value_at(values: &[i64], place: u64) -> i64
     values.get(place as usize).copied().unwrap_or(0)
 }
 
-/// The place of a line among the lines of a storage, by those of its two coordinates.
-fn line_of(rows: u64, plane: Option<u64>, row: Option<u64>) -> Option<u64>
+/// The place of a line among the lines of a storage, by those of its two coordinates: of a plane, and
+/// of a row of which each plane has so many.
+pub fn line_of(rows: u64, plane: Option<u64>, row: Option<u64>) -> Option<u64>
     requires plane { IfSome plane (λ p. (p + 1) * rows ≤ 4194304) }
     requires row { IfSome row (λ r. r < rows) }
     ensures line { result ≡ line_of rows plane row }

@@ -65,9 +65,9 @@ fn spot(dim: Dim, x: i64) -> Option<u64>
     }
 }
 
-/// One dimension of an array that is read under a region.
+/// One dimension of an array under a region.
 #[derive(Clone, Copy)]
-pub(crate) struct Side {
+pub struct Side {
     /// That of the storage.
     pub dim: Dim,
     /// How many coordinates it has.

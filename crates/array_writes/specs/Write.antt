@@ -1,0 +1,103 @@
+-- What an array holds once a row of values has been written at the tuples of a region.
+use Rattle.std.specs.Prelude.{◌≡◌, ℕ, zero, suc, ◌+◌, Bool, true, false, ◌&&◌, ℤ, pos}
+use Rattle.std.specs.Prelude.{Option, Some, None, if◌then◌else◌, List, [], ◌∷◌, map, flat_map}
+use Rattle.std.specs.Prelude.{drop, slice_set, take}
+use Rattle.zpl_region.specs.declared.dims.Dim.{Dim}
+use Rattle.zpl_region.specs.declared.dims.Dim.TheVariants.{Range, Flood}
+use Rattle.zpl_region.specs.declared.regions.Region.{Region}
+use Rattle.zpl_region.specs.Dim.{coordinates}
+use Rattle.zpl_region.specs.Region.{padding}
+use Rattle.zpl_region.specs.Tests.{is_member}
+use Rattle.zpl_arrays.specs.Array.{Array, array_of, element, place_among}
+use Rattle.array_lines.specs.declared.sides.Side.{Side}
+use Rattle.array_lines.specs.declared.sides.Way.TheVariants.{Moved}
+use Rattle.array_lines.specs.Axis.{along}
+use Rattle.array_lines.specs.Read.{IsSide, line_of, spot_on}
+use Rattle.array_writes.specs.declared.writes.Row.{Row}
+use Rattle.array_writes.specs.declared.writes.Sides.{Sides}
+
+-- ---- the array that is meant
+
+-- the array with new values at its own tuples in a region, those aside that are masked out
+abbrev pub written_in : Array → Region → (List ℤ → Bool) → (List ℤ → ℤ) → Array
+written_in array region is_in value =
+    array_of array.storage (λ t.
+    if is_member region t && is_in t then value t else element array t)
+
+-- ---- by places
+
+-- values with another one at a place, where there is one and nothing is masked out
+abbrev pub put_one : List ℤ → Option ℕ → Bool → ℤ → List ℤ
+put_one stored (Some place) true value = slice_set stored place value
+put_one stored (Some place) false value = stored
+put_one stored None is_in value = stored
+
+-- one after the other, up to the end of the shortest list
+abbrev pub put_each : List ℤ → List (Option ℕ) → List Bool → List ℤ → List ℤ
+put_each stored [] kept values = stored
+put_each stored (place ∷ places) [] values = stored
+put_each stored (place ∷ places) (is_in ∷ kept) [] = stored
+put_each stored (place ∷ places) (is_in ∷ kept) (value ∷ values) =
+    put_each (put_one stored place is_in value) places kept values
+
+-- the place of a tuple among those of a storage, where it is one of them
+abbrev pub place_at : Region → List ℤ → Option ℕ
+place_at storage t = if is_member storage t then Some (place_among storage.dims t) else None
+
+-- ---- by dimensions
+
+-- The same dimension for writes: a tuple of the storage has 0 in a flood dimension.
+abbrev pub solid : Dim → Dim
+solid (Range lo hi step align) = Range lo hi step align
+solid Flood = padding
+
+pub record AreSides (sides : Sides) : Type 0 where
+  pub planes : IsSide sides.planes
+  pub rows : IsSide sides.rows
+  pub columns : IsSide sides.columns
+
+-- the dimensions of a storage and of a region
+pub record IsUnder (sides : Sides) (storage region : Region) : Type 0 where
+  pub fitting : AreSides sides
+  pub dims : map solid storage.dims
+      ≡ sides.planes.dim ∷ sides.rows.dim ∷ sides.columns.dim ∷ []
+  pub planes_way : sides.planes.way ≡ Moved (pos 0)
+  pub rows_way : sides.rows.way ≡ Moved (pos 0)
+  pub columns_way : sides.columns.way ≡ Moved (pos 0)
+  pub along : map coordinates region.dims
+      ≡ along sides.planes.along ∷ along sides.rows.along ∷ along sides.columns.along ∷ []
+
+-- the place at a coordinate of a line, and those at several
+abbrev pub line_place : Sides → Option ℕ → ℤ → Option ℕ
+line_place sides line x = line_of sides.columns.size line (spot_on sides.columns x)
+
+abbrev pub line_places : Sides → Option ℕ → List ℤ → List (Option ℕ)
+line_places sides line xs = map (line_place sides line) xs
+
+-- those of a row of a plane, and of several
+abbrev pub row_places : Sides → Option ℕ → ℤ → List (Option ℕ)
+row_places sides plane x =
+    line_places sides (line_of sides.rows.size plane (spot_on sides.rows x))
+    (along sides.columns.along)
+
+abbrev pub plane_places : Sides → Option ℕ → List ℤ → List (Option ℕ)
+plane_places sides plane xs = flat_map (row_places sides plane) xs
+
+-- those of a plane of the region, and of several
+abbrev pub places_at : Sides → ℤ → List (Option ℕ)
+places_at sides x = plane_places sides (spot_on sides.planes x) (along sides.rows.along)
+
+abbrev pub all_places : Sides → List ℤ → List (Option ℕ)
+all_places sides xs = flat_map (places_at sides) xs
+
+-- places that follow each other, each so far from the one before it
+abbrev pub run_places : ℕ → ℕ → ℕ → List (Option ℕ)
+run_places first apart zero = []
+run_places first apart (suc count) = Some first ∷ run_places (first + apart) apart count
+
+-- ---- rows
+
+-- a part of a row, from a place on and so long
+pub record IsPart (row : Row) (at size : ℕ) (part : Row) : Type 0 where
+  pub values : part.values.now ≡ take size (drop at row.values.now)
+  pub kept : part.kept.now ≡ take size (drop at row.kept.now)
