@@ -1,10 +1,10 @@
 -- Lemmas on the places of tuples, dimension by dimension.
-use Rattle.std.proofs.Common.{◌≡◌, ℕ, zero, suc, ◌+◌, ◌-◌, ◌*◌, ◌<◌, ◌≤◌, Bool, true, false, ◌&&◌, if◌then◌else◌, Option, Some, None, List, [], ◌∷◌, ◌++◌, length, map, flat_map, ℤ, pos, ◌+ℤ◌, ◌≤ℤ◌, refl, sym, ◌∙◌, ap, subst, arith}
+use Rattle.std.proofs.Common.{◌≡◌, ℕ, zero, suc, ◌+◌, ◌-◌, ◌*◌, ◌<◌, ◌≤◌, Bool, true, false, ◌&&◌, if◌then◌else◌, Option, Some, None, List, [], ◌∷◌, ◌++◌, length, drop, replicate, get_or, map, flat_map, ℤ, pos, ◌+ℤ◌, ◌≤ℤ◌, refl, sym, ◌∙◌, ap, subst, arith}
 use Rattle.std.specs.Option.{IfSome}
 use Rattle.std.specs.Ordering.{int_eq}
 use Rattle.std.proofs.Math.Nat.{mul-le-mul_right}
 use Rattle.std.proofs.lemmas.Int.{ints}
-use Rattle.std.proofs.lemmas.List.{length-append, length-map}
+use Rattle.std.proofs.lemmas.List.{drop-map, length-append}
 use Rattle.zpl_region.specs.declared.dims.Dim.{Dim}
 use Rattle.zpl_region.specs.declared.dims.Dim.TheVariants.{Range, Flood}
 use Rattle.zpl_region.specs.declared.regions.Region.{Region}
@@ -12,24 +12,25 @@ use Rattle.zpl_region.specs.Dim.{HasStep, IsCoordinate, coordinates}
 use Rattle.zpl_region.specs.Ends.{coordinate_count, tuple_count}
 use Rattle.zpl_region.specs.Progression.{progression}
 use Rattle.zpl_region.specs.Region.{IsRegion, members, padding, tuples}
-use Rattle.zpl_region.specs.Tests.{are_coordinates, is_coordinate, is_member}
+use Rattle.zpl_region.specs.Tests.{are_coordinates, is_coordinate}
 use Rattle.std.proofs.lemmas.Option.{slice_get_within}
 use Rattle.zpl_region.proofs.HullLemmas.{has_steps}
-use Rattle.zpl_region.proofs.ListLemmas.{int_eq-false}
+use Rattle.zpl_region.proofs.ListLemmas.{cons_same, int_eq-false}
 use Rattle.zpl_region.proofs.ProgressionLemmas.{length-progression}
-use Rattle.zpl_region.proofs.TestLemmas.{is_coordinate_iff, is_member_iff}
-use Rattle.zpl_arrays.proofs.ArrayLemmas.{place_of_tuple}
+use Rattle.zpl_region.proofs.TestLemmas.{is_coordinate_iff}
+use Rattle.zpl_arrays.proofs.ArrayLemmas.{flattened_member, place_of_tuple}
 use Rattle.zpl_region.proofs.RegionLemmas.{length-tuples_one}
 use Rattle.zpl_region.proofs.TupleLemmas.{length-tuples}
-use Rattle.zpl_arrays.specs.Array.{place_along, place_among}
+use Rattle.zpl_arrays.specs.Array.{each_has_place, flattened, has_place, place_along, place_among}
 use Rattle.array_lines.specs.declared.sides.Side.{Side}
 use Rattle.array_lines.specs.declared.sides.Way.{Way}
 use Rattle.array_lines.specs.declared.sides.Way.TheVariants.{Moved}
 use Rattle.array_lines.specs.Axis.{along}
-use Rattle.array_lines.specs.Read.{gone, line_of, spot, spot_on}
-use Rattle.array_lines.proofs.ReadLemmas.{map_by_lines, place_is}
-use Rattle.array_writes.specs.declared.writes.Sides.{Sides}
-use Rattle.array_writes.specs.Write.{IsUnder, all_places, line_place, line_places, place_at, places_at, plane_places, put_each, put_one, row_places, run_places, solid}
+use Rattle.array_lines.specs.Read.{each_gone, gone, line_of, spot, spot_on}
+use Rattle.array_lines.proofs.ReadLemmas.{has_along, map_by_lines, map_three, place_is, three_of}
+use Rattle.array_writes.specs.declared.puts.Change.{Change}
+use Rattle.array_writes.specs.declared.puts.Sides.{Sides}
+use Rattle.array_writes.specs.Write.{IsUnder, all_places, line_place, line_places, place_at, place_gone, places_at, plane_places, put_each, put_one, row_places, run_places, solid, solid_region, still}
 use Rattle.array_writes.proofs.PutLemmas.{length-places, map_places}
 
 -- ---- one dimension
@@ -64,36 +65,7 @@ solid_count : (dim : Dim) → coordinate_count (solid dim) ≡ coordinate_count 
 solid_count (Range lo hi step align) = refl
 solid_count Flood = refl
 
--- the place of a coordinate in a dimension that is written
-side_spot : (side : Side) (dim : Dim) (x : ℤ) → solid dim ≡ side.dim → side.way ≡ Moved (pos 0) → spot_on side x ≡ (if is_coordinate dim x then Some (place_along dim x) else None)
-side_spot side dim x e w =
-    let at : gone (Moved (pos 0)) x ≡ x = omega (arith, ints) in
-    ap (λ way. spot side.dim (gone way x)) w
-    ∙ (ap (spot side.dim) at ∙ (ap (λ d. spot d x) (sym e) ∙ solid_spot dim x))
-
-side_size : (side : Side) (dim : Dim) → solid dim ≡ side.dim → side.size ≡ coordinate_count side.dim → side.size ≡ coordinate_count dim
-side_size side dim e is = is ∙ (ap coordinate_count (sym e) ∙ solid_count dim)
-
 -- ---- three dimensions
-
--- the three that lie behind those of the sides
-record AreThree (dims : List Dim) (a b c : Dim) : Type 0 where
-  planes : Dim
-  rows : Dim
-  columns : Dim
-  is : dims ≡ planes ∷ rows ∷ columns ∷ []
-  planes_is : solid planes ≡ a
-  rows_is : solid rows ≡ b
-  columns_is : solid columns ≡ c
-
-are_three : (dims : List Dim) (a b c : Dim) → map solid dims ≡ a ∷ b ∷ c ∷ [] → AreThree dims a b c
-are_three [] a b c e = let e : ◌≡◌ {A = List Dim} [] (a ∷ b ∷ c ∷ []) = e in absurd (cc)
-are_three (p ∷ []) a b c e = let e : solid p ∷ [] ≡ a ∷ b ∷ c ∷ [] = e in absurd (cc)
-are_three (p ∷ r ∷ []) a b c e = let e : solid p ∷ solid r ∷ [] ≡ a ∷ b ∷ c ∷ [] = e in absurd (cc)
-are_three (p ∷ r ∷ q ∷ []) a b c e =
-    let e : solid p ∷ solid r ∷ solid q ∷ [] ≡ a ∷ b ∷ c ∷ [] = e in
-    record { planes = p; rows = r; columns = q; is = refl; planes_is = (cc); rows_is = (cc); columns_is = (cc) }
-are_three (p ∷ r ∷ q ∷ d ∷ dims) a b c e = let e : solid p ∷ solid r ∷ solid q ∷ solid d ∷ map solid dims ≡ a ∷ b ∷ c ∷ [] = e in absurd (cc)
 
 -- a place by three tests, and one after the other
 by_three : (a b d : Bool) (p q s m n : ℕ)
@@ -108,46 +80,133 @@ by_three false true false p q s m n = refl
 by_three false false true p q s m n = refl
 by_three false false false p q s m n = refl
 
-place_by_sides : (sides : Sides) (storage region : Region) → IsUnder sides storage region → (x y z : ℤ)
-    → place_at storage (x ∷ y ∷ z ∷ []) ≡ line_place sides (line_of sides.rows.size (spot_on sides.planes x) (spot_on sides.rows y)) z
-place_by_sides sides storage region is x y z =
-    let w = are_three storage.dims sides.planes.dim sides.rows.dim sides.columns.dim is.dims in
-    let m = coordinate_count w.rows in
-    let n = coordinate_count w.columns in
-    let t = x ∷ y ∷ z ∷ [] in
-    let one : Dim → ℤ → Option ℕ = λ dim x. if is_coordinate dim x then Some (place_along dim x) else None in
-    ap (λ dims. if are_coordinates dims t then Some (place_among dims t) else None) w.is
-    ∙ (sym (by_three (is_coordinate w.planes x) (is_coordinate w.rows y) (is_coordinate w.columns z) (place_along w.planes x) (place_along w.rows y) (place_along w.columns z) m n)
-    ∙ (ap (λ o. line_of n (line_of m o (one w.rows y)) (one w.columns z)) (sym (side_spot sides.planes w.planes x w.planes_is is.planes_way))
-    ∙ (ap (λ o. line_of n (line_of m (spot_on sides.planes x) o) (one w.columns z)) (sym (side_spot sides.rows w.rows y w.rows_is is.rows_way))
-    ∙ (ap (λ o. line_of n (line_of m (spot_on sides.planes x) (spot_on sides.rows y)) o) (sym (side_spot sides.columns w.columns z w.columns_is is.columns_way))
-    ∙ (ap (λ k. line_of n (line_of k (spot_on sides.planes x) (spot_on sides.rows y)) (spot_on sides.columns z)) (sym (side_size sides.rows w.rows w.rows_is is.fitting.rows.size))
-    ∙ ap (λ k. line_of k (line_of sides.rows.size (spot_on sides.planes x) (spot_on sides.rows y)) (spot_on sides.columns z)) (sym (side_size sides.columns w.columns w.columns_is is.fitting.columns.size)))))))
+spot_by_test : (dim : Dim) (x : ℤ) → spot dim x ≡ (if has_along dim x then Some (place_along dim x) else None)
+spot_by_test (Range lo hi step align) x = refl
+spot_by_test Flood x = refl
 
-pub places_by_lines : (sides : Sides) (storage region : Region) → IsUnder sides storage region
-    → all_places sides (along sides.planes.along) ≡ map (place_at storage) (members region)
-places_by_lines sides storage region is =
-    sym (ap (λ lists. map (place_at storage) (tuples lists)) is.along
-    ∙ map_by_lines (place_at storage) (λ x y z. line_place sides (line_of sides.rows.size (spot_on sides.planes x) (spot_on sides.rows y)) z)
-    (along sides.planes.along) (along sides.rows.along) (along sides.columns.along) (place_by_sides sides storage region is))
+place_by_tests : (dim : Dim) (dims : List Dim) (x : ℤ) (t : List ℤ) → each_has_place (dim ∷ dims) (x ∷ t) ≡ (has_along dim x && each_has_place dims t)
+place_by_tests (Range lo hi step align) dims x t = refl
+place_by_tests Flood dims x t = refl
+
+three_tests : (p r c : Dim) (x y z : ℤ) → each_has_place (p ∷ r ∷ c ∷ []) (x ∷ y ∷ z ∷ []) ≡ (has_along p x && (has_along r y && (has_along c z && true)))
+three_tests p r c x y z =
+    place_by_tests p (r ∷ c ∷ []) x (y ∷ z ∷ [])
+    ∙ ap (λ b. has_along p x && b) (place_by_tests r (c ∷ []) y (z ∷ []) ∙ ap (λ b. has_along r y && b) (place_by_tests c [] z []))
+
+-- where there is a place, it is that of the line and of the coordinate on it
+place_by_spots : (p r c : Dim) (x y z : ℤ)
+    → (if each_has_place (p ∷ r ∷ c ∷ []) (x ∷ y ∷ z ∷ []) then Some (place_among (p ∷ r ∷ c ∷ []) (x ∷ y ∷ z ∷ [])) else None)
+    ≡ line_of (coordinate_count c) (line_of (coordinate_count r) (spot p x) (spot r y)) (spot c z)
+place_by_spots p r c x y z =
+    let m = coordinate_count r in
+    let n = coordinate_count c in
+    let one : Dim → ℤ → Option ℕ = λ dim x. if has_along dim x then Some (place_along dim x) else None in
+    ap (λ b. if b then Some (place_among (p ∷ r ∷ c ∷ []) (x ∷ y ∷ z ∷ [])) else None) (three_tests p r c x y z)
+    ∙ (sym (by_three (has_along p x) (has_along r y) (has_along c z) (place_along p x) (place_along r y) (place_along c z) m n)
+    ∙ (ap (λ o. line_of n (line_of m o (one r y)) (one c z)) (sym (spot_by_test p x))
+    ∙ (ap (λ o. line_of n (line_of m (spot p x) o) (one c z)) (sym (spot_by_test r y))
+    ∙ ap (λ o. line_of n (line_of m (spot p x) (spot r y)) o) (sym (spot_by_test c z)))))
+
+place_by_sides : (sides : Sides) (storage region : Region) (ways : List Way) → IsUnder sides storage region ways → (x y z : ℤ)
+    → place_gone storage ways (x ∷ y ∷ z ∷ []) ≡ line_place sides (line_of sides.rows.size (spot_on sides.planes x) (spot_on sides.rows y)) z
+place_by_sides sides storage region ways is x y z =
+    let p = sides.planes in
+    let r = sides.rows in
+    let c = sides.columns in
+    let to : List Dim → List ℤ → Option ℕ = λ dims t. if each_has_place dims t then Some (place_among dims t) else None in
+    ap (λ dims. to dims (each_gone ways (x ∷ y ∷ z ∷ []))) is.dims
+    ∙ (ap (λ ways. to (p.dim ∷ r.dim ∷ c.dim ∷ []) (each_gone ways (x ∷ y ∷ z ∷ []))) is.leads
+    ∙ (place_by_spots p.dim r.dim c.dim (gone p.way x) (gone r.way y) (gone c.way z)
+    ∙ (ap (λ m. line_of (coordinate_count c.dim) (line_of m (spot_on p x) (spot_on r y)) (spot_on c z)) (sym is.fitting.rows.size)
+    ∙ ap (λ n. line_of n (line_of r.size (spot_on p x) (spot_on r y)) (spot_on c z)) (sym is.fitting.columns.size))))
+
+pub places_by_lines : (sides : Sides) (storage region : Region) (ways : List Way) → IsUnder sides storage region ways
+    → all_places sides (along sides.planes.along) ≡ map (place_gone storage ways) (members region)
+places_by_lines sides storage region ways is =
+    sym (ap (λ lists. map (place_gone storage ways) (tuples lists)) is.along
+    ∙ map_by_lines (place_gone storage ways) (λ x y z. line_place sides (line_of sides.rows.size (spot_on sides.planes x) (spot_on sides.rows y)) z)
+    (along sides.planes.along) (along sides.rows.along) (along sides.columns.along) (place_by_sides sides storage region ways is))
+
+-- ---- places of a storage's own tuples
+
+own_place : (p r c : Dim) (x y z : ℤ)
+    → (if are_coordinates (p ∷ r ∷ c ∷ []) (x ∷ y ∷ z ∷ []) then Some (place_among (p ∷ r ∷ c ∷ []) (x ∷ y ∷ z ∷ [])) else None)
+    ≡ (if each_has_place (solid p ∷ solid r ∷ solid c ∷ []) (x ∷ y ∷ z ∷ []) then Some (place_among (solid p ∷ solid r ∷ solid c ∷ []) (x ∷ y ∷ z ∷ [])) else None)
+own_place p r c x y z =
+    let m = coordinate_count r in
+    let n = coordinate_count c in
+    let one : Dim → ℤ → Option ℕ = λ dim x. if is_coordinate dim x then Some (place_along dim x) else None in
+    sym (by_three (is_coordinate p x) (is_coordinate r y) (is_coordinate c z) (place_along p x) (place_along r y) (place_along c z) m n)
+    ∙ (ap (λ o. line_of n (line_of m o (one r y)) (one c z)) (sym (solid_spot p x))
+    ∙ (ap (λ o. line_of n (line_of m (spot (solid p) x) o) (one c z)) (sym (solid_spot r y))
+    ∙ (ap (λ o. line_of n (line_of m (spot (solid p) x) (spot (solid r) y)) o) (sym (solid_spot c z))
+    ∙ (ap (λ k. line_of n (line_of k (spot (solid p) x) (spot (solid r) y)) (spot (solid c) z)) (sym (solid_count r))
+    ∙ (ap (λ k. line_of k (line_of (coordinate_count (solid r)) (spot (solid p) x) (spot (solid r) y)) (spot (solid c) z)) (sym (solid_count c))
+    ∙ sym (place_by_spots (solid p) (solid r) (solid c) x y z))))))
+
+-- a tuple leads to itself
+pub stays : (x y z : ℤ) → each_gone still (x ∷ y ∷ z ∷ []) ≡ x ∷ y ∷ z ∷ []
+stays x y z =
+    let a : gone (Moved (pos 0)) x ≡ x = omega (arith, ints) in
+    let b : gone (Moved (pos 0)) y ≡ y = omega (arith, ints) in
+    let c : gone (Moved (pos 0)) z ≡ z = omega (arith, ints) in
+    cons_same a (cons_same b (cons_same c refl))
+
+own_place_gone : (storage : Region) (d : Dim) → length storage.dims ≡ 3 → (x y z : ℤ) → place_gone (solid_region storage) still (x ∷ y ∷ z ∷ []) ≡ place_at storage (x ∷ y ∷ z ∷ [])
+own_place_gone storage d long x y z =
+    let p = get_or storage.dims 0 d in
+    let r = get_or storage.dims 1 d in
+    let c = get_or storage.dims 2 d in
+    let to : List Dim → List ℤ → Option ℕ = λ dims t. if each_has_place dims t then Some (place_among dims t) else None in
+    let own : List Dim → Option ℕ = λ dims. if are_coordinates dims (x ∷ y ∷ z ∷ []) then Some (place_among dims (x ∷ y ∷ z ∷ [])) else None in
+    ap (to (map solid storage.dims)) (stays x y z)
+    ∙ (ap (λ dims. to (map solid dims) (x ∷ y ∷ z ∷ [])) (three_of storage.dims d long)
+    ∙ (sym (own_place p r c x y z) ∙ ap own (sym (three_of storage.dims d long))))
+
+-- two functions that agree at tuples of three coordinates agree at those of a region
+pub same_on_members : {X : Type 0} (f g : List ℤ → X) (region : Region) (d : Dim) → length region.dims ≡ 3 → ((x y z : ℤ) → f (x ∷ y ∷ z ∷ []) ≡ g (x ∷ y ∷ z ∷ []))
+    → map f (members region) ≡ map g (members region)
+same_on_members f g region d long h =
+    let xs = coordinates (get_or region.dims 0 d) in
+    let ys = coordinates (get_or region.dims 1 d) in
+    let zs = coordinates (get_or region.dims 2 d) in
+    let lists : map coordinates region.dims ≡ xs ∷ ys ∷ zs ∷ [] = map_three coordinates region.dims d xs ys zs long refl refl refl in
+    ap (λ l. map f (tuples l)) lists
+    ∙ (map_by_lines f (λ x y z. g (x ∷ y ∷ z ∷ [])) xs ys zs h
+    ∙ (sym (map_by_lines g (λ x y z. g (x ∷ y ∷ z ∷ [])) xs ys zs (λ x y z. refl))
+    ∙ ap (λ l. map g (tuples l)) (sym lists)))
+
+pub own_places : (storage region : Region) (d : Dim) → length storage.dims ≡ 3 → length region.dims ≡ 3
+    → map (place_gone (solid_region storage) still) (members region) ≡ map (place_at storage) (members region)
+own_places storage region d long wide = same_on_members (place_gone (solid_region storage) still) (place_at storage) region d wide (own_place_gone storage d long)
+
+solid_padding : (n : ℕ) → map solid (replicate n padding) ≡ replicate n padding
+solid_padding zero = refl
+solid_padding (suc n) = ap (λ rest. padding ∷ rest) (solid_padding n)
+
+pub solid_padded : (rank : ℕ) (dims : List Dim) → drop rank dims ≡ replicate (3 - rank) padding → drop rank (map solid dims) ≡ replicate (3 - rank) padding
+solid_padded rank dims e = drop-map solid rank dims ∙ (ap (map solid) e ∙ solid_padding (3 - rank))
+
+pub solid_tuple_count : (dims : List Dim) → tuple_count (map solid dims) ≡ tuple_count dims
+solid_tuple_count [] = refl
+solid_tuple_count (dim ∷ dims) = ap (λ n. n * tuple_count (map solid dims)) (solid_count dim) ∙ ap (λ n. coordinate_count dim * n) (solid_tuple_count dims)
 
 -- ---- how many there are
 
 regrouped : (p m n : ℕ) → p * (m * (n * 1)) ≡ (p * m) * n
 regrouped p m n = omega arith
 
-pub sizes_product : (sides : Sides) (storage region : Region) → IsUnder sides storage region → tuple_count storage.dims ≡ (sides.planes.size * sides.rows.size) * sides.columns.size
-sizes_product sides storage region is =
-    let w = are_three storage.dims sides.planes.dim sides.rows.dim sides.columns.dim is.dims in
-    ap tuple_count w.is
-    ∙ (regrouped (coordinate_count w.planes) (coordinate_count w.rows) (coordinate_count w.columns)
-    ∙ (ap (λ k. (k * coordinate_count w.rows) * coordinate_count w.columns) (sym (side_size sides.planes w.planes w.planes_is is.fitting.planes.size))
-    ∙ (ap (λ k. (sides.planes.size * k) * coordinate_count w.columns) (sym (side_size sides.rows w.rows w.rows_is is.fitting.rows.size))
-    ∙ ap (λ k. (sides.planes.size * sides.rows.size) * k) (sym (side_size sides.columns w.columns w.columns_is is.fitting.columns.size)))))
+pub sizes_product : (sides : Sides) (storage region : Region) (ways : List Way) → IsUnder sides storage region ways → tuple_count storage.dims ≡ (sides.planes.size * sides.rows.size) * sides.columns.size
+sizes_product sides storage region ways is =
+    ap tuple_count is.dims
+    ∙ (regrouped (coordinate_count sides.planes.dim) (coordinate_count sides.rows.dim) (coordinate_count sides.columns.dim)
+    ∙ (ap (λ k. (k * coordinate_count sides.rows.dim) * coordinate_count sides.columns.dim) (sym is.fitting.planes.size)
+    ∙ (ap (λ k. (sides.planes.size * k) * coordinate_count sides.columns.dim) (sym is.fitting.rows.size)
+    ∙ ap (λ k. (sides.planes.size * sides.rows.size) * k) (sym is.fitting.columns.size))))
 
-pub counts_product : (sides : Sides) (storage region : Region) → IsUnder sides storage region
+pub counts_product : (sides : Sides) (storage region : Region) (ways : List Way) → IsUnder sides storage region ways
     → length (members region) ≡ sides.planes.along.count * (sides.rows.along.count * sides.columns.along.count)
-counts_product sides storage region is =
+counts_product sides storage region ways is =
     let p = sides.planes.along in
     let r = sides.rows.along in
     let c = sides.columns.along in
@@ -182,27 +241,28 @@ one_part k n size h = omega (arith, part_within k n size h)
 
 -- ---- a storage without tuples
 
-nowhere : (storage : Region) (t : List ℤ) → IsRegion storage → members storage ≡ [] → place_at storage t ≡ None
-nowhere storage t is none = by (is_member storage t) refl
+pub nowhere : (storage : Region) (t : List ℤ) → IsRegion storage → members storage ≡ [] → has_place storage t ≡ false
+nowhere storage t is none = by (has_place storage t) refl
   where
-    by : (test : Bool) → is_member storage t ≡ test → place_at storage t ≡ None
+    by : (test : Bool) → has_place storage t ≡ test → test ≡ false
     by true e =
         let steps = has_steps storage.dims is.dims in
-        let here = place_of_tuple storage.dims t steps ((is_member_iff storage t steps).0 e) in
-        let inside = slice_get_within (members storage) (place_among storage.dims t) t here in
+        let here = place_of_tuple storage.dims (flattened storage.dims t) steps (flattened_member storage.dims t steps e) in
+        let inside = slice_get_within (members storage) (place_among storage.dims (flattened storage.dims t)) (flattened storage.dims t) here in
         absurd (let empty : length (members storage) ≡ 0 = ap length none in omega (arith, inside, empty))
-    by false e = ap (λ b. if b then Some (place_among storage.dims t) else None) e
+    by false e = refl
 
-put_none : (g : List ℤ → Option ℕ) (stored : List ℤ) (ts : List (List ℤ)) (kept : List Bool) (values : List ℤ) → ((t : List ℤ) → g t ≡ None) → put_each stored (map g ts) kept values ≡ stored
-put_none g stored [] kept values h = refl
-put_none g stored (t ∷ ts) [] values h = refl
-put_none g stored (t ∷ ts) (k ∷ kept) [] h = refl
-put_none g stored (t ∷ ts) (k ∷ kept) (v ∷ values) h =
-    ap (λ o. put_each (put_one stored o k v) (map g ts) kept values) (h t) ∙ put_none g stored ts kept values h
+put_none : (how : Change) (g : List ℤ → Option ℕ) (stored : List ℤ) (ts : List (List ℤ)) (kept : List Bool) (values : List ℤ) → ((t : List ℤ) → g t ≡ None) → put_each how stored (map g ts) kept values ≡ stored
+put_none how g stored [] kept values h = refl
+put_none how g stored (t ∷ ts) [] values h = refl
+put_none how g stored (t ∷ ts) (k ∷ kept) [] h = refl
+put_none how g stored (t ∷ ts) (k ∷ kept) (v ∷ values) h =
+    ap (λ o. put_each how (put_one how stored o k v) (map g ts) kept values) (h t) ∙ put_none how g stored ts kept values h
 
-pub put_nowhere : (storage region : Region) (stored : List ℤ) (kept : List Bool) (values : List ℤ) → IsRegion storage → members storage ≡ []
-    → stored ≡ put_each stored (map (place_at storage) (members region)) kept values
-put_nowhere storage region stored kept values is none = sym (put_none (place_at storage) stored (members region) kept values (λ t. nowhere storage t is none))
+pub put_nowhere : (how : Change) (storage region : Region) (ways : List Way) (stored : List ℤ) (kept : List Bool) (values : List ℤ) → IsRegion storage → members storage ≡ []
+    → stored ≡ put_each how stored (map (place_gone storage ways) (members region)) kept values
+put_nowhere how storage region ways stored kept values is none =
+    sym (put_none how (place_gone storage ways) stored (members region) kept values (λ t. rw (nowhere storage (each_gone ways t) is none) refl))
 
 -- ---- a line whose places follow each other
 

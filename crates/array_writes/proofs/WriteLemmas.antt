@@ -11,18 +11,20 @@ use Rattle.zpl_region.proofs.ListLemmas.{Among, Contains-from_among, among_from_
 use Rattle.zpl_region.proofs.TestLemmas.{is_member_iff}
 use Rattle.zpl_arrays.specs.Array.{Array, IsArray, array_of, element, place_among}
 use Rattle.zpl_arrays.proofs.ArrayLemmas.{array_of_is_array, element_of_member, place_of_tuple, same_elements, value_at_place}
-use Rattle.array_writes.specs.Write.{place_at, put_each, put_one, written_in}
+use Rattle.array_writes.specs.declared.puts.Change.{Change}
+use Rattle.array_writes.specs.declared.puts.Change.TheVariants.{Set}
+use Rattle.array_writes.specs.Write.{place_at, placed, put_each, put_one, written_in}
 
-pub length-put_one : (stored : List ℤ) (place : Option ℕ) (is_in : Bool) (value : ℤ) → length (put_one stored place is_in value) ≡ length stored
-length-put_one stored (Some place) true value = length-set stored place value
-length-put_one stored (Some place) false value = refl
-length-put_one stored None is_in value = refl
+pub length-put_one : (how : Change) (stored : List ℤ) (place : Option ℕ) (is_in : Bool) (value : ℤ) → length (put_one how stored place is_in value) ≡ length stored
+length-put_one how stored (Some place) true value = length-set stored place (placed how (get_or stored place (pos 0)) value)
+length-put_one how stored (Some place) false value = refl
+length-put_one how stored None is_in value = refl
 
-pub length-put_each : (stored : List ℤ) (places : List (Option ℕ)) (kept : List Bool) (values : List ℤ) → length (put_each stored places kept values) ≡ length stored
-length-put_each stored [] kept values = refl
-length-put_each stored (p ∷ places) [] values = refl
-length-put_each stored (p ∷ places) (k ∷ kept) [] = refl
-length-put_each stored (p ∷ places) (k ∷ kept) (v ∷ values) = length-put_each (put_one stored p k v) places kept values ∙ length-put_one stored p k v
+pub length-put_each : (how : Change) (stored : List ℤ) (places : List (Option ℕ)) (kept : List Bool) (values : List ℤ) → length (put_each how stored places kept values) ≡ length stored
+length-put_each how stored [] kept values = refl
+length-put_each how stored (p ∷ places) [] values = refl
+length-put_each how stored (p ∷ places) (k ∷ kept) [] = refl
+length-put_each how stored (p ∷ places) (k ∷ kept) (v ∷ values) = length-put_each how (put_one how stored p k v) places kept values ∙ length-put_one how stored p k v
 
 -- ---- whether a place is met
 
@@ -48,7 +50,7 @@ hit_false storage is_in p (t ∷ ts) h =
     ap (λ b. b || hit storage is_in p ts) (h t (inl refl)) ∙ hit_false storage is_in p ts (λ u m. h u (inr m))
 
 put_at : (stored : List ℤ) (p q : ℕ) (b c : Bool) (value : ℤ) → p < length stored
-    → get_or (put_one stored (if b then Some q else None) c value) p (pos 0) ≡ (if b && (c && eqb q p) then value else get_or stored p (pos 0))
+    → get_or (put_one Set stored (if b then Some q else None) c value) p (pos 0) ≡ (if b && (c && eqb q p) then value else get_or stored p (pos 0))
 put_at stored p q false c value h = refl
 put_at stored p q true false value h = refl
 put_at stored p q true true value h = by (eqb q p) refl
@@ -65,11 +67,11 @@ joined_tests false false x y w h = refl
 
 get_or-put : (storage : Region) (is_in : List ℤ → Bool) (value : List ℤ → ℤ) (p : ℕ) (w : ℤ) (ts : List (List ℤ)) (stored : List ℤ) → p < length stored
     → ((t : List ℤ) → is_hit storage is_in p t ≡ true → value t ≡ w)
-    → get_or (put_each stored (map (place_at storage) ts) (map is_in ts) (map value ts)) p (pos 0) ≡ (if hit storage is_in p ts then w else get_or stored p (pos 0))
+    → get_or (put_each Set stored (map (place_at storage) ts) (map is_in ts) (map value ts)) p (pos 0) ≡ (if hit storage is_in p ts then w else get_or stored p (pos 0))
 get_or-put storage is_in value p w [] stored h same = refl
 get_or-put storage is_in value p w (t ∷ ts) stored h same =
-    let next = put_one stored (place_at storage t) (is_in t) (value t) in
-    get_or-put storage is_in value p w ts next (let long = length-put_one stored (place_at storage t) (is_in t) (value t) in omega (arith, long)) same
+    let next = put_one Set stored (place_at storage t) (is_in t) (value t) in
+    get_or-put storage is_in value p w ts next (let long = length-put_one Set stored (place_at storage t) (is_in t) (value t) in omega (arith, long)) same
     ∙ (ap (λ v. if hit storage is_in p ts then w else v) (put_at stored p (place_among storage.dims t) (is_member storage t) (is_in t) (value t) h)
     ∙ joined_tests (is_hit storage is_in p t) (hit storage is_in p ts) (value t) (get_or stored p (pos 0)) w (same t))
 
@@ -114,12 +116,12 @@ hit_by_region storage region is_in u steps also here = by (is_member region u &&
         not_hit storage region is_in t u steps also here m e (is_hit storage is_in (place_among storage.dims u) t) refl)
 
 pub write_is : (array : Array) (region : Region) (is_in : List ℤ → Bool) (value : List ℤ → ℤ) → IsArray array → All HasStep region.dims
-    → record array { values = put_each array.values (map (place_at array.storage) (members region)) (map is_in (members region)) (map value (members region)) } ≡ written_in array region is_in value
+    → record array { values = put_each Set array.values (map (place_at array.storage) (members region)) (map is_in (members region)) (map value (members region)) } ≡ written_in array region is_in value
 write_is array region is_in value is also =
     let f : List ℤ → ℤ = λ t. if is_member region t && is_in t then value t else element array t in
-    let values = put_each array.values (map (place_at array.storage) (members region)) (map is_in (members region)) (map value (members region)) in
+    let values = put_each Set array.values (map (place_at array.storage) (members region)) (map is_in (members region)) (map value (members region)) in
     let made : Array = record array { values = values } in
-    let long = length-put_each array.values (map (place_at array.storage) (members region)) (map is_in (members region)) (map value (members region)) in
+    let long = length-put_each Set array.values (map (place_at array.storage) (members region)) (map is_in (members region)) (map value (members region)) in
     let made_is : IsArray made = record { filled = long ∙ is.filled; steps = is.steps } in
     same_elements made (written_in array region is_in value) made_is (array_of_is_array array.storage f is.steps) refl (λ u here.
     let p = place_among array.storage.dims u in

@@ -1,22 +1,26 @@
--- What an array holds once a row of values has been written at the tuples of a region.
+-- What values come to when those of a row are put at the places of a region's tuples.
 use Rattle.std.specs.Prelude.{◌≡◌, ℕ, zero, suc, ◌+◌, Bool, true, false, ◌&&◌, ℤ, pos}
 use Rattle.std.specs.Prelude.{Option, Some, None, if◌then◌else◌, List, [], ◌∷◌, map, flat_map}
-use Rattle.std.specs.Prelude.{drop, slice_set, take}
+use Rattle.std.specs.Prelude.{drop, slice_index_or, slice_set, take}
+use Rattle.zpl_nums.specs.Fold.{joined}
 use Rattle.zpl_region.specs.declared.dims.Dim.{Dim}
 use Rattle.zpl_region.specs.declared.dims.Dim.TheVariants.{Range, Flood}
 use Rattle.zpl_region.specs.declared.regions.Region.{Region}
 use Rattle.zpl_region.specs.Dim.{coordinates}
 use Rattle.zpl_region.specs.Region.{padding}
 use Rattle.zpl_region.specs.Tests.{is_member}
-use Rattle.zpl_arrays.specs.Array.{Array, array_of, element, place_among}
+use Rattle.zpl_arrays.specs.Array.{Array, array_of, element, has_place, place_among}
 use Rattle.array_lines.specs.declared.sides.Side.{Side}
+use Rattle.array_lines.specs.declared.sides.Way.{Way}
 use Rattle.array_lines.specs.declared.sides.Way.TheVariants.{Moved}
 use Rattle.array_lines.specs.Axis.{along}
-use Rattle.array_lines.specs.Read.{IsSide, line_of, spot_on}
-use Rattle.array_writes.specs.declared.writes.Row.{Row}
-use Rattle.array_writes.specs.declared.writes.Sides.{Sides}
+use Rattle.array_lines.specs.Read.{IsSide, each_gone, line_of, spot_on}
+use Rattle.array_writes.specs.declared.puts.Change.{Change}
+use Rattle.array_writes.specs.declared.puts.Change.TheVariants.{Set, Join}
+use Rattle.array_writes.specs.declared.puts.Row.{Row}
+use Rattle.array_writes.specs.declared.puts.Sides.{Sides}
 
--- ---- the array that is meant
+-- ---- the array that an assignment means
 
 -- the array with new values at its own tuples in a region, those aside that are masked out
 abbrev pub written_in : Array → Region → (List ℤ → Bool) → (List ℤ → ℤ) → Array
@@ -26,30 +30,51 @@ written_in array region is_in value =
 
 -- ---- by places
 
+-- what stands at a place afterwards
+abbrev pub placed : Change → ℤ → ℤ → ℤ
+placed Set old value = value
+placed (Join operator) old value = joined operator old value
+
 -- values with another one at a place, where there is one and nothing is masked out
-abbrev pub put_one : List ℤ → Option ℕ → Bool → ℤ → List ℤ
-put_one stored (Some place) true value = slice_set stored place value
-put_one stored (Some place) false value = stored
-put_one stored None is_in value = stored
+abbrev pub put_one : Change → List ℤ → Option ℕ → Bool → ℤ → List ℤ
+put_one how stored (Some place) true value =
+    slice_set stored place (placed how (slice_index_or stored place (pos 0)) value)
+put_one how stored (Some place) false value = stored
+put_one how stored None is_in value = stored
 
 -- one after the other, up to the end of the shortest list
-abbrev pub put_each : List ℤ → List (Option ℕ) → List Bool → List ℤ → List ℤ
-put_each stored [] kept values = stored
-put_each stored (place ∷ places) [] values = stored
-put_each stored (place ∷ places) (is_in ∷ kept) [] = stored
-put_each stored (place ∷ places) (is_in ∷ kept) (value ∷ values) =
-    put_each (put_one stored place is_in value) places kept values
+abbrev pub put_each : Change → List ℤ → List (Option ℕ) → List Bool → List ℤ → List ℤ
+put_each how stored [] kept values = stored
+put_each how stored (place ∷ places) [] values = stored
+put_each how stored (place ∷ places) (is_in ∷ kept) [] = stored
+put_each how stored (place ∷ places) (is_in ∷ kept) (value ∷ values) =
+    put_each how (put_one how stored place is_in value) places kept values
+
+-- the place to which the ways lead from a tuple, where the storage has one
+abbrev pub place_gone : Region → List Way → List ℤ → Option ℕ
+place_gone storage ways t =
+    if has_place storage (each_gone ways t)
+    then Some (place_among storage.dims (each_gone ways t))
+    else None
 
 -- the place of a tuple among those of a storage, where it is one of them
 abbrev pub place_at : Region → List ℤ → Option ℕ
 place_at storage t = if is_member storage t then Some (place_among storage.dims t) else None
 
--- ---- by dimensions
-
--- The same dimension for writes: a tuple of the storage has 0 in a flood dimension.
+-- The same storage, but each flood dimension is one with the coordinate 0: what has a place then
+-- is one of its tuples.
 abbrev pub solid : Dim → Dim
 solid (Range lo hi step align) = Range lo hi step align
 solid Flood = padding
+
+abbrev pub solid_region : Region → Region
+solid_region storage = record { rank = storage.rank; dims = map solid storage.dims }
+
+-- ways that lead nowhere else
+abbrev pub still : List Way
+still = Moved (pos 0) ∷ Moved (pos 0) ∷ Moved (pos 0) ∷ []
+
+-- ---- by dimensions
 
 pub record AreSides (sides : Sides) : Type 0 where
   pub planes : IsSide sides.planes
@@ -57,13 +82,10 @@ pub record AreSides (sides : Sides) : Type 0 where
   pub columns : IsSide sides.columns
 
 -- the dimensions of a storage and of a region
-pub record IsUnder (sides : Sides) (storage region : Region) : Type 0 where
+pub record IsUnder (sides : Sides) (storage region : Region) (ways : List Way) : Type 0 where
   pub fitting : AreSides sides
-  pub dims : map solid storage.dims
-      ≡ sides.planes.dim ∷ sides.rows.dim ∷ sides.columns.dim ∷ []
-  pub planes_way : sides.planes.way ≡ Moved (pos 0)
-  pub rows_way : sides.rows.way ≡ Moved (pos 0)
-  pub columns_way : sides.columns.way ≡ Moved (pos 0)
+  pub dims : storage.dims ≡ sides.planes.dim ∷ sides.rows.dim ∷ sides.columns.dim ∷ []
+  pub leads : ways ≡ sides.planes.way ∷ sides.rows.way ∷ sides.columns.way ∷ []
   pub along : map coordinates region.dims
       ≡ along sides.planes.along ∷ along sides.rows.along ∷ along sides.columns.along ∷ []
 

@@ -4,6 +4,7 @@ ghost use Rattle.zpl_region.specs.declared.regions.Region.{Region as Tuples};
 ghost use Rattle.zpl_region.specs.Dim.{HasStep};
 ghost use Rattle.zpl_region.specs.Region.{members};
 ghost use Rattle.zpl_arrays.specs.Array.{Array, IsArray};
+ghost use Rattle.array_writes.specs.declared.puts.Change.{Change};
 ghost use Rattle.array_writes.specs.Write.{place_at, put_each, written_in};
 
 /// A write of the values that a function has at the tuples of a region, with the mask that another
@@ -13,7 +14,7 @@ pub fn writes_are_those_of_functions()
     ensures { (array : Array) (region : Tuples) (is_in : List ℤ → Bool) (value : List ℤ → ℤ) →
         IsArray array → All HasStep region.dims →
         record array {
-          values = put_each array.values
+          values = put_each Change.Set array.values
               (map (place_at array.storage) (members region))
               (map is_in (members region)) (map value (members region));
         }

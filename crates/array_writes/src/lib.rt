@@ -1,11 +1,14 @@
-//! Writes of a row of values at all tuples of a region, line by line.
+//! A row of values put at the places of all tuples of a region, line by line.
 //!
-//! The region is walked by arithmetic, and no call takes memory. The law says that such a write makes
-//! the array that an assignment means.
+//! The region is walked by arithmetic, and no call takes memory. A value takes the place of the one
+//! that stands there, or is joined with it. The laws say what that comes to: the array that an
+//! assignment means, and folds by places.
 #![tactic(auto)]
 
 mod laws;
+mod puts;
 mod writes;
 
 pub use laws::writes_are_those_of_functions;
-pub use writes::{Row, write_row};
+pub use puts::{Aim, Change, Row, put_row};
+pub use writes::{solid, three_dims, write_row};

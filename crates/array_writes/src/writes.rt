@@ -1,13 +1,12 @@
-//! Writes at all tuples of a region.
-ghost use Rattle.std.specs.Prelude.{◌≡◌, ◌+◌, ◌-◌, ◌*◌, ◌<◌, ◌≤◌, ◌^◌, IfSome, length, map};
+//! Writes.
+ghost use Rattle.std.specs.Prelude.{◌≡◌, ◌≤◌, length, map};
 ghost use Rattle.zpl_region.specs.Dim.{IsDim};
 ghost use Rattle.zpl_region.specs.Ends.{tuple_count};
 ghost use Rattle.zpl_region.specs.Region.{IsRegion, members};
-ghost use Rattle.array_lines.specs.Axis.{along};
-ghost use Rattle.array_writes.specs.Write.{AreSides, IsPart, IsUnder, line_places, place_at, plane_places};
-ghost use Rattle.array_writes.specs.Write.{put_each, put_one, run_places, solid};
+ghost use Rattle.array_writes.specs.Write.{place_at, put_each, solid, solid_region};
 
-use array_lines::{Side, Way, line_of};
+use crate::puts::{Aim, Change, Row, put_row};
+use array_lines::Way;
 use zpl_region::{Dim, Region};
 
 /// The dimension with the one coordinate 0.
@@ -18,25 +17,8 @@ const PADDING: Dim = Dim::Range {
     align: 0,
 };
 
-/// What is written at the tuples of a region, in row-major order.
-#[derive(Clone, Copy)]
-pub struct Row<'a> {
-    /// A value for each tuple.
-    pub values: &'a [i64],
-    /// Whether it is written: it isn't where the tuple is masked out.
-    pub kept: &'a [bool],
-}
-
-/// A storage under a region, dimension by dimension.
-#[derive(Clone, Copy)]
-struct Sides {
-    planes: Side,
-    rows: Side,
-    columns: Side,
-}
-
 /// The dimension, or the one with the coordinate 0 alone in the place of a flood dimension.
-fn solid(dim: Dim) -> Dim
+pub fn solid(dim: Dim) -> Dim
     requires { IsDim dim }
     ensures dim { IsDim result }
     ensures solid { result ≡ solid dim }
@@ -47,135 +29,31 @@ fn solid(dim: Dim) -> Dim
     }
 }
 
-/// Puts a value at a place, if there is one and the value isn't masked out.
-fn put(stored: &mut [i64], place: Option<u64>, is_in: bool, value: i64)
-    ensures { stored.new ≡ put_one stored.old place is_in value }
+/// The dimensions of a region, of which there are always three.
+pub fn three_dims(region: &Region) -> [Dim; 3]
+    ensures dims { result ≡ region.now.dims }
+    ensures three { length region.now.dims ≡ 3 }
 {
-    let Some(place) = place else {
-        return;
-    };
-    let at = place as usize;
-    if is_in && at < stored.len() {
-        stored[at] = value;
-    }
+    let [planes, rows, columns] = region.dims;
+    [planes, rows, columns]
 }
 
-/// Puts the values of a row at places that follow each other, each `apart` from the one before it.
-fn put_run(stored: &mut [i64], first: u64, apart: u64, row: &Row<'_>)
-    requires fits { first + (length row.now.values.now - 1) * apart < 2 ^ 32 }
-    requires few { length row.now.values.now ≤ 4194304 }
-    requires kept { length row.now.kept.now ≡ length row.now.values.now }
-    ensures { stored.new ≡ put_each stored.old
-        (run_places first apart (length row.now.values.now)) row.now.kept.now row.now.values.now }
-{
-    let values = row.values;
-    let kept = row.kept;
-    for k in 0..values.len() {
-        let place = first + k as u64 * apart;
-        put(stored, Some(place), kept[k], values[k]);
-    }
-}
-
-/// Where the places of a line of the region follow each other: the first one, and how far it is from
-/// each to the next.
-fn run_on(sides: &Sides, line: Option<u64>) -> Option<(u64, u64)>
-    requires sides { AreSides sides.now }
-    requires line { IfSome line (λ l. (l + 1) * sides.now.columns.size ≤ 4194304) }
-    ensures run { IfSome result (λ run. run_places run.0 run.1 sides.now.columns.along.count
-        ≡ line_places sides.now line (along sides.now.columns.along)) }
-    ensures fits { IfSome result (λ run.
-        run.0 + (sides.now.columns.along.count - 1) * run.1 < 2 ^ 32) }
-{
-    let begin = line?;
-    let columns = sides.columns;
-    if columns.along.count == 0 {
-        return None;
-    }
-    let (first, apart) = columns.stride()?;
-    Some((begin * columns.size + first, apart))
-}
-
-/// Puts the values of a row along a line of the region. It is given by its place among the lines of
-/// the storage, if it has one.
-fn put_line(stored: &mut [i64], sides: &Sides, line: Option<u64>, row: &Row<'_>)
-    requires sides { AreSides sides.now }
-    requires line { IfSome line (λ l. (l + 1) * sides.now.columns.size ≤ 4194304) }
-    requires few { length row.now.values.now ≤ 4194304 }
-    requires values { length row.now.values.now ≡ sides.now.columns.along.count }
-    requires kept { length row.now.kept.now ≡ length row.now.values.now }
-    ensures { stored.new ≡ put_each stored.old
-        (line_places sides.now line (along sides.now.columns.along))
-        row.now.kept.now row.now.values.now }
-{
-    if let Some((first, apart)) = run_on(sides, line) {
-        return put_run(stored, first, apart, row);
-    }
-    let columns = sides.columns;
-    let values = row.values;
-    let kept = row.kept;
-    for k in 0..values.len() {
-        let column = columns.spot(k as u64);
-        let place = line_of(columns.size, line, column);
-        put(stored, place, kept[k], values[k]);
-    }
-}
-
-/// The part of a row from a place on, so long.
-fn part<'a>(row: &Row<'a>, at: usize, size: usize) -> Row<'a>
-    requires values { at + size ≤ length row.now.values.now }
-    requires kept { length row.now.kept.now ≡ length row.now.values.now }
-    ensures part { IsPart row.now at size result }
-    ensures values { length result.values.now ≡ size }
-    ensures kept { length result.kept.now ≡ size }
-{
-    let end = at + size;
-    Row {
-        values: &row.values[at..end],
-        kept: &row.kept[at..end],
-    }
-}
-
-/// Puts the values of a row at a plane of the region, by its place among the planes of the storage.
-fn put_plane(stored: &mut [i64], sides: &Sides, plane: Option<u64>, row: &Row<'_>)
-    requires sides { AreSides sides.now }
-    requires plane { IfSome plane (λ p.
-        ((p + 1) * sides.now.rows.size) * sides.now.columns.size ≤ 4194304) }
-    requires some { 0 < sides.now.columns.size }
-    requires few { length row.now.values.now ≤ 4194304 }
-    requires values { length row.now.values.now
-        ≡ sides.now.rows.along.count * sides.now.columns.along.count }
-    requires kept { length row.now.kept.now ≡ length row.now.values.now }
-    ensures { stored.new ≡ put_each stored.old
-        (plane_places sides.now plane (along sides.now.rows.along))
-        row.now.kept.now row.now.values.now }
-{
-    let rows = sides.rows;
-    let size = sides.columns.along.count as usize;
-    for k in 0..rows.along.count {
-        let spot = rows.spot(k);
-        let line = line_of(rows.size, plane, spot);
-        let here = part(row, k as usize * size, size);
-        put_line(stored, sides, line, &here);
-    }
-}
-
-/// A storage under a region, dimension by dimension.
-fn sides_of(storage: &Region, region: &Region) -> Sides
-    requires storage { IsRegion storage.now }
-    requires region { IsRegion region.now }
-    ensures { IsUnder result storage.now region.now }
+/// The storage with such dimensions alone.
+fn solid_region(storage: &Region) -> Region
+    requires { IsRegion storage.now }
+    ensures region { IsRegion result }
+    ensures solid { result ≡ solid_region storage.now }
+    ensures three { length storage.now.dims ≡ 3 }
 {
     let [planes, rows, columns] = storage.dims;
-    let [over_planes, over_rows, over_columns] = region.dims;
-    Sides {
-        planes: Side::of(solid(planes), Way::Moved(0), over_planes),
-        rows: Side::of(solid(rows), Way::Moved(0), over_rows),
-        columns: Side::of(solid(columns), Way::Moved(0), over_columns),
+    Region {
+        rank: storage.rank,
+        dims: [solid(planes), solid(rows), solid(columns)],
     }
 }
 
 /// Puts the values of a row at the tuples of a region, into the values of a storage, each at the
-/// place of its tuple. Where a tuple is masked out, or has no place, nothing changes.
+/// place of its tuple. Where a tuple is masked out, or isn't one of the storage's, nothing changes.
 pub fn write_row(storage: &Region, stored: &mut [i64], region: &Region, row: &Row<'_>)
     requires storage { IsRegion storage.now }
     requires few { tuple_count storage.now.dims ≤ 4194304 }
@@ -183,18 +61,14 @@ pub fn write_row(storage: &Region, stored: &mut [i64], region: &Region, row: &Ro
     requires points { tuple_count region.now.dims ≤ 4194304 }
     requires values { length row.now.values.now ≡ length (members region.now) }
     requires kept { length row.now.kept.now ≡ length (members region.now) }
-    ensures { stored.new ≡ put_each stored.old (map (place_at storage.now) (members region.now))
-        row.now.kept.now row.now.values.now }
+    ensures { stored.new ≡ put_each Change.Set stored.old
+        (map (place_at storage.now) (members region.now)) row.now.kept.now row.now.values.now }
 {
-    if storage.is_empty() {
-        return;
-    }
-    let sides = sides_of(storage, region);
-    let planes = sides.planes;
-    for k in 0..planes.along.count {
-        let plane = planes.spot(k);
-        let size = (sides.rows.along.count * sides.columns.along.count) as usize;
-        let here = part(row, k as usize * size, size);
-        put_plane(stored, &sides, plane, &here);
-    }
+    let _dims = three_dims(region);
+    // each coordinate leads to itself
+    let aim = Aim {
+        ways: [Way::Moved(0), Way::Moved(0), Way::Moved(0)],
+        how: Change::Set,
+    };
+    put_row(&solid_region(storage), stored, &aim, region, row);
 }

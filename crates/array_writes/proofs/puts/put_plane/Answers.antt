@@ -6,12 +6,12 @@ use Rattle.array_lines.proofs.ReadLemmas.{column_bound, line_bound}
 use Rattle.array_writes.specs.Write.{line_places, put_each, row_places}
 use Rattle.array_writes.proofs.PlaceLemmas.{length-row_places, one_part, part_within}
 use Rattle.array_writes.proofs.PutLemmas.{piece_all, piece_begin, put_piece}
-use Rattle.array_writes.proofs.writes.put_plane.Goals as goal
+use Rattle.array_writes.proofs.puts.put_plane.Goals as goal
 
 pub loop-k-init : goal.loop-k-init
 loop-k-init c =
     let s = c.args.sides.now in
-    piece_begin (row_places s c.args.plane) c.args.stored.now s.rows.along.first s.rows.along.step s.rows.along.count s.columns.along.count c.args.row.now.kept.now c.args.row.now.values.now
+    piece_begin c.args.sides.now.how (row_places s c.args.plane) c.args.stored.now s.rows.along.first s.rows.along.step s.rows.along.count s.columns.along.count c.args.row.now.kept.now c.args.row.now.values.now
 
 pub line_of-line-requires-clause-plane : goal.line_of-line-requires-clause-plane
 line_of-line-requires-clause-plane c = line_bound c.args.plane c.args.sides.now.rows.size c.args.sides.now.columns.size c.requires.some c.requires.plane
@@ -44,16 +44,16 @@ loop-k-preserved c =
     let k = c.loop-k.k in
     let size = s.columns.along.count in
     let at = s.rows.along.first +ℤ pos (k * s.rows.along.step) in
-    put_piece (row_places s c.args.plane) c.loop-k.stored _ _ s.rows.along.first s.rows.along.step s.rows.along.count k size row.kept.now row.values.now c.loop-k-test.true
+    put_piece c.args.sides.now.how (row_places s c.args.plane) c.loop-k.stored _ _ s.rows.along.first s.rows.along.step s.rows.along.count k size row.kept.now row.values.now c.loop-k-test.true
     (length-row_places s c.args.plane at)
     (c.put_line.ensures
-    ∙ (ap (λ l. put_each c.loop-k.stored (line_places s l (along s.columns.along)) c.part-here.result.kept.now c.part-here.result.values.now)
+    ∙ (ap (λ l. put_each c.args.sides.now.how c.loop-k.stored (line_places s l (along s.columns.along)) c.part-here.result.kept.now c.part-here.result.values.now)
     (c.line_of-line.ensures.line ∙ ap (line_of s.rows.size c.args.plane) c.spot-spot.ensures.spot)
-    ∙ (ap (λ ks. put_each c.loop-k.stored (row_places s c.args.plane at) ks c.part-here.result.values.now) c.part-here.ensures.part.kept
-    ∙ ap (λ vs. put_each c.loop-k.stored (row_places s c.args.plane at) (take size (drop (k * size) row.kept.now)) vs) c.part-here.ensures.part.values)))
+    ∙ (ap (λ ks. put_each c.args.sides.now.how c.loop-k.stored (row_places s c.args.plane at) ks c.part-here.result.values.now) c.part-here.ensures.part.kept
+    ∙ ap (λ vs. put_each c.args.sides.now.how c.loop-k.stored (row_places s c.args.plane at) (take size (drop (k * size) row.kept.now)) vs) c.part-here.ensures.part.values)))
     c.loop-k.invariant
 
 pub returns : goal.returns
 returns c =
     let s = c.args.sides.now in
-    piece_all (row_places s c.args.plane) c.loop-k.stored _ s.rows.along.first s.rows.along.step s.rows.along.count c.loop-k.k s.columns.along.count c.args.row.now.kept.now c.args.row.now.values.now (omega arith) c.loop-k.invariant
+    piece_all c.args.sides.now.how (row_places s c.args.plane) c.loop-k.stored _ s.rows.along.first s.rows.along.step s.rows.along.count c.loop-k.k s.columns.along.count c.args.row.now.kept.now c.args.row.now.values.now (omega arith) c.loop-k.invariant

@@ -1,8 +1,8 @@
 use Rattle.std.proofs.Common.{◌≡◌, ◌<◌, ◌+◌, ◌-◌, ◌*◌, ◌≤◌, arith}
 use Rattle.array_lines.proofs.ReadLemmas.{begin_bound, in_line}
 use Rattle.array_writes.proofs.PlaceLemmas.{run_is}
-use Rattle.array_writes.proofs.writes.run_on.Goals as goal
-use Rattle.array_writes.proofs.writes.run_on.Goals.{In_ok-first}
+use Rattle.array_writes.proofs.puts.run_on.Goals as goal
+use Rattle.array_writes.proofs.puts.run_on.Goals.{In_ok-first}
 
 first_in : (c : In_ok-first) → c.in_ok-first.first + 0 * c.in_ok-first.apart < c.args.sides.now.columns.size
 first_in c =

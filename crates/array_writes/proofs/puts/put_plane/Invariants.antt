@@ -2,10 +2,10 @@ use Rattle.std.proofs.Common.{◌≡◌, ◌*◌, drop}
 use Rattle.array_lines.specs.Axis.{along}
 use Rattle.array_lines.proofs.RunLemmas.{left_of}
 use Rattle.array_writes.specs.Write.{plane_places, put_each}
-use Rattle.array_writes.proofs.writes.put_plane.Given as goal
+use Rattle.array_writes.proofs.puts.put_plane.Given as goal
 
 abbrev pub invariant-loop-k : goal.invariant-loop-k
 invariant-loop-k l =
-    put_each l.stored (plane_places l.sides l.plane (left_of l.rows.along.first l.rows.along.step l.rows.along.count l.k))
+    put_each l.sides.how l.stored (plane_places l.sides l.plane (left_of l.rows.along.first l.rows.along.step l.rows.along.count l.k))
     (drop (l.k * l.size) l.row.kept.now) (drop (l.k * l.size) l.row.values.now)
-    ≡ put_each l.initial.stored (plane_places l.sides l.plane (along l.rows.along)) l.row.kept.now l.row.values.now
+    ≡ put_each l.sides.how l.initial.stored (plane_places l.sides l.plane (along l.rows.along)) l.row.kept.now l.row.values.now
