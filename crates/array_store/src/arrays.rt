@@ -1,5 +1,6 @@
 //! Arrays.
-ghost use Rattle.std.specs.Prelude.{◌≡◌, ◌<◌, ◌≤◌, ◌++◌, All, IfOk, IfSome, OnOk, length, map, pos};
+ghost use Rattle.std.specs.Prelude.{◌≡◌, ◌<◌, ◌≤◌, ◌++◌, All, Bool, IfOk, IfSome, List};
+ghost use Rattle.std.specs.Prelude.{OnOk, ℤ, length, map, pos};
 ghost use Rattle.zpl_region.specs.Dim.{IsUpTo};
 ghost use Rattle.zpl_region.specs.Ends.{tuple_count};
 ghost use Rattle.zpl_region.specs.Region.{IsRegion, members, tuple_moved};
@@ -8,9 +9,11 @@ ghost use Rattle.zpl_arrays.specs.Array.{element, has_place};
 ghost use Rattle.array_store.specs.Stored.{flat_coordinate, place_in};
 ghost use Rattle.zpl_meaning.specs.Points.{left_at};
 ghost use Rattle.array_lines.specs.Read.{IsWay, read_at};
+ghost use Rattle.zpl_meaning.specs.Statement.{written};
 ghost use Rattle.zpl_meaning.specs.Variables.{zero_array};
 
 use array_lines::{Reading, Way, push_read, ways_around, ways_shifted};
+use array_writes::{Row, three_dims, write_row};
 use region_places::place;
 use std::alloc::{AllocError, Global};
 use std::marker::Model;
@@ -32,15 +35,6 @@ impl Model for Array {
     ghost view = { λ a. record { storage = a.storage; values = a.values.items } };
 
     ghost invariant = { λ a. IsStored (record { storage = a.storage; values = a.values.items }) };
-}
-
-/// The dimensions of a region, of which there are always three.
-fn three_dims(region: &Region) -> [Dim; 3]
-    ensures dims { result ≡ region.now.dims }
-    ensures three { length region.now.dims ≡ 3 }
-{
-    let [planes, rows, columns] = region.dims;
-    [planes, rows, columns]
 }
 
 /// A coordinate, or 0 in a flood dimension of a storage.
@@ -136,6 +130,21 @@ impl Array {
         }
     }
 
+    /// Puts the values of a row at the tuples of a region, in row-major order, those aside that are
+    /// masked out. Where a tuple isn't one of the storage's nothing changes.
+    pub fn write(&mut self, region: &Region, row: &Row<'_>)
+        requires region { IsRegion region.now }
+        requires points { tuple_count region.now.dims ≤ 4194304 }
+        requires values { length row.now.values.now ≡ length (members region.now) }
+        requires kept { length row.now.kept.now ≡ length (members region.now) }
+        ensures { (is_in : List ℤ → Bool) (value : List ℤ → ℤ) →
+            row.now.kept.now ≡ map is_in (members region.now) →
+            row.now.values.now ≡ map value (members region.now) →
+            self.new ≡ written self.old region.now is_in value }
+    {
+        write_row(&self.storage, self.values.as_mut_slice(), region, row);
+    }
+
     /// Appends what it has at each tuple of a region, in row-major order, where each coordinate goes
     /// a way first. The value of a tuple without a place is 0.
     fn push_at(&self, ways: [Way; 3], region: &Region, out: &mut Vec<i64>) -> Result<(), AllocError>
@@ -151,6 +160,19 @@ impl Array {
             default: 0,
         };
         push_read(&self.storage, &reading, region, out)
+    }
+
+    /// Appends its value at each tuple of a region, in row-major order.
+    pub fn push_here(&self, region: &Region, out: &mut Vec<i64>) -> Result<(), AllocError>
+        requires region { IsRegion region.now }
+        requires points { tuple_count region.now.dims ≤ 4194304 }
+        ensures { OnOk result (out.new.items
+            ≡ out.old.items ++ map (element self.now) (members region.now)) }
+    {
+        let _dims = three_dims(region);
+        // each coordinate leads to itself
+        let ways = [Way::Moved(0), Way::Moved(0), Way::Moved(0)];
+        self.push_at(ways, region, out)
     }
 
     /// Appends `A@d`, read under one region, at each tuple of another: mostly the same.
