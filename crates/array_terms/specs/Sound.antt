@@ -1,10 +1,9 @@
 -- What the calls ask of a term: its regions are regions within the limit, and shifts are near.
-use Rattle.std.specs.Prelude.{◌≤◌, ℤ, List, [], ◌∷◌, All}
+use Rattle.std.specs.Prelude.{◌≤◌, ℤ, List, All}
 use Rattle.zpl_region.specs.declared.regions.Region.{Region}
 use Rattle.zpl_region.specs.Dim.{IsUpTo}
 use Rattle.zpl_region.specs.Ends.{tuple_count}
 use Rattle.zpl_region.specs.Region.{IsRegion}
-use Rattle.zpl_meaning.specs.Context.{Over}
 use Rattle.zpl_meaning.specs.Term.{Term, Constant, Variable, Coordinate, Element, Wrapped, Unary}
 use Rattle.zpl_meaning.specs.Term.{Binary, Folded, PartFolded, Scanned, Flooded, Remapped, Terms}
 use Rattle.zpl_meaning.specs.Term.{NoTerm, ThenTerm}

@@ -1,5 +1,5 @@
 -- A term in the arena, seen as a plain term.
-use Rattle.std.specs.Prelude.{pos, [], Option, Some, None}
+use Rattle.std.specs.Prelude.{[]}
 use Rattle.std.specs.Option.{option_map}
 use Rattle.zpl_meaning.specs.Context as context
 use Rattle.zpl_meaning.specs.Term as plain

@@ -1,5 +1,5 @@
 -- Lemmas on what a partial reduction gathers.
-use Rattle.std.proofs.Common.{◌≡◌, ℕ, zero, suc, ◌+◌, ◌*◌, ◌<◌, ◌≤◌, Bool, true, false, ◌&&◌, ◌||◌, if◌then◌else◌, All, Option, Some, None, List, [], ◌∷◌, length, get_or, map, replicate, ℤ, pos, ◌≤ℤ◌, eqb, eq-eqb, inl, inr, refl, sym, ◌∙◌, ap, subst, arith, slice_get}
+use Rattle.std.proofs.Common.{◌≡◌, ℕ, zero, suc, ◌+◌, ◌*◌, ◌<◌, ◌≤◌, Bool, true, false, ◌&&◌, ◌||◌, if◌then◌else◌, All, Option, Some, None, List, [], ◌∷◌, length, get_or, map, replicate, ℤ, pos, eqb, eq-eqb, inl, inr, refl, sym, ◌∙◌, ap, subst, arith, slice_get}
 use Rattle.std.specs.List.{AllZip}
 use Rattle.std.specs.Prelude.{filter, fold}
 use Rattle.std.specs.Ordering.{int_eq}
@@ -10,34 +10,31 @@ use Rattle.std.proofs.lemmas.Bool.Decides.{Decides-int_eq}
 use Rattle.std.proofs.lemmas.List.{length-replicate}
 use Rattle.std.proofs.lemmas.List.Elements.{All-cons, All-head, All-nil, All-tail}
 use Rattle.std.proofs.lemmas.Option.{slice_get_within}
-use Rattle.zpl_nums.specs.declared.folds.Fold.{Fold}
 use Rattle.zpl_nums.specs.Fold.{joined, unit_of}
 use Rattle.zpl_region.specs.declared.dims.Dim.{Dim}
 use Rattle.zpl_region.specs.declared.dims.Dim.TheVariants.{Range, Flood}
 use Rattle.zpl_region.specs.declared.regions.Region.{Region}
-use Rattle.zpl_region.specs.Dim.{HasStep, IsCoordinate, IsDim}
+use Rattle.zpl_region.specs.Dim.{HasStep, IsCoordinate}
 use Rattle.zpl_region.specs.Ends.{coordinate_count, tuple_count}
 use Rattle.zpl_region.specs.Region.{IsRegion, members, padding}
 use Rattle.zpl_region.specs.Tests.{is_coordinate}
-use Rattle.zpl_region.proofs.EndLemmas.{length-tuple_count, positive_left, positive_right}
+use Rattle.zpl_region.proofs.EndLemmas.{positive_left, positive_right}
 use Rattle.zpl_region.proofs.HullLemmas.{has_steps}
 use Rattle.zpl_region.proofs.LawLemmas.{members_iff}
 use Rattle.zpl_region.proofs.ListLemmas.{Among, Contains-from_among, cons_same}
 use Rattle.zpl_region.proofs.TestLemmas.{is_coordinate_iff}
 use Rattle.zpl_arrays.specs.Array.{Array, IsArray, each_has_place, element, flattened, has_place, place_along, place_among}
 use Rattle.zpl_arrays.specs.Conformity.{is_collapsed}
-use Rattle.zpl_arrays.specs.Fold.{agrees, partly_reduced}
+use Rattle.zpl_arrays.specs.Fold.{agrees}
 use Rattle.zpl_arrays.specs.Scan.{is_same_tuple}
 use Rattle.zpl_arrays.proofs.ArrayLemmas.{array_of-element, flattened_member, place_of_tuple}
 use Rattle.zpl_arrays.proofs.FoldLemmas.{same_tuple}
-use Rattle.array_lines.specs.declared.reads.Reading.{Reading}
-use Rattle.array_lines.specs.Read.{array_seen, each_gone, read_at}
+use Rattle.array_lines.specs.Read.{each_gone, read_at}
 use Rattle.array_lines.proofs.ReadLemmas.{three_of}
 use Rattle.array_writes.specs.declared.puts.Change.TheVariants.{Join}
 use Rattle.array_writes.specs.declared.puts.Row.{Row}
 use Rattle.array_writes.specs.Write.{place_gone, put_each, solid, still}
 use Rattle.array_writes.proofs.PlaceLemmas.{nowhere, same_on_members, stays}
-use Rattle.array_writes.proofs.WriteLemmas.{length-put_each}
 use Rattle.source_rows.specs.declared.parts.PartFold.{PartFold}
 use Rattle.source_rows.specs.Part.{IsWhole, bucket, buckets, each_bucket, part_of, row_array}
 use Rattle.source_rows.proofs.GatherLemmas.{filter_among, gathered_at, is_at, those_at}

@@ -1,4 +1,4 @@
-use Rattle.std.proofs.Common.{◌≡◌, ◌∙◌, ap}
+use Rattle.std.proofs.Common.{◌∙◌, ap}
 use Rattle.zpl_region.specs.declared.dims.Dim.TheVariants.{Flood}
 use Rattle.zpl_arrays.specs.Reference.{lies_in}
 use Rattle.array_terms.proofs.CheckLemmas.{not_moved}

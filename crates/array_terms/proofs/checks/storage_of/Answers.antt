@@ -1,4 +1,4 @@
-use Rattle.std.proofs.Common.{◌≡◌, sym, ap}
+use Rattle.std.proofs.Common.{sym, ap}
 use Rattle.zpl_arrays.specs.Array.{Array}
 use Rattle.array_terms.proofs.checks.storage_of.Goals as goal
 

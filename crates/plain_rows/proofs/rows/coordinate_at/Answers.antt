@@ -1,4 +1,3 @@
-use Rattle.std.proofs.Common.{◌≡◌, pos}
 use Rattle.zpl_region.specs.Region.{members}
 use Rattle.plain_rows.proofs.RowLemmas.{none_at}
 use Rattle.plain_rows.proofs.rows.coordinate_at.Goals as goal

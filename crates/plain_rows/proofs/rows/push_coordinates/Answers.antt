@@ -1,4 +1,4 @@
-use Rattle.std.proofs.Common.{◌≡◌, ◌<◌, ◌+◌, ◌≤◌, ◌++◌, List, [], ◌∷◌, get_or, length, map, take, ℤ, pos, to_z, of_z, w64, refl, sym, ◌∙◌, ap, arith, rules, append_assoc}
+use Rattle.std.proofs.Common.{◌≡◌, ◌<◌, ◌++◌, [], ◌∷◌, get_or, length, map, take, to_z, of_z, w64, sym, ◌∙◌, ap, arith, rules, append_assoc}
 use Rattle.std.proofs.lemmas.List.{map_more, take_all}
 use Rattle.zpl_region.specs.Region.{members}
 use Rattle.zpl_region.proofs.EndLemmas.{length-tuple_count}
