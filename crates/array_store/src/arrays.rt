@@ -120,6 +120,13 @@ impl Array {
         }
     }
 
+    /// Whether its storage has a place for a tuple, whatever its coordinates are in flood dimensions.
+    pub fn has_place(&self, tuple: &Vec3) -> bool
+        ensures { result ≡ has_place self.now.storage tuple.now }
+    {
+        spot(&self.storage, tuple).is_some()
+    }
+
     /// Gives it another value at a tuple. Where the tuple has no place nothing changes.
     pub fn set(&mut self, tuple: &Vec3, value: i64)
         ensures { self.new
