@@ -81,6 +81,11 @@ abbrev pub LeadsTo : (ℕ → List Edge) → List Frame → ℕ → Type 0
 LeadsTo edges [] node = Unit {0}
 LeadsTo edges (caller ∷ before) node = IsAt edges caller node
 
+-- each procedure that the walk is in was called by the one before
+abbrev pub IsPath : (ℕ → List Edge) → List Frame → Type 0
+IsPath edges [] = Unit {0}
+IsPath edges (frame ∷ before) = LeadsTo edges before frame.node × IsPath edges before
+
 -- the walk is in this procedure
 abbrev pub IsIn : List Frame → ℕ → Type 0
 IsIn [] node = ⊥

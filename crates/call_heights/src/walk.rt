@@ -1,8 +1,9 @@
 //! The walk over all procedures, each behind those that it calls.
-ghost use Rattle.std.specs.Prelude.{◌≡◌, ◌+◌, ◌<◌, ◌^◌, IfErr, IfOk, OnOk, [], length, slice_index};
-ghost use Rattle.call_heights.specs.Calls.{IsInside, edges_at};
-ghost use Rattle.call_heights.specs.Walk.{AreExact, IsBack, IsCome, IsGoing, IsWalkFault, Steps};
-ghost use Rattle.call_heights.specs.Walk.{entered, fresh, in_frame, passed, state_of};
+ghost use Rattle.std.specs.Prelude.{◌≡◌, ◌+◌, ◌<◌, ◌^◌, IfErr, IfOk, OnOk, Contains};
+ghost use Rattle.std.specs.Prelude.{[], ◌∷◌, length, reverse, slice_get, slice_index, Some};
+ghost use Rattle.call_heights.specs.Calls.{IsCycle, IsInside, edges_at};
+ghost use Rattle.call_heights.specs.Walk.{AreExact, IsBack, IsCome, IsGoing, IsIn, IsPath};
+ghost use Rattle.call_heights.specs.Walk.{IsWalkFault, Steps, entered, fresh, in_frame, passed, state_of};
 
 use crate::graph::{CallFault, Edge};
 use std::alloc::Global;
@@ -75,6 +76,34 @@ fn pass(walk: &mut Walk, frame: Frame, to: usize) -> Result<(), CallFault>
     Ok(())
 }
 
+// The call that the walk goes on with in a procedure that it is in.
+fn next_call(graph: &[Vec<Edge>], frame: Frame) -> Edge
+    requires { frame.next < length (edges_at graph.now frame.node) }
+    ensures { slice_get (edges_at graph.now frame.node) frame.next ≡ Some result }
+{
+    graph[frame.node][frame.next]
+}
+
+// The first place in the text of a call on a cycle: `edge`, by the innermost procedure, is of one
+// that the walk is in, from which the calls of `frames` lead back.
+fn first_on_cycle(graph: &[Vec<Edge>], frames: &[Frame], innermost: Frame, edge: Edge) -> u32
+    requires path { IsPath (edges_at graph.now) (innermost ∷ reverse frames.now) }
+    requires called { Contains (edges_at graph.now innermost.node) edge }
+    requires back { IsIn (innermost ∷ reverse frames.now) edge.to }
+    ensures { IsCycle (edges_at graph.now) result }
+{
+    let mut first = edge.at;
+    let mut node = innermost.node;
+    let mut depth = frames.len();
+    while node != edge.to {
+        depth -= 1;
+        let call = next_call(graph, frames[depth]);
+        first = first.min(call.at);
+        node = frames[depth].node;
+    }
+    first
+}
+
 // One step in a procedure that the walk is in: goes on with its next call, or is done with it.
 fn step(graph: &[Vec<Edge>], walk: &mut Walk, frame: Frame) -> Result<(), CallFault>
     requires inside { IsInside (edges_at graph.now) (length graph.now) }
@@ -91,7 +120,7 @@ fn step(graph: &[Vec<Edge>], walk: &mut Walk, frame: Frame) -> Result<(), CallFa
     }
     let edge = edges[frame.next];
     match walk.stages[edge.to] {
-        Stage::Open => Err(CallFault::Cycle(edge.at)),
+        Stage::Open => Err(CallFault::Cycle(first_on_cycle(graph, &walk.frames, frame, edge))),
         Stage::Fresh => {
             walk.frames.push(frame)?;
             enter(walk, edge.to)

@@ -1,10 +1,12 @@
-use Rattle.std.proofs.Common.{◌≡◌, ◌<◌, ◌≤◌, Some, length, slice_get, refl, sym, ◌∙◌, ap, subst, arith}
+use Rattle.std.proofs.Common.{◌≡◌, ◌<◌, ◌≤◌, Some, List, ◌∷◌, length, reverse, slice_get, refl, sym, ◌∙◌, ap, subst, arith}
 use Rattle.std.proofs.lemmas.Option.{slice_get_read}
 use Rattle.std.proofs.lemmas.Result.{on_ok_weaker}
+use Rattle.call_heights.specs.declared.walk.Frame.{Frame}
 use Rattle.call_heights.specs.declared.walk.Stage.TheVariants.{Fresh, Open, Done}
 use Rattle.call_heights.specs.Calls.{edges_at}
-use Rattle.call_heights.specs.Walk.{State, state_of, in_frame, entered, Steps, Leaves, Enters, Passes}
-use Rattle.call_heights.proofs.WalkLemmas.{cycle-found}
+use Rattle.call_heights.specs.Walk.{State, state_of, in_frame, IsIn, IsPath, entered, Steps, Leaves, Enters, Passes}
+use Rattle.call_heights.proofs.ListLemmas.{Contains-get}
+use Rattle.call_heights.proofs.WalkLemmas.{path-in}
 use Rattle.call_heights.proofs.StepLemmas.{next-call, no-call, frame-inside, call-inside, height-fits, pushed}
 use Rattle.call_heights.proofs.walk.step.Goals as goal
 
@@ -102,29 +104,6 @@ pass-requires-clause-height c =
     let many = c.args.walk.now.stages.ok in
     let small = c.args.walk.now.stages.small in omega arith
 
-pub returns-in-Open-clause-fault : goal.returns-in-Open-clause-fault
-returns-in-Open-clause-fault c =
-    let graph = c.args.graph.now in
-    let state = state_of c.args.walk.now in
-    let calls = c.index-graph-frame.result in
-    let edge = c.index-edge.result.now in
-    let inside =
-    frame-inside (edges_at graph) (length graph) c.args.frame state c.requires.going in
-    let below : c.args.frame.next < length calls.items =
-    let many = calls.ok.0 in let len = c.len.ensures in let test = c.if-frame-len.false in
-    omega arith in
-    let next = next-call graph c.args.frame.node c.args.frame.next calls edge inside
-    c.index-graph-frame.is below c.index-edge.ensures in
-    let to =
-    call-inside (edges_at graph) (length graph) c.args.frame edge c.requires.inside next in
-    let size = c.requires.going.stages in
-    let within : edge.to < length state.stages = omega arith in
-    let stage : slice_get state.stages edge.to ≡ Some Open =
-    slice_get_read state.stages (length state.stages) edge.to c.index.result.now refl within
-    c.index.ensures ∙ ap Some c.in-Open.is in
-    cycle-found (edges_at graph) (length graph) c.args.frame state edge c.requires.going next
-    stage
-
 pub returns-in_ok-push-in-Fresh-clause-steps : goal.returns-in_ok-push-in-Fresh-clause-steps
 returns-in_ok-push-in-Fresh-clause-steps c =
     let graph = c.args.graph.now in
@@ -174,3 +153,47 @@ returns-in-Done-clause-steps c =
     let P : State → Type 0 = λ new. Steps (edges_at graph) c.args.frame state new in
     on_ok_weaker c.pass.result (λ same. subst P (sym same) (Passes edge next stage))
     c.pass.ensures.walk
+
+pub first_on_cycle-requires-clause-path : goal.first_on_cycle-requires-clause-path
+first_on_cycle-requires-clause-path c =
+    let graph = c.args.graph.now in
+    let P : List Frame → Type 0 = λ fs. IsPath (edges_at graph) (c.args.frame ∷ reverse fs) in
+    subst P (sym c.deref.ensures.value) (path-in (edges_at graph) (length graph) c.args.frame
+    (state_of c.args.walk.now) c.requires.going)
+
+pub first_on_cycle-requires-clause-called : goal.first_on_cycle-requires-clause-called
+first_on_cycle-requires-clause-called c =
+    let graph = c.args.graph.now in
+    let state = state_of c.args.walk.now in
+    let calls = c.index-graph-frame.result in
+    let inside =
+    frame-inside (edges_at graph) (length graph) c.args.frame state c.requires.going in
+    let below : c.args.frame.next < length calls.items =
+    let many = calls.ok.0 in let len = c.len.ensures in let test = c.if-frame-len.false in
+    omega arith in
+    Contains-get (edges_at graph c.args.frame.node) c.args.frame.next c.index-edge.result.now
+    (next-call graph c.args.frame.node c.args.frame.next calls c.index-edge.result.now inside
+    c.index-graph-frame.is below c.index-edge.ensures)
+
+pub first_on_cycle-requires-clause-back : goal.first_on_cycle-requires-clause-back
+first_on_cycle-requires-clause-back c =
+    let graph = c.args.graph.now in
+    let state = state_of c.args.walk.now in
+    let calls = c.index-graph-frame.result in
+    let edge = c.index-edge.result.now in
+    let inside =
+    frame-inside (edges_at graph) (length graph) c.args.frame state c.requires.going in
+    let below : c.args.frame.next < length calls.items =
+    let many = calls.ok.0 in let len = c.len.ensures in let test = c.if-frame-len.false in
+    omega arith in
+    let next = next-call graph c.args.frame.node c.args.frame.next calls edge inside
+    c.index-graph-frame.is below c.index-edge.ensures in
+    let to =
+    call-inside (edges_at graph) (length graph) c.args.frame edge c.requires.inside next in
+    let size = c.requires.going.stages in
+    let within : edge.to < length state.stages = omega arith in
+    let stage : slice_get state.stages edge.to ≡ Some Open =
+    slice_get_read state.stages (length state.stages) edge.to c.index.result.now refl within
+    c.index.ensures ∙ ap Some c.in-Open.is in
+    let P : List Frame → Type 0 = λ fs. IsIn (c.args.frame ∷ reverse fs) edge.to in
+    subst P (sym c.deref.ensures.value) (c.requires.going.only edge.to stage)
