@@ -65,6 +65,13 @@ impl Local {
         self.slots.as_slice().get(i as usize).copied()
     }
 
+    /// The regions of all slots.
+    pub fn slots(&self) -> &[Region]
+        ensures { result.now ≡ self.now.local.slots }
+    {
+        self.slots.as_slice()
+    }
+
     /// A cell; none exactly where there is no such cell.
     pub fn cell(&self, i: u32) -> Option<i64>
         ensures { result ≡ slice_get self.now.local.cells i }
