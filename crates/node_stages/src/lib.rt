@@ -6,6 +6,7 @@
 #![tactic(auto)]
 
 mod boxes;
+mod edges;
 mod exchanges;
 mod gathers;
 mod kin;
@@ -13,6 +14,7 @@ mod partners;
 mod stages;
 
 pub use boxes::box_number;
+pub use edges::{edge_piece, edge_stage};
 pub use exchanges::{finish_stage, item_piece, start_stage};
 pub use gathers::{gather_stage, own_tuples};
 pub use kin::Kin;
