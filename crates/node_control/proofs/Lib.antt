@@ -1,0 +1,5 @@
+mod ValueLemmas
+mod MoveLemmas
+mod DimLemmas
+mod SlotLemmas
+mod StorageLemmas
