@@ -1,0 +1,20 @@
+-- Whether the places that a message is for are held.
+use Rattle.std.specs.Prelude.{ℕ, Bool, ℤ, List, is_some}
+use Rattle.std.specs.List.{list_all}
+use Rattle.zpl_arrays.specs.Array.{Array}
+use Rattle.node_form.specs.declared.arrays.Item.{Item}
+use Rattle.node_form.specs.declared.tables.Tables.{Tables}
+use Rattle.grid_meaning.specs.Exchange.{places_of}
+use Rattle.grid_meaning.specs.Local.{Local}
+use Rattle.grid_meaning.specs.Place.{values_at}
+
+-- all these places of an array
+abbrev pub are_held : List Array → ℕ → List (List ℤ) → Bool
+are_held stores array places = is_some (values_at stores array places)
+
+-- all places of the items that one processor owns and another needs
+abbrev pub is_item_held : Tables → Local → ℕ → ℕ → Item → Bool
+is_item_held code local from to item = are_held local.stores item.array (places_of code local from to item)
+
+abbrev pub items_held : Tables → Local → List Item → ℕ → ℕ → Bool
+items_held code local items from to = list_all (is_item_held code local from to) items

@@ -1,0 +1,56 @@
+//! Whether the places that a message is for are held.
+ghost use Rattle.std.specs.Prelude.{◌≡◌, ◌<◌, All};
+ghost use Rattle.std.specs.List.{AllZip};
+ghost use Rattle.exchange_messages.specs.Held.{are_held, items_held};
+ghost use Rattle.grid_meaning.specs.Local.{processors};
+ghost use Rattle.grid_meaning.specs.State.{IsSlot};
+ghost use Rattle.grid_meaning.specs.Stored.{arrangement_of};
+ghost use Rattle.node_form.specs.Fits.{FitsItem};
+ghost use Rattle.zpl_region.specs.Region.{IsRegion, members};
+
+use grid_layout::Layout;
+use node_form::{Item, NodeProgram};
+use node_local::Local;
+use node_stages::item_piece;
+use zpl_region::Region;
+
+/// Whether an array's places at the tuples of a region are all held.
+pub(crate) fn are_held(local: &Local, array: u32, places: &Region) -> bool
+    requires { IsRegion places.now }
+    ensures { result ≡ are_held local.now.local.stores array (members places.now) }
+{
+    let mut next = places.least();
+    while let Some(x) = next {
+        let Some(_value) = local.value_at(array, &x) else {
+            return false;
+        };
+        next = places.next_after(x);
+    }
+    true
+}
+
+/// Whether all places of the items are held that processor `from` owns and `to` needs.
+pub(crate) fn items_held(
+    code: &NodeProgram,
+    layout: &Layout,
+    local: &Local,
+    items: &[Item],
+    from: u32,
+    to: u32,
+) -> bool
+    requires layout { layout.now ≡ arrangement_of code.now }
+    requires slots { AllZip IsSlot code.now.slots local.now.local.slots }
+    requires items { All (FitsItem code.now) items.now }
+    requires owner { from < processors code.now }
+    requires receiver { to < processors code.now }
+    ensures { result ≡ items_held code.now local.now.local items.now from to }
+{
+    let slots = local.slots();
+    for item in items {
+        let places = item_piece(code, layout, slots, item, from, to);
+        if !are_held(local, item.array, &places) {
+            return false;
+        }
+    }
+    true
+}

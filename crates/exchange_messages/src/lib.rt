@@ -1,0 +1,9 @@
+//! The messages of exchanges: the words that `start` sends, and what those that `finish` takes write.
+#![tactic(auto)]
+
+mod held;
+mod starts;
+mod writes;
+
+pub use starts::start_words;
+pub use writes::{finish_taken, put_values};
