@@ -1,0 +1,3 @@
+mod NearLemmas
+mod RowLemmas
+mod SourceLemmas

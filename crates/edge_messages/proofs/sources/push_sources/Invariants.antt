@@ -1,0 +1,14 @@
+use Rattle.std.proofs.Common.{ℕ}
+use Rattle.zpl_arrays.specs.Border.{border_source}
+use Rattle.grid_meaning.specs.Place.{value_at}
+use Rattle.node_messages.proofs.ReadLemmas.{left}
+use Rattle.edge_messages.proofs.SourceLemmas.{IsRead}
+use Rattle.edge_messages.proofs.sources.push_sources.Given as goal
+
+abbrev pub invariant-loop-next : goal.invariant-loop-next
+invariant-loop-next l =
+    IsRead (λ t. value_at l.local.local.stores l.array (border_source l.kind l.region l.shift t)) l.tuples l.next
+    l.initial.into.items l.into.items
+
+abbrev pub decreases-loop-next : goal.decreases-loop-next
+decreases-loop-next l = left l.tuples l.next
