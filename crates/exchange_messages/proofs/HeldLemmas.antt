@@ -1,6 +1,6 @@
 -- Places are held as the boxes of arrays say, which no writing changes.
-use Rattle.std.proofs.Common.{◌≡◌, ℕ, zero, suc, ◌+◌, ◌-◌, ◌<◌, ◌≤◌, ◌&&◌, Bool, true, false, cond, List, [], ◌∷◌, ◌++◌, length, map, take, drop, refl, sym, ap, ◌∙◌, subst, ℤ, arith}
-use Rattle.std.specs.Prelude.{Option, Some, None, is_some, find, option_and_then, slice_get, slice_set, sum_by}
+use Rattle.std.proofs.Common.{◌≡◌, ℕ, zero, suc, ◌+◌, ◌-◌, ◌≤◌, ◌&&◌, Bool, true, false, cond, List, [], ◌∷◌, ◌++◌, length, map, take, drop, refl, sym, ap, ◌∙◌, subst, ℤ, arith}
+use Rattle.std.specs.Prelude.{Option, Some, None, is_some, find, option_and_then, slice_get, slice_set}
 use Rattle.std.specs.List.{list_all}
 use Rattle.std.specs.Option.{option_map}
 use Rattle.std.proofs.lemmas.List.Sums.{sum_by-cons}
@@ -10,7 +10,7 @@ use Rattle.node_form.specs.declared.arrays.Item.{Item}
 use Rattle.node_form.specs.declared.tables.Tables.{Tables}
 use Rattle.grid_meaning.specs.Exchange.{places_of, word_count, words_written}
 use Rattle.grid_meaning.specs.Local.{Local}
-use Rattle.grid_meaning.specs.Place.{held_value, held_with, value_at, values_at, where_held, with_value, with_values}
+use Rattle.grid_meaning.specs.Place.{held_with, value_at, values_at, where_held, with_value, with_values}
 use Rattle.exchange_messages.specs.Held.{are_held, items_held}
 use Rattle.exchange_messages.specs.Writing.{AreWritten}
 use Rattle.zpl_region.specs.Region.{is_before, members}
