@@ -1,3 +1,4 @@
+mod LogLemmas
 mod StackLemmas
 mod StartLemmas
-mod StoreLemmas
+pub mod StoreLemmas

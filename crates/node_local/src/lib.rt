@@ -7,7 +7,9 @@
 
 mod changes;
 mod locals;
+mod logs;
 mod memories;
+mod places;
 mod readers;
 mod standings;
 mod starts;
@@ -17,4 +19,5 @@ mod values;
 
 pub use locals::Local;
 pub use standings::{Kept, KeptWords, Slots, Standing, Store, Stores};
+pub use starts::no_places;
 pub use values::NoValue;

@@ -3,7 +3,8 @@ ghost use Rattle.std.specs.Prelude.{◌≡◌, IfSome, IfNone};
 ghost use Rattle.std.specs.Option.{option_map};
 ghost use Rattle.grid_meaning.specs.Place.{moved_by, value_at, with_value};
 
-use crate::stores::FlatStore;
+use crate::changes::Change;
+use crate::stores::{FlatStore, put_back};
 use zpl_region::Vec3;
 
 /// What expressions read and members write.
@@ -52,5 +53,21 @@ impl Memory {
         let place = self.stores[at].place(index)?;
         let store = &mut self.stores[at];
         Some((place, store.replace(place, value)))
+    }
+
+    /// Takes a change back. A place that isn't there stays away.
+    pub(crate) fn take_back(&mut self, change: Change)
+        ensures { point_in self.new ≡ taken_back change (point_in self.old) }
+    {
+        match change {
+            Change::Scalar(scalar, old) => put_back(self.scalars.as_mut_slice(), scalar, old),
+            Change::Cell(cell, old) => put_back(self.cells.as_mut_slice(), cell, old),
+            Change::Place(array, place, old) => {
+                if array < self.stores.len() {
+                    let store = &mut self.stores[array];
+                    store.put_back(place, old);
+                }
+            }
+        }
     }
 }

@@ -52,7 +52,7 @@ fn all_from(lo: i64, hi: i64) -> Dim
 }
 
 /// The region of a rank that has no tuples: `1..0` in each dimension.
-fn no_places(rank: u8) -> Region
+pub fn no_places(rank: u8) -> Region
     requires above { 1 ≤ rank }
     requires below { rank ≤ 3 }
     ensures places { result ≡ no_places rank }

@@ -1,6 +1,6 @@
 //! The places of an array that a processor holds, with their values in one vector.
 ghost use Rattle.std.specs.Prelude.{◌≡◌, ◌<◌, ◌*◌, ◌+◌, ◌^◌, length, All, IfOk, IfSome, IsTrue};
-ghost use Rattle.std.specs.Prelude.{[], ◌∷◌, slice_get, slice_set, true};
+ghost use Rattle.std.specs.Prelude.{[], ◌∷◌, pos, replicate, slice_get, slice_set, true};
 ghost use Rattle.zpl_region.specs.Ends.{coordinate_count, tuple_count};
 ghost use Rattle.zpl_region.specs.Hull.{IsBoxed};
 ghost use Rattle.zpl_arrays.specs.Array.{each_has_place, place_along, place_among};
@@ -138,6 +138,24 @@ fn is_flat(dims: &[Dim; 3], x: &Vec3) -> bool
     plane & (row & column)
 }
 
+/// Sets all values of a row to 0.
+fn clear(values: &mut [i64])
+    ensures { values.new ≡ replicate (length values.old) (pos 0) }
+{
+    for value in values.iter_mut() {
+        *value = 0;
+    }
+}
+
+/// Puts a value at a place of a row, if there is such a place.
+pub(crate) fn put_back(values: &mut [i64], place: usize, value: i64)
+    ensures { values.new ≡ slice_set values.old place value }
+{
+    if place < values.len() {
+        values[place] = value;
+    }
+}
+
 impl FlatStore {
     /// A store with 0 at each of these places.
     pub(crate) fn zeros(alloc: Global, shape: Region) -> Result<FlatStore, AllocError>
@@ -230,5 +248,21 @@ impl FlatStore {
         let old = self.values[place];
         self.values[place] = value;
         old
+    }
+
+    /// Puts a value at a place of the row, if there is such a place.
+    pub(crate) fn put_back(&mut self, place: usize, value: i64)
+        ensures { self.new ≡ record self.old {
+          values = slice_set self.old.values place value;
+        } }
+    {
+        put_back(self.values.as_mut_slice(), place, value);
+    }
+
+    /// Sets all values to 0.
+    pub(crate) fn clear(&mut self)
+        ensures { self.new ≡ zeros_at self.old.storage }
+    {
+        clear(self.values.as_mut_slice());
     }
 }
