@@ -1,0 +1,5 @@
+mod BracketLemmas
+mod RanLemmas
+mod RoomLemmas
+mod StepLemmas
+mod TurnLemmas
