@@ -1,5 +1,5 @@
 -- Second names among names.
-use Rattle.std.proofs.Common.{◌≡◌, ℕ, ◌+◌, ◌<◌, length, get_or, drop, Result, Ok, Err, IfErr, ◌⊎◌, inl, inr, Bool, true, false, ◌||◌, List, [], ◌∷◌, ◌++◌, map, Option, IsSome, Contains, append-nil, append_assoc, refl, sym, ◌∙◌, ap, subst, true≢false}
+use Rattle.std.proofs.Common.{◌≡◌, ℕ, ◌+◌, ◌<◌, length, get_or, drop, Result, Ok, Err, IfErr, ◌⊎◌, inl, inr, Bool, true, false, ◌||◌, List, [], ◌∷◌, ◌++◌, map, Option, Some, None, IsSome, Contains, append-nil, append_assoc, refl, sym, ◌∙◌, ap, subst, true≢false}
 use Rattle.std.specs.List.{list_any}
 use Rattle.std.specs.Str.{bytes_eq}
 use Rattle.std.proofs.lemmas.List.{map-append}
@@ -87,6 +87,50 @@ more-second before (x ∷ xs) ys at m =
       | inr h ↦ right-among here (repeated (x ∷ before) (xs ++ ys)) at
           (more-second (x ∷ before) xs ys at h)
     ]
+
+-- a name that no entry has
+not-there : (entries : List Entry) (text : List ℕ) → kind_in entries text ≡ None →
+    is_there (names_of entries) text ≡ false
+not-there [] text h = refl
+not-there (entry ∷ entries) text h =
+    by (bytes_eq entry.name.text text) (sym (kind_in-cons entry entries text) ∙ h)
+    (not-there entries text)
+  where
+    by : (b : Bool) → found b entry.kind (kind_in entries text) ≡ None →
+        (kind_in entries text ≡ None → is_there (names_of entries) text ≡ false) →
+        b || is_there (names_of entries) text ≡ false
+    by true h later = absurd (let some : Some entry.kind ≡ None = h in cc)
+    by false h later = later h
+
+neither : (a b : Bool) → a || b ≡ false → (a ≡ false) × (b ≡ false)
+neither true b h = absurd (true≢false h)
+neither false b h = (refl, h)
+
+-- a new name behind others is no second one
+last-new : (before xs : List Name) (name : Name) → is_there before name.text ≡ false →
+    is_there xs name.text ≡ false → repeated before (xs ++ name ∷ []) ≡ repeated before xs
+last-new before [] name h e = ap (λ b. at_if b name.at ++ []) h
+last-new before (x ∷ xs) name h e =
+    let parts = neither (bytes_eq x.text name.text) (is_there xs name.text) e in
+    ap (λ places. at_if (is_there before x.text) x.at ++ places)
+    (last-new (x ∷ before) xs name
+    (ap (λ b. b || is_there before name.text) parts.0 ∙ h) parts.1)
+
+pub once-more : (name : Name) (kind : Kind) (old new : List Entry) (b : Bool) → b ≡ true →
+    Adds name kind old new b → second_names new ≡ second_names old
+once-more name kind old new false e h = absurd (true≢false (sym e))
+once-more name kind old new true e h =
+    ap second_names h.1 ∙
+    ap (repeated []) (map-append (λ entry. entry.name) old (entry_for kind name ∷ [])) ∙
+    last-new [] (names_of old) name refl (not-there old name.text h.0)
+
+scalar-names : (names : List Name) → names_of (scalars names) ≡ names
+scalar-names [] = refl
+scalar-names (name ∷ names) = ap (λ rest. name ∷ rest) (scalar-names names)
+
+-- names that hide others are second ones among themselves, or among the entries for them
+pub scalars-second : (names : List Name) → second_names (scalars names) ≡ repeated [] names
+scalars-second names = ap (repeated []) (scalar-names names)
 
 abbrev IsSecond : List Name → ℕ → Type 0
 IsSecond names at = Contains (repeated [] names) at

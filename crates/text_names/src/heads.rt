@@ -9,7 +9,7 @@ ghost use Rattle.name_kinds.specs.Seen.{formal_of};
 ghost use Rattle.site_faults.specs.Reach.{reach_of};
 ghost use Rattle.site_faults.specs.Walk.{Walks};
 ghost use Rattle.text_names.specs.Heads as heads;
-ghost use Rattle.text_names.specs.Stops.{Stops};
+ghost use Rattle.text_names.specs.Stops.{Stops, second_names};
 
 use crate::stops::Stop;
 use crate::tables::add_names;
@@ -25,6 +25,7 @@ fn add_param_names<'a>(names: &mut Names<'a>, params: &[Param<'a>]) -> Result<()
         ++ heads.scalars (heads.param_names (map param_of params.now))) }
     ensures err { IfErr result (Stops (names.old
         ++ heads.scalars (heads.param_names (map param_of params.now)))) }
+    ensures once { OnOk result (second_names names.new ≡ second_names names.old) }
 {
     for param in params {
         add_names(names, param.names, Kind::Scalar(Base::Integer))?;
@@ -38,6 +39,7 @@ fn add_var_names<'a>(names: &mut Names<'a>, vars: &[VarDef<'a>]) -> Result<(), S
         ++ heads.scalars (heads.var_names (map var_of vars.now))) }
     ensures err { IfErr result (Stops (names.old
         ++ heads.scalars (heads.var_names (map var_of vars.now)))) }
+    ensures once { OnOk result (second_names names.new ≡ second_names names.old) }
 {
     for var in vars {
         add_names(names, var.names, Kind::Scalar(Base::Integer))?;
@@ -50,6 +52,7 @@ pub fn hiding_names<'a>(alloc: Global, procedure: &Procedure<'a>) -> Result<Name
     ensures ok { IfOk result (λ names. names
         ≡ heads.scalars (own_names (procedure_of procedure.now))) }
     ensures err { IfErr result (Stops (heads.scalars (own_names (procedure_of procedure.now)))) }
+    ensures once { IfOk result (λ names. second_names names ≡ []) }
 {
     let mut names = Names::new(alloc);
     add_param_names(&mut names, procedure.params)?;

@@ -3,7 +3,7 @@ ghost use Rattle.std.specs.Prelude.{◌≡◌, ◌++◌, ◌∷◌, [], IfErr, O
 ghost use Rattle.zpl_tree.specs.View.{name_of};
 ghost use Rattle.zpl_names.specs.Declared.{entry_for};
 ghost use Rattle.name_kinds.specs.Seen.{kind_of};
-ghost use Rattle.text_names.specs.Stops.{Stops};
+ghost use Rattle.text_names.specs.Stops.{Stops, second_names};
 
 use crate::stops::Stop;
 use name_kinds::{Kind, Names};
@@ -15,6 +15,7 @@ pub fn add_name<'a>(names: &mut Names<'a>, name: &Name<'a>, kind: Kind<'a>) -> R
         ≡ names.old ++ entry_for (kind_of kind.entry) (name_of name.now) ∷ []) }
     ensures err { IfErr result (Stops
         (names.old ++ entry_for (kind_of kind.entry) (name_of name.now) ∷ [])) }
+    ensures once { OnOk result (second_names names.new ≡ second_names names.old) }
 {
     if names.add(name, kind)? {
         Ok(())
@@ -29,6 +30,7 @@ pub fn add_names<'a>(names: &mut Names<'a>, more: &[Name<'a>], kind: Kind<'a>) -
         ≡ names.old ++ map (entry_for (kind_of kind.entry)) (map name_of more.now)) }
     ensures err { IfErr result (Stops
         (names.old ++ map (entry_for (kind_of kind.entry)) (map name_of more.now))) }
+    ensures once { OnOk result (second_names names.new ≡ second_names names.old) }
 {
     for name in more {
         add_name(names, name, kind)?;

@@ -10,5 +10,5 @@ returns-in_err-add_names-clause-err c =
     (λ param. scalars (map name_of param.names.now))
     (λ param rest. scalars-append (map name_of param.names.now) (param_names (map param_of rest)))
     c.args.params.now c.loop-param.param-index _ c.loop-param.names _ c.from_residual.result
-    c.in_err-add_names.field-0.0 c.loop-param-test.true c.loop-param.invariant
+    c.in_err-add_names.field-0.0 c.loop-param-test.true c.loop-param.invariant.0
     c.from_residual.ensures.1 c.in_err-add_names.ensures.err

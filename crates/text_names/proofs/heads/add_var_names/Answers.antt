@@ -10,5 +10,5 @@ returns-in_err-add_names-clause-err c =
     (λ var. scalars (map name_of var.names.now))
     (λ var rest. scalars-append (map name_of var.names.now) (var_names (map var_of rest)))
     c.args.vars.now c.loop-var.var-index _ c.loop-var.names _ c.from_residual.result
-    c.in_err-add_names.field-0.0 c.loop-var-test.true c.loop-var.invariant
+    c.in_err-add_names.field-0.0 c.loop-var-test.true c.loop-var.invariant.0
     c.from_residual.ensures.1 c.in_err-add_names.ensures.err

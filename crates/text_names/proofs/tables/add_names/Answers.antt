@@ -10,5 +10,5 @@ returns-in_err-add_name-clause-err c =
     loop-stops (λ names. map (entry_for (kind_of c.args.kind)) (map name_of names))
     (λ name. entry_for (kind_of c.args.kind) (name_of name) ∷ []) (λ name rest. refl)
     c.args.more.now c.loop-name.name-index _ c.loop-name.names _ c.from_residual.result
-    c.in_err-add_name.field-0.0 c.loop-name-test.true c.loop-name.invariant
+    c.in_err-add_name.field-0.0 c.loop-name-test.true c.loop-name.invariant.0
     c.from_residual.ensures.1 c.in_err-add_name.ensures.err
