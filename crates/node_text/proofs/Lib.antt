@@ -1,2 +1,9 @@
+pub mod Forms
+pub mod Found
+pub mod Places
+pub mod Ranks
 pub mod Read
 pub mod Shorter
+pub mod TypedRows
+pub mod TypedTables
+pub mod Written
