@@ -1,5 +1,5 @@
 -- The tuples of a region are near.
-use Rattle.std.proofs.Common.{◌≡◌, ℕ, List, [], ◌∷◌, ℤ, pos, neg_ℤ, ◌≤ℤ◌, ◌^◌, arith}
+use Rattle.std.proofs.Common.{◌≡◌, ℕ, List, [], ◌∷◌, ℤ, arith}
 use Rattle.std.specs.Prelude.{All, Some, slice_get}
 use Rattle.std.specs.List.{AllZip}
 use Rattle.std.proofs.lemmas.Int.{ints}

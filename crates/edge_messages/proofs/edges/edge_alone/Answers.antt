@@ -1,5 +1,5 @@
 use Rattle.std.proofs.Common.{rules, ◌≡◌, true, false, List, ℤ, sym, ap, ◌∙◌}
-use Rattle.std.specs.Prelude.{Some, None}
+use Rattle.std.specs.Prelude.{Some}
 use Rattle.zpl_region.specs.Region.{members}
 use Rattle.zpl_arrays.specs.Border.{border_source}
 use Rattle.grid_meaning.specs.Delivery.{each_word}

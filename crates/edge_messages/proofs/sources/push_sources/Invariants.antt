@@ -1,4 +1,3 @@
-use Rattle.std.proofs.Common.{ℕ}
 use Rattle.zpl_arrays.specs.Border.{border_source}
 use Rattle.grid_meaning.specs.Place.{value_at}
 use Rattle.node_messages.proofs.ReadLemmas.{left}
