@@ -1,5 +1,5 @@
 -- What a move makes of the state, by the three ways in which a row goes on.
-use Rattle.std.proofs.Common.{◌≡◌, ℕ, Bool, true, false, List, [], refl, sym, ap, ◌∙◌, subst}
+use Rattle.std.proofs.Common.{◌≡◌, ℕ, Bool, true, false, [], refl, sym, ap, ◌∙◌, subst}
 use Rattle.std.specs.Prelude.{All, slice_set}
 use Rattle.zpl_nums.specs.declared.ends.End.{End}
 use Rattle.zpl_nums.specs.declared.ends.End.TheVariants.{Trap}
@@ -13,7 +13,7 @@ use Rattle.node_form.specs.Control.{Control, Registers, Steps, Leaps, Ends, limi
 use Rattle.grid_meaning.specs.Action.{ended_as, goes_on, goes_to, moves}
 use Rattle.grid_meaning.specs.Turn.{controlled, registers_of, with_registers}
 use Rattle.node_local.specs.Workplace.{Workplace}
-use Rattle.node_control.specs.Moving.{MovesBy, MovesOn}
+use Rattle.node_control.specs.Moving.{MovesBy}
 
 pub steps_by : (control : Control) (old new : Workplace) (registers : Registers) → control ≡ Steps registers
     → new ≡ record old { local = goes_on (with_registers old.local registers) } → MovesBy control old new

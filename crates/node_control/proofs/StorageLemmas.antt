@@ -1,10 +1,9 @@
 -- The places of a stored array are a region.
-use Rattle.std.proofs.Common.{◌≡◌, ℕ, zero, suc, ◌+◌, ◌-◌, List, [], ◌∷◌, length, map, drop, replicate, refl, sym, ap, ◌∙◌, subst, ℤ, pos, arith}
-use Rattle.std.specs.Prelude.{Bool, true, Option, Some, None, All, slice_get}
+use Rattle.std.proofs.Common.{◌≡◌, ℕ, zero, suc, ◌+◌, ◌-◌, List, [], ◌∷◌, length, map, drop, replicate, refl, ap, ◌∙◌, subst, pos, arith}
+use Rattle.std.specs.Prelude.{true, Option, Some, All}
 use Rattle.std.specs.Option.{IsSomeAnd}
 use Rattle.std.proofs.lemmas.Int.{ints}
 use Rattle.std.proofs.lemmas.List.Elements.{All-nil, All-cons, All-head, All-tail}
-use Rattle.zpl_region.specs.declared.dims.Dim.{Dim}
 use Rattle.zpl_region.specs.declared.dims.Dim.TheVariants as dim
 use Rattle.zpl_region.specs.Dim.{HasStep, IsDim, IsDimWithinLimit}
 use Rattle.zpl_region.specs.Region.{IsRegion, padding}

@@ -3,10 +3,8 @@
 --   IsControlRow   the rows that need scalars and slots alone
 --   IsPrintRow     those that print a text or an expression's value
 --   CanRun         what they read is there, with room for each expression
-use Rattle.std.specs.Prelude.{◌≡◌, ℕ, ◌<◌, length, ⊤}
+use Rattle.std.specs.Prelude.{◌≡◌, ◌<◌, length, ⊤}
 use Rattle.std.specs.List.{AllZip}
-use Rattle.node_form.specs.declared.instructions.DimRow.{DimRow}
-use Rattle.node_form.specs.declared.instructions.DimRow.TheVariants.{Span, Star, Copied}
 use Rattle.node_form.specs.declared.instructions.Instr.{Instr}
 use Rattle.node_form.specs.declared.instructions.Instr.TheVariants as instr
 use Rattle.node_form.specs.declared.tables.Tables.{Tables}
