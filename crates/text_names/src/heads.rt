@@ -156,8 +156,8 @@ pub fn formals<'a>(
     Ok(all)
 }
 
-// Walks over parameters.
-fn walk_params<'a>(
+/// Walks over parameters.
+pub fn walk_params<'a>(
     findings: &mut Findings<'a>,
     reach: &Reach<'a>,
     params: &[Param<'a>],
@@ -172,8 +172,8 @@ fn walk_params<'a>(
     Ok(())
 }
 
-// Walks over local variables.
-fn walk_locals<'a>(
+/// Walks over local variables.
+pub fn walk_locals<'a>(
     findings: &mut Findings<'a>,
     reach: &Reach<'a>,
     locals: &[VarDef<'a>],

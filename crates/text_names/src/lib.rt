@@ -9,6 +9,6 @@ mod tables;
 
 pub use declarations::{declare_defines, declare_directions, declare_regions, declare_vars};
 pub use found::{define_found, direction_found, region_found, resumed, variables_found};
-pub use heads::{formals, hiding_names, own_table, walk_head};
+pub use heads::{formals, hiding_names, own_table, walk_head, walk_locals, walk_params};
 pub use stops::Stop;
 pub use tables::{add_name, add_names};
