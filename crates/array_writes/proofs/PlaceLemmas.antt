@@ -1,6 +1,5 @@
 -- Lemmas on the places of tuples, dimension by dimension.
-use Rattle.std.proofs.Common.{◌≡◌, ℕ, zero, suc, ◌+◌, ◌-◌, ◌*◌, ◌<◌, ◌≤◌, Bool, true, false, ◌&&◌, if◌then◌else◌, Option, Some, None, List, [], ◌∷◌, ◌++◌, length, drop, replicate, get_or, map, flat_map, ℤ, pos, ◌+ℤ◌, ◌≤ℤ◌, refl, sym, ◌∙◌, ap, subst, arith}
-use Rattle.std.specs.Option.{IfSome}
+use Rattle.std.proofs.Common.{◌≡◌, ℕ, zero, suc, ◌+◌, ◌-◌, ◌*◌, ◌<◌, ◌≤◌, Bool, true, false, ◌&&◌, if◌then◌else◌, Option, Some, None, List, [], ◌∷◌, length, drop, replicate, get_or, map, flat_map, ℤ, pos, ◌+ℤ◌, ◌≤ℤ◌, refl, sym, ◌∙◌, ap, subst, arith}
 use Rattle.std.specs.Ordering.{int_eq}
 use Rattle.std.proofs.Math.Nat.{mul-le-mul_right}
 use Rattle.std.proofs.lemmas.Int.{ints}
@@ -10,7 +9,6 @@ use Rattle.zpl_region.specs.declared.dims.Dim.TheVariants.{Range, Flood}
 use Rattle.zpl_region.specs.declared.regions.Region.{Region}
 use Rattle.zpl_region.specs.Dim.{HasStep, IsCoordinate, coordinates}
 use Rattle.zpl_region.specs.Ends.{coordinate_count, tuple_count}
-use Rattle.zpl_region.specs.Progression.{progression}
 use Rattle.zpl_region.specs.Region.{IsRegion, members, padding, tuples}
 use Rattle.zpl_region.specs.Tests.{are_coordinates, is_coordinate}
 use Rattle.std.proofs.lemmas.Option.{slice_get_within}
@@ -22,7 +20,6 @@ use Rattle.zpl_arrays.proofs.ArrayLemmas.{flattened_member, place_of_tuple}
 use Rattle.zpl_region.proofs.RegionLemmas.{length-tuples_one}
 use Rattle.zpl_region.proofs.TupleLemmas.{length-tuples}
 use Rattle.zpl_arrays.specs.Array.{each_has_place, flattened, has_place, place_along, place_among}
-use Rattle.array_lines.specs.declared.sides.Side.{Side}
 use Rattle.array_lines.specs.declared.sides.Way.{Way}
 use Rattle.array_lines.specs.declared.sides.Way.TheVariants.{Moved}
 use Rattle.array_lines.specs.Axis.{along}
@@ -30,7 +27,7 @@ use Rattle.array_lines.specs.Read.{each_gone, gone, line_of, spot, spot_on}
 use Rattle.array_lines.proofs.ReadLemmas.{has_along, map_by_lines, map_three, place_is, three_of}
 use Rattle.array_writes.specs.declared.puts.Change.{Change}
 use Rattle.array_writes.specs.declared.puts.Sides.{Sides}
-use Rattle.array_writes.specs.Write.{IsUnder, all_places, line_place, line_places, place_at, place_gone, places_at, plane_places, put_each, put_one, row_places, run_places, solid, solid_region, still}
+use Rattle.array_writes.specs.Write.{IsUnder, all_places, line_place, line_places, place_at, place_gone, places_at, put_each, put_one, row_places, run_places, solid, solid_region, still}
 use Rattle.array_writes.proofs.PutLemmas.{length-places, map_places}
 
 -- ---- one dimension

@@ -1,5 +1,5 @@
 -- Lemmas on the array that a write makes.
-use Rattle.std.proofs.Common.{◌≡◌, ◌≢◌, ℕ, ◌<◌, Bool, true, false, ◌&&◌, ◌||◌, if◌then◌else◌, All, Option, Some, None, List, [], ◌∷◌, length, length-set, get_or, get_or-set_same, get_or-set_other, map, set, ℤ, pos, eqb, inl, inr, refl, sym, ◌∙◌, ap, subst, arith, slice_get}
+use Rattle.std.proofs.Common.{◌≡◌, ℕ, ◌<◌, Bool, true, false, ◌&&◌, ◌||◌, if◌then◌else◌, All, Option, Some, None, List, [], ◌∷◌, length, length-set, get_or, get_or-set_same, get_or-set_other, map, set, ℤ, pos, eqb, inl, inr, refl, sym, ◌∙◌, ap, subst, arith, slice_get}
 use Rattle.std.proofs.lemmas.Bool.{and_from, and_parts, eq-eqb, eqb-true}
 use Rattle.std.proofs.lemmas.Option.{slice_get_within}
 use Rattle.zpl_region.specs.declared.regions.Region.{Region}
@@ -9,7 +9,7 @@ use Rattle.zpl_region.specs.Tests.{is_member}
 use Rattle.zpl_region.proofs.LawLemmas.{members_iff}
 use Rattle.zpl_region.proofs.ListLemmas.{Among, Contains-from_among, among_from_Contains}
 use Rattle.zpl_region.proofs.TestLemmas.{is_member_iff}
-use Rattle.zpl_arrays.specs.Array.{Array, IsArray, array_of, element, place_among}
+use Rattle.zpl_arrays.specs.Array.{Array, IsArray, element, place_among}
 use Rattle.zpl_arrays.proofs.ArrayLemmas.{array_of_is_array, element_of_member, place_of_tuple, same_elements, value_at_place}
 use Rattle.array_writes.specs.declared.puts.Change.{Change}
 use Rattle.array_writes.specs.declared.puts.Change.TheVariants.{Set}

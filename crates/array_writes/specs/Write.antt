@@ -10,7 +10,6 @@ use Rattle.zpl_region.specs.Dim.{coordinates}
 use Rattle.zpl_region.specs.Region.{padding}
 use Rattle.zpl_region.specs.Tests.{is_member}
 use Rattle.zpl_arrays.specs.Array.{Array, array_of, element, has_place, place_among}
-use Rattle.array_lines.specs.declared.sides.Side.{Side}
 use Rattle.array_lines.specs.declared.sides.Way.{Way}
 use Rattle.array_lines.specs.declared.sides.Way.TheVariants.{Moved}
 use Rattle.array_lines.specs.Axis.{along}

@@ -1,7 +1,6 @@
-use Rattle.std.proofs.Common.{◌≡◌, ◌<◌, ◌+◌, ◌-◌, ◌*◌, ◌≤◌, Bool, false, get_or, length, ℤ, ◌+ℤ◌, pos, to_z, of_z, w64, refl, sym, ◌∙◌, ap, subst, arith, rules}
-use Rattle.array_lines.specs.Axis.{along}
+use Rattle.std.proofs.Common.{◌≡◌, ◌*◌, false, get_or, ◌+ℤ◌, pos, to_z, of_z, w64, ◌∙◌, ap, arith, rules}
 use Rattle.array_lines.specs.Read.{line_of}
-use Rattle.array_writes.specs.Write.{line_place, put_each, put_one, run_places}
+use Rattle.array_writes.specs.Write.{line_place, put_one}
 use Rattle.array_writes.proofs.PutLemmas.{put_all, put_begin, put_more}
 use Rattle.array_writes.proofs.puts.put_line.Goals as goal
 

@@ -1,4 +1,4 @@
-use Rattle.std.proofs.Common.{◌≡◌, drop, length}
+use Rattle.std.proofs.Common.{◌≡◌, drop}
 use Rattle.array_lines.specs.Axis.{along}
 use Rattle.array_lines.proofs.RunLemmas.{left_of}
 use Rattle.array_writes.specs.Write.{line_places, put_each}

@@ -1,4 +1,4 @@
-use Rattle.std.proofs.Common.{◌≡◌, ◌<◌, ◌+◌, ◌*◌, ◌≤◌, drop, length, map, take, pos, ◌+ℤ◌, refl, sym, ◌∙◌, ap, subst, arith, rules}
+use Rattle.std.proofs.Common.{◌≡◌, ◌<◌, ◌*◌, ◌≤◌, drop, length, map, take, pos, ◌+ℤ◌, ◌∙◌, ap, arith}
 use Rattle.zpl_region.specs.Ends.{tuple_count}
 use Rattle.zpl_region.specs.Region.{members}
 use Rattle.zpl_region.proofs.EndLemmas.{length-tuple_count}

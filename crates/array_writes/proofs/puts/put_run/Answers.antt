@@ -1,5 +1,4 @@
-use Rattle.std.proofs.Common.{◌≡◌, ◌<◌, ◌+◌, ◌-◌, ◌*◌, ◌≤◌, Bool, false, Some, get_or, length, ℤ, pos, to_z, of_z, w64, refl, sym, ◌∙◌, ap, arith, rules}
-use Rattle.std.proofs.Math.Nat.{mul-le-mul_right}
+use Rattle.std.proofs.Common.{◌≡◌, ◌+◌, ◌*◌, false, Some, get_or, length, pos, to_z, of_z, w64, ◌∙◌, ap, arith, rules}
 use Rattle.array_writes.specs.Write.{put_one}
 use Rattle.array_writes.proofs.PutLemmas.{run_all, run_begin, run_more}
 use Rattle.array_writes.proofs.puts.put_run.Goals as goal

@@ -1,4 +1,4 @@
-use Rattle.std.proofs.Common.{◌≡◌, ◌<◌, ◌+◌, ◌-◌, ◌*◌, ◌≤◌, arith}
+use Rattle.std.proofs.Common.{◌<◌, ◌+◌, ◌-◌, ◌*◌, ◌≤◌, arith}
 use Rattle.array_lines.proofs.ReadLemmas.{begin_bound, in_line}
 use Rattle.array_writes.proofs.PlaceLemmas.{run_is}
 use Rattle.array_writes.proofs.puts.run_on.Goals as goal

@@ -1,4 +1,4 @@
-use Rattle.std.proofs.Common.{◌≡◌, get_or, refl, sym, ◌∙◌, ap, arith}
+use Rattle.std.proofs.Common.{refl, sym, ◌∙◌, arith}
 use Rattle.zpl_region.specs.Dim.{IsDim, coordinates}
 use Rattle.zpl_region.proofs.ListLemmas.{cons_same}
 use Rattle.array_lines.proofs.ReadLemmas.{each_of_three, map_three, three_of}

@@ -1,4 +1,4 @@
-use Rattle.std.proofs.Common.{◌≡◌, ◌≤◌, map, pos, refl, sym, ◌∙◌, ap, subst, arith, rules}
+use Rattle.std.proofs.Common.{◌≡◌, map, ◌∙◌, ap, arith}
 use Rattle.zpl_region.specs.declared.dims.Dim.TheVariants.{Flood}
 use Rattle.zpl_region.specs.Ends.{tuple_count}
 use Rattle.zpl_region.specs.Region.{members}
