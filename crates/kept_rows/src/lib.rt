@@ -1,0 +1,6 @@
+//! Masks as rows: a truth value for each tuple of a region.
+#![tactic(auto)]
+
+mod masks;
+
+pub use masks::{push_everywhere, push_kept};
