@@ -1,5 +1,5 @@
 -- Lemmas on places of tuples in a storage.
-use Rattle.std.proofs.Common.{◌≡◌, ℕ, ◌+◌, ◌*◌, ◌<◌, ◌↔◌, IsTrue, Bool, true, false, ◌&&◌, if◌then◌else◌, Option, Some, None, All, List, [], ◌∷◌, length, get_or, ℤ, pos, refl, sym, ◌∙◌, ap, subst, arith}
+use Rattle.std.proofs.Common.{◌≡◌, ℕ, ◌+◌, ◌*◌, ◌↔◌, IsTrue, Bool, true, false, if◌then◌else◌, Some, None, All, List, [], ◌∷◌, length, get_or, ℤ, refl, sym, ◌∙◌, ap, subst}
 use Rattle.std.specs.List.{AllZip}
 use Rattle.std.specs.Prelude.{is_some}
 use Rattle.std.proofs.lemmas.Bool.{and_from}

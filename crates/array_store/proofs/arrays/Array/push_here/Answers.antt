@@ -1,7 +1,6 @@
-use Rattle.std.proofs.Common.{◌≡◌, ◌++◌, pos, map, ap, subst}
+use Rattle.std.proofs.Common.{◌≡◌, ◌++◌, pos, ap, subst}
 use Rattle.std.specs.Result.{OnOk}
 use Rattle.zpl_region.specs.declared.dims.Dim.TheVariants.{Flood}
-use Rattle.zpl_region.specs.Region.{members}
 use Rattle.zpl_arrays.specs.Array.{element}
 use Rattle.array_lines.specs.Read.{read_at}
 use Rattle.array_writes.specs.Write.{still}

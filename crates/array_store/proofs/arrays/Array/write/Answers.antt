@@ -1,4 +1,4 @@
-use Rattle.std.proofs.Common.{◌≡◌, ℤ, List, map, refl, sym, ◌∙◌, ap, arith}
+use Rattle.std.proofs.Common.{ℤ, List, map, ◌∙◌, ap, arith}
 use Rattle.std.proofs.lemmas.List.{with_items_is}
 use Rattle.zpl_region.specs.Region.{members}
 use Rattle.zpl_region.proofs.HullLemmas.{has_steps}

@@ -1,4 +1,4 @@
-use Rattle.std.proofs.Common.{◌≡◌, ℕ, length, replicate, ℤ, List, pos, refl, sym, ◌∙◌, ap, arith}
+use Rattle.std.proofs.Common.{◌≡◌, length, replicate, ℤ, List, pos, ◌∙◌, ap, arith}
 use Rattle.std.proofs.lemmas.List.{length-replicate}
 use Rattle.zpl_region.specs.Region.{members}
 use Rattle.zpl_region.proofs.EndLemmas.{length-tuple_count}
