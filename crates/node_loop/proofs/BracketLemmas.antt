@@ -1,13 +1,13 @@
 -- The members that enclose one, found on the way back from it.
-use Rattle.std.proofs.Common.{◌≡◌, ℕ, zero, suc, ◌+◌, ◌<◌, ◌≤◌, Bool, List, [], ◌∷◌, ◌++◌, length, take, drop, get_or, refl, sym, ap, ◌∙◌, subst, arith}
-use Rattle.std.specs.Prelude.{Option, Some, None, slice_get, unwrap_or}
+use Rattle.std.proofs.Common.{◌≡◌, ℕ, zero, suc, ◌+◌, ◌<◌, ◌≤◌, List, [], ◌∷◌, ◌++◌, length, take, drop, get_or, refl, sym, ap, ◌∙◌, arith}
+use Rattle.std.specs.Prelude.{Some, None, slice_get, unwrap_or}
 use Rattle.std.proofs.lemmas.List.{drop-drop, length-take-le, take_more}
 use Rattle.node_form.specs.declared.members.Member.{Member}
 use Rattle.node_form.specs.declared.members.Member.TheVariants as member
-use Rattle.node_form.specs.Group.{Mode, innermost_of, last_or, open_before, open_from, open_numbers, outermost_of, skipped}
+use Rattle.node_form.specs.Group.{innermost_of, last_or, open_before, open_from, open_numbers, outermost_of}
 use Rattle.node_loop.specs.declared.brackets.Bracket.{Bracket}
 use Rattle.node_loop.specs.declared.brackets.Bracket.TheVariants.{Plain, Opens, Otherwise, Closes}
-use Rattle.node_loop.specs.Bracket.{back_over, bracket_of, open_after, skipped_over}
+use Rattle.node_loop.specs.Bracket.{back_over, bracket_of, open_after}
 
 -- ---- what members do, by their brackets
 open_numbers_by : (number : ℕ) (numbers : List ℕ) (member : Member)
@@ -22,19 +22,6 @@ open_numbers_by number numbers (member.OpenWhile expr mask line) = refl
 open_numbers_by number numbers member.CloseWhile = refl
 open_numbers_by number numbers (member.OpenRepeat mask line) = refl
 open_numbers_by number numbers (member.Until expr) = refl
-
-pub skipped_by : (depth : ℕ) (to_else : Bool) (member : Member)
-    → skipped depth to_else member ≡ skipped_over (bracket_of member) depth to_else
-skipped_by depth to_else (member.Put array expr mask line) = refl
-skipped_by depth to_else (member.Cell cell expr mask line) = refl
-skipped_by depth to_else (member.Acc scalar fold expr mask line) = refl
-skipped_by depth to_else (member.OpenIf expr mask line) = refl
-skipped_by depth to_else member.Otherwise = refl
-skipped_by depth to_else member.CloseIf = refl
-skipped_by depth to_else (member.OpenWhile expr mask line) = refl
-skipped_by depth to_else member.CloseWhile = refl
-skipped_by depth to_else (member.OpenRepeat mask line) = refl
-skipped_by depth to_else (member.Until expr) = refl
 
 -- ---- what is open behind one member more
 open_from-more : (number : ℕ) (numbers : List ℕ) (front : List Member) (member : Member)
@@ -134,9 +121,6 @@ pub record IsOutward (all : List Member) (number rest depth outer : ℕ) : Type 
   pub deep : depth + rest ≤ number
   pub found : outermost_of all number ≡ last_or outer (drop depth (open_before all rest))
 
-pub outward-starts : (all : List Member) (number : ℕ) → IsOutward all number number 0 number
-outward-starts all number = record { deep = omega arith; found = refl }
-
 pub outward-passes : (all : List Member) (number rest i depth next outer : ℕ) (d : Member) → rest ≡ i + 1 → i < length all
     → IsOutward all number rest depth outer → back_over (bracket_of (get_or all i d)) depth ≡ Some next
     → IsOutward all number i next outer
@@ -165,9 +149,3 @@ outward-reaches all number rest i depth outer d more inside at is =
           ∙ (ap (λ numbers. last_or outer (drop depth numbers)) (open_more all i d inside)
           ∙ (ap (last_or outer) there.0 ∙ ap (λ n. last_or i (drop n (open_before all i))) (sym none))));
     }
-
-pub outward-none : (all : List Member) (number rest depth outer : ℕ) → rest ≡ 0 → IsOutward all number rest depth outer
-    → outer ≡ outermost_of all number
-outward-none all number rest depth outer none at =
-    sym (at.found
-    ∙ (ap (λ n. last_or outer (drop depth (open_before all n))) none ∙ ap (last_or outer) (none_open depth)))

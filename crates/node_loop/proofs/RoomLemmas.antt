@@ -1,5 +1,5 @@
 -- The part of a region within a block is a region where it has tuples, and the places of a temporary for it are a box.
-use Rattle.std.proofs.Common.{◌≡◌, ℕ, zero, suc, ◌-◌, ◌*◌, ◌<◌, ◌≤◌, ◌==◌, Bool, true, false, List, [], ◌∷◌, length, drop, map, get_or, replicate, refl, sym, ap, ◌∙◌, subst, ℤ, pos, neg_ℤ, ◌≤ℤ◌, arith}
+use Rattle.std.proofs.Common.{◌≡◌, ℕ, zero, suc, ◌-◌, ◌<◌, ◌==◌, true, false, List, [], ◌∷◌, length, drop, get_or, replicate, refl, sym, ap, ◌∙◌, ℤ, pos, ◌≤ℤ◌, arith}
 use Rattle.std.specs.Prelude.{All}
 use Rattle.std.specs.Int.{int_max, int_min}
 use Rattle.std.proofs.lemmas.Int.{int_max_is, int_min_is, ints}
@@ -8,11 +8,11 @@ use Rattle.zpl_region.specs.declared.dims.Dim.{Dim}
 use Rattle.zpl_region.specs.declared.dims.Dim.TheVariants.{Range, Flood}
 use Rattle.zpl_region.specs.declared.regions.Region.{Region}
 use Rattle.zpl_region.specs.Dim.{HasStep, IsDim, IsUpTo, dim_met}
-use Rattle.zpl_region.specs.Ends.{coordinate_count, first_of, last_of, has_none, tuple_count}
-use Rattle.zpl_region.specs.Hull.{IsBoxed, all_from, hull}
-use Rattle.zpl_region.specs.Region.{IsPadded, IsRegion, components, each_met, members, met, padding}
+use Rattle.zpl_region.specs.Ends.{coordinate_count, has_none, tuple_count}
+use Rattle.zpl_region.specs.Hull.{IsBoxed, hull}
+use Rattle.zpl_region.specs.Region.{IsRegion, components, each_met, members, met, padding}
 use Rattle.zpl_region.proofs.EndLemmas.{length-tuple_count, positive_left, positive_right}
-use Rattle.zpl_region.proofs.HullLemmas.{ends_in_bounds, has_steps, hull_boxed, hull_region, no_count, some_from}
+use Rattle.zpl_region.proofs.HullLemmas.{ends_in_bounds, hull_boxed, hull_region, no_count, some_from}
 use Rattle.zpl_region.proofs.RegionLemmas.{within_is_dim}
 use Rattle.grid_layout.specs.Layout.{HasWideBounds}
 use Rattle.node_form.specs.declared.arrays.ArrayDim.{ArrayDim}

@@ -1,6 +1,6 @@
 -- What a member comes to, from what the code for its parts answers.
-use Rattle.std.proofs.Common.{◌≡◌, ℕ, ◌+◌, ◌≤◌, Bool, true, false, List, [], length, set, refl, sym, ap, ◌∙◌, subst, ℤ, pos, arith}
-use Rattle.std.specs.Prelude.{Option, Some, None, Result, Ok, Err}
+use Rattle.std.proofs.Common.{◌≡◌, ℕ, ◌+◌, ◌≤◌, Bool, true, List, length, set, refl, sym, ap, ◌∙◌, subst, ℤ, arith}
+use Rattle.std.specs.Prelude.{Result, Ok, Err}
 use Rattle.zpl_arrays.specs.Array.{Array}
 use Rattle.node_form.specs.Group as group
 use Rattle.node_form.specs.Group.{Point, Step, GoesOn, with_value}
@@ -13,8 +13,8 @@ use Rattle.node_local.specs.declared.changes.Change.{Change}
 use Rattle.node_local.specs.declared.values.NoValue.{NoValue}
 use Rattle.node_local.specs.declared.values.NoValue.TheVariants.{Divides, Lacks}
 use Rattle.node_loop.specs.declared.members.Next.{Next}
-use Rattle.node_loop.specs.declared.members.Next.TheVariants.{On, Back}
-use Rattle.node_loop.specs.declared.modes.Mode.TheVariants.{Runs, Skips}
+use Rattle.node_loop.specs.declared.members.Next.TheVariants.{On}
+use Rattle.node_loop.specs.declared.modes.Mode.TheVariants.{Runs}
 use Rattle.node_loop.specs.Step.{Changes, IsStep, StaysWhereStopped, by_mask, depth_after, step_of}
 
 -- ---- where nothing changes
@@ -36,11 +36,6 @@ still step deepest before after result same comes deep =
 pub stops : (none : NoValue) (step : Step (List Array)) (before after : Workplace) → after ≡ before
     → step ≡ step_of (Err none) (point_of before.local) → IsStep step 0 before after (Err none)
 stops none step before after same comes = still step 0 before after (Err none) same comes (omega arith)
-
-pub mask_stops : (none : NoValue) (skip run : Step (List Array)) (point : Point (List Array))
-    → by_mask (Err none) skip run ≡ step_of (Err none) point
-mask_stops Divides skip run point = refl
-mask_stops Lacks skip run point = refl
 
 pub value_stops : (none : NoValue) (next : ℤ → Step (List Array)) (point : Point (List Array))
     → with_value (computed_by (Err none)) next ≡ step_of (Err none) point

@@ -1,79 +1,19 @@
--- What a turn of a loop makes of a processor's state.
-use Rattle.std.proofs.Common.{◌≡◌, ℕ, zero, suc, ◌+◌, ◌<◌, ◌≤◌, ◌^◌, List, [], ◌∷◌, length, refl, sym, ap, ◌∙◌, subst, ℤ, arith}
-use Rattle.std.specs.Prelude.{All, Option, Some, None, slice_get}
+-- What is known of a state that a turn begins with.
+use Rattle.std.proofs.Common.{◌≡◌, ℕ, zero, suc, ◌<◌, ◌≤◌, ◌^◌, List, [], ◌∷◌, length, sym, ap, ◌∙◌, subst, arith}
+use Rattle.std.specs.Prelude.{All, Some, slice_get}
 use Rattle.std.specs.List.{AllZip}
 use Rattle.std.proofs.lemmas.Option.{get_or_from_slice_get, slice_get_within}
-use Rattle.std.proofs.lemmas.List.{nil_from_length}
-use Rattle.zpl_arrays.specs.Array.{Array}
 use Rattle.zpl_region.specs.declared.regions.Region.{Region}
 use Rattle.zpl_region.specs.Region.{members}
 use Rattle.zpl_region.proofs.LawLemmas.{length-met}
 use Rattle.node_form.specs.declared.tables.Tables.{Tables}
 use Rattle.node_form.specs.declared.arrays.ArrayRow.{ArrayRow}
 use Rattle.node_form.specs.Fits.{Fits, FitsArray, IsRank}
-use Rattle.node_form.specs.Group as group
-use Rattle.node_form.specs.Group.{Point}
 use Rattle.grid_layout.specs.Layout.{laid_out, own_first, own_last}
-use Rattle.grid_meaning.specs.Action.{moves}
-use Rattle.grid_meaning.specs.Local.{Local}
-use Rattle.grid_meaning.specs.Loop.{after_members, flagged, next_index, point_of, with_point}
 use Rattle.grid_meaning.specs.Owner.{tuples_of}
-use Rattle.grid_meaning.specs.Place.{own_part}
 use Rattle.grid_meaning.specs.State.{IsSlot, IsStore}
 use Rattle.grid_meaning.specs.Stored.{arrangement_of}
-use Rattle.node_local.specs.Undo.{undone}
 use Rattle.node_local.specs.Workplace.{IsReady, Workplace}
-use Rattle.node_loop.specs.Step.{Changes}
-
--- ---- a state after changes
-pub local_after : (m : ℕ) (a b : Workplace) → Changes m a b → b.local ≡ with_point a.local (point_of b.local)
-local_after m a b changes = ap (λ (w : Workplace). w.local) changes.same
-
-pub index_after : (m : ℕ) (a b : Workplace) → Changes m a b → b.local.index ≡ a.local.index
-index_after m a b changes = ap (λ (w : Workplace). w.local.index) changes.same
-
--- all but the state is as it was
-pub same_place : (m : ℕ) (a b c : Workplace) (local : Local) → Changes m a b → a.log ≡ []
-    → c ≡ record b { local = local; log = [] } → c ≡ record a { local = c.local }
-same_place m a b c local changes quiet is =
-    let state : local ≡ c.local = sym (ap (λ (w : Workplace). w.local) is) in
-    is
-    ∙ (ap (λ (w : Workplace). record w { local = local; log = [] }) changes.same
-    ∙ (ap (λ log. record a { local = local; log = log }) (sym quiet) ∙ ap (λ l. record a { local = l }) state))
-
--- changes that are taken back
-pub all_taken_back : (m : ℕ) (a b c : Workplace) → Changes m a b → a.log ≡ []
-    → c ≡ record b { local = with_point b.local (undone b.log (point_of b.local)); log = [] } → c ≡ a
-all_taken_back m a b c changes quiet is =
-    let point : undone b.log (point_of b.local) ≡ point_of a.local =
-    changes.back ∙ ap (λ log. undone log (point_of a.local)) quiet in
-    is
-    ∙ (ap (λ p. record b { local = with_point b.local p; log = [] }) point
-    ∙ (ap (λ (w : Workplace). record w { local = with_point w.local (point_of a.local); log = [] }) changes.same
-    ∙ ap (λ log. record a { log = log }) (sym quiet)))
-
--- ---- the ends of a turn
-pub goes_through : (m : ℕ) (a b c : Workplace) (ran : group.Ran (List Array)) → Changes m a b
-    → ran ≡ group.Through (point_of b.local) → c.local ≡ next_index b.local
-    → after_members a.local ran ≡ moves c.local []
-goes_through m a b c ran changes is next =
-    ap (after_members a.local) is ∙ ap (λ l. moves l []) (ap next_index (sym (local_after m a b changes)) ∙ sym next)
-
-pub goes_again : (m : ℕ) (a b c : Workplace) (ran : group.Ran (List Array)) (member : ℕ) → Changes m a b
-    → ran ≡ group.Again member (point_of b.local) → c.local ≡ record b.local { member = member }
-    → after_members a.local ran ≡ moves c.local []
-goes_again m a b c ran member changes is next =
-    ap (after_members a.local) is
-    ∙ ap (λ l. moves l []) (ap (λ (l : Local). record l { member = member }) (sym (local_after m a b changes)) ∙ sym next)
-
-pub is_divided : (m : ℕ) (a b c : Workplace) (ran : group.Ran (List Array)) (member : ℕ) → Changes m a b
-    → ran ≡ group.Divided member (point_of b.local)
-    → c.local ≡ record (next_index b.local) { flag = flagged b.local.flag member }
-    → after_members a.local ran ≡ moves c.local []
-is_divided m a b c ran member changes is next =
-    ap (after_members a.local) is
-    ∙ ap (λ l. moves l [])
-    (ap (λ (l : Local). record (next_index l) { flag = flagged l.flag member }) (sym (local_after m a b changes)) ∙ sym next)
 
 -- ---- what is known of a state
 all_at : {X : Type 0} (P : X → Type 0) (xs : List X) (i : ℕ) (x : X) → All P xs → slice_get xs i ≡ Some x → P x

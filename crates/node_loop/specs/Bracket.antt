@@ -1,8 +1,7 @@
 -- How the members of a group open and close, by one word for each member.
-use Rattle.std.specs.Prelude.{ℕ, zero, suc, ◌+◌, Bool, Option, Some, None, List, ◌∷◌, drop}
+use Rattle.std.specs.Prelude.{ℕ, zero, suc, ◌+◌, Option, Some, None, List, ◌∷◌, drop}
 use Rattle.node_form.specs.declared.members.Member.{Member}
 use Rattle.node_form.specs.declared.members.Member.TheVariants as member
-use Rattle.node_form.specs.Group.{Mode, Skips, skipped_closing, skipped_else}
 use Rattle.node_loop.specs.declared.brackets.Bracket.{Bracket}
 use Rattle.node_loop.specs.declared.brackets.Bracket.TheVariants.{Plain, Opens, Otherwise, Closes}
 
@@ -24,13 +23,6 @@ open_after Plain number numbers = numbers
 open_after Opens number numbers = number ∷ numbers
 open_after Otherwise number numbers = numbers
 open_after Closes number numbers = drop 1 numbers
-
--- the mode behind a member that is skipped
-abbrev pub skipped_over : Bracket → ℕ → Bool → Mode
-skipped_over Plain depth to_else = Skips depth to_else
-skipped_over Opens depth to_else = Skips (suc depth) to_else
-skipped_over Otherwise depth to_else = skipped_else depth to_else
-skipped_over Closes depth to_else = skipped_closing depth to_else
 
 -- On the way back from a member, with so many openings to be passed, to the one that encloses it:
 -- how many are to be passed in front, or that the member is the opening.

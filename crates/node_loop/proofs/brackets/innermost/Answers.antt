@@ -1,5 +1,5 @@
 use Rattle.std.proofs.Common.{◌≡◌, ◌+◌, ◌-◌, ◌<◌, length, sym, ◌∙◌, arith}
-use Rattle.node_loop.proofs.BracketLemmas.{IsInward, inward-starts, inward-passes, inward-ends, inward-none}
+use Rattle.node_loop.proofs.BracketLemmas.{inward-starts, inward-passes, inward-ends, inward-none}
 use Rattle.node_loop.proofs.brackets.innermost.Goals as goal
 
 pub loop-rest-init : goal.loop-rest-init

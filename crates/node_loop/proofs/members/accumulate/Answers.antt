@@ -1,18 +1,14 @@
-use Rattle.std.proofs.Common.{◌≡◌, ◌≤◌, true, false, set, sym, ap, ◌∙◌, subst, rules, arith, w64, to_z, of_z}
-use Rattle.std.specs.Prelude.{FitsSigned, Ok, Err, Some, slice_get}
+use Rattle.std.proofs.Common.{◌≡◌, true, set, sym, ap, ◌∙◌, rules, w64, to_z, of_z}
+use Rattle.std.specs.Prelude.{FitsSigned, Some, slice_get}
 use Rattle.std.proofs.lemmas.Int.{to_z-of_z}
 use Rattle.std.proofs.lemmas.Option.{slice_get_within}
 use Rattle.node_form.specs.Group as group
 use Rattle.node_form.specs.Group.{GoesOn, chosen, value_at, with_found, with_store, with_value}
-use Rattle.node_form.specs.Value.{Gives, read}
+use Rattle.node_form.specs.Value.{read}
 use Rattle.zpl_nums.specs.Fold.{joined}
-use Rattle.zpl_nums.specs.Integer.{is_true}
 use Rattle.grid_meaning.specs.Loop.{access_at, point_of}
-use Rattle.node_local.specs.Computing.{computed_by}
 use Rattle.node_local.specs.Workplace.{Workplace}
-use Rattle.grid_meaning.specs.Place as place
-use Rattle.node_loop.specs.Step.{depth_after, step_of}
-use Rattle.node_loop.proofs.StepLemmas.{cell_kept, none_of_value, of_value, scalar_joined, still, value_put}
+use Rattle.node_loop.proofs.StepLemmas.{none_of_value, of_value, scalar_joined}
 use Rattle.node_loop.proofs.members.accumulate.Goals as goal
 
 pub returns-in_err-value : goal.returns-in_err-value

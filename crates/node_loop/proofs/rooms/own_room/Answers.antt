@@ -1,4 +1,4 @@
-use Rattle.std.proofs.Common.{◌≡◌, ◌<◌, true, false, [], sym, ap, ◌∙◌, subst, rules}
+use Rattle.std.proofs.Common.{◌≡◌, ◌<◌, true, false, [], sym, ap, ◌∙◌, subst}
 use Rattle.std.specs.Prelude.{All}
 use Rattle.zpl_region.specs.declared.regions.Region.{Region}
 use Rattle.zpl_region.specs.Ends.{has_none}
@@ -9,7 +9,6 @@ use Rattle.grid_layout.specs.Grid.{processors_of}
 use Rattle.grid_layout.specs.Layout.{Arrangement, HasWideBounds, laid_out, own_first, own_last}
 use Rattle.grid_meaning.specs.Place.{own_part}
 use Rattle.grid_meaning.specs.Room.{room_of}
-use Rattle.grid_meaning.specs.Stored.{arrangement_of}
 use Rattle.grid_meaning.proofs.WorldLemmas.{processors_alike}
 use Rattle.node_loop.proofs.RoomLemmas.{met_region, owns_none, owns_some, region_fits, room_boxed, room_wide}
 use Rattle.node_loop.proofs.rooms.own_room.Goals as goal
