@@ -1,1 +1,9 @@
+pub mod CallLemmas
+pub mod GraphLemmas
+pub mod JudgeLemmas
+pub mod NameTables
+pub mod RegionFaults
+pub mod RowLemmas
+pub mod StatementLemmas
 pub mod SymbolLemmas
+pub mod TextFaults

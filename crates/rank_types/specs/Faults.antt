@@ -3,6 +3,12 @@ use Rattle.std.specs.Prelude.{ℕ, List, codes}
 use Rattle.zpl_tree.specs.Syntax.{Program}
 use Rattle.zpl_names.specs.Accepted as kind
 use Rattle.zpl_names.specs.Accepted.{HasFault}
+use Rattle.site_faults.specs.declared.findings.FaultKind.{FaultKind}
+use Rattle.site_faults.specs.declared.findings.FaultKind.TheVariants as found
+use Rattle.text_names.specs.declared.stops.Stop.{Stop}
+use Rattle.text_names.specs.declared.stops.Stop.TheVariants as stop
+use Rattle.call_heights.specs.declared.graph.CallFault.{CallFault}
+use Rattle.call_heights.specs.declared.graph.CallFault.TheVariants as calls
 use Rattle.rank_types.specs.declared.faults.Fault.{Fault}
 use Rattle.rank_types.specs.declared.faults.Fault.TheVariants.{UnknownName, TwiceNamed, UnknownType, TypeClash, RankClash, NoRegion, FloodClash, ShatterBody, NotAssignable, Arguments, Recursion, ReturnPlace, CallPlace, MaskPlace, BorderForm, NoEntry, RankUnknown, DeepCalls, NoMemory}
 
@@ -70,3 +76,35 @@ Holds program (NoEntry at) = HasFault program kind.NoEntry at
 Holds program (RankUnknown at) = HasFault program kind.RankUnknown at
 Holds program (DeepCalls at) = HasFault program kind.DeepCalls at
 Holds program NoMemory = Unit {0}
+
+-- what a walk finds at a place, as the fault that it is
+abbrev pub fault_for : FaultKind → ℕ → Fault
+fault_for found.UnknownName at = UnknownName at
+fault_for found.TwiceNamed at = TwiceNamed at
+fault_for found.UnknownType at = UnknownType at
+fault_for found.TypeClash at = TypeClash at
+fault_for found.RankClash at = RankClash at
+fault_for found.NoRegion at = NoRegion at
+fault_for found.FloodClash at = FloodClash at
+fault_for found.ShatterBody at = ShatterBody at
+fault_for found.NotAssignable at = NotAssignable at
+fault_for found.Arguments at = Arguments at
+fault_for found.Recursion at = Recursion at
+fault_for found.ReturnPlace at = ReturnPlace at
+fault_for found.CallPlace at = CallPlace at
+fault_for found.MaskPlace at = MaskPlace at
+fault_for found.BorderForm at = BorderForm at
+fault_for found.NoEntry at = NoEntry at
+fault_for found.RankUnknown at = RankUnknown at
+fault_for found.DeepCalls at = DeepCalls at
+
+-- why not all names can be declared, as the fault that it is
+abbrev pub stop_for : Stop → Fault
+stop_for (stop.Twice at) = TwiceNamed at
+stop_for stop.NoMemory = NoMemory
+
+-- what is wrong with calls, as the fault that it is
+abbrev pub call_for : CallFault → Fault
+call_for (calls.Cycle at) = Recursion at
+call_for (calls.Deep at) = DeepCalls at
+call_for calls.NoMemory = NoMemory

@@ -1,2 +1,5 @@
+pub mod Calls
 pub mod Faults
+pub mod Judges
+pub mod Names
 pub mod Symbols

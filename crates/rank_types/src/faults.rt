@@ -1,9 +1,10 @@
 //! Why a program is refused.
 ghost use Rattle.std.specs.Prelude.{◌≡◌};
 ghost use Rattle.rank_types.specs.declared.faults.Fault.TheVariants.{NoMemory};
-ghost use Rattle.rank_types.specs.Faults.{judge_name, judge_offset};
+ghost use Rattle.rank_types.specs.Faults.{judge_name, judge_offset, stop_for};
 
 use std::alloc::{AllocError, AllocFailed};
+use text_names::Stop;
 
 /// What is wrong with a program, with the offset of the place, counted in bytes from 0.
 #[derive(Clone, Copy, Debug, PartialEq, Eq)]
@@ -127,5 +128,16 @@ impl From<AllocError> for Fault {
 
     fn from(_failed: AllocError) -> Fault {
         Fault::NoMemory
+    }
+}
+
+impl From<Stop> for Fault {
+    ghost from_gives = { λ stop fault. fault ≡ stop_for stop };
+
+    fn from(stop: Stop) -> Fault {
+        match stop {
+            Stop::Twice(at) => Fault::TwiceNamed(at),
+            Stop::NoMemory => Fault::NoMemory,
+        }
     }
 }

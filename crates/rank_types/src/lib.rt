@@ -1,11 +1,15 @@
-//! What is known of a program without faults of names, ranks and types, and how its faults are
-//! told.
+//! The checker of names, ranks and types: programs without faults, and how their faults are told.
 #![tactic(auto)]
 
+mod checks;
 mod faults;
+mod names;
+mod statements;
 mod symbols;
 mod typed;
 
+pub use checks::check_found;
 pub use faults::Fault;
+pub use names::global_names;
 pub use symbols::{NameKind, Symbols};
 pub use typed::Typed;
