@@ -1,24 +1,13 @@
 -- What is read of lines is as memory holds it.
-use Rattle.std.proofs.Common.{◌≡◌, ℕ, zero, suc, ◌+◌, ◌-◌, ◌<◌, ◌≤◌, Bool, true, false, List, [], ◌∷◌, ◌++◌, length, map, sym, ◌∙◌, ap, subst, refl, arith, rules}
-use Rattle.std.specs.Prelude.{ℤ, pos, negsuc, Option, Some, None, All, IfSome, slice_get, unwrap_or, min, nat_lt, if◌then◌else◌}
+use Rattle.std.proofs.Common.{◌≡◌, ℕ, zero, suc, ◌+◌, ◌-◌, ◌<◌, Bool, true, false, List, [], ◌∷◌, length, subst, refl, arith}
+use Rattle.std.specs.Prelude.{ℤ, pos, negsuc, Option, Some, None, All, IfSome, slice_get, min, nat_lt, if◌then◌else◌}
 use Rattle.std.proofs.Math.Nat.{min-le_right}
 use Rattle.std.proofs.lemmas.Bool.{ltb-true}
 use Rattle.std.proofs.lemmas.List.Elements.{All-nil, All-cons, All-head, All-tail}
-use Rattle.hex.specs.Hex.{IsBytes}
-use Rattle.zpl_nums.specs.declared.ends.Border.TheVariants as border
 use Rattle.zpl_nums.specs.Integer.{IsInteger}
-use Rattle.zpl_region.specs.declared.dims.Dim.{Dim}
-use Rattle.zpl_region.specs.declared.dims.Dim.TheVariants as dim
-use Rattle.node_form.specs.declared.arrays.ArrayRow.{ArrayRow}
-use Rattle.node_form.specs.declared.arrays.ArrayDim.{ArrayDim}
-use Rattle.node_form.specs.declared.arrays.Item.{Item}
-use Rattle.node_form.specs.declared.instructions.DimRow.{DimRow}
 use Rattle.node_form.specs.declared.instructions.DimRow.TheVariants as made
 use Rattle.node_form.specs.declared.instructions.Instr.{Instr}
-use Rattle.node_form.specs.declared.instructions.Instr.TheVariants as instr
 use Rattle.node_form.specs.declared.members.Member.{Member}
-use Rattle.node_form.specs.declared.members.Member.TheVariants as member
-use Rattle.node_form.specs.declared.words.ExprOp.{ExprOp}
 use Rattle.listing_lines.specs.declared.fields.Field.{Field}
 use Rattle.listing_lines.specs.declared.fields.Field.TheVariants as field
 use Rattle.listing_lines.specs.declared.fields.Mark.{Mark}
@@ -28,8 +17,7 @@ use Rattle.listing_lines.specs.declared.keywords.Keyword.TheVariants as key
 use Rattle.listing_lines.specs.declared.names.Name.{Name}
 use Rattle.listing_lines.specs.declared.names.Name.TheVariants as name
 use Rattle.listing_lines.specs.Field.{IsField}
-use Rattle.listing_lines.specs.Line.{is_text}
-use Rattle.listing_rules.specs.Found.{u32_of, component, vector_of, numbers_in, number_at, vector_at, mask_in, mask_at, bounds_in, axis_named, axis_in, made_by, made_in, made_at, operator_in, operand_in, word_in, words_in, array_in, grid_in, item_in, member_in, instr_in}
+use Rattle.listing_rules.specs.Found.{u32_of, component, numbers_in, number_at, vector_at, mask_in, mask_at, bounds_in, axis_named, axis_in, made_by, made_in, made_at, operator_in, operand_in, word_in, words_in, array_in, grid_in, item_in, member_in, instr_in}
 use Rattle.node_text.specs.Typed.{IsU32, IsMask, IsShift, HasThree, TypedDim, TypedAxis, TypedMade, TypedArray, TypedWord, TypedMember, TypedItem, TypedInstr}
 
 -- ---- numbers

@@ -1,5 +1,5 @@
 -- What is read of a listing is as memory holds it.
-use Rattle.std.proofs.Common.{◌≡◌, ℕ, Bool, true, false, List, [], ◌∷◌, ◌++◌, length, sym, ◌∙◌, ap, subst, refl}
+use Rattle.std.proofs.Common.{◌≡◌, ℕ, Bool, true, false, List, [], sym, ◌∙◌, ap, subst, refl}
 use Rattle.std.specs.Prelude.{Some, All, slice_get}
 use Rattle.std.proofs.lemmas.List.Elements.{All-nil, All-cons, All-head, All-tail}
 use Rattle.hex.specs.Hex.{IsBytes}
@@ -16,13 +16,11 @@ use Rattle.listing_lines.specs.declared.keywords.Keyword.TheVariants as key
 use Rattle.listing_lines.specs.declared.lines.Line.{Line}
 use Rattle.listing_lines.specs.Field.{IsField}
 use Rattle.listing_lines.specs.Line.{IsLine, is_text}
-use Rattle.listing_rows.specs.Rows.{array_line, text_line, expr_line, item_line}
-use Rattle.listing_rules.specs.Blocks.{Block, Blocks, Ended, Another}
-use Rattle.listing_rules.specs.Found.{number_at, numbers_in, component, array_in, grid_in, instr_in, item_in, words_in}
+use Rattle.listing_rows.specs.Rows.{array_line, expr_line, item_line}
+use Rattle.listing_rules.specs.Blocks.{Blocks, Ended, Another}
+use Rattle.listing_rules.specs.Found.{number_at, numbers_in, component, instr_in}
 use Rattle.listing_rules.specs.Reads.{First, Reads, Over, More}
-use Rattle.listing_rules.specs.Rules.{IsArrayLine, IsExprLine, IsInstrLine, IsItemLine, IsMemberLine, IsTextLine}
-use Rattle.listing_rules.specs.Stages.{AreTables, ReadArrays, ReadCode, ReadExchanges, ReadExprs, ReadGroups, ReadHead, ReadTexts}
-use Rattle.node_text.specs.Listing.{IsListing}
+use Rattle.listing_rules.specs.Stages.{AreTables, ReadArrays, ReadExchanges, ReadExprs, ReadGroups, ReadHead, ReadTexts}
 use Rattle.node_text.specs.Typed.{HasThree, IsU32, IsTyped, TypedArray, TypedInstr, TypedItem, TypedMember, TypedWord}
 use Rattle.node_text.proofs.TypedRows.{array_typed, grid_typed, instr_typed, item_typed, member_typed, u32_small, words_typed}
 
