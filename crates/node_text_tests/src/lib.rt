@@ -2,8 +2,16 @@
 #![tactic(auto)]
 
 #[cfg(test)]
+mod broken;
+#[cfg(test)]
+mod drawn;
+#[cfg(test)]
+mod listings;
+#[cfg(test)]
 mod parts;
 #[cfg(test)]
 mod programs;
+#[cfg(test)]
+mod reading;
 #[cfg(test)]
 mod rows;

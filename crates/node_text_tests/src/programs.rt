@@ -9,7 +9,7 @@ use std::test::Fail;
 use zpl_nums::{Fold, Op};
 use zpl_region::Region;
 
-const HI: [&[u8]; 13] = [
+pub const HI: [&[u8]; 13] = [
     b"zplnode 1",
     b"grid 2",
     b"scalars 1",
@@ -25,7 +25,7 @@ const HI: [&[u8]; 13] = [
     b"end",
 ];
 
-const WAITS: [&[u8]; 15] = [
+pub const WAITS: [&[u8]; 15] = [
     b"zplnode 1",
     b"grid 2",
     b"scalars 1",
