@@ -1,5 +1,6 @@
 pub mod DraftLemmas
 pub mod EmitLemmas
+pub mod ExpandedLemmas
 pub mod FitLemmas
 pub mod Good
 pub mod LoopLemmas

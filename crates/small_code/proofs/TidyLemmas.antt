@@ -1,7 +1,8 @@
 -- The size of a small program's code.
-use Rattle.std.proofs.Common.{◌≡◌, ℕ, ◌+◌, ◌≤◌, List, [], ◌∷◌, ◌++◌, length, refl, ap, ◌∙◌, arith}
+use Rattle.std.proofs.Common.{◌≡◌, ℕ, ◌+◌, ◌-◌, ◌*◌, ◌≤◌, Bool, true, false, cond, List, [], ◌∷◌}
+use Rattle.std.proofs.Common.{◌++◌, length, Some, None, refl, ap, ◌∙◌, subst, arith}
 use Rattle.std.proofs.Common.{length-append}
-use Rattle.std.specs.Prelude.{sum_by, find}
+use Rattle.std.specs.Prelude.{sum_by, sum, find, map, option_map}
 use Rattle.std.specs.List.{flat_map}
 use Rattle.std.specs.Str.{bytes_eq}
 use Rattle.std.proofs.lemmas.List.Sums.{sum_by-append, sum_by-cons}
@@ -14,15 +15,23 @@ use Rattle.zpl_tree.specs.Word as word
 use Rattle.zpl_tree.specs.Spelling.{symbol, keyword, name_words, names_words, type_words}
 use Rattle.zpl_tree.specs.Spelling.{bracket_words, heading_words, locals_words, decl_words}
 use Rattle.zpl_tree.specs.Spelling.{program_words, stmt_words, stmts_words, end_words}
+use Rattle.zpl_names.specs.Kinds as kind
+use Rattle.zpl_names.specs.Scope.{Entry, is_array, in_reach, kind_in, kind_of}
+use Rattle.zpl_names.specs.Declared.{entry_for, procedure_entry, with_decl, with_each, Routine}
+use Rattle.zpl_names.specs.Declared.{routines_behind, routines_of, scope_of}
+use Rattle.zpl_names.specs.Expansion.{body_tokens, called_names, expanded_tokens, other_size}
+use Rattle.zpl_names.specs.Expansion.{other_tokens, plain_assignments, plain_tokens, source_size}
 use Rattle.node_form.specs.declared.tables.Tables.{Tables}
 use Rattle.node_form.specs.declared.instructions.Instr.TheVariants as instr
 use Rattle.zpl_claims.specs.Small.{integers, plain_procedure, small_decls}
-use Rattle.zpl_claims.specs.Tidy.{procedures, entry_tokens, executed_tokens, IsTidy}
+use Rattle.zpl_claims.specs.Tidy.{code_size, IsTidy}
 use Rattle.small_code.specs.Claims.{HoldsItsWords}
 use Rattle.small_code.specs.Draft.{first_tables}
 use Rattle.small_code.specs.Size.{GrowsBy, weight}
 use Rattle.small_code.proofs.EmitLemmas.{with_row, size_row}
-use Rattle.small_code.proofs.Whole.{small_entry}
+use Rattle.small_code.proofs.ExpandedLemmas.{own_is_counted, nothing_is_plain}
+use Rattle.small_code.proofs.Whole.{integers_of, same_name, small_globals, small_routines}
+use Rattle.small_code.proofs.Whole.{routine as small_routine_of}
 
 -- the bytes of words
 abbrev bytes_of : Word → ℕ
@@ -52,6 +61,39 @@ names_bytes (x ∷ names) = from x names
     from x [] = omega arith
     from x (y ∷ names) = let rest = from y names in omega (arith, bytes-append, rest)
 
+-- ---- sizes
+at_least : (source few tokens names : ℕ) → few ≤ tokens
+    → source + few ≤ source + (tokens + names)
+at_least source few tokens names le = omega arith
+
+all_others : (other tokens names plain few : ℕ) → few ≤ tokens → plain ≡ 0
+    → few ≤ other + ((tokens + names) - plain)
+all_others other tokens names plain few le none = omega arith
+
+-- ---- integers are no arrays, nor is what stands behind them
+not_among : (last : Entry) → is_array (in_reach false (Some last.kind)) ≡ false
+    → (names : List Name) (text : List ℕ)
+    → is_array (in_reach false (kind_in
+    (map (entry_for (kind.Scalar Integer)) names ++ last ∷ []) text)) ≡ false
+not_among last other [] text = by (bytes_eq last.name.text text)
+  where
+    by : (b : Bool) → is_array (in_reach false
+        (option_map (λ (entry : Entry). entry.kind) (cond b (Some last) None))) ≡ false
+    by true = other
+    by false = refl
+not_among last other (x ∷ names) text =
+    by (bytes_eq x.text text) (not_among last other names text)
+  where
+    by : (b : Bool)
+        → is_array (in_reach false (kind_in
+        (map (entry_for (kind.Scalar Integer)) names ++ last ∷ []) text)) ≡ false
+        → is_array (in_reach false (option_map (λ (entry : Entry). entry.kind)
+        (cond b (Some (entry_for (kind.Scalar Integer) x))
+        (find (λ (entry : Entry). bytes_eq entry.name.text text)
+        (map (entry_for (kind.Scalar Integer)) names ++ last ∷ []))))) ≡ false
+    by true later = refl
+    by false later = later
+
 -- ---- the words of a small program
 module _ (program : Program) (names : List Name) (entry : Name) (at : ℕ) (body : Stmts)
     (decls : program.decls ≡ small_decls names entry at body)
@@ -62,13 +104,43 @@ module _ (program : Program) (names : List Name) (entry : Name) (at : ℕ) (body
   block : length (stmt_words plain.body) ≡ length (stmts_words body) + 3
   block = omega (arith, length-append (stmts_words body) end_words)
 
-  -- the words of the statements that are executed are those of the body
-  executed : executed_tokens program ≡ length (stmts_words body) + 3
+  abbrev routine : Routine
+  routine = small_routine_of program.source program.name.text names entry at body is_entry
+
+  only : routines_of program ≡ routine ∷ []
+  only =
+      ap (routines_behind []) decls
+      ∙ small_routines program.source program.name.text names entry at body is_entry names
+
+  -- the words of the statements that are executed are at least those of the body
+  executed : length (stmts_words body) + 3 ≤ expanded_tokens program
   executed =
-      ap (λ decls. entry_tokens (find (λ (procedure : Procedure). bytes_eq procedure.name.text
-      program.name.text) (procedures decls))) decls
-      ∙ ap entry_tokens (small_entry program.source program.name.text names entry at body is_entry)
-      ∙ block
+      let own = own_is_counted program routine only
+      (same_name program.source program.name.text names entry at body is_entry) body_tokens in
+      subst (λ n. n ≤ expanded_tokens program) block own
+
+  -- no name of it is an array's
+  no_arrays : (name : Name) → is_array (kind_of (scope_of program routine) name) ≡ false
+  no_arrays name =
+      ap (λ globals. is_array (in_reach false (kind_in globals name.text)))
+      (ap (with_each with_decl []) decls
+      ∙ small_globals program.source program.name.text names entry at body is_entry names)
+      ∙ not_among (procedure_entry (integers_of program.source program.name.text names entry at body
+      is_entry names) plain) refl names name.text
+
+  -- nothing of it is a plain assignment
+  unplain : sum (plain_tokens program) ≡ 0
+  unplain = ap sum (nothing_is_plain program routine only
+      (same_name program.source program.name.text names entry at body is_entry) no_arrays)
+
+  sized : length program.source + (length (stmts_words body) + 3) ≤ source_size program
+  sized = at_least (length program.source) (length (stmts_words body) + 3)
+      (expanded_tokens program) (called_names program) executed
+
+  other : (tokens : ℕ) → length (stmts_words body) + 3 ≤ other_size program tokens
+  other tokens = all_others (other_tokens program tokens) (expanded_tokens program)
+      (called_names program) (sum (plain_tokens program)) (length (stmts_words body) + 3)
+      executed unplain
 
   block_bytes : bytes (stmts_words body) ≤ bytes (stmt_words plain.body)
   block_bytes =
@@ -134,18 +206,25 @@ module _ (program : Program) (names : List Name) (entry : Name) (at : ℕ) (body
       → IsTidy (1 ∷ 0 ∷ 0 ∷ []) program (length (program_words program))
       (with_row drafted instr.End)
   small_is_tidy drafted g grid holds =
-      let last = size_row drafted instr.End in
-      let rows = length-append drafted.code (instr.End ∷ []) in
+      let tokens = length (program_words program) in
       record {
         for_grid = grid;
-        small = omega (
-          arith,
-          last,
-          g.size,
-          weight-bytes (stmts_words body),
-          program_bytes,
-          holds,
-          executed,
-        );
-        few = omega (arith, rows, g.rows, executed);
+        small = fits (source_size program) sized;
+        few = follows (plain_assignments program) (other_size program tokens) (other tokens);
       }
+    where
+      fits : (source : ℕ) → length program.source + (length (stmts_words body) + 3) ≤ source
+          → code_size (with_row drafted instr.End) ≤ 512 * (source + 1)
+      fits source sized = omega (
+        arith,
+        size_row drafted instr.End,
+        g.size,
+        weight-bytes (stmts_words body),
+        program_bytes,
+        holds,
+      )
+
+      follows : (plain others : ℕ) → length (stmts_words body) + 3 ≤ others
+          → length (with_row drafted instr.End).code ≤ plain + 64 * (others + 1)
+      follows plain others le =
+          omega (arith, length-append drafted.code (instr.End ∷ []), g.rows)

@@ -1,11 +1,11 @@
 -- What the code of a whole small program does.
-use Rattle.std.proofs.Common.{◌≡◌, ℕ, ◌+◌, ◌*◌, ◌^◌, ◌<◌, ◌≤◌, true, false, cond, pos, List, []}
+use Rattle.std.proofs.Common.{◌≡◌, ℕ, zero, suc, ◌+◌, ◌*◌, ◌^◌, ◌<◌, ◌≤◌, true, false, cond, pos, List, []}
 use Rattle.std.proofs.Common.{◌∷◌, ◌++◌, length, Some, None, refl, sym, ap, ◌∙◌, subst, arith}
 use Rattle.std.proofs.Common.{append-nil}
 use Rattle.std.specs.Prelude.{slice_get, find, map, replicate, Option}
 use Rattle.std.specs.Str.{bytes_eq}
 use Rattle.std.proofs.Math.ListN.{length-replicate}
-use Rattle.std.proofs.Math.Nat.{pow-zero}
+use Rattle.std.proofs.Math.Nat.{pow-zero, pow-le-pow_right}
 use Rattle.std.proofs.lemmas.List.{length-map}
 use Rattle.zpl_nums.specs.declared.ends.End.{End}
 use Rattle.zpl_nums.specs.declared.ends.End.TheVariants.{Done, Trap, More}
@@ -33,11 +33,11 @@ use Rattle.zpl_meaning.specs.Calls.{Called, place_in}
 use Rattle.zpl_meaning.specs.Statement.{Context, exec_all}
 use Rattle.zpl_meaning.specs.Program.{returned, run_routine, call_at, setup_of, entry_call}
 use Rattle.zpl_meaning.specs.Program.{first_frame, outcome_of, mean_of, steps_of}
-use Rattle.zpl_claims.specs.Bound.{shattered_loops, turn_bound, EndsInBound}
+use Rattle.zpl_names.specs.Expansion.{shattered_loops}
+use Rattle.zpl_claims.specs.Bound.{turn_bound, EndsInBound}
 use Rattle.zpl_claims.specs.Good.{IsGood, OverAllLinks}
 use Rattle.zpl_claims.specs.LockStep.{HasLockSteps}
 use Rattle.zpl_claims.specs.Small.{IsSmall, texts_of, plain_procedure, small_decls}
-use Rattle.zpl_claims.specs.Tidy.{procedures}
 use Rattle.small_code.specs.Rows.{AreStmtsCode}
 use Rattle.small_code.proofs.NameLemmas.{eq_same, frame_of, knows_names}
 use Rattle.small_code.proofs.NameLemmas.{scalars-frame_of}
@@ -98,26 +98,14 @@ module _ (source name : List ℕ) (names : List Name) (entry : Name) (offset : �
   abbrev plain : Procedure
   plain = plain_procedure entry offset body
 
-  same_name : bytes_eq entry.text name ≡ true
+  pub same_name : bytes_eq entry.text name ≡ true
   same_name = eq_same entry.text name is_entry
 
-  small_procedures : (list : List Name)
-      → procedures (small_decls list entry offset body) ≡ plain ∷ []
-  small_procedures [] = refl
-  small_procedures (x ∷ list) = refl
-
-  pub small_entry : find (λ (procedure : Procedure). bytes_eq procedure.name.text name)
-      (procedures (small_decls names entry offset body)) ≡ Some plain
-  small_entry =
-      ap (find (λ (procedure : Procedure). bytes_eq procedure.name.text name))
-      (small_procedures names)
-      ∙ ap (λ b. cond b (Some plain) None) same_name
-
   -- the entry procedure, which has no names of its own
-  abbrev routine : Routine
+  abbrev pub routine : Routine
   routine = record { procedure = plain; own = [] }
 
-  small_routines : (list : List Name)
+  pub small_routines : (list : List Name)
       → routines_behind [] (small_decls list entry offset body) ≡ routine ∷ []
   small_routines [] = refl
   small_routines (x ∷ list) = refl
@@ -130,10 +118,10 @@ module _ (source name : List ℕ) (names : List Name) (entry : Name) (offset : �
       ∙ ap (λ b. cond b (Some routine) None) same_name
 
   -- the global names are the integers, and then the procedure
-  abbrev integers_of : List Name → List Entry
+  abbrev pub integers_of : List Name → List Entry
   integers_of list = map (entry_for (kind.Scalar Integer)) list
 
-  small_globals : (list : List Name) → with_each with_decl [] (small_decls list entry offset body)
+  pub small_globals : (list : List Name) → with_each with_decl [] (small_decls list entry offset body)
       ≡ integers_of list ++ procedure_entry (integers_of list) plain ∷ []
   small_globals [] = refl
   small_globals (x ∷ list) = refl
@@ -155,12 +143,17 @@ pub record IsCodeOf (code : Tables) (program : Program) : Type 0 where
   pub end_row : slice_get code.code last ≡ Some instr.End
 
 -- the bound is many times the turns that the steps take
-bound_is_enough : (rows steps n : ℕ) → 1 ≤ rows
-    → rows * steps + 1 ≤ 2 ^ 27 * 1 * 1 * rows * (steps + 1) * (n + 1) ^ 0
-bound_is_enough rows steps n some =
-    let at_one : rows * steps + 1 ≤ 2 ^ 27 * 1 * 1 * rows * (steps + 1) * 1 = omega arith in
-    let none : (n + 1) ^ 0 ≡ 1 = pow-zero (n + 1) in
-    subst (λ p. rows * steps + 1 ≤ 2 ^ 27 * 1 * 1 * rows * (steps + 1) * p) (sym none) at_one
+bound_is_enough : (rows steps loops n : ℕ) → 1 ≤ rows
+    → rows * steps + 1 ≤ 2 ^ 27 * 1 * 1 * rows * (steps + 1) * (n + 1) ^ loops
+bound_is_enough rows steps loops n some =
+    let at_one : rows * steps + 1 ≤ 2 ^ 27 * 1 * 1 * rows * (steps + 1) = omega arith in
+    let least : (n + 1) ^ 0 ≤ (n + 1) ^ loops = pow-le-pow_right (omega arith) (omega arith) in
+    le_times (rows * steps + 1) (2 ^ 27 * 1 * 1 * rows * (steps + 1)) ((n + 1) ^ loops) at_one
+    (subst (λ one. one ≤ (n + 1) ^ loops) (pow-zero (n + 1)) least)
+  where
+    le_times : (few many times : ℕ) → few ≤ many → 1 ≤ times → few ≤ many * times
+    le_times few many zero le some = absurd (omega arith)
+    le_times few many (suc k) le some = omega arith
 
 module _ (push : (operands : Operands) (tree : Expression)
     → value_of operands (words_of tree) ≡ tree_value operands tree)
@@ -256,7 +249,8 @@ module _ (push : (operands : Operands) (tree : Expression)
       → OverAllLinks (λ links.
       EndsInBound code links (mean_of program []) (steps_of program []) (shattered_loops program))
   ends_in_bound many below links capacity n order ending h =
-      let bound = turn_bound code (steps_of program []) (shattered_loops program) n in
+      let loops = shattered_loops program in
+      let bound = turn_bound code (steps_of program []) loops n in
       let one = one_processor code of.solo in
       let some : 0 < processors code = omega (arith, one) in
       let more = given order (processors code) (length order + bound) in
@@ -264,8 +258,8 @@ module _ (push : (operands : Operands) (tree : Expression)
       (length order + bound) in
       let enough : each code * steps_of program [] n + 1 ≤ bound =
       subst (λ p. each code * steps_of program [] n + 1 ≤ 2 ^ 27 * p * p * each code *
-      (steps_of program [] n + 1) * (n + 1) ^ 0) (sym one)
-      (bound_is_enough (each code) (steps_of program [] n) n (omega arith)) in
+      (steps_of program [] n + 1) * (n + 1) ^ loops) (sym one)
+      (bound_is_enough (each code) (steps_of program [] n) loops n (omega arith)) in
       over_in_time code links of.solo (outcome_of program []) does n ending more
       (below order (processors code) (length order + bound) some h)
       (omega (arith, long, enough))

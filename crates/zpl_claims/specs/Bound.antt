@@ -1,16 +1,10 @@
 -- The bound on the turns of code whose meaning ends.
 use Rattle.std.specs.Prelude.{◌≢◌, ℕ, ◌+◌, ◌*◌, ◌^◌, List, length, Option}
 use Rattle.zpl_nums.specs.declared.ends.End.TheVariants.{More}
-use Rattle.zpl_tree.specs.Syntax.{Program}
 use Rattle.node_form.specs.declared.tables.Tables.{Tables}
 use Rattle.zpl_meaning.specs.Program.{Meaning}
 use Rattle.grid_meaning.specs.Grid.{processors, after, IsOver}
 use Rattle.grid_meaning.specs.Order.{IsOrder, given}
-
--- the greatest number of `while` and `repeat` that are within one shattered statement; no program
--- that has code so far has such a statement
-abbrev pub shattered_loops : Program → ℕ
-shattered_loops program = 0
 
 -- Where the meaning ends within n turns of each loop, so many turns round the processors, behind
 -- any order, bring the code to its end. The number grows with the processors, the instructions, the

@@ -5,7 +5,8 @@ use Rattle.node_form.specs.declared.tables.Tables.{Tables}
 use Rattle.zpl_meaning.specs.Program.{Meaning}
 use Rattle.zpl_claims.specs.Good.{IsGood, OverAllLinks}
 use Rattle.zpl_claims.specs.LockStep.{HasLockSteps}
-use Rattle.zpl_claims.specs.Bound.{shattered_loops, EndsInBound}
+use Rattle.zpl_names.specs.Expansion.{shattered_loops}
+use Rattle.zpl_claims.specs.Bound.{EndsInBound}
 use Rattle.zpl_claims.specs.Tidy.{IsTidy}
 
 -- Over links of every capacity the code is right after every order of turns, has an order in step

@@ -1,0 +1,151 @@
+-- What is counted of a program with one procedure and no arrays, its calls expanded.
+use Rattle.std.proofs.Common.{◌≡◌, ℕ, zero, suc, ◌+◌, ◌≤◌, Bool, true, false, cond, List, []}
+use Rattle.std.proofs.Common.{◌∷◌, ◌++◌, Some, None, refl, sym, ap, ap₂, ◌∙◌, subst, arith}
+use Rattle.std.proofs.Common.{true≢false}
+use Rattle.std.specs.Prelude.{find, length, Option, not, ◌&&◌, if◌then◌else◌}
+use Rattle.std.specs.List.{flat_map}
+use Rattle.std.specs.Str.{bytes_eq}
+use Rattle.std.proofs.lemmas.Grind.{flat_map-append}
+use Rattle.zpl_tree.specs.Syntax.{Name, Expr, Form, Assign, Invoke, Block, If, While, Repeat, For}
+use Rattle.zpl_tree.specs.Syntax.{Border, Write, Return, Program, Prefix}
+use Rattle.zpl_tree.specs.Spelling.{form_words}
+use Rattle.zpl_names.specs.Scope.{is_array, kind_of}
+use Rattle.zpl_names.specs.Declared.{Routine, routine_named, routines_of, entry_of, scope_of}
+use Rattle.zpl_names.specs.Ranks.{is_above_zero}
+use Rattle.zpl_names.specs.Reached.{longest_chain}
+use Rattle.zpl_names.specs.Sites.{Reach, Site, AtWhole, AtExpr, AtCall, AtNamed, AtDir, AtRegion}
+use Rattle.zpl_names.specs.Sites.{AtMask, AtStmt, AtBase, AtPosts, AtProcedure, CallSite}
+use Rattle.zpl_names.specs.Shapes.{unknown_shapes}
+use Rattle.zpl_names.specs.Sites.{calls_under}
+use Rattle.zpl_names.specs.Expansion.{ExpandedArray, Instance, expanded, expanded_from, expanded_of}
+use Rattle.zpl_names.specs.Expansion.{instances_from, instances_of, called_instance, of_routine}
+use Rattle.zpl_names.specs.Expansion.{array_named, is_plain_target, plain_tokens, plain_tokens_at}
+use Rattle.zpl_names.specs.Expansion.{entry_instance, instance_sites, made_by}
+
+none_else : {A : Type 0} (b : Bool) (x : Option A) → b ≡ false → (if b then x else None) ≡ None
+none_else true x e = absurd (true≢false e)
+none_else false x e = refl
+
+none_where_false : (b : Bool) (xs : List ℕ) → (if b && false then xs else []) ≡ []
+none_where_false true xs = refl
+none_where_false false xs = refl
+
+flat_map_none : {A : Type 0} (f : A → List ℕ) → ((x : A) → f x ≡ []) → (xs : List A)
+    → flat_map f xs ≡ []
+flat_map_none f none [] = refl
+flat_map_none f none (x ∷ xs) = ap₂ (λ a b. a ++ b) (none x) (flat_map_none f none xs)
+
+only_found : (p : Routine → Bool) (one x : Routine) → find p (one ∷ []) ≡ Some x → x ≡ one
+only_found p one x e = by (p one) e
+  where
+    by : (b : Bool) → cond b (Some one) None ≡ Some x → x ≡ one
+    by true e = let same : Some one ≡ Some x = e in cc
+    by false e = let same : None ≡ Some x = e in cc
+
+at_least_own : (program : Program) (own : Routine → ℕ) (depth : ℕ) (routine : Routine)
+    → own routine ≤ expanded program own (suc depth) routine
+at_least_own program own depth routine = omega arith
+
+module _ (program : Program) (routine : Routine) (only : routines_of program ≡ routine ∷ [])
+    (named : bytes_eq routine.procedure.name.text program.name.text ≡ true) where
+  entry_is : entry_of program ≡ Some routine
+  entry_is =
+      ap (find (λ (routine : Routine). bytes_eq routine.procedure.name.text program.name.text)) only
+      ∙ ap (λ b. cond b (Some routine) None) named
+
+  -- what is counted of the procedure is counted of the expanded program
+  pub own_is_counted : (own : Routine → ℕ) → own routine ≤ expanded_of program own
+  unfolding longest_chain
+  own_is_counted own =
+      subst (λ entry. own routine ≤ expanded_from program own entry) (sym entry_is)
+      (at_least_own program own 31 routine)
+
+  named_is : (text : List ℕ) (x : Routine) → routine_named program text ≡ Some x → x ≡ routine
+  named_is text x e =
+      let is = λ (routine : Routine). bytes_eq routine.procedure.name.text text in
+      only_found is routine x (sym (ap (find is) only) ∙ e)
+
+  -- what is nothing in each call of the procedure is nothing in the expanded program
+  nothing_from : (f : Instance → List ℕ)
+      → ((instance : Instance) → instance.routine ≡ routine → f instance ≡ [])
+      → (depth : ℕ) (instance : Instance) → instance.routine ≡ routine
+      → flat_map f (instances_from program depth instance) ≡ []
+  nothing_from f none zero instance is = refl
+  nothing_from f none (suc depth) instance is =
+      ap₂ (λ a b. a ++ b) (none instance is)
+      (calls (nothing_from f none depth) (calls_under program unknown_shapes instance.routine))
+    where
+      one : ((callee : Instance) → callee.routine ≡ routine
+          → flat_map f (instances_from program depth callee) ≡ [])
+          → (call : CallSite) (x : Option Routine) → ((y : Routine) → x ≡ Some y → y ≡ routine)
+          → flat_map f (of_routine
+          (λ routine. instances_from program depth (called_instance program instance call routine))
+          x) ≡ []
+      one later call None same = refl
+      one later call (Some y) same =
+          later (called_instance program instance call y) (same y refl)
+
+      calls : ((callee : Instance) → callee.routine ≡ routine
+          → flat_map f (instances_from program depth callee) ≡ [])
+          → (calls : List CallSite)
+          → flat_map f (flat_map (λ call. of_routine
+          (λ routine. instances_from program depth (called_instance program instance call routine))
+          (routine_named program call.name.text)) calls) ≡ []
+      calls later [] = refl
+      calls later (call ∷ rest) =
+          flat_map-append f (of_routine
+          (λ routine. instances_from program depth (called_instance program instance call routine))
+          (routine_named program call.name.text)) (flat_map (λ call. of_routine
+          (λ routine. instances_from program depth (called_instance program instance call routine))
+          (routine_named program call.name.text)) rest)
+          ∙ ap₂ (λ a b. a ++ b)
+          (one later call (routine_named program call.name.text) (named_is call.name.text))
+          (calls later rest)
+
+  module _ (no_arrays : (name : Name) → is_array (kind_of (scope_of program routine) name) ≡ false)
+    where
+      none_named : (instance : Instance) → instance.routine ≡ routine → (name : Name)
+          → array_named program instance name ≡ None
+      none_named instance is name =
+          none_else (is_array (kind_of (scope_of program instance.routine) name)) _
+          (ap (λ routine. is_array (kind_of (scope_of program routine) name)) is ∙ no_arrays name)
+
+      none_at : (instance : Instance) → instance.routine ≡ routine → (site : Site)
+          → plain_tokens_at program instance site ≡ []
+      none_at instance is (AtStmt reach at [] (Assign name op value)) =
+          ap (λ array. if not (is_above_zero reach.shattered)
+          && is_plain_target program instance array value
+          then length (form_words (Assign name op value)) ∷ [] else []) (none_named instance is name)
+          ∙ none_where_false (not (is_above_zero reach.shattered)) _
+      none_at instance is (AtStmt reach at [] (Invoke name actuals)) = refl
+      none_at instance is (AtStmt reach at [] (Block body)) = refl
+      none_at instance is (AtStmt reach at [] (If arms otherwise)) = refl
+      none_at instance is (AtStmt reach at [] (While test body)) = refl
+      none_at instance is (AtStmt reach at [] (Repeat body until test)) = refl
+      none_at instance is (AtStmt reach at [] (For head body)) = refl
+      none_at instance is (AtStmt reach at [] (Border kind names)) = refl
+      none_at instance is (AtStmt reach at [] (Write line items)) = refl
+      none_at instance is (AtStmt reach at [] (Return value)) = refl
+      none_at instance is (AtStmt reach at (prefix ∷ prefixes) form) = refl
+      none_at instance is (AtWhole reach role expr) = refl
+      none_at instance is (AtExpr reach rank expr) = refl
+      none_at instance is (AtCall reach place name actuals) = refl
+      none_at instance is (AtNamed reach name) = refl
+      none_at instance is (AtDir reach dir) = refl
+      none_at instance is (AtRegion reach hint region) = refl
+      none_at instance is (AtMask reach prefix mask) = refl
+      none_at instance is (AtBase base) = refl
+      none_at instance is (AtPosts reach region posts) = refl
+      none_at instance is (AtProcedure procedure) = refl
+
+      -- there is no plain assignment
+      pub nothing_is_plain : plain_tokens program ≡ []
+      nothing_is_plain =
+          ap (λ entry. flat_map (λ instance. flat_map (plain_tokens_at program instance)
+          (instance_sites program instance)) (of_routine
+          (λ entry. instances_from program longest_chain (entry_instance entry)) entry)) entry_is
+          ∙ nothing_from (λ instance. flat_map (plain_tokens_at program instance)
+          (instance_sites program instance))
+          (λ instance is. flat_map_none (plain_tokens_at program instance)
+          (none_at instance is) (instance_sites program instance)) longest_chain
+          (entry_instance routine) refl
