@@ -63,7 +63,8 @@ def main():
         with open(path, encoding="utf-8") as file:
             wanted, refused = told_in(file.read())
         lines, status = found.get(os.path.basename(path), ([], None))
-        if lines != wanted or status != (4 if refused else 0):
+        settings = wanted[:1] and wanted[0].startswith("settings refused: ")
+        if lines != wanted or status != (5 if settings else 4 if refused else 0):
             wrong += 1
             print(f"{path}: told {lines} with status {status}, its comment says {wanted}")
     if not found:

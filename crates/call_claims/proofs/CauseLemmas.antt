@@ -1,29 +1,39 @@
 -- A status with its cause comes just where that cause is.
-use Rattle.std.proofs.Common.{◌≡◌, ◌≢◌, ℕ, ◌↔◌, List, [], ◌∷◌, codes, length, Some}
-use Rattle.std.proofs.Common.{None, refl, sym, ◌∙◌, ap, subst, arith}
+use Rattle.std.proofs.Common.{◌≡◌, ◌≢◌, ℕ, ◌↔◌, ◌⊎◌, List, [], length, Some}
+use Rattle.std.proofs.Common.{None, refl, sym, ◌∙◌, ap, subst, arith, inl, inr}
 use Rattle.zpl_nums.specs.declared.ends.End.TheVariants.{Done, Trap}
 use Rattle.zpl_nums.specs.declared.ends.TrapKind.{TrapKind}
 use Rattle.node_form.specs.declared.tables.Tables.{Tables}
 use Rattle.grid_meaning.specs.Grid.{IsOver, EndsAs}
 use Rattle.call_claims.specs.Call.{Call}
-use Rattle.call_claims.specs.Cause.{WorkCause, RunCause, Cause, IsTooLong, IsCutShort}
-use Rattle.call_claims.specs.Cause.WorkCause.{refused, done, trap, turn_limit}
-use Rattle.call_claims.specs.Cause.RunCause.{unreadable, too_long, work}
-use Rattle.call_claims.specs.Cause.Cause.{usage, no_memory, run}
-use Rattle.call_claims.specs.Command.{RunWords, Run, IsCommand, IsNoCommand}
-use Rattle.call_claims.specs.Decided.{IsDecided, IsSettled, RunsTooLong, RunsNoProgram, HasTrapped}
-use Rattle.call_claims.specs.Decided.{RunsTooShort}
-use Rattle.call_claims.specs.Execution.{Execution, HasNoRun, HasEnded}
+use Rattle.call_claims.specs.Cause.{WorkCause, ListCause, FileCause, RunCause, ListFileCause, Cause}
+use Rattle.call_claims.specs.Cause.{IsTooLong, IsCutShort, Lists, Names, Runs}
+use Rattle.call_claims.specs.Cause.WorkCause.{refused, unbound, done, trap, turn_limit}
+use Rattle.call_claims.specs.Cause.ListCause.{not_listed, not_bound, listed}
+use Rattle.call_claims.specs.Cause.FileCause.{unreadable, too_long, work}
+use Rattle.call_claims.specs.Cause.Cause.{usage, no_memory, run, list}
+use Rattle.call_claims.specs.Command.{Command, RunWords, Run, Listing, IsCommand, IsNoCommand, file_of}
+use Rattle.call_claims.specs.Decided.{IsDecided, IsDone, IsSettled, NamesTooLong, NamesNoProgram}
+use Rattle.call_claims.specs.Decided.{NamesUnbound}
+use Rattle.call_claims.specs.Decided.{HasTrapped, RunsToTrap, RunsTooShort}
+use Rattle.call_claims.specs.Execution.{Execution, HasCode, HasNoRun, HasEnded}
 use Rattle.call_claims.specs.Run.{grid_at}
+use Rattle.call_claims.specs.Refusal.{HasUnbound, IsRefused}
 use Rattle.call_claims.specs.Source.{HasNoProgram, Source}
 use Rattle.call_claims.specs.declared.status.TheConstants.{DONE, USAGE, TOO_LONG, REFUSED, TRAPPED}
-use Rattle.call_claims.specs.declared.status.TheConstants.{TURN_LIMIT}
+use Rattle.call_claims.specs.declared.status.TheConstants.{UNBOUND, TURN_LIMIT, UNREADABLE}
+use Rattle.call_claims.proofs.OneLemmas.{command_is_one}
 
--- words run one file
-one_file : (words : List (List ℕ)) (file other : List ℕ) (rest more : RunWords)
-    → IsCommand words (Run file rest) → IsCommand words (Run other more) → file ≡ other
-one_file words file other rest more f g =
-    let same : codes "run" ∷ file ∷ f.more ≡ codes "run" ∷ other ∷ g.more = sym f.split ∙ g.split in
+-- words name one file, and don't both run and list it
+same_file : (words : List (List ℕ)) (one other : Command) → IsCommand words one
+    → IsCommand words other → file_of one ≡ file_of other
+same_file words one other f g = ap file_of (command_is_one words one other f g)
+
+pub not_both : (words : List (List ℕ)) (file other : List ℕ) (rest : RunWords)
+    → IsCommand words (Run file rest) → IsCommand words (Listing other) → ⊥
+not_both words file other rest f g =
+    let same : Run file rest ≡ Listing other = command_is_one words (Run file rest) (Listing other) f g
+    in
     cc
 
 module _ (call : Call) (execution : Execution) where
@@ -45,6 +55,7 @@ module _ (call : Call) (execution : Execution) where
       → WorkCause text limit execution status told → execution.code ≡ Some code
       → RunStatus code status
   work_status (refused told refusal no_run) made = absurd (none_made no_run made)
+  work_status (unbound told has no_run) made = absurd (none_made no_run made)
   work_status {code = code} (done h) made = is_done
       (subst (λ c. EndsAs (grid_at c [] execution.turns) Done) (one_made h.run_of.made made) h.ends)
   work_status {code = code} (trap kind line h) made =
@@ -61,11 +72,14 @@ module _ (call : Call) (execution : Execution) where
   file_status (too_long long no_run) made = absurd (none_made no_run made)
   file_status (work source cause) made = work_status cause made
 
-  run_status : {status : ℕ} {told : List ℕ} {code : Tables} → Cause call execution status told
-      → IsDecided status → execution.code ≡ Some code → RunStatus code status
-  run_status (usage none no_run) d made = absurd (none_made no_run made)
-  run_status no_memory d made = absurd (d.memory refl)
-  run_status (run r) d made = file_status r.holds made
+  run_status : {status : ℕ} {told file : List ℕ} {rest : RunWords} {code : Tables}
+      → Cause call execution status told → IsDecided status → IsCommand call.words (Run file rest)
+      → execution.code ≡ Some code → RunStatus code status
+  run_status (usage none no_run) d given made = absurd (none_made no_run made)
+  run_status no_memory d given made = absurd (d.memory refl)
+  run_status (run r) d given made = file_status r.holds made
+  run_status {file = file} {rest = rest} (list l) d given made =
+      absurd (not_both call.words file l.file rest given l.given)
 
   was_done : {code : Tables} {status : ℕ} → RunStatus code status
       → EndsAs (grid_at code [] execution.turns) Done → status ≡ DONE
@@ -87,226 +101,353 @@ module _ (call : Call) (execution : Execution) where
   was_cut (is_trap kind line ends) h = absurd (h ends.over)
   was_cut (is_cut not_over) h = refl
 
-  -- ---- what a status says of the run
+  -- ---- what a status says of the work
+  work_done : {text told : List ℕ} {limit status : ℕ} → WorkCause text limit execution status told
+      → status ≡ DONE → HasEnded execution Done
+  work_done (refused told refusal no_run) e = absurd (omega arith)
+  work_done (unbound told has no_run) e = absurd (omega arith)
+  work_done (done h) e = record { code = h.run_of.code; made = h.run_of.made; ends = h.ends }
+  work_done (trap kind line h) e = absurd (omega arith)
+  work_done (turn_limit h) e = absurd (omega arith)
+
+  work_trap : {text told : List ℕ} {limit status : ℕ} → WorkCause text limit execution status told
+      → status ≡ TRAPPED → HasTrapped execution
+  work_trap (refused told refusal no_run) e = absurd (omega arith)
+  work_trap (unbound told has no_run) e = absurd (omega arith)
+  work_trap (done h) e = absurd (omega arith)
+  work_trap (trap kind line h) e = (
+    kind,
+    line,
+    record
+        { code = h.run_of.code; made = h.run_of.made; ends = h.ends },
+  )
+  work_trap (turn_limit h) e = absurd (omega arith)
+
+  work_cut : {text told : List ℕ} {limit status : ℕ} → WorkCause text limit execution status told
+      → status ≡ TURN_LIMIT → IsCutShort text limit execution
+  work_cut (refused told refusal no_run) e = absurd (omega arith)
+  work_cut (unbound told has no_run) e = absurd (omega arith)
+  work_cut (done h) e = absurd (omega arith)
+  work_cut (trap kind line h) e = absurd (omega arith)
+  work_cut (turn_limit h) e = h
+
+  work_no_program : {text told : List ℕ} {limit status : ℕ}
+      → WorkCause text limit execution status told → status ≡ REFUSED → IsRefused text
+  work_no_program (refused told refusal no_run) e =
+      record { none = refusal.none; not_unbound = refusal.not_unbound }
+  work_no_program (unbound told has no_run) e = absurd (omega arith)
+  work_no_program (done h) e = absurd (omega arith)
+  work_no_program (trap kind line h) e = absurd (omega arith)
+  work_no_program (turn_limit h) e = absurd (omega arith)
+
+  work_refused : {text told : List ℕ} {limit status : ℕ}
+      → WorkCause text limit execution status told → IsRefused text → status ≡ REFUSED
+  work_refused (refused told refusal no_run) none = refl
+  work_refused (unbound told has no_run) none = absurd (none.not_unbound (told, has))
+  work_refused (done h) none = absurd (none.none h.run_of.of_text.program h.run_of.of_text.small)
+  work_refused (trap kind line h) none = absurd
+      (none.none h.run_of.of_text.program h.run_of.of_text.small)
+  work_refused (turn_limit h) none = absurd
+      (none.none h.run_of.of_text.program h.run_of.of_text.small)
+
+  work_unbound : {text told : List ℕ} {limit status : ℕ}
+      → WorkCause text limit execution status told → status ≡ UNBOUND → HasUnbound text
+  work_unbound (refused told refusal no_run) e = absurd (omega arith)
+  work_unbound (unbound told has no_run) e = (told, has)
+  work_unbound (done h) e = absurd (omega arith)
+  work_unbound (trap kind line h) e = absurd (omega arith)
+  work_unbound (turn_limit h) e = absurd (omega arith)
+
+  work_was_unbound : {text told : List ℕ} {limit status : ℕ}
+      → WorkCause text limit execution status told → HasUnbound text → status ≡ UNBOUND
+  work_was_unbound (refused told refusal no_run) has = absurd (refusal.not_unbound has)
+  work_was_unbound (unbound told is no_run) has = refl
+  work_was_unbound (done h) has =
+      absurd (has.1.none h.run_of.of_text.program h.run_of.of_text.small)
+  work_was_unbound (trap kind line h) has =
+      absurd (has.1.none h.run_of.of_text.program h.run_of.of_text.small)
+  work_was_unbound (turn_limit h) has =
+      absurd (has.1.none h.run_of.of_text.program h.run_of.of_text.small)
+
+  work_other : {text told : List ℕ} {limit status : ℕ} → WorkCause text limit execution status told
+      → (status ≢ USAGE) × (status ≢ TOO_LONG)
+  work_other (refused told refusal no_run) = (λ e. omega arith, λ e. omega arith)
+  work_other (unbound told has no_run) = (λ e. omega arith, λ e. omega arith)
+  work_other (done h) = (λ e. omega arith, λ e. omega arith)
+  work_other (trap kind line h) = (λ e. omega arith, λ e. omega arith)
+  work_other (turn_limit h) = (λ e. omega arith, λ e. omega arith)
+
+  -- ---- of a listing
+  list_done : {text told : List ℕ} {status : ℕ} → ListCause text execution status told
+      → status ≡ DONE → HasCode execution
+  list_done (not_listed told refusal no_run) e = absurd (omega arith)
+  list_done (not_bound told has no_run) e = absurd (omega arith)
+  list_done (listed h) e = record { code = h.code; made = h.made }
+
+  list_made : {text told : List ℕ} {status : ℕ} → ListCause text execution status told
+      → HasCode execution → status ≡ DONE
+  list_made (not_listed told refusal no_run) has = absurd (none_made no_run has.made)
+  list_made (not_bound told is no_run) has = absurd (none_made no_run has.made)
+  list_made (listed h) has = refl
+
+  list_no_program : {text told : List ℕ} {status : ℕ} → ListCause text execution status told
+      → status ≡ REFUSED → IsRefused text
+  list_no_program (not_listed told refusal no_run) e =
+      record { none = refusal.none; not_unbound = refusal.not_unbound }
+  list_no_program (not_bound told has no_run) e = absurd (omega arith)
+  list_no_program (listed h) e = absurd (omega arith)
+
+  list_refused : {text told : List ℕ} {status : ℕ} → ListCause text execution status told
+      → IsRefused text → status ≡ REFUSED
+  list_refused (not_listed told refusal no_run) none = refl
+  list_refused (not_bound told has no_run) none = absurd (none.not_unbound (told, has))
+  list_refused (listed h) none = absurd (none.none h.of_text.program h.of_text.small)
+
+  list_unbound : {text told : List ℕ} {status : ℕ} → ListCause text execution status told
+      → status ≡ UNBOUND → HasUnbound text
+  list_unbound (not_listed told refusal no_run) e = absurd (omega arith)
+  list_unbound (not_bound told has no_run) e = (told, has)
+  list_unbound (listed h) e = absurd (omega arith)
+
+  list_was_unbound : {text told : List ℕ} {status : ℕ} → ListCause text execution status told
+      → HasUnbound text → status ≡ UNBOUND
+  list_was_unbound (not_listed told refusal no_run) has = absurd (refusal.not_unbound has)
+  list_was_unbound (not_bound told is no_run) has = refl
+  list_was_unbound (listed h) has = absurd (has.1.none h.of_text.program h.of_text.small)
+
+  list_other : {text told : List ℕ} {status : ℕ} → ListCause text execution status told
+      → (status ≢ USAGE) × (status ≢ TOO_LONG)
+  list_other (not_listed told refusal no_run) = (λ e. omega arith, λ e. omega arith)
+  list_other (not_bound told has no_run) = (λ e. omega arith, λ e. omega arith)
+  list_other (listed h) = (λ e. omega arith, λ e. omega arith)
+
+  list_no_run : {text told : List ℕ} {status : ℕ} → ListCause text execution status told
+      → (status ≢ TRAPPED) × (status ≢ TURN_LIMIT)
+  list_no_run (not_listed told refusal no_run) = (λ e. omega arith, λ e. omega arith)
+  list_no_run (not_bound told has no_run) = (λ e. omega arith, λ e. omega arith)
+  list_no_run (listed h) = (λ e. omega arith, λ e. omega arith)
+
+  -- ---- of a file: a status that isn't its own is that of the work on its text
+  abbrev Works : Type 1
+  Works = List ℕ → ℕ → List ℕ → Type 0
+
+  file_work : {W : Works} {file told : List ℕ} {status : ℕ}
+      → FileCause call file execution W status told → (status ≢ UNREADABLE) → (status ≢ TOO_LONG)
+      → (source : Source call file) × W source.text status told
+  file_work (unreadable may no_run) read short = absurd (read refl)
+  file_work (too_long long no_run) read short = absurd (short refl)
+  file_work (work source cause) read short = (source, cause)
+
+  file_long : {W : Works} {file told : List ℕ} {status : ℕ}
+      → FileCause call file execution W status told
+      → ((text : List ℕ) → W text status told → status ≢ TOO_LONG) → status ≡ TOO_LONG
+      → IsTooLong call file
+  file_long (unreadable may no_run) other e = absurd (omega arith)
+  file_long (too_long long no_run) other e = long
+  file_long (work source cause) other e = absurd (other source.text cause e)
+
+  -- ---- what a status says of the call
   done_of : {status : ℕ} {told : List ℕ} → Cause call execution status told → status ≡ DONE
-      → HasEnded execution Done
+      → IsDone call execution
   done_of (usage none no_run) e = absurd (omega arith)
   done_of no_memory e = absurd (omega arith)
-  done_of (run r) e = of_file r.holds e
-    where
-      of_work : {text told : List ℕ} {limit status : ℕ} → WorkCause text limit execution status told
-          → status ≡ DONE → HasEnded execution Done
-      of_work (refused told refusal no_run) e = absurd (omega arith)
-      of_work (done h) e = record { code = h.run_of.code; made = h.run_of.made; ends = h.ends }
-      of_work (trap kind line h) e = absurd (omega arith)
-      of_work (turn_limit h) e = absurd (omega arith)
+  done_of (run r) e =
+      let on = file_work r.holds (λ f. omega arith) (λ f. omega arith) in
+      inl (record { file = r.file; rest = r.rest; given = r.given; holds = work_done on.1 e })
+  done_of (list l) e =
+      let on = file_work l.holds (λ f. omega arith) (λ f. omega arith) in
+      inr (record { file = l.file; given = l.given; holds = list_done on.1 e })
 
-      of_file : {file told : List ℕ} {rest : RunWords} {status : ℕ}
-          → RunCause call file rest execution status told → status ≡ DONE → HasEnded execution Done
-      of_file (unreadable may no_run) e = absurd (omega arith)
-      of_file (too_long long no_run) e = absurd (omega arith)
-      of_file (work source cause) e = of_work cause e
+  was_listed : {status : ℕ} {told : List ℕ} → Cause call execution status told → IsDecided status
+      → Lists call (λ file. HasCode execution) → status ≡ DONE
+  was_listed (usage none no_run) d h = absurd (none_made no_run h.holds.made)
+  was_listed no_memory d h = absurd (d.memory refl)
+  was_listed (run r) d h = absurd (not_both call.words r.file h.file r.rest r.given h.given)
+  was_listed (list l) d h = of_file l.holds
+    where
+      of_file : {file told : List ℕ} {status : ℕ} → ListFileCause call file execution status told
+          → status ≡ DONE
+      of_file (unreadable may no_run) = absurd (none_made no_run h.holds.made)
+      of_file (too_long long no_run) = absurd (none_made no_run h.holds.made)
+      of_file (work source cause) = list_made cause h.holds
 
   trap_of : {status : ℕ} {told : List ℕ} → Cause call execution status told → status ≡ TRAPPED
-      → HasTrapped execution
+      → RunsToTrap call execution
   trap_of (usage none no_run) e = absurd (omega arith)
   trap_of no_memory e = absurd (omega arith)
-  trap_of (run r) e = of_file r.holds e
-    where
-      of_work : {text told : List ℕ} {limit status : ℕ} → WorkCause text limit execution status told
-          → status ≡ TRAPPED → HasTrapped execution
-      of_work (refused told refusal no_run) e = absurd (omega arith)
-      of_work (done h) e = absurd (omega arith)
-      of_work (trap kind line h) e = (
-        kind,
-        line,
-        record
-            { code = h.run_of.code; made = h.run_of.made; ends = h.ends },
-      )
-      of_work (turn_limit h) e = absurd (omega arith)
-
-      of_file : {file told : List ℕ} {rest : RunWords} {status : ℕ}
-          → RunCause call file rest execution status told → status ≡ TRAPPED → HasTrapped execution
-      of_file (unreadable may no_run) e = absurd (omega arith)
-      of_file (too_long long no_run) e = absurd (omega arith)
-      of_file (work source cause) e = of_work cause e
+  trap_of (run r) e =
+      let on = file_work r.holds (λ f. omega arith) (λ f. omega arith) in
+      record { file = r.file; rest = r.rest; given = r.given; holds = work_trap on.1 e }
+  trap_of (list l) e =
+      let on = file_work l.holds (λ f. omega arith) (λ f. omega arith) in
+      absurd ((list_no_run on.1).0 e)
 
   cut_of : {status : ℕ} {told : List ℕ} → Cause call execution status told → status ≡ TURN_LIMIT
       → RunsTooShort call execution
   cut_of (usage none no_run) e = absurd (omega arith)
   cut_of no_memory e = absurd (omega arith)
-  cut_of (run r) e = record {
-    file = r.file;
-    rest = r.rest;
-    given = r.given;
-    holds = of_file r.holds
-        e;
-  }
-    where
-      of_work : {text told : List ℕ} {limit status : ℕ} → WorkCause text limit execution status told
-          → status ≡ TURN_LIMIT → IsCutShort text limit execution
-      of_work (refused told refusal no_run) e = absurd (omega arith)
-      of_work (done h) e = absurd (omega arith)
-      of_work (trap kind line h) e = absurd (omega arith)
-      of_work (turn_limit h) e = h
-
-      of_file : {file told : List ℕ} {rest : RunWords} {status : ℕ}
-          → RunCause call file rest execution status told → status ≡ TURN_LIMIT
-          → (source : Source call file) × IsCutShort source.text rest.turns execution
-      of_file (unreadable may no_run) e = absurd (omega arith)
-      of_file (too_long long no_run) e = absurd (omega arith)
-      of_file (work source cause) e = (source, of_work cause e)
+  cut_of (run r) e =
+      let on = file_work r.holds (λ f. omega arith) (λ f. omega arith) in
+      record { file = r.file; rest = r.rest; given = r.given; holds = (on.0, work_cut on.1 e) }
+  cut_of (list l) e =
+      let on = file_work l.holds (λ f. omega arith) (λ f. omega arith) in
+      absurd ((list_no_run on.1).1 e)
 
   -- ---- of words
-  no_usage : {file told : List ℕ} {rest : RunWords} {status : ℕ}
-      → RunCause call file rest execution status told → status ≢ USAGE
-  no_usage (unreadable may no_run) e = omega arith
-  no_usage (too_long long no_run) e = omega arith
-  no_usage (work source cause) e = of_work cause e
-    where
-      of_work : {text told : List ℕ} {limit status : ℕ} → WorkCause text limit execution status told
-          → status ≢ USAGE
-      of_work (refused told refusal no_run) e = omega arith
-      of_work (done h) e = omega arith
-      of_work (trap kind line h) e = omega arith
-      of_work (turn_limit h) e = omega arith
-
   usage_of : {status : ℕ} {told : List ℕ} → Cause call execution status told → status ≡ USAGE
       → IsNoCommand call.words
   usage_of (usage none no_run) e = none
   usage_of no_memory e = absurd (omega arith)
-  usage_of (run r) e = absurd (no_usage r.holds e)
+  usage_of (run r) e =
+      let on = file_work r.holds (λ f. omega arith) (λ f. omega arith) in
+      absurd ((work_other on.1).0 e)
+  usage_of (list l) e =
+      let on = file_work l.holds (λ f. omega arith) (λ f. omega arith) in
+      absurd ((list_other on.1).0 e)
 
   was_usage : {status : ℕ} {told : List ℕ} → Cause call execution status told → IsDecided status
       → IsNoCommand call.words → status ≡ USAGE
   was_usage (usage none no_run) d h = refl
   was_usage no_memory d h = absurd (d.memory refl)
   was_usage (run r) d h = absurd (h (Run r.file r.rest) r.given)
+  was_usage (list l) d h = absurd (h (Listing l.file) l.given)
 
   -- ---- of texts
   long_of : {status : ℕ} {told : List ℕ} → Cause call execution status told → status ≡ TOO_LONG
-      → RunsTooLong call
+      → NamesTooLong call
   long_of (usage none no_run) e = absurd (omega arith)
   long_of no_memory e = absurd (omega arith)
   long_of (run r) e = record {
-    file = r.file;
-    rest = r.rest;
+    command = Run r.file r.rest;
     given = r.given;
-    holds = of_file
-        r.holds e;
+    holds = file_long r.holds (λ text cause. (work_other cause).1) e;
   }
-    where
-      of_work : {text told : List ℕ} {limit status : ℕ} → WorkCause text limit execution status told
-          → status ≢ TOO_LONG
-      of_work (refused told refusal no_run) e = omega arith
-      of_work (done h) e = omega arith
-      of_work (trap kind line h) e = omega arith
-      of_work (turn_limit h) e = omega arith
-
-      of_file : {file told : List ℕ} {rest : RunWords} {status : ℕ}
-          → RunCause call file rest execution status told → status ≡ TOO_LONG → IsTooLong call file
-      of_file (unreadable may no_run) e = absurd (omega arith)
-      of_file (too_long long no_run) e = long
-      of_file (work source cause) e = absurd (of_work cause e)
+  long_of (list l) e = record {
+    command = Listing l.file;
+    given = l.given;
+    holds = file_long l.holds (λ text cause. (list_other cause).1) e;
+  }
 
   not_program_of : {status : ℕ} {told : List ℕ} → Cause call execution status told
-      → status ≡ REFUSED → RunsNoProgram call
+      → status ≡ REFUSED → NamesNoProgram call
   not_program_of (usage none no_run) e = absurd (omega arith)
   not_program_of no_memory e = absurd (omega arith)
-  not_program_of (run r) e = record {
-    file = r.file;
-    rest = r.rest;
-    given = r.given;
-    holds = of_file
-        r.holds e;
-  }
-    where
-      of_work : {text told : List ℕ} {limit status : ℕ} → WorkCause text limit execution status told
-          → status ≡ REFUSED → HasNoProgram text
-      of_work (refused told refusal no_run) e = refusal.none
-      of_work (done h) e = absurd (omega arith)
-      of_work (trap kind line h) e = absurd (omega arith)
-      of_work (turn_limit h) e = absurd (omega arith)
+  not_program_of (run r) e =
+      let on = file_work r.holds (λ f. omega arith) (λ f. omega arith) in
+      record { command = Run r.file r.rest; given = r.given; holds = (on.0, work_no_program on.1 e) }
+  not_program_of (list l) e =
+      let on = file_work l.holds (λ f. omega arith) (λ f. omega arith) in
+      record { command = Listing l.file; given = l.given; holds = (on.0, list_no_program on.1 e) }
 
-      of_file : {file told : List ℕ} {rest : RunWords} {status : ℕ}
-          → RunCause call file rest execution status told → status ≡ REFUSED
-          → (source : Source call file) × HasNoProgram source.text
-      of_file (unreadable may no_run) e = absurd (omega arith)
-      of_file (too_long long no_run) e = absurd (omega arith)
-      of_file (work source cause) e = (source, of_work cause e)
+  unbound_of : {status : ℕ} {told : List ℕ} → Cause call execution status told
+      → status ≡ UNBOUND → NamesUnbound call
+  unbound_of (usage none no_run) e = absurd (omega arith)
+  unbound_of no_memory e = absurd (omega arith)
+  unbound_of (run r) e =
+      let on = file_work r.holds (λ f. omega arith) (λ f. omega arith) in
+      record { command = Run r.file r.rest; given = r.given; holds = (on.0, work_unbound on.1 e) }
+  unbound_of (list l) e =
+      let on = file_work l.holds (λ f. omega arith) (λ f. omega arith) in
+      record { command = Listing l.file; given = l.given; holds = (on.0, list_unbound on.1 e) }
 
   -- the files tell at most one text under each name
   abbrev pub OneText : Type 0
   OneText = (file text other : List ℕ) → call.tells file text → call.tells file other → text ≡ other
 
-  same_text : OneText → {file other text more : List ℕ} {rest words : RunWords}
-      → IsCommand call.words (Run file rest) → IsCommand call.words (Run other words)
-      → call.tells file text → call.tells other more → text ≡ more
-  same_text one {file} {other} {text} {more} {rest} {words} f g told tells =
-      one other text more (subst (λ n. call.tells n text)
-      (one_file call.words file other rest words f g) told) tells
+  same_text : OneText → (one other : Command) {text more : List ℕ} → IsCommand call.words one
+      → IsCommand call.words other → call.tells (file_of one) text → call.tells (file_of other) more
+      → text ≡ more
+  same_text once one other {text} {more} f g told tells =
+      once (file_of other) text more (subst (λ n. call.tells n text)
+      (same_file call.words one other f g) told) tells
+
+  -- where a command names a file that tells too long a text
+  file_was_long : (one : Command) → IsCommand call.words one → {W : Works} {told : List ℕ}
+      {status : ℕ} → FileCause call (file_of one) execution W status told → IsSettled call status
+      → NamesTooLong call → status ≡ TOO_LONG
+  file_was_long one given (unreadable may no_run) settled h = absurd (settled.read refl)
+  file_was_long one given (too_long long no_run) settled h = refl
+  file_was_long one given (work source cause) settled h =
+      let same : source.text ≡ h.holds.text = same_text settled.one one h.command given h.given
+      source.told h.holds.told in
+      absurd (omega (arith, source.short, h.holds.long, ap length same))
+
+  -- where it names one with such a text
+  file_was : (one : Command) → IsCommand call.words one → (wanted : ℕ) (Fact : List ℕ → Type 0)
+      → {W : Works} {told : List ℕ} {status : ℕ}
+      → FileCause call (file_of one) execution W status told → IsSettled call status
+      → ((text : List ℕ) → W text status told → Fact text → status ≡ wanted)
+      → Names call (λ file. (source : Source call file) × Fact source.text) → status ≡ wanted
+  file_was one given wanted Fact (unreadable may no_run) settled was h =
+      absurd (settled.read refl)
+  file_was one given wanted Fact (too_long long no_run) settled was h =
+      let same : h.holds.0.text ≡ long.text = same_text settled.one h.command one h.given given
+      h.holds.0.told long.told in
+      absurd (omega (arith, h.holds.0.short, long.long, ap length same))
+  file_was one given wanted Fact (work source cause) settled was h =
+      let same : h.holds.0.text ≡ source.text = same_text settled.one h.command one h.given given
+      h.holds.0.told source.told in
+      was source.text cause (subst Fact same h.holds.1)
 
   was_long : {status : ℕ} {told : List ℕ} → Cause call execution status told → IsSettled call status
-      → RunsTooLong call → status ≡ TOO_LONG
-  was_long (usage none no_run) d h = absurd (none (Run h.file h.rest) h.given)
+      → NamesTooLong call → status ≡ TOO_LONG
+  was_long (usage none no_run) d h = absurd (none h.command h.given)
   was_long no_memory d h = absurd (d.decided.memory refl)
-  was_long (run r) d h = of_file r.holds d
-    where
-      of_file : {told : List ℕ} {status : ℕ} → RunCause call r.file r.rest execution status told
-          → IsSettled call status → status ≡ TOO_LONG
-      of_file (unreadable may no_run) d = absurd (d.read refl)
-      of_file (too_long long no_run) d = refl
-      of_file (work source cause) d =
-          let same : source.text ≡ h.holds.text = same_text d.one r.given h.given source.told
-          h.holds.told in
-          absurd (omega (arith, source.short, h.holds.long, ap length same))
+  was_long (run r) d h = file_was_long (Run r.file r.rest) r.given r.holds d h
+  was_long (list l) d h = file_was_long (Listing l.file) l.given l.holds d h
 
   was_not_program : {status : ℕ} {told : List ℕ} → Cause call execution status told
-      → IsSettled call status → RunsNoProgram call → status ≡ REFUSED
-  was_not_program (usage none no_run) d h = absurd (none (Run h.file h.rest) h.given)
+      → IsSettled call status → NamesNoProgram call → status ≡ REFUSED
+  was_not_program (usage none no_run) d h = absurd (none h.command h.given)
   was_not_program no_memory d h = absurd (d.decided.memory refl)
-  was_not_program (run r) d h = of_file r.holds d
-    where
-      of_work : {text told : List ℕ} {limit status : ℕ} → WorkCause text limit execution status told
-          → HasNoProgram text → status ≡ REFUSED
-      of_work (refused told refusal no_run) none = refl
-      of_work (done h) none = absurd (none h.run_of.of_text.program h.run_of.of_text.small)
-      of_work (trap kind line h) none = absurd
-          (none h.run_of.of_text.program h.run_of.of_text.small)
-      of_work (turn_limit h) none = absurd (none h.run_of.of_text.program h.run_of.of_text.small)
+  was_not_program (run r) d h =
+      file_was (Run r.file r.rest) r.given REFUSED IsRefused r.holds d (λ text. work_refused) h
+  was_not_program (list l) d h =
+      file_was (Listing l.file) l.given REFUSED IsRefused l.holds d (λ text. list_refused) h
 
-      of_file : {told : List ℕ} {status : ℕ} → RunCause call r.file r.rest execution status told
-          → IsSettled call status → status ≡ REFUSED
-      of_file (unreadable may no_run) d = absurd (d.read refl)
-      of_file (too_long long no_run) d =
-          let same : h.holds.0.text ≡ long.text = same_text d.one h.given r.given h.holds.0.told
-          long.told in
-          absurd (omega (arith, h.holds.0.short, long.long, ap length same))
-      of_file (work source cause) d =
-          let same : h.holds.0.text ≡ source.text = same_text d.one h.given r.given h.holds.0.told
-          source.told in
-          of_work cause (subst HasNoProgram same h.holds.1)
+  was_unbound : {status : ℕ} {told : List ℕ} → Cause call execution status told
+      → IsSettled call status → NamesUnbound call → status ≡ UNBOUND
+  was_unbound (usage none no_run) d h = absurd (none h.command h.given)
+  was_unbound no_memory d h = absurd (d.decided.memory refl)
+  was_unbound (run r) d h =
+      file_was (Run r.file r.rest) r.given UNBOUND HasUnbound r.holds d
+      (λ text. work_was_unbound) h
+  was_unbound (list l) d h =
+      file_was (Listing l.file) l.given UNBOUND HasUnbound l.holds d
+      (λ text. list_was_unbound) h
 
   -- ---- exactly
   module _ (status : ℕ) (told : List ℕ) (cause : Cause call execution status told) where
-    pub done_exactly : IsDecided status → (status ≡ DONE) ↔ HasEnded execution Done
-    done_exactly d = (done_of cause, λ h. was_done (run_status cause d h.made) h.ends)
+    pub done_exactly : IsDecided status → (status ≡ DONE) ↔ IsDone call execution
+    done_exactly d = (
+      done_of cause,
+      λ is. elim is [
+        | inl h ↦ was_done (run_status cause d h.given h.holds.made) h.holds.ends
+        | inr h ↦ was_listed cause d h
+      ],
+    )
 
     pub usage_exactly : IsDecided status → (status ≡ USAGE) ↔ IsNoCommand call.words
     usage_exactly d = (usage_of cause, was_usage cause d)
 
-    pub long_exactly : IsSettled call status → (status ≡ TOO_LONG) ↔ RunsTooLong call
+    pub long_exactly : IsSettled call status → (status ≡ TOO_LONG) ↔ NamesTooLong call
     long_exactly d = (long_of cause, was_long cause d)
 
-    pub refused_exactly : IsSettled call status → (status ≡ REFUSED) ↔ RunsNoProgram call
+    pub refused_exactly : IsSettled call status → (status ≡ REFUSED) ↔ NamesNoProgram call
     refused_exactly d = (not_program_of cause, was_not_program cause d)
 
-    pub trap_exactly : IsDecided status → (status ≡ TRAPPED) ↔ HasTrapped execution
-    trap_exactly d = (trap_of cause, λ h. was_trap h.0 h.1 (run_status cause d h.2.made) h.2.ends)
+    pub unbound_exactly : IsSettled call status → (status ≡ UNBOUND) ↔ NamesUnbound call
+    unbound_exactly d = (unbound_of cause, was_unbound cause d)
+
+    pub trap_exactly : IsDecided status → (status ≡ TRAPPED) ↔ RunsToTrap call execution
+    trap_exactly d = (
+      trap_of cause,
+      λ h. was_trap h.holds.0 h.holds.1 (run_status cause d h.given h.holds.2.made) h.holds.2.ends,
+    )
 
     pub cut_exactly : IsDecided status → (status ≡ TURN_LIMIT) ↔ RunsTooShort call execution
     cut_exactly d = (
       cut_of cause,
-      λ h. was_cut (run_status cause d h.holds.1.run_of.made)
+      λ h. was_cut (run_status cause d h.given h.holds.1.run_of.made)
           h.holds.1.not_over,
     )

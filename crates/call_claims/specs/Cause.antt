@@ -8,17 +8,19 @@ use Rattle.zpl_text.specs.declared.TheConstants.{MOST_SOURCE}
 use Rattle.node_form.specs.declared.tables.Tables.{Tables}
 use Rattle.zpl_meaning.specs.Program.{Meaning, mean_of, steps_of}
 use Rattle.grid_meaning.specs.Grid.{EndsAs, IsOver}
-use Rattle.zpl_claims.specs.Bound.{shattered_loops, turn_bound}
+use Rattle.zpl_names.specs.Expansion.{shattered_loops}
+use Rattle.zpl_claims.specs.Bound.{turn_bound}
 use Rattle.call_claims.specs.Call.{Call}
-use Rattle.call_claims.specs.Command.{RunWords, Run, IsCommand, IsNoCommand}
+use Rattle.call_claims.specs.Command.{Command, RunWords, Run, Listing, IsCommand, IsNoCommand, file_of}
 use Rattle.call_claims.specs.Execution.{Execution, HasNoRun}
-use Rattle.call_claims.specs.Refusal.{IsRefusal}
+use Rattle.call_claims.specs.Refusal.{IsRefusal, IsUnbound}
 use Rattle.call_claims.specs.Run.{IsRun, grid_at}
 use Rattle.call_claims.specs.Source.{IsCodeOf, Source}
 use Rattle.call_claims.specs.Texts.{usage_text, unreadable_text, too_long_text, trap_text}
 use Rattle.call_claims.specs.Texts.{turn_limit_text, no_memory_text}
 use Rattle.call_claims.specs.declared.status.TheConstants.{DONE, USAGE, UNREADABLE, TOO_LONG}
-use Rattle.call_claims.specs.declared.status.TheConstants.{REFUSED, TRAPPED, TURN_LIMIT, NO_MEMORY}
+use Rattle.call_claims.specs.declared.status.TheConstants.{REFUSED, UNBOUND, TRAPPED, TURN_LIMIT}
+use Rattle.call_claims.specs.declared.status.TheConstants.{NO_MEMORY}
 
 -- ---- the work on a text: code is made of it, and given turns within a limit
 -- Code was made of the text, and run.
@@ -50,11 +52,28 @@ pub record IsCutShort (text : List ℕ) (limit : ℕ) (execution : Execution) : 
 pub data WorkCause (text : List ℕ) (limit : ℕ) (execution : Execution) : ℕ → List ℕ → Type 0 where
   refused : (told : List ℕ) → IsRefusal text told → HasNoRun execution
       → WorkCause text limit execution REFUSED told
+  unbound : (told : List ℕ) → IsUnbound text told → HasNoRun execution
+      → WorkCause text limit execution UNBOUND told
   done : IsOverAs text limit execution Done → WorkCause text limit execution DONE []
   trap : (kind : TrapKind) (line : ℕ) → IsOverAs text limit execution (Trap kind line)
       → WorkCause text limit execution TRAPPED (trap_text kind line)
   turn_limit : IsCutShort text limit execution
       → WorkCause text limit execution TURN_LIMIT turn_limit_text
+
+-- ---- a listing of the code that is made of a text
+-- Code was made of the text, and not run.
+pub record IsListed (text : List ℕ) (execution : Execution) : Type 0 where
+  pub code : Tables
+  pub made : execution.code ≡ Some code
+  pub of_text : IsCodeOf text code
+  pub no_turns : execution.turns ≡ 0
+
+pub data ListCause (text : List ℕ) (execution : Execution) : ℕ → List ℕ → Type 0 where
+  not_listed : (told : List ℕ) → IsRefusal text told → HasNoRun execution
+      → ListCause text execution REFUSED told
+  not_bound : (told : List ℕ) → IsUnbound text told → HasNoRun execution
+      → ListCause text execution UNBOUND told
+  listed : IsListed text execution → ListCause text execution DONE []
 
 -- ---- the file of a command
 -- A text that the file tells is too long for a program.
@@ -63,23 +82,45 @@ pub record IsTooLong (call : Call) (file : List ℕ) : Type 0 where
   pub told : call.tells file text
   pub long : MOST_SOURCE < length text
 
--- ---- run FILE
-pub data RunCause (call : Call) (file : List ℕ) (rest : RunWords) (execution : Execution)
-    : ℕ → List ℕ → Type 0 where
+-- The file can't be read or is too long, or there is the cause that work on its text has.
+pub data FileCause (call : Call) (file : List ℕ) (execution : Execution)
+    (Works : List ℕ → ℕ → List ℕ → Type 0) : ℕ → List ℕ → Type 0 where
   unreadable : call.may_fail file → HasNoRun execution
-      → RunCause call file rest execution UNREADABLE (unreadable_text file)
+      → FileCause call file execution Works UNREADABLE (unreadable_text file)
   too_long : IsTooLong call file → HasNoRun execution
-      → RunCause call file rest execution TOO_LONG (too_long_text file)
+      → FileCause call file execution Works TOO_LONG (too_long_text file)
   work : {status : ℕ} {told : List ℕ} (source : Source call file)
-      → WorkCause source.text rest.turns execution status told
-      → RunCause call file rest execution status told
+      → Works source.text status told → FileCause call file execution Works status told
 
+-- run FILE
+abbrev pub RunCause : Call → List ℕ → RunWords → Execution → ℕ → List ℕ → Type 0
+RunCause call file rest execution =
+    FileCause call file execution (λ text. WorkCause text rest.turns execution)
+
+-- list FILE
+abbrev pub ListFileCause : Call → List ℕ → Execution → ℕ → List ℕ → Type 0
+ListFileCause call file execution =
+    FileCause call file execution (λ text. ListCause text execution)
+
+-- ---- the command of the words
 -- The words run a file, of which and of the words behind it this holds.
 pub record Runs (call : Call) (Holds : List ℕ → RunWords → Type 0) : Type 0 where
   pub file : List ℕ
   pub rest : RunWords
   pub given : IsCommand call.words (Run file rest)
   pub holds : Holds file rest
+
+-- The words list a file, of which this holds.
+pub record Lists (call : Call) (Holds : List ℕ → Type 0) : Type 0 where
+  pub file : List ℕ
+  pub given : IsCommand call.words (Listing file)
+  pub holds : Holds file
+
+-- The words name a file, of which this holds, whatever they do with it.
+pub record Names (call : Call) (Holds : List ℕ → Type 0) : Type 0 where
+  pub command : Command
+  pub given : IsCommand call.words command
+  pub holds : Holds (file_of command)
 
 -- ---- any call
 -- The cause of a status, and what is told of it. A failed put is no cause of these.
@@ -88,4 +129,7 @@ pub data Cause (call : Call) (execution : Execution) : ℕ → List ℕ → Type
   no_memory : Cause call execution NO_MEMORY no_memory_text
   run : {status : ℕ} {told : List ℕ}
       → Runs call (λ file rest. RunCause call file rest execution status told)
+      → Cause call execution status told
+  list : {status : ℕ} {told : List ℕ}
+      → Lists call (λ file. ListFileCause call file execution status told)
       → Cause call execution status told

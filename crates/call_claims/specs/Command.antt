@@ -37,14 +37,31 @@ pub record IsRunCommand (words : List (List ℕ)) (file : List ℕ) (rest : RunW
   pub split : words ≡ codes "run" ∷ file ∷ more
   pub are : AreRunWords more rest
 
+-- ---- list FILE
+-- The first word is the command, and the second names the file; there are no others so far.
+pub record IsListCommand (words : List (List ℕ)) (file : List ℕ) : Type 0 where
+  pub split : words ≡ codes "list" ∷ file ∷ []
+
 -- ---- what there is to do
 pub data Command : Type 0 where
   Run : (file : List ℕ) (rest : RunWords) → Command
+  Listing : (file : List ℕ) → Command
+
+-- the file that it names
+abbrev pub file_of : Command → List ℕ
+file_of (Run file rest) = file
+file_of (Listing file) = file
 
 -- the words give the command
 abbrev pub IsCommand : List (List ℕ) → Command → Type 0
 IsCommand words (Run file rest) = IsRunCommand words file rest
+IsCommand words (Listing file) = IsListCommand words file
 
 -- they give none
 abbrev pub IsNoCommand : List (List ℕ) → Type 0
 IsNoCommand words = (command : Command) → ¬ IsCommand words command
+
+-- they ask for a listing, or for none
+pub record AsksListing (words : List (List ℕ)) : Type 0 where
+  pub file : List ℕ
+  pub given : IsListCommand words file

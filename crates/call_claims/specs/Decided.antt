@@ -1,11 +1,12 @@
 -- When each status comes.
-use Rattle.std.specs.Prelude.{◌≡◌, ◌≢◌, ℕ, List}
-use Rattle.zpl_nums.specs.declared.ends.End.TheVariants.{Trap}
+use Rattle.std.specs.Prelude.{◌≡◌, ◌≢◌, ◌⊎◌, ℕ, List}
+use Rattle.zpl_nums.specs.declared.ends.End.TheVariants.{Done, Trap}
 use Rattle.zpl_nums.specs.declared.ends.TrapKind.{TrapKind}
 use Rattle.call_claims.specs.Call.{Call}
-use Rattle.call_claims.specs.Cause.{IsCutShort, IsTooLong, Runs}
-use Rattle.call_claims.specs.Execution.{Execution, HasEnded}
-use Rattle.call_claims.specs.Source.{HasNoProgram, Source}
+use Rattle.call_claims.specs.Cause.{IsCutShort, IsTooLong, Lists, Names, Runs}
+use Rattle.call_claims.specs.Execution.{Execution, HasCode, HasEnded}
+use Rattle.call_claims.specs.Refusal.{HasUnbound, IsRefused}
+use Rattle.call_claims.specs.Source.{Source}
 use Rattle.call_claims.specs.declared.status.TheConstants.{UNREADABLE, PUT_FAILED, NO_MEMORY}
 
 -- no put failed, and memory wasn't wanting
@@ -19,17 +20,32 @@ pub record IsSettled (call : Call) (status : ℕ) : Type 0 where
   pub read : status ≢ UNREADABLE
   pub one : (file text other : List ℕ) → call.tells file text → call.tells file other → text ≡ other
 
--- 3: the words run a file that tells a text that is too long
-abbrev pub RunsTooLong : Call → Type 0
-RunsTooLong call = Runs call (λ file rest. IsTooLong call file)
+-- 0: the words run a file, and the run is over and ended normally; or they list it, and code was
+-- made
+abbrev pub IsDone : Call → Execution → Type 0
+IsDone call execution =
+    Runs call (λ file rest. HasEnded execution Done) ⊎ Lists call (λ file. HasCode execution)
 
--- 4: the words run a file that tells a text that isn't too long and has no program
-abbrev pub RunsNoProgram : Call → Type 0
-RunsNoProgram call = Runs call (λ file rest. (source : Source call file) × HasNoProgram source.text)
+-- 3: the words name a file that tells a text that is too long
+abbrev pub NamesTooLong : Call → Type 0
+NamesTooLong call = Names call (λ file. IsTooLong call file)
 
--- 7: the run is over with a trap
+-- 4: the words name a file that tells a text that isn't too long, has no small program, and has no
+-- fault of its declarations to be told
+abbrev pub NamesNoProgram : Call → Type 0
+NamesNoProgram call = Names call (λ file. (source : Source call file) × IsRefused source.text)
+
+-- 5: the words name a file that tells a text that isn't too long, has no small program, and has a
+-- fault of its declarations
+abbrev pub NamesUnbound : Call → Type 0
+NamesUnbound call = Names call (λ file. (source : Source call file) × HasUnbound source.text)
+
+-- 7: the words run a file, and the run is over with a trap
 abbrev pub HasTrapped : Execution → Type 0
 HasTrapped execution = (kind : TrapKind) × (line : ℕ) × HasEnded execution (Trap kind line)
+
+abbrev pub RunsToTrap : Call → Execution → Type 0
+RunsToTrap call execution = Runs call (λ file rest. HasTrapped execution)
 
 -- 8: all turns that the words ask for were given, and the run isn't over. They are fewer than the
 -- bound on turns wherever the meaning ends.

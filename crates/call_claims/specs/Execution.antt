@@ -1,15 +1,17 @@
 -- What was made and run in a call.
-use Rattle.std.specs.Prelude.{◌≡◌, ℕ, ◌+◌, ◌≤◌, List, [], ◌++◌, Option, Some, None}
+use Rattle.std.specs.Prelude.{◌≡◌, ◌≢◌, ℕ, ◌+◌, ◌≤◌, List, [], ◌++◌, Option, Some, None}
 use Rattle.zpl_lists.specs.Front.{IsFrontOf}
-use Rattle.zpl_io.specs.Sink.{Takes}
+use Rattle.zpl_io.specs.Sink.{Takes, TakesFront}
 use Rattle.zpl_nums.specs.declared.ends.End.{End}
 use Rattle.node_form.specs.declared.tables.Tables.{Tables}
 use Rattle.grid_meaning.specs.Grid.{EndsAs}
+use Rattle.listing_rows.specs.Listing.{listing_of}
 use Rattle.call_claims.specs.declared.ran.Ran.{Ran}
 use Rattle.call_claims.specs.Call.{Call}
-use Rattle.call_claims.specs.Command.{RunWords}
+use Rattle.call_claims.specs.Command.{AsksListing, RunWords}
 use Rattle.call_claims.specs.Run.{GoesOnTo, grid_at}
 use Rattle.call_claims.specs.Source.{IsCodeOf, Source}
+use Rattle.call_claims.specs.declared.status.TheConstants.{DONE}
 
 -- the code that was made, where some was, and how many turns it was given
 pub record Execution : Type 0 where
@@ -38,6 +40,17 @@ pub record IsMadeFor (call : Call) (file : List ℕ) (rest : RunWords) (turns : 
   pub source : Source call file
   pub of_text : IsCodeOf source.text code
   pub within : turns ≤ rest.turns
+
+-- The code is made of a text that the file tells, and was not run.
+pub record IsListedFor (call : Call) (file : List ℕ) (turns : ℕ) (code : Tables) : Type 0 where
+  pub source : Source call file
+  pub of_text : IsCodeOf source.text code
+  pub no_turns : turns ≡ 0
+
+-- some code was made
+pub record HasCode (execution : Execution) : Type 0 where
+  pub code : Tables
+  pub made : execution.code ≡ Some code
 
 -- The counts are those of the grid after the given turns, before which none is over or idle.
 pub record HasCounts (ran : Ran) (code : Tables) : Type 0 where
@@ -71,3 +84,31 @@ pub record IsCutOff (execution : Execution) (before after : List ℕ → Type 0)
   pub is_front : IsFrontOf ((grid_at code [] execution.turns).printed ++ front)
       (grid_at code [] (execution.turns + 1)).printed
   pub takes : Takes before ((grid_at code [] execution.turns).printed ++ front) after
+
+-- ---- what a sink took of a call
+-- The sink took the listing of the code that was made.
+pub record TakesListing (execution : Execution) (before after : List ℕ → Type 0) : Type 0 where
+  pub code : Tables
+  pub made : execution.code ≡ Some code
+  pub takes : Takes before (listing_of code) after
+
+-- Where the words ask for a listing, the sink took that of the code, or nothing where the status
+-- isn't that of work that was done; else it took what is printed in the given turns.
+pub record TakesOutput (words : List (List ℕ)) (status : ℕ) (execution : Execution)
+    (before after : List ℕ → Type 0) : Type 0 where
+  pub listed : AsksListing words → status ≡ DONE → TakesListing execution before after
+  pub not_listed : AsksListing words → status ≢ DONE → Takes before [] after
+  pub printed : ¬ AsksListing words → TakesPrinted execution before after
+
+-- A front of the listing of the code that was made.
+pub record TakesListingFront (execution : Execution) (before after : List ℕ → Type 0) : Type 0
+  where
+    pub code : Tables
+    pub made : execution.code ≡ Some code
+    pub front : TakesFront before (listing_of code) after
+
+-- The sink took a front of the listing, or was cut off in a run.
+pub record IsOutputCut (words : List (List ℕ)) (execution : Execution)
+    (before after : List ℕ → Type 0) : Type 0 where
+  pub listed : AsksListing words → TakesListingFront execution before after
+  pub printed : ¬ AsksListing words → IsCutOff execution before after

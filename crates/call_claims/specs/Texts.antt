@@ -4,6 +4,10 @@ use Rattle.std.specs.Fmt.{decimal}
 use Rattle.zpl_nums.specs.declared.ends.TrapKind.{TrapKind}
 use Rattle.zpl_nums.specs.declared.ends.TrapKind.TheVariants.{DivideByZero, OutsideStorage}
 use Rattle.zpl_nums.specs.declared.ends.TrapKind.TheVariants.{RegionLimit, RegionMismatch}
+use Rattle.zpl_names.specs.Accepted.{FaultKind}
+use Rattle.zpl_names.specs.Accepted as judged
+use Rattle.zpl_binding.specs.Outcome.{BindFault}
+use Rattle.zpl_binding.specs.Outcome as bound
 
 abbrev pub usage_text : List ℕ
 usage_text = codes "usage: zplgrid run|mean|list|exec|gen WORD [words]\n"
@@ -23,6 +27,40 @@ fault_text name line byte =
 -- a fault of the whole text
 abbrev pub too_deep_text : List ℕ
 too_deep_text = codes "refused: TooDeep\n"
+
+-- how a fault of names, ranks and types is called
+abbrev pub judged_name : FaultKind → List ℕ
+judged_name judged.UnknownName = codes "UnknownName"
+judged_name judged.TwiceNamed = codes "TwiceNamed"
+judged_name judged.UnknownType = codes "UnknownType"
+judged_name judged.TypeClash = codes "TypeClash"
+judged_name judged.RankClash = codes "RankClash"
+judged_name judged.NoRegion = codes "NoRegion"
+judged_name judged.FloodClash = codes "FloodClash"
+judged_name judged.ShatterBody = codes "ShatterBody"
+judged_name judged.NotAssignable = codes "NotAssignable"
+judged_name judged.Arguments = codes "Arguments"
+judged_name judged.Recursion = codes "Recursion"
+judged_name judged.ReturnPlace = codes "ReturnPlace"
+judged_name judged.CallPlace = codes "CallPlace"
+judged_name judged.MaskPlace = codes "MaskPlace"
+judged_name judged.BorderForm = codes "BorderForm"
+judged_name judged.NoEntry = codes "NoEntry"
+judged_name judged.RankUnknown = codes "RankUnknown"
+judged_name judged.DeepCalls = codes "DeepCalls"
+
+-- how a fault of settings and declarations is called
+abbrev pub bind_name : BindFault → List ℕ
+bind_name bound.UnknownConfig = codes "UnknownConfig"
+bind_name bound.ConfigType = codes "ConfigType"
+bind_name bound.TwiceSet = codes "TwiceSet"
+bind_name bound.BadConstant = codes "BadConstant"
+bind_name bound.RegionLimit = codes "RegionLimit"
+bind_name bound.DirectionLimit = codes "DirectionLimit"
+
+-- such a fault, by its name
+abbrev pub settings_text : List ℕ → List ℕ
+settings_text name = codes "settings refused: " ++ (name ++ codes "\n")
 
 abbrev pub trap_name : TrapKind → List ℕ
 trap_name DivideByZero = codes "division by zero"

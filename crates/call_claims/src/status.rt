@@ -10,6 +10,8 @@ pub const UNREADABLE: u8 = 2;
 pub const TOO_LONG: u8 = 3;
 /// A text has a fault, or no code so far.
 pub const REFUSED: u8 = 4;
+/// A text's declarations have a fault.
+pub const UNBOUND: u8 = 5;
 /// A run is over with a trap.
 pub const TRAPPED: u8 = 7;
 /// All turns were given, and the run isn't over.

@@ -15,7 +15,8 @@ use Rattle.zpl_parse.specs.declared.faults.ParseFault.{ParseFault}
 use Rattle.zpl_parse.specs.declared.faults.ParseFault.TheVariants as parse
 use Rattle.node_form.specs.declared.tables.Tables.{Tables}
 use Rattle.zpl_meaning.specs.Program.{mean_of, steps_of}
-use Rattle.zpl_claims.specs.Bound.{shattered_loops, EndsInBound}
+use Rattle.zpl_names.specs.Expansion.{shattered_loops}
+use Rattle.zpl_claims.specs.Bound.{EndsInBound}
 use Rattle.zpl_claims.specs.Good.{IsGood, OverAllLinks}
 use Rattle.zpl_claims.specs.LockStep.{HasLockSteps}
 use Rattle.zpl_claims.specs.Small.{IsSmall}
@@ -24,10 +25,23 @@ use Rattle.small_code.specs.Claims.{HoldsItsWords}
 use Rattle.small_code.specs.Fault.{Refutes}
 use Rattle.small_code.specs.declared.fault.CodeFault.{CodeFault}
 use Rattle.small_code.specs.declared.fault.CodeFault.TheVariants as code
-use Rattle.call_claims.specs.Refusal.IsFault.{lexical, syntax, too_deep, not_built}
+use Rattle.zpl_names.specs.Accepted.{FaultKind, HasFault as HasJudgeFault, IsFaultless}
+use Rattle.zpl_names.specs.Accepted as kind
+use Rattle.zpl_binding.specs.Outcome.{BindFault}
+use Rattle.zpl_binding.specs.Outcome as bound
+use Rattle.zpl_binding.specs.Bound.{HasBindFault, IsAcceptedWith}
+use Rattle.rank_types.specs.declared.faults.Fault.{Fault}
+use Rattle.rank_types.specs.declared.faults.Fault.TheVariants as judge
+use Rattle.rank_types.specs.Faults.{Holds}
+use Rattle.zpl_bind.specs.declared.faults.BindFault.{BindFault as TheBindFault}
+use Rattle.zpl_bind.specs.declared.faults.BindFault.TheVariants as bind
+use Rattle.zpl_bound.specs.Faults.{Holds as HoldsBound}
+use Rattle.call_claims.specs.Refusal.{HasUnbound, IsFault, IsRefusal, IsUnbound, placed_text}
+use Rattle.call_claims.specs.Refusal.IsFault.{lexical, syntax, too_deep, judged, not_built}
+use Rattle.call_claims.specs.Texts.{bind_name, judged_name, settings_text}
 use Rattle.call_claims.specs.Source.{IsSmallText, HasNoProgram, IsCodeOf, one_processor}
 use Rattle.call_claims.specs.declared.limits.TheConstants.{MOST_TOKENS}
-use Rattle.top_call.specs.Refusals.{of_lex, of_parse, of_code, Refuses, IsOnlyTree}
+use Rattle.top_call.specs.Refusals.{of_lex, of_parse, of_judge, of_bind, told_of, Refuses, IsOnlyTree}
 use Rattle.top_call.specs.declared.refusals.Refusal.{Refusal}
 use Rattle.top_call.specs.declared.refusals.Refusal.TheVariants.{NotBuilt}
 use Rattle.top_call.proofs.SmallLemmas.{spelled_once}
@@ -102,6 +116,8 @@ lexical_refused text old new lex.NoMemory not_both empty appends = tt
 lexical_refused text old new fault not_both empty appends = record {
   none = λ program small. not_both text small.tokens appends.tokens fault small.of_text
       appends.holds;
+  not_unbound = λ has. not_both text has.1.tokens appends.tokens fault has.1.of_text
+      appends.holds;
   fault = lexical appends.tokens fault appends.holds;
 }
 
@@ -112,54 +128,134 @@ small_tree text tokens program one_way of_text small =
     subst (λ ts. IsShallowTree text ts program)
     (one_way text small.tokens tokens small.of_text of_text) small.tree
 
--- a text has no small program where no reading of a tree may come to this fault
+-- so is that of a program with a fault of its declarations
+unbound_tree : (text : List ℕ) (tokens : List Token) → OneWay → IsTokens text tokens
+    → (has : HasUnbound text) → IsShallowTree text tokens has.1.program
+unbound_tree text tokens one_way of_text has =
+    subst (λ ts. IsShallowTree text ts has.1.program)
+    (one_way text has.1.tokens tokens has.1.of_text of_text) has.1.tree
+
+-- a text has no tree where no reading of one may come to this fault
 none_read : {A : Type 0} (text : List ℕ) (tokens : List Token) (r : Result A ParseFault)
-    (fault : ParseFault) (same : Program → A → Type 0) → OneWay → IsTokens text tokens
+    (fault : ParseFault) (same : Program → A → Type 0)
     → ((tree : Program) → IsShallowTree text tokens tree → Reads r (same tree)) → r ≡ Err fault
-    → (WantsMemory fault → ⊥) → HasNoProgram text
-none_read text tokens r fault same one_way of_text exact is not_memory program small =
-    not_memory (subst (λ x. Reads x (same program)) is
-    (exact program (small_tree text tokens program one_way of_text small)))
+    → (WantsMemory fault → ⊥) → (tree : Program) → ¬ IsShallowTree text tokens tree
+none_read text tokens r fault same exact is not_memory tree shallow =
+    not_memory (subst (λ x. Reads x (same tree)) is (exact tree shallow))
+
+-- a text without a tree has no small program, and none with a fault of its declarations
+no_tree_refused : (text told : List ℕ) (tokens : List Token) → OneWay → IsTokens text tokens
+    → ((tree : Program) → ¬ IsShallowTree text tokens tree) → IsFault text told
+    → IsRefusal text told
+no_tree_refused text told tokens one_way of_text none fault = record {
+  none = λ program small. none program (small_tree text tokens program one_way of_text small);
+  not_unbound = λ has. none has.1.program (unbound_tree text tokens one_way of_text has);
+  fault = fault;
+}
 
 pub parse_refused : {A : Type 0} (text : List ℕ) (tokens : List Token) (r : Result A ParseFault)
     (fault : ParseFault) (same : Program → A → Type 0) → OneWay → IsTokens text tokens
     → ((tree : Program) → IsShallowTree text tokens tree → Reads r (same tree)) → r ≡ Err fault
     → ((at : ℕ) → r ≡ Err (parse.Syntax at) → IsSyntaxFault text tokens at)
     → (r ≡ Err parse.TooDeep → IsTooDeep text tokens) → Refuses text (of_parse fault)
-parse_refused text tokens r (parse.Syntax at) same one_way of_text exact is wrong deep = record {
-  none = none_read text tokens r (parse.Syntax at) same one_way of_text exact is (λ no. no);
-  fault = syntax tokens at of_text (wrong at is);
-}
-parse_refused text tokens r parse.TooDeep same one_way of_text exact is wrong deep = record {
-  none = none_read text tokens r parse.TooDeep same one_way of_text exact is (λ no. no);
-  fault = too_deep tokens of_text (deep is);
-}
+parse_refused text tokens r (parse.Syntax at) same one_way of_text exact is wrong deep =
+    no_tree_refused text _ tokens one_way of_text
+    (none_read text tokens r (parse.Syntax at) same exact is (λ no. no))
+    (syntax tokens at of_text (wrong at is))
+parse_refused text tokens r parse.TooDeep same one_way of_text exact is wrong deep =
+    no_tree_refused text _ tokens one_way of_text
+    (none_read text tokens r parse.TooDeep same exact is (λ no. no))
+    (too_deep tokens of_text (deep is))
 parse_refused text tokens r parse.NoMemory same one_way of_text exact is wrong deep = tt
 
-none_built : (text : List ℕ) (tokens : List Token) (program : Program) → IsTokens text tokens
-    → IsShallowTree text tokens program → HasNoProgram text → Refuses text NotBuilt
-none_built text tokens program of_text tree none = record
-    { none = none; fault = not_built tokens program of_text tree none }
+-- ---- texts without small programs
+-- a text with too many tokens has none
+pub many_have_none : (text : List ℕ) (tokens : List Token) → OneWay → IsTokens text tokens
+    → MOST_TOKENS < length tokens → HasNoProgram text
+many_have_none text tokens one_way of_text many program small =
+    let same : small.tokens ≡ tokens = one_way text small.tokens tokens small.of_text of_text in
+    omega (arith, small.few, many, ap length same)
 
--- a text with too many tokens has no small program
-pub many_refused : (text : List ℕ) (tokens : List Token) (program : Program) → OneWay
-    → IsTokens text tokens → IsShallowTree text tokens program → MOST_TOKENS < length tokens
-    → Refuses text NotBuilt
-many_refused text tokens program one_way of_text tree many =
-    none_built text tokens program of_text tree
-    (λ q small. let same : small.tokens ≡ tokens = one_way text small.tokens tokens small.of_text
-    of_text in omega (arith, small.few, many, ap length same))
-
--- nor has one with another tree
-pub code_refused : {A : Type 0} (text : List ℕ) (tokens : List Token) (program : Program)
-    (r : Result A CodeFault) (fault : CodeFault) → OneWay → IsTokens text tokens
-    → IsShallowTree text tokens program
+-- nor has one whose tree is none
+pub others_have_none : {A : Type 0} (text : List ℕ) (tokens : List Token) (program : Program)
+    (r : Result A CodeFault) → OneWay → IsTokens text tokens
     → IsOnlyTree text tokens program → IfErr r (λ fault. Refutes fault (IsSmall program))
-    → r ≡ Err fault → Refuses text (of_code fault)
-code_refused text tokens program r code.NotBuilt one_way of_text tree only refutes is =
+    → r ≡ Err code.NotBuilt → HasNoProgram text
+others_have_none text tokens program r one_way of_text only refutes is other small =
     let not_small : IsSmall program → ⊥ = subst
     (λ x. IfErr x (λ fault. Refutes fault (IsSmall program))) is refutes in
-    none_built text tokens program of_text tree
-    (λ q small. not_small (subst IsSmall (sym (only q
-    (small_tree text tokens q one_way of_text small))) small.small))
-code_refused text tokens program r code.NoMemory one_way of_text tree only refutes is = tt
+    not_small (subst IsSmall (sym (only other
+    (small_tree text tokens other one_way of_text small))) small.small)
+
+module _ (text : List ℕ) (tokens : List Token) (program : Program) (one_way : OneWay)
+    (none : HasNoProgram text) (of_text : IsTokens text tokens)
+    (tree : IsShallowTree text tokens program) (only : IsOnlyTree text tokens program) where
+  -- what has a fault of its declarations is this program
+  unbound_same : (has : HasUnbound text) → program ≡ has.1.program
+  unbound_same has = only has.1.program (unbound_tree text tokens one_way of_text has)
+
+  -- it is refused for a fault of names, ranks or types
+  judged_as : (kind : FaultKind) (at : ℕ) → HasJudgeFault program kind at
+      → IsRefusal text (placed_text text (judged_name kind) at)
+  judged_as kind at holds = record {
+    none = none;
+    not_unbound = λ has. has.1.faultless kind at
+        (subst (λ p. HasJudgeFault p kind at) (unbound_same has) holds);
+    fault = judged tokens program kind at of_text tree holds;
+  }
+
+  pub judge_refused : (fault : Fault) → Holds program fault → Refuses text (of_judge fault)
+  judge_refused (judge.UnknownName at) holds = judged_as kind.UnknownName at holds
+  judge_refused (judge.TwiceNamed at) holds = judged_as kind.TwiceNamed at holds
+  judge_refused (judge.UnknownType at) holds = judged_as kind.UnknownType at holds
+  judge_refused (judge.TypeClash at) holds = judged_as kind.TypeClash at holds
+  judge_refused (judge.RankClash at) holds = judged_as kind.RankClash at holds
+  judge_refused (judge.NoRegion at) holds = judged_as kind.NoRegion at holds
+  judge_refused (judge.FloodClash at) holds = judged_as kind.FloodClash at holds
+  judge_refused (judge.ShatterBody at) holds = judged_as kind.ShatterBody at holds
+  judge_refused (judge.NotAssignable at) holds = judged_as kind.NotAssignable at holds
+  judge_refused (judge.Arguments at) holds = judged_as kind.Arguments at holds
+  judge_refused (judge.Recursion at) holds = judged_as kind.Recursion at holds
+  judge_refused (judge.ReturnPlace at) holds = judged_as kind.ReturnPlace at holds
+  judge_refused (judge.CallPlace at) holds = judged_as kind.CallPlace at holds
+  judge_refused (judge.MaskPlace at) holds = judged_as kind.MaskPlace at holds
+  judge_refused (judge.BorderForm at) holds = judged_as kind.BorderForm at holds
+  judge_refused (judge.NoEntry at) holds = judged_as kind.NoEntry at holds
+  judge_refused (judge.RankUnknown at) holds = judged_as kind.RankUnknown at holds
+  judge_refused (judge.DeepCalls at) holds = judged_as kind.DeepCalls at holds
+  judge_refused judge.NoMemory holds = tt
+
+  module _ (faultless : IsFaultless program) where
+    -- or for one of its declarations
+    unbound_as : (fault : BindFault) → HasBindFault program [] fault
+        → IsUnbound text (settings_text (bind_name fault))
+    unbound_as fault holds = record {
+      none = none;
+      tokens = tokens;
+      of_text = of_text;
+      program = program;
+      tree = tree;
+      faultless = faultless;
+      fault = fault;
+      holds = holds;
+      tells = refl;
+    }
+
+    pub bind_refused : (fault : TheBindFault) → HoldsBound program [] fault
+        → Refuses text (of_bind fault)
+    bind_refused bind.UnknownConfig holds = unbound_as bound.UnknownConfig holds
+    bind_refused bind.ConfigType holds = unbound_as bound.ConfigType holds
+    bind_refused bind.TwiceSet holds = unbound_as bound.TwiceSet holds
+    bind_refused bind.BadConstant holds = unbound_as bound.BadConstant holds
+    bind_refused bind.RegionLimit holds = unbound_as bound.RegionLimit holds
+    bind_refused bind.DirectionLimit holds = unbound_as bound.DirectionLimit holds
+    bind_refused bind.NoMemory holds = tt
+
+    -- or since it has no code so far
+    pub not_built_refused : IsAcceptedWith program [] → Refuses text NotBuilt
+    not_built_refused accepted = record {
+      none = none;
+      not_unbound = λ has. accepted has.1.fault
+          (subst (λ p. HasBindFault p [] has.1.fault) (sym (unbound_same has)) has.1.holds);
+      fault = not_built tokens program of_text tree faultless accepted;
+    }

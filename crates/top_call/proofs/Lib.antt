@@ -1,5 +1,6 @@
 pub mod CodeLemmas
 pub mod CommandLemmas
+pub mod ListLemmas
 pub mod NumberLemmas
 pub mod SmallLemmas
 pub mod TopLemmas

@@ -1,13 +1,17 @@
 -- From the work and what was told of it to the answer of the call.
-use Rattle.std.proofs.Common.{◌≡◌, ◌≢◌, ℕ, ◌⊎◌, List, refl, sym, ◌∙◌, ap, subst, inl, inr, arith}
+use Rattle.std.proofs.Common.{◌≡◌, ◌≢◌, ℕ, ◌⊎◌, List, [], refl, sym, ◌∙◌, ap, subst, inl, inr, arith}
+use Rattle.zpl_io.specs.Sink.{Takes}
 use Rattle.call_claims.specs.Answer.{IsHalfAnswered}
 use Rattle.call_claims.specs.Call.{Call}
 use Rattle.call_claims.specs.Cause.{Cause}
 use Rattle.call_claims.specs.Cause.Cause.{no_memory}
 use Rattle.call_claims.specs.Decided.{IsDecided}
-use Rattle.call_claims.specs.Execution.{execution_of}
+use Rattle.call_claims.specs.Command.{AsksListing, IsListCommand, IsRunCommand, RunWords}
+use Rattle.call_claims.specs.Execution.{execution_of, Execution, IsCutOff, IsOutputCut, TakesListing}
+use Rattle.call_claims.specs.Execution.{TakesListingFront, TakesOutput, TakesPrinted}
 use Rattle.call_claims.specs.declared.ran.Ran.{Ran}
-use Rattle.call_claims.specs.declared.status.TheConstants.{PUT_FAILED}
+use Rattle.call_claims.specs.declared.status.TheConstants.{DONE, PUT_FAILED}
+use Rattle.call_claims.proofs.CauseLemmas.{not_both}
 use Rattle.top_call.specs.declared.answers.Answer.{Answer}
 use Rattle.top_call.specs.declared.answers.Answer.TheVariants as answer
 use Rattle.top_call.specs.declared.work.Work.{Work}
@@ -18,6 +22,11 @@ use Rattle.top_call.specs.Work.{execution_in, IsWorkFor}
 pub failed_of : (a : Answer) → status_of a ≡ PUT_FAILED → a ≡ answer.PutFailed
 failed_of answer.PutFailed e = refl
 failed_of a e = absurd (omega arith)
+
+-- and that of work that was done
+pub done_of : (a : Answer) → status_of a ≡ DONE → a ≡ answer.Done
+done_of answer.Done e = refl
+done_of a e = absurd (omega arith)
 
 -- an answer is a failed put, want of memory, or decided
 pub data Kind (a : Answer) : Type 0 where
@@ -83,3 +92,73 @@ module _ (call : Call) (work : Work) (caused : IsWorkFor call work) where
         (has_cause half.tried not_failed half.is);
     front = half.front;
   }
+
+-- ---- what out took
+-- of a run, which asks for no listing
+pub run_asks_none : (words : List (List ℕ)) (file : List ℕ) (rest : RunWords) → IsRunCommand words file rest → ¬ AsksListing words
+run_asks_none words file rest run asks = not_both words file asks.file rest run asks.given
+
+pub run_output : (words : List (List ℕ)) (file : List ℕ) (rest : RunWords) (status : ℕ) (execution : Execution) (before after : List ℕ → Type 0)
+    → IsRunCommand words file rest → TakesPrinted execution before after → TakesOutput words status execution before after
+run_output words file rest status execution before after run takes = record {
+  listed = λ asks done. absurd (run_asks_none words file rest run asks);
+  not_listed = λ asks other. absurd (run_asks_none words file rest run asks);
+  printed = λ none. takes;
+}
+
+pub run_cut : (words : List (List ℕ)) (file : List ℕ) (rest : RunWords) (execution : Execution) (before after : List ℕ → Type 0)
+    → IsRunCommand words file rest → IsCutOff execution before after → IsOutputCut words execution before after
+run_cut words file rest execution before after run cut = record {
+  listed = λ asks. absurd (run_asks_none words file rest run asks);
+  printed = λ none. cut;
+}
+
+-- of a listing
+pub list_output : (words : List (List ℕ)) (file : List ℕ) (a : Answer) (execution : Execution) (before after : List ℕ → Type 0)
+    → IsListCommand words file → a ≢ answer.PutFailed → (a ≡ answer.Done → TakesListing execution before after)
+    → (a ≢ answer.Done → a ≢ answer.PutFailed → Takes before [] after) → TakesOutput words (status_of a) execution before after
+list_output words file a execution before after list put listed not_listed = record {
+  listed = λ asks done. listed (done_of a done);
+  not_listed = λ asks other. not_listed (λ e. other (ap status_of e)) put;
+  printed = λ none. absurd (none (record { file = file; given = list }));
+}
+
+pub list_cut : (words : List (List ℕ)) (file : List ℕ) (execution : Execution) (before after : List ℕ → Type 0)
+    → IsListCommand words file → TakesListingFront execution before after → IsOutputCut words execution before after
+list_cut words file execution before after list front = record {
+  listed = λ asks. front;
+  printed = λ none. absurd (none (record { file = file; given = list }));
+}
+
+-- words that are no command ask for none
+pub usage_output : (words : List (List ℕ)) (status : ℕ) (execution : Execution) (before after : List ℕ → Type 0)
+    → ¬ AsksListing words → TakesPrinted execution before after → TakesOutput words status execution before after
+usage_output words status execution before after none takes = record {
+  listed = λ asks done. absurd (none asks);
+  not_listed = λ asks other. absurd (none asks);
+  printed = λ no. takes;
+}
+
+-- what was told of an answer keeps it: only want of memory may come in the place of one that isn't
+-- that the work was done
+pub output_kept : (words : List (List ℕ)) (a b : Answer) (execution : Execution) (before after : List ℕ → Type 0)
+    → (status_of b ≡ DONE → status_of a ≡ DONE) → (a ≡ answer.Done → b ≡ answer.Done)
+    → TakesOutput words (status_of a) execution before after → TakesOutput words (status_of b) execution before after
+output_kept words a b execution before after back forth takes = record {
+  listed = λ asks done. takes.listed asks (back done);
+  not_listed = λ asks other. takes.not_listed asks (λ e. other (ap status_of (forth (done_of a e))));
+  printed = takes.printed;
+}
+
+pub told_back : (a b : Answer) → (b ≢ answer.PutFailed → (b ≡ a) ⊎ (b ≡ answer.NoMemory)) → status_of b ≡ DONE → status_of a ≡ DONE
+told_back a b same done =
+    let is : b ≡ answer.Done = done_of b done in
+    let told : b ≢ answer.PutFailed = λ e. let no : answer.Done ≡ answer.PutFailed = sym is ∙ e in absurd cc in
+    elim (same told) [
+      | inl e ↦ ap status_of (sym e) ∙ done
+      | inr e ↦ let no : answer.Done ≡ answer.NoMemory = sym is ∙ e in absurd cc
+    ]
+
+pub not_done : (b a : Answer) → b ≡ answer.PutFailed → status_of b ≡ DONE → status_of a ≡ DONE
+not_done b a failed done =
+    let no : answer.PutFailed ≡ answer.Done = sym failed ∙ done_of b done in absurd cc

@@ -12,12 +12,13 @@ use Rattle.node_form.specs.declared.tables.Tables.{Tables}
 use Rattle.zpl_meaning.specs.Program.{mean_of, steps_of}
 use Rattle.grid_meaning.specs.Grid.{Grid, processors, after, IsOver, EndsAs}
 use Rattle.grid_meaning.specs.Order.{IsOrder, given, turn_number}
-use Rattle.zpl_claims.specs.Bound.{shattered_loops, turn_bound}
+use Rattle.zpl_names.specs.Expansion.{shattered_loops}
+use Rattle.zpl_claims.specs.Bound.{turn_bound}
 use Rattle.small_run.specs.Run.{after_turns, TakesIntoNext}
 use Rattle.call_claims.specs.Call.{Call}
 use Rattle.call_claims.specs.Cause.{IsRunOf, IsOverAs, IsTooFew, IsCutShort, IsTooLong}
 use Rattle.call_claims.specs.Cause.{WorkCause, RunCause, Cause}
-use Rattle.call_claims.specs.Cause.WorkCause.{refused, done, trap, turn_limit}
+use Rattle.call_claims.specs.Cause.WorkCause.{refused, unbound, done, trap, turn_limit}
 use Rattle.call_claims.specs.Command.{RunWords}
 use Rattle.call_claims.specs.Decided.{IsDecided}
 use Rattle.call_claims.specs.Execution.{Execution, HasNoRun, IsCutOff}
@@ -29,7 +30,8 @@ use Rattle.top_call.specs.Refusals.{Refuses}
 use Rattle.top_call.specs.Work.{execution_in, IsWorkOn, IsRunOn, IsWorkFor}
 use Rattle.top_call.specs.declared.answers.Answer.{Answer}
 use Rattle.top_call.specs.declared.refusals.Refusal.{Refusal}
-use Rattle.top_call.specs.declared.refusals.Refusal.TheVariants.{Lex, Parse, NotBuilt, NoMemory}
+use Rattle.top_call.specs.declared.refusals.Refusal.TheVariants.{Lex, Parse, Judge, Bind, NotBuilt}
+use Rattle.top_call.specs.declared.refusals.Refusal.TheVariants.{NoMemory}
 use Rattle.top_call.specs.declared.work.Work.{Work}
 
 -- ---- the grid of one processor
@@ -182,6 +184,12 @@ without_program text limit work (Lex fault) refuses is no_code no_turns =
 without_program text limit work (Parse fault) refuses is no_code no_turns =
     subst (HasWorkCause text limit (execution_in work)) (sym is)
     (λ d. refused _ refuses (record { no_code = no_code; no_turns = no_turns }))
+without_program text limit work (Judge fault) refuses is no_code no_turns =
+    subst (HasWorkCause text limit (execution_in work)) (sym is)
+    (λ d. refused _ refuses (record { no_code = no_code; no_turns = no_turns }))
+without_program text limit work (Bind fault) refuses is no_code no_turns =
+    subst (HasWorkCause text limit (execution_in work)) (sym is)
+    (λ d. unbound _ refuses (record { no_code = no_code; no_turns = no_turns }))
 without_program text limit work NotBuilt refuses is no_code no_turns =
     subst (HasWorkCause text limit (execution_in work)) (sym is)
     (λ d. refused _ refuses (record { no_code = no_code; no_turns = no_turns }))
@@ -192,6 +200,7 @@ without_program text limit work NoMemory refuses is no_code no_turns =
 pub not_unread : {text told : List ℕ} {limit status : ℕ} {execution : Execution}
     → WorkCause text limit execution status told → status ≡ UNREADABLE → ⊥
 not_unread (refused told refusal no_run) e = omega arith
+not_unread (unbound told has no_run) e = omega arith
 not_unread (done h) e = omega arith
 not_unread (trap kind line h) e = omega arith
 not_unread (turn_limit h) e = omega arith

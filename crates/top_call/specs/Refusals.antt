@@ -10,12 +10,17 @@ use Rattle.zpl_grammar.specs.Texts.{IsShallowTree}
 use Rattle.zpl_parse.specs.declared.faults.ParseFault.{ParseFault}
 use Rattle.zpl_parse.specs.declared.faults.ParseFault.TheVariants as parse
 use Rattle.zpl_parse.specs.Faults.{parse_name, parse_offset}
-use Rattle.small_code.specs.declared.fault.CodeFault.{CodeFault}
-use Rattle.small_code.specs.declared.fault.CodeFault.TheVariants as code
-use Rattle.call_claims.specs.Refusal.{IsRefusal}
-use Rattle.call_claims.specs.Texts.{fault_text, too_deep_text}
+use Rattle.rank_types.specs.declared.faults.Fault.{Fault}
+use Rattle.rank_types.specs.declared.faults.Fault.TheVariants as judge
+use Rattle.rank_types.specs.Faults.{judge_name, judge_offset}
+use Rattle.zpl_bind.specs.declared.faults.BindFault.{BindFault}
+use Rattle.zpl_bind.specs.declared.faults.BindFault.TheVariants as bind
+use Rattle.zpl_bind.specs.Fault.{fault_name}
+use Rattle.call_claims.specs.Refusal.{IsRefusal, IsUnbound}
+use Rattle.call_claims.specs.Texts.{fault_text, settings_text, too_deep_text}
 use Rattle.top_call.specs.declared.refusals.Refusal.{Refusal}
-use Rattle.top_call.specs.declared.refusals.Refusal.TheVariants.{Lex, Parse, NotBuilt, NoMemory}
+use Rattle.top_call.specs.declared.refusals.Refusal.TheVariants.{Lex, Parse, Judge, Bind, NotBuilt}
+use Rattle.top_call.specs.declared.refusals.Refusal.TheVariants.{NoMemory}
 
 -- ---- from a layer's faults
 abbrev pub of_lex : LexFault → Refusal
@@ -26,15 +31,21 @@ abbrev pub of_parse : ParseFault → Refusal
 of_parse parse.NoMemory = NoMemory
 of_parse fault = Parse fault
 
-abbrev pub of_code : CodeFault → Refusal
-of_code code.NotBuilt = NotBuilt
-of_code code.NoMemory = NoMemory
+abbrev pub of_judge : Fault → Refusal
+of_judge judge.NoMemory = NoMemory
+of_judge fault = Judge fault
+
+abbrev pub of_bind : BindFault → Refusal
+of_bind bind.NoMemory = NoMemory
+of_bind fault = Bind fault
 
 -- ---- what is told
 -- the offset of the place, and 0 where there is none
 abbrev pub offset_of : Refusal → ℕ
 offset_of (Lex fault) = lexical_offset fault
 offset_of (Parse fault) = parse_offset fault
+offset_of (Judge fault) = judge_offset fault
+offset_of (Bind fault) = 0
 offset_of NotBuilt = 0
 offset_of NoMemory = 0
 
@@ -44,6 +55,8 @@ refusal_text (Lex fault) line = fault_text (lexical_name fault) line (lexical_of
 refusal_text (Parse (parse.Syntax at)) line = fault_text (parse_name (parse.Syntax at)) line at
 refusal_text (Parse parse.TooDeep) line = too_deep_text
 refusal_text (Parse parse.NoMemory) line = []
+refusal_text (Judge fault) line = fault_text (judge_name fault) line (judge_offset fault)
+refusal_text (Bind fault) line = settings_text (fault_name fault)
 refusal_text NotBuilt line = fault_text (codes "NotBuilt") line 0
 refusal_text NoMemory line = []
 
@@ -51,10 +64,12 @@ abbrev pub told_of : List ℕ → Refusal → List ℕ
 told_of text refusal = refusal_text refusal (line_at text (offset_of refusal))
 
 -- ---- what it says
--- The text is refused for what is told of it; or memory was wanting.
+-- The text is refused for what is told of it, or its declarations are; or memory was wanting.
 abbrev pub Refuses : List ℕ → Refusal → Type 0
 Refuses text (Lex fault) = IsRefusal text (told_of text (Lex fault))
 Refuses text (Parse fault) = IsRefusal text (told_of text (Parse fault))
+Refuses text (Judge fault) = IsRefusal text (told_of text (Judge fault))
+Refuses text (Bind fault) = IsUnbound text (told_of text (Bind fault))
 Refuses text NotBuilt = IsRefusal text (told_of text NotBuilt)
 Refuses text NoMemory = ⊤
 

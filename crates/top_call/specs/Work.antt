@@ -1,13 +1,15 @@
 -- What the work of a command comes to.
-use Rattle.std.specs.Prelude.{◌≡◌, ℕ, List, [], Option, Some, None}
+use Rattle.std.specs.Prelude.{◌≡◌, ◌⊎◌, ℕ, List, [], Option, Some, None}
 use Rattle.node_form.specs.declared.tables.Tables.{Tables}
 use Rattle.call_claims.specs.Call.{Call}
-use Rattle.call_claims.specs.Cause.{WorkCause, RunCause, Cause}
+use Rattle.call_claims.specs.Cause.{WorkCause, ListCause, RunCause, ListFileCause, Cause}
 use Rattle.call_claims.specs.Command.{RunWords}
 use Rattle.call_claims.specs.Decided.{IsDecided}
 use Rattle.call_claims.specs.Execution.{Execution}
 use Rattle.call_claims.specs.Run.{GoesOnTo}
 use Rattle.top_call.specs.Answers.{status_of, text_of}
+use Rattle.top_call.specs.declared.answers.Answer.{Answer}
+use Rattle.top_call.specs.declared.answers.Answer.TheVariants as answer
 use Rattle.top_call.specs.declared.work.Work.{Work}
 
 abbrev pub execution_in : Work → Execution
@@ -19,10 +21,20 @@ abbrev pub IsWorkOn : List ℕ → ℕ → Work → Type 0
 IsWorkOn text limit work = IsDecided (status_of work.answer) →
     WorkCause text limit (execution_in work) (status_of work.answer) (text_of work.answer)
 
+-- in a listing of the code of a text
+abbrev pub IsListOf : List ℕ → Work → Type 0
+IsListOf text work = IsDecided (status_of work.answer) →
+    ListCause text (execution_in work) (status_of work.answer) (text_of work.answer)
+
 -- in a `run` of a file
 abbrev pub IsRunOn : Call → List ℕ → RunWords → Work → Type 0
 IsRunOn call file rest work = IsDecided (status_of work.answer) →
     RunCause call file rest (execution_in work) (status_of work.answer) (text_of work.answer)
+
+-- in a `list` of a file
+abbrev pub IsListOn : Call → List ℕ → Work → Type 0
+IsListOn call file work = IsDecided (status_of work.answer) →
+    ListFileCause call file (execution_in work) (status_of work.answer) (text_of work.answer)
 
 -- in a call
 abbrev pub IsWorkFor : Call → Work → Type 0
@@ -33,3 +45,7 @@ IsWorkFor call work = IsDecided (status_of work.answer) →
 abbrev pub WentOn : Option Tables → ℕ → Type 0
 WentOn None turns = turns ≡ 0
 WentOn (Some code) turns = GoesOnTo code [] turns
+
+-- what comes of the put of a listing
+abbrev pub IsOfListing : Answer → Type 0
+IsOfListing a = (a ≡ answer.Done) ⊎ ((a ≡ answer.PutFailed) ⊎ (a ≡ answer.NoMemory))

@@ -2,7 +2,7 @@
 ghost use Rattle.std.specs.Prelude.{◌≡◌, ◌≢◌, ◌≤◌, ◌⊎◌, ◌++◌, codes, length, IfOk, IsOk};
 ghost use Rattle.zpl_io.specs.Faults.{CountsFaults};
 ghost use Rattle.zpl_io.specs.Sink.{Takes};
-ghost use Rattle.call_claims.specs.Texts.{fault_text, trap_name, trap_text};
+ghost use Rattle.call_claims.specs.Texts.{fault_text, settings_text, trap_name, trap_text};
 ghost use Rattle.top_call.specs.Answers.{answer_of, bytes_of, status_of, text_of, IsHalfTold};
 ghost use Rattle.top_call.specs.Refusals.{refusal_text};
 ghost use Rattle.zpl_text.specs.declared.TheConstants.{MOST_SOURCE};
@@ -10,6 +10,7 @@ ghost use Rattle.zpl_text.specs.declared.TheConstants.{MOST_SOURCE};
 use crate::refusals::Refusal;
 use call_claims::status;
 use std::alloc::{AllocError, Global};
+use zpl_bind::BindFault;
 use zpl_io::{PutFailed, Sink, put_piece, write_number};
 use zpl_nums::TrapKind;
 use zpl_parse::ParseFault;
@@ -18,7 +19,7 @@ use zpl_text::line_at;
 /// What came of a call.
 #[derive(Clone, Copy)]
 pub enum Answer<'a> {
-    /// The run is over, and ended normally.
+    /// The run is over, and ended normally; or a listing was put.
     Done,
     /// The words are no command.
     Usage,
@@ -28,6 +29,8 @@ pub enum Answer<'a> {
     TooLong(&'a str),
     /// The text is refused; the line is that of the place.
     Refused(Refusal, u32),
+    /// The text's declarations have a fault.
+    Unbound(BindFault),
     /// The run is over, with a trap at a line.
     Trap(TrapKind, u32),
     /// All turns were given, and the run isn't over.
@@ -46,6 +49,7 @@ impl<'a> Answer<'a> {
     {
         match refusal {
             Refusal::NoMemory => Answer::NoMemory,
+            Refusal::Bind(fault) => Answer::Unbound(fault),
             refusal => Answer::Refused(refusal, line_at(text, refusal.at())),
         }
     }
@@ -60,6 +64,7 @@ impl<'a> Answer<'a> {
             Answer::Unreadable(_) => status::UNREADABLE,
             Answer::TooLong(_) => status::TOO_LONG,
             Answer::Refused(..) => status::REFUSED,
+            Answer::Unbound(_) => status::UNBOUND,
             Answer::Trap(..) => status::TRAPPED,
             Answer::TurnLimit => status::TURN_LIMIT,
             Answer::PutFailed => status::PUT_FAILED,
@@ -95,6 +100,7 @@ pub fn told<'a, E: Sink>(alloc: Global, answer: Answer<'a>, errs: &mut E) -> Ans
         (result ≡ answer.entry) ⊎ (result ≡ Answer.NoMemory) }
     ensures kept { answer.entry ≡ Answer.PutFailed →
         (result ≡ Answer.PutFailed) × (errs.new ≡ errs.old) }
+    ensures done { answer.entry ≡ Answer.Done → result ≡ Answer.Done }
     ensures half { answer.entry ≢ Answer.PutFailed → result ≡ Answer.PutFailed →
         IsHalfTold answer.entry (E.tells errs.old) (E.tells errs.new) }
     ensures counts { CountsFaults ((answer.entry ≢ Answer.PutFailed) × (result ≡ Answer.PutFailed))
@@ -114,6 +120,7 @@ fn put_answer<'a, E: Sink>(answer: Answer<'a>, piece: &[u8], errs: &mut E) -> An
     ensures same { result ≢ Answer.PutFailed → result ≡ answer.entry }
     ensures kept { answer.entry ≡ Answer.PutFailed →
         (result ≡ Answer.PutFailed) × (errs.new ≡ errs.old) }
+    ensures done { answer.entry ≡ Answer.Done → result ≡ Answer.Done }
     ensures half { answer.entry ≢ Answer.PutFailed → result ≡ Answer.PutFailed →
         IsHalfTold answer.entry (E.tells errs.old) (E.tells errs.new) }
     ensures counts { CountsFaults ((answer.entry ≢ Answer.PutFailed) × (result ≡ Answer.PutFailed))
@@ -130,6 +137,7 @@ fn put_answer<'a, E: Sink>(answer: Answer<'a>, piece: &[u8], errs: &mut E) -> An
 fn piece_of(alloc: Global, answer: Answer<'_>) -> Result<Piece, AllocError>
     ensures told { IfOk result (λ piece. bytes_of piece ≡ text_of answer.entry) }
     ensures nothing { answer.entry ≡ Answer.PutFailed → IsOk result }
+    ensures done { answer.entry ≡ Answer.Done → IsOk result }
 {
     let piece = match answer {
         Answer::Done | Answer::PutFailed => Piece::Fixed(b""),
@@ -137,6 +145,7 @@ fn piece_of(alloc: Global, answer: Answer<'_>) -> Result<Piece, AllocError>
         Answer::Unreadable(file) => Piece::Made(named(alloc, b"cannot read ", file)?),
         Answer::TooLong(file) => Piece::Made(named(alloc, b"too long: ", file)?),
         Answer::Refused(refusal, line) => refusal_piece(alloc, refusal, line)?,
+        Answer::Unbound(fault) => Piece::Made(settings_line(alloc, fault.name())?),
         Answer::Trap(kind, line) => Piece::Made(trap_line(alloc, kind, line)?),
         Answer::TurnLimit => Piece::Fixed(b"turn limit\n"),
         Answer::NoMemory => Piece::Fixed(b"no memory\n"),
@@ -153,6 +162,8 @@ fn refusal_piece(alloc: Global, refusal: Refusal, line: u32) -> Result<Piece, Al
         Refusal::Parse(ParseFault::TooDeep) => Piece::Fixed(b"refused: TooDeep\n"),
         Refusal::Parse(ParseFault::NoMemory) | Refusal::NoMemory => Piece::Fixed(b""),
         Refusal::Parse(fault) => Piece::Made(fault_line(alloc, fault.name(), line, fault.at())?),
+        Refusal::Judge(fault) => Piece::Made(fault_line(alloc, fault.name(), line, fault.at())?),
+        Refusal::Bind(fault) => Piece::Made(settings_line(alloc, fault.name())?),
         Refusal::NotBuilt => Piece::Made(fault_line(alloc, "NotBuilt", line, 0)?),
     };
     Ok(piece)
@@ -178,6 +189,16 @@ fn fault_line(alloc: Global, name: &str, line: u32, byte: u32) -> Result<Vec<u8>
     write_number(alloc, i64::from(line), &mut text)?;
     text.extend_from_slice(b", byte ")?;
     write_number(alloc, i64::from(byte), &mut text)?;
+    text.extend_from_slice(b"\n")?;
+    Ok(text)
+}
+
+/// A line with a fault of declarations.
+fn settings_line(alloc: Global, name: &str) -> Result<Vec<u8>, AllocError>
+    ensures { IfOk result (λ text. text.items ≡ settings_text name.now) }
+{
+    let mut text = Vec::from_slice(alloc, b"settings refused: ")?;
+    text.extend_from_slice(name.as_bytes())?;
     text.extend_from_slice(b"\n")?;
     Ok(text)
 }

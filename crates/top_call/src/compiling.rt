@@ -5,15 +5,18 @@ ghost use Rattle.zpl_text.specs.declared.TheConstants.{MOST_SOURCE};
 ghost use Rattle.zpl_tree.specs.View.{syntax_of};
 ghost use Rattle.zpl_grammar.specs.Texts.{IsShallowTree};
 ghost use Rattle.grid_meaning.specs.Scalar.{IsScalarCode};
-ghost use Rattle.call_claims.specs.Source.{IsCodeOf};
+ghost use Rattle.call_claims.specs.Source.{HasNoProgram, IsCodeOf};
 ghost use Rattle.top_call.specs.Refusals.{Refuses, IsOnlyTree};
 
 use crate::refusals::Refusal;
 use bumpalo::Bump;
 use call_claims::MOST_TOKENS;
 use node_form::NodeProgram;
-use small_code::code_of_small;
+use rank_types::{Typed, judge};
+use small_code::{CodeFault, code_of_small};
 use std::alloc::Global;
+use zpl_bind::Settings;
+use zpl_bound::bind;
 use zpl_grammar::words_fit_their_text;
 use zpl_parse::parse;
 use zpl_text::{Token, lex, text_is_cut_one_way};
@@ -63,11 +66,11 @@ fn tree_of<'a>(
 }
 
 /// The code of a text with these tokens and this tree.
-fn code_of_tree(
+fn code_of_tree<'a>(
     alloc: Global,
     text: &[u8],
     tokens: &[Token],
-    program: &Program<'_>,
+    program: &'a Program<'a>,
 ) -> Result<NodeProgram, Refusal>
     requires tokens { IsTokens text.now tokens.now }
     requires tree { IsShallowTree text.now tokens.now (syntax_of program.now) }
@@ -79,8 +82,47 @@ fn code_of_tree(
     text_is_cut_one_way();
     words_fit_their_text();
     if tokens.len() > MOST_TOKENS {
-        return Err(Refusal::NotBuilt);
+        return Err(without_code(alloc, text, tokens, program));
     }
-    let code = code_of_small(alloc, program)?;
-    Ok(code)
+    match code_of_small(alloc, program) {
+        Ok(code) => Ok(code),
+        Err(CodeFault::NotBuilt) => Err(without_code(alloc, text, tokens, program)),
+        Err(CodeFault::NoMemory) => Err(Refusal::NoMemory),
+    }
+}
+
+/// Why a text without a small program is refused: for a fault of names, ranks or types; for one of
+/// its declarations, of which no config is set; or since it has no code so far.
+fn without_code<'a>(
+    alloc: Global,
+    text: &[u8],
+    tokens: &[Token],
+    program: &'a Program<'a>,
+) -> Refusal
+    requires none { HasNoProgram text.now }
+    requires tokens { IsTokens text.now tokens.now }
+    requires tree { IsShallowTree text.now tokens.now (syntax_of program.now) }
+    requires only { IsOnlyTree text.now tokens.now (syntax_of program.now) }
+    ensures { Refuses text.now result }
+{
+    text_is_cut_one_way();
+    match judge(alloc, program) {
+        Ok(typed) => of_declarations(alloc, text, tokens, &typed),
+        Err(fault) => Refusal::from(fault),
+    }
+}
+
+/// Why a text without a small program, and without faults of names, ranks and types, is refused.
+fn of_declarations(alloc: Global, text: &[u8], tokens: &[Token], typed: &Typed<'_>) -> Refusal
+    requires none { HasNoProgram text.now }
+    requires tokens { IsTokens text.now tokens.now }
+    requires tree { IsShallowTree text.now tokens.now (syntax_of typed.now.program.now) }
+    requires only { IsOnlyTree text.now tokens.now (syntax_of typed.now.program.now) }
+    ensures { Refuses text.now result }
+{
+    text_is_cut_one_way();
+    match bind(alloc, typed, &Settings::new(alloc)) {
+        Ok(_) => Refusal::NotBuilt,
+        Err(fault) => Refusal::from(fault),
+    }
 }

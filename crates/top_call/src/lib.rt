@@ -6,6 +6,7 @@ mod answers;
 mod call;
 mod commands;
 mod compiling;
+mod lists;
 mod numbers;
 mod refusals;
 mod runs;

@@ -1,8 +1,9 @@
 //! Why a text gets no code.
 ghost use Rattle.std.specs.Prelude.{◌≡◌};
-ghost use Rattle.top_call.specs.Refusals.{of_code, of_lex, of_parse, offset_of};
+ghost use Rattle.top_call.specs.Refusals.{of_bind, of_judge, of_lex, of_parse, offset_of};
 
-use small_code::CodeFault;
+use rank_types::Fault;
+use zpl_bind::BindFault;
 use zpl_parse::ParseFault;
 use zpl_text::LexFault;
 
@@ -13,6 +14,10 @@ pub enum Refusal {
     Lex(LexFault),
     /// Its tokens have no tree, or none that isn't too deep.
     Parse(ParseFault),
+    /// Its tree has a fault of names, ranks or types.
+    Judge(Fault),
+    /// Its declarations have a fault.
+    Bind(BindFault),
     /// It has no small program.
     NotBuilt,
     /// Memory was wanting.
@@ -27,7 +32,8 @@ impl Refusal {
         match self {
             Refusal::Lex(fault) => fault.at(),
             Refusal::Parse(fault) => fault.at(),
-            Refusal::NotBuilt | Refusal::NoMemory => 0,
+            Refusal::Judge(fault) => fault.at(),
+            Refusal::Bind(_) | Refusal::NotBuilt | Refusal::NoMemory => 0,
         }
     }
 }
@@ -54,13 +60,24 @@ impl From<ParseFault> for Refusal {
     }
 }
 
-impl From<CodeFault> for Refusal {
-    ghost from_gives = { λ fault refusal. refusal ≡ of_code fault };
+impl From<Fault> for Refusal {
+    ghost from_gives = { λ fault refusal. refusal ≡ of_judge fault };
 
-    fn from(fault: CodeFault) -> Refusal {
+    fn from(fault: Fault) -> Refusal {
         match fault {
-            CodeFault::NotBuilt => Refusal::NotBuilt,
-            CodeFault::NoMemory => Refusal::NoMemory,
+            Fault::NoMemory => Refusal::NoMemory,
+            fault => Refusal::Judge(fault),
+        }
+    }
+}
+
+impl From<BindFault> for Refusal {
+    ghost from_gives = { λ fault refusal. refusal ≡ of_bind fault };
+
+    fn from(fault: BindFault) -> Refusal {
+        match fault {
+            BindFault::NoMemory => Refusal::NoMemory,
+            fault => Refusal::Bind(fault),
         }
     }
 }

@@ -15,12 +15,18 @@ const TEXTS: [(&str, &str); 11] = [
     ("program\n$", "refused: BadByte, line 2, byte 8\n"),
     ("program -- \n\n ;", "refused: Syntax, line 3, byte 14\n"),
     ("program t\n", "refused: Syntax, line 2, byte 10\n"),
-    ("program t; procedure t(); begin x := 1; end;", NOT_BUILT),
+    (
+        "program t; procedure t(); begin x := 1; end;",
+        "refused: UnknownName, line 1, byte 32\n",
+    ),
     (
         "program t; var t : integer; procedure t(); begin end;",
-        NOT_BUILT,
+        "refused: TwiceNamed, line 1, byte 38\n",
     ),
-    ("program t; procedure u(); begin end;", NOT_BUILT),
+    (
+        "program t; procedure u(); begin end;",
+        "refused: NoEntry, line 1, byte 8\n",
+    ),
     (
         "program t; config var n : integer = 1; procedure t(); begin end;",
         NOT_BUILT,
@@ -34,6 +40,22 @@ const TEXTS: [(&str, &str); 11] = [
         "program t;\nregion R = [1..4]; var A, B : [R] integer;\n\
          procedure t(); begin [R] B := A#[5 - Index1]; end;",
         NOT_BUILT,
+    ),
+];
+
+/// Texts whose declarations have a fault, and what is told of them.
+const DECLARATIONS: [(&str, &str); 3] = [
+    (
+        "program t; constant c : integer = 1 / 0; procedure t(); begin end;",
+        "settings refused: BadConstant\n",
+    ),
+    (
+        "program t; region R = [1..4194305]; procedure t(); begin end;",
+        "settings refused: RegionLimit\n",
+    ),
+    (
+        "program t; direction d = [32768]; procedure t(); begin end;",
+        "settings refused: DirectionLimit\n",
     ),
 ];
 
@@ -76,6 +98,10 @@ fn expect_statements(
 fn texts_and_statements(rt: HostRuntime) -> Result<(), Fail> {
     for (text, errs) in TEXTS {
         expect_fault(&rt, rt.alloc(), text.as_bytes(), errs)?;
+    }
+    for (text, errs) in DECLARATIONS {
+        let words = ["run", "a.zpl"];
+        expect_no_run(&rt, rt.alloc(), &words, text.as_bytes(), 5, errs.as_bytes())?;
     }
     for (statements, errs) in STATEMENTS {
         expect_statements(&rt, rt.alloc(), statements.as_bytes(), errs)?;

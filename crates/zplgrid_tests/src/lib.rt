@@ -9,4 +9,6 @@ mod faults;
 #[cfg(test)]
 mod forms;
 #[cfg(test)]
+mod lists;
+#[cfg(test)]
 mod rows;

@@ -1,38 +1,70 @@
-use Rattle.std.proofs.Common.{map, string_bytes}
+use Rattle.std.proofs.Common.{◌⊎◌, map, string_bytes, inl, inr, subst}
 use Rattle.call_claims.specs.Call.{call_of}
-use Rattle.call_claims.specs.Cause.{Runs}
-use Rattle.call_claims.specs.Cause.Cause.{usage, run}
-use Rattle.call_claims.specs.Execution.{IsMadeFor}
+use Rattle.call_claims.specs.Cause.{Lists, Runs}
+use Rattle.call_claims.specs.Cause.Cause.{usage, run, list}
+use Rattle.call_claims.specs.Command.{IsCommand}
+use Rattle.call_claims.specs.Execution.{IsListedFor, IsMadeFor}
+use Rattle.top_call.specs.Commands.{command_in}
 use Rattle.top_call.specs.declared.answers.Answer.TheVariants as answer
 use Rattle.top_call.proofs.WorkLemmas.{call_without, no_run, on_some}
 use Rattle.top_call.proofs.call.work_for.Goals as goal
 
-pub returns-in-Some-clause-cause : goal.returns-in-Some-clause-cause
-returns-in-Some-clause-cause g c = λ d.
+pub returns-in-Some-Run-clause-cause : goal.returns-in-Some-Run-clause-cause
+returns-in-Some-Run-clause-cause g c = λ d.
     let words = map string_bytes c.args.words.now in
     run (record {
-      file = c.in-Some.run'.file.now;
-      rest = record { turns = c.in-Some.run'.turns };
-      given = c.in-Some.ensures {u = tt};
+      file = c.in-Some-Run.run'.file.now;
+      rest = record { turns = c.in-Some-Run.run'.turns };
+      given = subst (λ command. IsCommand words (command_in command)) c.in-Some-Run.field-0-is
+          (c.in-Some-Run.ensures {u = tt});
       holds = c.run_file.ensures.cause words d;
     })
 
-pub returns-in-Some-clause-code : goal.returns-in-Some-clause-code
-returns-in-Some-clause-code g c =
+pub returns-in-Some-Run-clause-code : goal.returns-in-Some-Run-clause-code
+returns-in-Some-Run-clause-code g c =
     let words = map string_bytes c.args.words.now in
     let call = call_of words (g.F.Files.tells c.args.files.now)
     (g.F.Files.may_fail c.args.files.now) in
-    let file = c.in-Some.run'.file.now in
+    let file = c.in-Some-Run.run'.file.now in
     let turns = c.run_file.result.turns in
-    on_some c.run_file.result.code (IsMadeFor call file (record { turns = c.in-Some.run'.turns })
-    turns)
-    (λ code. Runs call (λ file rest. IsMadeFor call file rest turns code))
-    (λ code made. record {
+    on_some c.run_file.result.code
+    (IsMadeFor call file (record { turns = c.in-Some-Run.run'.turns }) turns)
+    (λ code. Runs call (λ file rest. IsMadeFor call file rest turns code)
+    ⊎ Lists call (λ file. IsListedFor call file turns code))
+    (λ code made. inl (record {
       file = file;
-      rest = record { turns = c.in-Some.run'.turns };
-      given = c.in-Some.ensures {u = tt};
+      rest = record { turns = c.in-Some-Run.run'.turns };
+      given = subst (λ command. IsCommand words (command_in command)) c.in-Some-Run.field-0-is
+          (c.in-Some-Run.ensures {u = tt});
       holds = made;
-    }) (c.run_file.ensures.code words)
+    })) (c.run_file.ensures.code words)
+
+pub returns-in-Some-Listing-clause-cause : goal.returns-in-Some-Listing-clause-cause
+returns-in-Some-Listing-clause-cause g c = λ d.
+    let words = map string_bytes c.args.words.now in
+    list (record {
+      file = c.in-Some-Listing.file.now;
+      given = subst (λ command. IsCommand words (command_in command)) c.in-Some-Listing.field-0-is
+          (c.in-Some-Listing.ensures {u = tt});
+      holds = c.list_file.ensures.cause words d;
+    })
+
+pub returns-in-Some-Listing-clause-code : goal.returns-in-Some-Listing-clause-code
+returns-in-Some-Listing-clause-code g c =
+    let words = map string_bytes c.args.words.now in
+    let call = call_of words (g.F.Files.tells c.args.files.now)
+    (g.F.Files.may_fail c.args.files.now) in
+    let file = c.in-Some-Listing.file.now in
+    let turns = c.list_file.result.turns in
+    on_some c.list_file.result.code (IsListedFor call file turns)
+    (λ code. Runs call (λ file rest. IsMadeFor call file rest turns code)
+    ⊎ Lists call (λ file. IsListedFor call file turns code))
+    (λ code listed. inr (record {
+      file = file;
+      given = subst (λ command. IsCommand words (command_in command)) c.in-Some-Listing.field-0-is
+          (c.in-Some-Listing.ensures {u = tt});
+      holds = listed;
+    })) (c.list_file.ensures.code words)
 
 pub returns-in-None-clause-cause : goal.returns-in-None-clause-cause
 returns-in-None-clause-cause g c =

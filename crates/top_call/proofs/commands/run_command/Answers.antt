@@ -1,8 +1,7 @@
 use Rattle.std.proofs.Common.{map, string_bytes}
-use Rattle.top_call.proofs.CommandLemmas.{not_words}
+use Rattle.top_call.proofs.CommandLemmas.{not_run}
 use Rattle.top_call.proofs.commands.run_command.Goals as goal
 
 pub returns-in-None : goal.returns-in-None
 returns-in-None c =
-    not_words c.args.command.now c.args.file.now (map string_bytes c.args.rest.now)
-    c.in-None.ensures
+    not_run c.args.file.now (map string_bytes c.args.rest.now) c.in-None.ensures

@@ -3,7 +3,7 @@ use Rattle.zpl_io.specs.Files.{GainsWhole, GainsTooMuch}
 use Rattle.zpl_io.specs.declared.outside.Fetched.TheVariants.{Whole, Failed}
 use Rattle.zpl_text.specs.declared.TheConstants.{MOST_SOURCE}
 use Rattle.call_claims.specs.Call.{call_of}
-use Rattle.call_claims.specs.Cause.RunCause.{unreadable, too_long, work}
+use Rattle.call_claims.specs.Cause.FileCause.{unreadable, too_long, work}
 use Rattle.call_claims.specs.Execution.{IsMadeFor}
 use Rattle.call_claims.specs.Source.{IsCodeOf}
 use Rattle.top_call.specs.declared.answers.Answer.TheVariants as answer
