@@ -1,5 +1,5 @@
 -- Lemmas on masks.
-use Rattle.std.proofs.Common.{◌≡◌, ℕ, zero, suc, Bool, true, false, if◌then◌else◌, List, [], ◌∷◌, length, map, replicate, get_or, ℤ, pos, refl, sym, ◌∙◌, ap}
+use Rattle.std.proofs.Common.{◌≡◌, Bool, true, false, if◌then◌else◌, List, [], ◌∷◌, length, map, replicate, get_or, ℤ, pos, refl, sym, ◌∙◌, ap}
 use Rattle.zpl_nums.specs.Integer.{is_true}
 use Rattle.zpl_arrays.specs.Array.{Array, element, has_place, place_among}
 use Rattle.zpl_meaning.specs.Context.{lets_in}

@@ -1,4 +1,4 @@
-use Rattle.std.proofs.Common.{◌≡◌, ◌++◌, List, length, map, pos, replicate, refl, sym, ◌∙◌, ap, subst, arith}
+use Rattle.std.proofs.Common.{◌≡◌, ◌++◌, length, map, replicate, ◌∙◌, ap, subst, arith}
 use Rattle.std.specs.Result.{OnOk}
 use Rattle.zpl_nums.specs.Integer.{is_true}
 use Rattle.zpl_region.specs.Region.{members}
