@@ -3,6 +3,7 @@
 
 mod checks;
 mod faults;
+mod judging;
 mod names;
 mod statements;
 mod symbols;
@@ -10,6 +11,7 @@ mod typed;
 
 pub use checks::check_found;
 pub use faults::Fault;
+pub use judging::judge;
 pub use names::global_names;
 pub use symbols::{NameKind, Symbols};
 pub use typed::Typed;

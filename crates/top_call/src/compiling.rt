@@ -33,7 +33,7 @@ pub fn compile(alloc: Global, text: &[u8]) -> Result<NodeProgram, Refusal>
     let tokens = tokens_of(alloc, text)?;
     let arena = Bump::new(alloc);
     let program = tree_of(alloc, &arena, text, tokens.as_slice())?;
-    code_of_tree(alloc, text, tokens.as_slice(), program)
+    code_of_tree(alloc, &arena, text, tokens.as_slice(), program)
 }
 
 /// The tokens of a text, where there are any.
@@ -68,6 +68,7 @@ fn tree_of<'a>(
 /// The code of a text with these tokens and this tree.
 fn code_of_tree<'a>(
     alloc: Global,
+    arena: &'a Bump<Global>,
     text: &[u8],
     tokens: &[Token],
     program: &'a Program<'a>,
@@ -82,11 +83,11 @@ fn code_of_tree<'a>(
     text_is_cut_one_way();
     words_fit_their_text();
     if tokens.len() > MOST_TOKENS {
-        return Err(without_code(alloc, text, tokens, program));
+        return Err(without_code(alloc, arena, text, tokens, program));
     }
     match code_of_small(alloc, program) {
         Ok(code) => Ok(code),
-        Err(CodeFault::NotBuilt) => Err(without_code(alloc, text, tokens, program)),
+        Err(CodeFault::NotBuilt) => Err(without_code(alloc, arena, text, tokens, program)),
         Err(CodeFault::NoMemory) => Err(Refusal::NoMemory),
     }
 }
@@ -95,6 +96,7 @@ fn code_of_tree<'a>(
 /// its declarations, of which no config is set; or since it has no code so far.
 fn without_code<'a>(
     alloc: Global,
+    arena: &'a Bump<Global>,
     text: &[u8],
     tokens: &[Token],
     program: &'a Program<'a>,
@@ -106,7 +108,7 @@ fn without_code<'a>(
     ensures { Refuses text.now result }
 {
     text_is_cut_one_way();
-    match judge(alloc, program) {
+    match judge(alloc, arena, program) {
         Ok(typed) => of_declarations(alloc, text, tokens, &typed),
         Err(fault) => Refusal::from(fault),
     }
