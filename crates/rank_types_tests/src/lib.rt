@@ -1,0 +1,20 @@
+//! Tests of the checker of names, ranks and types over texts, with what other crates can name
+//! alone.
+#![tactic(auto)]
+
+#[cfg(test)]
+mod accepted;
+#[cfg(test)]
+mod calls;
+#[cfg(test)]
+mod chains;
+#[cfg(test)]
+mod judging;
+#[cfg(test)]
+mod names;
+#[cfg(test)]
+mod ranks;
+#[cfg(test)]
+mod regions;
+#[cfg(test)]
+mod types;
