@@ -16,3 +16,4 @@ pub mod ApartLemmas
 pub mod EndLemmas
 pub mod StopLemmas
 pub mod TrapRunLemmas
+pub mod DepthLemmas

@@ -4,9 +4,9 @@ use Rattle.std.proofs.Common.{List, [], ◌∷◌, ◌++◌, length, Option, Som
 use Rattle.std.proofs.Common.{refl}
 use Rattle.std.proofs.Common.{sym, ap, ◌∙◌, subst, arith, length-append, true≢false, zero}
 use Rattle.std.specs.Prelude.{is_some, is_none}
-use Rattle.zpl_tree.specs.Syntax.{Name, Expr, Exprs, Prefix, Program, Stmt, Prefixed, Stmts}
-use Rattle.zpl_tree.specs.Syntax.{NoStmt, ThenStmt, Form, Assign, Invoke, Block, If, While, Repeat}
-use Rattle.zpl_tree.specs.Syntax.{For, Border, Write, Return, Tested, Arms, NoArm, ThenArm}
+use Rattle.zpl_tree.specs.Syntax.{Name, Expr, Call, Exprs, Prefix, Program, Stmt, Prefixed}
+use Rattle.zpl_tree.specs.Syntax.{Stmts, NoStmt, ThenStmt, Form, Assign, Invoke, Block, If, While}
+use Rattle.zpl_tree.specs.Syntax.{Repeat, For, Border, Write, Return, Tested, Arms, NoArm, ThenArm}
 use Rattle.zpl_tree.specs.Syntax.{Otherwise, NoElse, Else, Base, Param}
 use Rattle.zpl_names.specs.Kinds as kind
 use Rattle.zpl_names.specs.Kinds.{Kind, Signature}
@@ -15,7 +15,7 @@ use Rattle.zpl_names.specs.Shapes.{unknown_shapes}
 use Rattle.zpl_names.specs.Declared.{Routine, routines_of, routine_named, entry_of}
 use Rattle.zpl_names.specs.Declared.{scope_of, globals_of}
 use Rattle.zpl_names.specs.Sites.{Reach, in_body, under_prefix, under_prefixes, inside, Site}
-use Rattle.zpl_names.specs.Sites.{AtCall}
+use Rattle.zpl_names.specs.Sites.{AtCall, CallRole}
 use Rattle.zpl_names.specs.Sites.{AtStmt, AsStatement, Limit, Test as TestRole, whole_sites}
 use Rattle.zpl_names.specs.Sites.{prefixes_sites, step_sites, test_rank, arms_rank, stmt_sites}
 use Rattle.zpl_names.specs.Sites.{stmts_sites, form_sites, arms_sites, arm_sites, otherwise_sites}
@@ -369,6 +369,73 @@ invoked_bare program routine m at prefixes name actuals h callee named =
         sites).1.0
     site_of at prefixes form e (InBody offset under body sites) = cc
 
+-- a procedure that is called is there
+abbrev IsThere : Program → Name → Type 0
+IsThere program name = (callee : Routine) × (routine_named program name.text ≡ Some callee)
+
+known_there : (program : Program) (routine : Routine) → Among (routines_of program) routine
+    → (name : Name) (found : Option Kind) → kind_of (scope_of program routine) name ≡ found
+    → is_procedure found ≡ true → IsThere program name
+known_there program routine m name (Some (kind.Procedure signature)) e is =
+    let there = procedure_is_there program name.text signature
+    (global_kind program routine m name (kind.Procedure signature) tt e) in
+    (there.0, there.1)
+known_there program routine m name None e is = cc
+known_there program routine m name (Some (kind.Config base)) e is = cc
+known_there program routine m name (Some (kind.Constant base)) e is = cc
+known_there program routine m name (Some (kind.Region shape)) e is = cc
+known_there program routine m name (Some (kind.Direction rank)) e is = cc
+known_there program routine m name (Some (kind.Scalar base)) e is = cc
+known_there program routine m name (Some (kind.Array base shape)) e is = cc
+
+site_there : (program : Program) (routine : Routine) → Among (routines_of program) routine
+    → (reach : Reach) → reach.scope ≡ scope_of program routine → (role : CallRole) (name : Name)
+    (actuals : Exprs) → HasNoFault (AtCall reach role name actuals) → IsThere program name
+site_there program routine m reach scope role name actuals site =
+    known_there program routine m name (kind_of (scope_of program routine) name) refl
+    (subst (λ scope. is_procedure (kind_of scope name) ≡ true) scope
+    (not_false (is_procedure (kind_of reach.scope name))
+    (no_place (not (is_procedure (kind_of reach.scope name))) name.at site.known)))
+
+module _ (program : Program) (routine : Routine) (m : Among (routines_of program) routine) where
+  invoked_there : (at : ℕ) (prefixes : List Prefix) (name : Name) (actuals : Exprs)
+      → IsStmtTold program routine at prefixes (Invoke name actuals) → IsThere program name
+  invoked_there at prefixes name actuals h = by at prefixes (Invoke name actuals) refl h.sites
+    where
+      by : (at : ℕ) (prefixes : List Prefix) (form : Form) → form ≡ Invoke name actuals
+          → Inside h.reach routine at prefixes form → IsThere program name
+      by at prefixes form e (InStmt offset under same sites) =
+          site_there program routine m h.reach h.scope _ name actuals
+          (subst (λ (f : Form). Clean (AtStmt h.reach offset under f ∷ form_sites h.reach f)) e
+          sites).1.0
+      by at prefixes form e (InBody offset under body sites) = cc
+
+  answered_there : (at : ℕ) (prefixes : List Prefix) (target name : Name) (offset : ℕ)
+      (actuals : Exprs)
+      → IsStmtTold program routine at prefixes (Assign target None (Call offset name actuals))
+      → IsThere program name
+  answered_there at prefixes target name offset actuals h =
+      by at prefixes (Assign target None (Call offset name actuals)) refl h.sites
+    where
+      by : (at : ℕ) (prefixes : List Prefix) (form : Form)
+          → form ≡ Assign target None (Call offset name actuals)
+          → Inside h.reach routine at prefixes form → IsThere program name
+      by at prefixes form e (InStmt own under same sites) =
+          site_there program routine m h.reach h.scope _ name actuals
+          (subst (λ (f : Form). Clean (AtStmt h.reach own under f ∷ form_sites h.reach f)) e
+          sites).1.1.0
+      by at prefixes form e (InBody own under body sites) = cc
+
+  makes_there : (at : ℕ) (prefixes : List Prefix) (form : Form) (place : Place) (store : Store)
+      (called : Called) (before : Store) → IsStmtTold program routine at prefixes form
+      → MakesCall place store form called before
+      → (callee : Routine) × (routine_named program called.name ≡ Some callee)
+  makes_there at prefixes form place store called before h
+      (MakesCall.AsStatement name actuals handed e) = invoked_there at prefixes name actuals h
+  makes_there at prefixes form place store called before h
+      (MakesCall.AsAnswer target name offset actuals handed e) =
+      answered_there at prefixes target name offset actuals h
+
 -- ---- the run
 
 abbrev ToldOf : Program → Routine → Stmt → Type 0
@@ -543,6 +610,17 @@ module _ (program : Program) (settings : List Setting) (n : ℕ) (clean : IsFaul
       outside.member outside.told
       (inner_has program settings n (suc less) outer inner at prefixes form from met comes) makes
       named
+
+  -- a procedure that the run calls is there
+  pub callee_there : (deeper : ℕ) (place inner : Place) (at : ℕ) (prefixes : List Prefix)
+      (form : Form) (store : Store) (called : Called) (before : Store)
+      → IsMet start deeper place (Prefixed at prefixes form) store
+      → MakesCall inner store form called before
+      → (callee : Routine) × (routine_named program called.name ≡ Some callee)
+  callee_there deeper place inner at prefixes form store called before met makes =
+      let told = met_answer deeper place (Prefixed at prefixes form) store met in
+      makes_there program told.routine told.member at prefixes form inner store called before
+      told.told makes
 
   pub return_there : (deeper : ℕ) (place inner : Place) (at : ℕ) (prefixes : List Prefix)
       (value : Expr) (store : Store)

@@ -1,5 +1,6 @@
 //! The laws of what runs come to.
-ghost use Rattle.std.specs.Prelude.{◌≡◌, ◌↔◌, ◌<◌, ℕ, ℤ, length, pos, List, Contains, Option, Some};
+ghost use Rattle.std.specs.Prelude.{◌≡◌, ◌↔◌, ◌<◌, ℕ, zero, ℤ, length, pos, List, Contains, Option};
+ghost use Rattle.std.specs.Prelude.{Some};
 ghost use Rattle.zpl_nums.specs.declared.ends.End.TheVariants.{More, Trap};
 ghost use Rattle.zpl_nums.specs.declared.ends.TrapKind.{TrapKind};
 ghost use Rattle.zpl_region.specs.declared.regions.Region.{Region};
@@ -9,7 +10,7 @@ ghost use Rattle.zpl_tree.specs.Grammar.{IsProgram};
 ghost use Rattle.zpl_names.specs.Kinds as kind;
 ghost use Rattle.zpl_names.specs.Scope.{kind_of};
 ghost use Rattle.zpl_names.specs.Shapes.{unknown_shapes};
-ghost use Rattle.zpl_names.specs.Declared.{Routine, routines_of};
+ghost use Rattle.zpl_names.specs.Declared.{Routine, routine_named, routines_of};
 ghost use Rattle.zpl_names.specs.Sites.{routine_sites, Site};
 ghost use Rattle.zpl_names.specs.Accepted.{IsFaultless};
 ghost use Rattle.zpl_binding.specs.Outcome.{BindFault, Fails, Gives, RegionLimit};
@@ -24,7 +25,7 @@ ghost use Rattle.zpl_meaning.specs.Store.{Store};
 ghost use Rattle.zpl_meaning.specs.Program.{call_at, mean_of};
 ghost use Rattle.zpl_meaning.specs.Proper.{IsProperStmt};
 ghost use Rattle.zpl_meaning.specs.Visited.{first_setup, IsVisited};
-ghost use Rattle.meaning_runs.specs.Met.{ComesUnder, IsMet, opening_of};
+ghost use Rattle.meaning_runs.specs.Met.{ComesUnder, IsMet, MakesCall, opening_of};
 ghost use Rattle.meaning_runs.specs.Tuple.{IsMetBy};
 ghost use Rattle.meaning_runs.specs.Stops.{SomeLoopStops};
 ghost use Rattle.meaning_runs.specs.Traps.{SomeStatementTraps};
@@ -101,6 +102,22 @@ pub fn answers_have_places()
     ensures taken { (setup : Setup) (n deeper : ℕ) (called : Called) (store : Store) →
         length store.scalars <
         length (call_at setup n deeper called (with_new_scalar store (pos 0))).store.scalars }
+{}
+
+/// In a program without faults no run comes to a call where the depth of calls is used up, and each
+/// call that one comes to names a procedure of the text.
+pub fn no_run_comes_to_the_end_of_calls()
+    ensures depth { (program : Program) (settings : List Setting) (n : ℕ) → IsFaultless program →
+        (place inner : Place) (at : ℕ) (prefixes : List Prefix) (form : Form) (store : Store)
+        (called : Called) (before : Store) →
+        IsMet (opening_of program settings n) zero place (Prefixed at prefixes form) store →
+        ComesUnder store prefixes place inner → ¬ MakesCall inner store form called before }
+    ensures there { (program : Program) (settings : List Setting) (n : ℕ) → IsFaultless program →
+        (deeper : ℕ) (place inner : Place) (at : ℕ) (prefixes : List Prefix) (form : Form)
+        (store : Store) (called : Called) (before : Store) →
+        IsMet (opening_of program settings n) deeper place (Prefixed at prefixes form) store →
+        ComesUnder store prefixes place inner → MakesCall inner store form called before →
+        (routine : Routine) × (routine_named program called.name ≡ Some routine) }
 {}
 
 /// In a program without faults, each region and each direction that a statement of the text names
