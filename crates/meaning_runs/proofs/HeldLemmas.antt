@@ -34,7 +34,8 @@ use Rattle.zpl_meaning.specs.Calls.{entered}
 use Rattle.zpl_meaning.specs.Visited.{body_place}
 use Rattle.meaning_runs.specs.Held.{HasThing, HasMask, HasMaskOf, HasMasks, HasPlaces}
 use Rattle.meaning_runs.specs.Met.{ComesUnder, body_store}
-use Rattle.meaning_runs.proofs.KeepLemmas.{IsNoShorter, same_store, and_then}
+use Rattle.meaning_runs.specs.Kept.{IsNoShorter}
+use Rattle.meaning_runs.proofs.KeepLemmas.{same_store, and_then}
 
 pub gives_same : {A : Type 0} (a b : A) → Gives a ≡ Gives b → a ≡ b
 gives_same a b e = cc
@@ -166,6 +167,13 @@ later_has before after globals place h has = record {
   names = later_names place.environment.names before after h has.names;
   masks = later_masks place.currents before after h has.masks;
   globals_there = later_names globals before after h has.globals_there;
+}
+
+pub later_places : (before after : Store) (place : Place) → IsNoShorter before after
+    → HasPlaces before place → HasPlaces after place
+later_places before after place h has = record {
+  names = λ k entry below. later_thing _ before after h (has.names k entry below);
+  masks = later_masks place.currents before after h has.masks;
 }
 
 pub under_has : (store : Store) (globals : Names) (prefixes : List Prefix) (place inner : Place)

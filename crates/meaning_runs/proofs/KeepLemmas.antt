@@ -1,5 +1,5 @@
 -- What runs leave of a store: it has no fewer scalars and arrays than before.
-use Rattle.std.proofs.Common.{◌≡◌, ℕ, zero, suc, ◌≤◌, Bool, true, false, ℤ, pos, List, [], ◌∷◌}
+use Rattle.std.proofs.Common.{◌≡◌, ℕ, zero, suc, Bool, true, false, ℤ, pos, List, [], ◌∷◌}
 use Rattle.std.proofs.Common.{length, Option, Some, None, refl, arith}
 use Rattle.std.proofs.Common.{length-append, length-set, length-take-le}
 use Rattle.std.specs.Prelude.{int_lt}
@@ -45,12 +45,9 @@ use Rattle.zpl_meaning.specs.Statement.{under, test_of, arms_at, is_split, exec,
 use Rattle.zpl_meaning.specs.Statement.{exec_form}
 use Rattle.zpl_meaning.specs.Statement.{exec_arms, exec_arm, exec_otherwise}
 use Rattle.zpl_meaning.specs.Program.{run_routine, call_at}
+use Rattle.meaning_runs.specs.Kept.{IsNoShorter, Keeps, AlwaysKeeps, CallsKeep}
 
 -- ---- stores
-
-pub record IsNoShorter (before after : Store) : Type 0 where
-  pub scalars : length before.scalars ≤ length after.scalars
-  pub arrays : length before.arrays ≤ length after.arrays
 
 pub same_store : (store : Store) → IsNoShorter store store
 same_store store = record { scalars = omega arith; arrays = omega arith }
@@ -94,12 +91,6 @@ cut_back_keeps earlier store h = record {
 }
 
 -- ---- outcomes
-
-abbrev pub Keeps : Store → Outcome → Type 0
-Keeps store outcome = IsNoShorter store outcome.store
-
-abbrev pub AlwaysKeeps : (Store → Outcome) → Type 0
-AlwaysKeeps run = (store : Store) → Keeps store (run store)
 
 value_keeps : {A : Type 0} (computed : Computed A) (store : Store) (line : ℕ)
     (next : A → Outcome) → ((value : A) → Keeps store (next value))
@@ -304,7 +295,7 @@ more_borders_keep place kind (name ∷ names) line store =
     (border_keeps kind place.edge (thing_of place.environment name.text) line store)
     (more_borders_keep place kind names line)
 
-borders_keep : (place : Place) (kind : BorderKind) (names : List Name) (line : ℕ)
+pub borders_keep : (place : Place) (kind : BorderKind) (names : List Name) (line : ℕ)
     → AlwaysKeeps (borders place kind names line)
 borders_keep place kind [] line store = same_store store
 borders_keep place kind (name ∷ names) line store =
@@ -318,10 +309,6 @@ with_result_keeps (Some (Scalar target)) value store = with_scalar_keeps store t
 with_result_keeps (Some (ArrayAt target home)) value store = same_store store
 with_result_keeps (Some (Fixed fixed)) value store = same_store store
 with_result_keeps None value store = same_store store
-
--- what is called keeps what there is
-abbrev pub CallsKeep : (Called → Store → Outcome) → Type 0
-CallsKeep call = (called : Called) → AlwaysKeeps (call called)
 
 module _ (n : ℕ) (call : Called → Store → Outcome) (calls : CallsKeep call) where
   abbrev within : Place → Context
@@ -528,3 +515,14 @@ calls_keep setup n zero called store = same_store store
 calls_keep setup n (suc deeper) called store =
     routine_keeps setup n (call_at setup n deeper) (calls_keep setup n deeper)
     (routine_named setup.program called.name) called store
+
+-- a call whose answer is taken, when what it added is cut off
+pub answers_keep : (setup : Setup) (n deeper : ℕ) (called : Called) (store : Store)
+    → IsNoShorter store
+    (cut_back store (call_at setup n deeper called (with_new_scalar store (pos 0))).store)
+answers_keep setup n deeper called store =
+    let before = with_new_scalar store (pos 0) in
+    let after = (call_at setup n deeper called before).store in
+    cut_back_keeps store after
+    (and_then store before after (new_scalar_keeps store (pos 0))
+    (calls_keep setup n deeper called before))

@@ -28,7 +28,8 @@ use Rattle.meaning_runs.specs.Met.{ComesUnder, GoesTo, set_at, MakesCall, Openin
 use Rattle.meaning_runs.specs.Met.{opening_of, context_at, body_store, IsMet}
 use Rattle.meaning_runs.specs.Tuple.{IsMetAt, IsMetBy, point_at}
 use Rattle.meaning_runs.specs.Held.{HasMasks, HasPlaces}
-use Rattle.meaning_runs.proofs.KeepLemmas.{IsNoShorter, same_store, and_then, AlwaysKeeps}
+use Rattle.meaning_runs.specs.Kept.{IsNoShorter, AlwaysKeeps}
+use Rattle.meaning_runs.proofs.KeepLemmas.{same_store, and_then}
 use Rattle.meaning_runs.proofs.KeepLemmas.{exec_keeps, all_keep, point_keeps, points_keep}
 use Rattle.meaning_runs.proofs.KeepLemmas.{calls_keep}
 use Rattle.meaning_runs.proofs.KeepLemmas.{new_scalar_keeps, with_scalar_keeps}
@@ -40,14 +41,14 @@ use Rattle.meaning_runs.proofs.HeldLemmas.{gives_same, trap_no_value}
 -- ---- from a form to what it comes to
 
 module _ (test : Test) (body : Store → Outcome) (keeps : AlwaysKeeps body) where
-  test_longer : (n : ℕ) (store : Store) (left : ℕ) (later : Store)
+  pub test_longer : (n : ℕ) (store : Store) (left : ℕ) (later : Store)
       → ComesToTest test body n store left later → IsNoShorter store later
   test_longer n store left later (ComesToTest.Enters m same) = same_store store
   test_longer n store left later (ComesToTest.Again m k same after holds done comes) =
       and_then store (body store).store later (keeps store)
       (test_longer m (body store).store left later comes)
 
-  turn_longer : (n : ℕ) (store : Store) (left : ℕ) (later : Store)
+  pub turn_longer : (n : ℕ) (store : Store) (left : ℕ) (later : Store)
       → ComesToTurn test body n store left later → IsNoShorter store later
   turn_longer n store left later (ComesToTurn.Enters m same) = same_store store
   turn_longer n store left later (ComesToTurn.Again m k same after done holds comes) =
@@ -55,7 +56,7 @@ module _ (test : Test) (body : Store → Outcome) (keeps : AlwaysKeeps body) whe
       (turn_longer m (body store).store left later comes)
 
 module _ (count : Count) (target : ℕ) (body : Store → Outcome) (keeps : AlwaysKeeps body) where
-  value_longer : (n : ℕ) (value : ℤ) (store : Store) (left : ℕ) (reached : ℤ) (later : Store)
+  pub value_longer : (n : ℕ) (value : ℤ) (store : Store) (left : ℕ) (reached : ℤ) (later : Store)
       → ComesToValue count (set_at target) body n value store left reached later
       → IsNoShorter store later
   value_longer n value store left reached later (ComesToValue.Enters m from same) =

@@ -36,7 +36,8 @@ use Rattle.zpl_meaning.proofs.DepthLemmas.{Each, each_left, each_right, each_fro
 use Rattle.meaning_runs.specs.Met.{ComesUnder, MakesCall, Opening, opening_of, context_at}
 use Rattle.meaning_runs.specs.Met.{body_store, IsMet}
 use Rattle.meaning_runs.proofs.PartLemmas.{goes_among}
-use Rattle.meaning_runs.proofs.KeepLemmas.{IsNoShorter, same_store, calls_keep}
+use Rattle.meaning_runs.specs.Kept.{IsNoShorter}
+use Rattle.meaning_runs.proofs.KeepLemmas.{same_store, calls_keep}
 use Rattle.meaning_runs.proofs.MetLemmas.{goes_longer, actuals_have, inner_has}
 use Rattle.meaning_runs.proofs.HeldLemmas.{Has, HasAllHanded}
 use Rattle.meaning_runs.proofs.ApartLemmas.{AllApart, apart_names, apart_append, entered_apart}

@@ -1,6 +1,7 @@
 pub mod Comes
 pub mod Computed
 pub mod Held
+pub mod Kept
 pub mod Met
 pub mod Runner
 pub mod Stops

@@ -32,8 +32,8 @@ abbrev pub point_at : Place → ℕ → Form → List ℤ → Point
 point_at place line form tuple =
     record { place = place; rank = split_rank place form; tuple = tuple; line = line }
 
--- A tuple that runs the shattered statement: its regions, conformity and references are right, and
--- the tuple isn't masked out.
+-- A tuple that runs the shattered statement: the statement's regions, conformity and references are
+-- right, the operators over regions in its expressions have values, and the tuple isn't masked out.
 pub record IsRunAt (place : Place) (form : Form) (store : Store) (tuple : List ℤ) : Type 0 where
   pub fields : List Field
   pub checked : parts_in place (split_rank place form) (split_over place form) form store ≡

@@ -3,9 +3,10 @@ ghost use Rattle.std.specs.Prelude.{◌≡◌, ◌↔◌, ◌<◌, ℕ, zero, �
 ghost use Rattle.std.specs.Prelude.{Some};
 ghost use Rattle.zpl_nums.specs.declared.ends.End.TheVariants.{More, Trap};
 ghost use Rattle.zpl_nums.specs.declared.ends.TrapKind.{TrapKind};
+ghost use Rattle.zpl_nums.specs.declared.ends.Border.{Border};
 ghost use Rattle.zpl_region.specs.declared.regions.Region.{Region};
 ghost use Rattle.zpl_tree.specs.Syntax.{Expr, Form, Name, Posts, Pre, Prefix, Prefixed, Program};
-ghost use Rattle.zpl_tree.specs.Syntax.{Return, Stmt};
+ghost use Rattle.zpl_tree.specs.Syntax.{Return, Stmt, Stmts};
 ghost use Rattle.zpl_tree.specs.Grammar.{IsProgram};
 ghost use Rattle.zpl_names.specs.Kinds as kind;
 ghost use Rattle.zpl_names.specs.Scope.{kind_of};
@@ -21,11 +22,16 @@ ghost use Rattle.zpl_binding.specs.Bound.{IsAcceptedWith};
 ghost use Rattle.zpl_meaning.specs.Context.{Place, Setup};
 ghost use Rattle.zpl_meaning.specs.Variables.{with_new_scalar};
 ghost use Rattle.zpl_meaning.specs.Calls.{Called};
-ghost use Rattle.zpl_meaning.specs.Store.{Store};
+ghost use Rattle.zpl_meaning.specs.Store.{Store, cut_back};
+ghost use Rattle.zpl_meaning.specs.Outcome.{Count, Outcome, Test};
+ghost use Rattle.zpl_meaning.specs.Points.{Point, point_stmt, point_stmts};
+ghost use Rattle.zpl_meaning.specs.Statement.{borders, Context, exec, exec_all};
 ghost use Rattle.zpl_meaning.specs.Program.{call_at, mean_of};
 ghost use Rattle.zpl_meaning.specs.Proper.{IsProperStmt};
 ghost use Rattle.zpl_meaning.specs.Visited.{first_setup, IsVisited};
-ghost use Rattle.meaning_runs.specs.Met.{ComesUnder, IsMet, MakesCall, opening_of};
+ghost use Rattle.meaning_runs.specs.Comes.{ComesToTest, ComesToTurn, ComesToValue};
+ghost use Rattle.meaning_runs.specs.Kept.{AlwaysKeeps, CallsKeep, IsNoShorter};
+ghost use Rattle.meaning_runs.specs.Met.{ComesUnder, IsMet, MakesCall, opening_of, set_at};
 ghost use Rattle.meaning_runs.specs.Tuple.{IsMetBy};
 ghost use Rattle.meaning_runs.specs.Stops.{SomeLoopStops};
 ghost use Rattle.meaning_runs.specs.Traps.{SomeStatementTraps};
@@ -87,6 +93,39 @@ pub fn stores_have_what_names_stand_for()
         ComesUnder store prefixes place inner →
         (line : ℕ) (tuple : List ℤ) (part : Form) (later : Store) →
         IsMetBy inner line n form store tuple part later → HasPlaces later inner }
+{}
+
+/// No run takes away a place for a scalar or an array: no statement and no statements one after
+/// another, where what is called doesn't; nothing that is called; no tuple of a shattered
+/// statement. So no loop whose body doesn't has done so where it reads its test or sets its
+/// variable; and what names and masks stand for is there in each store that is no shorter.
+pub fn runs_keep_what_there_is()
+    ensures statements { (context : Context) (n : ℕ) → CallsKeep context.call → (stmt : Stmt) →
+        AlwaysKeeps (exec context n stmt) }
+    ensures bodies { (context : Context) (n : ℕ) → CallsKeep context.call → (stmts : Stmts) →
+        AlwaysKeeps (exec_all context n stmts) }
+    ensures borders { (place : Place) (kind : Border) (names : List Name) (line : ℕ) →
+        AlwaysKeeps (borders place kind names line) }
+    ensures calls { (setup : Setup) (n deeper : ℕ) → CallsKeep (call_at setup n deeper) }
+    ensures answers { (setup : Setup) (n deeper : ℕ) (called : Called) (store : Store) →
+        IsNoShorter store
+        (cut_back store (call_at setup n deeper called (with_new_scalar store (pos 0))).store) }
+    ensures tuples { (point : Point) (n : ℕ) (stmt : Stmt) →
+        AlwaysKeeps (point_stmt point n stmt) }
+    ensures tuple_bodies { (point : Point) (n : ℕ) (stmts : Stmts) →
+        AlwaysKeeps (point_stmts point n stmts) }
+    ensures tests { (test : Test) (body : Store → Outcome) → AlwaysKeeps body →
+        (n : ℕ) (store : Store) (left : ℕ) (later : Store) →
+        ComesToTest test body n store left later → IsNoShorter store later }
+    ensures turns { (test : Test) (body : Store → Outcome) → AlwaysKeeps body →
+        (n : ℕ) (store : Store) (left : ℕ) (later : Store) →
+        ComesToTurn test body n store left later → IsNoShorter store later }
+    ensures values { (count : Count) (target : ℕ) (body : Store → Outcome) → AlwaysKeeps body →
+        (n : ℕ) (value : ℤ) (store : Store) (left : ℕ) (reached : ℤ) (later : Store) →
+        ComesToValue count (set_at target) body n value store left reached later →
+        IsNoShorter store later }
+    ensures places { (before after : Store) (place : Place) → IsNoShorter before after →
+        HasPlaces before place → HasPlaces after place }
 {}
 
 /// In a program without faults, at each `return` that a run comes to the store has a scalar for the

@@ -9,5 +9,5 @@ mod laws;
 pub use laws::{
     answers_have_places, met_statements_are_proper, met_statements_are_visited,
     more_comes_of_loops, no_run_comes_to_the_end_of_calls, regions_have_been_computed,
-    stores_have_what_names_stand_for, traps_come_of_statements,
+    runs_keep_what_there_is, stores_have_what_names_stand_for, traps_come_of_statements,
 };
