@@ -1,5 +1,5 @@
 -- No run comes to a call where the depth of calls is used up.
-use Rattle.std.proofs.Common.{◌≡◌, ℕ, zero, suc, Bool, true, false, not, inl, inr, List}
+use Rattle.std.proofs.Common.{◌≡◌, ℕ, zero, suc, true, false, not, inl, inr, List}
 use Rattle.std.proofs.Common.{[], ◌∷◌, ◌++◌, Option, Some, None, cond, refl, sym, ◌∙◌}
 use Rattle.std.proofs.Common.{subst, true≢false}
 use Rattle.std.specs.Prelude.{filter_map}
@@ -32,7 +32,7 @@ use Rattle.zpl_meaning.proofs.DepthLemmas.{Each, each_left, each_right, each_fro
 use Rattle.meaning_runs.specs.Met.{ComesUnder, MakesCall, Opening, opening_of, context_at, IsMet}
 use Rattle.meaning_runs.proofs.PartLemmas.{goes_among}
 use Rattle.meaning_runs.proofs.OwnLemmas.{named_among}
-use Rattle.meaning_runs.proofs.ResultLemmas.{callee_there}
+use Rattle.meaning_runs.proofs.ResultLemmas.{not_false, callee_there}
 
 -- ---- what holds at the sites of a statement holds at those of the statements in it
 
@@ -176,10 +176,6 @@ module _ (P : Site → Type 0) where
 abbrev IsKnownCall : Site → Type 0
 IsKnownCall (AtCall reach place name actuals) = is_procedure (kind_of reach.scope name) ≡ true
 IsKnownCall site = Unit {0}
-
-not_false : (b : Bool) → not b ≡ false → b ≡ true
-not_false true e = refl
-not_false false e = absurd (true≢false e)
 
 known_call : (site : Site) → HasNoFault site → IsKnownCall site
 known_call (AtCall reach place name actuals) h =

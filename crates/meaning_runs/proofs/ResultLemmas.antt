@@ -308,7 +308,7 @@ module _ (program : Program) (routine : Routine) where
 
 -- ---- calls
 
-not_false : (b : Bool) → not b ≡ false → b ≡ true
+pub not_false : (b : Bool) → not b ≡ false → b ≡ true
 not_false true e = refl
 not_false false e = cc
 
