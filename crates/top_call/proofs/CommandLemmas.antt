@@ -2,8 +2,10 @@
 use Rattle.std.proofs.Common.{◌≡◌, ◌≢◌, ℕ, List, [], ◌∷◌, codes, sym, ◌∙◌, ap, subst, get_or, arith}
 use Rattle.call_claims.specs.Command.{AreRunWords, Run, Listing, IsNoCommand}
 
-first_letter : (one other : List ℕ) (rest more : List (List ℕ)) → one ∷ rest ≡ other ∷ more → get_or one 0 0 ≡ get_or other 0 0
-first_letter one other rest more e = ap (λ (words : List (List ℕ)). get_or (get_or words 0 []) 0 0) e
+first_letter : (one other : List ℕ) (rest more : List (List ℕ)) → one ∷ rest ≡ other ∷ more
+    → get_or one 0 0 ≡ get_or other 0 0
+first_letter one other rest more e = ap (λ (words : List (List ℕ)). get_or
+    (get_or words 0 []) 0 0) e
 
 -- words behind the file that are none of the command's
 pub not_run : (file : List ℕ) (more : List (List ℕ))
@@ -14,13 +16,15 @@ not_run file more none (Run name rest) is =
     let mores : is.more ≡ more = cc in
     none rest.turns (subst (λ ws. AreRunWords ws rest) mores is.are)
 not_run file more none (Listing name) is =
-    let same : 114 ≡ 108 = first_letter (codes "run") (codes "list") (file ∷ more) (name ∷ []) is.split in
+    let same : 114 ≡ 108 = first_letter (codes "run") (codes "list") (file ∷ more)
+    (name ∷ []) is.split in
     omega (arith, same)
 
 pub not_list : (file : List ℕ) (more : List (List ℕ)) → more ≢ []
     → IsNoCommand (codes "list" ∷ file ∷ more)
 not_list file more some (Run name rest) is =
-    let same : 108 ≡ 114 = first_letter (codes "list") (codes "run") (file ∷ more) (name ∷ is.more) is.split in
+    let same : 108 ≡ 114 = first_letter (codes "list") (codes "run") (file ∷ more)
+    (name ∷ is.more) is.split in
     omega (arith, same)
 not_list file more some (Listing name) is =
     let same : codes "list" ∷ file ∷ more ≡ codes "list" ∷ name ∷ [] = is.split in

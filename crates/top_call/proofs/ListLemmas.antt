@@ -41,7 +41,8 @@ list_answered text code execution a of_text made no_turns is = elim is [
 
 -- a text's refusal is the cause of its answer
 pub list_refused : (text : List ℕ) (work : Work) (refusal : Refusal) → Refuses text refusal
-    → work.answer ≡ answer_of text refusal → work.code ≡ None → work.turns ≡ 0 → IsListOf text work
+    → work.answer ≡ answer_of text refusal → work.code ≡ None → work.turns ≡ 0
+    → IsListOf text work
 list_refused text work (Lex fault) refuses is no_code no_turns =
     subst (HasListCause text (execution_in work)) (sym is)
     (λ d. not_listed _ refuses (record { no_code = no_code; no_turns = no_turns }))

@@ -62,7 +62,8 @@ module _ (call : Call) (work : Work) (caused : IsWorkFor call work) where
       subst (λ a. Cause call (execution_in work) (status_of a) (text_of a)) (sym e)
       (elim (kind_of work.answer) [
         | is_failed failed ↦ absurd (not_failed failed)
-        | is_wanting wanting ↦ subst (λ a. Cause call (execution_in work) (status_of a) (text_of a))
+        | is_wanting wanting ↦ subst (λ a. Cause call (execution_in work) (status_of a)
+            (text_of a))
             (sym wanting) no_memory
         | is_decided other decided ↦ caused decided
       ])
@@ -95,44 +96,56 @@ module _ (call : Call) (work : Work) (caused : IsWorkFor call work) where
 
 -- ---- what out took
 -- of a run, which asks for no listing
-pub run_asks_none : (words : List (List ℕ)) (file : List ℕ) (rest : RunWords) → IsRunCommand words file rest → ¬ AsksListing words
+pub run_asks_none : (words : List (List ℕ)) (file : List ℕ) (rest : RunWords)
+    → IsRunCommand words file rest → ¬ AsksListing words
 run_asks_none words file rest run asks = not_both words file asks.file rest run asks.given
 
-pub run_output : (words : List (List ℕ)) (file : List ℕ) (rest : RunWords) (status : ℕ) (execution : Execution) (before after : List ℕ → Type 0)
-    → IsRunCommand words file rest → TakesPrinted execution before after → TakesOutput words status execution before after
+pub run_output : (words : List (List ℕ)) (file : List ℕ) (rest : RunWords) (status : ℕ)
+    (execution : Execution) (before after : List ℕ → Type 0)
+    → IsRunCommand words file rest → TakesPrinted execution before after
+    → TakesOutput words status execution before after
 run_output words file rest status execution before after run takes = record {
   listed = λ asks done. absurd (run_asks_none words file rest run asks);
   not_listed = λ asks other. absurd (run_asks_none words file rest run asks);
   printed = λ none. takes;
 }
 
-pub run_cut : (words : List (List ℕ)) (file : List ℕ) (rest : RunWords) (execution : Execution) (before after : List ℕ → Type 0)
-    → IsRunCommand words file rest → IsCutOff execution before after → IsOutputCut words execution before after
+pub run_cut : (words : List (List ℕ)) (file : List ℕ) (rest : RunWords) (execution : Execution)
+    (before after : List ℕ → Type 0)
+    → IsRunCommand words file rest → IsCutOff execution before after
+    → IsOutputCut words execution before after
 run_cut words file rest execution before after run cut = record {
   listed = λ asks. absurd (run_asks_none words file rest run asks);
   printed = λ none. cut;
 }
 
 -- of a listing
-pub list_output : (words : List (List ℕ)) (file : List ℕ) (a : Answer) (execution : Execution) (before after : List ℕ → Type 0)
-    → IsListCommand words file → a ≢ answer.PutFailed → (a ≡ answer.Done → TakesListing execution before after)
-    → (a ≢ answer.Done → a ≢ answer.PutFailed → Takes before [] after) → TakesOutput words (status_of a) execution before after
+pub list_output : (words : List (List ℕ)) (file : List ℕ) (a : Answer) (execution : Execution)
+    (before after : List ℕ → Type 0)
+    → IsListCommand words file → a ≢ answer.PutFailed
+    → (a ≡ answer.Done → TakesListing execution before after)
+    → (a ≢ answer.Done → a ≢ answer.PutFailed → Takes before [] after)
+    → TakesOutput words (status_of a) execution before after
 list_output words file a execution before after list put listed not_listed = record {
   listed = λ asks done. listed (done_of a done);
   not_listed = λ asks other. not_listed (λ e. other (ap status_of e)) put;
   printed = λ none. absurd (none (record { file = file; given = list }));
 }
 
-pub list_cut : (words : List (List ℕ)) (file : List ℕ) (execution : Execution) (before after : List ℕ → Type 0)
-    → IsListCommand words file → TakesListingFront execution before after → IsOutputCut words execution before after
+pub list_cut : (words : List (List ℕ)) (file : List ℕ) (execution : Execution)
+    (before after : List ℕ → Type 0)
+    → IsListCommand words file → TakesListingFront execution before after
+    → IsOutputCut words execution before after
 list_cut words file execution before after list front = record {
   listed = λ asks. front;
   printed = λ none. absurd (none (record { file = file; given = list }));
 }
 
 -- words that are no command ask for none
-pub usage_output : (words : List (List ℕ)) (status : ℕ) (execution : Execution) (before after : List ℕ → Type 0)
-    → ¬ AsksListing words → TakesPrinted execution before after → TakesOutput words status execution before after
+pub usage_output : (words : List (List ℕ)) (status : ℕ) (execution : Execution)
+    (before after : List ℕ → Type 0)
+    → ¬ AsksListing words → TakesPrinted execution before after
+    → TakesOutput words status execution before after
 usage_output words status execution before after none takes = record {
   listed = λ asks done. absurd (none asks);
   not_listed = λ asks other. absurd (none asks);
@@ -141,16 +154,20 @@ usage_output words status execution before after none takes = record {
 
 -- what was told of an answer keeps it: only want of memory may come in the place of one that isn't
 -- that the work was done
-pub output_kept : (words : List (List ℕ)) (a b : Answer) (execution : Execution) (before after : List ℕ → Type 0)
+pub output_kept : (words : List (List ℕ)) (a b : Answer) (execution : Execution)
+    (before after : List ℕ → Type 0)
     → (status_of b ≡ DONE → status_of a ≡ DONE) → (a ≡ answer.Done → b ≡ answer.Done)
-    → TakesOutput words (status_of a) execution before after → TakesOutput words (status_of b) execution before after
+    → TakesOutput words (status_of a) execution before after
+    → TakesOutput words (status_of b) execution before after
 output_kept words a b execution before after back forth takes = record {
   listed = λ asks done. takes.listed asks (back done);
-  not_listed = λ asks other. takes.not_listed asks (λ e. other (ap status_of (forth (done_of a e))));
+  not_listed = λ asks other. takes.not_listed asks (λ e. other (ap status_of (forth
+      (done_of a e))));
   printed = takes.printed;
 }
 
-pub told_back : (a b : Answer) → (b ≢ answer.PutFailed → (b ≡ a) ⊎ (b ≡ answer.NoMemory)) → status_of b ≡ DONE → status_of a ≡ DONE
+pub told_back : (a b : Answer) → (b ≢ answer.PutFailed → (b ≡ a) ⊎ (b ≡ answer.NoMemory))
+    → status_of b ≡ DONE → status_of a ≡ DONE
 told_back a b same done =
     let is : b ≡ answer.Done = done_of b done in
     let told : b ≢ answer.PutFailed = λ e. let no : answer.Done ≡ answer.PutFailed = sym is ∙ e in absurd cc in
