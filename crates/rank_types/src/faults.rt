@@ -17,7 +17,7 @@ pub enum Fault {
     /// A type is neither `integer` nor `boolean`; at the type.
     UnknownType(u32),
     /// An integer stands where a boolean is wanted, a `for` counts with a boolean, or a bound has
-    /// a parallel operator; at the expression.
+    /// a parallel operator or a remap read; at the expression.
     TypeClash(u32),
     /// Two ranks meet that differ, there is a fourth part, or a coordinate has no dimension; at
     /// the second of them, at the fourth part, or at the coordinate.
