@@ -177,8 +177,27 @@ fn region(rt: &impl Abort, rank: u8, step: u8) -> Region
 /// The shifts that are compared.
 const SHIFTS: [i64; 15] = [-7, -6, -5, -4, -3, -2, -1, 0, 1, 2, 3, 4, 5, 6, 7];
 
-/// Compares all shifts, with steps up to 3, on a grid.
-fn compare_on(rt: &impl Abort, alloc: Global, rank: u8, factors: &[u32])
+/// A shift along one dimension, counted from 0, with small ones along the others.
+fn shift_along(dimension: u8, shift: i64, other: i64) -> Vec3 {
+    match dimension {
+        0 => [shift, other, -1],
+        1 => [other, shift, -1],
+        _ => [other, -1, shift],
+    }
+}
+
+/// Compares all shifts along one dimension.
+fn compare_along(rt: &impl Abort, layout: &Layout, region: &Region, dimension: u8, other: i64)
+    requires array { 0 < length layout.now.boxes }
+    requires region { IsRegion region.now }
+{
+    for shift in SHIFTS {
+        compare(rt, layout, region, shift_along(dimension, shift, other));
+    }
+}
+
+/// Compares all shifts along one dimension, with steps up to 3, on a grid.
+fn compare_steps(rt: &impl Abort, alloc: Global, rank: u8, dimension: u8, factors: &[u32])
     requires some { 1 ≤ length factors.now }
     requires few { length factors.now ≤ 3 }
 {
@@ -186,9 +205,17 @@ fn compare_on(rt: &impl Abort, alloc: Global, rank: u8, factors: &[u32])
     let layout = Layout::new(alloc, grid, &[array(rank)]).expect(rt, "a layout");
     for step in 1..4_u8 {
         let region = region(rt, rank, step);
-        for shift in SHIFTS {
-            compare(rt, &layout, &region, [shift, i64::from(step), -1]);
-        }
+        compare_along(rt, &layout, &region, dimension, i64::from(step));
+    }
+}
+
+/// Compares all shifts along each dimension on a grid.
+fn compare_on(rt: &impl Abort, alloc: Global, rank: u8, factors: &[u32])
+    requires some { 1 ≤ length factors.now }
+    requires few { length factors.now ≤ 3 }
+{
+    for dimension in 0..rank {
+        compare_steps(rt, alloc, rank, dimension, factors);
     }
 }
 
@@ -220,7 +247,17 @@ fn pieces_of_spaces(rt: HostRuntime) {
 
 #[test]
 fn pieces_of_spaces_on_64_processors(rt: HostRuntime) {
-    compare_on(&rt, rt.alloc(), 3, &[8, 8]);
+    compare_steps(&rt, rt.alloc(), 3, 0, &[8, 8]);
+}
+
+#[test]
+fn pieces_of_rows_on_64_processors(rt: HostRuntime) {
+    compare_steps(&rt, rt.alloc(), 3, 1, &[8, 8]);
+}
+
+#[test]
+fn pieces_of_columns_on_64_processors(rt: HostRuntime) {
+    compare_steps(&rt, rt.alloc(), 3, 2, &[8, 8]);
 }
 
 /// Whether a dimension has a coordinate from `first` to `last`; a flood dimension has its position
