@@ -1,0 +1,10 @@
+//! That ranks agree wherever a program is run, and that a procedure which answers has come to its
+//! `return`.
+//!
+//! The definitions stand in `specs/`. The functions here do nothing: each has a law of the
+//! definitions as its contract, and a call brings the law into a proof.
+#![tactic(auto)]
+
+mod laws;
+
+pub use laws::ranks_agree;
