@@ -3,3 +3,8 @@ pub mod DirectionLemmas
 pub mod FormLemmas
 pub mod PlaceLemmas
 pub mod VisitedLemmas
+pub mod AnswerLemmas
+pub mod CurrentLemmas
+pub mod ValueLemmas
+pub mod MetLemmas
+pub mod BorderLemmas

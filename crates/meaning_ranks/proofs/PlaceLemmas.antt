@@ -532,7 +532,7 @@ module _ (program : Program) (settings : List Setting) (laws : Laws program)
     pub tree : IsStmt stmt
     pub sites : HasSites program text around (reach_at place shapes shattered result) stmt
 
-  found_routine : (text : List ℕ) (routine : Routine) → routine_named program text ≡ Some routine
+  pub found_routine : (text : List ℕ) (routine : Routine) → routine_named program text ≡ Some routine
       → Among (routines_of program) routine
   found_routine text routine e =
       find_among (λ routine. bytes_eq routine.procedure.name.text text) (routines_of program)
@@ -763,6 +763,8 @@ module _ (program : Program) (settings : List Setting) (laws : Laws program)
       let proper = proper_called form name actuals inner call
       (proper_behind prefixes form outer inner
       (visited_proper program settings laws grammar clean outer (Prefixed at prefixes form) before)
-      under) in
-      (_, call_at_body outer inner found.0 at prefixes form name actuals values earlier store result
-      routine found.1 under call proper many named)
+      under) in (
+        _,
+        call_at_body outer inner found.0 at prefixes form name actuals values earlier store result
+            routine found.1 under call proper many named,
+      )

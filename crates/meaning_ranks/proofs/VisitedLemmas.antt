@@ -1,5 +1,5 @@
 -- At each place that a run visits, ranks agree.
-use Rattle.std.proofs.Common.{◌≡◌, true, List, Option, IsSome, subst, sym}
+use Rattle.std.proofs.Common.{◌≡◌, true, List, [], ◌∷◌, Option, IsSome, subst, sym}
 use Rattle.zpl_tree.specs.Syntax.{Prefix, Program, Stmt, Prefixed, Form, Block, Base}
 use Rattle.zpl_tree.specs.Grammar.{IsForm, IsProgram}
 use Rattle.zpl_names.specs.Kinds.{Rank}
@@ -11,11 +11,12 @@ use Rattle.zpl_names.specs.Accepted.{IsFaultless}
 use Rattle.zpl_names.proofs.ListLemmas.{Contains-from_among}
 use Rattle.zpl_binding.specs.Settings.{Setting}
 use Rattle.zpl_meaning.specs.Context.{Place}
+use Rattle.zpl_meaning.specs.Regions.{under_prefix}
 use Rattle.zpl_meaning.specs.Proper.{IsArrayRank}
 use Rattle.zpl_meaning.specs.Visited.{first_setup, IsUnder, IsVisited}
 use Rattle.zpl_meaning.proofs.ProperLemmas.{Fits, reach_at}
 use Rattle.zpl_meaning.proofs.VisitLemmas.{Laws, clean_of, Inside, InStmt, InBody}
-use Rattle.meaning_ranks.specs.Ranked.{IsRankedForm, IsRankedStmt}
+use Rattle.meaning_ranks.specs.Ranked.{IsRankedForm, IsRankedUnder, IsRankedStmt}
 use Rattle.meaning_ranks.proofs.RankLemmas.{KnowsDirections}
 use Rattle.meaning_ranks.proofs.FormLemmas.{form_ranked, under_ranked}
 use Rattle.meaning_ranks.proofs.DirectionLemmas.{directions_known}
@@ -66,3 +67,10 @@ module _ (program : Program) (settings : List Setting) (laws : Laws program)
   visited_ranked place stmt visited =
       let found = visited_at program settings laws grammar clean place stmt visited in
       at_ranked place found.0 stmt found.1
+
+-- a form behind prefixes, where the statement is ranked
+pub ranked_behind : (prefixes : List Prefix) (form : Form) (place inner : Place)
+    → IsRankedUnder place prefixes form → IsUnder prefixes place inner → IsRankedForm inner form
+ranked_behind [] form place inner h IsUnder.Itself = h
+ranked_behind (prefix ∷ rest) form place inner h (IsUnder.Behind over deeper) =
+    ranked_behind rest form (under_prefix place prefix over) inner (h.1 over) deeper

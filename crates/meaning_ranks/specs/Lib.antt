@@ -1,1 +1,4 @@
 pub mod Ranked
+pub mod Answered
+pub mod Bordered
+pub mod Unmasked

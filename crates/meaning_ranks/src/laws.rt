@@ -1,21 +1,35 @@
-//! The laws of ranks.
-ghost use Rattle.std.specs.Prelude.{List};
+//! The laws of ranks, and of what follows from them.
+ghost use Rattle.std.specs.Prelude.{◌≡◌, ℕ, List, None};
+ghost use Rattle.zpl_nums.specs.declared.ends.Border.{Border as BorderKind};
+ghost use Rattle.zpl_nums.specs.declared.ends.End.TheVariants.{Done};
+ghost use Rattle.zpl_tree.specs.Syntax.{Assign, Border, Call, Exprs, Form, Name, Prefix, Prefixed};
 ghost use Rattle.zpl_tree.specs.Syntax.{Program, Stmt};
 ghost use Rattle.zpl_tree.specs.Grammar.{IsProgram};
 ghost use Rattle.zpl_names.specs.Accepted.{IsFaultless};
 ghost use Rattle.zpl_binding.specs.Settings.{Setting};
+ghost use Rattle.zpl_meaning.specs.Store.{Store};
 ghost use Rattle.zpl_meaning.specs.Context.{Place};
+ghost use Rattle.zpl_meaning.specs.Calls.{Called};
+ghost use Rattle.zpl_meaning.specs.Program.{call_at};
 ghost use Rattle.zpl_meaning.specs.Visited.{first_setup, IsVisited};
+ghost use Rattle.meaning_runs.specs.Met.{ComesUnder, IsMet, MakesCall, opening_of};
 ghost use Rattle.meaning_ranks.specs.Ranked.{IsRankedStmt};
+ghost use Rattle.meaning_ranks.specs.Answered.{HasAnswered};
+ghost use Rattle.meaning_ranks.specs.Bordered.{ComesToName, IsBordered};
+ghost use Rattle.meaning_ranks.specs.Unmasked.{IsUnmasked};
 
+use meaning_runs::{
+    answers_have_places, no_run_comes_to_the_end_of_calls, stores_have_what_names_stand_for,
+};
 use zpl_names::{
     declared_ranks_are_at_most_three, faultless_programs_have_faultless_sites,
     faultless_programs_leave_nothing_open, procedures_are_there, ranks_are_at_most_three,
 };
 
-/// At each place that a run of a program of the grammar without faults visits, ranks agree: a scalar
-/// is assigned a scalar, an array what is of its rank; what stands in an expression has the rank of
-/// the expression, or is a scalar; and a shattered statement is elementwise and of one rank.
+/// At each place that a run of a program of the grammar without faults visits, ranks agree: a
+/// scalar is assigned a scalar, an array a scalar or what is of its rank; what stands in an
+/// expression has the rank of the expression, or is a scalar; and a shattered statement is
+/// elementwise and of one rank.
 pub fn ranks_agree()
     ensures { (program : Program) (settings : List Setting) → IsProgram program →
         IsFaultless program → (place : Place) (stmt : Stmt) →
@@ -26,4 +40,63 @@ pub fn ranks_agree()
     declared_ranks_are_at_most_three();
     procedures_are_there();
     ranks_are_at_most_three();
+}
+
+/// In such a program no print of an array and no border statement that a run comes to stands under
+/// a mask of its rank.
+pub fn prints_and_borders_have_no_mask()
+    ensures { (program : Program) (settings : List Setting) (n : ℕ) → IsProgram program →
+        IsFaultless program → (deeper : ℕ) (place inner : Place) (at : ℕ)
+        (prefixes : List Prefix) (form : Form) (store : Store) →
+        IsMet (opening_of program settings n) deeper place (Prefixed at prefixes form) store →
+        ComesUnder store prefixes place inner → IsUnmasked inner form }
+{
+    faultless_programs_have_faultless_sites();
+    faultless_programs_leave_nothing_open();
+    declared_ranks_are_at_most_three();
+    procedures_are_there();
+    ranks_are_at_most_three();
+}
+
+/// In such a program each name of a border statement that a run comes to, the later ones too, is an
+/// array's of the rank of the nearest prefix, which is a border; and the store there has the array.
+pub fn borders_are_of_arrays()
+    ensures { (program : Program) (settings : List Setting) (n : ℕ) → IsProgram program →
+        IsFaultless program → (deeper : ℕ) (place inner : Place) (at : ℕ)
+        (prefixes : List Prefix) (kind : BorderKind) (names : List Name) (store : Store) →
+        IsMet (opening_of program settings n) deeper place
+        (Prefixed at prefixes (Border kind names)) store →
+        ComesUnder store prefixes place inner → (line : ℕ) (name : Name) (later : Store) →
+        ComesToName inner kind line names store name later → IsBordered inner later name }
+{
+    faultless_programs_have_faultless_sites();
+    faultless_programs_leave_nothing_open();
+    declared_ranks_are_at_most_three();
+    procedures_are_there();
+    ranks_are_at_most_three();
+    stores_have_what_names_stand_for();
+}
+
+/// In such a program a procedure that is called for an answer, and ends normally, has come to its
+/// `return`: the answer that is taken is the value there.
+pub fn answers_come_of_returns()
+    ensures { (program : Program) (settings : List Setting) (n : ℕ) → IsProgram program →
+        IsFaultless program → (deeper : ℕ) (place inner : Place) (at : ℕ)
+        (prefixes : List Prefix) (target name : Name) (offset : ℕ) (actuals : Exprs)
+        (store : Store) (called : Called) (before : Store) →
+        IsMet (opening_of program settings n) deeper place
+        (Prefixed at prefixes (Assign target None (Call offset name actuals))) store →
+        ComesUnder store prefixes place inner →
+        MakesCall inner store (Assign target None (Call offset name actuals)) called before →
+        (call_at (first_setup program settings) n deeper called before).ending ≡ Done →
+        HasAnswered (opening_of program settings n) called
+        (call_at (first_setup program settings) n deeper called before).store }
+{
+    faultless_programs_have_faultless_sites();
+    faultless_programs_leave_nothing_open();
+    declared_ranks_are_at_most_three();
+    procedures_are_there();
+    ranks_are_at_most_three();
+    answers_have_places();
+    no_run_comes_to_the_end_of_calls();
 }

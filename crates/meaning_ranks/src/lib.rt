@@ -7,4 +7,6 @@
 
 mod laws;
 
-pub use laws::ranks_agree;
+pub use laws::{
+    answers_come_of_returns, borders_are_of_arrays, prints_and_borders_have_no_mask, ranks_agree,
+};
