@@ -1,0 +1,3 @@
+pub mod PhaseLemmas
+pub mod StatementLemmas
+pub mod TrapLemmas
