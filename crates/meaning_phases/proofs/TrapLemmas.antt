@@ -1,6 +1,6 @@
 -- Which traps the first phase has, and the fourth.
 use Rattle.std.proofs.Common.{◌≡◌, ◌⊎◌, inl, inr, ℕ, suc, Bool, true, false, cond, ℤ, List, [], ◌∷◌}
-use Rattle.std.proofs.Common.{Option, Some, None, refl, subst}
+use Rattle.std.proofs.Common.{Option, Some, None, Contains, refl, sym, subst}
 use Rattle.std.specs.List.{list_all}
 use Rattle.zpl_nums.specs.declared.folds.Fold.{Fold}
 use Rattle.zpl_nums.specs.declared.ends.TrapKind.{TrapKind}
@@ -18,6 +18,7 @@ use Rattle.zpl_tree.specs.Syntax.{NamedRegion, Ditto, DimText, Blank, Star, One,
 use Rattle.zpl_tree.specs.Syntax.{NoDim, ThenDim, Pre}
 use Rattle.zpl_names.specs.Kinds.{Rank}
 use Rattle.zpl_names.specs.Ranks.{own_rank, operand_rank, is_index}
+use Rattle.zpl_names.proofs.ListLemmas.{Among, among_from_Contains}
 use Rattle.zpl_binding.specs.Outcome.{BindFault, Outcome}
 use Rattle.zpl_binding.specs.Outcome as bound
 use Rattle.zpl_meaning.specs.Computed.{Computed, Gives, Traps, computed_then, both_then, provided}
@@ -227,14 +228,46 @@ region_trap place store exprs kind =
 
 -- ---- values
 
-module _ (P : TrapKind → Type 0) (zero_is : P trap.DivideByZero) where
-  -- at each tuple
-  abbrev PlainField : Field → Type 0
-  PlainField field = (t : List ℤ) → Only P (field t)
+abbrev IsZero : TrapKind → Type 0
+IsZero kind = kind ≡ trap.DivideByZero
 
-  abbrev AllPlain : List Field → Type 0
-  AllPlain [] = Unit {0}
-  AllPlain (field ∷ fields) = PlainField field × AllPlain fields
+-- what is left of a term: at each tuple it may have a zero divisor
+abbrev PlainField : Field → Type 0
+PlainField field = (t : List ℤ) → Only IsZero (field t)
+
+abbrev AllPlain : List Field → Type 0
+AllPlain [] = Unit {0}
+AllPlain (field ∷ fields) = PlainField field × AllPlain fields
+
+-- ---- values at all tuples
+
+if_plain : (b : Bool) (field : Field) (t : List ℤ) → PlainField field
+    → Only IsZero (value_if b field t)
+if_plain true field t h = h t
+if_plain false field t h = tt
+
+values_plain : (tuples : List (List ℤ)) (is_in : List ℤ → Bool) (field : Field)
+    → PlainField field → Only IsZero (values_at is_in field tuples)
+values_plain [] is_in field h = tt
+values_plain (t ∷ ts) is_in field h =
+    only_both IsZero (value_if (is_in t) field t) (values_at is_in field ts) _
+    (if_plain (is_in t) field t h) (values_plain ts is_in field h) (λ value values. tt)
+
+array_plain : (region : Region) (is_in : List ℤ → Bool) (field : Field) → PlainField field
+    → Only IsZero (array_over region is_in field)
+array_plain region is_in field h =
+    only_then IsZero (values_at is_in field (members region)) _
+    (values_plain (members region) is_in field h) (λ values. tt)
+
+arrays_plain : (fields : List Field) (region : Region) (is_in : List ℤ → Bool)
+    → AllPlain fields → Only IsZero (arrays_over region is_in fields)
+arrays_plain [] region is_in h = tt
+arrays_plain (field ∷ fields) region is_in h =
+    only_both IsZero (array_over region is_in field) (arrays_over region is_in fields) _
+    (array_plain region is_in field h.0) (arrays_plain fields region is_in h.1)
+    (λ array arrays. tt)
+
+module _ (P : TrapKind → Type 0) (zero_is : P trap.DivideByZero) where
 
   -- a computation of a field, or of fields
   abbrev Plain : Computed Field → Type 0
@@ -257,34 +290,6 @@ module _ (P : TrapKind → Type 0) (zero_is : P trap.DivideByZero) where
   right_may A B (inl h) = inl h.1
   right_may A B (inr p) = inr p
 
-  -- ---- values at all tuples
-
-  if_plain : (b : Bool) (field : Field) (t : List ℤ) → PlainField field
-      → Only P (value_if b field t)
-  if_plain true field t h = h t
-  if_plain false field t h = tt
-
-  values_plain : (tuples : List (List ℤ)) (is_in : List ℤ → Bool) (field : Field)
-      → PlainField field → Only P (values_at is_in field tuples)
-  values_plain [] is_in field h = tt
-  values_plain (t ∷ ts) is_in field h =
-      only_both P (value_if (is_in t) field t) (values_at is_in field ts) _
-      (if_plain (is_in t) field t h) (values_plain ts is_in field h) (λ value values. tt)
-
-  array_plain : (region : Region) (is_in : List ℤ → Bool) (field : Field) → PlainField field
-      → Only P (array_over region is_in field)
-  array_plain region is_in field h =
-      only_then P (values_at is_in field (members region)) _
-      (values_plain (members region) is_in field h) (λ values. tt)
-
-  arrays_plain : (fields : List Field) (region : Region) (is_in : List ℤ → Bool)
-      → AllPlain fields → Only P (arrays_over region is_in fields)
-  arrays_plain [] region is_in h = tt
-  arrays_plain (field ∷ fields) region is_in h =
-      only_both P (array_over region is_in field) (arrays_over region is_in fields) _
-      (array_plain region is_in field h.0) (arrays_plain fields region is_in h.1)
-      (λ array arrays. tt)
-
   -- ---- operators
 
   field_then : (first : Computed Field) (next : Field → Computed Field) → Plain first
@@ -299,10 +304,10 @@ module _ (P : TrapKind → Type 0) (zero_is : P trap.DivideByZero) where
   fields_then (Traps kind) next h k = h
 
   -- of what has values that don't fail
-  value_then : {A : Type 0} (first : Computed A) (next : A → Computed Field) → Only P first
-      → ((a : A) → Plain (next a)) → Plain (computed_then first next)
+  value_then : {A : Type 0} (first : Computed A) (next : A → Computed Field)
+      → Only IsZero first → ((a : A) → Plain (next a)) → Plain (computed_then first next)
   value_then (Gives a) next h k = k a
-  value_then (Traps kind) next h k = h
+  value_then (Traps kind) next h k = subst P (sym h) zero_is
 
   field_both : (first second : Computed Field) (next : Field → Field → Computed Field)
       → Plain first → Plain second
@@ -339,13 +344,13 @@ module _ (P : TrapKind → Type 0) (zero_is : P trap.DivideByZero) where
     field_plain (Wrapped over array home shift) store m = λ t. tt
     field_plain (Unary operator operand) store m =
         field_then (field_of store operand) _ (field_plain operand store m) (λ field h t.
-        only_then P (field t) _ (h t) (λ value. tt))
+        only_then IsZero (field t) _ (h t) (λ value. tt))
     field_plain (Binary operator left right) store m =
         field_both (field_of store left) (field_of store right) _
         (field_plain left store (left_may (HasNoRemap left) (HasNoRemap right) m))
         (field_plain right store (right_may (HasNoRemap left) (HasNoRemap right) m))
-        (λ one other h k t. only_both P (one t) (other t) _ (h t) (k t) (λ first second.
-        only_given P zero_is (applied operator first second)))
+        (λ one other h k t. only_both IsZero (one t) (other t) _ (h t) (k t) (λ first second.
+        only_given IsZero refl (applied operator first second)))
     field_plain (Folded operator over operand) store m =
         field_then (field_of store operand) _ (field_plain operand store m) (λ field h.
         value_then (array_over over.region (is_kept_in store over) field) _
@@ -393,5 +398,29 @@ value_trap store terms kind =
 pub plain_trap : (store : Store) (terms : Terms) (kind : TrapKind) → HaveNoRemap terms
     → fields_of store terms ≡ Traps kind → kind ≡ trap.DivideByZero
 plain_trap store terms kind none =
-    fields_is (λ k. k ≡ trap.DivideByZero) refl (fields_of store terms) kind
-    (fields_plain (λ k. k ≡ trap.DivideByZero) refl terms store (inl none))
+    fields_is IsZero refl (fields_of store terms) kind
+    (fields_plain IsZero refl terms store (inl none))
+
+-- what is left of one term
+left_plain : (fields : List Field) (field : Field) → AllPlain fields → Among fields field
+    → PlainField field
+left_plain [] field h m = absurd m
+left_plain (first ∷ fields) field h (inl e) = subst PlainField e h.0
+left_plain (first ∷ fields) field h (inr m) = left_plain fields field h.1 m
+
+pub left_trap : (store : Store) (terms : Terms) (fields : List Field) (field : Field)
+    (t : List ℤ) (kind : TrapKind) → fields_of store terms ≡ Gives fields
+    → Contains fields field → field t ≡ Traps kind → kind ≡ trap.DivideByZero
+left_trap store terms fields field t kind is member =
+    only_is IsZero (field t) kind
+    (left_plain fields field (by (fields_of store terms) is
+    (fields_plain IsValueTrap (inl refl) terms store (inr (inr refl))))
+    (among_from_Contains fields field member) t)
+  where
+    by : (computed : Computed (List Field)) → computed ≡ Gives fields
+        → Plains IsValueTrap (inl refl) computed → AllPlain fields
+    by (Gives other) e h = subst AllPlain (same e) h
+      where
+        same : Gives other ≡ Gives fields → other ≡ fields
+        same e = cc
+    by (Traps kind) e h = cc

@@ -1,5 +1,5 @@
 //! The laws of phases.
-ghost use Rattle.std.specs.Prelude.{◌≡◌, ℕ, ℤ, List, Bool, Some};
+ghost use Rattle.std.specs.Prelude.{◌≡◌, ℕ, ℤ, List, Bool, Some, Contains};
 ghost use Rattle.zpl_nums.specs.declared.ends.Border.{Border as BorderKind};
 ghost use Rattle.zpl_nums.specs.declared.ends.TrapKind.{TrapKind};
 ghost use Rattle.zpl_nums.specs.declared.ends.TrapKind.TheVariants.{DivideByZero};
@@ -7,12 +7,12 @@ ghost use Rattle.zpl_arrays.specs.Array.{Array};
 ghost use Rattle.zpl_region.specs.declared.regions.Region.{Region};
 ghost use Rattle.zpl_tree.specs.Syntax.{Expr, Exprs, ForHead, Item, Name, Return, Write};
 ghost use Rattle.zpl_names.specs.Sites.{Role};
-ghost use Rattle.zpl_meaning.specs.Computed.{Traps};
+ghost use Rattle.zpl_meaning.specs.Computed.{Gives, Traps};
 ghost use Rattle.zpl_meaning.specs.Store.{ArrayAt, Scalar, Store};
 ghost use Rattle.zpl_meaning.specs.Context.{Edge, Place};
 ghost use Rattle.zpl_meaning.specs.Term.{Terms};
 ghost use Rattle.zpl_meaning.specs.Settled.{Placed, settled_each};
-ghost use Rattle.zpl_meaning.specs.Fields.{fields_of};
+ghost use Rattle.zpl_meaning.specs.Fields.{Field, fields_of};
 ghost use Rattle.zpl_meaning.specs.Calls.{actuals_in, Handed};
 ghost use Rattle.zpl_meaning.specs.Statement.{assign_to, border_thing, Context, exec_form};
 ghost use Rattle.zpl_meaning.specs.Statement.{head_value, line_of, Start, test_of};
@@ -59,7 +59,7 @@ pub fn evaluations_go_through_their_phases()
 
 /// The first phase fails for a zero divisor or for the limit of regions alone. The operators over
 /// regions of the fourth fail for a zero divisor, or for a remap read past the storage where there
-/// is one.
+/// is one; and what is left at each tuple for a zero divisor.
 pub fn phases_have_their_traps()
     ensures regions { (place : Place) (store : Store) (exprs : List Placed) (kind : TrapKind) →
         settled_each place store exprs ≡ Traps kind → IsRegionTrap kind }
@@ -67,4 +67,7 @@ pub fn phases_have_their_traps()
         fields_of store terms ≡ Traps kind → IsValueTrap kind }
     ensures plain { (store : Store) (terms : Terms) (kind : TrapKind) → HaveNoRemap terms →
         fields_of store terms ≡ Traps kind → kind ≡ DivideByZero }
+    ensures left { (store : Store) (terms : Terms) (fields : List Field) (field : Field)
+        (t : List ℤ) (kind : TrapKind) → fields_of store terms ≡ Gives fields →
+        Contains fields field → field t ≡ Traps kind → kind ≡ DivideByZero }
 {}
