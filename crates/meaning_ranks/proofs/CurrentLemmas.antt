@@ -4,13 +4,15 @@ use Rattle.std.proofs.Common.{◌≡◌, ℕ, zero, suc, ◌+◌, ◌<◌, Bool,
 use Rattle.std.proofs.Common.{◌⊎◌, inl, inr, List, [], ◌∷◌, ◌++◌, map, length, Option, Some, None}
 use Rattle.std.proofs.Common.{option_map, option_to_list, IsSome, refl, sym, ap, ◌∙◌, subst, arith}
 use Rattle.std.proofs.Common.{true≢false, nat_le, Contains}
-use Rattle.std.specs.Prelude.{slice_get, is_some}
+use Rattle.std.specs.Prelude.{slice_get, slice_index_or, is_some}
 use Rattle.std.specs.List.{AllByRecursion, list_any}
+use Rattle.zpl_region.specs.declared.dims.Dim.{Dim}
+use Rattle.zpl_region.specs.declared.dims.Dim.TheVariants.{Flood}
 use Rattle.zpl_region.specs.declared.regions.Region.{Region}
 use Rattle.zpl_tree.specs.Syntax.{Name, Prefix, Program, Stmt, Prefixed, Form, Assign, Call, Invoke}
 use Rattle.zpl_tree.specs.Syntax.{Block, If, While, Repeat, For, Border, Write, Return, Item, Str}
 use Rattle.zpl_tree.specs.Syntax.{Value, Inner, Rexpr, Dims, NamedRegion, Ditto, DimText, Blank, Star}
-use Rattle.zpl_tree.specs.Syntax.{One, Span, DimTexts, NoDim, ThenDim, Pre, Posts, Base}
+use Rattle.zpl_tree.specs.Syntax.{Named, One, Span, DimTexts, NoDim, ThenDim, Pre, Posts, Base}
 use Rattle.zpl_tree.specs.Syntax.{Mask as MaskText}
 use Rattle.zpl_tree.specs.Grammar.{IsProgram, IsPrefix}
 use Rattle.zpl_names.specs.Kinds.{Rank, Shape}
@@ -29,16 +31,22 @@ use Rattle.zpl_names.specs.Faults.{item_rank}
 use Rattle.zpl_names.specs.Accepted.{IsFaultless}
 use Rattle.zpl_names.proofs.NameLemmas.{no_place}
 use Rattle.zpl_names.proofs.ListLemmas.{Contains-from_among}
-use Rattle.zpl_binding.specs.Settings.{Setting}
+use Rattle.zpl_binding.specs.Outcome as bound
+use Rattle.zpl_binding.specs.Regions.{region_named}
 use Rattle.zpl_meaning.specs.Computed.{Computed, Gives, Traps, computed_then}
 use Rattle.zpl_meaning.specs.Store.{Store}
 use Rattle.zpl_meaning.specs.Context.{Mask, Over, Currents, over_at, over_or, with_over, Place}
-use Rattle.zpl_meaning.specs.Regions.{mask_in, over_in, region_in, under_prefix}
+use Rattle.zpl_meaning.specs.Regions.{current_for, mask_in, name_in, over_in, region_in}
+use Rattle.zpl_meaning.specs.Regions.{under_prefix}
 use Rattle.zpl_meaning.specs.Proper.{IsArrayRank}
 use Rattle.zpl_meaning.proofs.DepthLemmas.{each_left, each_right}
-use Rattle.zpl_meaning.proofs.ProperLemmas.{IsClean, Clean, Fits, reach_at, RankLaws, or_false}
+use Rattle.zpl_meaning.proofs.ProperLemmas.{IsClean, Clean, Fits as FitsPlace, reach_at}
+use Rattle.zpl_meaning.proofs.ProperLemmas.{RankLaws}
 use Rattle.zpl_meaning.proofs.StatementLemmas.{fits_under, prefix_proper}
 use Rattle.meaning_runs.specs.Met.{ComesUnder, Bare, Behind}
+use Rattle.meaning_ranks.specs.Shaped.{is_flood, AreFloods, IsShaped}
+use Rattle.meaning_ranks.proofs.ShapeLemmas.{Fits, FitsIn, IsSmall, IsToldFlood, computed_fits}
+use Rattle.meaning_ranks.proofs.ShapeLemmas.{forms_fit, span_fits_in}
 
 -- ---- one current region
 
@@ -46,12 +54,16 @@ abbrev IsUnmaskedOver : Option Over → Type 0
 IsUnmaskedOver None = Unit {0}
 IsUnmaskedOver (Some over) = over.mask ≡ None
 
+abbrev IsShapedOver : Shape → Option Over → Type 0
+IsShapedOver shape None = ⊥
+IsShapedOver shape (Some over) = IsShaped shape over.region
+
 -- what the text says of it: it is never left open
-abbrev IsTold : ℕ → Current → Option Over → Type 0
+abbrev pub IsTold : ℕ → Current → Option Over → Type 0
 IsTold rank Absent over = over ≡ None
 IsTold rank Unknown over = ⊥
 IsTold rank (Shaped shape masked) over =
-    (length shape ≡ rank) × (masked ≡ false → IsUnmaskedOver over)
+    (length shape ≡ rank) × (masked ≡ false → IsUnmaskedOver over) × IsShapedOver shape over
 
 pub record AreTold (shapes : Shapes) (currents : Currents) : Type 0 where
   pub one : IsTold 1 shapes.one currents.one
@@ -97,7 +109,7 @@ some_get (flood ∷ shape) zero h = (flood, refl)
 some_get (flood ∷ shape) (suc k) h =
     some_get shape k (omega (arith, h))
 
-abbrev HasLength : ℕ → Option Shape → Type 0
+abbrev pub HasLength : ℕ → Option Shape → Type 0
 HasLength n None = ⊥
 HasLength n (Some shape) = length shape ≡ n
 
@@ -153,7 +165,7 @@ shape_length : (shape : Option Shape) (found : Shape) (n : ℕ) → shape ≡ So
 shape_length shape found n e h = subst (HasLength n) (sym e) h
 
 -- the shape of a bracket of a rank is known, and has as many dimensions
-region_told : (region : Inner) (place : Place) (shapes : Shapes) (shattered : Rank)
+pub region_told : (region : Inner) (place : Place) (shapes : Shapes) (shattered : Rank)
     (result : Option Base) (hint : Rank) (n : ℕ) → AreTold shapes place.currents
     → inner_rank place.scope hint place.prefix region ≡ Some n → IsArrayRank (Some n)
     → IsClean (AtRegion (reach_at place shapes shattered result) hint region)
@@ -195,14 +207,110 @@ region_told (Dims dims) place shapes shattered result hint n told e p h =
         let got = some_get found.0 k (subst (λ m. k < m) (sym found.2) below) in
         some_of (dim_of_current (current_at shapes n) k) got.0 (found.1 k ∙ got.1)
 
+-- ---- the region of a bracket
+
+-- a current region that is there has its shape
+told_region : (rank : ℕ) (current : Current) (over : Option Over) → IsTold rank current over
+    → Fits (shape_of_current current) (bound.Gives (over_or over).region)
+told_region rank Absent over h = tt
+told_region rank Unknown over h = absurd h
+told_region rank (Shaped shape masked) None h = absurd h.2
+told_region rank (Shaped shape masked) (Some over) h = h.2
+
+pub flood_at : (shape : Shape) (dims : List Dim) (k : ℕ) (b : Bool) → AreFloods shape dims
+    → slice_get shape k ≡ Some b → is_flood (slice_index_or dims k Flood) ≡ b
+flood_at [] dims k b h e = cc
+flood_at (flood ∷ shape) [] k b h e = absurd h
+flood_at (flood ∷ shape) (dim ∷ dims) zero b h e = by e
+  where
+    by : Some flood ≡ Some b → is_flood dim ≡ b
+    by e = h.0 ∙ same e
+      where
+        same : Some flood ≡ Some b → flood ≡ b
+        same e = cc
+flood_at (flood ∷ shape) (dim ∷ dims) (suc k) b h e = flood_at shape dims k b h.1 e
+
+told_flood : (rank : ℕ) (current : Current) (over : Option Over) → IsTold rank current over
+    → IsToldFlood current (over_or over).region
+told_flood rank Absent over h k b e = cc
+told_flood rank Unknown over h k b e = absurd h
+told_flood rank (Shaped shape masked) None h k b e = absurd h.2
+told_flood rank (Shaped shape masked) (Some over) h k b e =
+    flood_at shape over.region.dims k b h.2.floods e
+
+absent_flood : (region : Region) → IsToldFlood Absent region
+absent_flood region k b e = cc
+
+small : (n : ℕ) (shape : Option Shape) → IsArrayRank (Some n) → HasLength n shape → IsSmall shape
+small n None p h = tt
+small (suc zero) (Some shape) p h = omega (arith, h)
+small (suc (suc zero)) (Some shape) p h = omega (arith, h)
+small (suc (suc (suc zero))) (Some shape) p h = omega (arith, h)
+small zero (Some shape) p h = absurd p
+small (suc (suc (suc (suc n)))) (Some shape) p h = absurd p
+
+-- regions that are named are as the text says
+abbrev pub KnowsRegions : Place → Type 0
+KnowsRegions place =
+    (name : Name) → Fits (region_shape (kind_of place.scope name))
+    (region_named place.setup.known name)
+
+over_there : (shapes : Shapes) (currents : Currents) (told : AreTold shapes currents) (n : ℕ)
+    → IsArrayRank (Some n) → over_at currents (Some n) ≡ over_or (OverAt shapes currents told n)
+over_there shapes currents told (suc zero) p = refl
+over_there shapes currents told (suc (suc zero)) p = refl
+over_there shapes currents told (suc (suc (suc zero))) p = refl
+over_there shapes currents told zero p = absurd p
+over_there shapes currents told (suc (suc (suc (suc n)))) p = absurd p
+
+-- what a bracket of a rank comes to
+pub region_comes : (region : Inner) (place : Place) (shapes : Shapes) (store : Store) (hint : Rank)
+    (n : ℕ) → KnowsRegions place → AreTold shapes place.currents
+    → inner_rank place.scope hint place.prefix region ≡ Some n → IsArrayRank (Some n)
+    → HasLength n (shape_within place.scope (current_at shapes n) region)
+    → FitsIn (shape_within place.scope (current_at shapes n) region)
+    (region_in place store hint region)
+region_comes (Rexpr pre (NamedRegion name) post) place shapes store hint n known told e p h =
+    by (is_index place.scope pre name post)
+  where
+    by : (b : Bool)
+        → FitsIn (cond b (Some (false ∷ [])) (region_shape (kind_of place.scope name)))
+        (name_in b place store
+        (current_for place hint (Rexpr pre (NamedRegion name) post)) pre name post)
+    by true =
+        span_fits_in (ThenDim (One (Named name.at name)) NoDim) place.environment store Absent
+        (current_for place hint (Rexpr pre (NamedRegion name) post))
+        (absent_flood (current_for place hint (Rexpr pre (NamedRegion name) post))) (omega arith)
+    by false =
+        computed_fits (region_shape (kind_of place.scope name)) _
+        (forms_fit place.setup.known pre post (region_shape (kind_of place.scope name))
+        (region_named place.setup.known name) (known name))
+region_comes (Rexpr pre (Ditto at) post) place shapes store hint n known told e p h =
+    computed_fits (shape_of_current (current_at shapes n)) _
+    (forms_fit place.setup.known pre post (shape_of_current (current_at shapes n)) _
+    (subst (λ (over : Over). Fits (shape_of_current (current_at shapes n))
+    (bound.Gives over.region))
+    (sym (ap (over_at place.currents) e ∙ over_there shapes place.currents told n p))
+    (told_region n (current_at shapes n) (OverAt shapes place.currents told n)
+    (told_at shapes place.currents told n p))))
+region_comes (Dims dims) place shapes store hint n known told e p h =
+    span_fits_in dims place.environment store (current_at shapes n)
+    (current_for place hint (Dims dims))
+    (subst (λ (over : Over). IsToldFlood (current_at shapes n) over.region)
+    (sym (ap (over_at place.currents) e ∙ over_there shapes place.currents told n p))
+    (told_flood n (current_at shapes n) (OverAt shapes place.currents told n)
+    (told_at shapes place.currents told n p)))
+    (small n (dims_shape (current_at shapes n) 0 dims) p h)
+
 -- ---- prefixes
 
-over_told : (n : ℕ) (shape : Option Shape) (masked : Bool) (over : Over) → HasLength n shape
-    → (masked ≡ false → over.mask ≡ None) → IsTold n (current_over shape masked) (Some over)
-over_told n None masked over h m = absurd h
-over_told n (Some shape) masked over h m = (h, m)
+pub over_told : (n : ℕ) (shape : Option Shape) (masked : Bool) (over : Over) → HasLength n shape
+    → (masked ≡ false → over.mask ≡ None) → FitsIn shape (Gives over.region)
+    → IsTold n (current_over shape masked) (Some over)
+over_told n None masked over h m f = absurd h
+over_told n (Some shape) masked over h m f = (h, m, f)
 
-with_told : (shapes : Shapes) (currents : Currents) (n : ℕ) (current : Current) (over : Over)
+pub with_told : (shapes : Shapes) (currents : Currents) (n : ℕ) (current : Current) (over : Over)
     → IsArrayRank (Some n) → AreTold shapes currents → IsTold n current (Some over)
     → AreTold (with_current shapes (Some n) current) (with_over currents (Some n) over)
 with_told shapes currents (suc zero) current over p h k =
@@ -239,18 +347,45 @@ over_mask place store prefix over e =
         ap_mask e = cc
     by (Traps kind) e = cc
 
-rank_is : (rank : Rank) → IsArrayRank rank → (n : ℕ) × (rank ≡ Some n)
+over_region : (place : Place) (store : Store) (prefix : Prefix) (over : Over)
+    (shape : Option Shape) → over_in place store prefix ≡ Gives over
+    → FitsIn shape (region_in place store (mask_rank place.scope prefix.mask) prefix.region)
+    → FitsIn shape (Gives over.region)
+over_region place store prefix over shape e =
+    by (region_in place store (mask_rank place.scope prefix.mask) prefix.region) e
+  where
+    by : (computed : Computed Region)
+        → computed_then computed (λ region. Gives (record {
+          region = region;
+          mask = mask_in place.environment prefix.mask;
+        })) ≡ Gives over
+        → FitsIn shape computed → FitsIn shape (Gives over.region)
+    by (Gives region) e h = subst (λ r. FitsIn shape (Gives r)) (same e) h
+      where
+        same : Gives (record {
+              region = region;
+              mask = mask_in place.environment prefix.mask;
+            }) ≡ Gives over → region ≡ over.region
+        same e = cc
+    by (Traps kind) e h = cc
+
+pub rank_is : (rank : Rank) → IsArrayRank rank → (n : ℕ) × (rank ≡ Some n)
 rank_is (Some n) p = (n, refl)
 rank_is None p = absurd p
 
+pub region_first : (reach : Reach) (hint : Rank) (region : Inner)
+    → Clean (region_sites reach hint region) → IsClean (AtRegion reach hint region)
+region_first reach hint (Rexpr pre base post) h = h.0
+region_first reach hint (Dims dims) h = h.0
+
 module _ (laws : RankLaws) (shattered : Rank) (result : Option Base) where
   prefix_told : (place : Place) (shapes : Shapes) (store : Store) (prefix : Prefix) (over : Over)
-      → Fits place shapes → AreTold shapes place.currents
+      → FitsPlace place shapes → KnowsRegions place → AreTold shapes place.currents
       → Clean (prefix_sites (reach_at place shapes shattered result) prefix) → IsPrefix prefix
       → over_in place store prefix ≡ Gives over
       → AreTold (shapes_under place.scope shapes (prefix_rank place.scope place.prefix prefix)
       prefix) (under_prefix place prefix over).currents
-  prefix_told place shapes store prefix over fits told h g e =
+  prefix_told place shapes store prefix over fits known told h g e =
       let reach = reach_at place shapes shattered result in
       let hint = mask_rank place.scope prefix.mask in
       let rank = prefix_rank place.scope place.prefix prefix in
@@ -267,30 +402,30 @@ module _ (laws : RankLaws) (shattered : Rank) (result : Option Base) where
       (is_some prefix.mask) over
       (region_told prefix.region place shapes shattered result hint is.0 told is.1 q
       (region_first reach hint prefix.region sites))
-      (λ none. sym (over_mask place store prefix over e) ∙ no_mask prefix.mask place none)))
-    where
-      region_first : (reach : Reach) (hint : Rank) (region : Inner)
-          → Clean (region_sites reach hint region) → IsClean (AtRegion reach hint region)
-      region_first reach hint (Rexpr pre base post) h = h.0
-      region_first reach hint (Dims dims) h = h.0
+      (λ none. sym (over_mask place store prefix over e) ∙ no_mask prefix.mask place none)
+      (over_region place store prefix over
+      (shape_within place.scope (current_at shapes is.0) prefix.region) e
+      (region_comes prefix.region place shapes store hint is.0 known told is.1 q
+      (region_told prefix.region place shapes shattered result hint is.0 told is.1 q
+      (region_first reach hint prefix.region sites))))))
 
   pub prefixes_told : (prefixes : List Prefix) (place inner : Place) (shapes : Shapes)
-      (store : Store) → ComesUnder store prefixes place inner → Fits place shapes
-      → AreTold shapes place.currents
+      (store : Store) → ComesUnder store prefixes place inner → FitsPlace place shapes
+      → KnowsRegions place → AreTold shapes place.currents
       → Clean (prefixes_sites (reach_at place shapes shattered result) prefixes)
       → AllByRecursion IsPrefix prefixes
       → AreTold (under_prefixes (reach_at place shapes shattered result) prefixes).shapes
       inner.currents
-  prefixes_told [] place inner shapes store (Bare same) fits told h g = told
+  prefixes_told [] place inner shapes store (Bare same) fits known told h g = told
   prefixes_told (prefix ∷ rest) place inner shapes store
-      (Behind _ _ _ _ over is comes) fits told h g =
+      (Behind _ _ _ _ over is comes) fits known told h g =
       let reach = reach_at place shapes shattered result in
       let sites = each_left IsClean (prefix_sites reach prefix)
       (prefixes_sites (reach_under reach prefix) rest) h in
       prefixes_told rest (under_prefix place prefix over) inner
       (shapes_under place.scope shapes (prefix_rank place.scope place.prefix prefix) prefix) store
-      comes (fits_under laws place shapes shattered result prefix over fits sites g.0)
-      (prefix_told place shapes store prefix over fits told sites g.0 is)
+      comes (fits_under laws place shapes shattered result prefix over fits sites g.0) known
+      (prefix_told place shapes store prefix over fits known told sites g.0 is)
       (each_right IsClean (prefix_sites reach prefix)
       (prefixes_sites (reach_under reach prefix) rest) h) g.1
 
@@ -300,7 +435,7 @@ told_unmasked : (rank : ℕ) (current : Current) (over : Option Over) → IsTold
     → is_masked current ≡ false → (over_or over).mask ≡ None
 told_unmasked rank Absent over h e = ap (λ o. (over_or o).mask) h
 told_unmasked rank Unknown over h e = absurd h
-told_unmasked rank (Shaped shape masked) None h e = refl
+told_unmasked rank (Shaped shape masked) None h e = absurd h.2
 told_unmasked rank (Shaped shape masked) (Some over) h e = h.1 e
 
 pub unmasked : (rank : Rank) (shapes : Shapes) (currents : Currents) → AreTold shapes currents

@@ -8,3 +8,6 @@ pub mod CurrentLemmas
 pub mod ValueLemmas
 pub mod MetLemmas
 pub mod BorderLemmas
+pub mod ShapeLemmas
+pub mod RegionLemmas
+pub mod FlatLemmas

@@ -1,6 +1,6 @@
 -- Where a run comes to, the current regions are as the text says: so prints and borders have no mask.
 use Rattle.std.proofs.Common.{◌≡◌, ℕ, suc, Bool, true, false, ◌&&◌, List, [], ◌∷◌, map, Option}
-use Rattle.std.proofs.Common.{Some, None, length, refl, ap, subst}
+use Rattle.std.proofs.Common.{Some, None, length, refl, sym, ap, subst}
 use Rattle.std.specs.List.{list_any}
 use Rattle.zpl_nums.specs.declared.ends.Border.{Border as BorderKind}
 use Rattle.zpl_tree.specs.Syntax.{Name, Call, Exprs, Prefix, Program, Stmt, Prefixed, Form, Assign}
@@ -8,6 +8,8 @@ use Rattle.zpl_tree.specs.Syntax.{Invoke, Block, If, While, Repeat, For, Border,
 use Rattle.zpl_tree.specs.Syntax.{Str, Value, Base}
 use Rattle.zpl_tree.specs.Grammar.{IsProgram}
 use Rattle.zpl_names.specs.Kinds.{Rank}
+use Rattle.zpl_names.specs.Scope.{kind_of}
+use Rattle.zpl_names.specs.Ranks.{region_shape}
 use Rattle.zpl_names.specs.Shapes.{Shapes, no_shapes, current_of}
 use Rattle.zpl_names.specs.Declared.{Routine, routine_named}
 use Rattle.zpl_names.specs.Sites.{Reach, Printed, whole_rank}
@@ -16,12 +18,15 @@ use Rattle.zpl_names.specs.Accepted.{IsFaultless}
 use Rattle.zpl_names.proofs.NameLemmas.{no_place}
 use Rattle.zpl_names.proofs.ListLemmas.{Contains-from_among}
 use Rattle.zpl_binding.specs.Settings.{Setting}
+use Rattle.zpl_binding.specs.Regions.{region_named}
+use Rattle.zpl_binding.specs.Declarations.{known_of}
 use Rattle.zpl_meaning.specs.Store.{Store}
-use Rattle.zpl_meaning.specs.Context.{Place}
+use Rattle.zpl_meaning.specs.Context.{Place, Setup}
 use Rattle.zpl_meaning.specs.Regions.{under_prefix}
 use Rattle.zpl_meaning.specs.Calls.{Called}
 use Rattle.zpl_meaning.specs.Visited.{parts_of, IsUnder, IsCall, body_place, IsVisited}
 use Rattle.zpl_meaning.proofs.ProperLemmas.{reach_at, or_false}
+use Rattle.zpl_meaning.proofs.NamesLemmas.{routine_sound}
 use Rattle.zpl_meaning.proofs.VisitLemmas.{Laws, clean_of, Inside, InStmt, visited_proper}
 use Rattle.meaning_runs.specs.Met.{ComesUnder, MakesCall, call_of, Opening, opening_of, context_at}
 use Rattle.meaning_runs.specs.Met.{IsMet}
@@ -35,7 +40,10 @@ use Rattle.meaning_ranks.proofs.PlaceLemmas.{call_at_body, proper_behind, proper
 use Rattle.meaning_ranks.proofs.VisitedLemmas.{visited_ranked, ranked_behind}
 use Rattle.meaning_ranks.proofs.BorderLemmas.{bordered}
 use Rattle.meaning_ranks.proofs.ValueLemmas.{handed_values}
-use Rattle.meaning_ranks.proofs.CurrentLemmas.{AreTold, prefixes_told, unmasked}
+use Rattle.meaning_ranks.proofs.CurrentLemmas.{AreTold, KnowsRegions, prefixes_told}
+use Rattle.meaning_ranks.proofs.CurrentLemmas.{unmasked}
+use Rattle.meaning_ranks.proofs.ShapeLemmas.{Fits}
+use Rattle.meaning_ranks.proofs.RegionLemmas.{reach_fits}
 
 comes_under : (store : Store) (prefixes : List Prefix) (place inner : Place)
     → ComesUnder store prefixes place inner → IsUnder prefixes place inner
@@ -54,6 +62,17 @@ module _ (program : Program) (settings : List Setting) (laws : Laws program)
     pub here : IsAt program settings laws grammar clean place shapes stmt
     pub told : AreTold shapes place.currents
 
+  -- the regions that are named there
+  regions_known : (place : Place) (shapes : Shapes) (stmt : Stmt)
+      → IsAt program settings laws grammar clean place shapes stmt → KnowsRegions place
+  regions_known place shapes stmt h name =
+      subst (λ (setup : Setup). Fits (region_shape (kind_of place.scope name))
+      (region_named setup.known name)) (sym h.owned)
+      (subst (λ scope. Fits (region_shape (kind_of scope name))
+      (region_named (known_of program settings) name)) (sym h.scoped)
+      (reach_fits program settings clean h.routine
+      (routine_sound program.decls [] h.routine tt grammar h.member) name))
+
   -- and behind prefixes
   told_behind : (store : Store) (place inner : Place) (at : ℕ) (prefixes : List Prefix)
       (form : Form) (h : IsToldAt place (Prefixed at prefixes form))
@@ -67,7 +86,8 @@ module _ (program : Program) (settings : List Setting) (laws : Laws program)
       subst (λ shapes. AreTold shapes inner.currents) (ap (λ (reach : Reach). reach.shapes)
       deeper.same)
       (prefixes_told laws.ranks h.here.shattered h.here.result prefixes place inner h.shapes store
-      comes h.here.fits h.told
+      comes h.here.fits
+      (regions_known place h.shapes (Prefixed at prefixes form) h.here) h.told
       (clean_of program h.here.text h.here.around _ h.here.sites.0) h.here.tree.0)
 
   called_told : (store : Store) (place inner : Place) (at : ℕ) (prefixes : List Prefix)

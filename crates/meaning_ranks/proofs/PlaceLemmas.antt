@@ -302,7 +302,7 @@ module _ (program : Program) (text : List ℕ) (around : Shapes) where
 some_same : {A : Type 0} (a b : A) → Some a ≡ Some b → a ≡ b
 some_same a b e = cc
 
-none_there : (xs : List ℕ) → ((at : ℕ) → ¬ Contains xs at) → xs ≡ []
+pub none_there : (xs : List ℕ) → ((at : ℕ) → ¬ Contains xs at) → xs ≡ []
 none_there [] h = refl
 none_there (x ∷ xs) h = absurd (h x (zero, omega arith, refl))
 
@@ -439,7 +439,7 @@ or_good None other h k = k
 or_good (Some kind) other h k = h
 
 -- two lists of entries, one behind the other
-found_in : (xs ys : List Entry) (text : List ℕ)
+pub found_in : (xs ys : List Entry) (text : List ℕ)
     → kind_in (xs ++ ys) text ≡ option_or (kind_in xs text) (kind_in ys text)
 found_in [] ys text = refl
 found_in (x ∷ xs) ys text = by (bytes_eq x.name.text text) (found_in xs ys text)
