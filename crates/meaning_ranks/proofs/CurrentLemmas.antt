@@ -44,7 +44,7 @@ use Rattle.zpl_meaning.proofs.ProperLemmas.{IsClean, Clean, Fits as FitsPlace, r
 use Rattle.zpl_meaning.proofs.ProperLemmas.{RankLaws}
 use Rattle.zpl_meaning.proofs.StatementLemmas.{fits_under, prefix_proper}
 use Rattle.meaning_runs.specs.Met.{ComesUnder, Bare, Behind}
-use Rattle.meaning_ranks.specs.Shaped.{is_flood, AreFloods, IsShaped}
+use Rattle.meaning_ranks.specs.Shaped.{is_flood, AreFloods, IsShaped, IsOverOf, HaveTheirRanks}
 use Rattle.meaning_ranks.proofs.ShapeLemmas.{Fits, FitsIn, IsSmall, IsToldFlood, computed_fits}
 use Rattle.meaning_ranks.proofs.ShapeLemmas.{forms_fit, span_fits_in}
 
@@ -363,9 +363,9 @@ over_region place store prefix over shape e =
     by (Gives region) e h = subst (λ r. FitsIn shape (Gives r)) (same e) h
       where
         same : Gives (record {
-              region = region;
-              mask = mask_in place.environment prefix.mask;
-            }) ≡ Gives over → region ≡ over.region
+          region = region;
+          mask = mask_in place.environment prefix.mask;
+        }) ≡ Gives over → region ≡ over.region
         same e = cc
     by (Traps kind) e h = cc
 
@@ -449,3 +449,20 @@ unmasked (Some (suc (suc (suc zero)))) shapes currents h e =
 unmasked (Some zero) shapes currents h e = refl
 unmasked (Some (suc (suc (suc (suc n))))) shapes currents h e = refl
 unmasked None shapes currents h e = refl
+
+-- ---- ranks
+
+told_rank : (rank : ℕ) (current : Current) (over : Option Over) → IsTold rank current over
+    → IsOverOf rank over
+told_rank rank Absent over h = subst (IsOverOf rank) (sym h) tt
+told_rank rank Unknown over h = absurd h
+told_rank rank (Shaped shape masked) None h = tt
+told_rank rank (Shaped shape masked) (Some over) h = h.2.rank ∙ h.0
+
+pub their_ranks : (shapes : Shapes) (currents : Currents) → AreTold shapes currents
+    → HaveTheirRanks currents
+their_ranks shapes currents told = record {
+  one = told_rank 1 shapes.one currents.one told.one;
+  two = told_rank 2 shapes.two currents.two told.two;
+  three = told_rank 3 shapes.three currents.three told.three;
+}

@@ -70,7 +70,7 @@ first_not_above (Some (suc n)) other k e = absurd (true≢false e)
 not_above : (rank : Rank) → IsSome rank → is_above_zero rank ≡ false → rank ≡ Some 0
 not_above rank k e = sym (zero_rank rank k e)
 
-joined_rank : (rank own other given : Rank) → IsArrayRank rank → IsSome (first_rank own given)
+pub joined_rank : (rank own other given : Rank) → IsArrayRank rank → IsSome (first_rank own given)
     → first_rank (both_ranks rank own) other ≡ rank
 joined_rank rank None other given p k = none_is_not None k refl
 joined_rank (Some (suc a)) (Some b) other given p k = refl

@@ -11,3 +11,4 @@ pub mod BorderLemmas
 pub mod ShapeLemmas
 pub mod RegionLemmas
 pub mod FlatLemmas
+pub mod FlatFormLemmas

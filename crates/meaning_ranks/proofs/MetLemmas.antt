@@ -6,13 +6,13 @@ use Rattle.zpl_nums.specs.declared.ends.Border.{Border as BorderKind}
 use Rattle.zpl_tree.specs.Syntax.{Name, Call, Exprs, Prefix, Program, Stmt, Prefixed, Form, Assign}
 use Rattle.zpl_tree.specs.Syntax.{Invoke, Block, If, While, Repeat, For, Border, Write, Return, Item}
 use Rattle.zpl_tree.specs.Syntax.{Str, Value, Base}
-use Rattle.zpl_tree.specs.Grammar.{IsProgram}
+use Rattle.zpl_tree.specs.Grammar.{IsForm, IsProgram}
 use Rattle.zpl_names.specs.Kinds.{Rank}
 use Rattle.zpl_names.specs.Scope.{kind_of}
 use Rattle.zpl_names.specs.Ranks.{region_shape}
 use Rattle.zpl_names.specs.Shapes.{Shapes, no_shapes, current_of}
 use Rattle.zpl_names.specs.Declared.{Routine, routine_named}
-use Rattle.zpl_names.specs.Sites.{Reach, Printed, whole_rank}
+use Rattle.zpl_names.specs.Sites.{Reach, Printed, form_sites, whole_rank}
 use Rattle.zpl_names.specs.Faults.{is_masked, is_under_mask, item_rank, takes_no_mask, form_ranks}
 use Rattle.zpl_names.specs.Accepted.{IsFaultless}
 use Rattle.zpl_names.proofs.NameLemmas.{no_place}
@@ -25,24 +25,32 @@ use Rattle.zpl_meaning.specs.Context.{Place, Setup}
 use Rattle.zpl_meaning.specs.Regions.{under_prefix}
 use Rattle.zpl_meaning.specs.Calls.{Called}
 use Rattle.zpl_meaning.specs.Visited.{parts_of, IsUnder, IsCall, body_place, IsVisited}
-use Rattle.zpl_meaning.proofs.ProperLemmas.{reach_at, or_false}
+use Rattle.zpl_meaning.specs.Proper.{IsProperForm}
+use Rattle.zpl_meaning.proofs.ProperLemmas.{Fits, reach_at, or_false}
 use Rattle.zpl_meaning.proofs.NamesLemmas.{routine_sound}
-use Rattle.zpl_meaning.proofs.VisitLemmas.{Laws, clean_of, Inside, InStmt, visited_proper}
+use Rattle.zpl_meaning.proofs.VisitLemmas.{Laws, clean_of, Inside, InStmt, InBody}
+use Rattle.zpl_meaning.proofs.VisitLemmas.{visited_proper}
 use Rattle.meaning_runs.specs.Met.{ComesUnder, MakesCall, call_of, Opening, opening_of, context_at}
 use Rattle.meaning_runs.specs.Met.{IsMet}
 use Rattle.meaning_runs.proofs.PartLemmas.{goes_among}
 use Rattle.meaning_runs.proofs.VisitedLemmas.{met_visited}
 use Rattle.meaning_runs.specs.Held.{HasPlaces}
 use Rattle.meaning_ranks.specs.Bordered.{ComesToName, IsBordered}
+use Rattle.meaning_ranks.specs.Shaped.{HaveTheirRanks}
+use Rattle.meaning_ranks.specs.Flat.{IsFlatForm}
+use Rattle.meaning_ranks.specs.Ranked.{IsRankedForm}
 use Rattle.meaning_ranks.specs.Unmasked.{HasNoMask, AreUnmaskedItems, IsUnmasked}
 use Rattle.meaning_ranks.proofs.PlaceLemmas.{IsAt, behind, inside_at, entry_at, part_at}
+use Rattle.meaning_ranks.proofs.PlaceLemmas.{same_scope}
 use Rattle.meaning_ranks.proofs.PlaceLemmas.{call_at_body, proper_behind, proper_called}
-use Rattle.meaning_ranks.proofs.VisitedLemmas.{visited_ranked, ranked_behind}
+use Rattle.meaning_ranks.proofs.VisitedLemmas.{aimed, visited_ranked, ranked_behind}
+use Rattle.meaning_ranks.proofs.RankLemmas.{KnowsDirections}
+use Rattle.meaning_ranks.proofs.FlatFormLemmas.{form_flat}
 use Rattle.meaning_ranks.proofs.BorderLemmas.{bordered}
 use Rattle.meaning_ranks.proofs.ValueLemmas.{handed_values}
 use Rattle.meaning_ranks.proofs.CurrentLemmas.{AreTold, KnowsRegions, prefixes_told}
-use Rattle.meaning_ranks.proofs.CurrentLemmas.{unmasked}
-use Rattle.meaning_ranks.proofs.ShapeLemmas.{Fits}
+use Rattle.meaning_ranks.proofs.CurrentLemmas.{unmasked, their_ranks}
+use Rattle.meaning_ranks.proofs.ShapeLemmas.{Fits as FitsRegion}
 use Rattle.meaning_ranks.proofs.RegionLemmas.{reach_fits}
 
 comes_under : (store : Store) (prefixes : List Prefix) (place inner : Place)
@@ -50,6 +58,13 @@ comes_under : (store : Store) (prefixes : List Prefix) (place inner : Place)
 comes_under store prefixes place inner (ComesUnder.Bare same) = IsUnder.Itself
 comes_under store prefixes place inner (ComesUnder.Behind prefix rest outer last over is comes) =
     IsUnder.Behind over (comes_under store rest (under_prefix outer prefix over) last comes)
+
+-- what is known of regions holds behind prefixes too
+known_behind : (prefixes : List Prefix) (place inner : Place) → IsUnder prefixes place inner
+    → KnowsRegions place → KnowsRegions inner
+known_behind [] place inner IsUnder.Itself h = h
+known_behind (prefix ∷ rest) place inner (IsUnder.Behind over deeper) h =
+    known_behind rest (under_prefix place prefix over) inner deeper h
 
 module _ (program : Program) (settings : List Setting) (laws : Laws program)
     (grammar : IsProgram program) (clean : IsFaultless program) (n : ℕ) where
@@ -66,9 +81,9 @@ module _ (program : Program) (settings : List Setting) (laws : Laws program)
   regions_known : (place : Place) (shapes : Shapes) (stmt : Stmt)
       → IsAt program settings laws grammar clean place shapes stmt → KnowsRegions place
   regions_known place shapes stmt h name =
-      subst (λ (setup : Setup). Fits (region_shape (kind_of place.scope name))
+      subst (λ (setup : Setup). FitsRegion (region_shape (kind_of place.scope name))
       (region_named setup.known name)) (sym h.owned)
-      (subst (λ scope. Fits (region_shape (kind_of scope name))
+      (subst (λ scope. FitsRegion (region_shape (kind_of scope name))
       (region_named (known_of program settings) name)) (sym h.scoped)
       (reach_fits program settings clean h.routine
       (routine_sound program.decls [] h.routine tt grammar h.member) name))
@@ -236,3 +251,52 @@ module _ (program : Program) (settings : List Setting) (laws : Laws program)
       bordered inner kind line names store name later at_name (has met comes) proper.0 proper.1
       (ranked_behind prefixes (Border kind names) place inner
       (visited_ranked program settings laws grammar clean place stmt visited) under)
+
+  -- ---- flood dimensions
+
+  inside_flat : {text : List ℕ} {around : Shapes} (form : Form) (at : ℕ)
+      (prefixes : List Prefix) (place : Place) (shapes : Shapes) (shattered : Rank)
+      (result : Option Base) → Fits place shapes → KnowsDirections place.scope
+      → KnowsRegions place → AreTold shapes place.currents
+      → Inside program text around (reach_at place shapes shattered result) at prefixes form
+      → IsForm form → IsProperForm place form → IsRankedForm place form → IsFlatForm place form
+  inside_flat {text} {around} form at prefixes place shapes shattered result fits aimed known told
+      (InStmt h) g q r =
+      form_flat laws.ranks place shapes shattered result fits aimed known told form at prefixes
+      h.0.clean
+      (clean_of program text around (form_sites (reach_at place shapes shattered result) form) h.1)
+      g q r
+  inside_flat (Block body) at prefixes place shapes shattered result fits aimed known told
+      (InBody answer h) g q r = tt
+
+  pub met_flat : (deeper : ℕ) (place inner : Place) (at : ℕ) (prefixes : List Prefix)
+      (form : Form) (store : Store)
+      → IsMet start deeper place (Prefixed at prefixes form) store
+      → ComesUnder store prefixes place inner → IsFlatForm inner form
+  met_flat deeper place inner at prefixes form store met comes =
+      let stmt = Prefixed at prefixes form in
+      let h = met_told deeper place stmt store met in
+      let under = comes_under store prefixes place inner comes in
+      let visited = met_visited start deeper place stmt store met in
+      let deep = behind program settings laws grammar clean place inner h.shapes at prefixes form
+      h.here under in
+      inside_flat form at prefixes inner deep.under h.here.shattered h.here.result deep.fits
+      (subst KnowsDirections
+      (sym (same_scope program settings laws grammar clean prefixes place inner under))
+      (aimed program settings laws grammar clean place h.shapes stmt h.here))
+      (known_behind prefixes place inner under (regions_known place h.shapes stmt h.here))
+      (told_behind store place inner at prefixes form h comes)
+      (inside_at program settings laws grammar clean place inner h.shapes at prefixes form h.here
+      under) h.here.tree.1
+      (proper_behind program settings laws grammar clean prefixes form place inner
+      (visited_proper program settings laws grammar clean place stmt visited) under)
+      (ranked_behind prefixes form place inner
+      (visited_ranked program settings laws grammar clean place stmt visited) under)
+
+  pub met_ranks : (deeper : ℕ) (place inner : Place) (at : ℕ) (prefixes : List Prefix)
+      (form : Form) (store : Store)
+      → IsMet start deeper place (Prefixed at prefixes form) store
+      → ComesUnder store prefixes place inner → HaveTheirRanks inner.currents
+  met_ranks deeper place inner at prefixes form store met comes =
+      let h = met_told deeper place (Prefixed at prefixes form) store met in
+      their_ranks _ inner.currents (told_behind store place inner at prefixes form h comes)

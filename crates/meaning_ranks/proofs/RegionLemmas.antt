@@ -380,9 +380,10 @@ module _ (globals : List Entry) (once : repeated [] (map (λ entry. entry.name) 
 
   front_of : (xs ys : List Entry) → (more : List Entry) × (ys ≡ xs ++ more) → Extends ys
       → Extends xs
-  front_of xs ys one other =
-      (one.0 ++ other.0,
-      other.1 ∙ ap (λ zs. zs ++ other.0) one.1 ∙ append_assoc xs one.0 other.0)
+  front_of xs ys one other = (
+    one.0 ++ other.0,
+    other.1 ∙ ap (λ zs. zs ++ other.0) one.1 ∙ append_assoc xs one.0 other.0,
+  )
 
   abbrev Adds-to : List Entry → List Entry → Type 0
   Adds-to xs ys = (more : List Entry) × (ys ≡ xs ++ more)
@@ -393,9 +394,10 @@ module _ (globals : List Entry) (once : repeated [] (map (λ entry. entry.name) 
   adds_each adds one [] xs = ([], sym (append-nil xs))
   adds_each adds one (a ∷ rest) xs =
       let first = one xs a in
-      let later = adds_each adds one rest (adds xs a) in
-      (first.0 ++ later.0,
-      later.1 ∙ ap (λ zs. zs ++ later.0) first.1 ∙ append_assoc xs first.0 later.0)
+      let later = adds_each adds one rest (adds xs a) in (
+        first.0 ++ later.0,
+        later.1 ∙ ap (λ zs. zs ++ later.0) first.1 ∙ append_assoc xs first.0 later.0,
+      )
 
   adds_decl : (xs : List Entry) (decl : Decl) → Adds-to xs (with_decl xs decl)
   adds_decl xs (Config defines) =

@@ -28,7 +28,7 @@ module _ (program : Program) (settings : List Setting) (laws : Laws program)
   At place shapes stmt = IsAt program settings laws grammar clean place shapes stmt
 
   -- the directions in reach
-  aimed : (place : Place) (shapes : Shapes) (stmt : Stmt) → At place shapes stmt
+  pub aimed : (place : Place) (shapes : Shapes) (stmt : Stmt) → At place shapes stmt
       → KnowsDirections place.scope
   aimed place shapes stmt h =
       let member = Contains-from_among (routines_of program) h.routine h.member in

@@ -16,6 +16,8 @@ ghost use Rattle.meaning_runs.specs.Met.{ComesUnder, IsMet, MakesCall, opening_o
 ghost use Rattle.meaning_ranks.specs.Ranked.{IsRankedStmt};
 ghost use Rattle.meaning_ranks.specs.Answered.{HasAnswered};
 ghost use Rattle.meaning_ranks.specs.Bordered.{ComesToName, IsBordered};
+ghost use Rattle.meaning_ranks.specs.Flat.{IsFlatForm};
+ghost use Rattle.meaning_ranks.specs.Shaped.{HaveTheirRanks};
 ghost use Rattle.meaning_ranks.specs.Unmasked.{IsUnmasked};
 
 use meaning_runs::{
@@ -34,6 +36,38 @@ pub fn ranks_agree()
     ensures { (program : Program) (settings : List Setting) → IsProgram program →
         IsFaultless program → (place : Place) (stmt : Stmt) →
         IsVisited (first_setup program settings) place stmt → IsRankedStmt place stmt }
+{
+    faultless_programs_have_faultless_sites();
+    faultless_programs_leave_nothing_open();
+    declared_ranks_are_at_most_three();
+    procedures_are_there();
+    ranks_are_at_most_three();
+}
+
+/// Where a run of such a program comes to, each current region has the rank whose current region it
+/// is.
+pub fn current_regions_have_their_ranks()
+    ensures { (program : Program) (settings : List Setting) (n : ℕ) → IsProgram program →
+        IsFaultless program → (deeper : ℕ) (place inner : Place) (at : ℕ)
+        (prefixes : List Prefix) (form : Form) (store : Store) →
+        IsMet (opening_of program settings n) deeper place (Prefixed at prefixes form) store →
+        ComesUnder store prefixes place inner → HaveTheirRanks inner.currents }
+{
+    faultless_programs_have_faultless_sites();
+    faultless_programs_leave_nothing_open();
+    declared_ranks_are_at_most_three();
+    procedures_are_there();
+    ranks_are_at_most_three();
+}
+
+/// In such a program no region over which a run reduces, scans, floods, reads at computed tuples,
+/// prints or writes a border has a flood dimension, and no coordinate is one of a flood dimension.
+pub fn no_flood_dimension_is_walked()
+    ensures { (program : Program) (settings : List Setting) (n : ℕ) → IsProgram program →
+        IsFaultless program → (deeper : ℕ) (place inner : Place) (at : ℕ)
+        (prefixes : List Prefix) (form : Form) (store : Store) →
+        IsMet (opening_of program settings n) deeper place (Prefixed at prefixes form) store →
+        ComesUnder store prefixes place inner → IsFlatForm inner form }
 {
     faultless_programs_have_faultless_sites();
     faultless_programs_leave_nothing_open();
