@@ -15,7 +15,7 @@ use Rattle.zpl_tree.specs.Syntax.{ThenArm, Otherwise, NoElse, Else, Base}
 use Rattle.zpl_tree.specs.Grammar.{IsExpr, AreExprs, IsPrefix, IsStep, IsItem, IsStmt, AreStmts}
 use Rattle.zpl_tree.specs.Grammar.{IsForm, AreArms, IsArm, IsOtherwise, expr_level}
 use Rattle.zpl_names.specs.Kinds as kind
-use Rattle.zpl_names.specs.Kinds.{Rank, Kind, Formal, ScalarFormal, ArrayFormal, Shape}
+use Rattle.zpl_names.specs.Kinds.{Rank, Kind, Formal, ScalarFormal, ArrayFormal, Shape, Signature}
 use Rattle.zpl_names.specs.Scope.{kind_of, is_value, is_array, is_fixed, is_procedure}
 use Rattle.zpl_names.specs.Ranks.{IsRank, first_rank, both_ranks, known_rank, ranks_clash}
 use Rattle.zpl_names.specs.Ranks.{is_above_zero, value_rank, array_rank, array_shape, own_rank}
@@ -92,6 +92,37 @@ above_same (Some (suc m)) n e c =
     ap (λ k. Some (suc k)) (sym (eqb-true n m (not_false (n == m) c)))
 above_same (Some zero) n e c = absurd (true≢false (sym e))
 above_same None n e c = absurd (true≢false (sym e))
+
+-- shapes that are known and don't differ are the same
+same_shapes : (one two : Shape) → is_other_shape one two ≡ false → one ≡ two
+same_shapes [] [] e = refl
+same_shapes [] (b ∷ two) e = absurd (true≢false e)
+same_shapes (a ∷ one) [] e = absurd (true≢false e)
+same_shapes (true ∷ one) (true ∷ two) e = ap (λ rest. true ∷ rest) (same_shapes one two e)
+same_shapes (false ∷ one) (false ∷ two) e = ap (λ rest. false ∷ rest) (same_shapes one two e)
+same_shapes (true ∷ one) (false ∷ two) e = absurd (true≢false e)
+same_shapes (false ∷ one) (true ∷ two) e = absurd (true≢false e)
+
+same_shape : (one two : Option Shape) → IsSome one → IsSome two
+    → both_known is_other_shape one two ≡ false → one ≡ two
+same_shape (Some one) (Some two) h k e = ap (λ shape. Some shape) (same_shapes one two e)
+same_shape None two h k e = absurd (true≢false (sym h))
+same_shape (Some one) None h k e = absurd (true≢false (sym k))
+
+shape_there : (shape : Option Shape) → IsArrayRank (option_map length shape) → IsSome shape
+shape_there (Some shape) p = refl
+shape_there None p = absurd p
+
+-- the shape of an array that is a parameter is known
+abbrev pub IsKnownFormal : Formal → Type 0
+IsKnownFormal (ScalarFormal by_ref base) = Unit {0}
+IsKnownFormal (ArrayFormal by_ref base shape) = IsSome shape
+
+abbrev pub KnowsFormals : Place → Type 0
+KnowsFormals place =
+    (name : Name) (signature : Signature)
+    → kind_of place.scope name ≡ Some (kind.Procedure signature)
+    → AllByRecursion IsKnownFormal signature.formals
 
 module _ (laws : RankLaws) where
   module _ (place : Place) (shapes : Shapes) (shattered : Rank) (result : Option Base)
@@ -320,134 +351,137 @@ module _ (laws : RankLaws) where
     actual_of (Flood at source operand) rest h g = whole_actual (Flood at source operand) rest h g
 
     shape_of : (base : Base) (shape : Option Shape) (name : Name) (thing : Option Thing)
-        → IsNamed (kind_of place.scope name) thing → is_value (kind_of place.scope name) ≡ true
+        → IsSome shape → IsNamed (kind_of place.scope name) thing
+        → is_value (kind_of place.scope name) ≡ true
         → fits_array base shape (kind_of place.scope name) ≡ true
-        → both_known is_other_shape shape (array_shape (kind_of place.scope name)) ≡ false
-    shape_of base shape name thing h v f = by (kind_of place.scope name) v f
+        → IsSome shape × (array_shape (kind_of place.scope name) ≡ shape)
+    shape_of base shape name thing some h v f = (some, by (kind_of place.scope name) thing h v f)
       where
-        by : (found : Option Kind) → is_value found ≡ true → fits_array base shape found ≡ true
-            → both_known is_other_shape shape (array_shape found) ≡ false
-        by (Some (kind.Array other own)) v f =
-            not_true (both_known is_other_shape shape own)
+        by : (found : Option Kind) (thing : Option Thing) → IsNamed found thing
+            → is_value found ≡ true → fits_array base shape found ≡ true
+            → array_shape found ≡ shape
+        by (Some (kind.Array other own)) thing h v f =
+            sym (same_shape shape own some (shape_there own h.1)
+            (not_true (both_known is_other_shape shape own)
             (and_true (not (types_differ base (Some other)))
-            (not (both_known is_other_shape shape own)) f).1
-        by (Some (kind.Scalar other)) v f = absurd (true≢false (sym f))
-        by (Some (kind.Config other)) v f = absurd (true≢false (sym f))
-        by (Some (kind.Constant other)) v f = absurd (true≢false (sym f))
-        by (Some (kind.Region own)) v f = absurd (true≢false (sym v))
-        by (Some (kind.Direction rank)) v f = absurd (true≢false (sym v))
-        by (Some (kind.Procedure signature)) v f = absurd (true≢false (sym v))
-        by None v f = absurd (true≢false (sym v))
+            (not (both_known is_other_shape shape own)) f).1))
+        by (Some (kind.Scalar other)) thing h v f = absurd (true≢false (sym f))
+        by (Some (kind.Config other)) thing h v f = absurd (true≢false (sym f))
+        by (Some (kind.Constant other)) thing h v f = absurd (true≢false (sym f))
+        by (Some (kind.Region own)) thing h v f = absurd (true≢false (sym v))
+        by (Some (kind.Direction rank)) thing h v f = absurd (true≢false (sym v))
+        by (Some (kind.Procedure signature)) thing h v f = absurd (true≢false (sym v))
+        by None thing h v f = absurd (true≢false (sym v))
 
     shaped_actual : (by_ref : Bool) (base : Base) (shape : Option Shape) (actual : Expr)
-        (rest : Exprs) → Clean (actuals_sites reach (ThenExpr actual rest))
+        (rest : Exprs) → IsSome shape → Clean (actuals_sites reach (ThenExpr actual rest))
         → actual_fits reach (ArrayFormal by_ref base shape) actual ≡ true
         → IsShapedActual place (ArrayFormal by_ref base shape) actual
-    shaped_actual by_ref base shape (Named at name) rest h f =
-        shape_of base shape name (thing_of place.environment name.text) (fits.names name)
+    shaped_actual by_ref base shape (Named at name) rest some h f =
+        shape_of base shape name (thing_of place.environment name.text) some (fits.names name)
         (taken reach is_value name h.0.none.known) f
-    shaped_actual by_ref base shape (Number at value) rest h f = absurd (true≢false (sym f))
-    shaped_actual by_ref base shape (Truth at value) rest h f = absurd (true≢false (sym f))
-    shaped_actual by_ref base shape (Coord at k) rest h f = absurd (true≢false (sym f))
-    shaped_actual by_ref base shape (Shifted at read shift) rest h f = absurd (true≢false (sym f))
-    shaped_actual by_ref base shape (Around at read shift) rest h f = absurd (true≢false (sym f))
-    shaped_actual by_ref base shape (Remap at read indices) rest h f =
+    shaped_actual by_ref base shape (Number at value) rest some h f = absurd (true≢false (sym f))
+    shaped_actual by_ref base shape (Truth at value) rest some h f = absurd (true≢false (sym f))
+    shaped_actual by_ref base shape (Coord at k) rest some h f = absurd (true≢false (sym f))
+    shaped_actual by_ref base shape (Shifted at read shift) rest some h f = absurd (true≢false (sym f))
+    shaped_actual by_ref base shape (Around at read shift) rest some h f = absurd (true≢false (sym f))
+    shaped_actual by_ref base shape (Remap at read indices) rest some h f =
         absurd (true≢false (sym f))
-    shaped_actual by_ref base shape (Call at callee inner) rest h f = absurd (true≢false (sym f))
-    shaped_actual by_ref base shape (Paren at inside) rest h f = absurd (true≢false (sym f))
-    shaped_actual by_ref base shape (Neg at operand) rest h f = absurd (true≢false (sym f))
-    shaped_actual by_ref base shape (Not at operand) rest h f = absurd (true≢false (sym f))
-    shaped_actual by_ref base shape (Abs at operand) rest h f = absurd (true≢false (sym f))
-    shaped_actual by_ref base shape (Pair at op left right) rest h f =
+    shaped_actual by_ref base shape (Call at callee inner) rest some h f = absurd (true≢false (sym f))
+    shaped_actual by_ref base shape (Paren at inside) rest some h f = absurd (true≢false (sym f))
+    shaped_actual by_ref base shape (Neg at operand) rest some h f = absurd (true≢false (sym f))
+    shaped_actual by_ref base shape (Not at operand) rest some h f = absurd (true≢false (sym f))
+    shaped_actual by_ref base shape (Abs at operand) rest some h f = absurd (true≢false (sym f))
+    shaped_actual by_ref base shape (Pair at op left right) rest some h f =
         absurd (true≢false (sym f))
-    shaped_actual by_ref base shape (Reduce at operator over operand) rest h f =
+    shaped_actual by_ref base shape (Reduce at operator over operand) rest some h f =
         absurd (true≢false (sym f))
-    shaped_actual by_ref base shape (Scan at operator along operand) rest h f =
+    shaped_actual by_ref base shape (Scan at operator along operand) rest some h f =
         absurd (true≢false (sym f))
-    shaped_actual by_ref base shape (Flood at source operand) rest h f =
+    shaped_actual by_ref base shape (Flood at source operand) rest some h f =
         absurd (true≢false (sym f))
 
     shaped_actuals : (formals : List Formal) (actuals : Exprs)
-        → all_fit reach formals actuals ≡ true → Clean (actuals_sites reach actuals)
+        → AllByRecursion IsKnownFormal formals → all_fit reach formals actuals ≡ true → Clean (actuals_sites reach actuals)
         → AreExprs actuals → AreShapedActuals place formals actuals
-    shaped_actuals [] NoExpr f h g = tt
-    shaped_actuals [] (ThenExpr actual rest) f h g = tt
-    shaped_actuals (formal ∷ formals) NoExpr f h g = tt
-    shaped_actuals (ScalarFormal true base ∷ formals) (ThenExpr actual rest) f h g =
+    shaped_actuals [] NoExpr k f h g = tt
+    shaped_actuals [] (ThenExpr actual rest) k f h g = tt
+    shaped_actuals (formal ∷ formals) NoExpr k f h g = tt
+    shaped_actuals (ScalarFormal true base ∷ formals) (ThenExpr actual rest) k f h g =
         let fit = and_true (actual_fits reach (ScalarFormal true base) actual)
         (all_fit reach formals rest) f in
-        (tt, shaped_actuals formals rest fit.1 (actual_of actual rest h g.0).1 g.1)
-    shaped_actuals (ScalarFormal false base ∷ formals) (ThenExpr actual rest) f h g =
+        (tt, shaped_actuals formals rest k.1 fit.1 (actual_of actual rest h g.0).1 g.1)
+    shaped_actuals (ScalarFormal false base ∷ formals) (ThenExpr actual rest) k f h g =
         let fit = and_true (actual_fits reach (ScalarFormal false base) actual)
         (all_fit reach formals rest) f in
         let found = actual_of actual rest h g.0 in
-        (found.0, shaped_actuals formals rest fit.1 found.1 g.1)
-    shaped_actuals (ArrayFormal by_ref base shape ∷ formals) (ThenExpr actual rest) f h g =
+        (found.0, shaped_actuals formals rest k.1 fit.1 found.1 g.1)
+    shaped_actuals (ArrayFormal by_ref base shape ∷ formals) (ThenExpr actual rest) k f h g =
         let fit = and_true (actual_fits reach (ArrayFormal by_ref base shape) actual)
         (all_fit reach formals rest) f in (
-          shaped_actual by_ref base shape actual rest h fit.0,
-          shaped_actuals formals rest fit.1 (actual_of actual rest h g.0).1 g.1,
+          shaped_actual by_ref base shape actual rest k.0 h fit.0,
+          shaped_actuals formals rest k.1 fit.1 (actual_of actual rest h g.0).1 g.1,
         )
 
-    call_of : (role : CallRole) (name : Name) (actuals : Exprs)
+    call_of : (role : CallRole) (name : Name) (actuals : Exprs) → KnowsFormals place
         → IsClean (AtCall reach role name actuals) → Clean (actuals_sites reach actuals)
         → AreExprs actuals → IsRankedCall place name actuals
-    call_of role name actuals h k g = by (kind_of place.scope name)
+    call_of role name actuals formals h k g = by (kind_of place.scope name) refl
         (taken reach is_procedure name h.none.known)
         (no_place (is_procedure (kind_of place.scope name)
         && not (all_fit reach (formals_in (kind_of place.scope name)) actuals)) _ h.none.fitting)
       where
-        by : (found : Option Kind) → is_procedure found ≡ true
+        by : (found : Option Kind) → kind_of place.scope name ≡ found → is_procedure found ≡ true
             → is_procedure found && not (all_fit reach (formals_in found) actuals) ≡ false
             → AreShapedActuals place (handed_formals found) actuals
-        by (Some (kind.Procedure signature)) e f =
-            shaped_actuals signature.formals actuals
+        by (Some (kind.Procedure signature)) is e f =
+            shaped_actuals signature.formals actuals (formals name signature is)
             (not_false (all_fit reach signature.formals actuals) f) k g
-        by (Some (kind.Config base)) e f = absurd (true≢false (sym e))
-        by (Some (kind.Constant base)) e f = absurd (true≢false (sym e))
-        by (Some (kind.Scalar base)) e f = absurd (true≢false (sym e))
-        by (Some (kind.Array base shape)) e f = absurd (true≢false (sym e))
-        by (Some (kind.Region shape)) e f = absurd (true≢false (sym e))
-        by (Some (kind.Direction rank)) e f = absurd (true≢false (sym e))
-        by None e f = absurd (true≢false (sym e))
+        by (Some (kind.Config base)) is e f = absurd (true≢false (sym e))
+        by (Some (kind.Constant base)) is e f = absurd (true≢false (sym e))
+        by (Some (kind.Scalar base)) is e f = absurd (true≢false (sym e))
+        by (Some (kind.Array base shape)) is e f = absurd (true≢false (sym e))
+        by (Some (kind.Region shape)) is e f = absurd (true≢false (sym e))
+        by (Some (kind.Direction rank)) is e f = absurd (true≢false (sym e))
+        by None is e f = absurd (true≢false (sym e))
 
     assigned : (name : Name) (op : Option Op) (value : Expr) (at : ℕ) (prefixes : List Prefix)
-        → IsClean (AtStmt reach at prefixes (Assign name op value))
+        → KnowsFormals place → IsClean (AtStmt reach at prefixes (Assign name op value))
         → Clean (value_sites reach name op value) → IsExpr expr_level value
         → IsRankedAssign place name op value
-    assigned name None (Call offset callee actuals) at prefixes h k g =
-        call_of (call_place (kind_of place.scope name)) callee actuals k.1.0 k.1.1 g
-    assigned name None (Named offset read) at prefixes h k g =
+    assigned name None (Call offset callee actuals) at prefixes formals h k g =
+        call_of (call_place (kind_of place.scope name)) callee actuals formals k.1.0 k.1.1 g
+    assigned name None (Named offset read) at prefixes formals h k g =
         value_assigned name None (Named offset read) at prefixes h k g
-    assigned name None (Number offset value) at prefixes h k g =
+    assigned name None (Number offset value) at prefixes formals h k g =
         value_assigned name None (Number offset value) at prefixes h k g
-    assigned name None (Truth offset value) at prefixes h k g =
+    assigned name None (Truth offset value) at prefixes formals h k g =
         value_assigned name None (Truth offset value) at prefixes h k g
-    assigned name None (Coord offset dimension) at prefixes h k g =
+    assigned name None (Coord offset dimension) at prefixes formals h k g =
         value_assigned name None (Coord offset dimension) at prefixes h k g
-    assigned name None (Shifted offset read shift) at prefixes h k g =
+    assigned name None (Shifted offset read shift) at prefixes formals h k g =
         value_assigned name None (Shifted offset read shift) at prefixes h k g
-    assigned name None (Around offset read shift) at prefixes h k g =
+    assigned name None (Around offset read shift) at prefixes formals h k g =
         value_assigned name None (Around offset read shift) at prefixes h k g
-    assigned name None (Remap offset read indices) at prefixes h k g =
+    assigned name None (Remap offset read indices) at prefixes formals h k g =
         value_assigned name None (Remap offset read indices) at prefixes h k g
-    assigned name None (Paren offset inside) at prefixes h k g =
+    assigned name None (Paren offset inside) at prefixes formals h k g =
         value_assigned name None (Paren offset inside) at prefixes h k g
-    assigned name None (Neg offset operand) at prefixes h k g =
+    assigned name None (Neg offset operand) at prefixes formals h k g =
         value_assigned name None (Neg offset operand) at prefixes h k g
-    assigned name None (Not offset operand) at prefixes h k g =
+    assigned name None (Not offset operand) at prefixes formals h k g =
         value_assigned name None (Not offset operand) at prefixes h k g
-    assigned name None (Abs offset operand) at prefixes h k g =
+    assigned name None (Abs offset operand) at prefixes formals h k g =
         value_assigned name None (Abs offset operand) at prefixes h k g
-    assigned name None (Pair offset o left right) at prefixes h k g =
+    assigned name None (Pair offset o left right) at prefixes formals h k g =
         value_assigned name None (Pair offset o left right) at prefixes h k g
-    assigned name None (Reduce offset operator over operand) at prefixes h k g =
+    assigned name None (Reduce offset operator over operand) at prefixes formals h k g =
         value_assigned name None (Reduce offset operator over operand) at prefixes h k g
-    assigned name None (Scan offset operator along operand) at prefixes h k g =
+    assigned name None (Scan offset operator along operand) at prefixes formals h k g =
         value_assigned name None (Scan offset operator along operand) at prefixes h k g
-    assigned name None (Flood offset source operand) at prefixes h k g =
+    assigned name None (Flood offset source operand) at prefixes formals h k g =
         value_assigned name None (Flood offset source operand) at prefixes h k g
-    assigned name (Some op) value at prefixes h k g =
+    assigned name (Some op) value at prefixes formals h k g =
         value_assigned name (Some op) value at prefixes h k g
 
     -- ---- prints, borders and tests
@@ -941,29 +975,29 @@ module _ (laws : RankLaws) where
 
   pub form_ranked : (form : Form) (at : ℕ) (prefixes : List Prefix) (place : Place)
       (shapes : Shapes) (shattered : Rank) (result : Option Base) → Fits place shapes
-      → KnowsDirections place.scope → IsSome shattered
+      → KnowsDirections place.scope → KnowsFormals place → IsSome shattered
       → (ends_in_border prefixes ≡ true → IsArrayRank place.prefix)
       → IsClean (AtStmt (reach_at place shapes shattered result) at prefixes form)
       → Clean (form_sites (reach_at place shapes shattered result) form) → IsForm form
       → IsRankedForm place form
-  form_ranked (Assign name op value) at prefixes place shapes shattered result fits known s b h k
+  form_ranked (Assign name op value) at prefixes place shapes shattered result fits known formals s b h k
       g =
-      assigned place shapes shattered result fits known name op value at prefixes h k g.1
-  form_ranked (Invoke name actuals) at prefixes place shapes shattered result fits known s b h k
+      assigned place shapes shattered result fits known name op value at prefixes formals h k g.1
+  form_ranked (Invoke name actuals) at prefixes place shapes shattered result fits known formals s b h k
       g =
-      call_of place shapes shattered result fits known AsStatement name actuals k.0 k.1 g
-  form_ranked (Block body) at prefixes place shapes shattered result fits known s b h k g = tt
-  form_ranked (If arms otherwise) at prefixes place shapes shattered result fits known s b h k g =
+      call_of place shapes shattered result fits known AsStatement name actuals formals k.0 k.1 g
+  form_ranked (Block body) at prefixes place shapes shattered result fits known formals s b h k g = tt
+  form_ranked (If arms otherwise) at prefixes place shapes shattered result fits known formals s b h k g =
       if_ranked arms otherwise at prefixes place shapes shattered result fits known s h k g
       (is_shattered (reach_at place shapes shattered result) (If arms otherwise)) refl
-  form_ranked (While test body) at prefixes place shapes shattered result fits known s b h k g =
+  form_ranked (While test body) at prefixes place shapes shattered result fits known formals s b h k g =
       let reach = reach_at place shapes shattered result in
       let inner = inside reach (test_rank reach test) in
       while_ranked test body at prefixes place shapes shattered result fits known s h
       (each_left IsClean (whole_sites reach TestRole test) (stmts_sites inner body) k)
       (each_right IsClean (whole_sites reach TestRole test) (stmts_sites inner body) k) g.0 g.1
       (is_above_zero (test_rank reach test)) refl
-  form_ranked (Repeat body until test) at prefixes place shapes shattered result fits known s b h
+  form_ranked (Repeat body until test) at prefixes place shapes shattered result fits known formals s b h
       k g =
       let reach = reach_at place shapes shattered result in
       let inner = inside reach (test_rank reach test) in
@@ -971,7 +1005,7 @@ module _ (laws : RankLaws) where
       (each_right IsClean (stmts_sites inner body) (whole_sites reach TestRole test) k)
       (each_left IsClean (stmts_sites inner body) (whole_sites reach TestRole test) k) g.1 g.0
       (is_above_zero (test_rank reach test)) refl
-  form_ranked (For head body) at prefixes place shapes shattered result fits known s b h k g =
+  form_ranked (For head body) at prefixes place shapes shattered result fits known formals s b h k g =
       let reach = reach_at place shapes shattered result in
       let firsts = whole_sites reach Limit head.first in
       let lasts = whole_sites reach Limit head.last in
@@ -986,14 +1020,14 @@ module _ (laws : RankLaws) where
         step_ranked place shapes shattered result fits known head.step
             (each_right IsClean (firsts ++ lasts) steps three) g.0.2,
       )
-  form_ranked (Border border names) at prefixes place shapes shattered result fits known s b h k
+  form_ranked (Border border names) at prefixes place shapes shattered result fits known formals s b h k
       g =
       arrays_of place shapes shattered result fits known names
       (b (not_false (ends_in_border prefixes)
       (no_place (not (ends_in_border prefixes)) _ h.none.borders))) h.none.known h.none.ranks
-  form_ranked (Write line items) at prefixes place shapes shattered result fits known s b h k g =
+  form_ranked (Write line items) at prefixes place shapes shattered result fits known formals s b h k g =
       items_of place shapes shattered result fits known items k g
-  form_ranked (Return value) at prefixes place shapes shattered result fits known s b h k g =
+  form_ranked (Return value) at prefixes place shapes shattered result fits known formals s b h k g =
       whole_of place shapes shattered result fits known place.prefix value k.1 g
 
   -- ---- prefixes

@@ -1,7 +1,7 @@
 -- Where ranks agree: what stands in an expression has the rank of the expression, or is a scalar; and
 -- each expression of a statement has a rank that its place takes.
 use Rattle.std.specs.Prelude.{◌≡◌, ◌⊎◌, ◌≤◌, ℕ, Bool, true, false, ℤ, pos, List, [], ◌∷◌, Option}
-use Rattle.std.specs.Prelude.{Some, None}
+use Rattle.std.specs.Prelude.{Some, None, IsSome}
 use Rattle.zpl_nums.specs.declared.operators.Op.{Op}
 use Rattle.zpl_region.specs.declared.regions.Region.{Region}
 use Rattle.zpl_tree.specs.Syntax.{Name, Expr, Number, Truth, Coord, Named, Shifted, Around, Remap}
@@ -17,7 +17,6 @@ use Rattle.zpl_names.specs.Ranks.{own_rank, operand_rank, inner_rank, exprs_coun
 use Rattle.zpl_names.specs.Ranks.{direction_rank, dir_rank, array_rank, array_shape, mask_rank}
 use Rattle.zpl_names.specs.Types.{is_elementwise}
 use Rattle.zpl_names.specs.Shapes.{prefix_rank}
-use Rattle.zpl_names.specs.Faults.{both_known, is_other_shape}
 use Rattle.zpl_names.specs.Sites.{Role, Limit, Result, Test, Printed, Actual, Assigned, tests_rank}
 use Rattle.zpl_names.specs.Sites.{is_shattered}
 use Rattle.zpl_meaning.specs.Store.{Thing, Scalar, ArrayAt, thing_of}
@@ -161,7 +160,7 @@ IsRankedValue place name op value =
 -- an array has the rank and the flood dimensions of the parameter
 abbrev pub IsShapedActual : Place → Formal → Expr → Type 0
 IsShapedActual place (ArrayFormal by_ref base shape) (Named at name) =
-    both_known is_other_shape shape (array_shape (kind_of place.scope name)) ≡ false
+    IsSome shape × (array_shape (kind_of place.scope name) ≡ shape)
 IsShapedActual place (ArrayFormal by_ref base shape) actual = ⊥
 IsShapedActual place (ScalarFormal true base) actual = Unit {0}
 IsShapedActual place (ScalarFormal false base) actual = IsRanked place Actual actual
