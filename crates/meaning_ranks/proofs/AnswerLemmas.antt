@@ -1,8 +1,8 @@
 -- A procedure that is called for an answer, and ends normally, has come to its `return`.
 use Rattle.std.proofs.Common.{◌≡◌, ℕ, zero, suc, ◌+◌, ◌<◌, Bool, true, false, not, ◌&&◌, inl, inr}
 use Rattle.std.proofs.Common.{ℤ, pos, List, [], ◌∷◌, ◌++◌, length, cond, Option, Some, None, Contains}
-use Rattle.std.proofs.Common.{refl, sym, ap, ◌∙◌, subst, arith, length-append, true≢false, take}
-use Rattle.std.specs.Prelude.{is_some, slice_set, slice_index_or}
+use Rattle.std.proofs.Common.{refl, sym, ap, ◌∙◌, subst, arith, length-append, true≢false}
+use Rattle.std.specs.Prelude.{is_some, slice_set}
 use Rattle.std.proofs.lemmas.List.{get_or-set_same, get_or-take}
 use Rattle.zpl_nums.specs.declared.ends.End.{End}
 use Rattle.zpl_nums.specs.declared.ends.End.TheVariants.{Done, Trap, More}
@@ -14,11 +14,11 @@ use Rattle.zpl_tree.specs.Grammar.{IsProgram}
 use Rattle.zpl_names.specs.Kinds as kind
 use Rattle.zpl_names.specs.Kinds.{Kind, Signature}
 use Rattle.zpl_names.specs.Scope.{Entry, kind_of, is_array, is_procedure}
-use Rattle.zpl_names.specs.Shapes.{Shapes, unknown_shapes}
-use Rattle.zpl_names.specs.Declared.{Routine, IsProcedureOf, routine_of, routines_behind, routines_of}
+use Rattle.zpl_names.specs.Shapes.{Shapes}
+use Rattle.zpl_names.specs.Declared.{Routine, routines_behind, routines_of}
 use Rattle.zpl_names.specs.Declared.{routine_named, with_decl, with_procedure}
 use Rattle.zpl_names.specs.Sites.{Site, AtProcedure, each_sites, decl_sites, head_sites}
-use Rattle.zpl_names.specs.Sites.{routine_sites, text_sites, Result, Elsewhere, AsValue, AtCall}
+use Rattle.zpl_names.specs.Sites.{text_sites, Result, Elsewhere, AsValue, AtCall}
 use Rattle.zpl_names.specs.Sites.{Reach, call_place}
 use Rattle.zpl_names.specs.Faults.{answers, ends_in_return, body_returns}
 use Rattle.zpl_names.specs.Accepted.{IsFaultless, HasNoFault}
@@ -31,18 +31,17 @@ use Rattle.zpl_meaning.specs.Store.{Store, scalar_at, with_scalar, cut_back}
 use Rattle.zpl_meaning.specs.Context.{Over, Place, Setup}
 use Rattle.zpl_meaning.specs.Regions.{over_in, under_prefix}
 use Rattle.zpl_meaning.specs.Phases.{scalar_in}
-use Rattle.zpl_meaning.specs.Outcome.{Outcome, then_do, then_at, with_value, ends, goes_on}
-use Rattle.zpl_meaning.specs.Calls.{Called, entered}
-use Rattle.zpl_meaning.specs.Variables.{with_new_scalar}
+use Rattle.zpl_meaning.specs.Outcome.{Outcome, then_do, then_at, with_value, goes_on}
+use Rattle.zpl_meaning.specs.Calls.{Called}
 use Rattle.zpl_meaning.specs.Statement.{Context, exec, exec_all, under, line_of}
 use Rattle.zpl_meaning.specs.Program.{call_at, run_routine}
 use Rattle.zpl_meaning.specs.Visited.{first_setup, body_place, IsCall, IsUnder, IsVisited}
 use Rattle.zpl_meaning.proofs.ProperLemmas.{IsClean, not_false, reach_at}
 use Rattle.zpl_meaning.proofs.VisitLemmas.{Laws, Inside, InStmt, visited_proper}
 use Rattle.meaning_runs.specs.Runner.{runner_at}
-use Rattle.meaning_runs.specs.Comes.{ComesInAll, First, Later, ComesIn, InBlock}
+use Rattle.meaning_runs.specs.Comes.{ComesInAll, First, Later, InBlock}
 use Rattle.meaning_runs.specs.Held.{HasResult}
-use Rattle.meaning_runs.specs.Met.{ComesUnder, Bare, Behind, GoesTo, InForm, MakesCall, AsAnswer}
+use Rattle.meaning_runs.specs.Met.{ComesUnder, Bare, Behind, InForm, MakesCall, AsAnswer}
 use Rattle.meaning_runs.specs.Met.{Opening, opening_of, context_at, body_store, IsMet, Holds, Calls}
 use Rattle.meaning_runs.proofs.VisitedLemmas.{met_visited}
 use Rattle.meaning_ranks.specs.Answered.{HasAnswered}

@@ -1,41 +1,37 @@
 -- What the text says of the current regions holds where a run comes to: which there are, the number
 -- of their dimensions, and which have no mask.
-use Rattle.std.proofs.Common.{◌≡◌, ℕ, zero, suc, ◌+◌, ◌<◌, Bool, true, false, cond, not, ◌&&◌, ◌||◌}
-use Rattle.std.proofs.Common.{◌⊎◌, inl, inr, List, [], ◌∷◌, ◌++◌, map, length, Option, Some, None}
+use Rattle.std.proofs.Common.{◌≡◌, ℕ, zero, suc, ◌+◌, ◌<◌, Bool, true, false, cond}
+use Rattle.std.proofs.Common.{◌⊎◌, inl, inr, List, [], ◌∷◌, map, length, Option, Some, None}
 use Rattle.std.proofs.Common.{option_map, option_to_list, IsSome, refl, sym, ap, ◌∙◌, subst, arith}
-use Rattle.std.proofs.Common.{true≢false, nat_le, Contains}
+use Rattle.std.proofs.Common.{true≢false, nat_le}
 use Rattle.std.specs.Prelude.{slice_get, slice_index_or, is_some}
-use Rattle.std.specs.List.{AllByRecursion, list_any}
+use Rattle.std.specs.List.{AllByRecursion}
 use Rattle.zpl_region.specs.declared.dims.Dim.{Dim}
 use Rattle.zpl_region.specs.declared.dims.Dim.TheVariants.{Flood}
 use Rattle.zpl_region.specs.declared.regions.Region.{Region}
-use Rattle.zpl_tree.specs.Syntax.{Name, Prefix, Program, Stmt, Prefixed, Form, Assign, Call, Invoke}
-use Rattle.zpl_tree.specs.Syntax.{Block, If, While, Repeat, For, Border, Write, Return, Item, Str}
-use Rattle.zpl_tree.specs.Syntax.{Value, Inner, Rexpr, Dims, NamedRegion, Ditto, DimText, Blank, Star}
-use Rattle.zpl_tree.specs.Syntax.{Named, One, Span, DimTexts, NoDim, ThenDim, Pre, Posts, Base}
+use Rattle.zpl_tree.specs.Syntax.{Name, Prefix}
+use Rattle.zpl_tree.specs.Syntax.{Inner, Rexpr, Dims, NamedRegion, Ditto, Blank, Star}
+use Rattle.zpl_tree.specs.Syntax.{Named, One, Span, DimTexts, NoDim, ThenDim, Base}
 use Rattle.zpl_tree.specs.Syntax.{Mask as MaskText}
-use Rattle.zpl_tree.specs.Grammar.{IsProgram, IsPrefix}
+use Rattle.zpl_tree.specs.Grammar.{IsPrefix}
 use Rattle.zpl_names.specs.Kinds.{Rank, Shape}
-use Rattle.zpl_names.specs.Scope.{Scope, kind_of}
-use Rattle.zpl_names.specs.Ranks.{IsRank, inner_rank, is_index, region_shape, known_rank, mask_rank}
-use Rattle.zpl_names.specs.Ranks.{ditto_rank, at_most_three, dims_count}
-use Rattle.zpl_names.specs.Shapes.{Current, Absent, Unknown, Over as Shaped, Shapes, no_shapes}
-use Rattle.zpl_names.specs.Shapes.{current_at, current_of, with_current, current_over, dim_shape}
+use Rattle.zpl_names.specs.Scope.{kind_of}
+use Rattle.zpl_names.specs.Ranks.{inner_rank, is_index, region_shape, known_rank, mask_rank}
+use Rattle.zpl_names.specs.Ranks.{at_most_three, dims_count}
+use Rattle.zpl_names.specs.Shapes.{Current, Absent, Unknown, Over as Shaped, Shapes}
+use Rattle.zpl_names.specs.Shapes.{current_at, current_of, with_current, current_over}
 use Rattle.zpl_names.specs.Shapes.{dim_of_current, dims_shape, with_dim, shape_within, inner_shape}
 use Rattle.zpl_names.specs.Shapes.{shape_of_current, prefix_rank, shapes_under}
-use Rattle.zpl_names.specs.Sites.{Reach, AtStmt, AtRegion, AtMask, Printed, region_sites}
-use Rattle.zpl_names.specs.Sites.{prefix_sites, prefixes_sites, under_prefixes, whole_rank}
+use Rattle.zpl_names.specs.Sites.{Reach, AtRegion, AtMask, region_sites}
+use Rattle.zpl_names.specs.Sites.{prefix_sites, prefixes_sites, under_prefixes}
 use Rattle.zpl_names.specs.Sites.{under_prefix as reach_under}
-use Rattle.zpl_names.specs.Faults.{lacks_region, is_absent, blanks, is_masked, is_under_mask}
-use Rattle.zpl_names.specs.Faults.{item_rank}
-use Rattle.zpl_names.specs.Accepted.{IsFaultless}
+use Rattle.zpl_names.specs.Faults.{lacks_region, is_absent, blanks, is_masked}
 use Rattle.zpl_names.proofs.NameLemmas.{no_place}
-use Rattle.zpl_names.proofs.ListLemmas.{Contains-from_among}
 use Rattle.zpl_binding.specs.Outcome as bound
 use Rattle.zpl_binding.specs.Regions.{region_named}
 use Rattle.zpl_meaning.specs.Computed.{Computed, Gives, Traps, computed_then}
 use Rattle.zpl_meaning.specs.Store.{Store}
-use Rattle.zpl_meaning.specs.Context.{Mask, Over, Currents, over_at, over_or, with_over, Place}
+use Rattle.zpl_meaning.specs.Context.{Over, Currents, over_at, over_or, with_over, Place}
 use Rattle.zpl_meaning.specs.Regions.{current_for, mask_in, name_in, over_in, region_in}
 use Rattle.zpl_meaning.specs.Regions.{under_prefix}
 use Rattle.zpl_meaning.specs.Proper.{IsArrayRank}

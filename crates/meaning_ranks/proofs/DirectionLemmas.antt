@@ -1,7 +1,7 @@
 -- Directions that are declared have ranks from 1 to 3.
 use Rattle.std.proofs.Common.{◌≡◌, ℕ, suc, Bool, true, false, cond, List, [], ◌∷◌, ◌++◌, map, nat_le}
-use Rattle.std.proofs.Common.{Option, Some, None, option_map, IsSome, refl, sym, subst, arith}
-use Rattle.std.proofs.Common.{true≢false, Contains}
+use Rattle.std.proofs.Common.{Option, Some, None, option_map, refl, sym, subst}
+use Rattle.std.proofs.Common.{true≢false}
 use Rattle.std.specs.List.{AllByRecursion, flat_map, find}
 use Rattle.std.specs.Option.{option_or}
 use Rattle.std.specs.Str.{bytes_eq}
@@ -14,13 +14,13 @@ use Rattle.zpl_tree.specs.Grammar.{HasExpr, IsDirection, IsDecl, IsProgram}
 use Rattle.zpl_names.specs.Kinds as kind
 use Rattle.zpl_names.specs.Kinds.{Rank, Kind}
 use Rattle.zpl_names.specs.Scope.{Entry, Scope, kind_in, kind_of, is_direction}
-use Rattle.zpl_names.specs.Ranks.{IsRank, HasRank, HasRanks, IsKnownKind, AreKnown, exprs_count}
+use Rattle.zpl_names.specs.Ranks.{HasRank, HasRanks, IsKnownKind, AreKnown, exprs_count}
 use Rattle.zpl_names.specs.Ranks.{at_most_three, direction_rank, is_zero}
 use Rattle.zpl_names.specs.Shapes.{variable_kind}
 use Rattle.zpl_names.specs.Declared.{entry_for, declaring, head_scope, own_entries, with_define}
-use Rattle.zpl_names.specs.Declared.{with_region, with_direction, with_variables, with_procedure}
+use Rattle.zpl_names.specs.Declared.{with_region, with_direction, with_variables}
 use Rattle.zpl_names.specs.Declared.{with_each, with_decl, globals_of, Routine, routines_of, scope_of}
-use Rattle.zpl_names.specs.Declared.{procedure_entry, direction_entry}
+use Rattle.zpl_names.specs.Declared.{procedure_entry}
 use Rattle.zpl_names.proofs.ListLemmas.{Among}
 use Rattle.zpl_meaning.specs.Proper.{IsArrayRank}
 use Rattle.zpl_meaning.proofs.ProperLemmas.{array_rank_is}

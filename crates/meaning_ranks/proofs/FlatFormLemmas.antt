@@ -1,5 +1,5 @@
 -- Statements without faults have no flood dimension where they may have none.
-use Rattle.std.proofs.Common.{◌≡◌, ℕ, zero, suc, Bool, true, false, not, ◌||◌, inl, inr, ◌⊎◌, List, []}
+use Rattle.std.proofs.Common.{◌≡◌, ℕ, zero, suc, Bool, true, false, ◌||◌, inl, inr, List, []}
 use Rattle.std.proofs.Common.{◌∷◌, ◌++◌, length, Option, Some, None, option_map, IsSome, refl, sym, ap}
 use Rattle.std.proofs.Common.{◌∙◌, subst, true≢false}
 use Rattle.std.specs.List.{AllByRecursion, flat_map, list_any}
@@ -14,10 +14,10 @@ use Rattle.zpl_tree.specs.Grammar.{expr_level}
 use Rattle.zpl_names.specs.Kinds as kind
 use Rattle.zpl_names.specs.Kinds.{Rank, Kind, Formal, ScalarFormal, ArrayFormal}
 use Rattle.zpl_names.specs.Scope.{kind_of, is_value, is_array, is_fixed}
-use Rattle.zpl_names.specs.Ranks.{IsRank, both_ranks, ranks_clash, value_rank, array_rank, own_rank, is_open}
+use Rattle.zpl_names.specs.Ranks.{IsRank, both_ranks, ranks_clash, value_rank, own_rank, is_open}
 use Rattle.zpl_names.specs.Ranks.{placed_rank, rank_of}
 use Rattle.zpl_names.specs.Shapes.{Shapes, current_of, shape_of_current}
-use Rattle.zpl_names.specs.Sites.{Reach, Role, Limit, Result, Test as TestRole, Printed, Actual}
+use Rattle.zpl_names.specs.Sites.{Reach, Limit, Test as TestRole, Printed, Actual}
 use Rattle.zpl_names.specs.Sites.{Assigned, inside, target_rank, whole_rank, AtWhole, AtStmt}
 use Rattle.zpl_names.specs.Sites.{expr_sites, actuals_sites, whole_sites, value_sites, item_sites}
 use Rattle.zpl_names.specs.Sites.{step_sites, stmts_sites, form_sites, arms_sites, arm_sites}
@@ -30,7 +30,7 @@ use Rattle.zpl_meaning.specs.Context.{Place, rank_in}
 use Rattle.zpl_meaning.specs.Points.{assigned_expr}
 use Rattle.zpl_meaning.specs.Calls.{formals_in}
 use Rattle.zpl_meaning.specs.Statement.{step_expr}
-use Rattle.zpl_meaning.specs.Proper.{IsArray, IsArrayRank, HasCurrent, IsUnderCurrent, IsProper}
+use Rattle.zpl_meaning.specs.Proper.{IsArrayRank, IsUnderCurrent, IsProper}
 use Rattle.zpl_meaning.specs.Proper.{IsProperForm, IsProperAssign, IsPlainAssign, AreProperActuals}
 use Rattle.zpl_meaning.specs.Proper.{AreProperTests, IsProperTested, AreProperItems, IsProperCall}
 use Rattle.zpl_meaning.proofs.DepthLemmas.{each_left, each_right}

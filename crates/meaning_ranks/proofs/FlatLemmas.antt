@@ -1,25 +1,24 @@
 -- Expressions without faults have no flood dimension where they may have none.
-use Rattle.std.proofs.Common.{◌≡◌, ℕ, zero, suc, ◌-◌, ◌≤◌, Bool, true, false, cond, not, ◌||◌, List}
-use Rattle.std.proofs.Common.{[], ◌∷◌, ◌++◌, length, Option, Some, None, IsSome, refl, sym, ap, ◌∙◌}
+use Rattle.std.proofs.Common.{◌≡◌, ℕ, zero, suc, ◌-◌, ◌≤◌, false, ◌||◌}
+use Rattle.std.proofs.Common.{[], ◌∷◌, length, Option, Some, None, IsSome, refl, sym, ap, ◌∙◌}
 use Rattle.std.proofs.Common.{subst, arith, true≢false}
 use Rattle.std.specs.Prelude.{slice_get, slice_index_or}
 use Rattle.std.specs.List.{list_any}
 use Rattle.std.proofs.lemmas.Bool.{leb-true, ltb-false}
-use Rattle.zpl_region.specs.declared.dims.Dim.{Dim}
 use Rattle.zpl_region.specs.declared.dims.Dim.TheVariants as dim
 use Rattle.zpl_region.specs.declared.regions.Region.{Region}
 use Rattle.zpl_region.specs.Region.{dim_at}
-use Rattle.zpl_tree.specs.Syntax.{Name, Expr, Number, Truth, Coord, Named, Shifted, Around, Remap}
+use Rattle.zpl_tree.specs.Syntax.{Expr, Number, Truth, Coord, Named, Shifted, Around, Remap}
 use Rattle.zpl_tree.specs.Syntax.{Call, Paren, Neg, Not, Abs, Pair, Reduce, Scan, Flood, Exprs}
-use Rattle.zpl_tree.specs.Syntax.{NoExpr, ThenExpr, Inner, Rexpr, Dims, NoBracket, Bracketed, Base}
-use Rattle.zpl_tree.specs.Grammar.{IsExpr, AreExprs, IsInner}
+use Rattle.zpl_tree.specs.Syntax.{NoExpr, ThenExpr, Inner, NoBracket, Bracketed, Base}
+use Rattle.zpl_tree.specs.Grammar.{IsExpr, AreExprs}
 use Rattle.zpl_tree.specs.Grammar.{expr_level, unary_level, left_level, right_level}
 use Rattle.zpl_names.specs.Kinds.{Shape, Rank}
 use Rattle.zpl_names.specs.Ranks.{inner_rank, own_rank, operand_rank}
 use Rattle.zpl_names.specs.Shapes.{Current, Absent, Unknown, Over as Shaped, Shapes, current_at}
 use Rattle.zpl_names.specs.Shapes.{current_of, current_over, with_current, inner_shape, shape_within}
 use Rattle.zpl_names.specs.Shapes.{shape_of_current}
-use Rattle.zpl_names.specs.Sites.{Reach, over_source, AtRegion, expr_sites, exprs_sites, region_sites}
+use Rattle.zpl_names.specs.Sites.{Reach, over_source, expr_sites, exprs_sites, region_sites}
 use Rattle.zpl_names.specs.Faults.{has_flood, floods_at, is_past}
 use Rattle.zpl_names.proofs.NameLemmas.{no_place}
 use Rattle.zpl_names.specs.Scope.{kind_of}
@@ -33,13 +32,13 @@ use Rattle.zpl_meaning.specs.Settled.{source_in}
 use Rattle.zpl_meaning.specs.Proper.{HasCurrent, IsArrayRank, IsProper, AreProper}
 use Rattle.zpl_meaning.proofs.DepthLemmas.{each_left, each_right}
 use Rattle.zpl_meaning.proofs.ProperLemmas.{IsClean, Clean, reach_at, or_false}
-use Rattle.meaning_ranks.specs.Shaped.{is_flood, AreFloods, IsShaped}
+use Rattle.meaning_ranks.specs.Shaped.{is_flood, IsShaped}
 use Rattle.meaning_ranks.specs.Flat.{no_floods, IsFlatOf, HasFlatCurrent, IsFlatIn, AreFlatIn}
-use Rattle.meaning_ranks.specs.Ranked.{IsOfRank, AreOfRank}
+use Rattle.meaning_ranks.specs.Ranked.{IsOfRank}
 use Rattle.meaning_ranks.proofs.ShapeLemmas.{FitsIn}
 use Rattle.meaning_ranks.proofs.CurrentLemmas.{AreTold, KnowsRegions, IsTold, HasLength, over_told}
 use Rattle.meaning_ranks.proofs.CurrentLemmas.{region_told, region_comes, region_first, with_told}
-use Rattle.meaning_ranks.proofs.CurrentLemmas.{flood_at, rank_is}
+use Rattle.meaning_ranks.proofs.CurrentLemmas.{flood_at}
 
 -- ---- shapes without a flood dimension
 

@@ -17,14 +17,14 @@ use Rattle.zpl_tree.specs.Grammar.{IsForm, AreArms, IsArm, IsOtherwise, expr_lev
 use Rattle.zpl_names.specs.Kinds as kind
 use Rattle.zpl_names.specs.Kinds.{Rank, Kind, Formal, ScalarFormal, ArrayFormal, Shape, Signature}
 use Rattle.zpl_names.specs.Scope.{kind_of, is_value, is_array, is_fixed, is_procedure}
-use Rattle.zpl_names.specs.Ranks.{IsRank, first_rank, both_ranks, known_rank, ranks_clash}
+use Rattle.zpl_names.specs.Ranks.{IsRank, first_rank, both_ranks, ranks_clash}
 use Rattle.zpl_names.specs.Ranks.{is_above_zero, value_rank, array_rank, array_shape, own_rank}
 use Rattle.zpl_names.specs.Ranks.{is_open, placed_rank, rank_of, mask_rank}
 use Rattle.zpl_names.specs.Types.{is_elementwise, types_differ}
 use Rattle.zpl_names.specs.Shapes.{Shapes, prefix_rank, shapes_under}
-use Rattle.zpl_names.specs.Sites.{Reach, under_prefixes, inside, Role, Limit, Result, Printed, Actual}
+use Rattle.zpl_names.specs.Sites.{Reach, under_prefixes, inside, Limit, Printed, Actual}
 use Rattle.zpl_names.specs.Sites.{Test as TestRole, Assigned, target_rank, whole_rank, CallRole}
-use Rattle.zpl_names.specs.Sites.{AsStatement, AtWhole, AtCall, AtNamed, AtMask, AtStmt, expr_sites}
+use Rattle.zpl_names.specs.Sites.{AsStatement, AtWhole, AtCall, AtMask, AtStmt, expr_sites}
 use Rattle.zpl_names.specs.Sites.{actuals_sites, region_sites, whole_sites, prefix_sites}
 use Rattle.zpl_names.specs.Sites.{prefixes_sites, call_place, value_sites, item_sites, step_sites}
 use Rattle.zpl_names.specs.Sites.{test_rank, arms_rank, is_shattered, stmt_sites, stmts_sites}
@@ -36,14 +36,13 @@ use Rattle.zpl_names.specs.Faults.{broken_arms, broken_form, broken_test, has_pr
 use Rattle.zpl_names.specs.Faults.{ends_in_border}
 use Rattle.zpl_names.proofs.NameLemmas.{no_place, empty_parts}
 use Rattle.zpl_meaning.specs.Store.{Thing, Scalar, ArrayAt, Fixed, thing_of}
-use Rattle.zpl_meaning.specs.Context.{Over, Place}
+use Rattle.zpl_meaning.specs.Context.{Place}
 use Rattle.zpl_meaning.specs.Regions.{under_prefix}
-use Rattle.zpl_meaning.specs.Points.{assigned_expr}
 use Rattle.zpl_meaning.specs.Statement.{step_expr}
 use Rattle.zpl_meaning.specs.Calls.{formals_in as handed_formals}
 use Rattle.zpl_meaning.specs.Proper.{IsVariable, IsArray, IsArrayRank}
 use Rattle.zpl_meaning.specs.Visited.{IsUnder, Itself, Behind}
-use Rattle.zpl_meaning.proofs.DepthLemmas.{Each, each_left, each_right}
+use Rattle.zpl_meaning.proofs.DepthLemmas.{each_left, each_right}
 use Rattle.zpl_meaning.proofs.ProperLemmas.{IsClean, Clean, not_false, taken, IsNamed, Fits}
 use Rattle.zpl_meaning.proofs.ProperLemmas.{reach_at, RankLaws, first_agrees, both_zero, read_array}
 use Rattle.zpl_meaning.proofs.ProperLemmas.{or_false, none_is_not, zero_rank, array_rank_is}

@@ -1,19 +1,19 @@
 -- Where a run comes to, the current regions are as the text says: so prints and borders have no mask.
-use Rattle.std.proofs.Common.{◌≡◌, ℕ, suc, Bool, true, false, ◌&&◌, List, [], ◌∷◌, map, Option}
+use Rattle.std.proofs.Common.{◌≡◌, ℕ, suc, false, List, [], ◌∷◌, map, Option}
 use Rattle.std.proofs.Common.{Some, None, length, refl, sym, ap, subst}
 use Rattle.std.specs.List.{list_any}
 use Rattle.zpl_nums.specs.declared.ends.Border.{Border as BorderKind}
-use Rattle.zpl_tree.specs.Syntax.{Name, Call, Exprs, Prefix, Program, Stmt, Prefixed, Form, Assign}
+use Rattle.zpl_tree.specs.Syntax.{Name, Call, Prefix, Program, Stmt, Prefixed, Form, Assign}
 use Rattle.zpl_tree.specs.Syntax.{Invoke, Block, If, While, Repeat, For, Border, Write, Return, Item}
 use Rattle.zpl_tree.specs.Syntax.{Str, Value, Base}
 use Rattle.zpl_tree.specs.Grammar.{IsForm, IsProgram}
 use Rattle.zpl_names.specs.Kinds.{Rank}
 use Rattle.zpl_names.specs.Scope.{kind_of}
 use Rattle.zpl_names.specs.Ranks.{region_shape}
-use Rattle.zpl_names.specs.Shapes.{Shapes, no_shapes, current_of}
+use Rattle.zpl_names.specs.Shapes.{Shapes, no_shapes}
 use Rattle.zpl_names.specs.Declared.{Routine, routine_named}
 use Rattle.zpl_names.specs.Sites.{Reach, Printed, form_sites, whole_rank}
-use Rattle.zpl_names.specs.Faults.{is_masked, is_under_mask, item_rank, takes_no_mask, form_ranks}
+use Rattle.zpl_names.specs.Faults.{is_under_mask, item_rank, form_ranks}
 use Rattle.zpl_names.specs.Accepted.{IsFaultless}
 use Rattle.zpl_names.proofs.NameLemmas.{no_place}
 use Rattle.zpl_names.proofs.ListLemmas.{Contains-from_among}
@@ -39,7 +39,7 @@ use Rattle.meaning_ranks.specs.Bordered.{ComesToName, IsBordered}
 use Rattle.meaning_ranks.specs.Shaped.{HaveTheirRanks}
 use Rattle.meaning_ranks.specs.Flat.{IsFlatForm}
 use Rattle.meaning_ranks.specs.Ranked.{IsRankedForm}
-use Rattle.meaning_ranks.specs.Unmasked.{HasNoMask, AreUnmaskedItems, IsUnmasked}
+use Rattle.meaning_ranks.specs.Unmasked.{AreUnmaskedItems, IsUnmasked}
 use Rattle.meaning_ranks.proofs.PlaceLemmas.{IsAt, behind, inside_at, entry_at, part_at}
 use Rattle.meaning_ranks.proofs.PlaceLemmas.{same_scope}
 use Rattle.meaning_ranks.proofs.PlaceLemmas.{call_at_body, proper_behind, proper_called}

@@ -19,7 +19,7 @@ use Rattle.zpl_tree.specs.Grammar.{IsProgram}
 use Rattle.zpl_names.specs.Kinds as kind
 use Rattle.zpl_names.specs.Kinds.{Rank, Kind, Formal, ScalarFormal, ArrayFormal, Signature}
 use Rattle.zpl_names.specs.Scope.{Entry, Scope, kind_in, kind_of, is_procedure}
-use Rattle.zpl_names.specs.Ranks.{HasRanks, HasRank, IsKnownKind, AreKnown, first_rank}
+use Rattle.zpl_names.specs.Ranks.{HasRank, IsKnownKind, first_rank}
 use Rattle.zpl_names.specs.Shapes.{Shapes, no_shapes, variable_kind}
 use Rattle.zpl_names.specs.Declared.{entry_for, head_scope, own_entries, signature_of, globals_of}
 use Rattle.zpl_names.specs.Declared.{Routine, IsProcedureOf, routines_of, routine_named, entry_of}
@@ -32,36 +32,34 @@ use Rattle.zpl_names.specs.Sites.{otherwise_sites, body_sites, outermost_sites, 
 use Rattle.zpl_names.specs.Sites.{CallSite, call_of, call_place}
 use Rattle.zpl_names.specs.Reached.{IsReached, Entered, Called as CalledFrom, sites_of, sites_at}
 use Rattle.zpl_names.specs.Reached.{calls_of, calls_at}
-use Rattle.zpl_names.specs.Accepted.{IsFaultless, HasNoFault, HasNoFaultUnder, HasKnownRank}
+use Rattle.zpl_names.specs.Accepted.{IsFaultless}
 use Rattle.zpl_names.specs.Accepted.{NoEntry, is_entry, no_entry}
-use Rattle.zpl_names.specs.Faults.{ends_in_border}
 use Rattle.zpl_names.proofs.ListLemmas.{Among, among_from_Contains, Contains-from_among}
 use Rattle.zpl_names.proofs.NameLemmas.{no_place}
 use Rattle.zpl_names.proofs.FaultlessLemmas.{split}
 use Rattle.zpl_binding.specs.Settings.{Setting}
-use Rattle.zpl_meaning.specs.Store.{Thing, Scalar, ArrayAt, Fixed, Names, Store, thing_of}
+use Rattle.zpl_meaning.specs.Store.{Names, Store, thing_of}
 use Rattle.zpl_meaning.specs.Context.{Setup, Place}
 use Rattle.zpl_meaning.specs.Variables.{Frame, empty_frame}
-use Rattle.zpl_meaning.specs.Calls.{Handed, Called, formals_in, value_exprs, referred, copied_array}
-use Rattle.zpl_meaning.specs.Calls.{handed_on, actual_thing, entered}
+use Rattle.zpl_meaning.specs.Calls.{Handed, Called, formals_in, value_exprs}
+use Rattle.zpl_meaning.specs.Calls.{handed_on, entered}
 use Rattle.zpl_meaning.specs.Regions.{under_prefix}
 use Rattle.zpl_meaning.specs.Program.{entry_call}
-use Rattle.zpl_meaning.specs.Proper.{IsVariable, IsArray, AreProperActuals}
 use Rattle.zpl_meaning.specs.Proper.{IsProperCall, IsProperForm, IsProperUnder}
 use Rattle.zpl_meaning.specs.Visited.{IsUnder, Itself, Behind, list_of, arms_parts, else_parts, parts_of, IsCall}
 use Rattle.zpl_meaning.specs.Visited.{AsAnswer, AsStatement as CalledAsStatement, formals_at}
 use Rattle.zpl_meaning.specs.Visited.{handed_at, body_place, IsVisited, Begins, Holds, Calls}
 use Rattle.zpl_meaning.specs.Visited.{first_setup}
 use Rattle.zpl_meaning.proofs.DepthLemmas.{Each, each_left, each_right, each_from}
-use Rattle.zpl_meaning.proofs.ProperLemmas.{IsClean, Clean, not_false, taken, IsNamed, Covers, Fits}
-use Rattle.zpl_meaning.proofs.ProperLemmas.{reach_at, RankLaws}
+use Rattle.zpl_meaning.proofs.ProperLemmas.{not_false, taken, IsNamed, Covers, Fits}
+use Rattle.zpl_meaning.proofs.ProperLemmas.{reach_at}
 use Rattle.zpl_meaning.proofs.StatementLemmas.{first_known, FitsUnder, under_fits}
 use Rattle.zpl_meaning.proofs.VisitLemmas.{IsHere, clean_of, Inside, InStmt, InBody, IsPart}
 use Rattle.zpl_meaning.proofs.VisitLemmas.{all_handed, HasSites, Laws, visited_proper}
 use Rattle.zpl_meaning.proofs.NamesLemmas.{Listed, Nothing, listed_append, listed_found, IsGood}
 use Rattle.zpl_meaning.proofs.NamesLemmas.{IsFound, OptGood, good_in, good_from, named_from, Shaped}
 use Rattle.zpl_meaning.proofs.NamesLemmas.{globals_shaped, routine_sound, variables_listed}
-use Rattle.zpl_meaning.proofs.NamesLemmas.{declarations_listed, IsHanded, AreHanded, formals_listed}
+use Rattle.zpl_meaning.proofs.NamesLemmas.{declarations_listed, AreHanded, formals_listed}
 
 -- ---- lists
 

@@ -1,10 +1,10 @@
 -- In a place that fits what the text says of it, what stands in expressions without faults has their
 -- rank.
-use Rattle.std.proofs.Common.{◌≡◌, ℕ, zero, suc, ◌≤◌, Bool, true, false, cond, not, ◌||◌, ◌==◌}
-use Rattle.std.proofs.Common.{◌⊎◌, inl, inr, ℤ, pos, negsuc, List, [], ◌∷◌, ◌++◌, length, Option, Some}
+use Rattle.std.proofs.Common.{◌≡◌, ℕ, zero, suc, ◌≤◌, Bool, true, false, cond, ◌||◌, ◌==◌}
+use Rattle.std.proofs.Common.{◌⊎◌, inl, inr, ℤ, pos, negsuc, List, [], ◌∷◌, length, Option, Some}
 use Rattle.std.proofs.Common.{None, option_map, IsSome, refl, sym, ap, ◌∙◌, subst, arith}
 use Rattle.std.proofs.Common.{true≢false, eqb-true, nat_le}
-use Rattle.std.specs.Prelude.{nat_lt, int_lt}
+use Rattle.std.specs.Prelude.{int_lt}
 use Rattle.std.specs.List.{flat_map}
 use Rattle.std.proofs.lemmas.Bool.{leb-true, ltb-false}
 use Rattle.std.proofs.lemmas.Int.{ints}
@@ -12,8 +12,8 @@ use Rattle.zpl_region.specs.declared.regions.Region.{Region}
 use Rattle.zpl_tree.specs.Syntax.{Name, Expr, Number, Truth, Coord, Named, Shifted, Around, Remap}
 use Rattle.zpl_tree.specs.Syntax.{Call, Paren, Neg, Not, Abs, Pair, Reduce, Scan, Flood, Exprs}
 use Rattle.zpl_tree.specs.Syntax.{NoExpr, ThenExpr, Dir, NamedDir, Vector, Inner, Rexpr, Dims}
-use Rattle.zpl_tree.specs.Syntax.{NoBracket, Bracketed, Posts, NoPost, ThenPost, RegionBase}
-use Rattle.zpl_tree.specs.Syntax.{NamedRegion, Ditto, DimTexts, NoDim, ThenDim, Base, Pre}
+use Rattle.zpl_tree.specs.Syntax.{NoBracket, Bracketed, Posts, NoPost, ThenPost}
+use Rattle.zpl_tree.specs.Syntax.{DimTexts, Base, Pre}
 use Rattle.zpl_tree.specs.Grammar.{IsExpr, AreExprs, IsDir, HasExpr, IsInner, ArePosts, IsAlong}
 use Rattle.zpl_tree.specs.Grammar.{expr_level, unary_level, left_level, right_level}
 use Rattle.zpl_names.specs.Kinds as kind
@@ -24,9 +24,8 @@ use Rattle.zpl_names.specs.Ranks.{exprs_count, dims_count, at_most_three, direct
 use Rattle.zpl_names.specs.Ranks.{value_rank, array_rank, inner_rank, own_rank, own_ranks}
 use Rattle.zpl_names.specs.Ranks.{operand_rank}
 use Rattle.zpl_names.specs.Shapes.{Shapes, with_current, current_over, inner_shape}
-use Rattle.zpl_names.specs.Sites.{Reach, over_source, Site, AtDir, AtExpr, dir_sites, expr_sites}
-use Rattle.zpl_names.specs.Sites.{exprs_sites, region_sites, posts_sites, index_sites, in_vector}
-use Rattle.zpl_names.specs.Sites.{components_sites}
+use Rattle.zpl_names.specs.Sites.{Reach, over_source, dir_sites, expr_sites}
+use Rattle.zpl_names.specs.Sites.{exprs_sites, region_sites, posts_sites, index_sites}
 use Rattle.zpl_names.specs.Faults.{unless_taken, fourth_part, no_dimension, is_past, is_other_count}
 use Rattle.zpl_names.specs.Faults.{index_clashes, pre_clashes, post_clashes, base_at, unknown_base}
 use Rattle.zpl_names.proofs.NameLemmas.{no_place, empty_parts}
@@ -34,13 +33,13 @@ use Rattle.zpl_meaning.specs.Store.{Thing, Scalar, ArrayAt, Fixed, thing_of}
 use Rattle.zpl_meaning.specs.Context.{Place}
 use Rattle.zpl_meaning.specs.Regions.{under_source}
 use Rattle.zpl_meaning.specs.Proper.{IsArrayRank}
-use Rattle.zpl_meaning.proofs.DepthLemmas.{Each, each_left, each_right}
+use Rattle.zpl_meaning.proofs.DepthLemmas.{each_left, each_right}
 use Rattle.zpl_meaning.proofs.ProperLemmas.{IsClean, Clean, not_false, taken, IsNamed, Fits}
-use Rattle.zpl_meaning.proofs.ProperLemmas.{reach_at, RankLaws, array_rank_is, Agrees, same_rank}
+use Rattle.zpl_meaning.proofs.ProperLemmas.{reach_at, RankLaws, Agrees, same_rank}
 use Rattle.zpl_meaning.proofs.ProperLemmas.{first_agrees, left_agrees, right_agrees, both_zero}
 use Rattle.zpl_meaning.proofs.ProperLemmas.{none_is_not, or_false, read_array}
 use Rattle.zpl_meaning.proofs.ProperLemmas.{region_rank, fits_source}
-use Rattle.meaning_ranks.specs.Ranked.{IsArrayOf, AreArraysOf, IsNameOf, HasDimension, GoesAlong}
+use Rattle.meaning_ranks.specs.Ranked.{IsArrayOf, IsNameOf, HasDimension, GoesAlong}
 use Rattle.meaning_ranks.specs.Ranked.{ArePresOf, ArePostsOf, IsInnerOf, IsRegionOf, IsOfRank}
 use Rattle.meaning_ranks.specs.Ranked.{AreOfRank}
 

@@ -1,7 +1,7 @@
 -- Declared regions, as they are computed, have the rank and the flood dimensions that the text says.
 use Rattle.std.proofs.Common.{◌≡◌, ℕ, zero, suc, ◌≤◌, Bool, true, false, cond, not, ◌||◌, ℤ, pos}
 use Rattle.std.proofs.Common.{inl, inr, List, [], ◌∷◌, ◌++◌, map, length, Option, Some, None}
-use Rattle.std.proofs.Common.{option_map, Contains, refl, sym, ap, ◌∙◌, subst, arith, true≢false}
+use Rattle.std.proofs.Common.{option_map, refl, sym, ap, ◌∙◌, subst, true≢false}
 use Rattle.std.proofs.Common.{append_assoc, append-nil, nat_le, Decides}
 use Rattle.std.specs.List.{find, flat_map, list_any}
 use Rattle.std.specs.Option.{option_or}
@@ -19,12 +19,12 @@ use Rattle.zpl_tree.specs.Syntax as plain
 use Rattle.zpl_names.specs.Kinds as kind
 use Rattle.zpl_names.specs.Kinds.{Shape, Rank, Kind}
 use Rattle.zpl_names.specs.Scope.{Entry, Scope, kind_in, kind_of, in_reach, is_region}
-use Rattle.zpl_names.specs.Ranks.{inner_rank, is_index, region_shape, at_most_three, dims_count}
+use Rattle.zpl_names.specs.Ranks.{inner_rank, is_index, region_shape, dims_count}
 use Rattle.zpl_names.specs.Shapes.{Current, Absent, Unknown, no_shapes, current_at, shape_of_current, dim_shape}
-use Rattle.zpl_names.specs.Shapes.{with_dim, dims_shape, shape_within, inner_shape, declared_shape}
+use Rattle.zpl_names.specs.Shapes.{with_dim, dims_shape, inner_shape, declared_shape}
 use Rattle.zpl_names.specs.Shapes.{variable_kind}
 use Rattle.zpl_names.specs.Declared.{entry_for, declaring, with_define, with_region, with_direction}
-use Rattle.zpl_names.specs.Declared.{with_variables, with_procedure, with_each, with_decl, globals_of}
+use Rattle.zpl_names.specs.Declared.{with_variables, with_each, with_decl, globals_of}
 use Rattle.zpl_names.specs.Declared.{region_entry, direction_entry, procedure_entry, Routine, scope_of}
 use Rattle.zpl_names.specs.Declared.{head_scope, own_entries}
 use Rattle.zpl_meaning.proofs.NamesLemmas.{IsSound}
@@ -39,7 +39,6 @@ use Rattle.zpl_binding.specs.Outcome.{outcome_or}
 use Rattle.zpl_binding.specs.Settings.{Setting}
 use Rattle.zpl_binding.specs.Regions.{Known, region_over, limited, no_region, is_region_name}
 use Rattle.zpl_binding.specs.Regions.{region_named, index_of, named_or_index, inner_of, region_of}
-use Rattle.zpl_binding.specs.Regions.{before, behind}
 use Rattle.zpl_binding.specs.Declarations as bind
 use Rattle.zpl_binding.specs.Declarations.{computed_for, with_all, nothing_known, known_of}
 use Rattle.meaning_ranks.proofs.PlaceLemmas.{found_in, none_there}

@@ -1,17 +1,17 @@
 -- The regions that are computed have the rank and the flood dimensions that the text says.
-use Rattle.std.proofs.Common.{◌≡◌, ℕ, zero, suc, ◌-◌, ◌≤◌, ◌<◌, Bool, true, false, cond, ℤ, pos}
+use Rattle.std.proofs.Common.{◌≡◌, ℕ, zero, suc, ◌-◌, ◌≤◌, Bool, true, false, cond, ℤ, pos}
 use Rattle.std.proofs.Common.{List, [], ◌∷◌, length, Option, Some, None, refl, sym, ap, ◌∙◌, subst}
 use Rattle.std.proofs.Common.{arith, if◌then◌else◌}
-use Rattle.std.specs.Prelude.{int_lt, slice_get, slice_index_or}
+use Rattle.std.specs.Prelude.{int_lt, slice_index_or}
 use Rattle.zpl_region.specs.declared.dims.Dim.{Dim}
 use Rattle.zpl_region.specs.declared.dims.Dim.TheVariants.{Range, Flood}
 use Rattle.zpl_region.specs.declared.regions.Region.{Region}
 use Rattle.zpl_region.specs.Dim.{dim_outside_of, dim_inside_of, dim_moved, dim_strided}
 use Rattle.zpl_region.specs.Hull.{all_from}
-use Rattle.zpl_region.specs.Region.{dim_at, padding, components, each, formed, outside_of, inside_of}
+use Rattle.zpl_region.specs.Region.{dim_at, components, each, formed, outside_of, inside_of}
 use Rattle.zpl_region.specs.Region.{moved, strided}
 use Rattle.zpl_region.specs.Tests.{is_within_limit}
-use Rattle.zpl_tree.specs.Syntax.{Name, Named, Pre, Posts, NoPost, ThenPost, DimText, Blank, Star, One}
+use Rattle.zpl_tree.specs.Syntax.{Pre, Posts, NoPost, ThenPost, DimText, Blank, Star, One}
 use Rattle.zpl_tree.specs.Syntax.{Span, DimTexts, NoDim, ThenDim}
 use Rattle.zpl_names.specs.Kinds.{Shape}
 use Rattle.zpl_names.specs.Shapes.{Current, Absent, dim_of_current, dim_shape, with_dim, dims_shape}
@@ -25,7 +25,7 @@ use Rattle.zpl_meaning.specs.Computed.{Computed, both_then, computed_then}
 use Rattle.zpl_meaning.specs.Computed as run
 use Rattle.zpl_meaning.specs.Store.{Environment, Store}
 use Rattle.zpl_meaning.specs.Value.{value_of as value_in}
-use Rattle.zpl_meaning.specs.Regions.{fault_trap, computed_of, dim_in, dims_in, span_in}
+use Rattle.zpl_meaning.specs.Regions.{computed_of, dim_in, dims_in, span_in}
 use Rattle.meaning_ranks.specs.Shaped.{is_flood, AreFloods, IsShaped}
 
 -- ---- forms

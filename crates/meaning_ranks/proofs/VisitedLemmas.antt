@@ -7,13 +7,12 @@ use Rattle.zpl_tree.specs.Syntax.{Name, Prefix, Program, Stmt, Prefixed, Form, B
 use Rattle.zpl_tree.specs.Syntax.{Bracket, NoBracket, Bracketed}
 use Rattle.zpl_tree.specs.Syntax as plain
 use Rattle.zpl_tree.specs.Grammar.{IsForm, IsProgram}
-use Rattle.zpl_names.specs.Kinds as kind
 use Rattle.zpl_names.specs.Kinds.{Rank, Formal, Signature}
 use Rattle.zpl_names.specs.Scope.{Entry, Scope}
 use Rattle.zpl_names.specs.Ranks.{IsKnownKind}
 use Rattle.zpl_names.specs.Shapes.{Shapes, variable_kind}
 use Rattle.zpl_names.specs.Declared.{entry_for, head_scope, own_entries, formal_of, formals_of}
-use Rattle.zpl_names.specs.Declared.{signature_of, routine_named, routines_of, scope_of}
+use Rattle.zpl_names.specs.Declared.{signature_of, routine_named, routines_of}
 use Rattle.zpl_names.specs.Sites.{form_sites}
 use Rattle.zpl_names.specs.Faults.{ends_in_border}
 use Rattle.zpl_names.specs.Accepted.{IsFaultless}

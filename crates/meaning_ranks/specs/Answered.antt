@@ -1,5 +1,5 @@
 -- What a procedure that is called for an answer has come to.
-use Rattle.std.specs.Prelude.{◌≡◌, ℕ, ℤ, List, [], ◌∷◌, Option, None}
+use Rattle.std.specs.Prelude.{◌≡◌, ℕ, ℤ, List, None}
 use Rattle.zpl_tree.specs.Syntax.{Expr, Prefix, Prefixed, Return}
 use Rattle.zpl_names.specs.Sites.{Result}
 use Rattle.zpl_meaning.specs.Computed.{Gives}
