@@ -1,7 +1,6 @@
 -- A computation that is these phases, one after the other.
-use Rattle.std.proofs.Common.{◌≡◌, ◌⊎◌, inl, inr, ℕ, Bool, true, false, ◌&&◌, ℤ, List, [], ◌∷◌}
-use Rattle.std.proofs.Common.{refl, sym, ap, ◌∙◌, subst}
-use Rattle.zpl_nums.specs.declared.ends.End.TheVariants.{Trap}
+use Rattle.std.proofs.Common.{◌≡◌, inl, inr, ℕ, Bool, true, false, ◌&&◌, List}
+use Rattle.std.proofs.Common.{refl, ap, ◌∙◌}
 use Rattle.zpl_nums.specs.declared.ends.TrapKind.{TrapKind}
 use Rattle.zpl_nums.specs.declared.ends.TrapKind.TheVariants.{OutsideStorage, RegionMismatch}
 use Rattle.zpl_meaning.specs.Computed.{Computed, Gives, Traps, computed_then, provided}
@@ -12,7 +11,7 @@ use Rattle.zpl_meaning.specs.Settled.{Placed, settled_each}
 use Rattle.zpl_meaning.specs.Checks.{conform, refer}
 use Rattle.zpl_meaning.specs.Fields.{Field, fields_of}
 use Rattle.zpl_meaning.specs.Phases.{fields_in}
-use Rattle.zpl_meaning.specs.Outcome.{Outcome, ends, with_value}
+use Rattle.zpl_meaning.specs.Outcome.{Outcome, with_value}
 use Rattle.meaning_phases.specs.Phased.{Phases, Fails, InRegions, InConformity, InReferences}
 use Rattle.meaning_phases.specs.Phased.{InValues, Has, FailsOrHas, IsComputedIn, IsRunIn}
 use Rattle.meaning_phases.specs.Statements.{phases_of}

@@ -1,24 +1,23 @@
 -- Each kind of statement is its phases.
-use Rattle.std.proofs.Common.{◌≡◌, ℕ, Bool, true, ◌&&◌, ℤ, List, [], ◌∷◌, ◌++◌, Some, None, refl, sym}
+use Rattle.std.proofs.Common.{ℕ, Bool, true, ◌&&◌, ℤ, List, [], ◌∷◌, ◌++◌, Some, None, refl, sym}
 use Rattle.std.proofs.Common.{ap, ◌∙◌, if◌then◌else◌}
 use Rattle.zpl_nums.specs.declared.ends.Border.{Border as BorderKind}
-use Rattle.zpl_arrays.specs.Array.{Array, element}
 use Rattle.zpl_region.specs.declared.regions.Region.{Region}
 use Rattle.zpl_tree.specs.Syntax.{Name, Expr, Exprs, ForHead, Item, Return, Write}
 use Rattle.zpl_names.specs.Scope.{kind_of}
 use Rattle.zpl_names.specs.Sites.{Role, Limit, Result, Test, handed}
-use Rattle.zpl_meaning.specs.Computed.{Computed, Gives, computed_then}
-use Rattle.zpl_meaning.specs.Store.{ArrayAt, Scalar, Store, array_at, with_array, with_scalar}
+use Rattle.zpl_meaning.specs.Computed.{Gives, computed_then}
+use Rattle.zpl_meaning.specs.Store.{ArrayAt, Scalar, Store, with_scalar}
 use Rattle.zpl_meaning.specs.Context.{over_at, Edge, Place, reach_of}
 use Rattle.zpl_meaning.specs.Settled.{Placed}
 use Rattle.zpl_meaning.specs.Checks.{is_within, has_mask_within}
-use Rattle.zpl_meaning.specs.Fields.{Field, is_kept_in, array_over}
+use Rattle.zpl_meaning.specs.Fields.{is_kept_in, array_over}
 use Rattle.zpl_meaning.specs.Phases.{placed_in, fields_in, scalar_values, scalars_in, first_value}
 use Rattle.zpl_meaning.specs.Phases.{first_field}
-use Rattle.zpl_meaning.specs.Text.{printed_exprs, items_text, print_text}
+use Rattle.zpl_meaning.specs.Text.{printed_exprs, items_text}
 use Rattle.zpl_meaning.specs.Outcome.{Outcome, goes_on, prints, with_value}
 use Rattle.zpl_meaning.specs.Calls.{formals_in, value_exprs, handed_on, actuals_in}
-use Rattle.zpl_meaning.specs.Statement.{written, assign_to, border_thing, Context, exec_form}
+use Rattle.zpl_meaning.specs.Statement.{assign_to, border_thing, Context, exec_form}
 use Rattle.zpl_meaning.specs.Statement.{head_value, line_of, start_of, step_expr, test_of}
 use Rattle.meaning_phases.specs.Phased.{IsComputedIn, IsRunIn}
 use Rattle.meaning_phases.specs.Statements.{actuals, answer, array_assignment, border, head, print}

@@ -1,12 +1,11 @@
 -- Which traps the first phase has, and the fourth.
-use Rattle.std.proofs.Common.{◌≡◌, ◌⊎◌, inl, inr, ℕ, suc, Bool, true, false, cond, ℤ, List, [], ◌∷◌}
+use Rattle.std.proofs.Common.{◌≡◌, ◌⊎◌, inl, inr, ℕ, suc, Bool, true, false, ℤ, List, [], ◌∷◌}
 use Rattle.std.proofs.Common.{Option, Some, None, Contains, refl, sym, subst}
 use Rattle.std.specs.List.{list_all}
 use Rattle.zpl_nums.specs.declared.folds.Fold.{Fold}
 use Rattle.zpl_nums.specs.declared.ends.TrapKind.{TrapKind}
 use Rattle.zpl_nums.specs.declared.ends.TrapKind.TheVariants as trap
 use Rattle.zpl_nums.specs.Op.{applied}
-use Rattle.zpl_nums.specs.UnaryOp.{applied_unary}
 use Rattle.zpl_region.specs.declared.dims.Dim.{Dim}
 use Rattle.zpl_region.specs.declared.regions.Region.{Region}
 use Rattle.zpl_region.specs.Region.{dim_at, members}
@@ -24,10 +23,10 @@ use Rattle.zpl_binding.specs.Outcome as bound
 use Rattle.zpl_meaning.specs.Computed.{Computed, Gives, Traps, computed_then, both_then, provided}
 use Rattle.zpl_meaning.specs.Computed.{given}
 use Rattle.zpl_meaning.specs.Store.{Environment, Store, array_at}
-use Rattle.zpl_meaning.specs.Context.{Over, Place}
+use Rattle.zpl_meaning.specs.Context.{Place}
 use Rattle.zpl_meaning.specs.Value.{value_of}
-use Rattle.zpl_meaning.specs.Regions.{computed_of, dim_in, dims_in, span_in, index_in, name_in}
-use Rattle.zpl_meaning.specs.Regions.{inner_over, current_for, region_in, under_source}
+use Rattle.zpl_meaning.specs.Regions.{computed_of, dim_in, dims_in, span_in, name_in}
+use Rattle.zpl_meaning.specs.Regions.{current_for, region_in, under_source}
 use Rattle.zpl_meaning.specs.Term.{Term, Constant, Variable, Coordinate, Element, Wrapped, Unary}
 use Rattle.zpl_meaning.specs.Term.{Binary, Folded, PartFolded, Scanned, Flooded, Remapped, Terms}
 use Rattle.zpl_meaning.specs.Term.{NoTerm, ThenTerm}
@@ -268,7 +267,6 @@ arrays_plain (field ∷ fields) region is_in h =
     (λ array arrays. tt)
 
 module _ (P : TrapKind → Type 0) (zero_is : P trap.DivideByZero) where
-
   -- a computation of a field, or of fields
   abbrev Plain : Computed Field → Type 0
   Plain (Gives field) = PlainField field

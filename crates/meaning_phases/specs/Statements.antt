@@ -11,7 +11,7 @@ use Rattle.zpl_names.specs.Scope.{kind_of}
 use Rattle.zpl_names.specs.Sites.{Role, Limit, Result, Test, handed}
 use Rattle.zpl_meaning.specs.Computed.{Computed, Gives, computed_then}
 use Rattle.zpl_meaning.specs.Store.{Store, array_at, with_array, with_scalar}
-use Rattle.zpl_meaning.specs.Context.{Over, over_at, Edge, Place, reach_of}
+use Rattle.zpl_meaning.specs.Context.{over_at, Edge, Place, reach_of}
 use Rattle.zpl_meaning.specs.Term.{NoTerm}
 use Rattle.zpl_meaning.specs.Settled.{Placed, settled_each}
 use Rattle.zpl_meaning.specs.Checks.{conform, is_within, has_mask_within, refer}
