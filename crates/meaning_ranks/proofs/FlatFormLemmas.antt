@@ -43,7 +43,16 @@ use Rattle.meaning_ranks.specs.Flat.{AreFlatActuals, IsFlatAssign, AreFlatTests,
 use Rattle.meaning_ranks.specs.Flat.{AreFlatItems, IsFlatCall, IsFlatForm}
 use Rattle.meaning_ranks.specs.Ranked.{AreArraysOf, IsOfRank, IsRankedForm}
 use Rattle.meaning_ranks.proofs.RankLemmas.{KnowsDirections, zero_or_same, of_rank}
-use Rattle.meaning_ranks.proofs.FormLemmas.{joined_rank}
+use Rattle.meaning_ranks.proofs.FormLemmas.{joined_rank, first_above, above_is_array, test_same}
+use Rattle.meaning_ranks.proofs.FormLemmas.{arms_same}
+use Rattle.meaning_ranks.proofs.FlatPointLemmas.{read_append, points, point_arms, point_else}
+use Rattle.meaning_ranks.proofs.FlatPointLemmas.{test_flat as test_point_flat}
+use Rattle.zpl_tree.specs.Grammar.{AreStmts}
+use Rattle.zpl_names.specs.Ranks.{first_rank, is_above_zero}
+use Rattle.zpl_names.specs.Faults.{at_if, broken_arms, broken_form, broken_test, has_prefix}
+use Rattle.zpl_meaning.specs.Points.{Reads, stmts_parts, arms_parts, otherwise_parts, exprs_read}
+use Rattle.meaning_ranks.specs.Flat.{AreFlatRead}
+use Rattle.std.proofs.Common.{cond, arith}
 use Rattle.meaning_ranks.proofs.CurrentLemmas.{AreTold, KnowsRegions}
 use Rattle.meaning_ranks.proofs.FlatLemmas.{flat, flat_current, raised_flat}
 
@@ -313,27 +322,113 @@ module _ (laws : RankLaws) (place : Place) (shapes : Shapes) (shattered : Rank)
             (arms_sites reach within rest) h) g.1 q.1,
       )
 
-  if_flat : (arms : Arms) (otherwise : Otherwise) → (b : Bool)
+  -- the rank of a shattered statement
+  above_of : (rank : Rank) (n : ℕ) → rank ≡ Some (suc n) → is_above_zero rank ≡ true → IsRank rank
+      → IsArrayRank (Some (suc n))
+  above_of rank n same e le = subst IsArrayRank same (above_is_array laws rank e le)
+
+  first_fits : (one other : Rank) → IsRank one → IsRank other → IsRank (first_rank one other)
+  first_fits None other h k = tt
+  first_fits (Some zero) other h k = k
+  first_fits (Some (suc n)) other h k = h
+
+  test_fits : (test : Expr) → IsRank (test_rank reach test)
+  test_fits test =
+      laws.expressions place.scope place.prefix place.prefix test fits.ranked fits.prefix
+      fits.prefix
+
+  arms_fit : (arms : Arms) → IsRank (arms_rank reach arms)
+  arms_fit NoArm = omega arith
+  arms_fit (ThenArm (Tested offset test body) rest) =
+      first_fits (test_rank reach test) (arms_rank reach rest) (test_fits test) (arms_fit rest)
+
+  if_flat : (arms : Arms) (otherwise : Otherwise) (at : ℕ) (prefixes : List Prefix)
+      → IsSome shattered → IsClean (AtStmt reach at prefixes (If arms otherwise)) → (b : Bool)
+      → is_shattered reach (If arms otherwise) ≡ b
       → Clean (form_sites reach (If arms otherwise)) → IsForm (If arms otherwise)
       → IsProperTested b place (If arms otherwise) → IsFlatTested b place (If arms otherwise)
-  if_flat arms otherwise true k g q = tt
-  if_flat arms otherwise false k g q =
+  if_flat arms otherwise at prefixes some h true e k g q =
+      let rank = arms_rank reach arms in
+      let above = first_above laws shattered rank some e in
+      let n = above.0 in
+      let inner : Reach = reach_at place shapes (Some (suc n)) None in
+      let sites : Clean (arms_sites reach inner arms ++ otherwise_sites inner otherwise) =
+      subst (λ w. Clean (arms_sites reach (reach_at place shapes w None) arms
+      ++ otherwise_sites (reach_at place shapes w None) otherwise)) above.1 k in
+      let broken : broken_arms reach (Some (suc n)) arms ≡ [] =
+      subst (λ w. broken_arms reach w arms ≡ []) above.1
+      (empty_parts (cond (is_above_zero shattered)
+      (at_if (has_prefix prefixes) at ++ broken_form reach at (If arms otherwise)) [])
+      (broken_arms reach (first_rank shattered rank) arms) h.none.shattered).1 in
+      let same : rank ≡ Some (suc n) = arms_same laws reach n arms e broken in
+      let p = above_of rank n same e (arms_fit arms) in
+      subst (λ r. AreFlatRead place (exprs_read r (arms_parts arms ++ otherwise_parts otherwise)))
+      (sym same)
+      (read_append place (Some (suc n)) (arms_parts arms) (otherwise_parts otherwise)
+      (point_arms laws place shapes fits told n p arms shattered result
+      (each_left IsClean (arms_sites reach inner arms) (otherwise_sites inner otherwise) sites)
+      broken g.1)
+      (point_else laws place shapes fits told n p otherwise
+      (each_right IsClean (arms_sites reach inner arms) (otherwise_sites inner otherwise) sites)
+      g.2))
+  if_flat arms otherwise at prefixes some h false e k g q =
       let inner = inside reach (arms_rank reach arms) in
       tests_flat inner arms
       (each_left IsClean (arms_sites reach inner arms) (otherwise_sites inner otherwise) k) g.1 q
 
-  while_flat : (test : Expr) (body : Stmts) (b : Bool) → Clean (whole_sites reach TestRole test)
-      → IsExpr expr_level test → IsProperTested b place (While test body)
-      → IsFlatTested b place (While test body)
-  while_flat test body true k g q = tt
-  while_flat test body false k g q = whole_flat place.prefix test k.1 g q.1
+  -- the test and the body of a loop
+  loop_flat : (test : Expr) (body : Stmts) → IsSome shattered
+      → broken_test reach (first_rank shattered (test_rank reach test)) test ≡ []
+      → Clean (whole_sites reach TestRole test)
+      → Clean (stmts_sites (inside reach (test_rank reach test)) body)
+      → IsExpr expr_level test → AreStmts body → is_above_zero (test_rank reach test) ≡ true
+      → IsFlatIn place (test_rank reach test) test
+      × AreFlatRead place (exprs_read (test_rank reach test) (stmts_parts body))
+  loop_flat test body some b h k g j e =
+      let rank = test_rank reach test in
+      let above = first_above laws shattered rank some e in
+      let n = above.0 in
+      let broken : broken_test reach (Some (suc n)) test ≡ [] =
+      subst (λ w. broken_test reach w test ≡ []) above.1 b in
+      let same : rank ≡ Some (suc n) = test_same laws reach n test e broken in
+      let p = above_of rank n same e (test_fits test) in
+      subst (λ r. IsFlatIn place r test × AreFlatRead place (exprs_read r (stmts_parts body)))
+      (sym same) (
+        test_point_flat laws place shapes fits told n p test shattered result h broken g,
+        points laws place shapes fits told n p body None
+            (subst (λ w. Clean (stmts_sites (reach_at place shapes w None) body)) above.1 k) j,
+      )
 
-  repeat_flat : (test : Expr) (body : Stmts) (until : ℕ) (b : Bool)
-      → Clean (whole_sites reach TestRole test) → IsExpr expr_level test
-      → IsProperTested b place (Repeat body until test)
+  while_flat : (test : Expr) (body : Stmts) (at : ℕ) (prefixes : List Prefix) → IsSome shattered
+      → IsClean (AtStmt reach at prefixes (While test body)) → (b : Bool)
+      → is_above_zero (test_rank reach test) ≡ b → Clean (whole_sites reach TestRole test)
+      → Clean (stmts_sites (inside reach (test_rank reach test)) body)
+      → IsExpr expr_level test → AreStmts body → IsProperTested b place (While test body)
+      → IsFlatTested b place (While test body)
+  while_flat test body at prefixes some h true e k l g j q =
+      loop_flat test body some
+      (empty_parts (cond (is_above_zero shattered)
+      (at_if (has_prefix prefixes) at ++ broken_form reach at (While test body)) [])
+      (broken_test reach (first_rank shattered (test_rank reach test)) test)
+      h.none.shattered).1 k l g j e
+  while_flat test body at prefixes some h false e k l g j q = whole_flat place.prefix test k.1 g q.1
+
+  repeat_flat : (test : Expr) (body : Stmts) (until at : ℕ) (prefixes : List Prefix)
+      → IsSome shattered → IsClean (AtStmt reach at prefixes (Repeat body until test)) → (b : Bool)
+      → is_above_zero (test_rank reach test) ≡ b → Clean (whole_sites reach TestRole test)
+      → Clean (stmts_sites (inside reach (test_rank reach test)) body)
+      → IsExpr expr_level test → AreStmts body → IsProperTested b place (Repeat body until test)
       → IsFlatTested b place (Repeat body until test)
-  repeat_flat test body until true k g q = tt
-  repeat_flat test body until false k g q = whole_flat place.prefix test k.1 g q.1
+  repeat_flat test body until at prefixes some h true e k l g j q =
+      let both = loop_flat test body some
+      (empty_parts (cond (is_above_zero shattered)
+      (at_if (has_prefix prefixes) at ++ broken_form reach at (Repeat body until test)) [])
+      (broken_test reach (first_rank shattered (test_rank reach test)) test)
+      h.none.shattered).1 k l g j e in
+      read_append place (test_rank reach test) (stmts_parts body) (Reads test ∷ []) both.1
+      (both.0, tt)
+  repeat_flat test body until at prefixes some h false e k l g j q =
+      whole_flat place.prefix test k.1 g q.1
 
   step_flat : (step : Option Expr) → Clean (step_sites reach step) → IsStep step
       → IsProper place (rank_in place Limit (step_expr step)) (step_expr step)
@@ -343,24 +438,26 @@ module _ (laws : RankLaws) (place : Place) (shapes : Shapes) (shattered : Rank)
 
   -- ---- statements
 
-  pub form_flat : (form : Form) (at : ℕ) (prefixes : List Prefix)
+  pub form_flat : (form : Form) (at : ℕ) (prefixes : List Prefix) → IsSome shattered
       → IsClean (AtStmt reach at prefixes form) → Clean (form_sites reach form) → IsForm form
       → IsProperForm place form → IsRankedForm place form → IsFlatForm place form
-  form_flat (Assign name op value) at prefixes h k g q r =
+  form_flat (Assign name op value) at prefixes some h k g q r =
       assign_flat name op value at prefixes h k g.1 q
-  form_flat (Invoke name actuals) at prefixes h k g q r = call_flat name actuals k.1 g q
-  form_flat (Block body) at prefixes h k g q r = tt
-  form_flat (If arms otherwise) at prefixes h k g q r =
-      if_flat arms otherwise (is_shattered reach (If arms otherwise)) k g q
-  form_flat (While test body) at prefixes h k g q r =
+  form_flat (Invoke name actuals) at prefixes some h k g q r = call_flat name actuals k.1 g q
+  form_flat (Block body) at prefixes some h k g q r = tt
+  form_flat (If arms otherwise) at prefixes some h k g q r =
+      if_flat arms otherwise at prefixes some h (is_shattered reach (If arms otherwise)) refl k g q
+  form_flat (While test body) at prefixes some h k g q r =
       let inner = inside reach (test_rank reach test) in
-      while_flat test body (is_shattered reach (While test body))
-      (each_left IsClean (whole_sites reach TestRole test) (stmts_sites inner body) k) g.0 q
-  form_flat (Repeat body until test) at prefixes h k g q r =
+      while_flat test body at prefixes some h (is_above_zero (test_rank reach test)) refl
+      (each_left IsClean (whole_sites reach TestRole test) (stmts_sites inner body) k)
+      (each_right IsClean (whole_sites reach TestRole test) (stmts_sites inner body) k) g.0 g.1 q
+  form_flat (Repeat body until test) at prefixes some h k g q r =
       let inner = inside reach (test_rank reach test) in
-      repeat_flat test body until (is_shattered reach (Repeat body until test))
-      (each_right IsClean (stmts_sites inner body) (whole_sites reach TestRole test) k) g.1 q
-  form_flat (For head body) at prefixes h k g q r =
+      repeat_flat test body until at prefixes some h (is_above_zero (test_rank reach test)) refl
+      (each_right IsClean (stmts_sites inner body) (whole_sites reach TestRole test) k)
+      (each_left IsClean (stmts_sites inner body) (whole_sites reach TestRole test) k) g.1 g.0 q
+  form_flat (For head body) at prefixes some h k g q r =
       let firsts = whole_sites reach Limit head.first in
       let lasts = whole_sites reach Limit head.last in
       let steps = step_sites reach head.step in
@@ -371,7 +468,7 @@ module _ (laws : RankLaws) (place : Place) (shapes : Shapes) (shattered : Rank)
         whole_flat place.prefix head.last (each_right IsClean firsts lasts two).1 g.0.1 q.2.1,
         step_flat head.step (each_right IsClean (firsts ++ lasts) steps three) g.0.2 q.3.1,
       )
-  form_flat (Border border names) at prefixes h k g q r =
+  form_flat (Border border names) at prefixes some h k g q r =
       border_flat names g r h.none.known
       (or_false (lacks_region reach place.prefix) false
       (no_place (list_any (lacks_region reach) (place.prefix ∷ [])) at h.under.regions)).0
@@ -379,9 +476,9 @@ module _ (laws : RankLaws) (place : Place) (shapes : Shapes) (shattered : Rank)
       (list_any (is_flood_written reach) names)
       (no_place (has_flood (shape_of_current (current_of shapes place.prefix))
       || list_any (is_flood_written reach) names) at h.under.floods)).0
-  form_flat (Write line items) at prefixes h k g q r =
+  form_flat (Write line items) at prefixes some h k g q r =
       items_flat items k g q
       (no_place (list_any (λ item.
       has_flood (shape_of_current (current_of shapes (item_rank reach item)))) items) at
       h.under.floods)
-  form_flat (Return value) at prefixes h k g q r = whole_flat place.prefix value k.1 g q.1
+  form_flat (Return value) at prefixes some h k g q r = whole_flat place.prefix value k.1 g q.1

@@ -117,7 +117,7 @@ coord_told n (Shaped shape masked) (Some over) k h le three below e =
     flood_at shape over.region.dims (k - 1) false h.2.floods
     (shape_at_is shape k le three (subst (λ m. k ≤ m) (sym h.0) below) e)
 
-coord_flat : (rank : Rank) (k : ℕ) (shapes : Shapes) (place : Place)
+pub coord_flat : (rank : Rank) (k : ℕ) (shapes : Shapes) (place : Place)
     → AreTold shapes place.currents → IsSome rank → 1 ≤ k → k ≤ 3 → is_past rank k ≡ false
     → floods_at (shape_of_current (current_of shapes rank)) k ≡ false
     → is_flood (dim_at (over_at place.currents rank).region k) ≡ false

@@ -570,7 +570,7 @@ module _ (laws : RankLaws) where
       tested false c e f = absurd (true≢false (sym e))
 
   -- a right side that is elementwise is no call
-  value_clean : (around : Reach) (name : Name) (op : Option Op) (value : Expr)
+  pub value_clean : (around : Reach) (name : Name) (op : Option Op) (value : Expr)
       → is_elementwise value ≡ true → Clean (value_sites around name op value)
       → Clean (whole_sites around (Assigned name op) value)
   value_clean around name None (Call at callee actuals) e h = absurd (true≢false (sym e))
@@ -638,21 +638,21 @@ module _ (laws : RankLaws) where
       by None e v o w = absurd (true≢false (sym v ∙ ap is_value e))
 
   -- the faults of one arm's test
-  abbrev broken_arm : Reach → Rank → Arm → List ℕ
+  abbrev pub broken_arm : Reach → Rank → Arm → List ℕ
   broken_arm reach rank (Tested at test body) = broken_test reach rank test
 
-  arm_broken : (first : Arm) (rest : Arms) (reach : Reach) (rank : Rank)
+  pub arm_broken : (first : Arm) (rest : Arms) (reach : Reach) (rank : Rank)
       → broken_arms reach rank (ThenArm first rest) ≡ []
       → (broken_arm reach rank first ≡ []) × (broken_arms reach rank rest ≡ [])
   arm_broken (Tested at test body) rest reach rank e =
       empty_parts (broken_test reach rank test) (broken_arms reach rank rest) e
 
-  same_shattered : (prefixes : List Prefix) (around : Reach)
+  pub same_shattered : (prefixes : List Prefix) (around : Reach)
       → (under_prefixes around prefixes).shattered ≡ around.shattered
   same_shattered [] around = refl
   same_shattered (prefix ∷ rest) around = same_shattered rest (reach_under around prefix)
 
-  no_prefix : (n : ℕ) (inner : Reach) (at : ℕ) (prefixes : List Prefix) (form : Form)
+  pub no_prefix : (n : ℕ) (inner : Reach) (at : ℕ) (prefixes : List Prefix) (form : Form)
       → inner.shattered ≡ Some (suc n) → has_prefix prefixes ≡ true
       → IsClean (AtStmt inner at prefixes form) → ⊥
   no_prefix n inner at prefixes form same e own =
@@ -796,7 +796,7 @@ module _ (laws : RankLaws) where
 
   -- ---- statements with tests
 
-  first_above : (outer rank : Rank) → IsSome outer → is_above_zero rank ≡ true
+  pub first_above : (outer rank : Rank) → IsSome outer → is_above_zero rank ≡ true
       → (n : ℕ) × (first_rank outer rank ≡ Some (suc n))
   first_above None rank k e = none_is_not None k refl
   first_above (Some (suc m)) rank k e = (m, refl)
@@ -804,13 +804,13 @@ module _ (laws : RankLaws) where
   first_above (Some zero) (Some zero) k e = absurd (true≢false (sym e))
   first_above (Some zero) None k e = absurd (true≢false (sym e))
 
-  above_is_array : (rank : Rank) → is_above_zero rank ≡ true → IsRank rank → IsArrayRank rank
+  pub above_is_array : (rank : Rank) → is_above_zero rank ≡ true → IsRank rank → IsArrayRank rank
   above_is_array None e le = absurd (true≢false (sym e))
   above_is_array (Some zero) e le = absurd (true≢false (sym e))
   above_is_array (Some (suc n)) e le = array_rank_is (Some (suc n)) refl refl le
 
   -- the rank of a statement's tests is that of the shattered one around it
-  test_same : (around : Reach) (n : ℕ) (test : Expr) → is_above_zero (test_rank around test) ≡ true
+  pub test_same : (around : Reach) (n : ℕ) (test : Expr) → is_above_zero (test_rank around test) ≡ true
       → broken_test around (Some (suc n)) test ≡ [] → test_rank around test ≡ Some (suc n)
   test_same around n test e b =
       above_same (test_rank around test) n e
@@ -818,7 +818,7 @@ module _ (laws : RankLaws) where
       (no_place (not (is_elementwise test) || ranks_clash (Some (suc n)) (test_rank around test)) _
       b)).1
 
-  arms_same : (around : Reach) (n : ℕ) (arms : Arms) → is_above_zero (arms_rank around arms) ≡ true
+  pub arms_same : (around : Reach) (n : ℕ) (arms : Arms) → is_above_zero (arms_rank around arms) ≡ true
       → broken_arms around (Some (suc n)) arms ≡ [] → arms_rank around arms ≡ Some (suc n)
   arms_same around n NoArm e b = absurd (true≢false (sym e))
   arms_same around n (ThenArm (Tested at test body) rest) e b =

@@ -12,3 +12,4 @@ pub mod ShapeLemmas
 pub mod RegionLemmas
 pub mod FlatLemmas
 pub mod FlatFormLemmas
+pub mod FlatPointLemmas

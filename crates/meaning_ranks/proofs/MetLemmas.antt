@@ -1,6 +1,6 @@
 -- Where a run comes to, the current regions are as the text says: so prints and borders have no mask.
 use Rattle.std.proofs.Common.{◌≡◌, ℕ, suc, false, List, [], ◌∷◌, map, Option}
-use Rattle.std.proofs.Common.{Some, None, length, refl, sym, ap, subst}
+use Rattle.std.proofs.Common.{IsSome, Some, None, length, refl, sym, ap, subst}
 use Rattle.std.specs.List.{list_any}
 use Rattle.zpl_nums.specs.declared.ends.Border.{Border as BorderKind}
 use Rattle.zpl_tree.specs.Syntax.{Name, Call, Prefix, Program, Stmt, Prefixed, Form, Assign}
@@ -257,17 +257,17 @@ module _ (program : Program) (settings : List Setting) (laws : Laws program)
   inside_flat : {text : List ℕ} {around : Shapes} (form : Form) (at : ℕ)
       (prefixes : List Prefix) (place : Place) (shapes : Shapes) (shattered : Rank)
       (result : Option Base) → Fits place shapes → KnowsDirections place.scope
-      → KnowsRegions place → AreTold shapes place.currents
+      → KnowsRegions place → AreTold shapes place.currents → IsSome shattered
       → Inside program text around (reach_at place shapes shattered result) at prefixes form
       → IsForm form → IsProperForm place form → IsRankedForm place form → IsFlatForm place form
   inside_flat {text} {around} form at prefixes place shapes shattered result fits aimed known told
-      (InStmt h) g q r =
+      some (InStmt h) g q r =
       form_flat laws.ranks place shapes shattered result fits aimed known told form at prefixes
-      h.0.clean
+      some h.0.clean
       (clean_of program text around (form_sites (reach_at place shapes shattered result) form) h.1)
       g q r
   inside_flat (Block body) at prefixes place shapes shattered result fits aimed known told
-      (InBody answer h) g q r = tt
+      some (InBody answer h) g q r = tt
 
   pub met_flat : (deeper : ℕ) (place inner : Place) (at : ℕ) (prefixes : List Prefix)
       (form : Form) (store : Store)
@@ -285,7 +285,7 @@ module _ (program : Program) (settings : List Setting) (laws : Laws program)
       (sym (same_scope program settings laws grammar clean prefixes place inner under))
       (aimed program settings laws grammar clean place h.shapes stmt h.here))
       (known_behind prefixes place inner under (regions_known place h.shapes stmt h.here))
-      (told_behind store place inner at prefixes form h comes)
+      (told_behind store place inner at prefixes form h comes) h.here.known
       (inside_at program settings laws grammar clean place inner h.shapes at prefixes form h.here
       under) h.here.tree.1
       (proper_behind program settings laws grammar clean prefixes form place inner

@@ -12,13 +12,14 @@ use Rattle.zpl_tree.specs.Syntax.{Tested, Arms, NoArm, ThenArm}
 use Rattle.zpl_names.specs.Kinds.{Shape, Rank, Formal, ScalarFormal, ArrayFormal}
 use Rattle.zpl_names.specs.Scope.{kind_of}
 use Rattle.zpl_names.specs.Ranks.{operand_rank}
-use Rattle.zpl_names.specs.Sites.{Role, Limit, Result, Test, Printed, Actual, Assigned, is_shattered}
+use Rattle.zpl_names.specs.Sites.{Role, Limit, Result, Test, Printed, Actual, Assigned, tests_rank}
+use Rattle.zpl_names.specs.Sites.{is_shattered}
 use Rattle.zpl_meaning.specs.Computed.{Gives}
 use Rattle.zpl_meaning.specs.Store.{Store}
 use Rattle.zpl_meaning.specs.Context.{over_at, Place, reach_of, rank_in}
 use Rattle.zpl_meaning.specs.Regions.{under_source}
-use Rattle.zpl_meaning.specs.Settled.{source_rank, source_in}
-use Rattle.zpl_meaning.specs.Points.{assigned_expr}
+use Rattle.zpl_meaning.specs.Settled.{Placed, source_rank, source_in}
+use Rattle.zpl_meaning.specs.Points.{assigned_expr, exprs_read, form_parts}
 use Rattle.zpl_meaning.specs.Calls.{formals_in}
 use Rattle.zpl_meaning.specs.Statement.{step_expr}
 use Rattle.meaning_ranks.specs.Shaped.{is_flood, IsShaped}
@@ -117,9 +118,15 @@ HasFlatTests place (While test body) = IsFlatWhole place Test test
 HasFlatTests place (Repeat body until test) = IsFlatWhole place Test test
 HasFlatTests place form = Unit {0}
 
--- of a shattered statement nothing is asked: no operator over a region stands in it
+-- the expressions that are read in a shattered statement
+abbrev pub AreFlatRead : Place → List Placed → Type 0
+AreFlatRead place [] = Unit {0}
+AreFlatRead place (placed ∷ rest) =
+    IsFlatIn place placed.rank placed.expr × AreFlatRead place rest
+
 abbrev pub IsFlatTested : Bool → Place → Form → Type 0
-IsFlatTested true place form = Unit {0}
+IsFlatTested true place form =
+    AreFlatRead place (exprs_read (tests_rank (reach_of place) form) (form_parts form))
 IsFlatTested false place form = HasFlatTests place form
 
 abbrev pub AreFlatItems : Place → List Item → Type 0
