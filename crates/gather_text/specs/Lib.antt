@@ -1,0 +1,2 @@
+pub mod Printer
+pub mod Shown

@@ -1,0 +1,84 @@
+//! The values of a gathered array, in row-major order.
+ghost use Rattle.std.specs.Prelude.{◌≡◌, ◌<◌, ◌^◌, ◌∷◌, ◌++◌, ◌==◌, ℕ, drop, find, length, map, pos, slice_get, slice_index_or, OnOk};
+ghost use Rattle.grid_meaning.specs.Gather.{gathered_value, words_from};
+ghost use Rattle.grid_meaning.specs.Local.{processors};
+ghost use Rattle.grid_meaning.specs.State.{IsSlot};
+ghost use Rattle.grid_meaning.specs.Stored.{arrangement_of};
+ghost use Rattle.node_local.specs.Standing.{entry_of};
+ghost use Rattle.zpl_region.specs.Region.{members};
+
+use crate::owners::owner;
+use grid_layout::{Layout, owned_parts_go_by_owners};
+use node_form::NodeProgram;
+use node_local::Kept;
+use std::alloc::AllocError;
+use zpl_region::Region;
+
+/// The most processors that a grid has.
+const MOST: usize = 64;
+
+/// For each processor the place of its words among those that are kept, or how many these are where
+/// there are none of it.
+fn senders(kept: &[Kept]) -> [usize; MOST]
+    ensures { (q : ℕ) → q < 64 → find (λ entry. entry.0 == q) (map entry_of kept.now)
+        ≡ slice_get (map entry_of kept.now) (slice_index_or result q 0) }
+{
+    let mut places = [kept.len(); MOST];
+    for i in 0..kept.len() {
+        let place = kept.len() - 1 - i;
+        let from = kept[place].from as usize;
+        if from < MOST {
+            places[from] = place;
+        }
+    }
+    places
+}
+
+/// The word of a processor at a place among its words: of processor 0 these are its own, and of
+/// another one those that stand at this place among the kept ones. Where there is no such word it is
+/// 0.
+fn word(own: &[i64], kept: &[Kept], sender: usize, q: u32, place: usize) -> i64
+    requires { find (λ entry. entry.0 == q) (map entry_of kept.now)
+        ≡ slice_get (map entry_of kept.now) sender }
+    ensures { result ≡ slice_index_or (words_from ((0, own.now) ∷ map entry_of kept.now) q) place (pos 0) }
+{
+    let words = if q == 0 {
+        own
+    } else {
+        match kept.get(sender) {
+            Some(kept) => kept.words.as_slice(),
+            None => &[],
+        }
+    };
+    words.get(place).copied().unwrap_or(0)
+}
+
+/// Appends the values at the region's tuples in row-major order, from the words of processor 0 and
+/// those that it keeps: one after another from each sender.
+pub(crate) fn push_values(
+    code: &NodeProgram,
+    layout: &Layout,
+    region: &Region,
+    own: &[i64],
+    kept: &[Kept],
+    into: &mut Vec<i64>,
+) -> Result<(), AllocError>
+    requires layout { layout.now ≡ arrangement_of code.now }
+    requires slot { IsSlot region.now.rank region.now }
+    ensures { OnOk result (into.new.items ≡ into.old.items
+        ++ map (gathered_value code.now region.now ((0, own.now) ∷ map entry_of kept.now))
+        (members region.now)) }
+{
+    owned_parts_go_by_owners();
+    let senders = senders(kept);
+    let mut used = [0; MOST];
+    let mut next = region.least();
+    while let Some(t) = next {
+        let q = owner(code, layout, region, &t);
+        let at = q as usize;
+        into.push(word(own, kept, senders[at], q, used[at]))?;
+        used[at] += 1;
+        next = region.next_after(t);
+    }
+    Ok(())
+}

@@ -1,0 +1,4 @@
+pub mod Folding
+pub mod Joining
+pub mod Meeting
+pub mod Walking
