@@ -1,0 +1,3 @@
+mod ConformLemmas
+mod RowLemmas
+mod WalkLemmas

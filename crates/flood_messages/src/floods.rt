@@ -1,5 +1,5 @@
 //! The messages and turns of `flood`.
-ghost use Rattle.std.specs.Prelude.{◌≡◌, ◌<◌, ℕ, length, slice_get, Some, None, false, if◌then◌else◌};
+ghost use Rattle.std.specs.Prelude.{◌≡◌, ◌<◌, ℕ, is_some, length, slice_get, Some, None, false, if◌then◌else◌};
 ghost use Rattle.std.specs.Prelude.{IfOk, OnErr};
 ghost use Rattle.grid_meaning.specs.Delivery.{flood_targets, flooded};
 ghost use Rattle.grid_meaning.specs.Local.{processors};
@@ -7,7 +7,7 @@ ghost use Rattle.grid_meaning.specs.State.{IsSlot};
 ghost use Rattle.grid_meaning.specs.Stored.{arrangement_of};
 
 use crate::pieces::flood_tuples;
-use crate::sources::push_sources;
+use crate::sources::{are_sources_held, push_sources};
 use exchange_messages::put_values;
 use grid_layout::Layout;
 use grid_links::Words;
@@ -48,6 +48,32 @@ pub fn flood_words(
         return Ok(None);
     }
     Ok(Some(Words::of(words)))
+}
+
+/// Whether there are such words: whether all the sources' places are held. It takes no memory.
+pub fn flood_words_held(
+    code: &NodeProgram,
+    layout: &Layout,
+    local: &Local,
+    from: u32,
+    target: &Region,
+    source: &Region,
+    p: u32,
+    to: u32,
+) -> bool
+    requires layout { layout.now ≡ arrangement_of code.now }
+    requires target { IsSlot target.now.rank target.now }
+    requires source { IsSlot source.now.rank source.now }
+    requires ranks { target.now.rank ≡ source.now.rank }
+    requires owner { p < processors code.now }
+    requires receiver { to < processors code.now }
+    ensures { (array t s : ℕ) →
+        slice_get local.now.local.slots t ≡ Some target.now →
+        slice_get local.now.local.slots s ≡ Some source.now →
+        is_some ((flooded code.now p array t from s).words_to local.now.local to) ≡ result }
+{
+    let tuples = flood_tuples(code, layout, target, source, p, to);
+    are_sources_held(local, from, source, &tuples)
 }
 
 /// The first turn: the tuples whose sources the processor owns itself become the values there, all

@@ -6,6 +6,6 @@ mod pieces;
 mod sources;
 mod stages;
 
-pub use floods::{flood_alone, flood_taken, flood_words};
+pub use floods::{flood_alone, flood_taken, flood_words, flood_words_held};
 pub use pieces::flood_tuples;
 pub use stages::flood_stage;

@@ -1,5 +1,5 @@
 //! Values at the sources of tuples.
-ghost use Rattle.std.specs.Prelude.{◌≡◌, IfOk};
+ghost use Rattle.std.specs.Prelude.{◌≡◌, is_some, IfOk};
 ghost use Rattle.grid_meaning.specs.Delivery.{each_word};
 ghost use Rattle.grid_meaning.specs.Place.{value_at};
 ghost use Rattle.node_messages.specs.Reading.{IsRead};
@@ -36,4 +36,23 @@ pub(crate) fn push_sources(
         next = tuples.next_after(x);
     }
     Ok(true)
+}
+
+/// Whether an array's places at the sources of tuples are all held.
+pub(crate) fn are_sources_held(local: &Local, array: u32, source: &Region, tuples: &Region) -> bool
+    requires source { IsRegion source.now }
+    requires tuples { IsRegion tuples.now }
+    ensures { is_some (each_word
+        (λ t. value_at local.now.local.stores array (flood_source source.now t))
+        (members tuples.now)) ≡ result }
+{
+    let mut next = tuples.least();
+    while let Some(x) = next {
+        let place = flood_source(source, x);
+        let Some(_value) = local.value_at(array, &place) else {
+            return false;
+        };
+        next = tuples.next_after(x);
+    }
+    true
 }

@@ -1,0 +1,5 @@
+mod AheadLemmas
+mod FoldLemmas
+mod JoinLemmas
+mod MeetLemmas
+mod RowLemmas

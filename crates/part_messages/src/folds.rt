@@ -1,5 +1,5 @@
 //! Folds of the values at the tuples that agree with one of the target.
-ghost use Rattle.std.specs.Prelude.{◌≡◌, IfOk};
+ghost use Rattle.std.specs.Prelude.{◌≡◌, is_some, IfOk};
 ghost use Rattle.std.specs.Option.{option_map};
 ghost use Rattle.grid_meaning.specs.Delivery.{each_word};
 ghost use Rattle.grid_meaning.specs.Place.{values_at};
@@ -65,4 +65,20 @@ pub(crate) fn push_folds(
         next = walk.after(x);
     }
     Ok(true)
+}
+
+/// Whether the places that count for the tuples of a walk are all held.
+pub(crate) fn are_folds_held(local: &Local, fold: Fold, array: u32, walk: &Walk) -> bool
+    requires { IsWalk walk.now }
+    ensures { is_some (each_word
+        (fold_over fold local.now.local.stores array walk.now) (tuples_on walk.now)) ≡ result }
+{
+    let mut next = walk.first();
+    while let Some(x) = next {
+        let Some(_word) = fold_over(local, fold, array, walk, &x) else {
+            return false;
+        };
+        next = walk.after(x);
+    }
+    true
 }

@@ -8,5 +8,5 @@ mod reaches;
 mod stages;
 mod walks;
 
-pub use parts::{part_alone, part_count, part_taken, part_words};
+pub use parts::{part_alone, part_count, part_taken, part_words, part_words_held};
 pub use stages::part_stage;

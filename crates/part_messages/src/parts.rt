@@ -1,12 +1,12 @@
 //! The messages and turns of `part`.
-ghost use Rattle.std.specs.Prelude.{◌≡◌, ◌<◌, ℕ, length, slice_get, Some, None, false, if◌then◌else◌};
+ghost use Rattle.std.specs.Prelude.{◌≡◌, ◌<◌, ℕ, is_some, length, slice_get, Some, None, false, if◌then◌else◌};
 ghost use Rattle.std.specs.Prelude.{IfOk, OnErr};
 ghost use Rattle.grid_meaning.specs.Delivery.{part_targets, parted};
 ghost use Rattle.grid_meaning.specs.Local.{processors};
 ghost use Rattle.grid_meaning.specs.State.{IsSlot};
 ghost use Rattle.grid_meaning.specs.Stored.{arrangement_of};
 
-use crate::folds::push_folds;
+use crate::folds::{are_folds_held, push_folds};
 use crate::joins::join_words;
 use crate::walks::Walk;
 use exchange_messages::put_values;
@@ -74,6 +74,33 @@ pub fn part_words(
         return Ok(None);
     }
     Ok(Some(Words::of(words)))
+}
+
+/// Whether there are such words: whether all places that count are held. It takes no memory.
+pub fn part_words_held(
+    code: &NodeProgram,
+    layout: &Layout,
+    local: &Local,
+    fold: Fold,
+    from: u32,
+    target: &Region,
+    source: &Region,
+    p: u32,
+    to: u32,
+) -> bool
+    requires layout { layout.now ≡ arrangement_of code.now }
+    requires target { IsSlot target.now.rank target.now }
+    requires source { IsSlot source.now.rank source.now }
+    requires ranks { target.now.rank ≡ source.now.rank }
+    requires owner { p < processors code.now }
+    requires receiver { to < processors code.now }
+    ensures { (array t s : ℕ) →
+        slice_get local.now.local.slots t ≡ Some target.now →
+        slice_get local.now.local.slots s ≡ Some source.now →
+        is_some ((parted code.now p array t fold from s).words_to local.now.local to) ≡ result }
+{
+    let walk = Walk::reached(code, layout, target, source, p, to);
+    are_folds_held(local, fold, from, &walk)
 }
 
 /// The first turn: each tuple of the target in the own block becomes the processor's own partial

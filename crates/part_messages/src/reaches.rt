@@ -42,7 +42,7 @@ fn has(dim: Dim, x: i64) -> bool
 }
 
 /// The integers from `lo` to `hi`.
-fn all_from(lo: i64, hi: i64) -> Dim
+pub(crate) fn all_from(lo: i64, hi: i64) -> Dim
     ensures { result ≡ all_from lo hi }
 {
     Dim::Range {

@@ -1,5 +1,5 @@
 //! Walks over the tuples of a target that a block of the source reaches.
-ghost use Rattle.std.specs.Prelude.{◌≡◌, ◌↔◌, ◌≤◌, ◌<◌, ℕ, ℤ, List, [], ◌∷◌, filter, length, drop, slice_get, true, false, IsTrue};
+ghost use Rattle.std.specs.Prelude.{◌≡◌, ◌≤◌, ◌<◌, ℕ, ℤ, List, [], ◌∷◌, Some, filter, length, drop, slice_get};
 ghost use Rattle.grid_meaning.specs.Delivery.{part_targets};
 ghost use Rattle.grid_meaning.specs.Local.{processors};
 ghost use Rattle.grid_meaning.specs.Owner.{tuples_of};
@@ -8,13 +8,12 @@ ghost use Rattle.grid_meaning.specs.Stored.{arrangement_of};
 ghost use Rattle.reduce_plan.specs.Partial.{is_reached};
 ghost use Rattle.zpl_region.specs.Dim.{IsDim};
 ghost use Rattle.zpl_region.specs.Region.{IsRegion, members};
-ghost use Rattle.part_messages.specs.Meeting.{may_meet};
-ghost use Rattle.part_messages.specs.Walking.{IsAhead, IsWalk, takes_in, tuples_on};
+ghost use Rattle.part_messages.specs.Meeting.{each_meets, may_meet};
+ghost use Rattle.part_messages.specs.Walking.{IsAhead, IsOn, IsWalk, takes_in, tuples_from, tuples_on};
 
-use crate::reaches::{is_collapsed, is_reached};
+use crate::reaches::{all_from, is_collapsed, is_reached};
 use grid_layout::Layout;
 use node_form::NodeProgram;
-use node_local::no_places;
 use node_stages::own_tuples;
 use zpl_region::{Dim, Region, Vec3};
 
@@ -53,8 +52,35 @@ fn may_meet(target: Dim, own: Dim, block: Dim) -> bool
     }
 }
 
+/// Whether they do in all dimensions.
+fn meets(target: &Region, own: &Region, block: &Region) -> bool
+    requires target { IsRegion target.now }
+    ensures { result ≡ each_meets target.now.dims own.now.dims block.now.dims }
+{
+    let [planes, rows, columns] = target.dims;
+    let [x, y, z] = own.dims;
+    let [a, b, c] = block.dims;
+    let first = may_meet(planes, x, a);
+    let second = may_meet(rows, y, b);
+    let third = may_meet(columns, z, c);
+    first & second & third
+}
+
+/// A region of the same rank without tuples.
+fn emptied(own: &Region) -> Region
+    requires { IsRegion own.now }
+    ensures tuples { members result ≡ [] }
+    ensures region { IsRegion result }
+{
+    let [_first, y, z] = own.dims;
+    Region {
+        rank: own.rank,
+        dims: [all_from(1, 0), y, z],
+    }
+}
+
 /// A region with the tuples of `own` that the block reaches: it is `own`, or one without tuples
-/// where the bounds alone tell that none is reached.
+/// where the block has none, or the bounds alone tell that none is reached.
 fn reachable(target: &Region, own: &Region, block: &Region) -> Region
     requires target { IsRegion target.now }
     requires own { IsRegion own.now }
@@ -64,14 +90,13 @@ fn reachable(target: &Region, own: &Region, block: &Region) -> Region
     ensures few { length (members result) ≤ length (members own.now) }
     ensures region { IsRegion result }
 {
-    let [planes, rows, columns] = target.dims;
-    let [x, y, z] = own.dims;
-    let [a, b, c] = block.dims;
-    let meets = may_meet(planes, x, a) && may_meet(rows, y, b) && may_meet(columns, z, c);
-    if meets && !block.is_empty() {
-        return *own;
+    if block.is_empty() {
+        return emptied(own);
     }
-    no_places(own.rank)
+    if !meets(target, own, block) {
+        return emptied(own);
+    }
+    *own
 }
 
 impl Walk {
@@ -146,9 +171,12 @@ impl Walk {
 
     /// The first tuple that it goes through, from one of its region on.
     fn first_from(&self, from: Option<Vec3>) -> Option<Vec3>
-        requires { IsWalk self.now }
-        ensures { (place : ℕ) → slice_get (members self.now.within) place ≡ from →
-            IsAhead self.now result (filter (takes_in self.now) (drop place (members self.now.within))) }
+        requires walk { IsWalk self.now }
+        requires there { IsOn self.now from }
+        ensures ahead { (place : ℕ) → slice_get (members self.now.within) place ≡ from →
+            IsAhead self.now result
+            (filter (takes_in self.now) (drop place (members self.now.within))) }
+        ensures fewer { tuples_from self.now.within result ≤ tuples_from self.now.within from }
     {
         let mut next = from;
         while let Some(x) = next {
@@ -170,9 +198,12 @@ impl Walk {
 
     /// The tuple behind another one.
     pub(crate) fn after(&self, x: Vec3) -> Option<Vec3>
-        requires { IsWalk self.now }
-        ensures { (rest : List (List ℤ)) → IsAhead self.now (Some x) (x ∷ rest)
+        requires walk { IsWalk self.now }
+        requires there { IsOn self.now (Some x) }
+        ensures ahead { (rest : List (List ℤ)) → IsAhead self.now (Some x) (x ∷ rest)
             → IsAhead self.now result rest }
+        ensures fewer { tuples_from self.now.within result
+            < tuples_from self.now.within (Some x) }
     {
         self.first_from(self.within.next_after(x))
     }
