@@ -1,5 +1,5 @@
 //! Lines, planes and spaces of values.
-ghost use Rattle.std.specs.Prelude.{◌≡◌, ◌*◌, ◌^◌, ◌<◌, ◌++◌, ℤ, List, length, map, OnOk};
+ghost use Rattle.std.specs.Prelude.{◌≡◌, ◌*◌, ◌≤◌, ◌++◌, ℤ, List, length, map, OnOk};
 ghost use Rattle.zpl_arrays.specs.ArrayText.{array_text, truth_text};
 ghost use Rattle.zpl_region.specs.Region.{IsRegion, members};
 ghost use Rattle.array_prints.specs.RowText.{line_text, parts_text, value_text};
@@ -41,10 +41,12 @@ fn push_line(
 ) -> Result<(), AllocError>
     ensures { OnOk result (into.new.items ≡ into.old.items ++ line_text truth values.now) }
 {
-    for i in 0..values.len() {
-        if i > 0 {
-            into.push(SPACE)?;
-        }
+    if values.is_empty() {
+        return Ok(());
+    }
+    push_value(alloc, truth, values[0], into)?;
+    for i in 1..values.len() {
+        into.push(SPACE)?;
         push_value(alloc, truth, values[i], into)?;
     }
     Ok(())
@@ -63,9 +65,11 @@ fn push_plane(
     ensures { OnOk result (into.new.items
         ≡ into.old.items ++ parts_text (line_text truth) count size values.now) }
 {
-    for i in 0..count {
-        push_line(alloc, truth, &values[i * size..(i + 1) * size], into)?;
+    let mut at = 0;
+    for _ in 0..count {
+        push_line(alloc, truth, &values[at..at + size], into)?;
         into.push(NEWLINE)?;
+        at += size;
     }
     Ok(())
 }
@@ -80,16 +84,18 @@ fn push_space(
     values: &[i64],
     into: &mut Vec<u8>,
 ) -> Result<(), AllocError>
-    requires { length values.now ≡ planes * (count * size) }
+    requires some { 1 ≤ planes }
+    requires filled { length values.now ≡ planes * (count * size) }
     ensures { OnOk result (into.new.items
         ≡ into.old.items
         ++ parts_text (parts_text (line_text truth) count size) planes (count * size) values.now) }
 {
     let plane = count * size;
-    for i in 0..planes {
-        let values = &values[i * plane..(i + 1) * plane];
-        push_plane(alloc, truth, count, size, values, into)?;
+    let mut at = 0;
+    for _ in 0..planes {
+        push_plane(alloc, truth, count, size, &values[at..at + plane], into)?;
         into.push(NEWLINE)?;
+        at += plane;
     }
     Ok(())
 }

@@ -17,8 +17,8 @@ use Rattle.node_messages.specs.Reading.{IsAppended}
 use Rattle.node_messages.proofs.ReadLemmas.{left}
 use Rattle.delivery_stages.proofs.WordLemmas.{IsReading, reading_ends, reading_lacks, reading_starts, reading_step}
 use Rattle.part_messages.specs.declared.walks.Walk.{Walk}
-use Rattle.part_messages.specs.Walking.{IsAhead, IsNext, tuples_on}
-use Rattle.part_messages.proofs.AheadLemmas.{next_in, rest_at}
+use Rattle.part_messages.specs.Walking.{IsAhead, IsNext, IsOn, tuples_on}
+use Rattle.part_messages.proofs.AheadLemmas.{next_in, on_ahead, rest_at}
 
 drop_at : (ts : List (List ℤ)) (i : ℕ) (t : List ℤ) → slice_get ts i ≡ Some t → drop i ts ≡ t ∷ drop (i + 1) ts
 drop_at [] i t is = cc
@@ -121,3 +121,15 @@ module _ (word : List ℤ → Option ℤ) (walk : Walk) (before : List ℤ) wher
 
   pub walk_ends : (now : List ℤ) → IsWalking word walk None before now → IsAppended (each_word word (tuples_on walk)) before now
   walk_ends now w = reading_ends word (tuples_on walk) before w.rest now w.reading w.ahead
+
+  -- the tuple that is next is one of the walk's region
+  pub on_walk : (x : List ℤ) (now : List ℤ) → IsWalking word walk (Some x) before now → IsOn walk (Some x)
+  on_walk x now w = on_ahead walk x w.rest w.ahead
+
+-- a walk that keeps nothing of what it reads
+pub walk_more : (word : List ℤ → Option ℤ) (walk : Walk) (x : List ℤ) (next : Option (List ℤ)) (value : ℤ)
+    → (read : List ℤ) × IsWalking word walk (Some x) [] read
+    → word x ≡ Some value → ((rest : List (List ℤ)) → IsNext walk x (x ∷ rest) → IsAhead walk next rest)
+    → (read : List ℤ) × IsWalking word walk next [] read
+walk_more word walk x next value so_far there told =
+    (so_far.0 ++ value ∷ [], walk_step word walk [] x next value so_far.0 (so_far.0 ++ value ∷ []) so_far.1 there told refl)

@@ -25,7 +25,9 @@ fn fold_at(local: &Local, fold: Fold, array: u32, tuples: &Region) -> Option<i64
     let mut so_far = unit(fold);
     let mut next = tuples.least();
     while let Some(x) = next {
-        let value = local.value_at(array, &x)?;
+        let Some(value) = local.value_at(array, &x) else {
+            return None;
+        };
         so_far = join(fold, so_far, value);
         next = tuples.next_after(x);
     }

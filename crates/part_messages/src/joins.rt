@@ -52,11 +52,11 @@ fn join_each(local: &mut Local, fold: Fold, array: u32, walk: &Walk, words: &[i6
     } }
 {
     let mut next = walk.first();
-    for word in words {
+    for i in 0..words.len() {
         let Some(x) = next else {
             return true;
         };
-        if !join_word(local, fold, array, &x, *word) {
+        if !join_word(local, fold, array, &x, words[i]) {
             return false;
         }
         next = walk.after(x);
