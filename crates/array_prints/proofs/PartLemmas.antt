@@ -1,6 +1,6 @@
 -- Parts of a row, one after another.
 use Rattle.std.proofs.Common.{◌≡◌, ℕ, zero, suc, ◌+◌, ◌-◌, ◌*◌, ◌<◌, ◌≤◌, Bool, List, [], ◌∷◌, ◌++◌, length, map, take, drop, get_or, drop-cons, refl, sym, ap, ◌∙◌, ℤ, pos, arith, append_assoc, append-nil}
-use Rattle.std.specs.List.{flat_map, join_with_byte}
+use Rattle.std.specs.List.{join_with_byte}
 use Rattle.std.proofs.lemmas.List.{drop_all}
 use Rattle.array_prints.specs.RowText.{line_text, parts_text, value_text}
 

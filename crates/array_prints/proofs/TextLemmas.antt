@@ -1,6 +1,8 @@
 -- The text of an array is that of its values in a row.
-use Rattle.std.proofs.Common.{◌≡◌, ℕ, zero, suc, ◌+◌, ◌*◌, ◌==◌, Bool, true, false, cond, List, [], ◌∷◌, ◌++◌, length, map, take, drop, refl, sym, ap, ◌∙◌, ℤ, arith, All, eq-eqb}
+use Rattle.std.proofs.Common.{◌≡◌, ℕ, zero, suc, ◌-◌, ◌*◌, ◌<◌, ◌≤◌, ◌==◌, Bool, true, false, cond, List, [], ◌∷◌, ◌++◌, length, map, take, drop, replicate, get_or, refl, sym, ap, ◌∙◌, subst, ℤ, arith, All, eq-eqb, Result, Ok, Err}
+use Rattle.std.specs.Prelude.{OnOk}
 use Rattle.std.specs.List.{flat_map, join_with_byte}
+use Rattle.std.proofs.lemmas.Bool.Decides.{nat_tests}
 use Rattle.std.proofs.lemmas.List.{length-map, map-append}
 use Rattle.std.proofs.lemmas.List.Elements.{All-head, All-tail}
 use Rattle.std.proofs.Math.Seq.{drop-append_seam, take-append_seam}
@@ -8,8 +10,8 @@ use Rattle.zpl_region.specs.declared.dims.Dim.{Dim}
 use Rattle.zpl_region.specs.declared.regions.Region.{Region}
 use Rattle.zpl_region.specs.Dim.{HasStep, coordinates}
 use Rattle.zpl_region.specs.Ends.{coordinate_count, has_none, tuple_count}
-use Rattle.zpl_region.specs.Region.{members, tuples}
-use Rattle.zpl_region.proofs.EndLemmas.{length-coordinates, length-tuple_count}
+use Rattle.zpl_region.specs.Region.{IsPadded, members, padding, tuples}
+use Rattle.zpl_region.proofs.EndLemmas.{length-coordinates, length-tuple_count, positive_left}
 use Rattle.zpl_arrays.specs.ArrayText.{array_text, text_by_rank}
 use Rattle.array_prints.specs.RowText.{line_text, parts_text, row_text, value_text}
 
@@ -68,8 +70,7 @@ some_text truth r e values steps some is =
     empty (x ∷ xs) none = absurd (omega (arith, none))
 
     zero_is : (n : ℕ) → (n == 0) ≡ true → n ≡ 0
-    zero_is zero e = refl
-    zero_is (suc n) e = cc
+    zero_is n e = grind (arith, nat_tests)
 
     told : (b : Bool) → has_none r ≡ b → has_none r ≡ false
     told true e = absurd (some (empty (members r) (length-tuple_count r.dims steps ∙ zero_is (tuple_count r.dims) e)))
@@ -79,3 +80,79 @@ pub no_text : (truth : Bool) (r : Region) (e : List ℤ → ℤ) → All HasStep
 no_text truth r e steps none =
     let count : tuple_count r.dims ≡ 0 = sym (length-tuple_count r.dims steps) ∙ ap length none in
     ap (λ b. cond b [] (text_by_rank r.rank r.dims (λ t. value_text truth (e t)))) (eq-eqb (tuple_count r.dims) 0 count)
+
+-- ---- by rank
+pub line_case : (truth : Bool) (rank : ℕ) (dims : List Dim) (values : List ℤ) → rank ≡ 1 → row_text truth rank dims values ≡ line_text truth values
+line_case truth rank dims values is = ap (λ n. row_text truth n dims values) is
+
+one_of_padding : (d : Dim) → d ≡ padding → coordinate_count d * 1 ≡ 1
+one_of_padding d is = ap (λ e. coordinate_count e * 1) is
+
+plane_dims : (dims : List Dim) (blank : Dim) → length dims ≡ 3 → drop 2 dims ≡ replicate 1 padding
+    → dims ≡ get_or dims 0 blank ∷ get_or dims 1 blank ∷ padding ∷ []
+plane_dims [] blank long is = absurd (omega (arith, long))
+plane_dims (a ∷ []) blank long is = absurd (omega (arith, long))
+plane_dims (a ∷ b ∷ []) blank long is = absurd (omega (arith, long))
+plane_dims (a ∷ b ∷ c ∷ []) blank long is = ap (λ ds. a ∷ b ∷ ds) is
+plane_dims (a ∷ b ∷ c ∷ d ∷ dims) blank long is = absurd (omega (arith, long))
+
+space_dims : (dims : List Dim) (blank : Dim) → length dims ≡ 3
+    → dims ≡ get_or dims 0 blank ∷ get_or dims 1 blank ∷ get_or dims 2 blank ∷ []
+space_dims [] blank long = absurd (omega (arith, long))
+space_dims (a ∷ []) blank long = absurd (omega (arith, long))
+space_dims (a ∷ b ∷ []) blank long = absurd (omega (arith, long))
+space_dims (a ∷ b ∷ c ∷ []) blank long = refl
+space_dims (a ∷ b ∷ c ∷ d ∷ dims) blank long = absurd (omega (arith, long))
+
+times_one : (m : ℕ) → m * 1 ≡ m
+times_one m = omega arith
+
+pub plane_case : (truth : Bool) (rank : ℕ) (dims : List Dim) (values : List ℤ) (blank : Dim) → rank ≡ 2 → length dims ≡ 3 → IsPadded rank dims
+    → row_text truth rank dims values
+    ≡ parts_text (line_text truth) (coordinate_count (get_or dims 0 blank)) (coordinate_count (get_or dims 1 blank)) values
+plane_case truth rank dims values blank is long padded =
+    ap (λ n. row_text truth n dims values) is
+    ∙ (ap (λ ds. row_text truth 2 ds values) (plane_dims dims blank long (subst (λ n. drop n dims ≡ replicate (3 - n) padding) is padded))
+    ∙ ap (λ n. parts_text (line_text truth) (coordinate_count (get_or dims 0 blank)) n values) (times_one (coordinate_count (get_or dims 1 blank))))
+
+pub plane_count : (rank : ℕ) (dims : List Dim) (blank : Dim) → rank ≡ 2 → length dims ≡ 3 → IsPadded rank dims
+    → tuple_count dims ≡ coordinate_count (get_or dims 0 blank) * coordinate_count (get_or dims 1 blank)
+plane_count rank dims blank is long padded =
+    ap tuple_count (plane_dims dims blank long (subst (λ n. drop n dims ≡ replicate (3 - n) padding) is padded))
+    ∙ ap (λ n. coordinate_count (get_or dims 0 blank) * n) (times_one (coordinate_count (get_or dims 1 blank)))
+
+pub space_case : (truth : Bool) (rank : ℕ) (dims : List Dim) (values : List ℤ) (blank : Dim) → rank ≡ 3 → length dims ≡ 3
+    → row_text truth rank dims values
+    ≡ parts_text (parts_text (line_text truth) (coordinate_count (get_or dims 1 blank)) (coordinate_count (get_or dims 2 blank)))
+    (coordinate_count (get_or dims 0 blank)) (coordinate_count (get_or dims 1 blank) * coordinate_count (get_or dims 2 blank)) values
+space_case truth rank dims values blank is long =
+    let a = coordinate_count (get_or dims 0 blank) in
+    let b = coordinate_count (get_or dims 1 blank) in
+    let c = coordinate_count (get_or dims 2 blank) in
+    ap (λ n. row_text truth n dims values) is
+    ∙ (ap (λ ds. row_text truth 3 ds values) (space_dims dims blank long)
+    ∙ ap (λ n. parts_text (parts_text (line_text truth) b n) a (b * n) values) (times_one c))
+
+pub space_count : (dims : List Dim) (blank : Dim) → length dims ≡ 3
+    → tuple_count dims ≡ coordinate_count (get_or dims 0 blank) * (coordinate_count (get_or dims 1 blank) * coordinate_count (get_or dims 2 blank))
+space_count dims blank long =
+    let a = coordinate_count (get_or dims 0 blank) in
+    let b = coordinate_count (get_or dims 1 blank) in
+    ap tuple_count (space_dims dims blank long)
+    ∙ ap (λ n. a * (b * n)) (times_one (coordinate_count (get_or dims 2 blank)))
+
+pub some_planes : (r : Region) (m n : ℕ) → All HasStep r.dims → (members r ≡ [] → ⊥) → tuple_count r.dims ≡ m * n → 1 ≤ m
+some_planes r m n steps some is = by (tuple_count r.dims) refl
+  where
+    empty : {X : Type 0} (xs : List X) → length xs ≡ 0 → xs ≡ []
+    empty [] none = refl
+    empty (x ∷ xs) none = absurd (omega (arith, none))
+
+    by : (count : ℕ) → tuple_count r.dims ≡ count → 1 ≤ m
+    by zero e = absurd (some (empty (members r) (length-tuple_count r.dims steps ∙ e)))
+    by (suc count) e = let first : 0 < m = positive_left m n (subst (λ k. 0 < k) (sym e ∙ is) (omega arith)) in omega (arith, first)
+
+-- ---- what was appended
+pub told_text : {E : Type 0} (result : Result (Unit {0}) E) (now before text whole : List ℕ) → OnOk result (now ≡ before ++ text) → text ≡ whole → OnOk result (now ≡ before ++ whole)
+told_text (Ok u) now before text whole is same = is ∙ ap (λ list. before ++ list) same
+told_text (Err e) now before text whole is same = tt

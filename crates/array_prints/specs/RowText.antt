@@ -2,7 +2,7 @@
 --
 --   value_text   the text of one value
 --   row_text     of all values over dimensions
-use Rattle.std.specs.Prelude.{ℕ, zero, suc, ◌*◌, Bool, ℤ, List, [], ◌∷◌, ◌++◌, map, take, drop, if◌then◌else◌}
+use Rattle.std.specs.Prelude.{ℕ, zero, suc, Bool, ℤ, List, [], ◌∷◌, ◌++◌, map, take, drop, if◌then◌else◌}
 use Rattle.std.specs.List.{join_with_byte}
 use Rattle.zpl_arrays.specs.ArrayText.{number_text, truth_text}
 use Rattle.zpl_region.specs.declared.dims.Dim.{Dim}
