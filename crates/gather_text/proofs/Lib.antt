@@ -1,0 +1,3 @@
+mod OwnerLemmas
+mod GatherLemmas
+mod RowLemmas

@@ -27,7 +27,9 @@ pub(crate) fn owner(code: &NodeProgram, layout: &Layout, region: &Region, t: &Ve
     requires slot { IsSlot region.now.rank region.now }
     ensures owner { result ≡ owner_for code.now region.now 0 t.now }
     ensures processor { result < processors code.now }
+    ensures few { result < 64 }
 {
+    let _count = layout.grid().count();
     let [planes, rows, columns] = region.dims;
     let [x, y, z] = *t;
     let place = [

@@ -1,7 +1,6 @@
 //! The values of a gathered array, in row-major order.
-ghost use Rattle.std.specs.Prelude.{◌≡◌, ◌<◌, ◌^◌, ◌∷◌, ◌++◌, ◌==◌, ℕ, drop, find, length, map, pos, slice_get, slice_index_or, OnOk};
+ghost use Rattle.std.specs.Prelude.{◌≡◌, ◌<◌, ◌∷◌, ◌++◌, ◌==◌, ℕ, find, map, pos, slice_get, slice_index_or, OnOk};
 ghost use Rattle.grid_meaning.specs.Gather.{gathered_value, words_from};
-ghost use Rattle.grid_meaning.specs.Local.{processors};
 ghost use Rattle.grid_meaning.specs.State.{IsSlot};
 ghost use Rattle.grid_meaning.specs.Stored.{arrangement_of};
 ghost use Rattle.node_local.specs.Standing.{entry_of};
@@ -34,22 +33,26 @@ fn senders(kept: &[Kept]) -> [usize; MOST]
     places
 }
 
-/// The word of a processor at a place among its words: of processor 0 these are its own, and of
-/// another one those that stand at this place among the kept ones. Where there is no such word it is
-/// 0.
-fn word(own: &[i64], kept: &[Kept], sender: usize, q: u32, place: usize) -> i64
+/// The words of a processor: of processor 0 these are its own, and of another one those that stand at
+/// this place among the kept ones, if any do.
+fn words_of<'a>(own: &'a [i64], kept: &'a [Kept], sender: usize, q: u32) -> &'a [i64]
     requires { find (λ entry. entry.0 == q) (map entry_of kept.now)
         ≡ slice_get (map entry_of kept.now) sender }
-    ensures { result ≡ slice_index_or (words_from ((0, own.now) ∷ map entry_of kept.now) q) place (pos 0) }
+    ensures { result.now ≡ words_from ((0, own.now) ∷ map entry_of kept.now) q }
 {
-    let words = if q == 0 {
-        own
-    } else {
-        match kept.get(sender) {
-            Some(kept) => kept.words.as_slice(),
-            None => &[],
-        }
-    };
+    if q == 0 {
+        return own;
+    }
+    match kept.get(sender) {
+        Some(kept) => kept.words.as_slice(),
+        None => &[],
+    }
+}
+
+/// The word at a place, or 0.
+fn word(words: &[i64], place: usize) -> i64
+    ensures { result ≡ slice_index_or words.now place (pos 0) }
+{
     words.get(place).copied().unwrap_or(0)
 }
 
@@ -76,7 +79,8 @@ pub(crate) fn push_values(
     while let Some(t) = next {
         let q = owner(code, layout, region, &t);
         let at = q as usize;
-        into.push(word(own, kept, senders[at], q, used[at]))?;
+        let words = words_of(own, kept, senders[at], q);
+        into.push(word(words, used[at]))?;
         used[at] += 1;
         next = region.next_after(t);
     }
