@@ -1,5 +1,5 @@
 -- A source that conforms with a target, and has its values of the same owners.
-use Rattle.std.proofs.Common.{◌≡◌, ℕ, zero, suc, ◌-◌, ◌<◌, ◌≤◌, ◌||◌, ◌==◌, Bool, true, false, Option, Some, None, List, [], ◌∷◌, length, map, drop, replicate, refl, sym, ap, ◌∙◌, subst, arith, ℤ, pos, All, inl, inr, eq-eqb, rules}
+use Rattle.std.proofs.Common.{◌≡◌, ℕ, zero, suc, ◌-◌, ◌<◌, ◌≤◌, ◌||◌, ◌==◌, Bool, true, false, Option, Some, None, List, [], ◌∷◌, length, map, drop, replicate, get_or, refl, sym, ap, ◌∙◌, subst, arith, ℤ, pos, All, inl, inr, eq-eqb, rules}
 use Rattle.std.specs.Prelude.{◌&&◌, filter, unwrap_or, is_some}
 use Rattle.std.specs.List.{AllZip}
 use Rattle.std.specs.Ordering.{int_eq}
@@ -187,3 +187,18 @@ module _ (blocks : Blocks) (target source : Region) (to : ℕ) (are : AreBlocks 
       filter_among (λ t. owner_for blocks to source (flood_source source t) == from)
       (λ t. owner_for blocks to (conforming target source) (flood_source (conforming target source) t) == from)
       (members (owned_part blocks to to target)) (λ t m. ap (λ o. o == from) (owners_at source.rank ranks t m))
+
+-- ---- for the code
+pub three_conforming : (target source : List Dim) (blank : Dim) (a b c : Dim) → length target ≡ 3 → length source ≡ 3
+    → a ≡ conforming_dim (get_or target 0 blank) (get_or source 0 blank) → b ≡ conforming_dim (get_or target 1 blank) (get_or source 1 blank)
+    → c ≡ conforming_dim (get_or target 2 blank) (get_or source 2 blank) → a ∷ b ∷ c ∷ [] ≡ each_conforming target source
+three_conforming [] source blank a b c l m e f g = absurd (omega (arith, l))
+three_conforming (i ∷ []) source blank a b c l m e f g = absurd (omega (arith, l))
+three_conforming (i ∷ j ∷ []) source blank a b c l m e f g = absurd (omega (arith, l))
+three_conforming (i ∷ j ∷ k ∷ o ∷ target) source blank a b c l m e f g = absurd (omega (arith, l))
+three_conforming (i ∷ j ∷ k ∷ []) [] blank a b c l m e f g = absurd (omega (arith, m))
+three_conforming (i ∷ j ∷ k ∷ []) (x ∷ []) blank a b c l m e f g = absurd (omega (arith, m))
+three_conforming (i ∷ j ∷ k ∷ []) (x ∷ y ∷ []) blank a b c l m e f g = absurd (omega (arith, m))
+three_conforming (i ∷ j ∷ k ∷ []) (x ∷ y ∷ z ∷ w ∷ source) blank a b c l m e f g = absurd (omega (arith, m))
+three_conforming (i ∷ j ∷ k ∷ []) (x ∷ y ∷ z ∷ []) blank a b c l m e f g =
+    ap (λ p. p ∷ b ∷ c ∷ []) e ∙ (ap (λ p. conforming_dim i x ∷ p ∷ c ∷ []) f ∙ ap (λ p. conforming_dim i x ∷ conforming_dim j y ∷ p ∷ []) g)

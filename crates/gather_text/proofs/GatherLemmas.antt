@@ -67,6 +67,23 @@ kept_more p xs x =
     one true = refl
     one false = refl
 
+-- ---- the first entry of a sender, from the last entry back
+pub found_back : (entries : List (ℕ × List ℤ)) (place q : ℕ) (entry : ℕ × List ℤ) (found : ℕ) → slice_get entries place ≡ Some entry
+    → find (λ e. e.0 == q) (drop (place + 1) entries) ≡ slice_get entries found
+    → find (λ e. e.0 == q) (drop place entries) ≡ slice_get entries (cond (entry.0 == q) place found)
+found_back entries place q entry found here later = ap (find (λ e. e.0 == q)) (front entries place entry here) ∙ by (entry.0 == q)
+  where
+    front : (xs : List (ℕ × List ℤ)) (i : ℕ) (x : ℕ × List ℤ) → slice_get xs i ≡ Some x → drop i xs ≡ x ∷ drop (i + 1) xs
+    front [] i x is = cc
+    front (first ∷ xs) zero x is = let same : first ≡ x = cc in ap (λ y. y ∷ xs) same
+    front (first ∷ xs) (suc i) x is =
+        let next : suc i + 1 ≡ suc (i + 1) = omega arith in
+        front xs i x is ∙ sym (ap (λ n. x ∷ drop n (first ∷ xs)) next)
+
+    by : (b : Bool) → cond b (Some entry) (find (λ e. e.0 == q) (drop (place + 1) entries)) ≡ slice_get entries (cond b place found)
+    by true = sym here
+    by false = later
+
 -- ---- steps stay what they are in a part
 met_steps : (lows highs : List ℤ) (dims : List Dim) → All HasStep dims → All HasStep (each_met lows highs dims)
 met_steps [] highs dims steps = steps

@@ -1,5 +1,5 @@
 -- Who owns a tuple for processor 0, whose own block is the first one.
-use Rattle.std.proofs.Common.{◌≡◌, ℕ, zero, suc, ◌/◌, ◌%◌, ◌<◌, ◌≤◌, ◌==◌, ◌^◌, Bool, true, false, cond, List, [], ◌∷◌, length, map, refl, sym, ap, ◌∙◌, subst, arith, ℤ, pos, neg_ℤ, ◌≤ℤ◌, ◌<ℤ◌, All, eq-eqb, inl, inr}
+use Rattle.std.proofs.Common.{◌≡◌, ℕ, zero, suc, ◌/◌, ◌%◌, ◌<◌, ◌≤◌, ◌==◌, ◌^◌, Bool, true, false, cond, List, [], ◌∷◌, length, map, get_or, refl, sym, ap, ◌∙◌, subst, arith, ℤ, pos, neg_ℤ, ◌≤ℤ◌, ◌<ℤ◌, All, eq-eqb, inl, inr}
 use Rattle.std.specs.List.{AllZip, filter}
 use Rattle.std.proofs.lemmas.Int.{ints}
 use Rattle.std.proofs.lemmas.List.Elements.{All-head, All-tail}
@@ -102,3 +102,18 @@ same_part blocks q r t m =
     ap (λ dims. record { rank = r.rank; dims = dims })
     (same_dims (axes_at blocks r.rank) ns (blocks_at ns q) (blocks_at ns 0) r.dims t (blocks_length ns 0 ∙ sym (blocks_length ns q))
     (among_tuples (map coordinates (owned_part blocks q 0 r).dims) t m))
+
+-- ---- for the code
+pub three_below : (dims : List Dim) (t : List ℤ) (blank : Dim) (a b c : ℤ) → length dims ≡ 3 → length t ≡ 3
+    → a ≡ coordinate_below (get_or dims 0 blank) (get_or t 0 (pos 0)) → b ≡ coordinate_below (get_or dims 1 blank) (get_or t 1 (pos 0))
+    → c ≡ coordinate_below (get_or dims 2 blank) (get_or t 2 (pos 0)) → a ∷ b ∷ c ∷ [] ≡ coordinates_below dims t
+three_below [] t blank a b c l m e f g = absurd (omega (arith, l))
+three_below (i ∷ []) t blank a b c l m e f g = absurd (omega (arith, l))
+three_below (i ∷ j ∷ []) t blank a b c l m e f g = absurd (omega (arith, l))
+three_below (i ∷ j ∷ k ∷ o ∷ dims) t blank a b c l m e f g = absurd (omega (arith, l))
+three_below (i ∷ j ∷ k ∷ []) [] blank a b c l m e f g = absurd (omega (arith, m))
+three_below (i ∷ j ∷ k ∷ []) (x ∷ []) blank a b c l m e f g = absurd (omega (arith, m))
+three_below (i ∷ j ∷ k ∷ []) (x ∷ y ∷ []) blank a b c l m e f g = absurd (omega (arith, m))
+three_below (i ∷ j ∷ k ∷ []) (x ∷ y ∷ z ∷ w ∷ t) blank a b c l m e f g = absurd (omega (arith, m))
+three_below (i ∷ j ∷ k ∷ []) (x ∷ y ∷ z ∷ []) blank a b c l m e f g =
+    ap (λ p. p ∷ b ∷ c ∷ []) e ∙ (ap (λ p. coordinate_below i x ∷ p ∷ c ∷ []) f ∙ ap (λ p. coordinate_below i x ∷ coordinate_below j y ∷ p ∷ []) g)

@@ -35,7 +35,7 @@ loop-next-smaller c =
 pub loop-next-preserved : goal.loop-next-preserved
 loop-next-preserved c =
     let word = λ (t : List ℤ). value_at c.args.local.now.local.stores c.args.array (flood_source c.args.source.now t) in
-    walk_more word c.args.tuples.now c.in-Some.x c.next_after-next.result c.in-Some-value_at.value
+    walk_more word c.args.tuples.now c.in-Some.x c.next_after-next.result c.in-Some-value_at._value
     (subst (λ o. (read : List ℤ) × IsWalking word c.args.tuples.now o [] read) c.in-Some.is c.loop-next.invariant)
     (ap (value_at c.args.local.now.local.stores c.args.array) (sym c.flood_source-place.ensures) ∙ (sym c.value_at.ensures ∙ c.in-Some-value_at.is))
     c.next_after-next.ensures

@@ -29,7 +29,7 @@ loop-next-smaller c =
 pub loop-next-preserved : goal.loop-next-preserved
 loop-next-preserved c =
     let word = fold_over c.args.fold c.args.local.now.local.stores c.args.array c.args.walk.now in
-    walk_more word c.args.walk.now c.in-Some.x c.after-next.result c.in-Some-fold_over.value
+    walk_more word c.args.walk.now c.in-Some.x c.after-next.result c.in-Some-fold_over._word
     (subst (λ o. (read : List ℤ) × IsWalking word c.args.walk.now o [] read) c.in-Some.is c.loop-next.invariant)
     (c.fold_over.ensures ∙ c.in-Some-fold_over.is)
     c.after-next.ensures.ahead

@@ -24,7 +24,7 @@ loop-next-smaller c =
 
 pub loop-next-preserved : goal.loop-next-preserved
 loop-next-preserved c =
-    holding_step c.args.local.now.local.stores c.args.array c.args.walk.now c.in-Some.x c.after-next.result c.in-Some-value_at.value
+    holding_step c.args.local.now.local.stores c.args.array c.args.walk.now c.in-Some.x c.after-next.result c.in-Some-value_at._value
     (subst (IsHolding c.args.local.now.local.stores c.args.array c.args.walk.now) c.in-Some.is c.loop-next.invariant)
     (sym c.value_at.ensures ∙ c.in-Some-value_at.is) c.after-next.ensures.ahead
 
