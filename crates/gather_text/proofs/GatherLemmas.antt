@@ -164,8 +164,14 @@ module _ (code : Tables) (r : Region) (slot : IsSlot r.rank r) (are : AreBlocks 
 
     pub few_used : (t : List ℤ) (used : List ℕ) (now : List ℤ) (w : IsGathering (Some t) used now) (q : ℕ) → q < 64 → get_or used q 0 ≤ 4194304
     few_used t used now w q few =
-        omega (arith, w.counted q few, length-filter (λ u. owner u == q) (take w.passed (members r)),
-        count_by-le-length (λ u. owner u == q) (take w.passed (members r)), length_taken w.passed (members r), slot.fits.limit.points)
+        omega (
+          arith,
+          w.counted q few,
+          length-filter (λ u. owner u == q) (take w.passed (members r)),
+          count_by-le-length (λ u. owner u == q) (take w.passed (members r)),
+          length_taken w.passed (members r),
+          slot.fits.limit.points,
+        )
       where
         length_taken : {X : Type 0} (n : ℕ) (xs : List X) → length (take n xs) ≤ length xs
         length_taken zero xs = omega arith

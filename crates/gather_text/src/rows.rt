@@ -7,7 +7,7 @@ ghost use Rattle.node_local.specs.Standing.{entry_of};
 ghost use Rattle.zpl_region.specs.Region.{members};
 
 use crate::owners::owner;
-use grid_layout::{Layout, owned_parts_go_by_owners};
+use grid_layout::Layout;
 use node_form::NodeProgram;
 use node_local::Kept;
 use std::alloc::AllocError;
@@ -72,7 +72,7 @@ pub(crate) fn push_values(
         ++ map (gathered_value code.now region.now ((0, own.now) ∷ map entry_of kept.now))
         (members region.now)) }
 {
-    owned_parts_go_by_owners();
+    let _blocks = layout.blocks();
     let senders = senders(kept);
     let mut used = [0; MOST];
     let mut next = region.least();

@@ -1,6 +1,7 @@
 -- Steps of a walk, and what is left of it.
 use Rattle.std.proofs.Common.{◌≡◌, ℕ, zero, suc, ◌+◌, ◌-◌, ◌<◌, ◌≤◌, Bool, true, false, cond, List, [], ◌∷◌, length, drop, refl, sym, ap, ◌∙◌, subst, ℤ, arith, All, nat_lt, IsTrue}
 use Rattle.std.specs.Prelude.{Option, Some, None, filter, find, slice_get, is_some}
+use Rattle.std.proofs.lemmas.Bool.Decides.{nat_tests}
 use Rattle.std.proofs.lemmas.List.{drop_all}
 use Rattle.std.proofs.lemmas.List.Sums.{count_by-le-length, length-filter}
 use Rattle.std.proofs.lemmas.Option.{slice_get_within}
@@ -28,6 +29,9 @@ drop_past (first ∷ ts) (suc i) is = drop_past ts i is
 
 filter_first : (p : List ℤ → Bool) (t : List ℤ) (ts : List (List ℤ)) (b : Bool) → p t ≡ b → filter p (t ∷ ts) ≡ cond b (t ∷ filter p ts) (filter p ts)
 filter_first p t ts b is = ap (λ c. cond c (t ∷ filter p ts) (filter p ts)) is
+
+positive : (n : ℕ) → nat_lt 0 (suc n) ≡ true
+positive n = grind (arith, nat_tests)
 
 -- ---- a tuple more of the region
 module _ (walk : Walk) where
@@ -105,7 +109,7 @@ module _ (walk : Walk) where
 
   pub some_ahead : (next : Option (List ℤ)) (rest : List (List ℤ)) → IsAhead walk next rest → is_some next ≡ nat_lt 0 (length rest)
   some_ahead None rest is = sym (ap (λ ts. nat_lt 0 (length ts)) is)
-  some_ahead (Some x) rest w = sym (ap (λ ts. nat_lt 0 (length ts)) w.left)
+  some_ahead (Some x) rest w = sym (ap (λ ts. nat_lt 0 (length ts)) w.left ∙ positive (length (filter (takes_in walk) (drop (w.place + 1) (members walk.within)))))
 
 -- ---- how many there are
 pub few_on : (walk : Walk) → length (tuples_on walk) ≤ length (members walk.within)

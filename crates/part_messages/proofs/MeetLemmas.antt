@@ -1,8 +1,9 @@
 -- Where bounds don't overlap, no tuple is reached.
-use Rattle.std.proofs.Common.{◌≡◌, Bool, true, false, ◌&&◌, ◌||◌, ◌⊎◌, inl, inr, List, [], ◌∷◌, map, refl, sym, ap, ◌∙◌, cond, arith, ℤ, ◌≤ℤ◌}
+use Rattle.std.proofs.Common.{◌≡◌, ◌↔◌, not, IsTrue, Bool, true, false, ◌&&◌, ◌||◌, ◌⊎◌, inl, inr, List, [], ◌∷◌, map, refl, sym, ap, ◌∙◌, cond, arith, ℤ, ◌≤ℤ◌}
 use Rattle.std.specs.Prelude.{filter, int_le}
 use Rattle.std.specs.List.{AllZip, list_any}
 use Rattle.std.specs.Ordering.{int_eq}
+use Rattle.std.proofs.lemmas.Bool.{false≢true}
 use Rattle.std.proofs.lemmas.Bool.Decides.{Decides-int_eq}
 use Rattle.std.proofs.lemmas.Int.{ints}
 use Rattle.zpl_region.specs.declared.dims.Dim.{Dim}
@@ -16,6 +17,7 @@ use Rattle.zpl_region.proofs.TupleLemmas.{among_tuples}
 use Rattle.zpl_arrays.specs.Conformity.{is_collapsed}
 use Rattle.zpl_arrays.specs.Fold.{agrees}
 use Rattle.reduce_plan.specs.Partial.{is_reached}
+use Rattle.reduce_plan.proofs.ReachedLemmas.{reached_any}
 use Rattle.part_messages.specs.Meeting.{each_meets, may_meet, overlap}
 
 -- ---- one dimension
@@ -83,3 +85,9 @@ none_reached target own block e =
 pub none_by_none : (target own block : Region) → members block ≡ [] → filter (is_reached target block) (members own) ≡ []
 none_by_none target own block e =
     none_kept (is_reached target block) (members own) (λ t m. ap (list_any (agrees target.dims t)) e)
+
+-- ---- for the code
+pub told_reached : (target block : Region) (x : List ℤ) (ms : List (List ℤ)) (b : Bool) → ms ≡ filter (agrees target.dims x) (members block)
+    → (IsTrue b ↔ (ms ≡ [])) → not b ≡ is_reached target block x
+told_reached target block x ms true is told = sym ((reached_any target block x ms is).0 (told.0 refl))
+told_reached target block x ms false is told = sym ((reached_any target block x ms is).1 (λ none. false≢true (told.1 none)))

@@ -1,6 +1,7 @@
 //! The messages of `part`: its turns, their words, and what they make of a processor's state.
 #![tactic(auto)]
 
+mod blocks;
 mod folds;
 mod joins;
 mod parts;

@@ -11,10 +11,10 @@ ghost use Rattle.zpl_region.specs.Region.{IsRegion, members};
 ghost use Rattle.part_messages.specs.Meeting.{each_meets, may_meet};
 ghost use Rattle.part_messages.specs.Walking.{IsAhead, IsOn, IsWalk, takes_in, tuples_from, tuples_on};
 
+use crate::blocks::own_part;
 use crate::reaches::{all_from, is_collapsed, is_reached};
 use grid_layout::Layout;
 use node_form::NodeProgram;
-use node_stages::own_tuples;
 use zpl_region::{Dim, Region, Vec3};
 
 /// A walk over the tuples of a region that a block of the source reaches, or over all of them.
@@ -122,8 +122,8 @@ impl Walk {
         ensures few { length (members result.within) ≤ 4194304 }
         ensures walk { IsWalk result }
     {
-        let block = own_tuples(code, layout, source, from);
-        let own = own_tuples(code, layout, target, to);
+        let block = own_part(code, layout, source, from);
+        let own = own_part(code, layout, target, to);
         Walk {
             target: *target,
             block,
@@ -151,8 +151,8 @@ impl Walk {
         ensures block { members result.block ≡ tuples_of code.now p source.now }
         ensures walk { IsWalk result }
     {
-        let block = own_tuples(code, layout, source, p);
-        let within = own_tuples(code, layout, target, p);
+        let block = own_part(code, layout, source, p);
+        let within = own_part(code, layout, target, p);
         Walk {
             target: *target,
             block,

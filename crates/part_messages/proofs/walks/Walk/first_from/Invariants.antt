@@ -9,8 +9,8 @@ use Rattle.part_messages.proofs.walks.Walk.first_from.Given as goal
 abbrev pub invariant-loop-next : goal.invariant-loop-next
 invariant-loop-next l =
     IsOn l.self l.next
-    × ((place : ℕ) → slice_get (members l.self.within) place ≡ l.from → IsComing l.self place l.next)
-    × (tuples_from l.self.within l.next ≤ tuples_from l.self.within l.from)
+    × ((place : ℕ) → slice_get (members l.self.within) place ≡ l.fn.from → IsComing l.self place l.next)
+    × (tuples_from l.self.within l.next ≤ tuples_from l.self.within l.fn.from)
 
 abbrev pub decreases-loop-next : goal.decreases-loop-next
 decreases-loop-next l = tuples_from l.self.within l.next

@@ -16,14 +16,14 @@ reachable-requires-clause-target c = IsRegion-slot _ c.args.target.now c.require
 pub returns-clause-tuples : goal.returns-clause-tuples
 returns-clause-tuples c =
     c.reachable.ensures.tuples
-    ∙ (ap (λ ts. filter (λ t. list_any (agrees c.args.target.now.dims t) ts) (members c.own_tuples-own.result)) c.own_tuples-block.ensures.tuples
-    ∙ ap (filter (λ t. list_any (agrees c.args.target.now.dims t) (tuples_of c.args.code.now c.args.from c.args.source.now))) c.own_tuples-own.ensures.tuples)
+    ∙ (ap (λ ts. filter (λ t. list_any (agrees c.args.target.now.dims t) ts) (members c.own_part-own.result)) c.own_part-block.ensures.tuples
+    ∙ ap (filter (λ t. list_any (agrees c.args.target.now.dims t) (tuples_of c.args.code.now c.args.from c.args.source.now))) c.own_part-own.ensures.tuples)
 
 pub returns-clause-few : goal.returns-clause-few
 returns-clause-few c =
     let target = c.args.target.now in
     let blocks = laid_out (arrangement_of c.args.code.now) in
-    let own : length (members c.own_tuples-own.result) ≡ length (tuples_of c.args.code.now c.args.to target) = ap length c.own_tuples-own.ensures.tuples in
+    let own : length (members c.own_part-own.result) ≡ length (tuples_of c.args.code.now c.args.to target) = ap length c.own_part-own.ensures.tuples in
     omega (
       arith,
       c.reachable.ensures.few,
@@ -31,3 +31,11 @@ returns-clause-few c =
       length-met target (own_first blocks target.rank c.args.to) (own_last blocks target.rank c.args.to),
       c.requires.target.fits.limit.points,
     )
+
+pub returns-clause-walk : goal.returns-clause-walk
+returns-clause-walk c = record {
+  target = IsRegion-slot _ c.args.target.now c.requires.target;
+  block = c.own_part-block.ensures.region;
+  within = c.reachable.ensures.region;
+  ranks = c.requires.ranks ∙ sym c.own_part-block.ensures.rank;
+}

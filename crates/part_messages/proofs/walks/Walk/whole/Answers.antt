@@ -1,8 +1,16 @@
-use Rattle.std.proofs.Common.{◌∙◌}
+use Rattle.std.proofs.Common.{sym, ◌∙◌}
 use Rattle.zpl_region.specs.Region.{members}
 use Rattle.node_stages.proofs.PieceLemmas.{IsRegion-slot}
 use Rattle.part_messages.proofs.AheadLemmas.{all_kept}
 use Rattle.part_messages.proofs.walks.Walk.whole.Goals as goal
 
 pub returns-clause-tuples : goal.returns-clause-tuples
-returns-clause-tuples c = all_kept (members c.own_tuples-within.result) ∙ c.own_tuples-within.ensures.tuples
+returns-clause-tuples c = all_kept (members c.own_part-within.result) ∙ c.own_part-within.ensures.tuples
+
+pub returns-clause-walk : goal.returns-clause-walk
+returns-clause-walk c = record {
+  target = IsRegion-slot _ c.args.target.now c.requires.target;
+  block = c.own_part-block.ensures.region;
+  within = c.own_part-within.ensures.region;
+  ranks = c.requires.ranks ∙ sym c.own_part-block.ensures.rank;
+}
