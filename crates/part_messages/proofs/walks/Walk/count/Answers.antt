@@ -1,4 +1,4 @@
-use Rattle.std.proofs.Common.{◌≡◌, ◌<◌, ℕ, sym, ap, ◌∙◌, subst, arith, refl}
+use Rattle.std.proofs.Common.{rules, ◌≡◌, ◌<◌, ℕ, sym, ap, ◌∙◌, subst, arith, refl}
 use Rattle.std.specs.Prelude.{length}
 use Rattle.part_messages.specs.Walking.{tuples_from, tuples_on}
 use Rattle.part_messages.proofs.AheadLemmas.{IsCounting, counting_below, counting_ends, counting_on, few_on, on_ahead}
@@ -6,6 +6,13 @@ use Rattle.part_messages.proofs.walks.Walk.count.Goals as goal
 
 pub loop-next-init : goal.loop-next-init
 loop-next-init c = record { rest = tuples_on c.args.self.now; ahead = c.first-next.ensures; counted = omega arith }
+
+pub overflow_add-count : goal.overflow_add-count
+overflow_add-count c =
+    let below : c.loop-next.count < length (tuples_on c.args.self.now) =
+    counting_below c.args.self.now c.in-Some.x c.loop-next.count (subst (λ o. IsCounting c.args.self.now o c.loop-next.count) c.in-Some.is c.loop-next.invariant) in
+    let few : c.loop-next.count < 4194304 = omega (arith, below, few_on c.args.self.now, c.requires.few) in
+    search rules
 
 pub after-next-requires-clause-there : goal.after-next-requires-clause-there
 after-next-requires-clause-there c =

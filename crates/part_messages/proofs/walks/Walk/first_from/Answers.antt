@@ -10,9 +10,8 @@ loop-next-init c = (c.requires.there, (λ place is. coming_starts c.args.self.no
 
 pub returns-then-takes_in-clause-ahead : goal.returns-then-takes_in-clause-ahead
 returns-then-takes_in-clause-ahead c = λ place is.
-    subst (λ o. IsAhead c.args.self.now o _) (sym c.in-Some.is)
-    (coming_taken c.args.self.now place c.in-Some.x
-    (subst (IsComing c.args.self.now place) c.in-Some.is (c.loop-next.invariant.1 place is)) (sym c.takes_in.ensures ∙ c.if-takes_in.true))
+    coming_taken c.args.self.now place c.in-Some.x
+    (subst (IsComing c.args.self.now place) c.in-Some.is (c.loop-next.invariant.1 place is)) (sym c.takes_in.ensures ∙ c.if-takes_in.true)
 
 pub loop-next-smaller : goal.loop-next-smaller
 loop-next-smaller c =
