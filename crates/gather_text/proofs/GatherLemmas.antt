@@ -1,11 +1,12 @@
 -- Words that come one after another from each sender.
-use Rattle.std.proofs.Common.{◌≡◌, ◌≢◌, ℕ, zero, suc, ◌+◌, ◌-◌, ◌<◌, ◌≤◌, ◌==◌, Bool, true, false, cond, List, [], ◌∷◌, ◌++◌, length, map, take, drop, get_or, refl, sym, ap, ◌∙◌, subst, arith, ℤ, pos, All, eq-eqb, append_assoc, append-nil, length-append}
+use Rattle.std.proofs.Common.{◌≡◌, ◌≢◌, ℕ, zero, suc, ◌+◌, ◌-◌, ◌<◌, ◌≤◌, ◌==◌, Bool, true, false, cond, List, [], ◌∷◌, ◌++◌, length, map, take, drop, replicate, get_or, refl, sym, ap, ◌∙◌, subst, arith, ℤ, pos, All, eq-eqb, append_assoc, append-nil, length-append}
 use Rattle.std.specs.Prelude.{Option, Some, None, find, slice_get, slice_index_or}
 use Rattle.std.specs.List.{filter}
 use Rattle.std.proofs.lemmas.Bool.Decides.{nat_tests}
 use Rattle.std.proofs.lemmas.List.Elements.{All-cons, All-head, All-tail, filter-append}
+use Rattle.std.proofs.lemmas.Option.{slice_get_within}
 use Rattle.std.proofs.lemmas.List.Sums.{count_by-le-length, length-filter}
-use Rattle.std.proofs.lemmas.List.{length-take, map-append, take_all}
+use Rattle.std.proofs.lemmas.List.{drop_all, get_or-replicate, length-take, map-append, take_all}
 use Rattle.zpl_region.specs.declared.dims.Dim.{Dim}
 use Rattle.zpl_region.specs.declared.dims.Dim.TheVariants.{Range, Flood}
 use Rattle.zpl_region.specs.declared.regions.Region.{Region}
@@ -30,6 +31,7 @@ use Rattle.grid_meaning.specs.Place.{own_part}
 use Rattle.grid_meaning.specs.State.{IsSlot}
 use Rattle.grid_meaning.specs.Stored.{arrangement_of}
 use Rattle.grid_meaning.proofs.WorldLemmas.{processors_alike}
+use Rattle.node_messages.proofs.ReadLemmas.{left}
 use Rattle.node_stages.proofs.OwnLemmas as own
 use Rattle.node_stages.proofs.PieceLemmas.{IsRegion-slot}
 use Rattle.gather_text.proofs.OwnerLemmas.{same_part}
@@ -84,6 +86,27 @@ found_back entries place q entry found here later = ap (find (λ e. e.0 == q)) (
     by true = sym here
     by false = later
 
+-- where entries stand that were found so far, by sender
+abbrev pub AreFound : List (ℕ × List ℤ) → ℕ → List ℕ → Type 0
+AreFound entries from places = (q : ℕ) → q < 64 → find (λ e. e.0 == q) (drop from entries) ≡ slice_get entries (get_or places q 0)
+
+pub found_none : (entries : List (ℕ × List ℤ)) (many : ℕ) → length entries ≡ many → AreFound entries (many - 0) (replicate 64 many)
+found_none entries many is = λ q below.
+    let same : many - 0 ≡ many = omega arith in
+    ap (λ n. find (λ e. e.0 == q) (drop n entries)) same
+    ∙ (ap (find (λ e. e.0 == q)) (drop_all many entries (omega (arith, is)))
+    ∙ (sym (past entries many (omega (arith, is))) ∙ ap (slice_get entries) (sym (get_or-replicate 64 q many 0 below))))
+  where
+    past : (xs : List (ℕ × List ℤ)) (i : ℕ) → length xs ≤ i → slice_get xs i ≡ None
+    past [] i long = refl
+    past (x ∷ xs) zero long = absurd (omega (arith, long))
+    past (x ∷ xs) (suc i) long = past xs i (omega (arith, long))
+
+pub found_in : {X Y : Type 0} (f : X → Y) (xs : List X) (i : ℕ) (d : X) → i < length xs → slice_get (map f xs) i ≡ Some (f (get_or xs i d))
+found_in f [] i d within = absurd (omega (arith, within))
+found_in f (x ∷ xs) zero d within = refl
+found_in f (x ∷ xs) (suc i) d within = found_in f xs i d (omega (arith, within))
+
 -- ---- steps stay what they are in a part
 met_steps : (lows highs : List ℤ) (dims : List Dim) → All HasStep dims → All HasStep (each_met lows highs dims)
 met_steps [] highs dims steps = steps
@@ -106,9 +129,9 @@ module _ (code : Tables) (r : Region) (slot : IsSlot r.rank r) (are : AreBlocks 
   abbrev pub used_by : ℕ → ℕ → ℕ
   used_by passed q = length (filter (λ u. owner u == q) (take passed (members r)))
 
-  place_is : (i q : ℕ) (t : List ℤ) → slice_get (members r) i ≡ Some t → owner t ≡ q → q < processors code → 0 < processors code
+  place_is : (i q : ℕ) (t : List ℤ) → slice_get (members r) i ≡ Some t → owner t ≡ q → q < processors code
       → place_among (own_part code q r).dims t ≡ used_by i q
-  place_is i q t here is below some =
+  place_is i q t here is below =
       only_place (own_part code q r) t (used_by i q) steps (subst (λ ms. slice_get ms (used_by i q) ≡ Some t) same at)
     where
       blocks : Blocks
@@ -118,10 +141,10 @@ module _ (code : Tables) (r : Region) (slot : IsSlot r.rank r) (are : AreBlocks 
       inside = subst (λ n. q < n) (processors_alike code.grid) below
 
       first : 0 < processors_of blocks.grid
-      first = subst (λ n. 0 < n) (processors_alike code.grid) some
+      first = omega (arith, inside)
 
       kept : members (owned_part blocks q 0 r) ≡ filter (λ u. owner u == q) (members r)
-      kept = parts_by_owner blocks q 0 r are slot.fits.rank.0 slot.fits.rank.1 slot.many (λ k d h. ((IsRegion-slot r.rank r slot).dims k d h).1.0) first inside
+      kept = parts_by_owner blocks q 0 r are slot.fits.rank.0 slot.fits.rank.1 slot.many (λ k d h. ((IsRegion-slot r.rank r slot).dims k d h).1) first inside
 
       at : slice_get (filter (λ u. owner u == q) (members r)) (used_by i q) ≡ Some t
       at = place_among_kept (λ u. owner u == q) (members r) i t here (eq-eqb (owner t) q is)
@@ -136,7 +159,7 @@ module _ (code : Tables) (r : Region) (slot : IsSlot r.rank r) (are : AreBlocks 
       steps = met_steps _ _ r.dims slot.fits.steps
 
   -- ---- values that were gathered at the first tuples
-  module _ (some : 0 < processors code) (entries : List (ℕ × List ℤ)) (before : List ℤ) where
+  module _ (entries : List (ℕ × List ℤ)) (before : List ℤ) where
     abbrev value : List ℤ → ℤ
     value = gathered_value code r entries
 
@@ -159,7 +182,7 @@ module _ (code : Tables) (r : Region) (slot : IsSlot r.rank r) (are : AreBlocks 
     pub value_is : (t : List ℤ) (used : List ℕ) (now : List ℤ) (w : IsGathering (Some t) used now) (q : ℕ) → q ≡ owner t → q < processors code → q < 64
         → slice_index_or (words_from entries q) (get_or used q 0) (pos 0) ≡ value t
     value_is t used now w q is below few =
-        ap (λ n. slice_index_or (words_from entries q) n (pos 0)) (w.counted q few ∙ sym (place_is w.passed q t (sym w.next_is) (sym is) below some))
+        ap (λ n. slice_index_or (words_from entries q) n (pos 0)) (w.counted q few ∙ sym (place_is w.passed q t (sym w.next_is) (sym is) below))
         ∙ ap (λ p. slice_index_or (words_from entries p) (place_among (own_part code p r).dims t) (pos 0)) is
 
     pub few_used : (t : List ℤ) (used : List ℕ) (now : List ℤ) (w : IsGathering (Some t) used now) (q : ℕ) → q < 64 → get_or used q 0 ≤ 4194304
@@ -224,3 +247,20 @@ module _ (code : Tables) (r : Region) (slot : IsSlot r.rank r) (are : AreBlocks 
         past [] i is = omega arith
         past (x ∷ xs) zero is = cc
         past (x ∷ xs) (suc i) is = let rest = past xs i is in omega arith
+
+    -- there are fewer behind a tuple
+    pub gathering_fewer : (t : List ℤ) (next : Option (List ℤ)) (used : List ℕ) (now : List ℤ) → IsGathering (Some t) used now
+        → next ≡ find (is_before t) (members r) → left r next < left r (Some t)
+    gathering_fewer t next used now w next_is = by next (next_is ∙ next_member r w.passed t (sym w.next_is))
+      where
+        inside : w.passed < length (members r)
+        inside = slice_get_within (members r) w.passed t (sym w.next_is)
+
+        here : place_among r.dims t ≡ w.passed
+        here = only_place r t w.passed slot.fits.steps (sym w.next_is)
+
+        by : (n : Option (List ℤ)) → n ≡ slice_get (members r) (w.passed + 1) → left r n < left r (Some t)
+        by None e = omega (arith, here, inside)
+        by (Some u) e =
+            let there : place_among r.dims u ≡ w.passed + 1 = only_place r u (w.passed + 1) slot.fits.steps (sym e) in
+            omega (arith, here, there, inside)

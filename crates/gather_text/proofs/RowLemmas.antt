@@ -1,5 +1,5 @@
 -- What the row's record says of its last turn on processor 0.
-use Rattle.std.proofs.Common.{◌≡◌, ℕ, Bool, List, ◌∷◌, refl, sym, ap, ◌∙◌, ℤ}
+use Rattle.std.proofs.Common.{◌≡◌, ℕ, Bool, true, false, List, [], ◌∷◌, ◌++◌, refl, sym, ap, ◌∙◌, ℤ}
 use Rattle.std.specs.Prelude.{Option, Some, None, slice_get, unwrap_or}
 use Rattle.zpl_region.specs.declared.regions.Region.{Region}
 use Rattle.zpl_arrays.specs.ArrayText.{array_text}
@@ -10,6 +10,7 @@ use Rattle.grid_meaning.specs.Local.{Local}
 use Rattle.grid_meaning.specs.Owner.{tuples_of}
 use Rattle.grid_meaning.specs.Place.{values_at}
 use Rattle.grid_meaning.specs.Stored.{no_places}
+use Rattle.node_messages.specs.Reading.{IsRead}
 use Rattle.gather_text.specs.Shown.{leaves_with}
 
 module _ (code : Tables) (truth : Bool) (array slot : ℕ) (local : Local) (region : Region) (there : slice_get local.slots slot ≡ Some region) where
@@ -26,3 +27,10 @@ module _ (code : Tables) (truth : Bool) (array slot : ℕ) (local : Local) (regi
       → text ≡ array_text (value_text truth) region (gathered_value code region ((0, own) ∷ local.kept))
       → (gathered code 0 truth array slot).last local ≡ leaves_with local (Some text)
   last_prints own text is told = last_is (Some own) is ∙ ap (λ list. leaves_with local (Some list)) (sym told)
+
+-- ---- what was read
+pub read_some : (found : Option (List ℤ)) (before after : List ℤ) (held : Bool) → IsRead found before after held → before ≡ [] → held ≡ true
+    → found ≡ Some after
+read_some found before after true read none is =
+    read.there ∙ ap Some (sym (read.appended ∙ ap (λ front. front ++ read.words) none))
+read_some found before after false read none is = cc

@@ -30,6 +30,7 @@ pub(crate) fn owner(code: &NodeProgram, layout: &Layout, region: &Region, t: &Ve
     ensures few { result < 64 }
 {
     let _count = layout.grid().count();
+    let _blocks = layout.blocks();
     let [planes, rows, columns] = region.dims;
     let [x, y, z] = *t;
     let place = [

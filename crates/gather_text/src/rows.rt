@@ -1,5 +1,5 @@
 //! The values of a gathered array, in row-major order.
-ghost use Rattle.std.specs.Prelude.{◌≡◌, ◌<◌, ◌∷◌, ◌++◌, ◌==◌, ℕ, find, map, pos, slice_get, slice_index_or, OnOk};
+ghost use Rattle.std.specs.Prelude.{◌≡◌, ◌≢◌, ◌+◌, ◌<◌, ◌≤◌, ◌∷◌, ◌++◌, ◌==◌, ℕ, find, map, pos, slice_get, slice_index_or, OnOk, if◌then◌else◌};
 ghost use Rattle.grid_meaning.specs.Gather.{gathered_value, words_from};
 ghost use Rattle.grid_meaning.specs.State.{IsSlot};
 ghost use Rattle.grid_meaning.specs.Stored.{arrangement_of};
@@ -16,6 +16,17 @@ use zpl_region::Region;
 /// The most processors that a grid has.
 const MOST: usize = 64;
 
+/// Sets the place of a sender's words, if there is such a processor.
+fn mark(places: &mut [usize; MOST], from: u32, place: usize)
+    ensures { (q : ℕ) → q < 64 → slice_index_or places.new q 0
+        ≡ (if from == q then place else slice_index_or places.old q 0) }
+{
+    let from = from as usize;
+    if from < MOST {
+        places[from] = place;
+    }
+}
+
 /// For each processor the place of its words among those that are kept, or how many these are where
 /// there are none of it.
 fn senders(kept: &[Kept]) -> [usize; MOST]
@@ -25,10 +36,7 @@ fn senders(kept: &[Kept]) -> [usize; MOST]
     let mut places = [kept.len(); MOST];
     for i in 0..kept.len() {
         let place = kept.len() - 1 - i;
-        let from = kept[place].from as usize;
-        if from < MOST {
-            places[from] = place;
-        }
+        mark(&mut places, kept[place].from, place);
     }
     places
 }
@@ -56,6 +64,16 @@ fn word(words: &[i64], place: usize) -> i64
     words.get(place).copied().unwrap_or(0)
 }
 
+/// Counts a word more of a processor as used.
+fn use_one(used: &mut [usize; MOST], q: u32)
+    requires below { q < 64 }
+    requires few { slice_index_or used.old q 0 ≤ 4194304 }
+    ensures one { slice_index_or used.new q 0 ≡ slice_index_or used.old q 0 + 1 }
+    ensures others { (p : ℕ) → p ≢ q → slice_index_or used.new p 0 ≡ slice_index_or used.old p 0 }
+{
+    used[q as usize] += 1;
+}
+
 /// Appends the values at the region's tuples in row-major order, from the words of processor 0 and
 /// those that it keeps: one after another from each sender.
 pub(crate) fn push_values(
@@ -81,7 +99,7 @@ pub(crate) fn push_values(
         let at = q as usize;
         let words = words_of(own, kept, senders[at], q);
         into.push(word(words, used[at]))?;
-        used[at] += 1;
+        use_one(&mut used, q);
         next = region.next_after(t);
     }
     Ok(())
