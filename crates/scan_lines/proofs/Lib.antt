@@ -1,0 +1,5 @@
+pub mod CountLemmas
+pub mod LoopLemmas
+pub mod LineLemmas
+pub mod ScanLemmas
+pub mod TotalLemmas
