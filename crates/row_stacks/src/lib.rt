@@ -1,0 +1,7 @@
+//! Rows of values that stand one behind the other in a buffer, and what operators make of those that
+//! stand last.
+#![tactic(auto)]
+
+mod rows;
+
+pub use rows::{apply_behind, clear_behind, fold_behind, pair_behind, scan_behind};
