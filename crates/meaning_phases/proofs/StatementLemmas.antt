@@ -1,25 +1,29 @@
 -- Each kind of statement is its phases.
-use Rattle.std.proofs.Common.{ℕ, Bool, true, ◌&&◌, ℤ, List, [], ◌∷◌, ◌++◌, Some, None, refl, sym}
+use Rattle.std.proofs.Common.{◌≡◌, ℕ, Bool, true, ◌&&◌, ℤ, List, [], ◌∷◌, ◌++◌, Some, None, refl, sym}
 use Rattle.std.proofs.Common.{ap, ◌∙◌, if◌then◌else◌}
 use Rattle.zpl_nums.specs.declared.ends.Border.{Border as BorderKind}
 use Rattle.zpl_region.specs.declared.regions.Region.{Region}
-use Rattle.zpl_tree.specs.Syntax.{Name, Expr, Exprs, ForHead, Item, Return, Write}
+use Rattle.zpl_tree.specs.Syntax.{Expr, Exprs, Form, ForHead, Item, Name, Return, Write}
+use Rattle.zpl_names.specs.Counts.{form_nodes}
+use Rattle.zpl_names.specs.Kinds.{Rank}
+use Rattle.zpl_meaning.specs.Points.{form_parts, are_targets_within, exprs_read, shattered_at}
 use Rattle.zpl_names.specs.Scope.{kind_of}
 use Rattle.zpl_names.specs.Sites.{Role, Limit, Result, Test, handed}
-use Rattle.zpl_meaning.specs.Computed.{Gives, computed_then}
+use Rattle.zpl_meaning.specs.Computed.{Computed, Gives, Traps, computed_then}
 use Rattle.zpl_meaning.specs.Store.{ArrayAt, Scalar, Store, with_scalar}
-use Rattle.zpl_meaning.specs.Context.{over_at, Edge, Place, reach_of}
+use Rattle.zpl_meaning.specs.Context.{Edge, Over, Place, over_at, reach_of}
 use Rattle.zpl_meaning.specs.Settled.{Placed}
 use Rattle.zpl_meaning.specs.Checks.{is_within, has_mask_within}
 use Rattle.zpl_meaning.specs.Fields.{is_kept_in, array_over}
 use Rattle.zpl_meaning.specs.Phases.{placed_in, fields_in, scalar_values, scalars_in, first_value}
 use Rattle.zpl_meaning.specs.Phases.{first_field}
 use Rattle.zpl_meaning.specs.Text.{printed_exprs, items_text}
-use Rattle.zpl_meaning.specs.Outcome.{Outcome, goes_on, prints, with_value}
+use Rattle.zpl_meaning.specs.Outcome.{Outcome, counting, goes_on, prints, with_value}
 use Rattle.zpl_meaning.specs.Calls.{formals_in, value_exprs, handed_on, actuals_in}
 use Rattle.zpl_meaning.specs.Statement.{assign_to, border_thing, Context, exec_form}
 use Rattle.zpl_meaning.specs.Statement.{head_value, line_of, start_of, step_expr, test_of}
 use Rattle.meaning_phases.specs.Phased.{IsComputedIn, IsRunIn}
+use Rattle.meaning_phases.specs.Statements.{split}
 use Rattle.meaning_phases.specs.Statements.{actuals, answer, array_assignment, border, head, print}
 use Rattle.meaning_phases.specs.Statements.{scalar_assignment, scalar_phases, test}
 use Rattle.meaning_phases.proofs.PhaseLemmas.{computed_in, run_in, then_then, with_then, fields_then}
@@ -89,6 +93,32 @@ pub bordered : (kind : BorderKind) (edge : Edge) (target : ℕ) (home : Region) 
     (border_thing kind (Some edge) (Some (ArrayAt target home)) line store)
 bordered kind edge target home line store =
     run_in (border kind edge target store) store line _ refl
+
+-- ---- shattered statements
+
+gives_itself : {A : Type 0} (computed : Computed A)
+    → computed_then computed (λ a. Gives a) ≡ computed
+gives_itself (Gives a) = refl
+gives_itself (Traps kind) = refl
+
+pub split_run : (place : Place) (rank : Rank) (over : Over) (line n : ℕ) (form : Form)
+    (store : Store)
+    → (outcome : Outcome) × IsRunIn (split place rank over line n form store) store line outcome
+    × (shattered_at place rank over line n form store ≡ counting (form_nodes form) outcome)
+split_run place rank over line n form store =
+    let phases = split place rank over line n form store in
+    let parts = form_parts form in
+    let own = are_targets_within place store over.region parts && has_mask_within store over in
+    let fields = fields_in place store own (exprs_read rank parts) in
+    let outcome = with_value fields store line phases.effect in (
+      outcome,
+      run_in phases store line outcome
+          (ap (λ computed. with_value computed store line phases.effect)
+          (sym (gives_itself fields)
+          ∙ fields_then place store own (exprs_read rank parts) (λ fields. Gives fields)
+          phases.effect)),
+      refl,
+    )
 
 -- ---- evaluations
 

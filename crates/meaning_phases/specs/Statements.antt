@@ -6,17 +6,20 @@ use Rattle.zpl_region.specs.Region.{outside_of}
 use Rattle.zpl_arrays.specs.Array.{Array, element}
 use Rattle.zpl_arrays.specs.Reference.{lies_in}
 use Rattle.zpl_arrays.specs.Border.{border_conforms, border_source, border_sources}
-use Rattle.zpl_tree.specs.Syntax.{Name, Expr, Exprs, ForHead, Item}
+use Rattle.zpl_tree.specs.Syntax.{Expr, Exprs, Form, ForHead, Item, Name}
+use Rattle.zpl_names.specs.Kinds.{Rank}
 use Rattle.zpl_names.specs.Scope.{kind_of}
 use Rattle.zpl_names.specs.Sites.{Role, Limit, Result, Test, handed}
 use Rattle.zpl_meaning.specs.Computed.{Computed, Gives, computed_then}
 use Rattle.zpl_meaning.specs.Store.{Store, array_at, with_array, with_scalar}
-use Rattle.zpl_meaning.specs.Context.{over_at, Edge, Place, reach_of}
+use Rattle.zpl_meaning.specs.Context.{Edge, Over, Place, over_at, reach_of}
 use Rattle.zpl_meaning.specs.Term.{NoTerm}
 use Rattle.zpl_meaning.specs.Settled.{Placed, settled_each}
 use Rattle.zpl_meaning.specs.Checks.{conform, is_within, has_mask_within, refer}
 use Rattle.zpl_meaning.specs.Fields.{Field, everywhere, is_kept_in, array_over, fields_of}
 use Rattle.zpl_meaning.specs.Phases.{placed_in, scalar_values, first_value, first_field}
+use Rattle.zpl_meaning.specs.Points.{form_parts, are_targets_within, exprs_read, all_runs, runs_of}
+use Rattle.zpl_meaning.specs.Points.{run_at, kept_tuples}
 use Rattle.zpl_meaning.specs.Text.{printed_exprs, items_text}
 use Rattle.zpl_meaning.specs.Outcome.{Outcome, goes_on, prints}
 use Rattle.zpl_meaning.specs.Calls.{Handed, formals_in, value_exprs, handed_on}
@@ -86,6 +89,18 @@ border kind edge target store =
           element array (border_source kind edge.region edge.shift t)));
       effect = λ new. goes_on (with_array store target new);
     }
+
+-- ---- shattered statements
+
+-- The arrays that it writes and its mask are references too. Behind its phases all tuples that aren't
+-- masked out run: what they do is its effect, and may be a trap, or more.
+abbrev pub split : Place → Rank → Over → ℕ → ℕ → Form → Store → Phases (List Field) Outcome
+split place rank over line n form store =
+    let parts = form_parts form in
+    phases_of place store
+    (are_targets_within place store over.region parts && has_mask_within store over)
+    (exprs_read rank parts) (λ fields. Gives fields) (λ fields.
+    all_runs store (runs_of (run_at place rank line n form store) (kept_tuples store over)))
 
 -- ---- what is evaluated around other statements
 

@@ -5,11 +5,15 @@ ghost use Rattle.zpl_nums.specs.declared.ends.TrapKind.{TrapKind};
 ghost use Rattle.zpl_nums.specs.declared.ends.TrapKind.TheVariants.{DivideByZero};
 ghost use Rattle.zpl_arrays.specs.Array.{Array};
 ghost use Rattle.zpl_region.specs.declared.regions.Region.{Region};
-ghost use Rattle.zpl_tree.specs.Syntax.{Expr, Exprs, ForHead, Item, Name, Return, Write};
+ghost use Rattle.zpl_tree.specs.Syntax.{Expr, Exprs, Form, ForHead, Item, Name, Return, Write};
+ghost use Rattle.zpl_names.specs.Counts.{form_nodes};
+ghost use Rattle.zpl_names.specs.Kinds.{Rank};
 ghost use Rattle.zpl_names.specs.Sites.{Role};
 ghost use Rattle.zpl_meaning.specs.Computed.{Gives, Traps};
 ghost use Rattle.zpl_meaning.specs.Store.{ArrayAt, Scalar, Store};
-ghost use Rattle.zpl_meaning.specs.Context.{Edge, Place};
+ghost use Rattle.zpl_meaning.specs.Context.{Edge, Over, Place};
+ghost use Rattle.zpl_meaning.specs.Outcome.{counting, Outcome};
+ghost use Rattle.zpl_meaning.specs.Points.{shattered_at};
 ghost use Rattle.zpl_meaning.specs.Term.{Terms};
 ghost use Rattle.zpl_meaning.specs.Settled.{Placed, settled_each};
 ghost use Rattle.zpl_meaning.specs.Fields.{Field, fields_of};
@@ -18,12 +22,13 @@ ghost use Rattle.zpl_meaning.specs.Statement.{assign_to, border_thing, Context, 
 ghost use Rattle.zpl_meaning.specs.Statement.{head_value, line_of, Start, test_of};
 ghost use Rattle.meaning_phases.specs.Phased.{IsComputedIn, IsRunIn};
 ghost use Rattle.meaning_phases.specs.Statements.{actuals, answer, array_assignment, border, head};
-ghost use Rattle.meaning_phases.specs.Statements.{print, scalar_assignment, test};
+ghost use Rattle.meaning_phases.specs.Statements.{print, scalar_assignment, split, test};
 ghost use Rattle.meaning_phases.specs.Trapping.{HaveNoRemap, IsRegionTrap, IsValueTrap};
 
 /// An assignment to a scalar or to an array, a print, a border statement of one array and a
 /// `return` go through their phases one after another: the first that fails gives the trap, and
-/// then nothing is written or printed; where none fails, all is.
+/// then nothing is written or printed; where none fails, all is. So does a shattered statement before
+/// its tuples run.
 pub fn statements_go_through_their_phases()
     ensures scalars { (place : Place) (role : Role) (target : ℕ) (value : Expr) (line : ℕ)
         (store : Store) →
@@ -41,6 +46,10 @@ pub fn statements_go_through_their_phases()
         (store : Store) →
         IsRunIn (border kind edge target store) store line
         (border_thing kind (Some edge) (Some (ArrayAt target home)) line store) }
+    ensures shattered { (place : Place) (rank : Rank) (over : Over) (line n : ℕ) (form : Form)
+        (store : Store) →
+        (outcome : Outcome) × IsRunIn (split place rank over line n form store) store line outcome ×
+        (shattered_at place rank over line n form store ≡ counting (form_nodes form) outcome) }
     ensures answers { (context : Context) (n at : ℕ) (value : Expr) (store : Store) →
         IsRunIn (answer context.place value store) store (line_of context.place at)
         (exec_form context n at (Return value) store) }
