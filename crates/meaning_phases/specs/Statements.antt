@@ -92,8 +92,8 @@ border kind edge target store =
 
 -- ---- shattered statements
 
--- The arrays that it writes and its mask are references too. Behind its phases all tuples that aren't
--- masked out run: what they do is its effect, and may be a trap, or more.
+-- The arrays that it writes and its mask are references too. Behind its phases all tuples that
+-- aren't masked out run: what they do is its effect, and may be a trap, or more.
 abbrev pub split : Place → Rank → Over → ℕ → ℕ → Form → Store → Phases (List Field) Outcome
 split place rank over line n form store =
     let parts = form_parts form in

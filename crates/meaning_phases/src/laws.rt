@@ -27,8 +27,8 @@ ghost use Rattle.meaning_phases.specs.Trapping.{HaveNoRemap, IsRegionTrap, IsVal
 
 /// An assignment to a scalar or to an array, a print, a border statement of one array and a
 /// `return` go through their phases one after another: the first that fails gives the trap, and
-/// then nothing is written or printed; where none fails, all is. So does a shattered statement before
-/// its tuples run.
+/// then nothing is written or printed; where none fails, all is. So does a shattered statement
+/// before its tuples run.
 pub fn statements_go_through_their_phases()
     ensures scalars { (place : Place) (role : Role) (target : ℕ) (value : Expr) (line : ℕ)
         (store : Store) →

@@ -382,11 +382,14 @@ module _ (laws : RankLaws) where
     shaped_actual by_ref base shape (Number at value) rest some h f = absurd (true≢false (sym f))
     shaped_actual by_ref base shape (Truth at value) rest some h f = absurd (true≢false (sym f))
     shaped_actual by_ref base shape (Coord at k) rest some h f = absurd (true≢false (sym f))
-    shaped_actual by_ref base shape (Shifted at read shift) rest some h f = absurd (true≢false (sym f))
-    shaped_actual by_ref base shape (Around at read shift) rest some h f = absurd (true≢false (sym f))
+    shaped_actual by_ref base shape (Shifted at read shift) rest some h f =
+        absurd (true≢false (sym f))
+    shaped_actual by_ref base shape (Around at read shift) rest some h f =
+        absurd (true≢false (sym f))
     shaped_actual by_ref base shape (Remap at read indices) rest some h f =
         absurd (true≢false (sym f))
-    shaped_actual by_ref base shape (Call at callee inner) rest some h f = absurd (true≢false (sym f))
+    shaped_actual by_ref base shape (Call at callee inner) rest some h f =
+        absurd (true≢false (sym f))
     shaped_actual by_ref base shape (Paren at inside) rest some h f = absurd (true≢false (sym f))
     shaped_actual by_ref base shape (Neg at operand) rest some h f = absurd (true≢false (sym f))
     shaped_actual by_ref base shape (Not at operand) rest some h f = absurd (true≢false (sym f))
@@ -401,8 +404,9 @@ module _ (laws : RankLaws) where
         absurd (true≢false (sym f))
 
     shaped_actuals : (formals : List Formal) (actuals : Exprs)
-        → AllByRecursion IsKnownFormal formals → all_fit reach formals actuals ≡ true → Clean (actuals_sites reach actuals)
-        → AreExprs actuals → AreShapedActuals place formals actuals
+        → AllByRecursion IsKnownFormal formals → all_fit reach formals actuals ≡ true
+        → Clean (actuals_sites reach actuals) → AreExprs actuals
+        → AreShapedActuals place formals actuals
     shaped_actuals [] NoExpr k f h g = tt
     shaped_actuals [] (ThenExpr actual rest) k f h g = tt
     shaped_actuals (formal ∷ formals) NoExpr k f h g = tt
@@ -810,15 +814,17 @@ module _ (laws : RankLaws) where
   above_is_array (Some (suc n)) e le = array_rank_is (Some (suc n)) refl refl le
 
   -- the rank of a statement's tests is that of the shattered one around it
-  pub test_same : (around : Reach) (n : ℕ) (test : Expr) → is_above_zero (test_rank around test) ≡ true
-      → broken_test around (Some (suc n)) test ≡ [] → test_rank around test ≡ Some (suc n)
+  pub test_same : (around : Reach) (n : ℕ) (test : Expr)
+      → is_above_zero (test_rank around test) ≡ true → broken_test around (Some (suc n)) test ≡ []
+      → test_rank around test ≡ Some (suc n)
   test_same around n test e b =
       above_same (test_rank around test) n e
       (or_false (not (is_elementwise test)) (ranks_clash (Some (suc n)) (test_rank around test))
       (no_place (not (is_elementwise test) || ranks_clash (Some (suc n)) (test_rank around test)) _
       b)).1
 
-  pub arms_same : (around : Reach) (n : ℕ) (arms : Arms) → is_above_zero (arms_rank around arms) ≡ true
+  pub arms_same : (around : Reach) (n : ℕ) (arms : Arms)
+      → is_above_zero (arms_rank around arms) ≡ true
       → broken_arms around (Some (suc n)) arms ≡ [] → arms_rank around arms ≡ Some (suc n)
   arms_same around n NoArm e b = absurd (true≢false (sym e))
   arms_same around n (ThenArm (Tested at test body) rest) e b =
@@ -979,32 +985,36 @@ module _ (laws : RankLaws) where
       → IsClean (AtStmt (reach_at place shapes shattered result) at prefixes form)
       → Clean (form_sites (reach_at place shapes shattered result) form) → IsForm form
       → IsRankedForm place form
-  form_ranked (Assign name op value) at prefixes place shapes shattered result fits known formals s b h k
-      g =
+  form_ranked (Assign name op value) at prefixes place shapes shattered result fits known formals s
+      b h k g =
       assigned place shapes shattered result fits known name op value at prefixes formals h k g.1
-  form_ranked (Invoke name actuals) at prefixes place shapes shattered result fits known formals s b h k
-      g =
+  form_ranked (Invoke name actuals) at prefixes place shapes shattered result fits known formals s
+      b h k g =
       call_of place shapes shattered result fits known AsStatement name actuals formals k.0 k.1 g
-  form_ranked (Block body) at prefixes place shapes shattered result fits known formals s b h k g = tt
-  form_ranked (If arms otherwise) at prefixes place shapes shattered result fits known formals s b h k g =
+  form_ranked (Block body) at prefixes place shapes shattered result fits known formals s
+      b h k g = tt
+  form_ranked (If arms otherwise) at prefixes place shapes shattered result fits known formals s
+      b h k g =
       if_ranked arms otherwise at prefixes place shapes shattered result fits known s h k g
       (is_shattered (reach_at place shapes shattered result) (If arms otherwise)) refl
-  form_ranked (While test body) at prefixes place shapes shattered result fits known formals s b h k g =
+  form_ranked (While test body) at prefixes place shapes shattered result fits known formals s
+      b h k g =
       let reach = reach_at place shapes shattered result in
       let inner = inside reach (test_rank reach test) in
       while_ranked test body at prefixes place shapes shattered result fits known s h
       (each_left IsClean (whole_sites reach TestRole test) (stmts_sites inner body) k)
       (each_right IsClean (whole_sites reach TestRole test) (stmts_sites inner body) k) g.0 g.1
       (is_above_zero (test_rank reach test)) refl
-  form_ranked (Repeat body until test) at prefixes place shapes shattered result fits known formals s b h
-      k g =
+  form_ranked (Repeat body until test) at prefixes place shapes shattered result fits known formals
+      s b h k g =
       let reach = reach_at place shapes shattered result in
       let inner = inside reach (test_rank reach test) in
       repeat_ranked test body until at prefixes place shapes shattered result fits known s h
       (each_right IsClean (stmts_sites inner body) (whole_sites reach TestRole test) k)
       (each_left IsClean (stmts_sites inner body) (whole_sites reach TestRole test) k) g.1 g.0
       (is_above_zero (test_rank reach test)) refl
-  form_ranked (For head body) at prefixes place shapes shattered result fits known formals s b h k g =
+  form_ranked (For head body) at prefixes place shapes shattered result fits known formals s
+      b h k g =
       let reach = reach_at place shapes shattered result in
       let firsts = whole_sites reach Limit head.first in
       let lasts = whole_sites reach Limit head.last in
@@ -1019,14 +1029,16 @@ module _ (laws : RankLaws) where
         step_ranked place shapes shattered result fits known head.step
             (each_right IsClean (firsts ++ lasts) steps three) g.0.2,
       )
-  form_ranked (Border border names) at prefixes place shapes shattered result fits known formals s b h k
-      g =
+  form_ranked (Border border names) at prefixes place shapes shattered result fits known formals s
+      b h k g =
       arrays_of place shapes shattered result fits known names
       (b (not_false (ends_in_border prefixes)
       (no_place (not (ends_in_border prefixes)) _ h.none.borders))) h.none.known h.none.ranks
-  form_ranked (Write line items) at prefixes place shapes shattered result fits known formals s b h k g =
+  form_ranked (Write line items) at prefixes place shapes shattered result fits known formals s
+      b h k g =
       items_of place shapes shattered result fits known items k g
-  form_ranked (Return value) at prefixes place shapes shattered result fits known formals s b h k g =
+  form_ranked (Return value) at prefixes place shapes shattered result fits known formals s
+      b h k g =
       whole_of place shapes shattered result fits known place.prefix value k.1 g
 
   -- ---- prefixes

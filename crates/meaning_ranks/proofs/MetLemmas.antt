@@ -1,4 +1,5 @@
--- Where a run comes to, the current regions are as the text says: so prints and borders have no mask.
+-- Where a run comes to, the current regions are as the text says: so prints and borders have no
+-- mask.
 use Rattle.std.proofs.Common.{◌≡◌, ℕ, suc, false, List, [], ◌∷◌, map, Option}
 use Rattle.std.proofs.Common.{IsSome, Some, None, length, refl, sym, ap, subst}
 use Rattle.std.specs.List.{list_any}

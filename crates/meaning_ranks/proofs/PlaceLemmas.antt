@@ -198,7 +198,8 @@ module _ (program : Program) (text : List ℕ) (around : Shapes) where
   form_part (If arms otherwise) at prefixes place shapes shattered result part fits known h g m =
       let reach = reach_at place shapes shattered result in
       let within = inside reach (arms_rank reach arms) in
-      let own = each_left Here (arms_sites reach within arms) (otherwise_sites within otherwise) h in
+      let own = each_left Here (arms_sites reach within arms) (otherwise_sites within otherwise) h
+      in
       let found = elim (split (arms_parts arms) (else_parts otherwise) part m)
       as (λ _. Each Here (stmt_sites within part) × IsStmt part) [
         | inl m ↦ arms_part arms reach within part own g.1 m
@@ -530,8 +531,8 @@ module _ (program : Program) (settings : List Setting) (laws : Laws program)
     pub tree : IsStmt stmt
     pub sites : HasSites program text around (reach_at place shapes shattered result) stmt
 
-  pub found_routine : (text : List ℕ) (routine : Routine) → routine_named program text ≡ Some routine
-      → Among (routines_of program) routine
+  pub found_routine : (text : List ℕ) (routine : Routine)
+      → routine_named program text ≡ Some routine → Among (routines_of program) routine
   found_routine text routine e =
       find_among (λ routine. bytes_eq routine.procedure.name.text text) (routines_of program)
       routine e

@@ -1,5 +1,5 @@
--- In a place that fits what the text says of it, what stands in expressions without faults has their
--- rank.
+-- In a place that fits what the text says of it, what stands in expressions without faults has
+-- their rank.
 use Rattle.std.proofs.Common.{◌≡◌, ℕ, zero, suc, ◌≤◌, Bool, true, false, cond, ◌||◌, ◌==◌}
 use Rattle.std.proofs.Common.{◌⊎◌, inl, inr, ℤ, pos, negsuc, List, [], ◌∷◌, length, Option, Some}
 use Rattle.std.proofs.Common.{None, option_map, IsSome, refl, sym, ap, ◌∙◌, subst, arith}

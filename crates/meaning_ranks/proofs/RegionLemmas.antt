@@ -1,4 +1,5 @@
--- Declared regions, as they are computed, have the rank and the flood dimensions that the text says.
+-- Declared regions, as they are computed, have the rank and the flood dimensions that the text
+-- says.
 use Rattle.std.proofs.Common.{◌≡◌, ℕ, zero, suc, ◌≤◌, Bool, true, false, cond, not, ◌||◌, ℤ, pos}
 use Rattle.std.proofs.Common.{inl, inr, List, [], ◌∷◌, ◌++◌, map, length, Option, Some, None}
 use Rattle.std.proofs.Common.{option_map, refl, sym, ap, ◌∙◌, subst, true≢false}
@@ -142,7 +143,12 @@ listed_entry [] [] text Nothing e = absurd (true≢false (sym e))
 listed_entry [] (r ∷ rs) text h e = elim h [ ]
 listed_entry (x ∷ xs) rs text (Skips entry other h) e =
     let found = listed_entry xs rs text h e in
-    record { entry = found.entry; there = inr found.there; named = found.named; region = found.region }
+    record {
+      entry = found.entry;
+      there = inr found.there;
+      named = found.named;
+      region = found.region;
+    }
 listed_entry (x ∷ xs) (r ∷ rs) text (Adds name shape outcome fits h) e =
     by (bytes_eq name.text text) (bytes_eq-Decides name.text text) e
     (listed_entry xs rs text h)
@@ -539,8 +545,8 @@ own_skip earlier procedure =
     (skip_flat (λ (param : Param). map (entry_for (variable_kind scope param.shape param.base))
     param.names) (λ param. variables_skip param.names scope param.shape param.base)
     procedure.params)
-    (skip_flat (λ (var : VarDef). map (entry_for (variable_kind scope var.shape var.base)) var.names)
-    (λ var. variables_skip var.names scope var.shape var.base) procedure.locals)
+    (skip_flat (λ (var : VarDef). map (entry_for (variable_kind scope var.shape var.base))
+    var.names) (λ var. variables_skip var.names scope var.shape var.base) procedure.locals)
   where
     skip_flat : {A : Type 0} (f : A → List Entry) → ((a : A) → Pairs (f a) []) → (list : List A)
         → Pairs (flat_map f list) []

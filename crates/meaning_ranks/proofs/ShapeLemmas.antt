@@ -288,8 +288,8 @@ dim_matches_in (Star at) environment store current region k found told e b s = b
 dim_matches_in (One index) environment store current region k found told e b s =
     by (value_in environment store index) e
   where
-    by : (value : Computed ℤ) → computed_then value (λ v. run.Gives (all_from v v)) ≡ run.Gives found
-        → is_flood found ≡ b
+    by : (value : Computed ℤ)
+        → computed_then value (λ v. run.Gives (all_from v v)) ≡ run.Gives found → is_flood found ≡ b
     by (run.Gives v) e = cc
     by (run.Traps kind) e = cc
 dim_matches_in (Span low high) environment store current region k found told e b s =

@@ -139,7 +139,8 @@ module _ (program : Program) (settings : List Setting) (laws : Laws program)
           ends
           k.0.clean (clean_of program h.text h.around
           (form_sites (reach_at inner under shattered result) form) k.1) g
-      by (Block body) inner under shattered result (InBody answer k) g ends fits known formals s = tt
+      by (Block body) inner under shattered result (InBody answer k) g ends fits known formals s =
+          tt
 
   pub visited_ranked : (place : Place) (stmt : Stmt)
       → IsVisited (first_setup program settings) place stmt → IsRankedStmt place stmt

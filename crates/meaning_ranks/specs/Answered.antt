@@ -10,7 +10,8 @@ use Rattle.zpl_meaning.specs.Calls.{Called}
 use Rattle.meaning_runs.specs.Met.{ComesUnder, IsMet, Opening}
 
 -- A `return` that the run comes to, in the procedure that was called and behind its prefixes; the
--- value there; and that value in the scalar that takes the answer, in the store that the call leaves.
+-- value there; and that value in the scalar that takes the answer, in the store that the call
+-- leaves.
 pub record HasAnswered (opening : Opening) (called : Called) (after : Store) : Type 0 where
   pub deeper : ℕ
   pub place : Place

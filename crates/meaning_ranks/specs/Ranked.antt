@@ -1,5 +1,5 @@
--- Where ranks agree: what stands in an expression has the rank of the expression, or is a scalar; and
--- each expression of a statement has a rank that its place takes.
+-- Where ranks agree: what stands in an expression has the rank of the expression, or is a scalar;
+-- and each expression of a statement has a rank that its place takes.
 use Rattle.std.specs.Prelude.{◌≡◌, ◌⊎◌, ◌≤◌, ℕ, Bool, true, false, ℤ, pos, List, [], ◌∷◌, Option}
 use Rattle.std.specs.Prelude.{Some, None, IsSome}
 use Rattle.zpl_nums.specs.declared.operators.Op.{Op}
