@@ -2,7 +2,8 @@
 """Each example prints, or is refused with, what the comment at its head says.
 
 Run it at the top of the repository: .ci/checks/examples.py. The program is built once, by `rt try`, and run for each example.
-A comment has a line `Prints:` or `Refused:`, and below it, indented by two more, what is told, line by line.
+A comment has a line `Prints:` or `Refused:`, and below it, indented by two more, what is told, line by line. Words behind the file
+stand in a line `Words: WORD ..` before that.
 """
 import glob
 import os
@@ -30,6 +31,12 @@ def told_in(text):
     return wanted, refused
 
 
+def words_in(text):
+    """The words behind the file with which the example is run."""
+    line = re.search(r"^(?:--|/\*)? *Words: (.*)$", text, re.MULTILINE)
+    return line[1].split() if line else []
+
+
 def sections(output):
     """What each case told, line by line, and its status."""
     found, lines = {}, []
@@ -52,8 +59,10 @@ def main():
         for path in examples:
             name = os.path.basename(path)
             shutil.copy(path, f"{place}/{name}")
+            with open(path, encoding="utf-8") as file:
+                words = words_in(file.read())
             with open(f"{place}/{name}.args", "w", encoding="utf-8") as file:
-                file.write("run\n{}\n")
+                file.write("".join(f"{word}\n" for word in ["run", "{}"] + words))
         ran = subprocess.run(["rt", "try", "--cases", place], cwd=CRATE, stdin=subprocess.DEVNULL,
                              stdout=subprocess.PIPE, stderr=subprocess.STDOUT, text=True, check=False)
     finally:

@@ -12,7 +12,9 @@ use Rattle.call_claims.specs.Cause.WorkCause.{refused, unbound, done, trap, turn
 use Rattle.call_claims.specs.Cause.ListCause.{not_listed, not_bound, listed}
 use Rattle.call_claims.specs.Cause.FileCause.{unreadable, too_long, work}
 use Rattle.call_claims.specs.Cause.Cause.{usage, no_memory, run, list}
-use Rattle.call_claims.specs.Command.{Command, RunWords, Run, Listing, IsCommand, IsNoCommand, file_of}
+use Rattle.zpl_binding.specs.Settings.{Setting}
+use Rattle.call_claims.specs.Command.{Asked, Command, Run, Listing, IsCommand, IsNoCommand, file_of}
+use Rattle.call_claims.specs.Command.{settings_of}
 use Rattle.call_claims.specs.Decided.{IsDecided, IsDone, IsSettled, NamesTooLong, NamesNoProgram}
 use Rattle.call_claims.specs.Decided.{NamesUnbound}
 use Rattle.call_claims.specs.Decided.{HasTrapped, RunsToTrap, RunsTooShort}
@@ -29,11 +31,11 @@ same_file : (words : List (List ℕ)) (one other : Command) → IsCommand words 
     → IsCommand words other → file_of one ≡ file_of other
 same_file words one other f g = ap file_of (command_is_one words one other f g)
 
-pub not_both : (words : List (List ℕ)) (file other : List ℕ) (rest : RunWords)
-    → IsCommand words (Run file rest) → IsCommand words (Listing other) → ⊥
-not_both words file other rest f g =
-    let same : Run file rest ≡ Listing other = command_is_one words (Run file rest) (Listing other) f g
-    in
+pub not_both : (words : List (List ℕ)) (file name : List ℕ) (asked other : Asked)
+    → IsCommand words (Run file asked) → IsCommand words (Listing name other) → ⊥
+not_both words file name asked other f g =
+    let same : Run file asked ≡ Listing name other =
+    command_is_one words (Run file asked) (Listing name other) f g in
     cc
 
 module _ (call : Call) (execution : Execution) where
@@ -51,8 +53,8 @@ module _ (call : Call) (execution : Execution) where
         → EndsAs (grid_at code [] execution.turns) (Trap kind line) → RunStatus code TRAPPED
     is_cut : ¬ IsOver (grid_at code [] execution.turns) → RunStatus code TURN_LIMIT
 
-  work_status : {text told : List ℕ} {limit status : ℕ} {code : Tables}
-      → WorkCause text limit execution status told → execution.code ≡ Some code
+  work_status : {text told : List ℕ} {settings : List Setting} {limit status : ℕ} {code : Tables}
+      → WorkCause text settings limit execution status told → execution.code ≡ Some code
       → RunStatus code status
   work_status (refused told refusal no_run) made = absurd (none_made no_run made)
   work_status (unbound told has no_run) made = absurd (none_made no_run made)
@@ -65,21 +67,21 @@ module _ (call : Call) (execution : Execution) where
       (subst (λ c. ¬ IsOver (grid_at c [] execution.turns)) (one_made h.run_of.made made)
       h.not_over)
 
-  file_status : {file told : List ℕ} {rest : RunWords} {status : ℕ} {code : Tables}
-      → RunCause call file rest execution status told → execution.code ≡ Some code
-      → RunStatus code status
+  file_status : {file told : List ℕ} {settings : List Setting} {limit status : ℕ} {code : Tables}
+      → FileCause call file execution (λ text. WorkCause text settings limit execution) status told
+      → execution.code ≡ Some code → RunStatus code status
   file_status (unreadable may no_run) made = absurd (none_made no_run made)
   file_status (too_long long no_run) made = absurd (none_made no_run made)
   file_status (work source cause) made = work_status cause made
 
-  run_status : {status : ℕ} {told file : List ℕ} {rest : RunWords} {code : Tables}
-      → Cause call execution status told → IsDecided status → IsCommand call.words (Run file rest)
+  run_status : {status : ℕ} {told file : List ℕ} {asked : Asked} {code : Tables}
+      → Cause call execution status told → IsDecided status → IsCommand call.words (Run file asked)
       → execution.code ≡ Some code → RunStatus code status
   run_status (usage none no_run) d given made = absurd (none_made no_run made)
   run_status no_memory d given made = absurd (d.memory refl)
   run_status (run r) d given made = file_status r.holds made
-  run_status {file = file} {rest = rest} (list l) d given made =
-      absurd (not_both call.words file l.file rest given l.given)
+  run_status {file = file} {asked = asked} (list l) d given made =
+      absurd (not_both call.words file l.file asked l.asked given l.given)
 
   was_done : {code : Tables} {status : ℕ} → RunStatus code status
       → EndsAs (grid_at code [] execution.turns) Done → status ≡ DONE
@@ -102,7 +104,7 @@ module _ (call : Call) (execution : Execution) where
   was_cut (is_cut not_over) h = refl
 
   -- ---- what a status says of the work
-  work_done : {text told : List ℕ} {limit status : ℕ} → WorkCause text limit execution status told
+  work_done : {text told : List ℕ} {settings : List Setting} {limit status : ℕ} → WorkCause text settings limit execution status told
       → status ≡ DONE → HasEnded execution Done
   work_done (refused told refusal no_run) e = absurd (omega arith)
   work_done (unbound told has no_run) e = absurd (omega arith)
@@ -110,7 +112,7 @@ module _ (call : Call) (execution : Execution) where
   work_done (trap kind line h) e = absurd (omega arith)
   work_done (turn_limit h) e = absurd (omega arith)
 
-  work_trap : {text told : List ℕ} {limit status : ℕ} → WorkCause text limit execution status told
+  work_trap : {text told : List ℕ} {settings : List Setting} {limit status : ℕ} → WorkCause text settings limit execution status told
       → status ≡ TRAPPED → HasTrapped execution
   work_trap (refused told refusal no_run) e = absurd (omega arith)
   work_trap (unbound told has no_run) e = absurd (omega arith)
@@ -123,16 +125,16 @@ module _ (call : Call) (execution : Execution) where
   )
   work_trap (turn_limit h) e = absurd (omega arith)
 
-  work_cut : {text told : List ℕ} {limit status : ℕ} → WorkCause text limit execution status told
-      → status ≡ TURN_LIMIT → IsCutShort text limit execution
+  work_cut : {text told : List ℕ} {settings : List Setting} {limit status : ℕ} → WorkCause text settings limit execution status told
+      → status ≡ TURN_LIMIT → IsCutShort text settings limit execution
   work_cut (refused told refusal no_run) e = absurd (omega arith)
   work_cut (unbound told has no_run) e = absurd (omega arith)
   work_cut (done h) e = absurd (omega arith)
   work_cut (trap kind line h) e = absurd (omega arith)
   work_cut (turn_limit h) e = h
 
-  work_no_program : {text told : List ℕ} {limit status : ℕ}
-      → WorkCause text limit execution status told → status ≡ REFUSED → IsRefused text
+  work_no_program : {text told : List ℕ} {settings : List Setting} {limit status : ℕ}
+      → WorkCause text settings limit execution status told → status ≡ REFUSED → IsRefused text settings
   work_no_program (refused told refusal no_run) e =
       record { none = refusal.none; not_unbound = refusal.not_unbound }
   work_no_program (unbound told has no_run) e = absurd (omega arith)
@@ -140,8 +142,8 @@ module _ (call : Call) (execution : Execution) where
   work_no_program (trap kind line h) e = absurd (omega arith)
   work_no_program (turn_limit h) e = absurd (omega arith)
 
-  work_refused : {text told : List ℕ} {limit status : ℕ}
-      → WorkCause text limit execution status told → IsRefused text → status ≡ REFUSED
+  work_refused : {text told : List ℕ} {settings : List Setting} {limit status : ℕ}
+      → WorkCause text settings limit execution status told → IsRefused text settings → status ≡ REFUSED
   work_refused (refused told refusal no_run) none = refl
   work_refused (unbound told has no_run) none = absurd (none.not_unbound (told, has))
   work_refused (done h) none = absurd (none.none h.run_of.of_text.program h.run_of.of_text.small)
@@ -150,16 +152,16 @@ module _ (call : Call) (execution : Execution) where
   work_refused (turn_limit h) none = absurd
       (none.none h.run_of.of_text.program h.run_of.of_text.small)
 
-  work_unbound : {text told : List ℕ} {limit status : ℕ}
-      → WorkCause text limit execution status told → status ≡ UNBOUND → HasUnbound text
+  work_unbound : {text told : List ℕ} {settings : List Setting} {limit status : ℕ}
+      → WorkCause text settings limit execution status told → status ≡ UNBOUND → HasUnbound text settings
   work_unbound (refused told refusal no_run) e = absurd (omega arith)
   work_unbound (unbound told has no_run) e = (told, has)
   work_unbound (done h) e = absurd (omega arith)
   work_unbound (trap kind line h) e = absurd (omega arith)
   work_unbound (turn_limit h) e = absurd (omega arith)
 
-  work_was_unbound : {text told : List ℕ} {limit status : ℕ}
-      → WorkCause text limit execution status told → HasUnbound text → status ≡ UNBOUND
+  work_was_unbound : {text told : List ℕ} {settings : List Setting} {limit status : ℕ}
+      → WorkCause text settings limit execution status told → HasUnbound text settings → status ≡ UNBOUND
   work_was_unbound (refused told refusal no_run) has = absurd (refusal.not_unbound has)
   work_was_unbound (unbound told is no_run) has = refl
   work_was_unbound (done h) has =
@@ -169,7 +171,7 @@ module _ (call : Call) (execution : Execution) where
   work_was_unbound (turn_limit h) has =
       absurd (has.1.none h.run_of.of_text.program h.run_of.of_text.small)
 
-  work_other : {text told : List ℕ} {limit status : ℕ} → WorkCause text limit execution status told
+  work_other : {text told : List ℕ} {settings : List Setting} {limit status : ℕ} → WorkCause text settings limit execution status told
       → (status ≢ USAGE) × (status ≢ TOO_LONG)
   work_other (refused told refusal no_run) = (λ e. omega arith, λ e. omega arith)
   work_other (unbound told has no_run) = (λ e. omega arith, λ e. omega arith)
@@ -178,50 +180,50 @@ module _ (call : Call) (execution : Execution) where
   work_other (turn_limit h) = (λ e. omega arith, λ e. omega arith)
 
   -- ---- of a listing
-  list_done : {text told : List ℕ} {status : ℕ} → ListCause text execution status told
+  list_done : {text told : List ℕ} {settings : List Setting} {status : ℕ} → ListCause text settings execution status told
       → status ≡ DONE → HasCode execution
   list_done (not_listed told refusal no_run) e = absurd (omega arith)
   list_done (not_bound told has no_run) e = absurd (omega arith)
   list_done (listed h) e = record { code = h.code; made = h.made }
 
-  list_made : {text told : List ℕ} {status : ℕ} → ListCause text execution status told
+  list_made : {text told : List ℕ} {settings : List Setting} {status : ℕ} → ListCause text settings execution status told
       → HasCode execution → status ≡ DONE
   list_made (not_listed told refusal no_run) has = absurd (none_made no_run has.made)
   list_made (not_bound told is no_run) has = absurd (none_made no_run has.made)
   list_made (listed h) has = refl
 
-  list_no_program : {text told : List ℕ} {status : ℕ} → ListCause text execution status told
-      → status ≡ REFUSED → IsRefused text
+  list_no_program : {text told : List ℕ} {settings : List Setting} {status : ℕ} → ListCause text settings execution status told
+      → status ≡ REFUSED → IsRefused text settings
   list_no_program (not_listed told refusal no_run) e =
       record { none = refusal.none; not_unbound = refusal.not_unbound }
   list_no_program (not_bound told has no_run) e = absurd (omega arith)
   list_no_program (listed h) e = absurd (omega arith)
 
-  list_refused : {text told : List ℕ} {status : ℕ} → ListCause text execution status told
-      → IsRefused text → status ≡ REFUSED
+  list_refused : {text told : List ℕ} {settings : List Setting} {status : ℕ} → ListCause text settings execution status told
+      → IsRefused text settings → status ≡ REFUSED
   list_refused (not_listed told refusal no_run) none = refl
   list_refused (not_bound told has no_run) none = absurd (none.not_unbound (told, has))
   list_refused (listed h) none = absurd (none.none h.of_text.program h.of_text.small)
 
-  list_unbound : {text told : List ℕ} {status : ℕ} → ListCause text execution status told
-      → status ≡ UNBOUND → HasUnbound text
+  list_unbound : {text told : List ℕ} {settings : List Setting} {status : ℕ} → ListCause text settings execution status told
+      → status ≡ UNBOUND → HasUnbound text settings
   list_unbound (not_listed told refusal no_run) e = absurd (omega arith)
   list_unbound (not_bound told has no_run) e = (told, has)
   list_unbound (listed h) e = absurd (omega arith)
 
-  list_was_unbound : {text told : List ℕ} {status : ℕ} → ListCause text execution status told
-      → HasUnbound text → status ≡ UNBOUND
+  list_was_unbound : {text told : List ℕ} {settings : List Setting} {status : ℕ} → ListCause text settings execution status told
+      → HasUnbound text settings → status ≡ UNBOUND
   list_was_unbound (not_listed told refusal no_run) has = absurd (refusal.not_unbound has)
   list_was_unbound (not_bound told is no_run) has = refl
   list_was_unbound (listed h) has = absurd (has.1.none h.of_text.program h.of_text.small)
 
-  list_other : {text told : List ℕ} {status : ℕ} → ListCause text execution status told
+  list_other : {text told : List ℕ} {settings : List Setting} {status : ℕ} → ListCause text settings execution status told
       → (status ≢ USAGE) × (status ≢ TOO_LONG)
   list_other (not_listed told refusal no_run) = (λ e. omega arith, λ e. omega arith)
   list_other (not_bound told has no_run) = (λ e. omega arith, λ e. omega arith)
   list_other (listed h) = (λ e. omega arith, λ e. omega arith)
 
-  list_no_run : {text told : List ℕ} {status : ℕ} → ListCause text execution status told
+  list_no_run : {text told : List ℕ} {settings : List Setting} {status : ℕ} → ListCause text settings execution status told
       → (status ≢ TRAPPED) × (status ≢ TURN_LIMIT)
   list_no_run (not_listed told refusal no_run) = (λ e. omega arith, λ e. omega arith)
   list_no_run (not_bound told has no_run) = (λ e. omega arith, λ e. omega arith)
@@ -253,19 +255,20 @@ module _ (call : Call) (execution : Execution) where
   done_of no_memory e = absurd (omega arith)
   done_of (run r) e =
       let on = file_work r.holds (λ f. omega arith) (λ f. omega arith) in
-      inl (record { file = r.file; rest = r.rest; given = r.given; holds = work_done on.1 e })
+      inl (record { file = r.file; asked = r.asked; given = r.given; holds = work_done on.1 e })
   done_of (list l) e =
       let on = file_work l.holds (λ f. omega arith) (λ f. omega arith) in
-      inr (record { file = l.file; given = l.given; holds = list_done on.1 e })
+      inr (record { file = l.file; asked = l.asked; given = l.given; holds = list_done on.1 e })
 
   was_listed : {status : ℕ} {told : List ℕ} → Cause call execution status told → IsDecided status
-      → Lists call (λ file. HasCode execution) → status ≡ DONE
+      → Lists call (λ file asked. HasCode execution) → status ≡ DONE
   was_listed (usage none no_run) d h = absurd (none_made no_run h.holds.made)
   was_listed no_memory d h = absurd (d.memory refl)
-  was_listed (run r) d h = absurd (not_both call.words r.file h.file r.rest r.given h.given)
+  was_listed (run r) d h = absurd (not_both call.words r.file h.file r.asked h.asked r.given h.given)
   was_listed (list l) d h = of_file l.holds
     where
-      of_file : {file told : List ℕ} {status : ℕ} → ListFileCause call file execution status told
+      of_file : {file told : List ℕ} {settings : List Setting} {status : ℕ}
+          → FileCause call file execution (λ text. ListCause text settings execution) status told
           → status ≡ DONE
       of_file (unreadable may no_run) = absurd (none_made no_run h.holds.made)
       of_file (too_long long no_run) = absurd (none_made no_run h.holds.made)
@@ -277,7 +280,7 @@ module _ (call : Call) (execution : Execution) where
   trap_of no_memory e = absurd (omega arith)
   trap_of (run r) e =
       let on = file_work r.holds (λ f. omega arith) (λ f. omega arith) in
-      record { file = r.file; rest = r.rest; given = r.given; holds = work_trap on.1 e }
+      record { file = r.file; asked = r.asked; given = r.given; holds = work_trap on.1 e }
   trap_of (list l) e =
       let on = file_work l.holds (λ f. omega arith) (λ f. omega arith) in
       absurd ((list_no_run on.1).0 e)
@@ -288,7 +291,7 @@ module _ (call : Call) (execution : Execution) where
   cut_of no_memory e = absurd (omega arith)
   cut_of (run r) e =
       let on = file_work r.holds (λ f. omega arith) (λ f. omega arith) in
-      record { file = r.file; rest = r.rest; given = r.given; holds = (on.0, work_cut on.1 e) }
+      record { file = r.file; asked = r.asked; given = r.given; holds = (on.0, work_cut on.1 e) }
   cut_of (list l) e =
       let on = file_work l.holds (λ f. omega arith) (λ f. omega arith) in
       absurd ((list_no_run on.1).1 e)
@@ -309,8 +312,8 @@ module _ (call : Call) (execution : Execution) where
       → IsNoCommand call.words → status ≡ USAGE
   was_usage (usage none no_run) d h = refl
   was_usage no_memory d h = absurd (d.memory refl)
-  was_usage (run r) d h = absurd (h (Run r.file r.rest) r.given)
-  was_usage (list l) d h = absurd (h (Listing l.file) l.given)
+  was_usage (run r) d h = absurd (h (Run r.file r.asked) r.given)
+  was_usage (list l) d h = absurd (h (Listing l.file l.asked) l.given)
 
   -- ---- of texts
   long_of : {status : ℕ} {told : List ℕ} → Cause call execution status told → status ≡ TOO_LONG
@@ -318,12 +321,12 @@ module _ (call : Call) (execution : Execution) where
   long_of (usage none no_run) e = absurd (omega arith)
   long_of no_memory e = absurd (omega arith)
   long_of (run r) e = record {
-    command = Run r.file r.rest;
+    command = Run r.file r.asked;
     given = r.given;
     holds = file_long r.holds (λ text cause. (work_other cause).1) e;
   }
   long_of (list l) e = record {
-    command = Listing l.file;
+    command = Listing l.file l.asked;
     given = l.given;
     holds = file_long l.holds (λ text cause. (list_other cause).1) e;
   }
@@ -334,10 +337,10 @@ module _ (call : Call) (execution : Execution) where
   not_program_of no_memory e = absurd (omega arith)
   not_program_of (run r) e =
       let on = file_work r.holds (λ f. omega arith) (λ f. omega arith) in
-      record { command = Run r.file r.rest; given = r.given; holds = (on.0, work_no_program on.1 e) }
+      record { command = Run r.file r.asked; given = r.given; holds = (on.0, work_no_program on.1 e) }
   not_program_of (list l) e =
       let on = file_work l.holds (λ f. omega arith) (λ f. omega arith) in
-      record { command = Listing l.file; given = l.given; holds = (on.0, list_no_program on.1 e) }
+      record { command = Listing l.file l.asked; given = l.given; holds = (on.0, list_no_program on.1 e) }
 
   unbound_of : {status : ℕ} {told : List ℕ} → Cause call execution status told
       → status ≡ UNBOUND → NamesUnbound call
@@ -345,10 +348,10 @@ module _ (call : Call) (execution : Execution) where
   unbound_of no_memory e = absurd (omega arith)
   unbound_of (run r) e =
       let on = file_work r.holds (λ f. omega arith) (λ f. omega arith) in
-      record { command = Run r.file r.rest; given = r.given; holds = (on.0, work_unbound on.1 e) }
+      record { command = Run r.file r.asked; given = r.given; holds = (on.0, work_unbound on.1 e) }
   unbound_of (list l) e =
       let on = file_work l.holds (λ f. omega arith) (λ f. omega arith) in
-      record { command = Listing l.file; given = l.given; holds = (on.0, list_unbound on.1 e) }
+      record { command = Listing l.file l.asked; given = l.given; holds = (on.0, list_unbound on.1 e) }
 
   -- the files tell at most one text under each name
   abbrev pub OneText : Type 0
@@ -373,11 +376,13 @@ module _ (call : Call) (execution : Execution) where
       absurd (omega (arith, source.short, h.holds.long, ap length same))
 
   -- where it names one with such a text
-  file_was : (one : Command) → IsCommand call.words one → (wanted : ℕ) (Fact : List ℕ → Type 0)
+  file_was : (one : Command) → IsCommand call.words one → (wanted : ℕ)
+      (Fact : List ℕ → List Setting → Type 0)
       → {W : Works} {told : List ℕ} {status : ℕ}
       → FileCause call (file_of one) execution W status told → IsSettled call status
-      → ((text : List ℕ) → W text status told → Fact text → status ≡ wanted)
-      → Names call (λ file. (source : Source call file) × Fact source.text) → status ≡ wanted
+      → ((text : List ℕ) → W text status told → Fact text (settings_of one) → status ≡ wanted)
+      → Names call (λ file settings. (source : Source call file) × Fact source.text settings)
+      → status ≡ wanted
   file_was one given wanted Fact (unreadable may no_run) settled was h =
       absurd (settled.read refl)
   file_was one given wanted Fact (too_long long no_run) settled was h =
@@ -387,33 +392,36 @@ module _ (call : Call) (execution : Execution) where
   file_was one given wanted Fact (work source cause) settled was h =
       let same : h.holds.0.text ≡ source.text = same_text settled.one h.command one h.given given
       h.holds.0.told source.told in
-      was source.text cause (subst Fact same h.holds.1)
+      let sets : settings_of h.command ≡ settings_of one =
+      ap settings_of (command_is_one call.words h.command one h.given given) in
+      was source.text cause (subst (λ text. Fact text (settings_of one)) same
+      (subst (Fact h.holds.0.text) sets h.holds.1))
 
   was_long : {status : ℕ} {told : List ℕ} → Cause call execution status told → IsSettled call status
       → NamesTooLong call → status ≡ TOO_LONG
   was_long (usage none no_run) d h = absurd (none h.command h.given)
   was_long no_memory d h = absurd (d.decided.memory refl)
-  was_long (run r) d h = file_was_long (Run r.file r.rest) r.given r.holds d h
-  was_long (list l) d h = file_was_long (Listing l.file) l.given l.holds d h
+  was_long (run r) d h = file_was_long (Run r.file r.asked) r.given r.holds d h
+  was_long (list l) d h = file_was_long (Listing l.file l.asked) l.given l.holds d h
 
   was_not_program : {status : ℕ} {told : List ℕ} → Cause call execution status told
       → IsSettled call status → NamesNoProgram call → status ≡ REFUSED
   was_not_program (usage none no_run) d h = absurd (none h.command h.given)
   was_not_program no_memory d h = absurd (d.decided.memory refl)
   was_not_program (run r) d h =
-      file_was (Run r.file r.rest) r.given REFUSED IsRefused r.holds d (λ text. work_refused) h
+      file_was (Run r.file r.asked) r.given REFUSED IsRefused r.holds d (λ text. work_refused) h
   was_not_program (list l) d h =
-      file_was (Listing l.file) l.given REFUSED IsRefused l.holds d (λ text. list_refused) h
+      file_was (Listing l.file l.asked) l.given REFUSED IsRefused l.holds d (λ text. list_refused) h
 
   was_unbound : {status : ℕ} {told : List ℕ} → Cause call execution status told
       → IsSettled call status → NamesUnbound call → status ≡ UNBOUND
   was_unbound (usage none no_run) d h = absurd (none h.command h.given)
   was_unbound no_memory d h = absurd (d.decided.memory refl)
   was_unbound (run r) d h =
-      file_was (Run r.file r.rest) r.given UNBOUND HasUnbound r.holds d
+      file_was (Run r.file r.asked) r.given UNBOUND HasUnbound r.holds d
       (λ text. work_was_unbound) h
   was_unbound (list l) d h =
-      file_was (Listing l.file) l.given UNBOUND HasUnbound l.holds d
+      file_was (Listing l.file l.asked) l.given UNBOUND HasUnbound l.holds d
       (λ text. list_was_unbound) h
 
   -- ---- exactly

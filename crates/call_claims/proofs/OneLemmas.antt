@@ -1,10 +1,18 @@
 -- A list of words gives one command, and a run has one number of turns.
-use Rattle.std.proofs.Common.{◌≡◌, ℕ, ◌<◌, List, [], ◌∷◌, drop, get_or, codes, sym, ◌∙◌, ap, subst, inl}
-use Rattle.std.proofs.Common.{inr, arith}
+use Rattle.std.proofs.Common.{◌≡◌, ℕ, ◌+◌, ◌<◌, Bool, true, false, ◌&&◌, ◌||◌, List, [], ◌∷◌, ◌++◌, length, take, drop, get_or}
+use Rattle.std.proofs.Common.{codes, IsTrue, Option, Some, None, refl, sym, ◌∙◌, ap, subst, inl, inr, arith, cond}
+use Rattle.std.proofs.Math.Seq.{take-append_seam, drop-append_seam}
+use Rattle.std.specs.List.{list_all, prefix_len}
+use Rattle.zpl_text.specs.Bytes.{is_word_start, is_word_byte}
+use Rattle.zpl_text.specs.Kinds.{IsWord}
+use Rattle.zpl_binding.specs.Settings.{Setting}
 use Rattle.node_form.specs.declared.tables.Tables.{Tables}
-use Rattle.call_claims.specs.Command.{RunWords, IsNumber, IsTurnsWord, AreRunWords, Command, Run, Listing}
-use Rattle.call_claims.specs.Command.{IsCommand}
+use Rattle.call_claims.specs.Command.{Asked, IsNumber, IsTurnsWord, IsSettingWord, Adds, AddAll}
+use Rattle.call_claims.specs.Command.Adds.{asks_turns, sets}
+use Rattle.call_claims.specs.Command.AddAll.{no_more, one_more}
+use Rattle.call_claims.specs.Command.{AskFor, Command, Run, Listing, IsCommand}
 use Rattle.call_claims.specs.Run.{IsRun}
+use Rattle.call_claims.specs.Setting.{setting_in, set_by}
 
 number_is_one : (text : List ℕ) (n m : ℕ) → IsNumber text n → IsNumber text m → n ≡ m
 number_is_one text n m f g = f.value ∙ sym g.value
@@ -14,39 +22,124 @@ turns_are_one word n m f g =
     let same : f.digits ≡ g.digits = ap (drop 6) (sym f.split ∙ g.split) in
     number_is_one g.digits n m (subst (λ d. IsNumber d n) same f.number) g.number
 
-words_are_one : (words : List (List ℕ)) (one other : RunWords) → AreRunWords words one
-    → AreRunWords words other → one ≡ other
-words_are_one [] one other f g = ap (λ n. record { turns = n }) (f ∙ sym g)
-words_are_one (word ∷ []) one other f g = ap (λ n. record { turns = n })
-    (turns_are_one word one.turns other.turns f g)
-words_are_one (word ∷ next ∷ words) one other f g = absurd f
+-- ---- settings
+both : (a b : Bool) → IsTrue (a && b) → IsTrue a × IsTrue b
+both true b h = (refl, h)
+both false b h = cc
 
-run_is_one_command : (words : List (List ℕ)) (file name : List ℕ) (one other : RunWords)
+either : (a b : Bool) → IsTrue a → IsTrue (a || b)
+either true b h = refl
+either false b h = cc
+
+and_true : (a b : Bool) → IsTrue a → IsTrue b → IsTrue (a && b)
+and_true true b h i = i
+and_true false b h i = cc
+
+word_bytes : (name : List ℕ) → IsWord name → IsTrue (list_all is_word_byte name)
+word_bytes [] is = absurd is
+word_bytes (b ∷ after) is =
+    and_true (is_word_byte b) (list_all is_word_byte after)
+    (either (is_word_start b) _ is.0) is.1
+
+one_further : (b : Bool) (n m : ℕ) → IsTrue b → n ≡ m → cond b (1 + n) 0 ≡ 1 + m
+one_further true n m h e = ap (λ k. 1 + k) e
+one_further false n m h e = cc
+
+-- the bytes of a word, where none follows
+whole_word : (name rest : List ℕ) → IsTrue (list_all is_word_byte name)
+    → prefix_len is_word_byte rest ≡ 0 → prefix_len is_word_byte (name ++ rest) ≡ length name
+whole_word [] rest all ends = ends
+whole_word (b ∷ name) rest all ends =
+    let parts = both (is_word_byte b) (list_all is_word_byte name) all in
+    one_further (is_word_byte b) (prefix_len is_word_byte (name ++ rest)) (length name) parts.0
+    (whole_word name rest parts.1 ends) ∙ grind arith
+
+-- a setting's word sets that
+pub set_word : (word : List ℕ) (setting : Setting) → IsSettingWord word setting
+    → setting_in word ≡ Some setting
+set_word word setting is =
+    let rest : List ℕ = codes ":=" ++ setting.value in
+    let at : prefix_len is_word_byte (setting.name ++ rest) ≡ length setting.name =
+    whole_word setting.name rest (word_bytes setting.name is.named.0) refl in
+    let here : setting_in word ≡ setting_in (setting.name ++ rest) = ap setting_in is.split in
+    let cut : setting_in (setting.name ++ rest)
+    ≡ set_by (take (length setting.name) (setting.name ++ rest))
+    (drop (length setting.name) (setting.name ++ rest)) =
+    ap (λ n. set_by (take n (setting.name ++ rest)) (drop n (setting.name ++ rest))) at in
+    let front : set_by (take (length setting.name) (setting.name ++ rest))
+    (drop (length setting.name) (setting.name ++ rest)) ≡ set_by setting.name rest =
+    ap (λ n. set_by n (drop (length setting.name) (setting.name ++ rest))) (take-append_seam setting.name rest)
+    ∙ ap (set_by setting.name) (drop-append_seam setting.name rest) in
+    here ∙ (cut ∙ front)
+
+-- and that of turns sets nothing
+pub turns_word : (word : List ℕ) (n : ℕ) → IsTurnsWord word n → setting_in word ≡ None
+turns_word word n is = ap setting_in is.split
+
+-- ---- words
+pub adds_one : (before : Asked) (word : List ℕ) (one other : Asked) → Adds before word one
+    → Adds before word other → one ≡ other
+adds_one before word one other (asks_turns n f u) (asks_turns m g v) =
+    ap (λ k. record { turns = Some k; settings = before.settings }) (turns_are_one word n m f g)
+adds_one before word one other (asks_turns n f u) (sets setting g) =
+    let no : None ≡ Some setting = sym (turns_word word n f) ∙ set_word word setting g in absurd cc
+adds_one before word one other (sets setting f) (asks_turns m g v) =
+    let no : None ≡ Some setting = sym (turns_word word m g) ∙ set_word word setting f in absurd cc
+adds_one before word one other (sets setting f) (sets another g) =
+    let same : Some setting ≡ Some another = sym (set_word word setting f) ∙ set_word word another g
+    in
+    let is : setting ≡ another = cc in
+    ap (λ s. record { turns = before.turns; settings = before.settings ++ s ∷ [] }) is
+
+pub add_all_one : (words : List (List ℕ)) (before one other : Asked) → AddAll before words one
+    → AddAll before words other → one ≡ other
+add_all_one [] before one other no_more no_more = refl
+add_all_one (word ∷ words) before one other (one_more {next = next} a f) (one_more {next = more} b g) =
+    add_all_one words more one other
+    (subst (λ n. AddAll n words one) (adds_one before word next more a b) f) g
+
+asked_one : (words others : List (List ℕ)) (one other : Asked) → words ≡ others → AskFor words one
+    → AskFor others other → one ≡ other
+asked_one words others one other same f g =
+    add_all_one others _ one other (subst (λ ws. AskFor ws one) same f) g
+
+-- ---- commands
+run_is_one_command : (words : List (List ℕ)) (file name : List ℕ) (one other : Asked)
     → IsCommand words (Run file one) → IsCommand words (Run name other) → Run file one ≡ Run name other
 run_is_one_command words file name one other f g =
     let same : codes "run" ∷ file ∷ f.more ≡ codes "run" ∷ name ∷ g.more = sym f.split ∙ g.split in
     let files : file ≡ name = cc in
     let mores : f.more ≡ g.more = cc in
-    let rests : one ≡ other = words_are_one g.more one other
-    (subst (λ more. AreRunWords more one) mores f.are) g.are in
-    ap (λ x. Run x one) files ∙ ap (Run name) rests
+    ap (λ x. Run x one) files ∙ ap (Run name) (asked_one f.more g.more one other mores f.are g.are)
 
-not_run_and_list : (words : List (List ℕ)) (file name : List ℕ) (rest : RunWords)
-    → IsCommand words (Run file rest) → IsCommand words (Listing name) → ⊥
-not_run_and_list words file name rest f g =
+list_is_one_command : (words : List (List ℕ)) (file name : List ℕ) (one other : Asked)
+    → IsCommand words (Listing file one) → IsCommand words (Listing name other)
+    → Listing file one ≡ Listing name other
+list_is_one_command words file name one other f g =
+    let same : codes "list" ∷ file ∷ f.more ≡ codes "list" ∷ name ∷ g.more = sym f.split ∙ g.split in
+    let files : file ≡ name = cc in
+    let mores : f.more ≡ g.more = cc in
+    ap (λ x. Listing x one) files
+    ∙ ap (Listing name) (asked_one f.more g.more one other mores f.are g.are)
+
+not_run_and_list : (words : List (List ℕ)) (file name : List ℕ) (asked other : Asked)
+    → IsCommand words (Run file asked) → IsCommand words (Listing name other) → ⊥
+not_run_and_list words file name asked other f g =
     let same : 114 ≡ 108 = ap (λ (ws : List (List ℕ)). get_or (get_or ws 0 []) 0 0) (sym f.split ∙ g.split) in
     omega (arith, same)
 
 pub command_is_one : (words : List (List ℕ)) (one other : Command) → IsCommand words one
     → IsCommand words other → one ≡ other
-command_is_one words (Run file one) (Run name other) f g = run_is_one_command words file name one other f g
-command_is_one words (Run file rest) (Listing name) f g = absurd (not_run_and_list words file name rest f g)
-command_is_one words (Listing file) (Run name rest) f g = absurd (not_run_and_list words name file rest g f)
-command_is_one words (Listing file) (Listing name) f g =
-    let same : codes "list" ∷ file ∷ [] ≡ codes "list" ∷ name ∷ [] = sym f.split ∙ g.split in
-    let files : file ≡ name = cc in
-    ap Listing files
+command_is_one words (Run file one) (Run name other) f g =
+    run_is_one_command words file name one other f g
+command_is_one words (Run file one) (Listing name other) f g =
+    absurd (not_run_and_list words file name one other f g)
+command_is_one words (Listing file one) (Run name other) f g =
+    absurd (not_run_and_list words name file other one g f)
+command_is_one words (Listing file one) (Listing name other) f g =
+    list_is_one_command words file name one other f g
 
+-- ---- runs
 no_later : (code : Tables) (order : List ℕ) (limit k j : ℕ) → IsRun code order limit k
     → IsRun code order limit j → k < j → ⊥
 no_later code order limit k j f g less = elim f.ends

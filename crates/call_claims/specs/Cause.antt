@@ -6,12 +6,13 @@ use Rattle.zpl_nums.specs.declared.ends.End.TheVariants.{Done, Trap, More}
 use Rattle.zpl_nums.specs.declared.ends.TrapKind.{TrapKind}
 use Rattle.zpl_text.specs.declared.TheConstants.{MOST_SOURCE}
 use Rattle.node_form.specs.declared.tables.Tables.{Tables}
+use Rattle.zpl_binding.specs.Settings.{Setting}
 use Rattle.zpl_meaning.specs.Program.{Meaning, mean_of, steps_of}
 use Rattle.grid_meaning.specs.Grid.{EndsAs, IsOver}
 use Rattle.zpl_names.specs.Expansion.{shattered_loops}
 use Rattle.zpl_claims.specs.Bound.{turn_bound}
 use Rattle.call_claims.specs.Call.{Call}
-use Rattle.call_claims.specs.Command.{Command, RunWords, Run, Listing, IsCommand, IsNoCommand, file_of}
+use Rattle.call_claims.specs.Command.{Asked, Command, Run, Listing, IsCommand, IsNoCommand, file_of, limit_of, settings_of}
 use Rattle.call_claims.specs.Execution.{Execution, HasNoRun}
 use Rattle.call_claims.specs.Refusal.{IsRefusal, IsUnbound}
 use Rattle.call_claims.specs.Run.{IsRun, grid_at}
@@ -24,17 +25,18 @@ use Rattle.call_claims.specs.declared.status.TheConstants.{NO_MEMORY}
 
 -- ---- the work on a text: code is made of it, and given turns within a limit
 -- Code was made of the text, and run.
-pub record IsRunOf (text : List ℕ) (limit : ℕ) (execution : Execution) : Type 0 where
+pub record IsRunOf (text : List ℕ) (settings : List Setting) (limit : ℕ) (execution : Execution)
+    : Type 0 where
   pub code : Tables
   pub made : execution.code ≡ Some code
-  pub of_text : IsCodeOf text code
+  pub of_text : IsCodeOf text settings code
   pub run : IsRun code [] limit execution.turns
 
 -- It is over, and has ended so.
-pub record IsOverAs (text : List ℕ) (limit : ℕ) (execution : Execution) (ending : End) : Type 0
-  where
-    pub run_of : IsRunOf text limit execution
-    pub ends : EndsAs (grid_at run_of.code [] execution.turns) ending
+pub record IsOverAs (text : List ℕ) (settings : List Setting) (limit : ℕ) (execution : Execution)
+    (ending : End) : Type 0 where
+  pub run_of : IsRunOf text settings limit execution
+  pub ends : EndsAs (grid_at run_of.code [] execution.turns) ending
 
 -- No bound that brings the meaning to its end brings the code to its end within so many turns.
 abbrev pub IsTooFew : ℕ → Tables → (ℕ → Meaning) → (ℕ → ℕ) → ℕ → Type 0
@@ -42,38 +44,43 @@ IsTooFew limit code mean steps loops =
     (n : ℕ) → (mean n).ending ≢ More → limit < turn_bound code steps loops n
 
 -- All turns were given, and it isn't over.
-pub record IsCutShort (text : List ℕ) (limit : ℕ) (execution : Execution) : Type 0 where
-  pub run_of : IsRunOf text limit execution
+pub record IsCutShort (text : List ℕ) (settings : List Setting) (limit : ℕ)
+    (execution : Execution) : Type 0 where
+  pub run_of : IsRunOf text settings limit execution
   pub all : execution.turns ≡ limit
   pub not_over : ¬ IsOver (grid_at run_of.code [] execution.turns)
   pub too_few : let program = run_of.of_text.program in
-      IsTooFew limit run_of.code (mean_of program []) (steps_of program []) (shattered_loops program)
+      IsTooFew limit run_of.code (mean_of program settings) (steps_of program settings)
+      (shattered_loops program)
 
-pub data WorkCause (text : List ℕ) (limit : ℕ) (execution : Execution) : ℕ → List ℕ → Type 0 where
-  refused : (told : List ℕ) → IsRefusal text told → HasNoRun execution
-      → WorkCause text limit execution REFUSED told
-  unbound : (told : List ℕ) → IsUnbound text told → HasNoRun execution
-      → WorkCause text limit execution UNBOUND told
-  done : IsOverAs text limit execution Done → WorkCause text limit execution DONE []
-  trap : (kind : TrapKind) (line : ℕ) → IsOverAs text limit execution (Trap kind line)
-      → WorkCause text limit execution TRAPPED (trap_text kind line)
-  turn_limit : IsCutShort text limit execution
-      → WorkCause text limit execution TURN_LIMIT turn_limit_text
+pub data WorkCause (text : List ℕ) (settings : List Setting) (limit : ℕ) (execution : Execution)
+    : ℕ → List ℕ → Type 0 where
+  refused : (told : List ℕ) → IsRefusal text settings told → HasNoRun execution
+      → WorkCause text settings limit execution REFUSED told
+  unbound : (told : List ℕ) → IsUnbound text settings told → HasNoRun execution
+      → WorkCause text settings limit execution UNBOUND told
+  done : IsOverAs text settings limit execution Done → WorkCause text settings limit execution DONE []
+  trap : (kind : TrapKind) (line : ℕ) → IsOverAs text settings limit execution (Trap kind line)
+      → WorkCause text settings limit execution TRAPPED (trap_text kind line)
+  turn_limit : IsCutShort text settings limit execution
+      → WorkCause text settings limit execution TURN_LIMIT turn_limit_text
 
 -- ---- a listing of the code that is made of a text
 -- Code was made of the text, and not run.
-pub record IsListed (text : List ℕ) (execution : Execution) : Type 0 where
-  pub code : Tables
-  pub made : execution.code ≡ Some code
-  pub of_text : IsCodeOf text code
-  pub no_turns : execution.turns ≡ 0
+pub record IsListed (text : List ℕ) (settings : List Setting) (execution : Execution) : Type 0
+  where
+    pub code : Tables
+    pub made : execution.code ≡ Some code
+    pub of_text : IsCodeOf text settings code
+    pub no_turns : execution.turns ≡ 0
 
-pub data ListCause (text : List ℕ) (execution : Execution) : ℕ → List ℕ → Type 0 where
-  not_listed : (told : List ℕ) → IsRefusal text told → HasNoRun execution
-      → ListCause text execution REFUSED told
-  not_bound : (told : List ℕ) → IsUnbound text told → HasNoRun execution
-      → ListCause text execution UNBOUND told
-  listed : IsListed text execution → ListCause text execution DONE []
+pub data ListCause (text : List ℕ) (settings : List Setting) (execution : Execution)
+    : ℕ → List ℕ → Type 0 where
+  not_listed : (told : List ℕ) → IsRefusal text settings told → HasNoRun execution
+      → ListCause text settings execution REFUSED told
+  not_bound : (told : List ℕ) → IsUnbound text settings told → HasNoRun execution
+      → ListCause text settings execution UNBOUND told
+  listed : IsListed text settings execution → ListCause text settings execution DONE []
 
 -- ---- the file of a command
 -- A text that the file tells is too long for a program.
@@ -93,34 +100,36 @@ pub data FileCause (call : Call) (file : List ℕ) (execution : Execution)
       → Works source.text status told → FileCause call file execution Works status told
 
 -- run FILE
-abbrev pub RunCause : Call → List ℕ → RunWords → Execution → ℕ → List ℕ → Type 0
-RunCause call file rest execution =
-    FileCause call file execution (λ text. WorkCause text rest.turns execution)
+abbrev pub RunCause : Call → List ℕ → Asked → Execution → ℕ → List ℕ → Type 0
+RunCause call file asked execution =
+    FileCause call file execution
+    (λ text. WorkCause text asked.settings (limit_of asked) execution)
 
 -- list FILE
-abbrev pub ListFileCause : Call → List ℕ → Execution → ℕ → List ℕ → Type 0
-ListFileCause call file execution =
-    FileCause call file execution (λ text. ListCause text execution)
+abbrev pub ListFileCause : Call → List ℕ → Asked → Execution → ℕ → List ℕ → Type 0
+ListFileCause call file asked execution =
+    FileCause call file execution (λ text. ListCause text asked.settings execution)
 
 -- ---- the command of the words
--- The words run a file, of which and of the words behind it this holds.
-pub record Runs (call : Call) (Holds : List ℕ → RunWords → Type 0) : Type 0 where
+-- The words run a file, of which and of what they ask for this holds.
+pub record Runs (call : Call) (Holds : List ℕ → Asked → Type 0) : Type 0 where
   pub file : List ℕ
-  pub rest : RunWords
-  pub given : IsCommand call.words (Run file rest)
-  pub holds : Holds file rest
+  pub asked : Asked
+  pub given : IsCommand call.words (Run file asked)
+  pub holds : Holds file asked
 
--- The words list a file, of which this holds.
-pub record Lists (call : Call) (Holds : List ℕ → Type 0) : Type 0 where
+-- The words list a file, of which and of what they ask for this holds.
+pub record Lists (call : Call) (Holds : List ℕ → Asked → Type 0) : Type 0 where
   pub file : List ℕ
-  pub given : IsCommand call.words (Listing file)
-  pub holds : Holds file
+  pub asked : Asked
+  pub given : IsCommand call.words (Listing file asked)
+  pub holds : Holds file asked
 
--- The words name a file, of which this holds, whatever they do with it.
-pub record Names (call : Call) (Holds : List ℕ → Type 0) : Type 0 where
+-- The words name a file, of which and of their settings this holds, whatever they do with it.
+pub record Names (call : Call) (Holds : List ℕ → List Setting → Type 0) : Type 0 where
   pub command : Command
   pub given : IsCommand call.words command
-  pub holds : Holds (file_of command)
+  pub holds : Holds (file_of command) (settings_of command)
 
 -- ---- any call
 -- The cause of a status, and what is told of it. A failed put is no cause of these.
@@ -128,8 +137,8 @@ pub data Cause (call : Call) (execution : Execution) : ℕ → List ℕ → Type
   usage : IsNoCommand call.words → HasNoRun execution → Cause call execution USAGE usage_text
   no_memory : Cause call execution NO_MEMORY no_memory_text
   run : {status : ℕ} {told : List ℕ}
-      → Runs call (λ file rest. RunCause call file rest execution status told)
+      → Runs call (λ file asked. RunCause call file asked execution status told)
       → Cause call execution status told
   list : {status : ℕ} {told : List ℕ}
-      → Lists call (λ file. ListFileCause call file execution status told)
+      → Lists call (λ file asked. ListFileCause call file asked execution status told)
       → Cause call execution status told

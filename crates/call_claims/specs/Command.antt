@@ -1,10 +1,14 @@
 -- The commands that a list of words gives.
-use Rattle.std.specs.Prelude.{◌≡◌, ℕ, ◌≤◌, List, [], ◌∷◌, ◌++◌, length, codes, IsTrue}
+use Rattle.std.specs.Prelude.{◌≡◌, ℕ, ◌≤◌, List, [], ◌∷◌, ◌++◌, length, codes, IsTrue, Option, Some, None}
 use Rattle.std.specs.List.{list_all}
 use Rattle.std.specs.Char.{is_ascii_digit}
 use Rattle.std.specs.Str.Parse.{digits_value}
+use Rattle.zpl_tokens.specs.declared.Kind.TheVariants.{Name}
+use Rattle.zpl_text.specs.Kinds.{IsToken}
+use Rattle.zpl_binding.specs.Settings.{Setting}
 use Rattle.call_claims.specs.declared.limits.TheConstants.{MOST_DIGITS, MOST_TURNS}
 
+-- ---- words behind the file
 -- one to nineteen digits, with leading zeros allowed
 pub record IsNumber (text : List ℕ) (n : ℕ) : Type 0 where
   pub some : 1 ≤ length text
@@ -19,43 +23,80 @@ pub record IsTurnsWord (word : List ℕ) (n : ℕ) : Type 0 where
   pub number : IsNumber digits n
   pub within : n ≤ MOST_TURNS
 
--- ---- run FILE [turns=N]
--- what a run is told besides its file: how many turns round the processors may follow the order of
--- turns
-pub record RunWords : Type 0 where
-  pub turns : ℕ
+-- the word is a name of the language, which is no keyword, then `:=` and any text
+pub record IsSettingWord (word : List ℕ) (setting : Setting) : Type 0 where
+  pub named : IsToken setting.name Name
+  pub split : word ≡ setting.name ++ (codes ":=" ++ setting.value)
 
--- the words behind the file, in any order and each at most once: so far there is one at most
-abbrev pub AreRunWords : List (List ℕ) → RunWords → Type 0
-AreRunWords [] rest = rest.turns ≡ MOST_TURNS
-AreRunWords (word ∷ []) rest = IsTurnsWord word rest.turns
-AreRunWords (word ∷ other ∷ words) rest = ⊥
+-- What the words ask for: how many turns round the processors may follow the order of turns, where
+-- they tell it, and what configs are set to, in the order of the words.
+pub record Asked : Type 0 where
+  pub turns : Option ℕ
+  pub settings : List Setting
 
+abbrev pub nothing_asked : Asked
+nothing_asked = record { turns = None; settings = [] }
+
+-- One word more: turns are asked for once at most. Settings may be any, and a name may be set again:
+-- what is wrong with them is told of the text.
+pub data Adds (before : Asked) (word : List ℕ) : Asked → Type 0 where
+  asks_turns : (n : ℕ) → IsTurnsWord word n → before.turns ≡ None
+      → Adds before word (record { turns = Some n; settings = before.settings })
+  sets : (setting : Setting) → IsSettingWord word setting
+      → Adds before word
+      (record { turns = before.turns; settings = before.settings ++ setting ∷ [] })
+
+-- the words, one after another
+pub data AddAll : Asked → List (List ℕ) → Asked → Type 0 where
+  no_more : {asked : Asked} → AddAll asked [] asked
+  one_more : {before next last : Asked} {word : List ℕ} {words : List (List ℕ)}
+      → Adds before word next → AddAll next words last → AddAll before (word ∷ words) last
+
+-- the words behind the file, in any order
+abbrev pub AskFor : List (List ℕ) → Asked → Type 0
+AskFor words asked = AddAll nothing_asked words asked
+
+-- the most turns round the processors
+abbrev pub most_turns : Option ℕ → ℕ
+most_turns None = MOST_TURNS
+most_turns (Some n) = n
+
+abbrev pub limit_of : Asked → ℕ
+limit_of asked = most_turns asked.turns
+
+-- ---- run FILE [turns=N] [name:=value ..]
 -- The first word is the command, and the second names the file, whatever it holds.
-pub record IsRunCommand (words : List (List ℕ)) (file : List ℕ) (rest : RunWords) : Type 0 where
+pub record IsRunCommand (words : List (List ℕ)) (file : List ℕ) (asked : Asked) : Type 0 where
   pub more : List (List ℕ)
   pub split : words ≡ codes "run" ∷ file ∷ more
-  pub are : AreRunWords more rest
+  pub are : AskFor more asked
 
--- ---- list FILE
--- The first word is the command, and the second names the file; there are no others so far.
-pub record IsListCommand (words : List (List ℕ)) (file : List ℕ) : Type 0 where
-  pub split : words ≡ codes "list" ∷ file ∷ []
+-- ---- list FILE [name:=value ..]
+pub record IsListCommand (words : List (List ℕ)) (file : List ℕ) (asked : Asked) : Type 0 where
+  pub more : List (List ℕ)
+  pub split : words ≡ codes "list" ∷ file ∷ more
+  pub are : AskFor more asked
+  pub no_turns : asked.turns ≡ None
 
 -- ---- what there is to do
 pub data Command : Type 0 where
-  Run : (file : List ℕ) (rest : RunWords) → Command
-  Listing : (file : List ℕ) → Command
+  Run : (file : List ℕ) (asked : Asked) → Command
+  Listing : (file : List ℕ) (asked : Asked) → Command
 
 -- the file that it names
 abbrev pub file_of : Command → List ℕ
-file_of (Run file rest) = file
-file_of (Listing file) = file
+file_of (Run file asked) = file
+file_of (Listing file asked) = file
+
+-- the settings of its words
+abbrev pub settings_of : Command → List Setting
+settings_of (Run file asked) = asked.settings
+settings_of (Listing file asked) = asked.settings
 
 -- the words give the command
 abbrev pub IsCommand : List (List ℕ) → Command → Type 0
-IsCommand words (Run file rest) = IsRunCommand words file rest
-IsCommand words (Listing file) = IsListCommand words file
+IsCommand words (Run file asked) = IsRunCommand words file asked
+IsCommand words (Listing file asked) = IsListCommand words file asked
 
 -- they give none
 abbrev pub IsNoCommand : List (List ℕ) → Type 0
@@ -64,4 +105,5 @@ IsNoCommand words = (command : Command) → ¬ IsCommand words command
 -- they ask for a listing, or for none
 pub record AsksListing (words : List (List ℕ)) : Type 0 where
   pub file : List ℕ
-  pub given : IsListCommand words file
+  pub asked : Asked
+  pub given : IsListCommand words file asked

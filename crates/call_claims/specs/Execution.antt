@@ -8,7 +8,7 @@ use Rattle.grid_meaning.specs.Grid.{EndsAs}
 use Rattle.listing_rows.specs.Listing.{listing_of}
 use Rattle.call_claims.specs.declared.ran.Ran.{Ran}
 use Rattle.call_claims.specs.Call.{Call}
-use Rattle.call_claims.specs.Command.{AsksListing, RunWords}
+use Rattle.call_claims.specs.Command.{Asked, AsksListing, limit_of}
 use Rattle.call_claims.specs.Run.{GoesOnTo, grid_at}
 use Rattle.call_claims.specs.Source.{IsCodeOf, Source}
 use Rattle.call_claims.specs.declared.status.TheConstants.{DONE}
@@ -34,17 +34,19 @@ pub record HasNoCounts (ran : Ran) : Type 0 where
   pub words : ran.words_sent ≡ 0
 
 -- ---- code
--- The code is made of a text that the file tells, and was given no more turns than the words allow.
-pub record IsMadeFor (call : Call) (file : List ℕ) (rest : RunWords) (turns : ℕ) (code : Tables)
+-- The code is made of a text that the file tells, under the settings of the words, and was given no
+-- more turns than they allow.
+pub record IsMadeFor (call : Call) (file : List ℕ) (asked : Asked) (turns : ℕ) (code : Tables)
     : Type 0 where
   pub source : Source call file
-  pub of_text : IsCodeOf source.text code
-  pub within : turns ≤ rest.turns
+  pub of_text : IsCodeOf source.text asked.settings code
+  pub within : turns ≤ limit_of asked
 
--- The code is made of a text that the file tells, and was not run.
-pub record IsListedFor (call : Call) (file : List ℕ) (turns : ℕ) (code : Tables) : Type 0 where
+-- The code is made of a text that the file tells, under the settings of the words, and was not run.
+pub record IsListedFor (call : Call) (file : List ℕ) (asked : Asked) (turns : ℕ) (code : Tables)
+    : Type 0 where
   pub source : Source call file
-  pub of_text : IsCodeOf source.text code
+  pub of_text : IsCodeOf source.text asked.settings code
   pub no_turns : turns ≡ 0
 
 -- some code was made

@@ -1,6 +1,6 @@
 -- From the parts of the compiler to code of a text.
-use Rattle.std.proofs.Common.{◌≡◌, ℕ, suc, ◌<◌, ◌≤◌, List, [], ◌∷◌, length, sum_by, Result, Ok, Err}
-use Rattle.std.proofs.Common.{IfErr, IsErrAnd, refl, sym, ap, subst, arith}
+use Rattle.std.proofs.Common.{◌≡◌, ◌↔◌, ℕ, suc, Bool, true, false, IsTrue, ◌<◌, ◌≤◌, List, [], ◌∷◌, length, sum_by, Result, Ok, Err}
+use Rattle.std.proofs.Common.{IfErr, IsErrAnd, refl, sym, ◌∙◌, ap, subst, arith}
 use Rattle.zpl_text.specs.declared.faults.LexFault.{LexFault}
 use Rattle.zpl_text.specs.declared.faults.LexFault.TheVariants as lex
 use Rattle.zpl_text.specs.declared.tokens.Token.{Token}
@@ -28,6 +28,7 @@ use Rattle.small_code.specs.declared.fault.CodeFault.TheVariants as code
 use Rattle.zpl_names.specs.Accepted.{FaultKind, HasFault as HasJudgeFault, IsFaultless}
 use Rattle.zpl_names.specs.Accepted as kind
 use Rattle.zpl_binding.specs.Outcome.{BindFault}
+use Rattle.zpl_binding.specs.Settings.{Setting}
 use Rattle.zpl_binding.specs.Outcome as bound
 use Rattle.zpl_binding.specs.Bound.{HasBindFault, IsAcceptedWith}
 use Rattle.rank_types.specs.declared.faults.Fault.{Fault}
@@ -85,7 +86,7 @@ pub code_is : (text : List ℕ) (tokens : List Token) (program : Program) (code 
     → OverAllLinks (λ links.
     EndsInBound code links (mean_of program []) (steps_of program []) (shattered_loops program))
     → (HoldsItsWords program → IsTidy one_processor program (length (program_words program)) code)
-    → IsCodeOf text code
+    → IsCodeOf text [] code
 code_is text tokens program code of_text few tree fit small good in_step in_time tidy =
     let holds : HoldsItsWords program =
     subst (λ t. sum_by (λ word. length (word_text word)) (program_words program) ≤ length t)
@@ -93,7 +94,14 @@ code_is text tokens program code of_text few tree fit small good in_step in_time
     let words = small_words text tokens program tree small in
     record {
       program = program;
-      small = record { tokens = tokens; of_text = of_text; few = few; tree = tree; small = small };
+      small = record {
+        tokens = tokens;
+        of_text = of_text;
+        few = few;
+        tree = tree;
+        small = small;
+        unset = refl;
+      };
       compiled = record {
         good = good;
         in_step = in_step;
@@ -105,15 +113,17 @@ code_is text tokens program code of_text few tree fit small good in_step in_time
 
 -- ---- refusals
 -- the fault that a `?` passes on
-pub passed_on : {A : Type 0} (text : List ℕ) (r : Result A Refusal) (refusal : Refusal)
-    → IsErrAnd r (λ f. f ≡ refusal) → Refuses text refusal → IfErr r (Refuses text)
-passed_on text (Ok v) refusal is h = tt
-passed_on text (Err f) refusal is h = subst (Refuses text) (sym is) h
+pub passed_on : {A : Type 0} (text : List ℕ) (settings : List Setting) (r : Result A Refusal)
+    (refusal : Refusal) → IsErrAnd r (λ f. f ≡ refusal) → Refuses text settings refusal
+    → IfErr r (Refuses text settings)
+passed_on text settings (Ok v) refusal is h = tt
+passed_on text settings (Err f) refusal is h = subst (Refuses text settings) (sym is) h
 
-pub lexical_refused : (text : List ℕ) (old new : List Token) (fault : LexFault) → NotBoth → old ≡ []
-    → Appends old new (LexRefuses text fault) → Refuses text (of_lex fault)
-lexical_refused text old new lex.NoMemory not_both empty appends = tt
-lexical_refused text old new fault not_both empty appends = record {
+pub lexical_refused : (text : List ℕ) (settings : List Setting) (old new : List Token)
+    (fault : LexFault) → NotBoth → old ≡ [] → Appends old new (LexRefuses text fault)
+    → Refuses text settings (of_lex fault)
+lexical_refused text settings old new lex.NoMemory not_both empty appends = tt
+lexical_refused text settings old new fault not_both empty appends = record {
   none = λ program small. not_both text small.tokens appends.tokens fault small.of_text
       appends.holds;
   not_unbound = λ has. not_both text has.1.tokens appends.tokens fault has.1.of_text
@@ -122,16 +132,18 @@ lexical_refused text old new fault not_both empty appends = record {
 }
 
 -- the tree of a small program is one of these tokens
-small_tree : (text : List ℕ) (tokens : List Token) (program : Program) → OneWay
-    → IsTokens text tokens → IsSmallText text program → IsShallowTree text tokens program
-small_tree text tokens program one_way of_text small =
+small_tree : (text : List ℕ) (settings : List Setting) (tokens : List Token) (program : Program)
+    → OneWay → IsTokens text tokens → IsSmallText text settings program
+    → IsShallowTree text tokens program
+small_tree text settings tokens program one_way of_text small =
     subst (λ ts. IsShallowTree text ts program)
     (one_way text small.tokens tokens small.of_text of_text) small.tree
 
 -- so is that of a program with a fault of its declarations
-unbound_tree : (text : List ℕ) (tokens : List Token) → OneWay → IsTokens text tokens
-    → (has : HasUnbound text) → IsShallowTree text tokens has.1.program
-unbound_tree text tokens one_way of_text has =
+unbound_tree : (text : List ℕ) (settings : List Setting) (tokens : List Token) → OneWay
+    → IsTokens text tokens → (has : HasUnbound text settings)
+    → IsShallowTree text tokens has.1.program
+unbound_tree text settings tokens one_way of_text has =
     subst (λ ts. IsShallowTree text ts has.1.program)
     (one_way text has.1.tokens tokens has.1.of_text of_text) has.1.tree
 
@@ -144,59 +156,66 @@ none_read text tokens r fault same exact is not_memory tree shallow =
     not_memory (subst (λ x. Reads x (same tree)) is (exact tree shallow))
 
 -- a text without a tree has no small program, and none with a fault of its declarations
-no_tree_refused : (text told : List ℕ) (tokens : List Token) → OneWay → IsTokens text tokens
-    → ((tree : Program) → ¬ IsShallowTree text tokens tree) → IsFault text told
-    → IsRefusal text told
-no_tree_refused text told tokens one_way of_text none fault = record {
-  none = λ program small. none program (small_tree text tokens program one_way of_text small);
-  not_unbound = λ has. none has.1.program (unbound_tree text tokens one_way of_text has);
+no_tree_refused : (text told : List ℕ) (settings : List Setting) (tokens : List Token) → OneWay
+    → IsTokens text tokens → ((tree : Program) → ¬ IsShallowTree text tokens tree)
+    → IsFault text settings told → IsRefusal text settings told
+no_tree_refused text told settings tokens one_way of_text none fault = record {
+  none = λ program small. none program
+      (small_tree text settings tokens program one_way of_text small);
+  not_unbound = λ has. none has.1.program (unbound_tree text settings tokens one_way of_text has);
   fault = fault;
 }
 
-pub parse_refused : {A : Type 0} (text : List ℕ) (tokens : List Token) (r : Result A ParseFault)
-    (fault : ParseFault) (same : Program → A → Type 0) → OneWay → IsTokens text tokens
+pub parse_refused : {A : Type 0} (text : List ℕ) (settings : List Setting) (tokens : List Token)
+    (r : Result A ParseFault) (fault : ParseFault) (same : Program → A → Type 0) → OneWay → IsTokens text tokens
     → ((tree : Program) → IsShallowTree text tokens tree → Reads r (same tree)) → r ≡ Err fault
     → ((at : ℕ) → r ≡ Err (parse.Syntax at) → IsSyntaxFault text tokens at)
-    → (r ≡ Err parse.TooDeep → IsTooDeep text tokens) → Refuses text (of_parse fault)
-parse_refused text tokens r (parse.Syntax at) same one_way of_text exact is wrong deep =
-    no_tree_refused text _ tokens one_way of_text
+    → (r ≡ Err parse.TooDeep → IsTooDeep text tokens) → Refuses text settings (of_parse fault)
+parse_refused text settings tokens r (parse.Syntax at) same one_way of_text exact is wrong deep =
+    no_tree_refused text _ settings tokens one_way of_text
     (none_read text tokens r (parse.Syntax at) same exact is (λ no. no))
     (syntax tokens at of_text (wrong at is))
-parse_refused text tokens r parse.TooDeep same one_way of_text exact is wrong deep =
-    no_tree_refused text _ tokens one_way of_text
+parse_refused text settings tokens r parse.TooDeep same one_way of_text exact is wrong deep =
+    no_tree_refused text _ settings tokens one_way of_text
     (none_read text tokens r parse.TooDeep same exact is (λ no. no))
     (too_deep tokens of_text (deep is))
-parse_refused text tokens r parse.NoMemory same one_way of_text exact is wrong deep = tt
+parse_refused text settings tokens r parse.NoMemory same one_way of_text exact is wrong deep = tt
 
 -- ---- texts without small programs
 -- a text with too many tokens has none
-pub many_have_none : (text : List ℕ) (tokens : List Token) → OneWay → IsTokens text tokens
-    → MOST_TOKENS < length tokens → HasNoProgram text
-many_have_none text tokens one_way of_text many program small =
+pub many_have_none : (text : List ℕ) (settings : List Setting) (tokens : List Token) → OneWay
+    → IsTokens text tokens → MOST_TOKENS < length tokens → HasNoProgram text settings
+many_have_none text settings tokens one_way of_text many program small =
     let same : small.tokens ≡ tokens = one_way text small.tokens tokens small.of_text of_text in
     omega (arith, small.few, many, ap length same)
 
+-- nor has one where something is to be set
+pub set_have_none : (text : List ℕ) (settings : List Setting) (r : Bool)
+    → (IsTrue r ↔ (settings ≡ [])) → r ≡ false → HasNoProgram text settings
+set_have_none text settings r unset set program small =
+    let no : false ≡ true = sym set ∙ unset.1 small.unset in cc
+
 -- nor has one whose tree is none
-pub others_have_none : {A : Type 0} (text : List ℕ) (tokens : List Token) (program : Program)
-    (r : Result A CodeFault) → OneWay → IsTokens text tokens
+pub others_have_none : {A : Type 0} (text : List ℕ) (settings : List Setting) (tokens : List Token)
+    (program : Program) (r : Result A CodeFault) → OneWay → IsTokens text tokens
     → IsOnlyTree text tokens program → IfErr r (λ fault. Refutes fault (IsSmall program))
-    → r ≡ Err code.NotBuilt → HasNoProgram text
-others_have_none text tokens program r one_way of_text only refutes is other small =
+    → r ≡ Err code.NotBuilt → HasNoProgram text settings
+others_have_none text settings tokens program r one_way of_text only refutes is other small =
     let not_small : IsSmall program → ⊥ = subst
     (λ x. IfErr x (λ fault. Refutes fault (IsSmall program))) is refutes in
     not_small (subst IsSmall (sym (only other
-    (small_tree text tokens other one_way of_text small))) small.small)
+    (small_tree text settings tokens other one_way of_text small))) small.small)
 
-module _ (text : List ℕ) (tokens : List Token) (program : Program) (one_way : OneWay)
-    (none : HasNoProgram text) (of_text : IsTokens text tokens)
+module _ (text : List ℕ) (settings : List Setting) (tokens : List Token) (program : Program)
+    (one_way : OneWay) (none : HasNoProgram text settings) (of_text : IsTokens text tokens)
     (tree : IsShallowTree text tokens program) (only : IsOnlyTree text tokens program) where
   -- what has a fault of its declarations is this program
-  unbound_same : (has : HasUnbound text) → program ≡ has.1.program
-  unbound_same has = only has.1.program (unbound_tree text tokens one_way of_text has)
+  unbound_same : (has : HasUnbound text settings) → program ≡ has.1.program
+  unbound_same has = only has.1.program (unbound_tree text settings tokens one_way of_text has)
 
   -- it is refused for a fault of names, ranks or types
   judged_as : (kind : FaultKind) (at : ℕ) → HasJudgeFault program kind at
-      → IsRefusal text (placed_text text (judged_name kind) at)
+      → IsRefusal text settings (placed_text text (judged_name kind) at)
   judged_as kind at holds = record {
     none = none;
     not_unbound = λ has. has.1.faultless kind at
@@ -204,7 +223,7 @@ module _ (text : List ℕ) (tokens : List Token) (program : Program) (one_way : 
     fault = judged tokens program kind at of_text tree holds;
   }
 
-  pub judge_refused : (fault : Fault) → Holds program fault → Refuses text (of_judge fault)
+  pub judge_refused : (fault : Fault) → Holds program fault → Refuses text settings (of_judge fault)
   judge_refused (judge.UnknownName at) holds = judged_as kind.UnknownName at holds
   judge_refused (judge.TwiceNamed at) holds = judged_as kind.TwiceNamed at holds
   judge_refused (judge.UnknownType at) holds = judged_as kind.UnknownType at holds
@@ -227,8 +246,8 @@ module _ (text : List ℕ) (tokens : List Token) (program : Program) (one_way : 
 
   module _ (faultless : IsFaultless program) where
     -- or for one of its declarations
-    unbound_as : (fault : BindFault) → HasBindFault program [] fault
-        → IsUnbound text (settings_text (bind_name fault))
+    unbound_as : (fault : BindFault) → HasBindFault program settings fault
+        → IsUnbound text settings (settings_text (bind_name fault))
     unbound_as fault holds = record {
       none = none;
       tokens = tokens;
@@ -241,8 +260,8 @@ module _ (text : List ℕ) (tokens : List Token) (program : Program) (one_way : 
       tells = refl;
     }
 
-    pub bind_refused : (fault : TheBindFault) → HoldsBound program [] fault
-        → Refuses text (of_bind fault)
+    pub bind_refused : (fault : TheBindFault) → HoldsBound program settings fault
+        → Refuses text settings (of_bind fault)
     bind_refused bind.UnknownConfig holds = unbound_as bound.UnknownConfig holds
     bind_refused bind.ConfigType holds = unbound_as bound.ConfigType holds
     bind_refused bind.TwiceSet holds = unbound_as bound.TwiceSet holds
@@ -252,10 +271,10 @@ module _ (text : List ℕ) (tokens : List Token) (program : Program) (one_way : 
     bind_refused bind.NoMemory holds = tt
 
     -- or since it has no code so far
-    pub not_built_refused : IsAcceptedWith program [] → Refuses text NotBuilt
+    pub not_built_refused : IsAcceptedWith program settings → Refuses text settings NotBuilt
     not_built_refused accepted = record {
       none = none;
       not_unbound = λ has. accepted has.1.fault
-          (subst (λ p. HasBindFault p [] has.1.fault) (sym (unbound_same has)) has.1.holds);
+          (subst (λ p. HasBindFault p settings has.1.fault) (sym (unbound_same has)) has.1.holds);
       fault = not_built tokens program of_text tree faultless accepted;
     }

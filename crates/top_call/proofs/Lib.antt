@@ -1,7 +1,6 @@
 pub mod CodeLemmas
-pub mod CommandLemmas
 pub mod ListLemmas
-pub mod NumberLemmas
+pub mod SettingLemmas
 pub mod SmallLemmas
 pub mod TopLemmas
 pub mod WorkLemmas

@@ -6,7 +6,7 @@ use Rattle.call_claims.specs.Call.{Call}
 use Rattle.call_claims.specs.Cause.{Cause}
 use Rattle.call_claims.specs.Cause.Cause.{no_memory}
 use Rattle.call_claims.specs.Decided.{IsDecided}
-use Rattle.call_claims.specs.Command.{AsksListing, IsListCommand, IsRunCommand, RunWords}
+use Rattle.call_claims.specs.Command.{Asked, AsksListing, IsListCommand, IsRunCommand}
 use Rattle.call_claims.specs.Execution.{execution_of, Execution, IsCutOff, IsOutputCut, TakesListing}
 use Rattle.call_claims.specs.Execution.{TakesListingFront, TakesOutput, TakesPrinted}
 use Rattle.call_claims.specs.declared.ran.Ran.{Ran}
@@ -96,49 +96,50 @@ module _ (call : Call) (work : Work) (caused : IsWorkFor call work) where
 
 -- ---- what out took
 -- of a run, which asks for no listing
-pub run_asks_none : (words : List (List ℕ)) (file : List ℕ) (rest : RunWords)
-    → IsRunCommand words file rest → ¬ AsksListing words
-run_asks_none words file rest run asks = not_both words file asks.file rest run asks.given
+pub run_asks_none : (words : List (List ℕ)) (file : List ℕ) (asked : Asked)
+    → IsRunCommand words file asked → ¬ AsksListing words
+run_asks_none words file asked run asks =
+    not_both words file asks.file asked asks.asked run asks.given
 
-pub run_output : (words : List (List ℕ)) (file : List ℕ) (rest : RunWords) (status : ℕ)
+pub run_output : (words : List (List ℕ)) (file : List ℕ) (asked : Asked) (status : ℕ)
     (execution : Execution) (before after : List ℕ → Type 0)
-    → IsRunCommand words file rest → TakesPrinted execution before after
+    → IsRunCommand words file asked → TakesPrinted execution before after
     → TakesOutput words status execution before after
-run_output words file rest status execution before after run takes = record {
-  listed = λ asks done. absurd (run_asks_none words file rest run asks);
-  not_listed = λ asks other. absurd (run_asks_none words file rest run asks);
+run_output words file asked status execution before after run takes = record {
+  listed = λ asks done. absurd (run_asks_none words file asked run asks);
+  not_listed = λ asks other. absurd (run_asks_none words file asked run asks);
   printed = λ none. takes;
 }
 
-pub run_cut : (words : List (List ℕ)) (file : List ℕ) (rest : RunWords) (execution : Execution)
+pub run_cut : (words : List (List ℕ)) (file : List ℕ) (asked : Asked) (execution : Execution)
     (before after : List ℕ → Type 0)
-    → IsRunCommand words file rest → IsCutOff execution before after
+    → IsRunCommand words file asked → IsCutOff execution before after
     → IsOutputCut words execution before after
-run_cut words file rest execution before after run cut = record {
-  listed = λ asks. absurd (run_asks_none words file rest run asks);
+run_cut words file asked execution before after run cut = record {
+  listed = λ asks. absurd (run_asks_none words file asked run asks);
   printed = λ none. cut;
 }
 
 -- of a listing
-pub list_output : (words : List (List ℕ)) (file : List ℕ) (a : Answer) (execution : Execution)
+pub list_output : (words : List (List ℕ)) (file : List ℕ) (asked : Asked) (a : Answer) (execution : Execution)
     (before after : List ℕ → Type 0)
-    → IsListCommand words file → a ≢ answer.PutFailed
+    → IsListCommand words file asked → a ≢ answer.PutFailed
     → (a ≡ answer.Done → TakesListing execution before after)
     → (a ≢ answer.Done → a ≢ answer.PutFailed → Takes before [] after)
     → TakesOutput words (status_of a) execution before after
-list_output words file a execution before after list put listed not_listed = record {
+list_output words file asked a execution before after list put listed not_listed = record {
   listed = λ asks done. listed (done_of a done);
   not_listed = λ asks other. not_listed (λ e. other (ap status_of e)) put;
-  printed = λ none. absurd (none (record { file = file; given = list }));
+  printed = λ none. absurd (none (record { file = file; asked = asked; given = list }));
 }
 
-pub list_cut : (words : List (List ℕ)) (file : List ℕ) (execution : Execution)
+pub list_cut : (words : List (List ℕ)) (file : List ℕ) (asked : Asked) (execution : Execution)
     (before after : List ℕ → Type 0)
-    → IsListCommand words file → TakesListingFront execution before after
+    → IsListCommand words file asked → TakesListingFront execution before after
     → IsOutputCut words execution before after
-list_cut words file execution before after list front = record {
+list_cut words file asked execution before after list front = record {
   listed = λ asks. front;
-  printed = λ none. absurd (none (record { file = file; given = list }));
+  printed = λ none. absurd (none (record { file = file; asked = asked; given = list }));
 }
 
 -- words that are no command ask for none

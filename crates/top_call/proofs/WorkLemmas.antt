@@ -19,7 +19,8 @@ use Rattle.call_claims.specs.Call.{Call}
 use Rattle.call_claims.specs.Cause.{IsRunOf, IsOverAs, IsTooFew, IsCutShort, IsTooLong}
 use Rattle.call_claims.specs.Cause.{WorkCause, RunCause, Cause}
 use Rattle.call_claims.specs.Cause.WorkCause.{refused, unbound, done, trap, turn_limit}
-use Rattle.call_claims.specs.Command.{RunWords}
+use Rattle.zpl_binding.specs.Settings.{Setting}
+use Rattle.call_claims.specs.Command.{Asked}
 use Rattle.call_claims.specs.Decided.{IsDecided}
 use Rattle.call_claims.specs.Execution.{Execution, HasNoRun, IsCutOff}
 use Rattle.call_claims.specs.Run.{GoesOnTo, grid_at}
@@ -62,14 +63,14 @@ the_rest : (bound limit k : ℕ) → bound ≤ limit → k ≡ limit → bound +
 the_rest bound limit k within all = omega arith
 
 -- a grid that isn't over was given fewer turns than the bound
-too_few_of : StaysOver → (text : List ℕ) (code : Tables) (of_text : IsCodeOf text code)
-    (limit k : ℕ) → k ≡ limit
+too_few_of : StaysOver → (text : List ℕ) (settings : List Setting) (code : Tables)
+    (of_text : IsCodeOf text settings code) (limit k : ℕ) → k ≡ limit
     → ¬ IsOver (grid_at code [] k)
-    → IsTooFew limit code (mean_of of_text.program []) (steps_of of_text.program [])
+    → IsTooFew limit code (mean_of of_text.program settings) (steps_of of_text.program settings)
     (shattered_loops of_text.program)
-too_few_of law text code of_text limit k all not_over = λ n ends.
-    let bound : ℕ = turn_bound code (steps_of of_text.program []) (shattered_loops of_text.program) n
-    in
+too_few_of law text settings code of_text limit k all not_over = λ n ends.
+    let bound : ℕ = turn_bound code (steps_of of_text.program settings)
+    (shattered_loops of_text.program) n in
     let nobody : IsOrder (processors code) [] = λ i d h. absurd (omega arith) in
     let in_time : IsOver (grid_at code [] (0 + bound)) = of_text.compiled.in_time None tt n [] ends nobody
     in
@@ -79,7 +80,8 @@ too_few_of law text code of_text limit k all not_over = λ n ends.
     (subst (λ b. IsOver (grid_at code [] b)) (the_rest bound limit k within all)
     (stays_over law code bound (limit - bound) over)))
 
-pub alone_of : {text : List ℕ} {code : Tables} → IsCodeOf text code → processors code ≡ 1
+pub alone_of : {text : List ℕ} {settings : List Setting} {code : Tables}
+    → IsCodeOf text settings code → processors code ≡ 1
 alone_of {code = code} of_text =
     ap (λ grid. processors (record code { grid = grid })) of_text.compiled.tidy.for_grid
 
@@ -89,23 +91,24 @@ AreOrders =
     (order : List ℕ) (count k : ℕ) → 0 < count → IsOrder count order
     → IsOrder count (given order count k)
 
-turns_are_order : AreOrders → (text : List ℕ) (code : Tables) → IsCodeOf text code → (k : ℕ)
+turns_are_order : AreOrders → (text : List ℕ) (settings : List Setting) (code : Tables)
+    → IsCodeOf text settings code → (k : ℕ)
     → IsOrder (processors code) (given [] (processors code) k)
-turns_are_order orders text code of_text k =
+turns_are_order orders text settings code of_text k =
     orders [] (processors code) k (omega (arith, alone_of of_text)) (λ i d h. absurd (omega arith))
 
-module _ (text : List ℕ) (code : Tables) (of_text : IsCodeOf text code) (orders : AreOrders)
-    (limit k : ℕ) (within : k ≤ limit) (not_over : (j : ℕ) → j < k
+module _ (text : List ℕ) (settings : List Setting) (code : Tables)
+    (of_text : IsCodeOf text settings code) (orders : AreOrders) (limit k : ℕ) (within : k ≤ limit) (not_over : (j : ℕ) → j < k
     → ¬ IsOver (after_turns code j)) where
   pub goes_on : GoesOnTo code [] k
   goes_on j less stops = elim stops [
     | inl over ↦ not_over j less (subst IsOver (sym (grid_is code (alone_of of_text) j)) over)
     | inr idle ↦ (of_text.compiled.good None tt (given [] (processors code) j)
-        (turns_are_order orders text code of_text j)).not_idle idle
+        (turns_are_order orders text settings code of_text j)).not_idle idle
   ]
 
   abbrev run_of : IsOver (grid_at code [] k) ⊎ (k ≡ limit)
-      → IsRunOf text limit (record { code = Some code; turns = k })
+      → IsRunOf text settings limit (record { code = Some code; turns = k })
   run_of last = record {
     code = code;
     made = refl;
@@ -118,14 +121,14 @@ module _ (text : List ℕ) (code : Tables) (of_text : IsCodeOf text code) (order
   }
 
   pub ended : (ending : End) → EndsAs (after_turns code k) ending
-      → IsOverAs text limit (record { code = Some code; turns = k }) ending
+      → IsOverAs text settings limit (record { code = Some code; turns = k }) ending
   ended ending ends =
       let there : EndsAs (grid_at code [] k) ending = subst (λ g. EndsAs g ending)
       (grid_is code (alone_of of_text) k) ends in
       record { run_of = run_of (inl there.over); ends = there }
 
   pub not_ended : StaysOver → k ≡ limit → ¬ IsOver (after_turns code k)
-      → IsCutShort text limit (record { code = Some code; turns = k })
+      → IsCutShort text settings limit (record { code = Some code; turns = k })
   not_ended law all going =
       let not_there : ¬ IsOver (grid_at code [] k) = λ over. going
       (subst IsOver (sym (grid_is code (alone_of of_text) k)) over) in
@@ -134,16 +137,16 @@ module _ (text : List ℕ) (code : Tables) (of_text : IsCodeOf text code) (order
         all = all;
         not_over = not_there;
         too_few = too_few_of law
-            text code of_text limit k all not_there;
+            text settings code of_text limit k all not_there;
       }
 
 more_of : {ending : End} → Some ending ≡ Some More → ending ≡ More
 more_of same = let e : _ ≡ _ = cc in e
 
 -- a grid that is over doesn't want more
-pub never_more : (text : List ℕ) (code : Tables) → IsCodeOf text code → AreOrders
-    → (k : ℕ) → EndsAs (after_turns code k) More → ⊥
-never_more text code of_text orders k ends =
+pub never_more : (text : List ℕ) (settings : List Setting) (code : Tables)
+    → IsCodeOf text settings code → AreOrders → (k : ℕ) → EndsAs (after_turns code k) More → ⊥
+never_more text settings code of_text orders k ends =
     let order : List ℕ = given [] 1 k in
     let is_order : IsOrder (processors code) order = subst (λ n. IsOrder n order)
     (sym (alone_of of_text)) (orders [] 1 k (omega arith) (λ i d h. absurd (omega arith))) in
@@ -151,7 +154,7 @@ never_more text code of_text orders k ends =
     let finishes = right.finishes ends.over in
     finishes.within (more_of (sym finishes.ending.first ∙ ends.first))
 
-pub cut_off : {text : List ℕ} (code : Tables) → IsCodeOf text code
+pub cut_off : {text : List ℕ} {settings : List Setting} (code : Tables) → IsCodeOf text settings code
     → (k : ℕ) (before after : List ℕ → Type 0) → TakesIntoNext code k before after
     → IsCutOff (record { code = Some code; turns = k }) before after
 cut_off code of_text k before after takes =
@@ -169,36 +172,36 @@ cut_off code of_text k before after takes =
 
 -- ---- the cause of an answer
 -- an answer of work that was made and run so
-abbrev pub HasWorkCause : List ℕ → ℕ → Execution → Answer → Type 0
-HasWorkCause text limit execution a = IsDecided (status_of a)
-    → WorkCause text limit execution (status_of a) (text_of a)
+abbrev pub HasWorkCause : List ℕ → List Setting → ℕ → Execution → Answer → Type 0
+HasWorkCause text settings limit execution a = IsDecided (status_of a)
+    → WorkCause text settings limit execution (status_of a) (text_of a)
 
 -- a text's refusal is the cause of its answer
-pub without_program : (text : List ℕ) (limit : ℕ) (work : Work) (refusal : Refusal)
-    → Refuses text refusal
+pub without_program : (text : List ℕ) (settings : List Setting) (limit : ℕ) (work : Work)
+    (refusal : Refusal) → Refuses text settings refusal
     → work.answer ≡ answer_of text refusal → work.code ≡ None → work.turns ≡ 0
-    → IsWorkOn text limit work
-without_program text limit work (Lex fault) refuses is no_code no_turns =
-    subst (HasWorkCause text limit (execution_in work)) (sym is)
+    → IsWorkOn text settings limit work
+without_program text settings limit work (Lex fault) refuses is no_code no_turns =
+    subst (HasWorkCause text settings limit (execution_in work)) (sym is)
     (λ d. refused _ refuses (record { no_code = no_code; no_turns = no_turns }))
-without_program text limit work (Parse fault) refuses is no_code no_turns =
-    subst (HasWorkCause text limit (execution_in work)) (sym is)
+without_program text settings limit work (Parse fault) refuses is no_code no_turns =
+    subst (HasWorkCause text settings limit (execution_in work)) (sym is)
     (λ d. refused _ refuses (record { no_code = no_code; no_turns = no_turns }))
-without_program text limit work (Judge fault) refuses is no_code no_turns =
-    subst (HasWorkCause text limit (execution_in work)) (sym is)
+without_program text settings limit work (Judge fault) refuses is no_code no_turns =
+    subst (HasWorkCause text settings limit (execution_in work)) (sym is)
     (λ d. refused _ refuses (record { no_code = no_code; no_turns = no_turns }))
-without_program text limit work (Bind fault) refuses is no_code no_turns =
-    subst (HasWorkCause text limit (execution_in work)) (sym is)
+without_program text settings limit work (Bind fault) refuses is no_code no_turns =
+    subst (HasWorkCause text settings limit (execution_in work)) (sym is)
     (λ d. unbound _ refuses (record { no_code = no_code; no_turns = no_turns }))
-without_program text limit work NotBuilt refuses is no_code no_turns =
-    subst (HasWorkCause text limit (execution_in work)) (sym is)
+without_program text settings limit work NotBuilt refuses is no_code no_turns =
+    subst (HasWorkCause text settings limit (execution_in work)) (sym is)
     (λ d. refused _ refuses (record { no_code = no_code; no_turns = no_turns }))
-without_program text limit work NoMemory refuses is no_code no_turns =
-    subst (HasWorkCause text limit (execution_in work)) (sym is) (λ d. absurd (d.memory refl))
+without_program text settings limit work NoMemory refuses is no_code no_turns =
+    subst (HasWorkCause text settings limit (execution_in work)) (sym is) (λ d. absurd (d.memory refl))
 
 -- the work on a text fetches nothing
-pub not_unread : {text told : List ℕ} {limit status : ℕ} {execution : Execution}
-    → WorkCause text limit execution status told → status ≡ UNREADABLE → ⊥
+pub not_unread : {text told : List ℕ} {settings : List Setting} {limit status : ℕ}
+    {execution : Execution} → WorkCause text settings limit execution status told → status ≡ UNREADABLE → ⊥
 not_unread (refused told refusal no_run) e = omega arith
 not_unread (unbound told has no_run) e = omega arith
 not_unread (done h) e = omega arith
@@ -213,13 +216,13 @@ pub no_run : (work : Work) → work.code ≡ None → work.turns ≡ 0 → HasNo
 no_run work no_code no_turns = record { no_code = no_code; no_turns = no_turns }
 
 -- where a `run` has this answer
-pub run_without : (call : Call) (file : List ℕ) (rest : RunWords) (work : Work) (a : Answer)
+pub run_without : (call : Call) (file : List ℕ) (asked : Asked) (work : Work) (a : Answer)
     → work.answer ≡ a
-    → RunCause call file rest (execution_in work) (status_of a) (text_of a)
-    → IsRunOn call file rest work
-run_without call file rest work a is cause =
+    → RunCause call file asked (execution_in work) (status_of a) (text_of a)
+    → IsRunOn call file asked work
+run_without call file asked work a is cause =
     subst (λ b. IsDecided (status_of b)
-    → RunCause call file rest (execution_in work) (status_of b) (text_of b)) (sym is)
+    → RunCause call file asked (execution_in work) (status_of b) (text_of b)) (sym is)
     (λ d. cause)
 
 -- where a call has it

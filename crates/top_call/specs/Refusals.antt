@@ -16,6 +16,7 @@ use Rattle.rank_types.specs.Faults.{judge_name, judge_offset}
 use Rattle.zpl_bind.specs.declared.faults.BindFault.{BindFault}
 use Rattle.zpl_bind.specs.declared.faults.BindFault.TheVariants as bind
 use Rattle.zpl_bind.specs.Fault.{fault_name}
+use Rattle.zpl_binding.specs.Settings.{Setting}
 use Rattle.call_claims.specs.Refusal.{IsRefusal, IsUnbound}
 use Rattle.call_claims.specs.Texts.{fault_text, settings_text, too_deep_text}
 use Rattle.top_call.specs.declared.refusals.Refusal.{Refusal}
@@ -64,14 +65,15 @@ abbrev pub told_of : List ℕ → Refusal → List ℕ
 told_of text refusal = refusal_text refusal (line_at text (offset_of refusal))
 
 -- ---- what it says
--- The text is refused for what is told of it, or its declarations are; or memory was wanting.
-abbrev pub Refuses : List ℕ → Refusal → Type 0
-Refuses text (Lex fault) = IsRefusal text (told_of text (Lex fault))
-Refuses text (Parse fault) = IsRefusal text (told_of text (Parse fault))
-Refuses text (Judge fault) = IsRefusal text (told_of text (Judge fault))
-Refuses text (Bind fault) = IsUnbound text (told_of text (Bind fault))
-Refuses text NotBuilt = IsRefusal text (told_of text NotBuilt)
-Refuses text NoMemory = ⊤
+-- The text is refused for what is told of it, or the settings or its declarations are; or memory
+-- was wanting.
+abbrev pub Refuses : List ℕ → List Setting → Refusal → Type 0
+Refuses text settings (Lex fault) = IsRefusal text settings (told_of text (Lex fault))
+Refuses text settings (Parse fault) = IsRefusal text settings (told_of text (Parse fault))
+Refuses text settings (Judge fault) = IsRefusal text settings (told_of text (Judge fault))
+Refuses text settings (Bind fault) = IsUnbound text settings (told_of text (Bind fault))
+Refuses text settings NotBuilt = IsRefusal text settings (told_of text NotBuilt)
+Refuses text settings NoMemory = ⊤
 
 -- Each tree of the text that isn't too deep is this one.
 abbrev pub IsOnlyTree : List ℕ → List Token → Program → Type 0

@@ -3,7 +3,8 @@ use Rattle.std.specs.Prelude.{◌≡◌, ◌⊎◌, ℕ, List, [], Option, Some,
 use Rattle.node_form.specs.declared.tables.Tables.{Tables}
 use Rattle.call_claims.specs.Call.{Call}
 use Rattle.call_claims.specs.Cause.{WorkCause, ListCause, RunCause, ListFileCause, Cause}
-use Rattle.call_claims.specs.Command.{RunWords}
+use Rattle.zpl_binding.specs.Settings.{Setting}
+use Rattle.call_claims.specs.Command.{Asked}
 use Rattle.call_claims.specs.Decided.{IsDecided}
 use Rattle.call_claims.specs.Execution.{Execution}
 use Rattle.call_claims.specs.Run.{GoesOnTo}
@@ -16,25 +17,26 @@ abbrev pub execution_in : Work → Execution
 execution_in work = record { code = work.code; turns = work.turns }
 
 -- ---- The answer has its cause, unless a put failed or memory was wanting:
--- in the work on a text within a limit
-abbrev pub IsWorkOn : List ℕ → ℕ → Work → Type 0
-IsWorkOn text limit work = IsDecided (status_of work.answer) →
-    WorkCause text limit (execution_in work) (status_of work.answer) (text_of work.answer)
+-- in the work on a text under settings, within a limit
+abbrev pub IsWorkOn : List ℕ → List Setting → ℕ → Work → Type 0
+IsWorkOn text settings limit work = IsDecided (status_of work.answer) →
+    WorkCause text settings limit (execution_in work) (status_of work.answer)
+    (text_of work.answer)
 
 -- in a listing of the code of a text
-abbrev pub IsListOf : List ℕ → Work → Type 0
-IsListOf text work = IsDecided (status_of work.answer) →
-    ListCause text (execution_in work) (status_of work.answer) (text_of work.answer)
+abbrev pub IsListOf : List ℕ → List Setting → Work → Type 0
+IsListOf text settings work = IsDecided (status_of work.answer) →
+    ListCause text settings (execution_in work) (status_of work.answer) (text_of work.answer)
 
 -- in a `run` of a file
-abbrev pub IsRunOn : Call → List ℕ → RunWords → Work → Type 0
-IsRunOn call file rest work = IsDecided (status_of work.answer) →
-    RunCause call file rest (execution_in work) (status_of work.answer) (text_of work.answer)
+abbrev pub IsRunOn : Call → List ℕ → Asked → Work → Type 0
+IsRunOn call file asked work = IsDecided (status_of work.answer) →
+    RunCause call file asked (execution_in work) (status_of work.answer) (text_of work.answer)
 
 -- in a `list` of a file
-abbrev pub IsListOn : Call → List ℕ → Work → Type 0
-IsListOn call file work = IsDecided (status_of work.answer) →
-    ListFileCause call file (execution_in work) (status_of work.answer) (text_of work.answer)
+abbrev pub IsListOn : Call → List ℕ → Asked → Work → Type 0
+IsListOn call file asked work = IsDecided (status_of work.answer) →
+    ListFileCause call file asked (execution_in work) (status_of work.answer) (text_of work.answer)
 
 -- in a call
 abbrev pub IsWorkFor : Call → Work → Type 0

@@ -18,11 +18,11 @@ ghost use Rattle.top_call.specs.Answers.{status_of};
 ghost use Rattle.top_call.specs.Work.{execution_in, IsWorkFor, WentOn};
 
 use crate::answers::{Answer, told};
-use crate::commands::{Command, command_of};
 use crate::lists::list_file;
 use crate::runs::run_file;
 use crate::work::Work;
 use call_claims::{Ran, causes_are_exact};
+use call_words::{Command, command_of};
 use grid_meaning::scalar_code_needs_no_links;
 use std::alloc::Global;
 use zpl_io::{Files, Sink};
@@ -38,15 +38,15 @@ pub fn zplgrid<F: Files, O: Sink, E: Sink>(
     out: &mut O,
     errs: &mut E,
 ) -> Ran
-    // The code is made of the text that the file of the words tells: over links of every capacity
-    // it is right after every order of turns, some order brings it in step to each bound of the
-    // meaning, and it comes to its end in time; and it is tidy. It was given no more turns than the
-    // words allow, and none where they ask for its listing.
+    // The code is made of the text that the file of the words tells, under their settings: over links
+    // of every capacity it is right after every order of turns, some order brings it in step to each
+    // bound of the meaning, and it comes to its end in time; and it is tidy. It was given no more
+    // turns than the words allow, and none where they ask for its listing.
     ensures code { let call =
         call_of (map string_bytes words.now) (F.tells files.old) (F.may_fail files.old) in
         IfSome result.code (λ code.
-        Runs call (λ file rest. IsMadeFor call file rest result.turns code)
-        ⊎ Lists call (λ file. IsListedFor call file result.turns code)) }
+        Runs call (λ file asked. IsMadeFor call file asked result.turns code)
+        ⊎ Lists call (λ file asked. IsListedFor call file asked result.turns code)) }
 
     // The counts are those of the grid after the given turns, before which none is over or idle;
     // out took what that grid has printed, or the listing of the code.
@@ -131,8 +131,8 @@ fn work_for<'a, F: Files, O: Sink>(
     ensures code { let call =
         call_of (map string_bytes words.now) (F.tells files.old) (F.may_fail files.old) in
         IfSome result.code (λ code.
-        Runs call (λ file rest. IsMadeFor call file rest result.turns code)
-        ⊎ Lists call (λ file. IsListedFor call file result.turns code)) }
+        Runs call (λ file asked. IsMadeFor call file asked result.turns code)
+        ⊎ Lists call (λ file asked. IsListedFor call file asked result.turns code)) }
 
     ensures rows { IfSome result.code IsScalarCode }
     ensures went_on { WentOn result.code result.turns }
@@ -151,7 +151,7 @@ fn work_for<'a, F: Files, O: Sink>(
 {
     match command_of(words) {
         Some(Command::Run(run)) => run_file(alloc, run, files, out),
-        Some(Command::Listing(file)) => list_file(alloc, file, files, out),
+        Some(Command::Listing(list)) => list_file(alloc, list, files, out),
         None => Work::without_code(Answer::Usage),
     }
 }

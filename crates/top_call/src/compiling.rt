@@ -1,16 +1,21 @@
 //! From the bytes of a text to its node code.
-ghost use Rattle.std.specs.Prelude.{◌≤◌, length, IfOk, IfErr};
+ghost use Rattle.std.specs.Prelude.{◌≤◌, List, length, map, string_bytes, IfOk, IfErr};
+ghost use Rattle.zpl_binding.specs.Settings.{Setting};
 ghost use Rattle.zpl_text.specs.Tokens.{IsTokens};
 ghost use Rattle.zpl_text.specs.declared.TheConstants.{MOST_SOURCE};
 ghost use Rattle.zpl_tree.specs.View.{syntax_of};
 ghost use Rattle.zpl_grammar.specs.Texts.{IsShallowTree};
 ghost use Rattle.grid_meaning.specs.Scalar.{IsScalarCode};
+ghost use Rattle.zpl_bind.specs.Lists.{settings_of};
+ghost use Rattle.call_claims.specs.Setting.{settings_among};
 ghost use Rattle.call_claims.specs.Source.{HasNoProgram, IsCodeOf};
 ghost use Rattle.top_call.specs.Refusals.{Refuses, IsOnlyTree};
 
 use crate::refusals::Refusal;
+use crate::settings::settings_of;
 use bumpalo::Bump;
 use call_claims::MOST_TOKENS;
+use call_words::sets_nothing;
 use node_form::NodeProgram;
 use rank_types::{Typed, judge};
 use small_code::{CodeFault, code_of_small};
@@ -22,25 +27,26 @@ use zpl_parse::parse;
 use zpl_text::{Token, lex, text_is_cut_one_way};
 use zpl_tree::Program;
 
-/// The code of a text, for one processor. There is none where the text has no small program. Where
-/// its tokens are no text of the grammar, that is told, however many they are.
-pub fn compile(alloc: Global, text: &[u8]) -> Result<NodeProgram, Refusal>
+/// The code of a text, for one processor, under the settings among words. There is none where the
+/// text has no small program, or something is to be set. Where its tokens are no text of the grammar,
+/// that is told, however many they are.
+pub fn compile(alloc: Global, text: &[u8], words: &[String]) -> Result<NodeProgram, Refusal>
     requires { length text.now ≤ MOST_SOURCE }
-    ensures code { IfOk result (IsCodeOf text.now) }
+    ensures code { IfOk result (IsCodeOf text.now (settings_among (map string_bytes words.now))) }
     ensures rows { IfOk result IsScalarCode }
-    ensures refused { IfErr result (Refuses text.now) }
+    ensures refused { IfErr result (Refuses text.now (settings_among (map string_bytes words.now))) }
 {
     let tokens = tokens_of(alloc, text)?;
     let arena = Bump::new(alloc);
     let program = tree_of(alloc, &arena, text, tokens.as_slice())?;
-    code_of_tree(alloc, &arena, text, tokens.as_slice(), program)
+    code_of_tree(alloc, &arena, text, tokens.as_slice(), program, words)
 }
 
 /// The tokens of a text, where there are any.
 fn tokens_of(alloc: Global, text: &[u8]) -> Result<Vec<Token>, Refusal>
     requires { length text.now ≤ MOST_SOURCE }
     ensures tokens { IfOk result (λ tokens. IsTokens text.now tokens.items) }
-    ensures refused { IfErr result (Refuses text.now) }
+    ensures refused { (settings : List Setting) → IfErr result (Refuses text.now settings) }
 {
     text_is_cut_one_way();
     let mut tokens = Vec::new(alloc);
@@ -58,72 +64,105 @@ fn tree_of<'a>(
     requires { IsTokens text.now tokens.now }
     ensures tree { IfOk result (λ tree. IsShallowTree text.now tokens.now (syntax_of tree.now)) }
     ensures only { IfOk result (λ tree. IsOnlyTree text.now tokens.now (syntax_of tree.now)) }
-    ensures refused { IfErr result (Refuses text.now) }
+    ensures refused { (settings : List Setting) → IfErr result (Refuses text.now settings) }
 {
     text_is_cut_one_way();
     let program = parse(alloc, arena, tokens, text)?;
     Ok(program)
 }
 
-/// The code of a text with these tokens and this tree.
+/// The code of a text with these tokens and this tree, under the settings among words.
 fn code_of_tree<'a>(
     alloc: Global,
     arena: &'a Bump<Global>,
     text: &[u8],
     tokens: &[Token],
     program: &'a Program<'a>,
+    words: &[String],
 ) -> Result<NodeProgram, Refusal>
     requires tokens { IsTokens text.now tokens.now }
     requires tree { IsShallowTree text.now tokens.now (syntax_of program.now) }
     requires only { IsOnlyTree text.now tokens.now (syntax_of program.now) }
-    ensures code { IfOk result (IsCodeOf text.now) }
+    ensures code { IfOk result (IsCodeOf text.now (settings_among (map string_bytes words.now))) }
     ensures rows { IfOk result IsScalarCode }
-    ensures refused { IfErr result (Refuses text.now) }
+    ensures refused { IfErr result (Refuses text.now (settings_among (map string_bytes words.now))) }
 {
     text_is_cut_one_way();
     words_fit_their_text();
+    if !sets_nothing(words) {
+        return Err(without_code(alloc, arena, text, tokens, program, words));
+    }
     if tokens.len() > MOST_TOKENS {
-        return Err(without_code(alloc, arena, text, tokens, program));
+        return Err(without_code(alloc, arena, text, tokens, program, words));
     }
     match code_of_small(alloc, program) {
         Ok(code) => Ok(code),
-        Err(CodeFault::NotBuilt) => Err(without_code(alloc, arena, text, tokens, program)),
+        Err(CodeFault::NotBuilt) => Err(without_code(alloc, arena, text, tokens, program, words)),
         Err(CodeFault::NoMemory) => Err(Refusal::NoMemory),
     }
 }
 
-/// Why a text without a small program is refused: for a fault of names, ranks or types; for one of
-/// its declarations, of which no config is set; or since it has no code so far.
+/// Why a text without a small program under the settings among words is refused: for a fault of
+/// names, ranks or types; for one of the settings, or of its declarations under them; or since it
+/// has no code so far.
 fn without_code<'a>(
     alloc: Global,
     arena: &'a Bump<Global>,
     text: &[u8],
     tokens: &[Token],
     program: &'a Program<'a>,
+    words: &[String],
 ) -> Refusal
-    requires none { HasNoProgram text.now }
+    requires none { HasNoProgram text.now (settings_among (map string_bytes words.now)) }
     requires tokens { IsTokens text.now tokens.now }
     requires tree { IsShallowTree text.now tokens.now (syntax_of program.now) }
     requires only { IsOnlyTree text.now tokens.now (syntax_of program.now) }
-    ensures { Refuses text.now result }
+    ensures { Refuses text.now (settings_among (map string_bytes words.now)) result }
 {
     text_is_cut_one_way();
     match judge(alloc, arena, program) {
-        Ok(typed) => of_declarations(alloc, text, tokens, &typed),
+        Ok(typed) => of_declarations(alloc, text, tokens, &typed, words),
         Err(fault) => Refusal::from(fault),
     }
 }
 
-/// Why a text without a small program, and without faults of names, ranks and types, is refused.
-fn of_declarations(alloc: Global, text: &[u8], tokens: &[Token], typed: &Typed<'_>) -> Refusal
-    requires none { HasNoProgram text.now }
+/// Why a text without a small program under the settings among words, and without faults of names,
+/// ranks and types, is refused.
+fn of_declarations(
+    alloc: Global,
+    text: &[u8],
+    tokens: &[Token],
+    typed: &Typed<'_>,
+    words: &[String],
+) -> Refusal
+    requires none { HasNoProgram text.now (settings_among (map string_bytes words.now)) }
     requires tokens { IsTokens text.now tokens.now }
     requires tree { IsShallowTree text.now tokens.now (syntax_of typed.now.program.now) }
     requires only { IsOnlyTree text.now tokens.now (syntax_of typed.now.program.now) }
-    ensures { Refuses text.now result }
+    ensures { Refuses text.now (settings_among (map string_bytes words.now)) result }
+{
+    match settings_of(alloc, words) {
+        Ok(settings) => under_settings(alloc, text, tokens, typed, &settings),
+        Err(_) => Refusal::NoMemory,
+    }
+}
+
+/// Why it is refused, under these settings.
+fn under_settings(
+    alloc: Global,
+    text: &[u8],
+    tokens: &[Token],
+    typed: &Typed<'_>,
+    settings: &Settings,
+) -> Refusal
+    requires none { HasNoProgram text.now (settings_of settings.now) }
+    requires tokens { IsTokens text.now tokens.now }
+    requires tree { IsShallowTree text.now tokens.now (syntax_of typed.now.program.now) }
+    requires only { IsOnlyTree text.now tokens.now (syntax_of typed.now.program.now) }
+    ensures { Refuses text.now (settings_of settings.now) result }
 {
     text_is_cut_one_way();
-    match bind(alloc, typed, &Settings::new(alloc)) {
+    match bind(alloc, typed, settings) {
         Ok(_) => Refusal::NotBuilt,
         Err(fault) => Refusal::from(fault),
     }

@@ -4,12 +4,11 @@
 
 mod answers;
 mod call;
-mod commands;
 mod compiling;
 mod lists;
-mod numbers;
 mod refusals;
 mod runs;
+mod settings;
 mod work;
 
 pub use call::zplgrid;

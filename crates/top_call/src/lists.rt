@@ -1,5 +1,5 @@
 //! `list FILE`: a file is fetched, code is made of its text, and the listing of the code is put.
-ghost use Rattle.std.specs.Prelude.{◌≡◌, ◌≢◌, ◌≤◌, ℕ, List, [], Some, IfSome, length};
+ghost use Rattle.std.specs.Prelude.{◌≡◌, ◌≢◌, ◌≤◌, ℕ, List, [], Some, IfSome, length, map, string_bytes};
 ghost use Rattle.zpl_io.specs.Faults.{CountsFaults};
 ghost use Rattle.zpl_io.specs.Files.{SameTexts};
 ghost use Rattle.zpl_io.specs.Sink.{Takes, TakesFront};
@@ -8,14 +8,17 @@ ghost use Rattle.grid_meaning.specs.Scalar.{IsScalarCode};
 ghost use Rattle.listing_rows.specs.Listing.{listing_of};
 ghost use Rattle.call_claims.specs.Call.{call_of};
 ghost use Rattle.call_claims.specs.Execution.{IsListedFor, TakesListing, TakesListingFront};
+ghost use Rattle.call_claims.specs.Setting.{settings_among};
 ghost use Rattle.call_claims.specs.Source.{IsCodeOf};
 ghost use Rattle.call_claims.specs.declared.status.TheConstants.{UNREADABLE};
+ghost use Rattle.call_words.specs.Asked.{asked_in};
 ghost use Rattle.top_call.specs.Answers.{status_of};
 ghost use Rattle.top_call.specs.Work.{execution_in, IsListOf, IsListOn, IsOfListing};
 
 use crate::answers::Answer;
 use crate::compiling::compile;
 use crate::work::Work;
+use call_words::FileCommand;
 use listing_rows::write_listing;
 use node_form::NodeProgram;
 use std::alloc::Global;
@@ -25,16 +28,17 @@ use zpl_text::MOST_SOURCE;
 /// Fetches a file, and puts the listing of its text's code, up to the answer.
 pub fn list_file<'a, F: Files, O: Sink>(
     alloc: Global,
-    file: &'a str,
+    list: FileCommand<'a>,
     files: &mut F,
     out: &mut O,
 ) -> Work<'a>
     // The cause of the answer, and of what the code was made, whatever the words of the call are.
     ensures cause { (words : List (List ℕ)) →
-        IsListOn (call_of words (F.tells files.old) (F.may_fail files.old)) file.now result }
+        IsListOn (call_of words (F.tells files.old) (F.may_fail files.old))
+        list.entry.file.now (asked_in list.entry.asked) result }
     ensures code { (words : List (List ℕ)) → IfSome result.code
         (IsListedFor (call_of words (F.tells files.old) (F.may_fail files.old))
-        file.now result.turns) }
+        list.entry.file.now (asked_in list.entry.asked) result.turns) }
 
     ensures rows { IfSome result.code IsScalarCode }
     ensures no_turns { result.turns ≡ 0 }
@@ -52,19 +56,20 @@ pub fn list_file<'a, F: Files, O: Sink>(
         (O.faults out.old) (O.faults out.new) }
 {
     let mut text = Vec::new(alloc);
-    match files.fetch(alloc, file, MOST_SOURCE, &mut text) {
-        Fetched::Whole => list_text(alloc, text.as_slice(), out),
-        Fetched::TooLong => Work::without_code(Answer::TooLong(file)),
-        Fetched::Failed => Work::without_code(Answer::Unreadable(file)),
+    match files.fetch(alloc, list.file, MOST_SOURCE, &mut text) {
+        Fetched::Whole => list_text(alloc, text.as_slice(), list.asked.words, out),
+        Fetched::TooLong => Work::without_code(Answer::TooLong(list.file)),
+        Fetched::Failed => Work::without_code(Answer::Unreadable(list.file)),
         Fetched::NoMemory => Work::without_code(Answer::NoMemory),
     }
 }
 
-/// Makes code of a text, and puts its listing.
-fn list_text<'a, O: Sink>(alloc: Global, text: &[u8], out: &mut O) -> Work<'a>
+/// Makes code of a text under the settings among words, and puts its listing.
+fn list_text<'a, O: Sink>(alloc: Global, text: &[u8], words: &[String], out: &mut O) -> Work<'a>
     requires { length text.now ≤ MOST_SOURCE }
-    ensures cause { IsListOf text.now result }
-    ensures code { IfSome result.code (IsCodeOf text.now) }
+    ensures cause { IsListOf text.now (settings_among (map string_bytes words.now)) result }
+    ensures code { IfSome result.code
+        (IsCodeOf text.now (settings_among (map string_bytes words.now))) }
     ensures rows { IfSome result.code IsScalarCode }
     ensures no_turns { result.turns ≡ 0 }
     ensures listed { result.answer ≡ Answer.Done →
@@ -76,7 +81,7 @@ fn list_text<'a, O: Sink>(alloc: Global, text: &[u8], out: &mut O) -> Work<'a>
     ensures counts { CountsFaults (result.answer ≡ Answer.PutFailed)
         (O.faults out.old) (O.faults out.new) }
 {
-    match compile(alloc, text) {
+    match compile(alloc, text, words) {
         Ok(code) => {
             let answer = put_listing(alloc, &code, out);
             Work {

@@ -6,12 +6,13 @@ ghost use Rattle.grid_meaning.specs.Scalar.{IsScalarCode};
 ghost use Rattle.call_claims.specs.Call.{call_of};
 ghost use Rattle.call_claims.specs.Execution.{IsCutOff, IsMadeFor, TakesPrinted};
 ghost use Rattle.call_claims.specs.declared.status.TheConstants.{UNREADABLE};
+ghost use Rattle.call_words.specs.Asked.{asked_in};
 ghost use Rattle.top_call.specs.Answers.{status_of};
 ghost use Rattle.top_call.specs.Work.{execution_in, IsRunOn, WentOn};
 
 use crate::answers::Answer;
-use crate::commands::RunCommand;
 use crate::work::{Work, work_on};
+use call_words::FileCommand;
 use std::alloc::Global;
 use zpl_io::{Fetched, Files, Sink};
 use zpl_text::MOST_SOURCE;
@@ -19,17 +20,17 @@ use zpl_text::MOST_SOURCE;
 /// Fetches a file, and does the work on its text, up to the answer.
 pub fn run_file<'a, F: Files, O: Sink>(
     alloc: Global,
-    run: RunCommand<'a>,
+    run: FileCommand<'a>,
     files: &mut F,
     out: &mut O,
 ) -> Work<'a>
     // The cause of the answer, and of what the code was made, whatever the words of the call are.
     ensures cause { (words : List (List ℕ)) →
         IsRunOn (call_of words (F.tells files.old) (F.may_fail files.old))
-        run.entry.file.now (record { turns = run.entry.turns }) result }
+        run.entry.file.now (asked_in run.entry.asked) result }
     ensures code { (words : List (List ℕ)) → IfSome result.code
         (IsMadeFor (call_of words (F.tells files.old) (F.may_fail files.old))
-        run.entry.file.now (record { turns = run.entry.turns }) result.turns) }
+        run.entry.file.now (asked_in run.entry.asked) result.turns) }
 
     ensures rows { IfSome result.code IsScalarCode }
     ensures went_on { WentOn result.code result.turns }
@@ -46,7 +47,7 @@ pub fn run_file<'a, F: Files, O: Sink>(
 {
     let mut text = Vec::new(alloc);
     match files.fetch(alloc, run.file, MOST_SOURCE, &mut text) {
-        Fetched::Whole => work_on(alloc, text.as_slice(), run.turns, out),
+        Fetched::Whole => work_on(alloc, text.as_slice(), run.asked, out),
         Fetched::TooLong => Work::without_code(Answer::TooLong(run.file)),
         Fetched::Failed => Work::without_code(Answer::Unreadable(run.file)),
         Fetched::NoMemory => Work::without_code(Answer::NoMemory),

@@ -1,5 +1,7 @@
 //! The work on a text: code is made of it and run.
 ghost use Rattle.std.specs.Prelude.{◌≡◌, ◌≢◌, ◌≤◌, Some, None, IfSome, length};
+ghost use Rattle.call_claims.specs.Command.{limit_of};
+ghost use Rattle.call_words.specs.Asked.{asked_in};
 ghost use Rattle.zpl_io.specs.Faults.{CountsFaults};
 ghost use Rattle.zpl_text.specs.declared.TheConstants.{MOST_SOURCE};
 ghost use Rattle.grid_meaning.specs.Scalar.{IsScalarCode};
@@ -9,6 +11,7 @@ ghost use Rattle.top_call.specs.Work.{execution_in, IsWorkOn, WentOn};
 
 use crate::answers::Answer;
 use crate::compiling::compile;
+use call_words::Asked;
 use grid_meaning::{given_turns_are_orders, over_stays};
 use node_form::NodeProgram;
 use small_run::{RunFault, run_alone};
@@ -42,14 +45,16 @@ impl<'a> Work<'a> {
     }
 }
 
-/// Makes code of a text, and gives it turns until it has ended, and at most so many.
-pub fn work_on<'a, O: Sink>(alloc: Global, text: &[u8], turns: u64, out: &mut O) -> Work<'a>
+/// Makes code of a text under the settings of words, and gives it turns until it has ended, and at
+/// most as many as they ask for.
+pub fn work_on<'a, O: Sink>(alloc: Global, text: &[u8], asked: Asked<'_>, out: &mut O) -> Work<'a>
     requires { length text.now ≤ MOST_SOURCE }
-    ensures cause { IsWorkOn text.now turns result }
-    ensures code { IfSome result.code (IsCodeOf text.now) }
+    ensures cause { let all = asked_in asked.entry in
+        IsWorkOn text.now all.settings (limit_of all) result }
+    ensures code { IfSome result.code (IsCodeOf text.now (asked_in asked.entry).settings) }
     ensures rows { IfSome result.code IsScalarCode }
     ensures went_on { WentOn result.code result.turns }
-    ensures within { result.turns ≤ turns }
+    ensures within { result.turns ≤ limit_of (asked_in asked.entry) }
     ensures printed { result.answer ≢ Answer.PutFailed →
         TakesPrinted (execution_in result) (O.tells out.old) (O.tells out.new) }
     ensures cut_off { result.answer ≡ Answer.PutFailed →
@@ -57,26 +62,27 @@ pub fn work_on<'a, O: Sink>(alloc: Global, text: &[u8], turns: u64, out: &mut O)
     ensures counts { CountsFaults (result.answer ≡ Answer.PutFailed)
         (O.faults out.old) (O.faults out.new) }
 {
-    match compile(alloc, text) {
-        Ok(code) => run(alloc, text, code, turns, out),
+    match compile(alloc, text, asked.words) {
+        Ok(code) => run(alloc, text, code, asked, out),
         Err(refusal) => Work::without_code(Answer::of_refusal(text, refusal)),
     }
 }
 
-/// Gives turns to the code of a text.
+/// Gives turns to the code of a text, at most as many as words ask for.
 fn run<'a, O: Sink>(
     alloc: Global,
     text: &[u8],
     code: NodeProgram,
-    turns: u64,
+    asked: Asked<'_>,
     out: &mut O,
 ) -> Work<'a>
-    requires of_text { IsCodeOf text.now code }
+    requires of_text { IsCodeOf text.now (asked_in asked).settings code }
     requires rows { IsScalarCode code }
-    ensures cause { IsWorkOn text.now turns result }
+    ensures cause { let all = asked_in asked.entry in
+        IsWorkOn text.now all.settings (limit_of all) result }
     ensures code { result.code ≡ Some code }
     ensures went_on { WentOn (Some code) result.turns }
-    ensures within { result.turns ≤ turns }
+    ensures within { result.turns ≤ limit_of (asked_in asked.entry) }
     ensures printed { result.answer ≢ Answer.PutFailed →
         TakesPrinted (execution_in result) (O.tells out.old) (O.tells out.new) }
     ensures cut_off { result.answer ≡ Answer.PutFailed →
@@ -86,7 +92,7 @@ fn run<'a, O: Sink>(
 {
     given_turns_are_orders();
     over_stays();
-    let ran = run_alone(alloc, &code, turns, out);
+    let ran = run_alone(alloc, &code, asked.limit(), out);
     let answer = match ran.ending {
         Ok(Some(End::Done)) => Answer::Done,
         Ok(Some(End::Trap(kind, line))) => Answer::Trap(kind, line),

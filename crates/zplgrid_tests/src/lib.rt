@@ -12,3 +12,5 @@ mod forms;
 mod lists;
 #[cfg(test)]
 mod rows;
+#[cfg(test)]
+mod settings;

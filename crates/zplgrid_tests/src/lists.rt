@@ -40,11 +40,10 @@ fn listings(rt: HostRuntime) -> Result<(), Fail> {
 
 #[test]
 fn words_that_list_nothing(rt: HostRuntime) -> Result<(), Fail> {
-    let cases: [&[&str]; 5] = [
+    let cases: [&[&str]; 4] = [
         &["list"],
         &["List", "a.zpl"],
         &["list", "a.zpl", "turns=1"],
-        &["list", "a.zpl", "n:=1"],
         &["list", "a.zpl", "list"],
     ];
     for words in cases {

@@ -4,7 +4,8 @@ use Rattle.call_claims.specs.Cause.{Lists, Runs}
 use Rattle.call_claims.specs.Cause.Cause.{usage, run, list}
 use Rattle.call_claims.specs.Command.{IsCommand}
 use Rattle.call_claims.specs.Execution.{IsListedFor, IsMadeFor}
-use Rattle.top_call.specs.Commands.{command_in}
+use Rattle.call_words.specs.Asked.{asked_in}
+use Rattle.call_words.specs.Commands.{command_in}
 use Rattle.top_call.specs.declared.answers.Answer.TheVariants as answer
 use Rattle.top_call.proofs.WorkLemmas.{call_without, no_run, on_some}
 use Rattle.top_call.proofs.call.work_for.Goals as goal
@@ -14,7 +15,7 @@ returns-in-Some-Run-clause-cause g c = λ d.
     let words = map string_bytes c.args.words.now in
     run (record {
       file = c.in-Some-Run.run'.file.now;
-      rest = record { turns = c.in-Some-Run.run'.turns };
+      asked = asked_in c.in-Some-Run.run'.asked;
       given = subst (λ command. IsCommand words (command_in command)) c.in-Some-Run.field-0-is
           (c.in-Some-Run.ensures {u = tt});
       holds = c.run_file.ensures.cause words d;
@@ -28,12 +29,12 @@ returns-in-Some-Run-clause-code g c =
     let file = c.in-Some-Run.run'.file.now in
     let turns = c.run_file.result.turns in
     on_some c.run_file.result.code
-    (IsMadeFor call file (record { turns = c.in-Some-Run.run'.turns }) turns)
-    (λ code. Runs call (λ file rest. IsMadeFor call file rest turns code)
-    ⊎ Lists call (λ file. IsListedFor call file turns code))
+    (IsMadeFor call file (asked_in c.in-Some-Run.run'.asked) turns)
+    (λ code. Runs call (λ file asked. IsMadeFor call file asked turns code)
+    ⊎ Lists call (λ file asked. IsListedFor call file asked turns code))
     (λ code made. inl (record {
       file = file;
-      rest = record { turns = c.in-Some-Run.run'.turns };
+      asked = asked_in c.in-Some-Run.run'.asked;
       given = subst (λ command. IsCommand words (command_in command)) c.in-Some-Run.field-0-is
           (c.in-Some-Run.ensures {u = tt});
       holds = made;
@@ -43,7 +44,8 @@ pub returns-in-Some-Listing-clause-cause : goal.returns-in-Some-Listing-clause-c
 returns-in-Some-Listing-clause-cause g c = λ d.
     let words = map string_bytes c.args.words.now in
     list (record {
-      file = c.in-Some-Listing.file.now;
+      file = c.in-Some-Listing.list.file.now;
+      asked = asked_in c.in-Some-Listing.list.asked;
       given = subst (λ command. IsCommand words (command_in command)) c.in-Some-Listing.field-0-is
           (c.in-Some-Listing.ensures {u = tt});
       holds = c.list_file.ensures.cause words d;
@@ -54,13 +56,14 @@ returns-in-Some-Listing-clause-code g c =
     let words = map string_bytes c.args.words.now in
     let call = call_of words (g.F.Files.tells c.args.files.now)
     (g.F.Files.may_fail c.args.files.now) in
-    let file = c.in-Some-Listing.file.now in
+    let file = c.in-Some-Listing.list.file.now in
     let turns = c.list_file.result.turns in
-    on_some c.list_file.result.code (IsListedFor call file turns)
-    (λ code. Runs call (λ file rest. IsMadeFor call file rest turns code)
-    ⊎ Lists call (λ file. IsListedFor call file turns code))
+    on_some c.list_file.result.code (IsListedFor call file (asked_in c.in-Some-Listing.list.asked) turns)
+    (λ code. Runs call (λ file asked. IsMadeFor call file asked turns code)
+    ⊎ Lists call (λ file asked. IsListedFor call file asked turns code))
     (λ code listed. inr (record {
       file = file;
+      asked = asked_in c.in-Some-Listing.list.asked;
       given = subst (λ command. IsCommand words (command_in command)) c.in-Some-Listing.field-0-is
           (c.in-Some-Listing.ensures {u = tt});
       holds = listed;

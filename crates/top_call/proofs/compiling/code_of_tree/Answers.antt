@@ -1,7 +1,9 @@
-use Rattle.std.proofs.Common.{◌<◌, ◌≤◌, length, arith}
+use Rattle.std.proofs.Common.{◌≡◌, ◌<◌, ◌≤◌, [], length, map, string_bytes, sym, subst, arith}
 use Rattle.zpl_tree.specs.Spelling.{program_words}
 use Rattle.zpl_tree.specs.View.{syntax_of}
 use Rattle.call_claims.specs.declared.limits.TheConstants.{MOST_TOKENS}
+use Rattle.call_claims.specs.Setting.{settings_among}
+use Rattle.call_claims.specs.Source.{IsCodeOf}
 use Rattle.top_call.proofs.CodeLemmas.{code_is, small_words}
 use Rattle.top_call.proofs.compiling.code_of_tree.Goals as goal
 
@@ -13,6 +15,9 @@ returns-in-Ok-clause-code c =
     let few : length tokens ≤ MOST_TOKENS = omega arith in
     let made = c.in-Ok.ensures {u = tt} in
     let words = small_words text tokens program c.requires.tree made.built in
-    code_is text tokens program c.in-Ok.code c.requires.tokens few c.requires.tree
+    let none : settings_among (map string_bytes c.args.words.now) ≡ [] =
+    c.sets_nothing.ensures.0 c.if-not-sets_nothing.false in
+    subst (λ settings. IsCodeOf text settings c.in-Ok.code) (sym none)
+    (code_is text tokens program c.in-Ok.code c.requires.tokens few c.requires.tree
     (c.words_fit_their_text.ensures text tokens (program_words program) c.requires.tokens words)
-    made.built made.good made.in_step made.bound made.tidy
+    made.built made.good made.in_step made.bound made.tidy)

@@ -7,6 +7,7 @@ use Rattle.call_claims.specs.Cause.FileCause.{unreadable, too_long, work}
 use Rattle.call_claims.specs.Execution.{IsListedFor}
 use Rattle.call_claims.specs.Source.{IsCodeOf}
 use Rattle.call_claims.specs.declared.status.TheConstants.{TOO_LONG, UNREADABLE}
+use Rattle.call_words.specs.Asked.{asked_in}
 use Rattle.top_call.specs.Answers.{status_of}
 use Rattle.top_call.specs.declared.answers.Answer.TheVariants as answer
 use Rattle.top_call.proofs.ListLemmas.{list_not_unread, list_without, no_put}
@@ -18,7 +19,7 @@ pub returns-in-Whole-clause-cause : goal.returns-in-Whole-clause-cause
 returns-in-Whole-clause-cause g c = λ words d.
     let call = call_of words (g.F.Files.tells c.args.files.now)
     (g.F.Files.may_fail c.args.files.now) in
-    let file = c.args.file.now in
+    let file = c.args.list.file.now in
     let gains = subst (λ old. GainsWhole (call.tells file) MOST_SOURCE old c.fetch.new.into.items)
     c.new-text.ensures.items
     (c.fetch.ensures.whole (search rules)) in
@@ -29,12 +30,12 @@ pub returns-in-Whole-clause-code : goal.returns-in-Whole-clause-code
 returns-in-Whole-clause-code g c = λ words.
     let call = call_of words (g.F.Files.tells c.args.files.now)
     (g.F.Files.may_fail c.args.files.now) in
-    let file = c.args.file.now in
+    let file = c.args.list.file.now in
     let gains = subst (λ old. GainsWhole (call.tells file) MOST_SOURCE old c.fetch.new.into.items)
     c.new-text.ensures.items
     (c.fetch.ensures.whole (search rules)) in
-    on_some c.list_text.result.code (IsCodeOf c.as_slice.result.now)
-    (IsListedFor call file c.list_text.result.turns)
+    on_some c.list_text.result.code (IsCodeOf c.as_slice.result.now (asked_in c.args.list.asked).settings)
+    (IsListedFor call file (asked_in c.args.list.asked) c.list_text.result.turns)
     (λ code of_text. record {
       source = source_of call file c.as_slice.result.now c.fetch.new.into.items gains
           c.as_slice.ensures.value;
@@ -58,13 +59,13 @@ pub returns-in-TooLong-clause-cause : goal.returns-in-TooLong-clause-cause
 returns-in-TooLong-clause-cause g c = λ words.
     let call = call_of words (g.F.Files.tells c.args.files.now)
     (g.F.Files.may_fail c.args.files.now) in
-    let file = c.args.file.now in
+    let file = c.args.list.file.now in
     let without = c.without_code in
     let gains = subst (λ old. GainsTooMuch (call.tells file) MOST_SOURCE old c.fetch.new.into.items)
     c.new-text.ensures.items
     (c.fetch.ensures.too_long (search rules)) in
-    list_without call file without.result
-    (answer.TooLong c.args.file) without.ensures.answer
+    list_without call file (asked_in c.args.list.asked) without.result
+    (answer.TooLong c.args.list.file) without.ensures.answer
     (too_long (too_long_of call file c.fetch.new.into.items gains)
     (no_run without.result without.ensures.code without.ensures.turns))
 
@@ -72,11 +73,11 @@ pub returns-in-Failed-clause-cause : goal.returns-in-Failed-clause-cause
 returns-in-Failed-clause-cause g c = λ words.
     let call = call_of words (g.F.Files.tells c.args.files.now)
     (g.F.Files.may_fail c.args.files.now) in
-    let file = c.args.file.now in
+    let file = c.args.list.file.now in
     let without = c.without_code-in-Failed in
     let failed : c.fetch.result ≡ Failed = search rules in
-    list_without call file without.result
-    (answer.Unreadable c.args.file) without.ensures.answer
+    list_without call file (asked_in c.args.list.asked) without.result
+    (answer.Unreadable c.args.list.file) without.ensures.answer
     (unreadable (c.fetch.ensures.cause failed)
     (no_run without.result without.ensures.code without.ensures.turns))
 
@@ -96,4 +97,4 @@ returns-in-TooLong-clause-fetches g c =
 pub returns-in-TooLong-clause-puts : goal.returns-in-TooLong-clause-puts
 returns-in-TooLong-clause-puts g c =
     no_put (g.O.Sink.faults c.args.out.now) c.without_code.result.answer
-    (answer.TooLong c.args.file) c.without_code.ensures.answer (λ e. cc)
+    (answer.TooLong c.args.list.file) c.without_code.ensures.answer (λ e. cc)

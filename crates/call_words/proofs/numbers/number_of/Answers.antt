@@ -1,7 +1,7 @@
 use Rattle.std.proofs.Common.{◌≤◌, IsTrue, get_or, sym, ◌∙◌, arith}
 use Rattle.std.specs.Char.{is_ascii_digit}
-use Rattle.top_call.proofs.NumberLemmas.{value_below, digits_more, value_more}
-use Rattle.top_call.proofs.numbers.number_of.Goals as goal
+use Rattle.call_words.proofs.NumberLemmas.{value_below, digits_more, value_more}
+use Rattle.call_words.proofs.numbers.number_of.Goals as goal
 
 pub overflow_mul-number : goal.overflow_mul-number
 overflow_mul-number c =

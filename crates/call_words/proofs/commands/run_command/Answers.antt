@@ -1,6 +1,6 @@
 use Rattle.std.proofs.Common.{map, string_bytes}
-use Rattle.top_call.proofs.CommandLemmas.{not_run}
-use Rattle.top_call.proofs.commands.run_command.Goals as goal
+use Rattle.call_words.proofs.CommandLemmas.{not_run}
+use Rattle.call_words.proofs.commands.run_command.Goals as goal
 
 pub returns-in-None : goal.returns-in-None
 returns-in-None c =

@@ -2,7 +2,7 @@ use Rattle.std.proofs.Common.{◌≡◌, take, IsTrue}
 use Rattle.std.specs.List.{list_all}
 use Rattle.std.specs.Char.{is_ascii_digit}
 use Rattle.std.specs.Str.Parse.{digits_value}
-use Rattle.top_call.proofs.numbers.number_of.Given as goal
+use Rattle.call_words.proofs.numbers.number_of.Given as goal
 
 -- the digits so far are digits, and write the number
 abbrev pub invariant-loop-digit : goal.invariant-loop-digit

@@ -1,0 +1,5 @@
+pub mod AskedLemmas
+pub mod CommandLemmas
+pub mod NameLemmas
+pub mod NumberLemmas
+pub mod SettingLemmas
