@@ -1,5 +1,5 @@
 -- Words that are read for tuples, one after another.
-use Rattle.std.proofs.Common.{◌≡◌, ℕ, suc, List, [], ◌∷◌, ◌++◌, length, refl, sym, ap, ◌∙◌, ℤ, append-nil, append_assoc}
+use Rattle.std.proofs.Common.{◌≡◌, suc, List, [], ◌∷◌, ◌++◌, length, refl, sym, ap, ◌∙◌, ℤ, append-nil, append_assoc}
 use Rattle.std.specs.Prelude.{Bool, true, false, Option, Some, None, option_and_then}
 use Rattle.std.specs.Option.{option_map}
 use Rattle.grid_meaning.specs.Delivery.{each_word}

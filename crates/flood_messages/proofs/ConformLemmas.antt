@@ -1,14 +1,13 @@
 -- A source that conforms with a target, and has its values of the same owners.
-use Rattle.std.proofs.Common.{◌≡◌, ℕ, zero, suc, ◌-◌, ◌<◌, ◌≤◌, ◌||◌, ◌==◌, Bool, true, false, Option, Some, None, List, [], ◌∷◌, length, map, drop, replicate, get_or, refl, sym, ap, ◌∙◌, subst, arith, ℤ, pos, All, inl, inr, eq-eqb, rules}
+use Rattle.std.proofs.Common.{◌≡◌, ℕ, zero, suc, ◌-◌, ◌<◌, ◌≤◌, ◌||◌, ◌==◌, Bool, true, false, Option, Some, None, List, [], ◌∷◌, length, map, drop, replicate, get_or, refl, sym, ap, ◌∙◌, subst, arith, ℤ, pos, All, inl, inr, eq-eqb}
 use Rattle.std.specs.Prelude.{◌&&◌, filter, unwrap_or, is_some}
 use Rattle.std.specs.List.{AllZip}
 use Rattle.std.specs.Ordering.{int_eq}
-use Rattle.std.proofs.lemmas.Int.{ints}
 use Rattle.std.proofs.lemmas.List.Elements.{All-head, All-tail}
 use Rattle.zpl_region.specs.declared.dims.Dim.{Dim}
 use Rattle.zpl_region.specs.declared.dims.Dim.TheVariants.{Range, Flood}
 use Rattle.zpl_region.specs.declared.regions.Region.{Region}
-use Rattle.zpl_region.specs.Dim.{HasStep, IsDim, coordinates}
+use Rattle.zpl_region.specs.Dim.{HasStep, coordinates}
 use Rattle.zpl_region.specs.Ends.{coordinate_count, first_of, single_of}
 use Rattle.zpl_region.specs.Region.{IsPadded, members, padding}
 use Rattle.zpl_region.specs.Tests.{is_same_set, same_numbers}
@@ -19,7 +18,7 @@ use Rattle.zpl_arrays.specs.Conformity.{dims_spread, flood_conforms, is_single}
 use Rattle.zpl_arrays.specs.Flood.{dim_flood_source, each_flood_source, flood_source}
 use Rattle.grid_layout.specs.declared.axes.Axis.{Axis}
 use Rattle.grid_layout.specs.declared.blocks.Blocks.{Blocks}
-use Rattle.grid_layout.specs.Block.{block_first, block_last, block_of}
+use Rattle.grid_layout.specs.Block.{block_of}
 use Rattle.grid_layout.specs.Grid.{blocks_at, cuts, processor_at, processors_of}
 use Rattle.grid_layout.specs.Layout.{AreBlocks, axes_at}
 use Rattle.grid_layout.specs.Piece.{block_for, each_block_for, each_owned, owned_dim, owned_part, owner_for}

@@ -82,8 +82,8 @@ fn mark_flood_senders(
     }
 }
 
-/// What processor p does in `flood`, with these regions in the row's slots, when it has made so many
-/// turns there.
+/// What processor p does in `flood`, with these regions in the row's slots, when it has made so
+/// many turns there.
 pub fn flood_stage(
     code: &NodeProgram,
     layout: &Layout,

@@ -1,4 +1,4 @@
-use Rattle.std.proofs.Common.{◌≡◌, ◌-◌, ◌<◌, length, refl, ℕ, zero, suc, List, ◌∷◌, ap, ◌∙◌, sym, arith}
+use Rattle.std.proofs.Common.{◌≡◌, ◌-◌, refl, ℕ, zero, suc, List, ◌∷◌, ap, ◌∙◌, sym, arith}
 use Rattle.std.specs.Prelude.{Some, slice_get}
 use Rattle.grid_meaning.specs.Collective.{Stage}
 use Rattle.node_stages.specs.Partners.{exchanging, flagged}

@@ -1,4 +1,4 @@
-use Rattle.std.proofs.Common.{◌≡◌, refl, ap, ◌∙◌, List, ℤ}
+use Rattle.std.proofs.Common.{refl, ap, ◌∙◌, List, ℤ}
 use Rattle.std.specs.Prelude.{is_some}
 use Rattle.zpl_region.specs.Region.{members}
 use Rattle.zpl_arrays.specs.Flood.{flood_source}

@@ -1,4 +1,4 @@
-use Rattle.std.proofs.Common.{rules, ◌≡◌, ◌<◌, ◌==◌, sym, ap, ◌∙◌, subst}
+use Rattle.std.proofs.Common.{◌≡◌, ◌<◌, ◌==◌, sym, ap, ◌∙◌, subst}
 use Rattle.std.specs.Prelude.{filter, length}
 use Rattle.zpl_region.specs.declared.regions.Region.{Region}
 use Rattle.zpl_region.specs.Region.{IsRegion, members}
@@ -6,10 +6,8 @@ use Rattle.zpl_region.proofs.HullLemmas.{has_steps}
 use Rattle.zpl_arrays.specs.Flood.{flood_source}
 use Rattle.grid_layout.specs.Grid.{processors_of}
 use Rattle.grid_layout.specs.Layout.{AreBlocks, laid_out}
-use Rattle.grid_layout.specs.Piece.{owned_part}
 use Rattle.move_plan.specs.FloodPiece.{flood_piece_in}
 use Rattle.grid_meaning.specs.Owner.{owner_for}
-use Rattle.grid_meaning.specs.Local.{processors}
 use Rattle.grid_meaning.specs.Stored.{arrangement_of}
 use Rattle.grid_meaning.proofs.WorldLemmas.{processors_alike}
 use Rattle.node_stages.proofs.OwnLemmas as own
