@@ -6,21 +6,21 @@ use Rattle.std.proofs.lemmas.Bool.Decides.{nat_tests}
 use Rattle.std.proofs.lemmas.List.Elements.{All-cons, All-head, All-tail, filter-append}
 use Rattle.std.proofs.lemmas.Option.{slice_get_within}
 use Rattle.std.proofs.lemmas.List.Sums.{count_by-le-length, length-filter}
-use Rattle.std.proofs.lemmas.List.{drop_all, get_or-replicate, length-take, map-append, take_all}
+use Rattle.std.proofs.lemmas.List.{drop_all, get_or-replicate, map-append, take_all}
 use Rattle.zpl_region.specs.declared.dims.Dim.{Dim}
 use Rattle.zpl_region.specs.declared.dims.Dim.TheVariants.{Range, Flood}
 use Rattle.zpl_region.specs.declared.regions.Region.{Region}
-use Rattle.zpl_region.specs.Dim.{HasBounds, HasStep, dim_met}
+use Rattle.zpl_region.specs.Dim.{HasStep, dim_met}
 use Rattle.zpl_region.specs.Region.{each_met, is_before, members}
 use Rattle.zpl_region.proofs.LawLemmas.{next_member}
-use Rattle.zpl_region.proofs.ListLemmas.{Among, Among-filter}
+use Rattle.zpl_region.proofs.ListLemmas.{Among}
 use Rattle.zpl_region.proofs.EndLemmas.{among_at}
 use Rattle.zpl_arrays.specs.Array.{place_among}
 use Rattle.zpl_arrays.proofs.ArrayLemmas.{only_place}
 use Rattle.grid_layout.specs.declared.blocks.Blocks.{Blocks}
 use Rattle.grid_layout.specs.Layout.{AreBlocks, laid_out}
 use Rattle.grid_layout.specs.Grid.{processors_of}
-use Rattle.grid_layout.specs.Piece.{owned_part, owner_for}
+use Rattle.grid_layout.specs.Piece.{owned_part}
 use Rattle.grid_layout.proofs.PartLemmas.{eq_from_test, parts_by_owner}
 use Rattle.node_form.specs.declared.tables.Tables.{Tables}
 use Rattle.grid_meaning.specs.Gather.{gathered_value, words_from}

@@ -1,24 +1,24 @@
 -- Who owns a tuple for processor 0, whose own block is the first one.
-use Rattle.std.proofs.Common.{◌≡◌, ℕ, zero, suc, ◌/◌, ◌%◌, ◌<◌, ◌≤◌, ◌==◌, ◌^◌, Bool, true, false, cond, List, [], ◌∷◌, length, map, get_or, refl, sym, ap, ◌∙◌, subst, arith, ℤ, pos, neg_ℤ, ◌≤ℤ◌, ◌<ℤ◌, All, eq-eqb, inl, inr}
-use Rattle.std.specs.List.{AllZip, filter}
+use Rattle.std.proofs.Common.{◌≡◌, ℕ, ◌/◌, ◌%◌, ◌≤◌, ◌==◌, ◌^◌, Bool, true, false, cond, List, [], ◌∷◌, length, map, get_or, refl, sym, ap, ◌∙◌, subst, arith, ℤ, pos, neg_ℤ, All, eq-eqb}
+use Rattle.std.specs.List.{AllZip}
 use Rattle.std.proofs.lemmas.Int.{ints}
 use Rattle.std.proofs.lemmas.List.Elements.{All-head, All-tail}
 use Rattle.zpl_region.specs.declared.dims.Dim.{Dim}
 use Rattle.zpl_region.specs.declared.dims.Dim.TheVariants.{Range, Flood}
 use Rattle.zpl_region.specs.declared.regions.Region.{Region}
 use Rattle.zpl_region.specs.Dim.{IsUpTo, coordinates}
-use Rattle.zpl_region.specs.Region.{members, tuples}
+use Rattle.zpl_region.specs.Region.{members}
 use Rattle.zpl_region.proofs.ListLemmas.{Among}
 use Rattle.zpl_region.proofs.TupleLemmas.{among_tuples}
 use Rattle.grid_layout.specs.declared.axes.Axis.{Axis}
 use Rattle.grid_layout.specs.declared.blocks.Blocks.{Blocks}
 use Rattle.grid_layout.specs.Block.{block_of}
-use Rattle.grid_layout.specs.Grid.{blocks_at, cuts, processor_at, processors_of, product}
+use Rattle.grid_layout.specs.Grid.{blocks_at, cuts, processor_at, product}
 use Rattle.grid_layout.specs.Layout.{AreAxes, AreBlocks, IsAxis, axes_at, owner_of, owning_blocks}
 use Rattle.grid_layout.specs.Piece.{block_for, each_block_for, each_owned, nothing, owned_dim, owned_part, owner_for}
 use Rattle.grid_layout.proofs.BlockLemmas.{block_before}
 use Rattle.grid_layout.proofs.OwnerLemmas.{AreCuts, EachSome, are_cuts, axes_three, some_product}
-use Rattle.grid_layout.proofs.PartLemmas.{blocks_length, eq_from_test}
+use Rattle.grid_layout.proofs.PartLemmas.{blocks_length}
 use Rattle.gather_text.specs.Printer.{coordinate_below}
 
 -- ---- processor 0 has the first block of each dimension

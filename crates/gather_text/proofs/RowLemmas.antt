@@ -1,11 +1,11 @@
 -- What the row's record says of its last turn on processor 0.
-use Rattle.std.proofs.Common.{◌≡◌, ℕ, Bool, true, false, List, [], ◌∷◌, ◌++◌, refl, sym, ap, ◌∙◌, ℤ}
+use Rattle.std.proofs.Common.{◌≡◌, ℕ, Bool, true, false, List, [], ◌∷◌, ◌++◌, sym, ap, ◌∙◌, ℤ}
 use Rattle.std.specs.Prelude.{Option, Some, None, slice_get, unwrap_or}
 use Rattle.zpl_region.specs.declared.regions.Region.{Region}
 use Rattle.zpl_arrays.specs.ArrayText.{array_text}
 use Rattle.array_prints.specs.RowText.{value_text}
 use Rattle.node_form.specs.declared.tables.Tables.{Tables}
-use Rattle.grid_meaning.specs.Gather.{element_text, gather_last, gathered, gathered_value, prints_gathered}
+use Rattle.grid_meaning.specs.Gather.{gather_last, gathered, gathered_value, prints_gathered}
 use Rattle.grid_meaning.specs.Local.{Local}
 use Rattle.grid_meaning.specs.Owner.{tuples_of}
 use Rattle.grid_meaning.specs.Place.{values_at}

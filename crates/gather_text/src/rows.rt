@@ -41,8 +41,8 @@ fn senders(kept: &[Kept]) -> [usize; MOST]
     places
 }
 
-/// The words of a processor: of processor 0 these are its own, and of another one those that stand at
-/// this place among the kept ones, if any do.
+/// The words of a processor: of processor 0 these are its own, and of another one those that stand
+/// at this place among the kept ones, if any do.
 fn words_of<'a>(own: &'a [i64], kept: &'a [Kept], sender: usize, q: u32) -> &'a [i64]
     requires { find (λ entry. entry.0 == q) (map entry_of kept.now)
         ≡ slice_get (map entry_of kept.now) sender }

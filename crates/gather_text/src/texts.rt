@@ -17,8 +17,8 @@ use zpl_io::Bytes;
 use zpl_region::Region;
 
 /// The text that the last turn of `gather` prints on processor 0, from its own values and the words
-/// that it keeps: of truth values or of numbers; none where a place of its own isn't held. The turn is
-/// to be made by going on to the next row. The region is that in the slot.
+/// that it keeps: of truth values or of numbers; none where a place of its own isn't held. The turn
+/// is to be made by going on to the next row. The region is that in the slot.
 pub fn gather_text(
     alloc: Global,
     code: &NodeProgram,

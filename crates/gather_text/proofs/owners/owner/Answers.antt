@@ -1,8 +1,7 @@
-use Rattle.std.proofs.Common.{rules, ◌≡◌, ◌<◌, [], ◌∷◌, pos, sym, ap, ◌∙◌, subst, arith, get_or, w64, to_z, of_z}
+use Rattle.std.proofs.Common.{rules, ◌≡◌, ◌<◌, [], ◌∷◌, pos, ap, ◌∙◌, subst, arith, get_or, w64, to_z, of_z}
 use Rattle.zpl_region.specs.declared.dims.Dim.{Dim}
 use Rattle.zpl_region.specs.declared.dims.Dim.TheVariants.{Range}
 use Rattle.grid_layout.specs.Layout.{AreBlocks, laid_out, owner_of}
-use Rattle.grid_meaning.specs.Local.{processors}
 use Rattle.grid_meaning.specs.Stored.{arrangement_of}
 use Rattle.node_stages.proofs.PieceLemmas.{grid_count}
 use Rattle.gather_text.specs.Printer.{coordinate_below}

@@ -1,4 +1,4 @@
-use Rattle.std.proofs.Common.{rules, ◌≡◌, ◌+◌, ◌-◌, ◌<◌, ◌≤◌, length, map, cond, ◌==◌, get_or, sym, ap, ◌∙◌, subst, arith}
+use Rattle.std.proofs.Common.{◌≡◌, ◌+◌, ◌-◌, ◌<◌, length, map, cond, ◌==◌, get_or, sym, ap, ◌∙◌, subst, arith}
 use Rattle.std.specs.Prelude.{Some, slice_get}
 use Rattle.std.proofs.lemmas.List.{length-map}
 use Rattle.node_local.specs.declared.standings.Kept.{Kept}

@@ -1,4 +1,4 @@
-use Rattle.std.proofs.Common.{rules, ◌≡◌, true, List, ◌∷◌, ◌++◌, ℤ, map, sym, ap, ◌∙◌}
+use Rattle.std.proofs.Common.{rules, ◌≡◌, true, ◌∷◌, ◌++◌, map, sym, ap, ◌∙◌}
 use Rattle.std.specs.Prelude.{Some}
 use Rattle.zpl_region.specs.Region.{members}
 use Rattle.zpl_arrays.specs.ArrayText.{array_text}
