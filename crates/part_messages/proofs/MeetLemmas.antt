@@ -1,5 +1,5 @@
 -- Where bounds don't overlap, no tuple is reached.
-use Rattle.std.proofs.Common.{◌≡◌, ◌↔◌, not, IsTrue, Bool, true, false, ◌&&◌, ◌||◌, ◌⊎◌, inl, inr, List, [], ◌∷◌, map, refl, sym, ap, ◌∙◌, cond, arith, ℤ, ◌≤ℤ◌}
+use Rattle.std.proofs.Common.{◌≡◌, ◌↔◌, not, IsTrue, Bool, true, false, ◌&&◌, ◌||◌, inl, inr, List, [], ◌∷◌, map, refl, sym, ap, ◌∙◌, cond, arith, ℤ}
 use Rattle.std.specs.Prelude.{filter, int_le}
 use Rattle.std.specs.List.{AllZip, list_any}
 use Rattle.std.specs.Ordering.{int_eq}

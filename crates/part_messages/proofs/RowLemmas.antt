@@ -1,5 +1,5 @@
 -- What the row's record says, by the regions in its slots.
-use Rattle.std.proofs.Common.{◌≡◌, ℕ, Bool, true, false, cond, List, [], ◌∷◌, refl, sym, ap, ◌∙◌, ℤ}
+use Rattle.std.proofs.Common.{◌≡◌, ℕ, Bool, cond, List, [], ◌∷◌, refl, sym, ap, ◌∙◌, ℤ}
 use Rattle.std.specs.Prelude.{Option, Some, None, filter, option_and_then, slice_get, unwrap_or}
 use Rattle.std.specs.Option.{option_map}
 use Rattle.zpl_nums.specs.declared.folds.Fold.{Fold}
@@ -17,7 +17,7 @@ use Rattle.grid_meaning.specs.Stored.{no_places}
 use Rattle.delivery_stages.proofs.RowLemmas as row
 use Rattle.part_messages.specs.declared.walks.Walk.{Walk}
 use Rattle.part_messages.specs.Folding.{fold_over}
-use Rattle.part_messages.specs.Joining.{joined_at, joined_into}
+use Rattle.part_messages.specs.Joining.{joined_into}
 
 module _ (code : Tables) (p array t : ℕ) (f : Fold) (from s : ℕ) (local : Local) (target source : Region)
     (there : slice_get local.slots t ≡ Some target) (also : slice_get local.slots s ≡ Some source) where

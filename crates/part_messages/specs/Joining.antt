@@ -1,5 +1,5 @@
 -- Words joined with the values at the places of an array, one after another.
-use Rattle.std.specs.Prelude.{ℕ, ℤ, List, [], ◌∷◌, option_and_then, Option, Some}
+use Rattle.std.specs.Prelude.{ℕ, ℤ, List, ◌∷◌, option_and_then, Option, Some}
 use Rattle.zpl_nums.specs.declared.folds.Fold.{Fold}
 use Rattle.zpl_nums.specs.Fold.{joined}
 use Rattle.zpl_arrays.specs.Array.{Array}

@@ -44,8 +44,8 @@ fn fold_over(local: &Local, fold: Fold, array: u32, walk: &Walk, x: &Vec3) -> Op
     fold_at(local, fold, array, &tuples)
 }
 
-/// Appends the folds for the tuples of a walk. Answers whether all places are held that count; where
-/// one isn't, the folds in front of it were appended.
+/// Appends the folds for the tuples of a walk. Answers whether all places are held that count;
+/// where one isn't, the folds in front of it were appended.
 pub(crate) fn push_folds(
     local: &Local,
     fold: Fold,

@@ -41,8 +41,8 @@ fn join_word(local: &mut Local, fold: Fold, array: u32, x: &Vec3, word: i64) -> 
 }
 
 /// Joins words with the values at the tuples of a walk, one at each, until there are no more of
-/// either. Answers whether all these places are held; where one isn't, the words in front of it were
-/// joined.
+/// either. Answers whether all these places are held; where one isn't, the words in front of it
+/// were joined.
 fn join_each(local: &mut Local, fold: Fold, array: u32, walk: &Walk, words: &[i64]) -> bool
     requires { IsWalk walk.now }
     ensures joined { joined_into fold array (tuples_on walk.now) words.now local.old.local.stores

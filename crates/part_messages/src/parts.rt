@@ -18,9 +18,9 @@ use std::alloc::{AllocError, Global};
 use zpl_nums::Fold;
 use zpl_region::Region;
 
-/// How many words a processor has for another one: one for each tuple of the target in the own block
-/// of `to` that some tuple of the source in the own block of `sender` reaches. The regions are those
-/// in the slots.
+/// How many words a processor has for another one: one for each tuple of the target in the own
+/// block of `to` that some tuple of the source in the own block of `sender` reaches. The regions
+/// are those in the slots.
 pub fn part_count(
     code: &NodeProgram,
     layout: &Layout,

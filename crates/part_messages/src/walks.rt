@@ -100,8 +100,8 @@ fn reachable(target: &Region, own: &Region, block: &Region) -> Region
 }
 
 impl Walk {
-    /// The walk over the tuples of the target in the own block of `to` that the part of the source in
-    /// the own block of `from` reaches.
+    /// The walk over the tuples of the target in the own block of `to` that the part of the source
+    /// in the own block of `from` reaches.
     pub(crate) fn reached(
         code: &NodeProgram,
         layout: &Layout,

@@ -1,5 +1,4 @@
-use Rattle.std.proofs.Common.{rules, ◌≡◌, ◌<◌, w64, to_z, of_z, List, ℤ, sym, ap, ◌∙◌, subst, arith}
-use Rattle.std.proofs.lemmas.Int.{ints}
+use Rattle.std.proofs.Common.{rules, ◌≡◌, ◌<◌, w64, to_z, of_z, sym, ap, ◌∙◌, subst}
 use Rattle.zpl_nums.specs.Fold.{joined}
 use Rattle.zpl_region.proofs.EndLemmas.{first_member}
 use Rattle.zpl_region.proofs.HullLemmas.{has_steps}

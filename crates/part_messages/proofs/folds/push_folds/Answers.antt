@@ -1,4 +1,4 @@
-use Rattle.std.proofs.Common.{rules, ◌<◌, List, ℤ, sym, ap, ◌∙◌, subst}
+use Rattle.std.proofs.Common.{rules, ◌<◌, sym, ◌∙◌, subst}
 use Rattle.reduce_plan.proofs.WalkLemmas.{pushed}
 use Rattle.part_messages.specs.Folding.{fold_over}
 use Rattle.part_messages.specs.Walking.{tuples_from}

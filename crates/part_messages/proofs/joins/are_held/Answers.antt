@@ -1,4 +1,4 @@
-use Rattle.std.proofs.Common.{◌<◌, sym, ap, ◌∙◌, subst}
+use Rattle.std.proofs.Common.{◌<◌, sym, ◌∙◌, subst}
 use Rattle.part_messages.specs.Walking.{tuples_from}
 use Rattle.part_messages.proofs.JoinLemmas.{IsHolding, holding_ends, holding_lacks, holding_starts, holding_step}
 use Rattle.part_messages.proofs.AheadLemmas.{on_ahead}

@@ -1,4 +1,4 @@
-use Rattle.std.proofs.Common.{nat_lt, sym, ap, ◌∙◌}
+use Rattle.std.proofs.Common.{nat_lt, ap, ◌∙◌}
 use Rattle.std.specs.Prelude.{length}
 use Rattle.part_messages.specs.Walking.{tuples_on}
 use Rattle.part_messages.proofs.AheadLemmas.{some_ahead}

@@ -1,4 +1,4 @@
-use Rattle.std.proofs.Common.{◌≡◌, sym, ap, ◌∙◌, subst, arith}
+use Rattle.std.proofs.Common.{sym, ap, ◌∙◌, arith}
 use Rattle.std.specs.Prelude.{filter, length}
 use Rattle.reduce_plan.specs.Partial.{is_reached}
 use Rattle.part_messages.proofs.MeetLemmas.{none_by_none, none_reached}

@@ -1,4 +1,4 @@
-use Rattle.std.proofs.Common.{arith, sym, ◌∙◌}
+use Rattle.std.proofs.Common.{arith}
 use Rattle.zpl_region.proofs.HullLemmas.{has_steps}
 use Rattle.part_messages.proofs.AheadLemmas.{ahead_on, fewer_behind, on_next}
 use Rattle.part_messages.proofs.walks.Walk.after.Goals as goal

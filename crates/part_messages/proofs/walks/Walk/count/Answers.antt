@@ -1,4 +1,4 @@
-use Rattle.std.proofs.Common.{rules, ◌≡◌, ◌<◌, ℕ, sym, ap, ◌∙◌, subst, arith, refl}
+use Rattle.std.proofs.Common.{rules, ◌<◌, sym, subst, arith}
 use Rattle.std.specs.Prelude.{length}
 use Rattle.part_messages.specs.Walking.{tuples_from, tuples_on}
 use Rattle.part_messages.proofs.AheadLemmas.{IsCounting, counting_below, counting_ends, counting_on, few_on, on_ahead}

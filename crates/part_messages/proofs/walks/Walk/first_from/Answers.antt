@@ -1,7 +1,7 @@
-use Rattle.std.proofs.Common.{◌≡◌, ◌<◌, ◌≤◌, sym, ap, ◌∙◌, subst, arith}
-use Rattle.std.specs.Prelude.{Some, None}
+use Rattle.std.proofs.Common.{◌<◌, ◌≤◌, sym, ◌∙◌, subst, arith}
+use Rattle.std.specs.Prelude.{Some}
 use Rattle.zpl_region.proofs.HullLemmas.{has_steps}
-use Rattle.part_messages.specs.Walking.{IsAhead, IsOn, tuples_from}
+use Rattle.part_messages.specs.Walking.{IsOn, tuples_from}
 use Rattle.part_messages.proofs.AheadLemmas.{IsComing, coming_ends, coming_on, coming_starts, coming_taken, fewer_behind, on_next}
 use Rattle.part_messages.proofs.walks.Walk.first_from.Goals as goal
 
