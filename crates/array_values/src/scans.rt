@@ -93,5 +93,6 @@ pub fn scan_last(
         scan_behind(scan.fold, scan.along, &scan.over.region, begin, kept, out);
         return Ok(false);
     }
+    // no expression of a program without faults comes here
     Err(Stop::NoMemory)
 }

@@ -1,0 +1,3 @@
+pub mod ScalarLemmas
+pub mod NowhereLemmas
+pub mod ScanLemmas

@@ -1,0 +1,10 @@
+//! The values of terms that stand by themselves, as tests and limits of loops do.
+#![tactic(auto)]
+
+mod folds;
+mod nowhere;
+mod scalars;
+mod values;
+
+pub use scalars::Scalar;
+pub use values::scalar_value;
