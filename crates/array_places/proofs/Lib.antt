@@ -1,0 +1,2 @@
+pub mod ThingLemmas
+pub mod AnswerLemmas

@@ -1,0 +1,4 @@
+pub mod Things
+pub mod View
+pub mod Sound
+pub mod Plain

@@ -1,0 +1,27 @@
+-- What the calls ask of a place: regions are regions within the limit.
+use Rattle.std.specs.Prelude.{Option, Some, None, All}
+use Rattle.zpl_bind.specs.declared.known.Known.{Known}
+use Rattle.zpl_bind.specs.Known.{IsKnown}
+use Rattle.zpl_bind.specs.Tables.{listed}
+use Rattle.array_terms.specs.declared.terms.Over.{Over}
+use Rattle.array_terms.specs.Sound.{IsSmall}
+use Rattle.array_places.specs.declared.places.Currents.{Currents}
+use Rattle.array_places.specs.declared.places.Place.{Place}
+
+-- Declared regions have a rank from 1 to 3, as those of a program without faults have.
+pub record IsRanked (known : Known) : Type 0 where
+  pub all : IsKnown known
+  pub small : All (λ entry. IsSmall entry.1) (listed known.regions)
+
+abbrev pub IsSmallOver : Option Over → Type 0
+IsSmallOver None = Unit {0}
+IsSmallOver (Some over) = IsSmall over.region
+
+pub record AreSmall (currents : Currents) : Type 0 where
+  pub one : IsSmallOver currents.one
+  pub two : IsSmallOver currents.two
+  pub three : IsSmallOver currents.three
+
+pub record IsPlace (place : Place) : Type 0 where
+  pub known : IsRanked place.setup.now.known.now
+  pub currents : AreSmall place.currents

@@ -1,0 +1,51 @@
+-- Vectors are near.
+use Rattle.std.proofs.Common.{◌≡◌, ℕ, ◌^◌, ℤ, pos, neg_ℤ, ◌≤ℤ◌, Bool, true, false, ◌&&◌, List, [], ◌∷◌, All, refl, sym, ap, ◌∙◌, subst, arith, cond}
+use Rattle.std.specs.Prelude.{unwrap_or}
+use Rattle.std.specs.List.{AllByRecursion, list_all}
+use Rattle.std.proofs.lemmas.Int.{ints}
+use Rattle.std.proofs.lemmas.List.Elements.{All-from_recursion}
+use Rattle.zpl_region.specs.Dim.{IsUpTo}
+use Rattle.zpl_tree.specs.Syntax.{Dir, NamedDir, Vector}
+use Rattle.zpl_binding.specs.Outcome.{Outcome, Gives, Computed}
+use Rattle.zpl_binding.specs.Vectors.{dir_of, is_component, three_components, vector_of}
+use Rattle.zpl_binding.specs.Bound.{IsVector}
+use Rattle.zpl_binding.proofs.LimitLemmas.{Holds, vector-holds}
+use Rattle.zpl_bind.specs.Tables.{computed, found}
+use Rattle.zpl_bind.proofs.StorageLemmas.{component}
+use Rattle.zpl_bind.proofs.TableLemmas.{outcome-found}
+use Rattle.zpl_bind.proofs.RegionLemmas.{found-or-holds}
+use Rattle.array_terms.specs.Sound.{IsNear}
+
+near-part : (part : ℤ) → is_component part ≡ true → IsUpTo 41 part
+near-part part h =
+    let bounds = component part h in
+    (omega (arith, ints, bounds.0, bounds.1), omega (arith, ints, bounds.0, bounds.1))
+
+and-true : (a b : Bool) → a && b ≡ true → (a ≡ true) × (b ≡ true)
+and-true true b h = (refl, h)
+and-true false b h = cc
+
+near-parts : (parts : List ℤ) → list_all is_component parts ≡ true → AllByRecursion (IsUpTo 41) parts
+near-parts [] h = tt
+near-parts (part ∷ rest) h =
+    let both = and-true (is_component part) (list_all is_component rest) h in
+    (near-part part both.0, near-parts rest both.1)
+
+pub near-vector : (vector : List ℤ) → IsVector vector → IsNear vector
+near-vector vector h = All-from_recursion (IsUpTo 41) vector (near-parts vector h.1)
+
+held-value : {A : Type 0} (P : A → Type 0) (o : Outcome A) (value : A) → Holds P o →
+    o ≡ Gives value → P value
+held-value P o value holds is = subst (Holds P) is holds
+
+pub dir-near : (values : List (Computed ℤ)) (directions : List (List ℕ × List ℤ)) (dir : Dir)
+    (vector : List ℤ) → All (λ entry. IsVector entry.1) directions →
+    dir_of values (computed directions) dir ≡ Gives vector → IsNear vector
+dir-near values directions (NamedDir name) vector all is =
+    near-vector vector
+    (held-value IsVector (dir_of values (computed directions) (NamedDir name)) vector
+    (subst (Holds IsVector) (sym (outcome-found (three_components []) directions name.text))
+    (found-or-holds IsVector (three_components []) directions name.text all (refl, refl))) is)
+dir-near values directions (Vector parts) vector all is =
+    near-vector vector
+    (held-value IsVector (vector_of values parts) vector (vector-holds values parts) is)

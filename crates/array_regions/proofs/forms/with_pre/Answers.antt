@@ -1,0 +1,14 @@
+use Rattle.std.proofs.Common.{subst}
+use Rattle.zpl_region.specs.declared.regions.Region.{Region}
+use Rattle.zpl_binding.specs.Outcome.{Outcome}
+use Rattle.zpl_bind.specs.Known.{known_in}
+use Rattle.zpl_meaning.specs.Regions.{computed_of}
+use Rattle.array_stops.specs.Answer.{Computes}
+use Rattle.array_regions.proofs.RegionLemmas.{pre-is}
+use Rattle.array_regions.proofs.forms.with_pre.Goals as goal
+
+pub returns-clause-computes : goal.returns-clause-computes
+returns-clause-computes c =
+    let P : Outcome Region → Type 0 = λ o. Computes c.beside.result (computed_of o) in
+    subst P (pre-is (known_in c.args.known.now) c.args.region.now c.args.pre.now
+    c.direction_named-vector.result c.direction_named-vector.ensures) c.beside.ensures.computes

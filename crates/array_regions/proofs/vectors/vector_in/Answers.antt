@@ -1,0 +1,10 @@
+use Rattle.std.proofs.Common.{sym, subst}
+use Rattle.zpl_tree.specs.View.{dir_of as seen_dir}
+use Rattle.zpl_bind.specs.Tables.{computed, listed}
+use Rattle.array_regions.proofs.VectorLemmas.{dir-near}
+use Rattle.array_regions.proofs.vectors.vector_in.Goals as goal
+
+pub returns-in-Ok-clause-near : goal.returns-in-Ok-clause-near
+returns-in-Ok-clause-near c =
+    dir-near (computed (listed c.args.known.now.values)) (listed c.args.known.now.directions)
+    (seen_dir c.args.dir.now) c.in-Ok.vector c.requires.vectors c.in-Ok.ensures
