@@ -1,0 +1,5 @@
+mod ListLemmas
+pub mod HeldLemmas
+pub mod PartnerLemmas
+pub mod StageLemmas
+pub mod WalkLemmas

@@ -1,0 +1,9 @@
+//! Steps that several rows share in which processors work together: the other processors by their
+//! place, and values written at listed places of an array.
+#![tactic(auto)]
+
+mod partners;
+mod writes;
+
+pub use partners::{MOST, other, taking_stage};
+pub use writes::put_listed;

@@ -1,0 +1,10 @@
+mod BeforeLemmas
+mod BoxLemmas
+mod EntryLemmas
+mod KeptLemmas
+mod LastLemmas
+mod LineLemmas
+mod RowLemmas
+mod StageLemmas
+mod TurnLemmas
+mod ValueLemmas
