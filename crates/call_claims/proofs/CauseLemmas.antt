@@ -1,13 +1,13 @@
 -- A status with its cause comes just where that cause is.
-use Rattle.std.proofs.Common.{◌≡◌, ◌≢◌, ℕ, ◌↔◌, ◌⊎◌, List, [], length, Some}
+use Rattle.std.proofs.Common.{◌≡◌, ◌≢◌, ℕ, ◌↔◌, List, [], length, Some}
 use Rattle.std.proofs.Common.{None, refl, sym, ◌∙◌, ap, subst, arith, inl, inr}
 use Rattle.zpl_nums.specs.declared.ends.End.TheVariants.{Done, Trap}
 use Rattle.zpl_nums.specs.declared.ends.TrapKind.{TrapKind}
 use Rattle.node_form.specs.declared.tables.Tables.{Tables}
 use Rattle.grid_meaning.specs.Grid.{IsOver, EndsAs}
 use Rattle.call_claims.specs.Call.{Call}
-use Rattle.call_claims.specs.Cause.{WorkCause, ListCause, FileCause, RunCause, ListFileCause, Cause}
-use Rattle.call_claims.specs.Cause.{IsTooLong, IsCutShort, Lists, Names, Runs}
+use Rattle.call_claims.specs.Cause.{WorkCause, ListCause, FileCause, Cause}
+use Rattle.call_claims.specs.Cause.{IsTooLong, IsCutShort, Lists, Names}
 use Rattle.call_claims.specs.Cause.WorkCause.{refused, unbound, done, trap, turn_limit}
 use Rattle.call_claims.specs.Cause.ListCause.{not_listed, not_bound, listed}
 use Rattle.call_claims.specs.Cause.FileCause.{unreadable, too_long, work}
@@ -21,7 +21,7 @@ use Rattle.call_claims.specs.Decided.{HasTrapped, RunsToTrap, RunsTooShort}
 use Rattle.call_claims.specs.Execution.{Execution, HasCode, HasNoRun, HasEnded}
 use Rattle.call_claims.specs.Run.{grid_at}
 use Rattle.call_claims.specs.Refusal.{HasUnbound, IsRefused}
-use Rattle.call_claims.specs.Source.{HasNoProgram, Source}
+use Rattle.call_claims.specs.Source.{Source}
 use Rattle.call_claims.specs.declared.status.TheConstants.{DONE, USAGE, TOO_LONG, REFUSED, TRAPPED}
 use Rattle.call_claims.specs.declared.status.TheConstants.{UNBOUND, TURN_LIMIT, UNREADABLE}
 use Rattle.call_claims.proofs.OneLemmas.{command_is_one}

@@ -1,6 +1,6 @@
 -- A list of words gives one command, and a run has one number of turns.
 use Rattle.std.proofs.Common.{◌≡◌, ℕ, ◌+◌, ◌<◌, Bool, true, false, ◌&&◌, ◌||◌, List, [], ◌∷◌, ◌++◌, length, take, drop, get_or}
-use Rattle.std.proofs.Common.{codes, IsTrue, Option, Some, None, refl, sym, ◌∙◌, ap, subst, inl, inr, arith, cond}
+use Rattle.std.proofs.Common.{codes, IsTrue, Some, None, refl, sym, ◌∙◌, ap, subst, inl, inr, arith, cond}
 use Rattle.std.proofs.Math.Seq.{take-append_seam, drop-append_seam}
 use Rattle.std.specs.List.{list_all, prefix_len}
 use Rattle.zpl_text.specs.Bytes.{is_word_start, is_word_byte}

@@ -1,5 +1,5 @@
 -- What words set, computed from the words.
-use Rattle.std.specs.Prelude.{ℕ, nat_eq, if◌then◌else◌, List, [], ◌∷◌, ◌++◌, codes, take, drop, flat_map, Option, Some, None}
+use Rattle.std.specs.Prelude.{ℕ, nat_eq, if◌then◌else◌, List, [], ◌∷◌, codes, take, drop, flat_map, Option, Some, None}
 use Rattle.std.specs.List.{prefix_len, starts_with}
 use Rattle.zpl_text.specs.Bytes.{is_word_byte}
 use Rattle.zpl_binding.specs.Settings.{Setting}

@@ -1,6 +1,6 @@
 -- Words one after another.
 use Rattle.std.proofs.Common.{◌≡◌, ℕ, ◌+◌, ◌<◌, ◌≤◌, zero, suc, List, [], ◌∷◌, ◌++◌, map, length, take, drop, get_or}
-use Rattle.std.proofs.Common.{Option, Some, None, refl, sym, ◌∙◌, ap, subst, arith, drop-cons, add-one}
+use Rattle.std.proofs.Common.{Option, Some, None, sym, ◌∙◌, ap, subst, arith, drop-cons, add-one}
 use Rattle.std.proofs.Math.ListN.{length-map}
 use Rattle.std.proofs.lemmas.List.{append-nil, append_assoc, drop_all, get_or-map, take_all}
 use Rattle.std.specs.List.{flat_map}

@@ -1,5 +1,5 @@
 -- Words, and the list of the keywords, which has each of them.
-use Rattle.std.proofs.Common.{◌≡◌, ◌≢◌, ◌↔◌, ℕ, ◌<◌, ◌≤◌, Bool, true, false, ◌&&◌, IsTrue, List, [], ◌∷◌, drop, get_or, length, refl, sym, ◌∙◌, ap, subst, arith, lit<}
+use Rattle.std.proofs.Common.{◌≡◌, ◌≢◌, ◌↔◌, ℕ, ◌<◌, ◌≤◌, Bool, IsTrue, List, [], ◌∷◌, drop, get_or, length, refl, sym, ◌∙◌, ap, subst, arith, lit<}
 use Rattle.zpl_tokens.specs.declared.keywords.Key.{Key}
 use Rattle.zpl_tokens.specs.declared.keywords.Key.TheVariants.{Program, Config, Var, Constant, Region, Direction}
 use Rattle.zpl_tokens.specs.declared.keywords.Key.TheVariants.{Procedure, Begin, End, If, Then, Elsif}

@@ -1,5 +1,5 @@
 -- Settings among words.
-use Rattle.std.proofs.Common.{◌≡◌, ℕ, Bool, true, false, if◌then◌else◌, List, [], ◌∷◌, ◌++◌, codes, take, drop, length}
+use Rattle.std.proofs.Common.{◌≡◌, ℕ, Bool, true, false, if◌then◌else◌, List, ◌++◌, codes, take, drop}
 use Rattle.std.proofs.Common.{IsTrue, MatchBool, nat_eq, Option, Some, None, ◌↔◌, refl, sym, ◌∙◌, ap, subst}
 use Rattle.std.proofs.lemmas.List.{take-append-drop}
 use Rattle.std.proofs.lemmas.Bool.Decides.{Decides-eqb}
@@ -11,7 +11,7 @@ use Rattle.zpl_text.specs.Bytes.{is_word_byte}
 use Rattle.zpl_text.specs.Kinds.{IsToken}
 use Rattle.zpl_binding.specs.Settings.{Setting}
 use Rattle.call_claims.specs.Command.{IsSettingWord}
-use Rattle.call_claims.specs.Setting.{set_by, setting_in}
+use Rattle.call_claims.specs.Setting.{setting_in}
 use Rattle.call_claims.proofs.OneLemmas.{set_word}
 
 chosen : (b : Bool) (one other : Setting) → (if b then Some one else None) ≡ Some other

@@ -1,5 +1,5 @@
 -- What words ask for, as the claims have it.
-use Rattle.std.specs.Prelude.{ℕ, List, Option, Some, None, map, string_bytes}
+use Rattle.std.specs.Prelude.{ℕ, List, Option, map, string_bytes}
 use Rattle.zpl_binding.specs.Settings.{Setting}
 use Rattle.call_claims.specs.Command as claims
 use Rattle.call_claims.specs.Setting.{settings_among}

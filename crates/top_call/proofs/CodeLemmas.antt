@@ -42,7 +42,7 @@ use Rattle.call_claims.specs.Refusal.IsFault.{lexical, syntax, too_deep, judged,
 use Rattle.call_claims.specs.Texts.{bind_name, judged_name, settings_text}
 use Rattle.call_claims.specs.Source.{IsSmallText, HasNoProgram, IsCodeOf, one_processor}
 use Rattle.call_claims.specs.declared.limits.TheConstants.{MOST_TOKENS}
-use Rattle.top_call.specs.Refusals.{of_lex, of_parse, of_judge, of_bind, told_of, Refuses, IsOnlyTree}
+use Rattle.top_call.specs.Refusals.{of_lex, of_parse, of_judge, of_bind, Refuses, IsOnlyTree}
 use Rattle.top_call.specs.declared.refusals.Refusal.{Refusal}
 use Rattle.top_call.specs.declared.refusals.Refusal.TheVariants.{NotBuilt}
 use Rattle.top_call.proofs.SmallLemmas.{spelled_once}

@@ -1,8 +1,7 @@
-use Rattle.std.proofs.Common.{◌≡◌, ℕ, List, [], ◌+◌, map, length, get_or, take, drop, string_bytes, Global, Some, None, sym, ◌∙◌, ap, subst, arith}
-use Rattle.std.proofs.lemmas.List.{take_all, drop_all}
+use Rattle.std.proofs.Common.{◌≡◌, [], ◌+◌, map, get_or, take, string_bytes, Global, sym, subst, arith}
 use Rattle.std.proofs.Math.ListN.{length-map}
-use Rattle.call_claims.specs.Command.{Adds, AddAll, Asked}
-use Rattle.call_claims.specs.Setting.{one_or_none, setting_in, settings_among}
+use Rattle.call_claims.specs.Command.{Adds, Asked}
+use Rattle.call_claims.specs.Setting.{settings_among}
 use Rattle.call_words.specs.Asked.{asked_with}
 use Rattle.call_words.proofs.AskedLemmas.{all_read, as_many, word_adds, word_here, word_put, word_read}
 use Rattle.call_words.proofs.AskedLemmas.{word_refused}

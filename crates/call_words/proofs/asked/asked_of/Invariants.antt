@@ -1,4 +1,4 @@
-use Rattle.std.proofs.Common.{◌≡◌, List, map, take, drop, string_bytes}
+use Rattle.std.proofs.Common.{map, take, drop, string_bytes}
 use Rattle.call_claims.specs.Command.{Asked, AddAll, nothing_asked}
 use Rattle.call_claims.specs.Setting.{settings_among}
 use Rattle.call_words.specs.Asked.{asked_with}

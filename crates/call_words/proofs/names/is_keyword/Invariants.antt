@@ -1,4 +1,4 @@
-use Rattle.std.proofs.Common.{◌≡◌, ◌≢◌, ℕ, ◌<◌, get_or}
+use Rattle.std.proofs.Common.{◌≢◌, ℕ, ◌<◌, get_or}
 use Rattle.zpl_tokens.specs.declared.keywords.Key.TheVariants.{Program}
 use Rattle.zpl_tokens.specs.Key.{keyword_text}
 use Rattle.call_words.specs.declared.names.TheConstants.{KEYWORDS}

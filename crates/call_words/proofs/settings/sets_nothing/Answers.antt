@@ -1,5 +1,5 @@
-use Rattle.std.proofs.Common.{◌≡◌, [], map, get_or, string_bytes, Some, false, true, IsTrue, sym, ◌∙◌, ap}
-use Rattle.call_claims.specs.Setting.{setting_in, settings_among}
+use Rattle.std.proofs.Common.{◌≡◌, [], map, get_or, string_bytes, false, true, ◌∙◌, ap}
+use Rattle.call_claims.specs.Setting.{setting_in}
 use Rattle.call_words.proofs.AskedLemmas.{as_many, set_somewhere, settings_same, word_here}
 use Rattle.call_words.proofs.SettingLemmas.{seen_none, seen_some}
 use Rattle.call_words.proofs.settings.sets_nothing.Goals as goal

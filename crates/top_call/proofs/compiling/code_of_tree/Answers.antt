@@ -1,4 +1,4 @@
-use Rattle.std.proofs.Common.{◌≡◌, ◌<◌, ◌≤◌, [], length, map, string_bytes, sym, subst, arith}
+use Rattle.std.proofs.Common.{◌≡◌, ◌≤◌, [], length, map, string_bytes, sym, subst, arith}
 use Rattle.zpl_tree.specs.Spelling.{program_words}
 use Rattle.zpl_tree.specs.View.{syntax_of}
 use Rattle.call_claims.specs.declared.limits.TheConstants.{MOST_TOKENS}

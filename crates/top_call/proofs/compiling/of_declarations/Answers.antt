@@ -1,4 +1,4 @@
-use Rattle.std.proofs.Common.{map, string_bytes, sym, subst}
+use Rattle.std.proofs.Common.{sym, subst}
 use Rattle.call_claims.specs.Source.{HasNoProgram}
 use Rattle.top_call.specs.Refusals.{Refuses}
 use Rattle.top_call.proofs.compiling.of_declarations.Goals as goal
