@@ -16,8 +16,9 @@ use array_writes::Row;
 use row_stacks::clear_behind;
 use std::alloc::{AllocError, Global};
 
-/// Puts the values of a term at all tuples of a region into a buffer, in the place of what it has, with
-/// 0 where they are masked out. The answer is whether each tuple isn't masked out, or the first trap.
+/// Puts the values of a term at all tuples of a region into a buffer, in the place of what it has,
+/// with 0 where they are masked out. The answer is whether each tuple isn't masked out, or the
+/// first trap.
 pub fn values_over(
     alloc: Global,
     store: &Store,
@@ -50,9 +51,9 @@ fn copy_of(alloc: Global, store: &Store, place: usize) -> Result<Array, AllocErr
     }
 }
 
-/// Writes the values of a term at the tuples of a region to an array, those aside that are masked out.
-/// All values are computed first: where there is a trap, or memory runs out, nothing is written. The
-/// buffer is for the values.
+/// Writes the values of a term at the tuples of a region to an array, those aside that are masked
+/// out. All values are computed first: where there is a trap, or memory runs out, nothing is
+/// written. The buffer is for the values.
 pub fn assign(
     alloc: Global,
     store: &mut Store,

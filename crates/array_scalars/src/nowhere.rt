@@ -1,7 +1,7 @@
 //! Terms that have a value at each tuple, where no tuple is asked for.
 //!
-//! No program without faults comes to one: an expression of a statement without a region has none of
-//! them but in the operand of a full reduction.
+//! No program without faults comes to one: an expression of a statement without a region has none
+//! of them but in the operand of a full reduction.
 ghost use Rattle.std.specs.Prelude.{◌≡◌, [], ◌∷◌, false, pos};
 ghost use Rattle.zpl_arrays.specs.Array.{element};
 ghost use Rattle.zpl_meaning.specs.Context.{Over as PlainOver};

@@ -13,9 +13,9 @@ use array_store::Store;
 use array_terms::Term;
 use std::alloc::Global;
 
-/// The value of a term that stands by itself, where no tuple is asked for, a quotient by 0 as 0, and
-/// whether there is such a quotient; or the trap that comes first among its operators over regions.
-/// The buffer is for the values of their operands.
+/// The value of a term that stands by itself, where no tuple is asked for, a quotient by 0 as 0,
+/// and whether there is such a quotient; or the trap that comes first among its operators over
+/// regions. The buffer is for the values of their operands.
 #[cycle(scalars)]
 pub fn scalar_value(
     alloc: Global,

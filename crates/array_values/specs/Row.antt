@@ -48,8 +48,8 @@ abbrev pub row_under : Region → List ℤ → Region → List ℤ
 row_under over values region =
     map (element (record { storage = over; values = values })) (members region)
 
--- The rows of several terms over a region, one behind the other, with 0 where they are masked out; the
--- same under another region; and whether a divisor was 0.
+-- The rows of several terms over a region, one behind the other, with 0 where they are masked out;
+-- the same under another region; and whether a divisor was 0.
 pub record Indexed : Type 0 where
   pub inside : List ℤ
   pub here : List ℤ

@@ -1,8 +1,8 @@
 //! The values of terms at all tuples of a region.
 //!
-//! A term is run node by node: each node makes a row of values, one for each tuple of the region, and
-//! the rows stand one behind the other in a buffer. Operators over regions have the values of their
-//! operands over their own region first.
+//! A term is run node by node: each node makes a row of values, one for each tuple of the region,
+//! and the rows stand one behind the other in a buffer. Operators over regions have the values of
+//! their operands over their own region first.
 #![tactic(auto)]
 
 mod leaves;

@@ -50,8 +50,8 @@ pub fn no_array(alloc: Global) -> Result<Array, AllocError>
     Array::zero(alloc, NOWHERE)
 }
 
-/// The rows of the indices of a remap read, one behind the other: over the region of the read, with 0
-/// where they are masked out, and what these have at the tuples that are asked for.
+/// The rows of the indices of a remap read, one behind the other: over the region of the read, with
+/// 0 where they are masked out, and what these have at the tuples that are asked for.
 #[derive(Drop)]
 pub struct Indices {
     /// Over the region of the read.

@@ -66,8 +66,8 @@ fn are_same(one: &Region, other: &Region) -> bool
     is_same(columns, other_columns)
 }
 
-/// Puts in the place of the last row, which begins at a place, its scan, at each tuple of a region. The
-/// row has the values of a term at the tuples of the scan's own region.
+/// Puts in the place of the last row, which begins at a place, its scan, at each tuple of a region.
+/// The row has the values of a term at the tuples of the scan's own region.
 pub fn scan_last(
     alloc: Global,
     scan: &Scan,

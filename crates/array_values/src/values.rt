@@ -22,9 +22,9 @@ use std::alloc::Global;
 use zpl_nums::{Fold, TrapKind};
 use zpl_region::Region;
 
-/// Appends the values of a term at all tuples of a region, in row-major order, a quotient by 0 as 0.
-/// The answer is whether a divisor was 0 at a tuple that isn't masked out, or the trap that comes
-/// first among the operators over regions that stand in the term.
+/// Appends the values of a term at all tuples of a region, in row-major order, a quotient by 0 as
+/// 0. The answer is whether a divisor was 0 at a tuple that isn't masked out, or the trap that
+/// comes first among the operators over regions that stand in the term.
 #[cycle(values)]
 pub fn push_values(
     alloc: Global,
@@ -254,8 +254,8 @@ fn push_remap(
 }
 
 /// Appends the values of several terms at all tuples of a region, those of one behind those of the
-/// other, with 0 where they are masked out; and what these rows have at the tuples of another region.
-/// The answer is that of one term.
+/// other, with 0 where they are masked out; and what these rows have at the tuples of another
+/// region. The answer is that of one term.
 #[cycle(values)]
 fn push_indices(
     alloc: Global,

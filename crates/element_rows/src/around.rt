@@ -14,8 +14,8 @@ use std::alloc::AllocError;
 use zpl_arrays::around_coordinate;
 use zpl_region::{Dim, Region, Vec3};
 
-/// Where a read that wraps round reads along a dimension of the home box. Where the dimension has no
-/// extent, no coordinate is moved into it: one below its lower bound counts as that bound.
+/// Where a read that wraps round reads along a dimension of the home box. Where the dimension has
+/// no extent, no coordinate is moved into it: one below its lower bound counts as that bound.
 fn around(home: Dim, by: i64, x: i64) -> i64
     requires home { IsDim home }
     requires near { IsUpTo 41 by }
@@ -70,8 +70,8 @@ fn value_around(array: &Array, home: &Region, shift: &Vec3, region: &Region, i: 
     }
 }
 
-/// Appends what an array has, read round its home box with a shift, at each tuple of a region, one by
-/// one.
+/// Appends what an array has, read round its home box with a shift, at each tuple of a region, one
+/// by one.
 pub fn push_each_around(
     array: &Array,
     home: &Region,

@@ -1,5 +1,5 @@
-//! Rows of values that stand one behind the other in a buffer, and what operators make of those that
-//! stand last.
+//! Rows of values that stand one behind the other in a buffer, and what operators make of those
+//! that stand last.
 #![tactic(auto)]
 
 mod rows;

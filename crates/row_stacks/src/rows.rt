@@ -29,8 +29,8 @@ pub fn clear_behind(begin: usize, kept: &[bool], out: &mut Vec<i64>)
     clear_masked(&mut out[begin..], kept);
 }
 
-/// Gives the values of the row that begins at a place the values of the operator on them and another
-/// row's. Whether a divisor is 0 where nothing is masked out.
+/// Gives the values of the row that begins at a place the values of the operator on them and
+/// another row's. Whether a divisor is 0 where nothing is masked out.
 fn pair_last(op: Op, begin: usize, values: &mut [i64], others: &[i64], kept: &[bool]) -> bool
     requires others { length values.old ≡ begin + length others.now }
     requires kept { length others.now ≡ length kept.now }
@@ -75,7 +75,8 @@ pub fn pair_behind(op: Op, begin: usize, kept: &[bool], out: &mut Vec<i64>) -> b
     missed
 }
 
-/// Cuts off the row that begins at a place. The fold over its values, those aside that are masked out.
+/// Cuts off the row that begins at a place. The fold over its values, those aside that are masked
+/// out.
 pub fn fold_behind(fold: Fold, begin: usize, kept: &[bool], out: &mut Vec<i64>) -> i64
     requires { length out.old.items ≡ begin + length kept.now }
     ensures rest { out.new.items ≡ take begin out.old.items }

@@ -39,9 +39,9 @@ fn push_scalars(
     }
 }
 
-/// Puts the values of terms that stand by themselves into a list, in the place of what it has. Where
-/// there is a trap, it is the first: those of operators over regions come before a zero divisor. The
-/// buffer is for operands.
+/// Puts the values of terms that stand by themselves into a list, in the place of what it has.
+/// Where there is a trap, it is the first: those of operators over regions come before a zero
+/// divisor. The buffer is for operands.
 pub fn values_of(
     alloc: Global,
     store: &Store,

@@ -9,8 +9,8 @@ use zpl_region::Region;
 /// How the lines along a dimension lie in the row of a region's tuples.
 #[derive(Clone, Copy)]
 pub struct Lines {
-    /// How many places it is from a tuple to the next one on its line. That many lines begin next to
-    /// each other.
+    /// How many places it is from a tuple to the next one on its line. That many lines begin next
+    /// to each other.
     pub apart: usize,
     /// How many places these lines take together.
     pub block: usize,
@@ -25,7 +25,8 @@ impl Lines {
         ensures dim { MatchOption result (3 ≤ k) (λ _. k < 3) }
         ensures apart { IfSome result (λ lines.
             lines.apart ≡ tuple_count (drop (k + 1) region.now.dims)) }
-        ensures block { IfSome result (λ lines. lines.block ≡ tuple_count (drop k region.now.dims)) }
+        ensures block { IfSome result (λ lines.
+            lines.block ≡ tuple_count (drop k region.now.dims)) }
         ensures dims { length region.now.dims ≡ 3 }
     {
         let [planes, rows, columns] = region.dims;

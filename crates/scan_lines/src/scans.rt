@@ -22,8 +22,8 @@ fn joined_if(is_in: bool, fold: Fold, so_far: i64, value: i64) -> i64
     }
 }
 
-/// What the value at a place is joined to: the scan one place earlier on its line, or the unit where
-/// the line begins.
+/// What the value at a place is joined to: the scan one place earlier on its line, or the unit
+/// where the line begins.
 fn before(fold: Fold, lines: Lines, values: &[i64], i: usize) -> i64
     requires block { 0 < lines.block }
     requires inside { i < length values.now }
