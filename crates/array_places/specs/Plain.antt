@@ -6,7 +6,7 @@ use Rattle.zpl_nums.specs.declared.ends.TrapKind.TheVariants.{DivideByZero}
 use Rattle.zpl_nums.specs.Op.{applied}
 use Rattle.zpl_nums.specs.UnaryOp.{applied_unary}
 use Rattle.zpl_tree.specs.Syntax.{Expr}
-use Rattle.zpl_meaning.specs.Computed.{Gives, Traps, given}
+use Rattle.zpl_meaning.specs.Computed.{Gives, Traps}
 use Rattle.zpl_meaning.specs.Store.{Environment, Store}
 use Rattle.zpl_meaning.specs.Value.{value_of}
 use Rattle.zpl_meaning.specs.Scalars.{IsScalar}
