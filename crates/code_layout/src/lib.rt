@@ -1,0 +1,8 @@
+//! The layout of a program's stored arrays over its grid of processors.
+#![tactic(auto)]
+
+mod boxes;
+mod grids;
+mod layouts;
+
+pub use layouts::layout_of;

@@ -1,0 +1,4 @@
+mod ActLemmas
+mod OwnLemmas
+mod QuietLemmas
+mod TurnLemmas

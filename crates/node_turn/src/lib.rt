@@ -1,0 +1,17 @@
+//! One turn of a processor of a grid: its next row, over the links to and from it.
+#![tactic(auto)]
+
+mod answers;
+mod own;
+mod prints;
+mod resting;
+mod silent;
+mod steps;
+mod together;
+mod turns;
+
+pub use node_local::{Kept, KeptWords, Local, Slots, Standing, Store, Stores};
+pub use prints::printed;
+pub use resting::rests;
+pub use steps::{Step, StuckKind, Traffic};
+pub use turns::turn_of;

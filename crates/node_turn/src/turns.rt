@@ -1,0 +1,49 @@
+//! Turns.
+ghost use Rattle.std.specs.Prelude.{◌≡◌, ◌<◌, IfOk, OnErr};
+ghost use Rattle.grid_meaning.specs.Local.{processors};
+ghost use Rattle.grid_meaning.specs.Stored.{arrangement_of};
+ghost use Rattle.node_local.specs.Workplace.{IsReady};
+ghost use Rattle.node_turn.specs.Turned.{IsTurn, turn_over};
+
+use crate::silent::{end_step, own_step};
+use crate::steps::Step;
+use crate::together::together_turn;
+use grid_layout::Layout;
+use grid_links::Links;
+use node_form::{NodeProgram, rows_fit};
+use node_local::Local;
+use row_turn::is_together;
+use std::alloc::{AllocError, Global};
+
+/// Gives processor p a turn. A move is made, unless it prints: then its bytes are answered, and
+/// [`printed`](crate::printed) makes it. For want of memory nothing changes.
+pub fn turn_of(
+    alloc: Global,
+    code: &NodeProgram,
+    layout: &Layout,
+    p: u32,
+    local: &mut Local,
+    links: &mut Links,
+) -> Result<Step, AllocError>
+    requires layout { layout.now ≡ arrangement_of code.now }
+    requires processor { p < processors code.now }
+    requires ready { IsReady code.now p local.old }
+    requires links { links.old.count ≡ processors code.now }
+    ensures turn { IfOk result (IsTurn code.now p local.old local.new links.old links.new
+        (turn_over code.now p local.old.local links.old)) }
+    ensures kept { OnErr result (local.new ≡ local.old) }
+    ensures links_kept { OnErr result (links.new ≡ links.old) }
+{
+    if local.ending().is_some() {
+        return Ok(Step::Over);
+    }
+    rows_fit();
+    let Some(row) = code.tables().code.get(local.at()) else {
+        return Ok(end_step(code, p, local));
+    };
+    if is_together(row) {
+        together_turn(alloc, code, layout, p, local, links, row)
+    } else {
+        own_step(alloc, code, layout, p, local, row)
+    }
+}

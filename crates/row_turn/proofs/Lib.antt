@@ -1,0 +1,8 @@
+mod BoundLemmas
+mod HeldLemmas
+mod MoreLemmas
+pub mod RecordLemmas
+mod RowLemmas
+mod ScanLemmas
+mod StageLemmas
+pub mod StandLemmas

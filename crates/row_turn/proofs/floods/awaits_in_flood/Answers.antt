@@ -1,0 +1,23 @@
+use Rattle.std.proofs.Common.{rules, ◌≡◌, ap, ◌∙◌, ◌==◌, sym}
+use Rattle.row_turn.proofs.MoreLemmas.{flood_count, same_rank}
+use Rattle.row_turn.proofs.StandLemmas.{slot_within}
+use Rattle.row_turn.proofs.floods.awaits_in_flood.Goals as goal
+
+pub region_in-region-requires-clause-slot : goal.region_in-region-requires-clause-slot
+region_in-region-requires-clause-slot c = slot_within c.args.code.now c.args.target c.requires.at.fits.rank c.requires.at.fits.fit.0
+
+pub region_in-other-requires-clause-slot : goal.region_in-other-requires-clause-slot
+region_in-other-requires-clause-slot c = slot_within c.args.code.now c.args.source c.requires.at.fits.rank c.requires.at.fits.fit.1
+
+pub flood_tuples-piece-requires-clause-ranks : goal.flood_tuples-piece-requires-clause-ranks
+flood_tuples-piece-requires-clause-ranks c =
+    same_rank c.args.code.now c.args.target c.args.source c.requires.at.fits.rank c.region_in-region.result c.region_in-other.result
+    c.requires.at.fits.fit.0 c.requires.at.fits.fit.1 c.region_in-region.ensures.ranked c.region_in-other.ensures.ranked
+
+pub returns : goal.returns
+returns c =
+    let same : c.from.result ≡ c.args.many = search rules in
+    flood_count c.args.code.now c.args.p c.args._array c.args.target c.args._from c.args.source c.args.local.now.local c.region_in-region.result c.region_in-other.result
+    c.flood_tuples-piece.result c.args.sender c.args.many c.region_in-region.ensures.there c.region_in-other.ensures.there
+    c.flood_tuples-piece.ensures.tuples
+    ∙ (ap (λ n. c.args.many == n) (sym c.tuples.ensures) ∙ ap (λ m. m == c.tuples.result) (sym same))

@@ -1,0 +1,49 @@
+use Rattle.std.proofs.Common.{◌<◌, List, ℤ, sym, ap, ◌∙◌, subst}
+use Rattle.zpl_region.proofs.EndLemmas.{first_member}
+use Rattle.zpl_region.proofs.HullLemmas.{has_steps}
+use Rattle.zpl_arrays.specs.Border.{border_source}
+use Rattle.grid_meaning.specs.Place.{value_at}
+use Rattle.node_messages.proofs.ReadLemmas.{left}
+use Rattle.row_turn.proofs.HeldLemmas.{IsPassed, near_member, passed_ends, passed_fewer, passed_lacks, passed_starts, passed_step}
+use Rattle.row_turn.proofs.held.sources_held.Goals as goal
+
+pub loop-next-init : goal.loop-next-init
+loop-next-init c =
+    let word = λ (t : List ℤ). value_at c.args.local.now.local.stores c.args.array (border_source c.args.kind c.args.region.now c.args.shift.now t) in
+    passed_starts word c.args.tuples.now c.least-next.result
+    (c.least-next.ensures ∙ sym (first_member c.args.tuples.now (has_steps c.args.tuples.now.dims c.requires.tuples.dims)))
+
+pub border_source-source-requires-clause-near : goal.border_source-source-requires-clause-near
+border_source-source-requires-clause-near c =
+    near_member c.args.tuples.now c.loop-next.invariant.passed c.in-Some.x c.requires.tuples
+    (sym c.loop-next.invariant.next_is ∙ c.in-Some.is)
+
+pub returns-in_default-value_at : goal.returns-in_default-value_at
+returns-in_default-value_at c =
+    let word = λ (t : List ℤ). value_at c.args.local.now.local.stores c.args.array (border_source c.args.kind c.args.region.now c.args.shift.now t) in
+    sym (passed_lacks word c.args.tuples.now c.in-Some.x
+    (subst (IsPassed word c.args.tuples.now) c.in-Some.is c.loop-next.invariant)
+    (ap (value_at c.args.local.now.local.stores c.args.array) (sym c.border_source-source.ensures) ∙ (sym c.value_at.ensures ∙ c.in_default-value_at.is)))
+
+pub loop-next-smaller : goal.loop-next-smaller
+loop-next-smaller c =
+    let word = λ (t : List ℤ). value_at c.args.local.now.local.stores c.args.array (border_source c.args.kind c.args.region.now c.args.shift.now t) in
+    subst (λ o. left c.args.tuples.now c.next_after-next.result < left c.args.tuples.now o) (sym c.in-Some.is)
+    (passed_fewer word c.args.tuples.now c.in-Some.x c.next_after-next.result
+    (has_steps c.args.tuples.now.dims c.requires.tuples.dims)
+    (subst (IsPassed word c.args.tuples.now) c.in-Some.is c.loop-next.invariant)
+    c.next_after-next.ensures)
+
+pub loop-next-preserved : goal.loop-next-preserved
+loop-next-preserved c =
+    let word = λ (t : List ℤ). value_at c.args.local.now.local.stores c.args.array (border_source c.args.kind c.args.region.now c.args.shift.now t) in
+    passed_step word c.args.tuples.now c.in-Some.x c.next_after-next.result c.in-Some-value_at._value
+    (subst (IsPassed word c.args.tuples.now) c.in-Some.is c.loop-next.invariant)
+    (ap (value_at c.args.local.now.local.stores c.args.array) (sym c.border_source-source.ensures) ∙ (sym c.value_at.ensures ∙ c.in-Some-value_at.is))
+    c.next_after-next.ensures
+
+pub returns : goal.returns
+returns c =
+    let word = λ (t : List ℤ). value_at c.args.local.now.local.stores c.args.array (border_source c.args.kind c.args.region.now c.args.shift.now t) in
+    sym (passed_ends word c.args.tuples.now
+    (subst (IsPassed word c.args.tuples.now) c.in_default.is c.loop-next.invariant))

@@ -1,0 +1,17 @@
+use Rattle.std.specs.Prelude.{◌≡◌, Some, is_some}
+use Rattle.grid_meaning.specs.Collective.{Collective, stage_of}
+use Rattle.node_stages.specs.Stage.{staged}
+use Rattle.row_turn.proofs.ScanLemmas.{of_scan, scan_slot, scan_along}
+use Rattle.row_turn.proofs.scans.awaits_in_scan.Goals as goal
+
+pub region_in-region-requires-clause-slot : goal.region_in-region-requires-clause-slot
+region_in-region-requires-clause-slot c = scan_slot c.args.code.now c.args.p c.args.row.now c.scan_of-scan.result c.scan_of-scan.ensures c.args.local.now c.requires.at
+
+pub scan_awaits-requires-clause-along : goal.scan_awaits-requires-clause-along
+scan_awaits-requires-clause-along c =
+    scan_along c.args.code.now c.args.p c.args.row.now c.scan_of-scan.result c.scan_of-scan.ensures c.args.local.now c.requires.at c.region_in-region.result c.region_in-region.ensures.ranked
+
+pub returns : goal.returns
+returns c =
+    of_scan c.args.code.now c.args.p c.args.row.now c.scan_of-scan.result c.scan_of-scan.ensures (λ (r : Collective). r.awaits c.args.local.now.local c.args.from c.args.many ≡ c.scan_awaits.result)
+    (c.scan_awaits.ensures c.args.p c.args.local.now.local c.region_in-region.ensures.there)

@@ -1,0 +1,97 @@
+//! The stages of rows.
+ghost use Rattle.std.specs.Prelude.{◌≡◌, ◌<◌, ◌^◌, Some, false, true};
+ghost use Rattle.grid_meaning.specs.Collective.{stage_of};
+ghost use Rattle.grid_meaning.specs.Local.{processors};
+ghost use Rattle.grid_meaning.specs.Stored.{arrangement_of};
+ghost use Rattle.node_stages.specs.Stage.{staged};
+ghost use Rattle.row_turn.specs.Placed.{IsAtRow};
+ghost use Rattle.row_turn.specs.Together.{IsAlone, IsServed, IsTogether, NamesOne, OfRow};
+
+use crate::agreements::kin_of;
+use crate::edges::stage_in_edge;
+use crate::exchanges::{stage_in_finish, stage_in_start};
+use crate::floods::stage_in_flood;
+use crate::gathers::stage_in_gather;
+use crate::parts::stage_in_part;
+use crate::scans::stage_in_scan;
+use grid_layout::Layout;
+use node_form::{Instr, NodeProgram};
+use node_local::Local;
+use node_stages::Stage;
+
+/// Whether processors work together in a row.
+pub fn is_together(row: &Instr) -> bool
+    ensures yes { (result ≡ true) → IsTogether row.now }
+    ensures no { (result ≡ false) → IsServed row.now → IsAlone row.now }
+{
+    match *row {
+        Instr::Start { .. }
+        | Instr::Finish { .. }
+        | Instr::Edge { .. }
+        | Instr::Flood { .. }
+        | Instr::Part { .. }
+        | Instr::Scan { .. }
+        | Instr::Gather { .. }
+        | Instr::Vote { .. }
+        | Instr::TreeVote { .. }
+        | Instr::Fold { .. }
+        | Instr::TreeFold { .. } => true,
+        _ => false,
+    }
+}
+
+/// The stage of a row.
+fn stage_of_row(code: &NodeProgram, layout: &Layout, p: u32, local: &Local, row: &Instr) -> Stage
+    requires layout { layout.now ≡ arrangement_of code.now }
+    requires together { IsTogether row.now }
+    requires at { IsAtRow code.now p local.now row.now }
+    ensures { OfRow code.now p row.now (λ together.
+        stage_of together local.now.local ≡ Some (staged result)) }
+{
+    match *row {
+        Instr::Start { exchange } => stage_in_start(code, layout, p, local, exchange),
+        Instr::Finish { exchange } => stage_in_finish(code, layout, p, local, exchange),
+        Instr::Edge {
+            kind,
+            array,
+            slot,
+            shift,
+        } => stage_in_edge(code, layout, p, local, kind, array, slot, &shift),
+        Instr::Flood {
+            array,
+            target,
+            from,
+            source,
+        } => stage_in_flood(code, layout, p, local, array, target, from, source),
+        Instr::Part {
+            array,
+            target,
+            fold,
+            from,
+            source,
+        } => stage_in_part(code, layout, p, local, array, target, fold, from, source),
+        Instr::Scan { .. } => stage_in_scan(code, layout, p, local, row),
+        Instr::Gather { truth, array, slot } => {
+            stage_in_gather(code, layout, p, local, truth, array, slot)
+        }
+        Instr::Vote { .. } => kin_of(code, layout, p, false).stage(local.made()),
+        Instr::Fold { .. } => kin_of(code, layout, p, false).stage(local.made()),
+        Instr::TreeVote { .. } => kin_of(code, layout, p, true).stage(local.made()),
+        Instr::TreeFold { .. } => kin_of(code, layout, p, true).stage(local.made()),
+        _ => Stage::Last,
+    }
+}
+
+/// What processor p does in its next turn of a row in which processors work together.
+pub fn row_stage(code: &NodeProgram, layout: &Layout, p: u32, local: &Local, row: &Instr) -> Stage
+    requires layout { layout.now ≡ arrangement_of code.now }
+    requires together { IsTogether row.now }
+    requires at { IsAtRow code.now p local.now row.now }
+    ensures stage { OfRow code.now p row.now (λ together.
+        stage_of together local.now.local ≡ Some (staged result)) }
+    ensures named { NamesOne (processors code.now) (staged result) }
+    ensures few { local.now.local.made < 2 ^ 32 }
+{
+    let _count = layout.grid().count();
+    stage_of_row(code, layout, p, local, row)
+}
