@@ -1,16 +1,12 @@
 -- Regions within the limit, and forms of regions one after the other.
-use Rattle.std.proofs.Common.{◌≡◌, ℕ, suc, ◌+◌, ◌-◌, ◌<◌, ◌≤◌, Bool, true, false, ◌==◌, cond, None, if◌then◌else◌, List, [], ◌∷◌, ◌++◌, map, length, take, drop, drop-cons, get_or, All, refl, sym, ap, ◌∙◌, subst, arith, ℤ, pos}
-use Rattle.std.specs.Prelude.{Result, Ok, Err, IsErrAnd}
-use Rattle.std.specs.List.{AllByRecursion}
+use Rattle.std.proofs.Common.{◌≡◌, ℕ, suc, ◌+◌, ◌-◌, ◌<◌, ◌≤◌, true, false, ◌==◌, None, if◌then◌else◌, List, [], ◌∷◌, ◌++◌, map, length, take, drop, drop-cons, get_or, All, refl, sym, ap, ◌∙◌, subst, arith, ℤ}
 use Rattle.std.proofs.lemmas.List.{take_more, map-append}
 use Rattle.std.proofs.lemmas.List.Elements.{All-from_recursion, recursion_from_All}
 use Rattle.zpl_nums.specs.declared.ends.TrapKind.{TrapKind}
 use Rattle.zpl_nums.specs.declared.ends.TrapKind.TheVariants as trap
-use Rattle.zpl_region.specs.declared.dims.Dim.{Dim}
 use Rattle.zpl_region.specs.declared.regions.Region.{Region}
 use Rattle.zpl_region.specs.Dim.{HasStep}
 use Rattle.zpl_region.specs.Region.{IsRegion, IsWithinLimit, outside_of, inside_of, moved, strided}
-use Rattle.zpl_region.specs.Tests.{is_within_limit}
 use Rattle.zpl_region.proofs.EndLemmas.{length-tuple_count}
 use Rattle.zpl_region.proofs.HullLemmas.{has_steps}
 use Rattle.zpl_tree.specs.Syntax.{Pre, RegionBase, Rexpr, Posts}
@@ -26,7 +22,6 @@ use Rattle.zpl_meaning.specs.Computed.{Traps}
 use Rattle.zpl_meaning.specs.Computed as computed
 use Rattle.zpl_meaning.specs.Regions.{computed_of, edge_in, fault_trap}
 use Rattle.array_terms.specs.Sound.{IsSmall}
-use Rattle.array_stops.specs.Answer.{Computes}
 
 -- ---- the limit
 

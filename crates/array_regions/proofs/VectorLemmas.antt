@@ -1,6 +1,5 @@
 -- Vectors are near.
-use Rattle.std.proofs.Common.{◌≡◌, ℕ, ◌^◌, ℤ, pos, neg_ℤ, ◌≤ℤ◌, Bool, true, false, ◌&&◌, List, [], ◌∷◌, All, refl, sym, ap, ◌∙◌, subst, arith, cond}
-use Rattle.std.specs.Prelude.{unwrap_or}
+use Rattle.std.proofs.Common.{◌≡◌, ℕ, ℤ, Bool, true, false, ◌&&◌, List, [], ◌∷◌, All, refl, sym, subst, arith}
 use Rattle.std.specs.List.{AllByRecursion, list_all}
 use Rattle.std.proofs.lemmas.Int.{ints}
 use Rattle.std.proofs.lemmas.List.Elements.{All-from_recursion}
@@ -10,7 +9,7 @@ use Rattle.zpl_binding.specs.Outcome.{Outcome, Gives, Computed}
 use Rattle.zpl_binding.specs.Vectors.{dir_of, is_component, three_components, vector_of}
 use Rattle.zpl_binding.specs.Bound.{IsVector}
 use Rattle.zpl_binding.proofs.LimitLemmas.{Holds, vector-holds}
-use Rattle.zpl_bind.specs.Tables.{computed, found}
+use Rattle.zpl_bind.specs.Tables.{computed}
 use Rattle.zpl_bind.proofs.StorageLemmas.{component}
 use Rattle.zpl_bind.proofs.TableLemmas.{outcome-found}
 use Rattle.zpl_bind.proofs.RegionLemmas.{found-or-holds}

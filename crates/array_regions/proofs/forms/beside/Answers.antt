@@ -1,4 +1,4 @@
-use Rattle.std.proofs.Common.{ap, subst, sym, Bool}
+use Rattle.std.proofs.Common.{subst, sym, Bool}
 use Rattle.std.specs.Prelude.{if◌then◌else◌}
 use Rattle.zpl_region.specs.Region.{inside_of, outside_of}
 use Rattle.zpl_binding.specs.Regions.{limited}

@@ -1,4 +1,4 @@
-use Rattle.std.proofs.Common.{ap, subst}
+use Rattle.std.proofs.Common.{subst}
 use Rattle.zpl_region.specs.declared.regions.Region.{Region}
 use Rattle.zpl_binding.specs.Outcome.{Outcome}
 use Rattle.zpl_bind.specs.Known.{known_in}

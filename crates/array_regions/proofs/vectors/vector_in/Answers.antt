@@ -1,4 +1,3 @@
-use Rattle.std.proofs.Common.{sym, subst}
 use Rattle.zpl_tree.specs.View.{dir_of as seen_dir}
 use Rattle.zpl_bind.specs.Tables.{computed, listed}
 use Rattle.array_regions.proofs.VectorLemmas.{dir-near}

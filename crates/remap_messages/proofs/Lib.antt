@@ -1,0 +1,6 @@
+mod AnswerLemmas
+mod CountLemmas
+mod SourceLemmas
+mod StageLemmas
+mod TurnLemmas
+mod WantLemmas
