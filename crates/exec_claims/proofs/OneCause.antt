@@ -1,0 +1,193 @@
+-- Of what was made and run in a call there is a cause of one status.
+use Rattle.std.proofs.Common.{◌≡◌, ◌≢◌, ℕ, ◌<◌, ◌≤◌, Bool, List, [], length, Option, Some, None, Result, Ok, Err}
+use Rattle.std.proofs.Common.{refl, sym, ◌∙◌, ap, subst, inl, inr, arith}
+use Rattle.zpl_nums.specs.declared.ends.End.TheVariants.{Done, Trap}
+use Rattle.zpl_nums.specs.declared.ends.End.{End}
+use Rattle.zpl_nums.specs.declared.ends.TrapKind.{TrapKind}
+use Rattle.node_form.specs.declared.tables.Tables.{Tables}
+use Rattle.listing_lines.specs.Listing.{IsBadLine}
+use Rattle.node_text.specs.Listing.{IsBadTable, IsListing}
+use Rattle.call_claims.specs.Call.{Call}
+use Rattle.call_claims.specs.Decided.{IsSettled}
+use Rattle.call_claims.specs.Execution.{Execution}
+use Rattle.call_claims.specs.declared.status.TheConstants.{UNREADABLE}
+use Rattle.exec_words.specs.Asked.{Asked}
+use Rattle.exec_words.proofs.OneLemmas.{exec_is_one}
+use Rattle.exec_claims.specs.Run.{Run}
+use Rattle.exec_claims.specs.Cause.{RunCause, OrderCause, TextCause, OrderFileCause, ListingCause}
+use Rattle.exec_claims.specs.Cause.{ListingFileCause, Cause, Source, IsTooLong, run_of}
+use Rattle.exec_claims.specs.Cause.RunCause.{done, trap, turn_limit, stuck, idle}
+use Rattle.exec_claims.specs.Cause.OrderCause.{bad_item, ran}
+use Rattle.exec_claims.specs.Cause.TextCause.{unreadable, too_long, work}
+use Rattle.exec_claims.specs.Cause.ListingCause.{bad_line, bad_table, listed}
+use Rattle.exec_claims.specs.Cause.Cause.{usage, no_memory, exec}
+use Rattle.exec_claims.specs.declared.limits.TheConstants.{MOST_LISTING}
+
+-- ---- a run
+ends_one : (ending : Option End) (kind : TrapKind) (line : ℕ) → ending ≡ Some Done
+    → ending ≡ Some (Trap kind line) → ⊥
+ends_one ending kind line a b = let no : Some Done ≡ Some (Trap kind line) = sym a ∙ b in cc
+
+module _ (run : Run) (report : Bool) (k : ℕ) where
+  run_one : {n m : ℕ} {told other : List ℕ} → RunCause run report k n told
+      → RunCause run report k m other → n ≡ m
+  run_one (done e) (done f) = refl
+  run_one (done e) (trap kind line f) = absurd (ends_one _ kind line e.first f.first)
+  run_one (done e) (turn_limit f) = absurd (f.goes_on (inl e.over))
+  run_one (done e) (stuck p kind f) = absurd (f.next.goes_on (inl e.over))
+  run_one (done e) (idle p f) = absurd (f.idle.not_over e.over)
+  run_one (trap kind line e) (done f) = absurd (ends_one _ kind line f.first e.first)
+  run_one (trap kind line e) (trap other at f) = refl
+  run_one (trap kind line e) (turn_limit f) = absurd (f.goes_on (inl e.over))
+  run_one (trap kind line e) (stuck p other f) = absurd (f.next.goes_on (inl e.over))
+  run_one (trap kind line e) (idle p f) = absurd (f.idle.not_over e.over)
+  run_one (turn_limit e) (done f) = absurd (e.goes_on (inl f.over))
+  run_one (turn_limit e) (trap kind line f) = absurd (e.goes_on (inl f.over))
+  run_one (turn_limit e) (turn_limit f) = refl
+  run_one (turn_limit e) (stuck p kind f) = absurd (omega (arith, e.all_given, f.next.left))
+  run_one (turn_limit e) (idle p f) = absurd (e.goes_on (inr f.idle))
+  run_one (stuck p kind e) (done f) = absurd (e.next.goes_on (inl f.over))
+  run_one (stuck p kind e) (trap other line f) = absurd (e.next.goes_on (inl f.over))
+  run_one (stuck p kind e) (turn_limit f) = absurd (omega (arith, f.all_given, e.next.left))
+  run_one (stuck p kind e) (stuck q other f) = refl
+  run_one (stuck p kind e) (idle q f) = refl
+  run_one (idle p e) (done f) = absurd (e.idle.not_over f.over)
+  run_one (idle p e) (trap kind line f) = absurd (e.idle.not_over f.over)
+  run_one (idle p e) (turn_limit f) = absurd (f.goes_on (inr e.idle))
+  run_one (idle p e) (stuck q kind f) = refl
+  run_one (idle p e) (idle q f) = refl
+
+-- ---- the text of an order
+read_one : {read : Result (List ℕ) ℕ} (at : ℕ) (order : List ℕ) → read ≡ Err at → read ≡ Ok order → ⊥
+read_one at order a b = let no : Err at ≡ Ok order = sym a ∙ b in cc
+
+same_order : (read : Result (List ℕ) ℕ) (order other : List ℕ) → read ≡ Ok order → read ≡ Ok other
+    → order ≡ other
+same_order read order other a b = let same : Ok order ≡ Ok other = sym a ∙ b in cc
+
+module _ (code : Tables) (asked : Asked) (turns : ℕ) (text : List ℕ) where
+  order_one : {n m : ℕ} {told other : List ℕ} → OrderCause code asked turns text n told
+      → OrderCause code asked turns text m other → n ≡ m
+  order_one (bad_item at e z) (bad_item other f y) = refl
+  order_one (bad_item at e z) (ran order f goes c) = absurd (read_one at order e f)
+  order_one (ran order e goes c) (bad_item at f z) = absurd (read_one at order f e)
+  order_one {n = n} {told = told} (ran order e goes c) (ran other f went d) =
+      run_one (run_of code asked other) asked.report turns
+      (subst (λ o. RunCause (run_of code asked o) asked.report turns n told)
+      (same_order _ order other e f) c) d
+
+-- ---- files
+TellsOne : Call → Type 0
+TellsOne call = (file text other : List ℕ) → call.tells file text → call.tells file other → text ≡ other
+
+-- work on one text has one status, where no fetch failed
+IsOneWork : (List ℕ → ℕ → List ℕ → Type 0) → Type 0
+IsOneWork Works = (text : List ℕ) (n m : ℕ) (told other : List ℕ) → Works text n told
+    → Works text m other → n ≢ UNREADABLE → m ≢ UNREADABLE → n ≡ m
+
+module _ (call : Call) (one : TellsOne call) (file : List ℕ) where
+  not_long : IsTooLong call file → Source call file → ⊥
+  unfolding TellsOne
+  not_long long source =
+      let same : length long.text ≡ length source.text = ap length (one file long.text source.text long.told source.told) in
+      omega (arith, same, long.long, source.short)
+
+  same_text : (a b : Source call file) → a.text ≡ b.text
+  unfolding TellsOne
+  same_text a b = one file a.text b.text a.told b.told
+
+  text_one : {May Ends : Type 0} {Works : List ℕ → ℕ → List ℕ → Type 0} {n m : ℕ}
+      {told other : List ℕ} → IsOneWork Works → TextCause call file May Ends Works n told
+      → TextCause call file May Ends Works m other → n ≢ UNREADABLE → m ≢ UNREADABLE → n ≡ m
+  unfolding IsOneWork
+  text_one works (unreadable may ends) d a b = absurd (a refl)
+  text_one works (too_long long ends) (unreadable may ended) a b = absurd (b refl)
+  text_one works (too_long long ends) (too_long also ended) a b = refl
+  text_one works (too_long long ends) (work source w) a b = absurd (not_long long source)
+  text_one works (work source w) (unreadable may ends) a b = absurd (b refl)
+  text_one works (work source w) (too_long long ends) a b = absurd (not_long long source)
+  text_one {Works = Works} {n = n} {m = m} {told = told} {other = other} works (work source w)
+      (work also v) a b =
+      works also.text n m told other (subst (λ t. Works t n told) (same_text source also) w) v a b
+
+-- ---- the order's file, and the text of a listing
+module _ (call : Call) (one : TellsOne call) (asked : Asked) where
+  orders_one : (code : Tables) (turns : ℕ) → IsOneWork (OrderCause code asked turns)
+  unfolding IsOneWork
+  orders_one code turns = λ text n m told other c d a b. order_one code asked turns text c d
+
+  order_file_one : (code : Tables) (turns : ℕ) (file : Option (List ℕ)) (n m : ℕ)
+      (told other : List ℕ) → OrderFileCause call code asked turns file n told
+      → OrderFileCause call code asked turns file m other → n ≢ UNREADABLE → m ≢ UNREADABLE → n ≡ m
+  order_file_one code turns None n m told other c d a b = order_one code asked turns [] c d
+  order_file_one code turns (Some file) n m told other c d a b =
+      text_one call one file (orders_one code turns) c d a b
+
+  module _ (execution : Execution)
+      (line_law : (bytes : List ℕ) (tables : Tables) (number : ℕ) → IsListing bytes tables
+      → IsBadLine bytes number → ⊥)
+      (table_law : (bytes : List ℕ) (tables : Tables) (number : ℕ) → IsListing bytes tables
+      → IsBadTable bytes number → ⊥) where
+    same_code : (code other : Tables) → execution.code ≡ Some code → execution.code ≡ Some other
+        → code ≡ other
+    same_code code other a b = let same : Some code ≡ Some other = sym a ∙ b in cc
+
+    listing_one : (text : List ℕ) {n m : ℕ} {told other : List ℕ}
+        → ListingCause call asked execution text n told
+        → ListingCause call asked execution text m other → n ≢ UNREADABLE → m ≢ UNREADABLE → n ≡ m
+    listing_one text (bad_line line e z) (bad_line at f none) a b = refl
+    listing_one text (bad_line line e z) (bad_table at f none) a b = refl
+    listing_one text (bad_line line e z) (listed code is made c) a b = absurd (line_law text code line is e)
+    listing_one text (bad_table line e z) (bad_line at f none) a b = refl
+    listing_one text (bad_table line e z) (bad_table at f none) a b = refl
+    listing_one text (bad_table line e z) (listed code is made c) a b = absurd (table_law text code line is e)
+    listing_one text (listed code is made c) (bad_line line e z) a b = absurd (line_law text code line is e)
+    listing_one text (listed code is made c) (bad_table line e z) a b = absurd (table_law text code line is e)
+    listing_one text {n = n} {m = m} {told = told} {other = other} (listed code is made c)
+        (listed more also too d) a b =
+        order_file_one more execution.turns asked.order n m told other
+        (subst (λ t. OrderFileCause call t asked execution.turns asked.order n told)
+        (same_code code more made too) c) d a b
+
+    listings_one : IsOneWork (ListingCause call asked execution)
+    unfolding IsOneWork
+    listings_one = λ text n m told other c d a b. listing_one text c d a b
+
+    file_one : (file : List ℕ) {n m : ℕ} {told other : List ℕ}
+        → ListingFileCause call file asked execution n told
+        → ListingFileCause call file asked execution m other → n ≢ UNREADABLE → m ≢ UNREADABLE
+        → n ≡ m
+    file_one file c d a b = text_one call one file listings_one c d a b
+
+-- ---- any call
+tells_one : (call : Call) (n : ℕ) → IsSettled call n → TellsOne call
+unfolding TellsOne
+tells_one call n settled = settled.one
+
+pub text_short : (call : Call) (file : List ℕ) (n : ℕ) → IsSettled call n → IsTooLong call file
+    → Source call file → ⊥
+text_short call file n settled long source = not_long call (tells_one call n settled) file long source
+
+pub texts_same : (call : Call) (file : List ℕ) (n : ℕ) → IsSettled call n
+    → (one other : Source call file) → one.text ≡ other.text
+texts_same call file n settled one other = same_text call (tells_one call n settled) file one other
+
+pub cause_one : (call : Call) (execution : Execution) (n m : ℕ) (told other : List ℕ)
+    → ((bytes : List ℕ) (tables : Tables) (number : ℕ) → IsListing bytes tables
+    → IsBadLine bytes number → ⊥)
+    → ((bytes : List ℕ) (tables : Tables) (number : ℕ) → IsListing bytes tables
+    → IsBadTable bytes number → ⊥)
+    → Cause call execution n told → Cause call execution m other → IsSettled call n
+    → IsSettled call m → n ≡ m
+cause_one call ex n m told other line table (usage none z) (usage also yet) s t = refl
+cause_one call ex n m told other line table (usage none z) no_memory s t = absurd (t.decided.memory refl)
+cause_one call ex n m told other line table (usage none z) (exec file asked is c) s t = absurd (none file asked is)
+cause_one call ex n m told other line table no_memory d s t = absurd (s.decided.memory refl)
+cause_one call ex n m told other line table (exec file asked is c) (usage none z) s t = absurd (none file asked is)
+cause_one call ex n m told other line table (exec file asked is c) no_memory s t = absurd (t.decided.memory refl)
+cause_one call ex n m told other line table (exec file asked is c) (exec name more also d) s t =
+    let same = exec_is_one call.words file name asked more is also in
+    let here : ListingFileCause call name more ex n told =
+    subst (λ f. ListingFileCause call f more ex n told) same.0
+    (subst (λ a. ListingFileCause call file a ex n told) same.1 c) in
+    file_one call (tells_one call n s) more ex line table name here d s.read t.read

@@ -1,0 +1,118 @@
+-- Why a call of `exec` has its status, and what is told of it: by the command, the files, the listing,
+-- the order, and the run.
+use Rattle.std.specs.Prelude.{◌≡◌, ℕ, ◌<◌, ◌≤◌, Bool, true, false, List, [], ◌++◌, length, Option, Some, None, Ok, Err, codes, ⊤}
+use Rattle.zpl_nums.specs.declared.ends.End.TheVariants.{Done, Trap}
+use Rattle.zpl_nums.specs.declared.ends.TrapKind.{TrapKind}
+use Rattle.node_form.specs.declared.tables.Tables.{Tables}
+use Rattle.grid_meaning.specs.Action.{StuckKind}
+use Rattle.grid_meaning.specs.Grid.{EndsAs, processors}
+use Rattle.grid_order.specs.Reading.{reading}
+use Rattle.listing_lines.specs.Listing.{IsBadLine}
+use Rattle.node_text.specs.Listing.{IsBadTable, IsListing}
+use Rattle.call_claims.specs.Call.{Call}
+use Rattle.call_claims.specs.Execution.{Execution, HasNoRun}
+use Rattle.call_claims.specs.Texts.{usage_text, unreadable_text, too_long_text, trap_text}
+use Rattle.call_claims.specs.Texts.{turn_limit_text, no_memory_text}
+use Rattle.call_claims.specs.declared.status.TheConstants.{DONE, USAGE, UNREADABLE, TOO_LONG}
+use Rattle.call_claims.specs.declared.status.TheConstants.{TRAPPED, TURN_LIMIT, NO_MEMORY}
+use Rattle.exec_words.specs.Asked.{Asked, IsExec, IsNoExec, limit_of}
+use Rattle.exec_claims.specs.Run.{Run, grid_at, GoesOnTo, IsStuckAt, IsIdleAt, IsLimitedAt}
+use Rattle.exec_claims.specs.Texts.{order_refused_text, listing_refused_text, report_text}
+use Rattle.exec_claims.specs.Texts.{stuck_text, kind_name, idle_name}
+use Rattle.exec_claims.specs.declared.limits.TheConstants.{MOST_LISTING}
+use Rattle.exec_claims.specs.declared.status.TheConstants.{ORDER_REFUSED, LISTING_REFUSED, STUCK}
+
+-- ---- a run
+-- the report after k turns, where one is wanted
+abbrev pub report_at : Run → Bool → ℕ → List ℕ
+report_at run false k = []
+report_at run true k = report_text k (grid_at run k).sends (grid_at run k).words
+
+-- What came of a run after k turns: it is over and ended normally or with a trap, all turns were
+-- given, the next turn is stuck, or no processor can move. The report follows what is told.
+pub data RunCause (run : Run) (report : Bool) (k : ℕ) : ℕ → List ℕ → Type 0 where
+  done : EndsAs (grid_at run k) Done → RunCause run report k DONE (report_at run report k)
+  trap : (kind : TrapKind) (line : ℕ) → EndsAs (grid_at run k) (Trap kind line)
+      → RunCause run report k TRAPPED (trap_text kind line ++ report_at run report k)
+  turn_limit : IsLimitedAt run k
+      → RunCause run report k TURN_LIMIT (turn_limit_text ++ report_at run report k)
+  stuck : (p : ℕ) (kind : StuckKind) → IsStuckAt run k p kind
+      → RunCause run report k STUCK (stuck_text p (kind_name kind) ++ report_at run report k)
+  idle : (p : ℕ) → IsIdleAt run k p
+      → RunCause run report k STUCK (stuck_text p idle_name ++ report_at run report k)
+
+-- ---- the text of an order
+-- the run of the code under an order, as the words ask for it
+abbrev pub run_of : Tables → Asked → List ℕ → Run
+run_of code asked order =
+    record { code = code; capacity = asked.links; order = order; limit = limit_of asked }
+
+-- An item of the text is wrong, the first such at this byte; or the code was run under the order.
+pub data OrderCause (code : Tables) (asked : Asked) (turns : ℕ) (text : List ℕ)
+    : ℕ → List ℕ → Type 0 where
+  bad_item : (at : ℕ) → reading (processors code) text ≡ Err at → turns ≡ 0
+      → OrderCause code asked turns text ORDER_REFUSED (order_refused_text at)
+  ran : {status : ℕ} {told : List ℕ} (order : List ℕ) → reading (processors code) text ≡ Ok order
+      → GoesOnTo (run_of code asked order) turns
+      → RunCause (run_of code asked order) asked.report turns status told
+      → OrderCause code asked turns text status told
+
+-- ---- files
+-- the file tells this text, which isn't too long for a listing or an order
+pub record Source (call : Call) (file : List ℕ) : Type 0 where
+  pub text : List ℕ
+  pub told : call.tells file text
+  pub short : length text ≤ MOST_LISTING
+
+-- it tells one that is
+pub record IsTooLong (call : Call) (file : List ℕ) : Type 0 where
+  pub text : List ℕ
+  pub told : call.tells file text
+  pub long : MOST_LISTING < length text
+
+-- The file can't be read, where its fetch may fail, or is too long, and nothing goes on behind; or
+-- there is the cause that work on its text has.
+pub data TextCause (call : Call) (file : List ℕ) (May Ends : Type 0)
+    (Works : List ℕ → ℕ → List ℕ → Type 0) : ℕ → List ℕ → Type 0 where
+  unreadable : May → Ends → TextCause call file May Ends Works UNREADABLE (unreadable_text file)
+  too_long : IsTooLong call file → Ends
+      → TextCause call file May Ends Works TOO_LONG (too_long_text file)
+  work : {status : ℕ} {told : List ℕ} (source : Source call file)
+      → Works source.text status told → TextCause call file May Ends Works status told
+
+-- The order is the empty one where no word names a file. Of its fetch, which is the second, it isn't
+-- known before the call whether it may fail.
+abbrev pub OrderFileCause : Call → Tables → Asked → ℕ → Option (List ℕ) → ℕ → List ℕ → Type 0
+OrderFileCause call code asked turns None = OrderCause code asked turns []
+OrderFileCause call code asked turns (Some file) =
+    TextCause call file ⊤ (turns ≡ 0) (OrderCause code asked turns)
+
+-- ---- the text of a listing
+-- It is no listing, and why; or it is that of the code, with what came of its order and run.
+pub data ListingCause (call : Call) (asked : Asked) (execution : Execution) (text : List ℕ)
+    : ℕ → List ℕ → Type 0 where
+  bad_line : (line : ℕ) → IsBadLine text line → HasNoRun execution
+      → ListingCause call asked execution text LISTING_REFUSED
+      (listing_refused_text (codes "BadLine") line)
+  bad_table : (line : ℕ) → IsBadTable text line → HasNoRun execution
+      → ListingCause call asked execution text LISTING_REFUSED
+      (listing_refused_text (codes "BadTable") line)
+  listed : {status : ℕ} {told : List ℕ} (code : Tables) → IsListing text code
+      → execution.code ≡ Some code
+      → OrderFileCause call code asked execution.turns asked.order status told
+      → ListingCause call asked execution text status told
+
+-- exec FILE
+abbrev pub ListingFileCause : Call → List ℕ → Asked → Execution → ℕ → List ℕ → Type 0
+ListingFileCause call file asked execution =
+    TextCause call file (call.may_fail file) (HasNoRun execution)
+    (ListingCause call asked execution)
+
+-- ---- any call
+-- The cause of a status, and what is told of it. A failed put is no cause of these.
+pub data Cause (call : Call) (execution : Execution) : ℕ → List ℕ → Type 0 where
+  usage : IsNoExec call.words → HasNoRun execution → Cause call execution USAGE usage_text
+  no_memory : Cause call execution NO_MEMORY no_memory_text
+  exec : {status : ℕ} {told : List ℕ} (file : List ℕ) (asked : Asked)
+      → IsExec call.words file asked → ListingFileCause call file asked execution status told
+      → Cause call execution status told

@@ -1,0 +1,67 @@
+-- When each status comes.
+use Rattle.std.specs.Prelude.{◌≡◌, ◌⊎◌, ℕ, List, [], Option, Some, None, Ok}
+use Rattle.zpl_nums.specs.declared.ends.End.TheVariants.{Done, Trap}
+use Rattle.zpl_nums.specs.declared.ends.TrapKind.{TrapKind}
+use Rattle.node_form.specs.declared.tables.Tables.{Tables}
+use Rattle.grid_meaning.specs.Action.{StuckKind}
+use Rattle.grid_meaning.specs.Grid.{EndsAs, processors}
+use Rattle.grid_order.specs.Reading.{reading}
+use Rattle.node_text.specs.Listing.{IsListing}
+use Rattle.call_claims.specs.Call.{Call}
+use Rattle.call_claims.specs.Execution.{Execution}
+use Rattle.exec_words.specs.Asked.{Asked, IsExec}
+use Rattle.exec_claims.specs.Cause.{Source, run_of}
+use Rattle.exec_claims.specs.Run.{Run, grid_at, GoesOnTo, IsStuckAt, IsIdleAt, IsLimitedAt}
+
+-- The words run a listing, and this holds of its file and of what they ask for.
+pub record Execs (call : Call) (Holds : List ℕ → Asked → Type 0) : Type 0 where
+  pub file : List ℕ
+  pub asked : Asked
+  pub given : IsExec call.words file asked
+  pub holds : Holds file asked
+
+-- ---- a run of the listed code
+-- the text of the order: that of its file, and none where no word names one
+abbrev pub IsOrderText : Call → Option (List ℕ) → List ℕ → Type 0
+IsOrderText call None text = text ≡ []
+IsOrderText call (Some file) text = (source : Source call file) × (source.text ≡ text)
+
+-- The code is the listed one, and was run under the order that the words ask for; this holds of the
+-- run and of the turns given.
+pub record HasRun (call : Call) (file : List ℕ) (asked : Asked) (execution : Execution)
+    (Holds : Run → ℕ → Type 0) : Type 0 where
+  pub source : Source call file
+  pub code : Tables
+  pub listing : IsListing source.text code
+  pub made : execution.code ≡ Some code
+  pub text : List ℕ
+  pub order_text : IsOrderText call asked.order text
+  pub order : List ℕ
+  pub read : reading (processors code) text ≡ Ok order
+  pub goes_on : GoesOnTo (run_of code asked order) execution.turns
+  pub holds : Holds (run_of code asked order) execution.turns
+
+abbrev pub RunsTo : Call → Execution → (Run → ℕ → Type 0) → Type 0
+RunsTo call execution Holds = Execs call (λ file asked. HasRun call file asked execution Holds)
+
+-- ---- how runs end
+-- 0
+abbrev pub IsDoneAt : Run → ℕ → Type 0
+IsDoneAt run k = EndsAs (grid_at run k) Done
+
+-- 7
+abbrev pub IsTrapAt : Run → ℕ → Type 0
+IsTrapAt run k = (kind : TrapKind) × (line : ℕ) × EndsAs (grid_at run k) (Trap kind line)
+
+-- 12
+abbrev pub IsStuckOrIdleAt : Run → ℕ → Type 0
+IsStuckOrIdleAt run k =
+    ((p : ℕ) × (kind : StuckKind) × IsStuckAt run k p kind) ⊎ ((p : ℕ) × IsIdleAt run k p)
+
+-- ---- the listing
+-- 11: the words run a file that tells a text, not too long, that is no listing
+abbrev pub HasNoListing : Call → List ℕ → Type 0
+HasNoListing call file = (source : Source call file) × ((code : Tables) → ¬ IsListing source.text code)
+
+abbrev pub ExecsNoListing : Call → Type 0
+ExecsNoListing call = Execs call (λ file asked. HasNoListing call file)

@@ -1,0 +1,54 @@
+//! The law of causes.
+ghost use Rattle.std.specs.Prelude.{◌≡◌, ◌↔◌, ℕ, List};
+ghost use Rattle.call_claims.specs.Call.{call_of};
+ghost use Rattle.call_claims.specs.Decided.{IsSettled};
+ghost use Rattle.call_claims.specs.Execution.{Execution};
+ghost use Rattle.call_claims.specs.declared.status.TheConstants.{DONE, USAGE};
+ghost use Rattle.call_claims.specs.declared.status.TheConstants.{TRAPPED, TURN_LIMIT};
+ghost use Rattle.exec_words.specs.Asked.{IsNoExec};
+ghost use Rattle.exec_claims.specs.Cause.{Cause};
+ghost use Rattle.exec_claims.specs.Decided.{ExecsNoListing, IsDoneAt, IsStuckOrIdleAt, IsTrapAt};
+ghost use Rattle.exec_claims.specs.Decided.{RunsTo};
+ghost use Rattle.exec_claims.specs.Run.{IsLimitedAt};
+ghost use Rattle.exec_claims.specs.declared.status.TheConstants.{LISTING_REFUSED, STUCK};
+
+use node_text::bytes_have_one_program;
+use zpl_io::Files;
+
+/// Of what was made and run in a call there is a cause of one status, where memory wasn't wanting, no
+/// put or fetch failed, and the files tell one text a name: each status comes just where its own
+/// cause is.
+pub fn exec_causes_are_one<F: Files>()
+    ensures { (files : F) (words : List (List ℕ)) (ran : Execution) (n m : ℕ)
+        (told other : List ℕ) →
+        let call = call_of words (F.tells files) (F.may_fail files) in
+        Cause call ran n told → Cause call ran m other →
+        IsSettled call n → IsSettled call m → n ≡ m }
+{
+    bytes_have_one_program();
+}
+
+/// A status that has its cause comes just where its own cause is, under the same conditions.
+pub fn exec_statuses_are_exact<F: Files>()
+    ensures usage { (files : F) (words : List (List ℕ)) (ran : Execution) (n : ℕ) (told : List ℕ) →
+        let call = call_of words (F.tells files) (F.may_fail files) in
+        Cause call ran n told → IsSettled call n → (n ≡ USAGE) ↔ IsNoExec words }
+    ensures listing { (files : F) (words : List (List ℕ)) (ran : Execution) (n : ℕ)
+        (told : List ℕ) → let call = call_of words (F.tells files) (F.may_fail files) in
+        Cause call ran n told → IsSettled call n →
+        (n ≡ LISTING_REFUSED) ↔ ExecsNoListing call }
+    ensures done { (files : F) (words : List (List ℕ)) (ran : Execution) (n : ℕ) (told : List ℕ) →
+        let call = call_of words (F.tells files) (F.may_fail files) in
+        Cause call ran n told → IsSettled call n → (n ≡ DONE) ↔ RunsTo call ran IsDoneAt }
+    ensures trap { (files : F) (words : List (List ℕ)) (ran : Execution) (n : ℕ) (told : List ℕ) →
+        let call = call_of words (F.tells files) (F.may_fail files) in
+        Cause call ran n told → IsSettled call n → (n ≡ TRAPPED) ↔ RunsTo call ran IsTrapAt }
+    ensures turn_limit { (files : F) (words : List (List ℕ)) (ran : Execution) (n : ℕ)
+        (told : List ℕ) → let call = call_of words (F.tells files) (F.may_fail files) in
+        Cause call ran n told → IsSettled call n → (n ≡ TURN_LIMIT) ↔ RunsTo call ran IsLimitedAt }
+    ensures stuck { (files : F) (words : List (List ℕ)) (ran : Execution) (n : ℕ)
+        (told : List ℕ) → let call = call_of words (F.tells files) (F.may_fail files) in
+        Cause call ran n told → IsSettled call n → (n ≡ STUCK) ↔ RunsTo call ran IsStuckOrIdleAt }
+{
+    bytes_have_one_program();
+}

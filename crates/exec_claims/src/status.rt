@@ -1,0 +1,9 @@
+//! The statuses that only runs of listings and of orders end with. The others are those of
+//! `call_claims`.
+
+/// The file of an order holds none.
+pub const ORDER_REFUSED: u8 = 6;
+/// A file holds no listing.
+pub const LISTING_REFUSED: u8 = 11;
+/// The next turn is stuck, or no processor can move and not all have ended.
+pub const STUCK: u8 = 12;
