@@ -1,0 +1,11 @@
+mod MarkLemmas
+mod RestLemmas
+mod TellLemmas
+mod TeamLemmas
+mod GivenLemmas
+mod ReadLemmas
+mod RunLemmas
+mod PlaceLemmas
+mod TurnLemmas
+mod StartLemmas
+mod ServingLemmas

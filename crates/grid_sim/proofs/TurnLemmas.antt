@@ -1,0 +1,284 @@
+-- Turns of processors in memory.
+use Rattle.std.proofs.Common.{◌≡◌, ◌≢◌, ℕ, zero, suc, ◌<◌, Bool, List, [], ◌∷◌, ◌++◌, length, map, set, get_or, Option, Some, None, refl, sym, ◌∙◌, ap, subst, arith, append-nil}
+use Rattle.std.specs.Prelude.{Result, Ok, Err, OnErr, is_some, slice_get}
+use Rattle.std.specs.Option.{option_and_then}
+use Rattle.std.specs.Vec.{with_item}
+use Rattle.std.proofs.lemmas.List.{set-get_or}
+use Rattle.zpl_io.specs.Sink.{Takes}
+use Rattle.grid_links.specs.declared.messages.Message.{Message}
+use Rattle.grid_links.specs.Machine.{Move, Moves, Waiting, Over, Stuck}
+use Rattle.grid_links.specs.Network.{Network}
+use Rattle.grid_links.specs.Run as run
+use Rattle.node_form.specs.declared.tables.Tables.{Tables}
+use Rattle.grid_meaning.specs.Action.{StuckKind as Kind, goes_on}
+use Rattle.grid_meaning.specs.Grid.{printed_by, shown_in, system_over}
+use Rattle.grid_meaning.specs.Local.{Local, processors}
+use Rattle.grid_meaning.specs.Turn.{Turn}
+use Rattle.node_local.specs.Workplace.{IsReady, Workplace}
+use Rattle.node_turn.specs.Turned.{IsAnswered, IsMade, IsPrinting, IsStuckAs, IsTraffic, IsTurn, is_resting, kind_told, links_behind, printing, turn_over}
+use Rattle.node_turn.specs.declared.steps.Step.{Step}
+use Rattle.node_turn.specs.declared.steps.Step.TheVariants as step
+use Rattle.node_turn.specs.declared.steps.Traffic.{Traffic}
+use Rattle.node_turn.specs.declared.steps.Traffic.TheVariants as traffic
+use Rattle.grid_sim.specs.declared.counts.Counts.{Counts}
+use Rattle.grid_sim.specs.declared.processors.Processors.{Processors}
+use Rattle.grid_sim.specs.Counting.{with_traffic}
+use Rattle.grid_sim.specs.Inside.{simulation_in}
+use Rattle.grid_sim.specs.Processors.{AreMarkedWhere, AreProcessors, AreSame, Anywhere, HaveMoved, HaveMovedOn, HavePrinted, HaveStates, HaveTurned, IsOther, PrintsNext, has_ended, is_at_rest, looked, partner, state_of, turn_of, world_of}
+use Rattle.grid_sim.specs.Simulation.{IsGiven, IsTold, Simulation, printed_next, turn_given}
+use Rattle.grid_sim.specs.Simulation as sim
+use Rattle.grid_sim.specs.Telling.{told_of}
+use Rattle.grid_sim.proofs.GivenLemmas.{moved_is, same_simulation, told_moved}
+use Rattle.grid_sim.proofs.TeamLemmas.{HaveChanged, changed_marked, changed_moved, changed_states, looked_first, looked_second, looked_states, nothing_left, rest_is, same_processors, turn_is}
+
+-- ---- answers
+pub on_err : {V E : Type 0} {P : Type 0} (answer : Result V E) → P → OnErr answer P
+on_err (Ok value) fact = tt
+on_err (Err fault) fact = fact
+
+-- ---- looks
+pub look_made : (code : Tables) (team : Processors) (p : ℕ) (w : Workplace) (ended resting : List Bool) (has rests : Bool)
+    → slice_get team.locals.items p ≡ Some w → team.links.count ≡ processors code
+    → ended ≡ set team.ended p has → has ≡ is_some w.local.ended
+    → resting ≡ set team.resting p rests → rests ≡ is_resting (turn_over code p w.local team.links)
+    → ◌≡◌ {A = Processors} (record team { ended = ended; resting = resting }) (looked code team p)
+look_made code team p w ended resting has rests there count e h r t =
+    let has_is : has ≡ has_ended team.locals.items p = h ∙ ended_is (slice_get team.locals.items p) there in
+    let rests_is : rests ≡ is_at_rest code team p = rest_is code team p w rests there count t in
+    rw (e, has_is, r, rests_is) refl
+  where
+    ended_is : (o : Option Workplace) → o ≡ Some w → is_some w.local.ended ≡ is_some (option_and_then (λ (v : Workplace). v.local.ended) o)
+    ended_is o same = ap (λ q. is_some (option_and_then (λ (v : Workplace). v.local.ended) q)) (sym same)
+
+pub settled_quiet : (code : Tables) (old new : Processors) (p : ℕ) (done : Traffic) → partner done ≡ None → HaveStates code old
+    → AreMarkedWhere (IsOther p done) code old → p < processors code → new ≡ looked code old p → AreProcessors code new
+settled_quiet code old new p done none states marked here is =
+    subst (AreProcessors code) (sym is) (record {
+      states = looked_states code old p states;
+      marked = nothing_left code (looked code old p) done none (looked_first code old p done marked here);
+    })
+
+pub settled_both : (code : Tables) (old mid new : Processors) (p other : ℕ) (done : Traffic) → partner done ≡ Some other → HaveStates code old
+    → AreMarkedWhere (IsOther p done) code old → p < processors code → other < processors code
+    → mid ≡ looked code old p → new ≡ looked code mid other → AreProcessors code new
+settled_both code old mid new p other done some states marked here there first second =
+    let new_is : new ≡ looked code (looked code old p) other = second ∙ ap (λ team. looked code team other) first in
+    subst (AreProcessors code) (sym new_is) (record {
+      states = looked_states code (looked code old p) other (looked_states code old p states);
+      marked = looked_second code (looked code old p) other done some (looked_first code old p done marked here) there;
+    })
+
+-- ---- moves
+-- with another state of a processor, and other links
+abbrev pub with_state : Processors → ℕ → Workplace → Network → Processors
+with_state team p workplace links = record {
+  locals = with_item team.locals p workplace;
+  links = links;
+  ended = team.ended;
+  resting = team.resting;
+}
+
+pub same_item : {X : Type 0} (xs : List X) (i : ℕ) (x y : X) → x ≡ get_or xs i x → y ≡ x → set xs i y ≡ xs
+same_item xs i x y is same = ap (set xs i) (same ∙ is) ∙ set-get_or xs i x
+
+module _ (code : Tables) (old new : Processors) (p : ℕ) (w after : Workplace) (states : HaveStates code old) (here : p < processors code)
+    (there : slice_get old.locals.items p ≡ Some w) (locals : new.locals.items ≡ set old.locals.items p after)
+    (ended : new.ended ≡ old.ended) (resting : new.resting ≡ old.resting) where
+  pub made_changed : (done : Traffic) (m : IsMade code p (turn_over code p w.local old.links) done w after old.links new.links)
+      → HaveChanged code old new p after m.move
+  made_changed done m = record {
+    here = here;
+    turn = turn_is code old p w there states.links ∙ m.moves;
+    locals = locals;
+    next = ap (λ (v : Workplace). v.local) m.state;
+    ready = m.ready;
+    links = m.links;
+    ended = ended;
+    resting = resting;
+  }
+
+  pub made_moved : (done : Traffic) → IsMade code p (turn_over code p w.local old.links) done w after old.links new.links
+      → HaveMovedOn code old new p done
+  made_moved done m = record {
+    move = m.move;
+    moved = changed_moved code old new p after m.move states (made_changed done m);
+    silent = m.silent;
+    told = m.told;
+  }
+
+  pub printed_changed : (bytes : List ℕ) → turn_of code old p ≡ printing w.local bytes → after ≡ record w { local = goes_on w.local }
+      → IsReady code p after → new.links ≡ old.links
+      → HaveChanged code old new p after (record { next = goes_on w.local; sent = None; taken = None; shown = bytes })
+  printed_changed bytes turn made ready links = record {
+    here = here;
+    turn = turn;
+    locals = locals;
+    next = ap (λ (v : Workplace). v.local) made;
+    ready = ready;
+    links = links;
+    ended = ended;
+    resting = resting;
+  }
+
+  -- no move was made
+  answered_same : (turn answer : Turn) → w ≡ get_or old.locals.items p w → IsAnswered turn answer w after old.links new.links → AreSame old new
+  answered_same turn answer item a = record {
+    locals = locals ∙ same_item old.locals.items p w after item a.state;
+    links = a.links;
+    ended = ended;
+    resting = resting;
+  }
+
+  turn_was : turn_of code old p ≡ turn_over code p w.local old.links
+  turn_was = turn_is code old p w there states.links
+
+  stuck_as : (told : Option Kind) → w ≡ get_or old.locals.items p w
+      → IsStuckAs told (turn_over code p w.local old.links) w after old.links new.links
+      → sim.IsStuckAs told (turn_of code old p) × AreSame old new
+  stuck_as None item h = absurd h
+  stuck_as (Some kind) item h = (turn_was ∙ h.turn_is, answered_same (turn_over code p w.local old.links) (Stuck kind) item h)
+
+  pub turned_on : (answer : Step) → w ≡ get_or old.locals.items p w
+      → IsTurn code p w after old.links new.links (turn_over code p w.local old.links) answer
+      → HaveTurned code old new p answer
+  turned_on (step.Moved done) item h = made_moved done h
+  turned_on (step.Prints bytes) item h = (
+    record {
+      workplace = w;
+      there = there;
+      prints = h.0;
+      turn = turn_was ∙ h.1.turn_is;
+    },
+    answered_same (turn_over code p w.local old.links) (printing w.local bytes) item h.1,
+  )
+  turned_on step.Waiting item h = (turn_was ∙ h.turn_is, answered_same (turn_over code p w.local old.links) Waiting item h)
+  turned_on step.Over item h = (turn_was ∙ h.turn_is, answered_same (turn_over code p w.local old.links) Over item h)
+  turned_on (step.Stuck kind) item h = stuck_as (kind_told kind) item h
+
+-- a turn that made no move leaves the processors as they were
+pub turned_same : (code : Tables) (old new : Processors) (p : ℕ) (answer : Step) → ((done : Traffic) → answer ≡ step.Moved done → ⊥)
+    → HaveTurned code old new p answer → AreSame old new
+turned_same code old new p (step.Moved done) other h = absurd (other done refl)
+turned_same code old new p (step.Prints bytes) other h = h.1
+turned_same code old new p step.Waiting other h = h.1
+turned_same code old new p step.Over other h = h.1
+turned_same code old new p (step.Stuck kind) other h = h.1
+
+pub kept_same : (old : Processors) (p : ℕ) (w after : Workplace) (links : Network) → w ≡ get_or old.locals.items p w → after ≡ w → links ≡ old.links
+    → AreSame old (with_state old p after links)
+kept_same old p w after links item same kept = record {
+  locals = same_item old.locals.items p w after item same;
+  links = kept;
+  ended = refl;
+  resting = refl;
+}
+
+-- the same move, whatever the marks are
+pub moved_marks : (code : Tables) (old mid new : Processors) (p : ℕ) (done : Traffic) → new.locals.items ≡ mid.locals.items → new.links ≡ mid.links
+    → HaveMovedOn code old mid p done → HaveMovedOn code old new p done
+moved_marks code old mid new p done locals links m = record {
+  move = m.move;
+  moved = record {
+    turn = m.moved.turn;
+    world = ap (λ ws. record { locals = map state_of ws; links = new.links.links }) locals
+        ∙ (ap (λ (n : Network). record { locals = map state_of mid.locals.items; links = n.links }) links ∙ m.moved.world);
+    capacity = ap (λ (n : Network). n.capacity) links ∙ m.moved.capacity;
+  };
+  silent = m.silent;
+  told = m.told;
+}
+
+-- ---- prints
+-- the move that prints, made of the state that stands at its place
+pub print_changed : (code : Tables) (old : Processors) (p : ℕ) (w after : Workplace) (bytes : List ℕ) → HaveStates code old → p < processors code
+    → slice_get old.locals.items p ≡ Some w → PrintsNext code old p bytes → after ≡ record w { local = goes_on w.local } → IsReady code p after
+    → HaveChanged code old (with_state old p after old.links) p after (record { next = goes_on w.local; sent = None; taken = None; shown = bytes })
+print_changed code old p w after bytes states here there next made ready =
+    let both : Some next.workplace ≡ Some w = sym next.there ∙ there in
+    let same : next.workplace ≡ w = cc in
+    let turn : turn_of code old p ≡ printing w.local bytes = next.turn ∙ ap (λ (v : Workplace). printing v.local bytes) same in
+    printed_changed code old (with_state old p after old.links) p w after states here there refl refl refl bytes turn made ready refl
+
+pub print_next : (code : Tables) (old : Processors) (p : ℕ) (w : Workplace) (bytes : List ℕ) → slice_get old.locals.items p ≡ Some w
+    → PrintsNext code old p bytes → IsPrinting code p bytes w.local
+print_next code old p w bytes there next =
+    let both : Some next.workplace ≡ Some w = sym next.there ∙ there in
+    let same : next.workplace ≡ w = cc in
+    subst (λ (v : Workplace). IsPrinting code p bytes v.local) same next.prints
+
+pub print_moved : (code : Tables) (old new : Processors) (p : ℕ) (w after : Workplace) (bytes : List ℕ) → HaveStates code old → p < processors code
+    → slice_get old.locals.items p ≡ Some w → PrintsNext code old p bytes → after ≡ record w { local = goes_on w.local } → IsReady code p after
+    → new.locals ≡ with_item old.locals p after → new.links ≡ old.links → HavePrinted code old new p bytes
+print_moved code old new p w after bytes states here there next made ready locals links =
+    let mid = with_state old p after old.links in
+    let move : Move Local Message = record { next = goes_on w.local; sent = None; taken = None; shown = bytes } in
+    let moved : HaveMoved code old mid p move =
+    changed_moved code old mid p after move states (print_changed code old p w after bytes states here there next made ready) in
+    record {
+      move = move;
+      moved = record {
+        turn = moved.turn;
+        world = ap (λ ws. record { locals = map state_of ws; links = new.links.links }) (ap (λ l. l.items) locals)
+            ∙ (ap (λ (n : Network). record { locals = map state_of mid.locals.items; links = n.links }) links ∙ moved.world);
+        capacity = ap (λ (n : Network). n.capacity) links ∙ moved.capacity;
+      };
+      prints = refl;
+      told = (refl, refl);
+    }
+
+pub prints_same : (code : Tables) (old new : Processors) (p : ℕ) (bytes : List ℕ) → AreSame old new → PrintsNext code old p bytes
+    → PrintsNext code new p bytes
+prints_same code old new p bytes same next = record {
+  workplace = next.workplace;
+  there = ap (λ ws. slice_get ws p) same.locals ∙ next.there;
+  prints = next.prints;
+  turn = ap (λ ws. run.next_turn (system_over code new.links.capacity) (record { locals = map state_of ws; links = new.links.links }) p) same.locals
+      ∙ (ap (λ (n : Network). run.next_turn (system_over code n.capacity) (record { locals = map state_of old.locals.items; links = n.links }) p) same.links
+      ∙ next.turn);
+}
+
+-- ---- simulations
+printed_none : (p : ℕ) → printed_by p [] ≡ []
+printed_none zero = refl
+printed_none (suc p) = refl
+
+pub takes_none : (tells : List ℕ → Type 0) (bytes : List ℕ) → bytes ≡ [] → Takes tells bytes tells
+takes_none tells bytes none taken told = subst tells (sym (ap (λ b. taken ++ b) none ∙ append-nil taken)) told
+
+-- a silent move was given
+pub given_silent : (code : Tables) (old new : Processors) (before after : Counts) (p : ℕ) (done : Traffic) (tells : List ℕ → Type 0)
+    → HaveMovedOn code old new p done → after ≡ with_traffic before done
+    → IsGiven (simulation_in code old before) (simulation_in code new after) p tells tells
+given_silent code old new before after p done tells m counted = record {
+  grid = ap (simulation_in code new) counted ∙ moved_is code old new before p done m.move m.moved m.told;
+  takes = takes_none tells _ (ap (λ turn. printed_by p (shown_in turn)) m.moved.turn ∙ (ap (printed_by p) m.silent ∙ printed_none p));
+}
+
+pub told_on : (code : Tables) (old new : Processors) (before : Counts) (p : ℕ) (done : Traffic) → HaveMovedOn code old new p done
+    → IsTold (sim.turn_in (simulation_in code old before) p) (told_of done)
+told_on code old new before p done m = told_moved (processors code) done m.move _ m.moved.turn m.told
+
+-- a move that prints was given
+pub given_printed : (code : Tables) (old mid new : Processors) (before after : Counts) (p : ℕ) (bytes : List ℕ) (tells then : List ℕ → Type 0)
+    → AreSame old mid → PrintsNext code old p bytes → HavePrinted code mid new p bytes → after ≡ with_traffic before traffic.Quiet
+    → Takes tells bytes then → IsGiven (simulation_in code old before) (simulation_in code new after) p tells then
+given_printed code old mid new before after p bytes tells then same next printed counted takes = record {
+  grid = ap (simulation_in code new) counted
+      ∙ (moved_is code mid new before p traffic.Quiet printed.move printed.moved printed.told
+      ∙ ap (λ s. turn_given s p) (same_simulation code old mid before same));
+  takes = subst (λ piece. Takes tells piece then) (sym printed_is) takes;
+}
+  where
+    printed_is : printed_next (simulation_in code old before) p ≡ bytes
+    printed_is = ap (λ turn. printed_by p (shown_in turn)) next.turn ∙ ap (λ q. printed_by q bytes) next.prints.first
+
+pub told_printed : (code : Tables) (old mid new : Processors) (before : Counts) (p : ℕ) (bytes : List ℕ) → AreSame old mid
+    → HavePrinted code mid new p bytes → IsTold (sim.turn_in (simulation_in code old before) p) (told_of traffic.Quiet)
+told_printed code old mid new before p bytes same printed =
+    subst (λ s. IsTold (sim.turn_in s p) (told_of traffic.Quiet)) (same_simulation code old mid before same)
+    (told_moved (processors code) traffic.Quiet printed.move _ printed.moved.turn printed.told)
+
+-- nothing of what would be printed is nothing
+pub prints_some : (code : Tables) (old : Processors) (before : Counts) (p : ℕ) (bytes : List ℕ) → PrintsNext code old p bytes
+    → printed_next (simulation_in code old before) p ≡ bytes
+prints_some code old before p bytes next = ap (λ turn. printed_by p (shown_in turn)) next.turn ∙ ap (λ q. printed_by q bytes) next.prints.first

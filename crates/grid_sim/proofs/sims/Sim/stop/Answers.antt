@@ -1,0 +1,5 @@
+use Rattle.std.proofs.Common.{◌≡◌}
+use Rattle.grid_sim.proofs.sims.Sim.stop.Goals as goal
+
+pub returns-in-Some : goal.returns-in-Some
+returns-in-Some c = (c.ending.ensures.ends c.in-Some.ending).0 c.in-Some.is

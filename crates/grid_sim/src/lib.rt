@@ -1,0 +1,18 @@
+//! A grid of processors that runs node code, turn by turn, in any order.
+#![tactic(auto)]
+
+mod counts;
+mod faults;
+mod marks;
+mod processors;
+mod readers;
+mod runs;
+mod sims;
+mod starts;
+mod turns;
+
+pub use counts::Counts;
+pub use faults::SimFault;
+pub use node_turn::{Local, StuckKind};
+pub use sims::Sim;
+pub use turns::{Told, Turned};

@@ -1,0 +1,69 @@
+//! Processors before their first turn.
+ghost use Rattle.std.specs.Prelude.{◌≡◌, IfOk, map};
+ghost use Rattle.grid_links.specs.Network.{empty_network};
+ghost use Rattle.grid_links.specs.Run.{start_world};
+ghost use Rattle.grid_meaning.specs.Grid.{system_over};
+ghost use Rattle.grid_meaning.specs.Local.{processors, start_locals};
+ghost use Rattle.grid_meaning.specs.Stored.{arrangement_of};
+ghost use Rattle.grid_sim.specs.Processors.{AllReady, AreProcessors, state_of, world_of};
+ghost use Rattle.grid_sim.specs.Serving.{IsServedCode};
+
+use crate::marks::Marks;
+use crate::processors::Processors;
+use grid_layout::Layout;
+use grid_links::Links;
+use node_form::NodeProgram;
+use node_turn::Local;
+use std::alloc::{AllocError, Global};
+
+/// The states of all processors before their first turn.
+fn start_locals(
+    alloc: Global,
+    code: &NodeProgram,
+    layout: &Layout,
+    count: u32,
+) -> Result<Vec<Local>, AllocError>
+    requires layout { layout.now ≡ arrangement_of code.now }
+    requires count { count ≡ processors code.now }
+    ensures start { IfOk result (λ locals. map state_of locals.items ≡ start_locals code.now) }
+    ensures ready { IfOk result (λ locals. AllReady code.now locals.items) }
+{
+    let mut locals = Vec::new(alloc);
+    for p in 0..count {
+        locals.push(Local::new(alloc, code, layout, p)?)?;
+    }
+    Ok(locals)
+}
+
+impl Processors {
+    /// All processors before their first turn, over links with no message on them.
+    pub(crate) fn start(
+        alloc: Global,
+        code: &NodeProgram,
+        layout: &Layout,
+        links: Links,
+    ) -> Result<Processors, AllocError>
+        requires layout { layout.now ≡ arrangement_of code.now }
+        requires links { links ≡ empty_network (processors code.now) links.capacity }
+        requires served { IsServedCode code.now }
+        ensures world { IfOk result (λ team. world_of team
+            ≡ start_world (system_over code.now links.capacity)) }
+        ensures capacity { IfOk result (λ team. team.links.capacity ≡ links.capacity) }
+        ensures processors { IfOk result (AreProcessors code.now) }
+    {
+        let count = layout.grid().count();
+        let locals = start_locals(alloc, code, layout, count)?;
+        let ended = Marks::none(alloc, count)?;
+        let resting = Marks::none(alloc, count)?;
+        let mut team = Processors {
+            locals,
+            links,
+            ended,
+            resting,
+        };
+        for p in 0..count {
+            team.look(code, layout, p);
+        }
+        Ok(team)
+    }
+}
