@@ -1,15 +1,16 @@
 -- The stages of a row name processors of the grid, and are few.
-use Rattle.std.proofs.Common.{◌≡◌, ℕ, zero, suc, ◌+◌, ◌-◌, ◌*◌, ◌<◌, ◌≤◌, ◌^◌, ◌==◌, Bool, true, false, cond, nat_lt, List, [], ◌∷◌, ◌++◌, length, map, take, refl, sym, ap, ◌∙◌, subst, ℤ, arith, length-append}
+use Rattle.std.proofs.Common.{◌≡◌, ℕ, zero, suc, ◌+◌, ◌-◌, ◌*◌, ◌<◌, ◌≤◌, ◌^◌, ◌==◌, Bool, true, false, cond, nat_lt, List, [], ◌∷◌, ◌++◌, length, map, take, refl, sym, ap, ◌∙◌, subst, ℤ, arith, length-append, inl, inr}
 use Rattle.std.specs.Prelude.{Option, Some, None, All, slice_get, filter, count_by}
-use Rattle.std.specs.List.{range_with_len}
+use Rattle.std.specs.List.{filter_map, range_with_len}
 use Rattle.std.specs.Option.{IfSome, option_map}
 use Rattle.std.proofs.lemmas.Bool.{ltb-true}
-use Rattle.std.proofs.lemmas.List.{length-map}
-use Rattle.std.proofs.lemmas.List.Elements.{All-nil, All-cons, All-filter, All-head, All-tail, filter_passes}
+use Rattle.std.proofs.lemmas.List.{length-map, length-take}
+use Rattle.std.proofs.lemmas.List.Elements.{All-nil, All-cons, All-filter, All-head, All-tail, All-take, filter_passes}
 use Rattle.std.proofs.lemmas.List.FromFn.{length-range_with_len}
 use Rattle.std.proofs.lemmas.List.Sums.{length-filter}
 use Rattle.std.proofs.lemmas.Option.{slice_get_within}
 use Rattle.std.proofs.Math.Nat.{div-le_self}
+use Rattle.node_form.specs.declared.arrays.ArrayRow.{ArrayRow}
 use Rattle.node_form.specs.declared.instructions.Instr.{Instr}
 use Rattle.node_form.specs.declared.instructions.Instr.TheVariants as instr
 use Rattle.node_form.specs.declared.tables.Tables.{Tables}
@@ -18,9 +19,13 @@ use Rattle.grid_meaning.specs.Exchange.{started, finished}
 use Rattle.grid_meaning.specs.Gather.{gather_stages}
 use Rattle.grid_meaning.specs.Local.{Local, processors, processor_numbers}
 use Rattle.grid_meaning.specs.Owner.{region_in, tuples_of}
+use Rattle.grid_meaning.specs.Remap.{remapped}
 use Rattle.grid_meaning.specs.Rows.{collective}
+use Rattle.grid_meaning.specs.State.{IsAt, IsIn, IsPart}
+use Rattle.grid_meaning.proofs.RemapLemmas.{IsPart-all}
 use Rattle.node_local.specs.Workplace.{Workplace}
 use Rattle.row_turn.proofs.RecordLemmas.{is_row}
+use Rattle.row_turn.proofs.StandLemmas.{stands_at}
 use Rattle.row_turn.specs.Placed.{IsAtRow}
 use Rattle.row_turn.specs.Together.{IsTogether, NamesOne, OfRow}
 
@@ -66,6 +71,25 @@ some-others code p = some-filter (processors code) _ (processor_numbers code) (s
 pub some-others_where : (code : Tables) (p : ℕ) (many : ℕ → ℕ) → AreSome (processors code) (others_where code p many)
 some-others_where code p many = some-filter (processors code) _ (others code p) (some-others code p)
 
+-- some of the first of them
+part_fewer : (xs ys : List ℕ) → IsPart xs ys → length xs ≤ length ys
+part_fewer [] ys is = omega arith
+part_fewer (x ∷ xs) [] is = absurd is
+part_fewer (x ∷ xs) (y ∷ ys) (inl here) = let le = part_fewer xs ys here.1 in omega arith
+part_fewer (x ∷ xs) (y ∷ ys) (inr later) = let le = part_fewer (x ∷ xs) ys later in omega arith
+
+some-first : (count n : ℕ) (list : List ℕ) → AreSome count list → AreSome count (take n list)
+some-first count n list are = record {
+  below = All-take (λ q. q < count) n list are.below;
+  few = let many = length-take n list in let few = are.few in omega (arith, many);
+}
+
+some-part : (count : ℕ) (xs ys : List ℕ) → IsPart xs ys → AreSome count ys → AreSome count xs
+some-part count xs ys part are = record {
+  below = IsPart-all (λ q. q < count) xs ys part are.below;
+  few = let le = part_fewer xs ys part in let few = are.few in omega arith;
+}
+
 -- ---- stages for them
 named-map : (count : ℕ) (stage : ℕ → Stage) (list : List ℕ) (stages : List Stage) → ((q : ℕ) → q < count → NamesOne count (stage q))
     → All (λ q. q < count) list → All (NamesOne count) stages → All (NamesOne count) (map stage list ++ stages)
@@ -101,6 +125,17 @@ bounded-takes count most list stages some are = record {
   named = named-map count TakesFrom list stages (λ q below. below) some.below are.named;
   few = few-map count most TakesFrom list stages some.few are.few;
 }
+
+-- to those whose words are kept
+bounded-answers : (count most : ℕ) (kept : List (ℕ × List ℤ)) (stages : List Stage) → AreSome count (map (λ entry. entry.0) kept)
+    → AreBounded count most stages → AreBounded count (count + most) (map (λ entry. Sends entry.0) kept ++ stages)
+bounded-answers count most kept stages some are =
+    subst (λ sends. AreBounded count (count + most) (sends ++ stages)) (map-map kept)
+    (bounded-sends count most (map (λ entry. entry.0) kept) stages some are)
+  where
+    map-map : (kept : List (ℕ × List ℤ)) → map Sends (map (λ entry. entry.0) kept) ≡ map (λ entry. Sends entry.0) kept
+    map-map [] = refl
+    map-map (entry ∷ kept) = ap (λ sends. Sends entry.0 ∷ sends) (map-map kept)
 
 pub bounded-more : (count most more : ℕ) (stages : List Stage) → most ≤ more → AreBounded count most stages → AreBounded count more stages
 bounded-more count most more stages le are = record { named = are.named; few = let few = are.few in omega arith }
@@ -199,35 +234,51 @@ module _ (code : Tables) (p : ℕ) (local : Local) (inside : p < processors code
       bounded-more (processors code) (processors code + (2 + (processors code + 1))) most _ (omega arith)
       (bounded-agreeing (processors code) kin are)
 
+  bounded-remap : (array slot from : ℕ) (parts : List ℕ) (read : Option ArrayRow)
+      → IsIn code p (option_map (remapped code p array slot from parts) read) local
+      → IfSome (option_map (remapped code p array slot from parts) read) IsBounded
+  bounded-remap array slot from parts None is = tt
+  bounded-remap array slot from parts (Some read) is =
+      let all = some-others code p in
+      let kept = some-part (processors code) (map (λ entry. entry.0) local.kept) _ is.1.0 (some-first (processors code) _ (others code p) all) in
+      bounded-more (processors code) (1 + (processors code + (processors code + (processors code + (processors code + 1))))) most _ (omega arith)
+      (bounded-first (processors code) _ Alone _ tt
+      (bounded-sends (processors code) _ (others code p) _ all
+      (bounded-takes (processors code) _ (others code p) _ all
+      (bounded-answers (processors code) _ local.kept _ kept
+      (bounded-takes (processors code) 1 _ _ (some-filter (processors code) _ (others code p) all) (bounded-last (processors code)))))))
+
   found : {X : Type 0} (o : Option X) (row : X → Collective) → ((x : X) → IsBounded (row x)) → IfSome (option_map row o) IsBounded
   found None row all = tt
   found (Some x) row all = all x
 
-  pub bounded-row : (row : Instr) → IsTogether row → OfRow code p row IsBounded
-  bounded-row (instr.Start exchange) is =
+  pub bounded-row : (row : Instr) → IsTogether row → IsAt code p local (Some row) → OfRow code p row IsBounded
+  bounded-row (instr.Start exchange) is stands =
       found (slice_get code.exchanges exchange) (started code p exchange) (λ items.
       bounded-more (processors code) (processors code + 1) most _ (omega arith)
       (bounded-sends (processors code) 1 _ _ (some-others_where code p _) (bounded-last (processors code))))
-  bounded-row (instr.Finish exchange) is =
+  bounded-row (instr.Finish exchange) is stands =
       found (slice_get code.exchanges exchange) (finished code p exchange) (λ items.
       bounded-more (processors code) (processors code + 1) most _ (omega arith)
       (bounded-takes (processors code) 1 _ _ (some-others_where code p _) (bounded-last (processors code))))
-  bounded-row (instr.Edge kind array slot shift) is =
+  bounded-row (instr.Edge kind array slot shift) is stands =
       bounded-delivered _ _ (some-others_where code p _) (some-others_where code p _)
-  bounded-row (instr.Flood array target from source) is =
+  bounded-row (instr.Flood array target from source) is stands =
       bounded-delivered _ _ (some-others_where code p _) (some-others_where code p _)
-  bounded-row (instr.Part array target f from source) is =
+  bounded-row (instr.Part array target f from source) is stands =
       bounded-delivered _ _ (some-others_where code p _) (some-others_where code p _)
-  bounded-row (instr.Scan array slot f along from mask) is =
+  bounded-row (instr.Scan array slot f along from mask) is stands =
       bounded-more (processors code) (processors code + (processors code + 1)) most _ (omega arith)
       (bounded-sends (processors code) (processors code + 1) _ _ (some-others_where code p _)
       (bounded-takes (processors code) 1 _ _ (some-others_where code p _) (bounded-last (processors code))))
-  bounded-row (instr.Gather truth array slot) is = bounded-gather p slot
-  bounded-row (instr.Vote group) is = bounded-kin (star code p) (kin-star code p inside)
-  bounded-row (instr.TreeVote group) is = bounded-kin (tree code p) (kin-tree code p inside)
-  bounded-row (instr.Fold scalar f) is = bounded-kin (star code p) (kin-star code p inside)
-  bounded-row (instr.TreeFold scalar f) is = bounded-kin (tree code p) (kin-tree code p inside)
-  bounded-row row is = absurd is
+  bounded-row (instr.Gather truth array slot) is stands = bounded-gather p slot
+  bounded-row (instr.Remap array slot from parts) is stands =
+      bounded-remap array slot from (filter_map (λ part. part) parts) (slice_get code.arrays from) stands.1
+  bounded-row (instr.Vote group) is stands = bounded-kin (star code p) (kin-star code p inside)
+  bounded-row (instr.TreeVote group) is stands = bounded-kin (tree code p) (kin-tree code p inside)
+  bounded-row (instr.Fold scalar f) is stands = bounded-kin (star code p) (kin-star code p inside)
+  bounded-row (instr.TreeFold scalar f) is stands = bounded-kin (tree code p) (kin-tree code p inside)
+  bounded-row row is stands = absurd is
 
 -- ---- of a processor at a row
 stage_named : (count : ℕ) (stages : List Stage) (i : ℕ) (stage : Stage) → All (NamesOne count) stages → slice_get stages i ≡ Some stage
@@ -243,7 +294,7 @@ pub named_stage : (code : Tables) (p : ℕ) (w : Workplace) (row : Instr) → Is
     → OfRow code p row (λ c. stage_of c w.local ≡ Some stage) → NamesOne (processors code) stage
 named_stage code p w row is at stage staged =
     let there = is_row code p row is at.fits in
-    let bounded = subst (λ o. IfSome o (IsBounded code p w.local at.ready.state.number)) there.is (bounded-row code p w.local at.ready.state.number row is) in
+    let bounded = subst (λ o. IfSome o (IsBounded code p w.local at.ready.state.number)) there.is (bounded-row code p w.local at.ready.state.number row is (stands_at code p w row at)) in
     let here = subst (λ o. IfSome o (λ c. stage_of c w.local ≡ Some stage)) there.is staged in
     stage_named (processors code) (there.together.stages w.local) w.local.made stage bounded.named here
 
@@ -251,7 +302,7 @@ pub few_made : (code : Tables) (p : ℕ) (w : Workplace) (row : Instr) → IsTog
     → OfRow code p row (λ c. stage_of c w.local ≡ Some stage) → (count : ℕ) → count ≡ processors code → count ≤ 64 → w.local.made < 2 ^ 32
 few_made code p w row is at stage staged count same small =
     let there = is_row code p row is at.fits in
-    let bounded = subst (λ o. IfSome o (IsBounded code p w.local at.ready.state.number)) there.is (bounded-row code p w.local at.ready.state.number row is) in
+    let bounded = subst (λ o. IfSome o (IsBounded code p w.local at.ready.state.number)) there.is (bounded-row code p w.local at.ready.state.number row is (stands_at code p w row at)) in
     let here = subst (λ o. IfSome o (λ c. stage_of c w.local ≡ Some stage)) there.is staged in
     let below : w.local.made < length (there.together.stages w.local) = slice_get_within (there.together.stages w.local) w.local.made stage here in
     let few : length (there.together.stages w.local) ≤ 4 * processors code + 4 = bounded.few in

@@ -2,6 +2,7 @@ mod BoundLemmas
 mod HeldLemmas
 mod MoreLemmas
 pub mod RecordLemmas
+mod RemapLemmas
 mod RowLemmas
 mod ScanLemmas
 mod StageLemmas

@@ -15,7 +15,7 @@ use Rattle.row_turn.specs.Placed.{IsAtRow}
 use Rattle.row_turn.specs.Together.{OfRow}
 
 -- the slot's rank is that of its region
-one_rank : (code : Tables) (slot rank : ℕ) (region : Region) → slice_get code.slots slot ≡ Some rank → slice_get code.slots slot ≡ Some region.rank
+pub one_rank : (code : Tables) (slot rank : ℕ) (region : Region) → slice_get code.slots slot ≡ Some rank → slice_get code.slots slot ≡ Some region.rank
     → rank ≡ region.rank
 one_rank code slot rank region there ranked = let both : Some rank ≡ Some region.rank = sym there ∙ ranked in cc
 

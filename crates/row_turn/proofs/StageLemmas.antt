@@ -59,7 +59,7 @@ finishing_stages code p exchange items local slots same =
     sym (ap (λ s. (finished code p 0 items).stages (at_slots s)) same)
 
 -- ---- fewer turns were made than the row has
-in_found : {X : Type 0} (code : Tables) (p : ℕ) (local : Local) (found : Option X) (row : X → Collective) (x : X) → found ≡ Some x
+pub in_found : {X : Type 0} (code : Tables) (p : ℕ) (local : Local) (found : Option X) (row : X → Collective) (x : X) → found ≡ Some x
     → IsIn code p (option_map row found) local → local.made < length ((row x).stages local)
 in_found code p local found row x is inside = let here = subst (λ o. IsIn code p (option_map row o) local) is inside in here.0
 

@@ -2,8 +2,8 @@
 --
 --   IsTogether   such a row
 --   IsAlone      a row that needs no other processor
---   IsServed     a row whose turns are there
 --   IsScan       one that is a `scan`
+--   IsRemap      one that is a `remap`
 --   OfRow        what holds of such a row's record
 --   NamesOne     whom a stage names is a processor
 --   kin_over     with whom a processor comes to one value
@@ -23,6 +23,7 @@ IsTogether (instr.Flood array target from source) = ⊤
 IsTogether (instr.Part array target fold from source) = ⊤
 IsTogether (instr.Scan array slot fold along from mask) = ⊤
 IsTogether (instr.Gather truth array slot) = ⊤
+IsTogether (instr.Remap array slot from parts) = ⊤
 IsTogether (instr.Vote group) = ⊤
 IsTogether (instr.TreeVote group) = ⊤
 IsTogether (instr.Fold scalar fold) = ⊤
@@ -49,14 +50,13 @@ IsAlone (instr.Trap kind line) = ⊤
 IsAlone instr.End = ⊤
 IsAlone row = ⊥
 
--- a row that processors run: all but `remap`, whose turns aren't there yet
-abbrev pub IsServed : Instr → Type 0
-IsServed (instr.Remap array slot from parts) = ⊥
-IsServed row = ⊤
-
 abbrev pub IsScan : Instr → Type 0
 IsScan (instr.Scan array slot fold along from mask) = ⊤
 IsScan row = ⊥
+
+abbrev pub IsRemap : Instr → Type 0
+IsRemap (instr.Remap array slot from parts) = ⊤
+IsRemap row = ⊥
 
 abbrev pub OfRow : Tables → ℕ → Instr → (Collective → Type 0) → Type 0
 OfRow code p row holds = IfSome (collective code p row) holds

@@ -17,6 +17,7 @@ ghost use Rattle.zpl_region.specs.Region.{IsRegion, members};
 use crate::exchanges::items_of;
 use crate::floods::held_in_flood;
 use crate::parts::held_in_part;
+use crate::remaps::held_in_remap;
 use crate::scans::held_in_scan;
 use crate::slots::region_in;
 use grid_layout::Layout;
@@ -202,6 +203,7 @@ pub fn has_words(
         Instr::Gather { truth, array, slot } => {
             held_in_gather(code, layout, p, local, truth, array, slot, to)
         }
+        Instr::Remap { .. } => held_in_remap(code, layout, p, local, row, to),
         _ => true,
     }
 }

@@ -11,6 +11,7 @@ mod gathers;
 mod held;
 mod messages;
 mod parts;
+mod remaps;
 mod rows;
 mod scans;
 mod slots;

@@ -19,6 +19,7 @@ use crate::exchanges::{awaits_in_finish, taken_in_finish, words_in_start};
 use crate::floods::{awaits_in_flood, taken_in_flood, words_in_flood};
 use crate::gathers::{awaits_in_gather, words_in_gather};
 use crate::parts::{awaits_in_part, taken_in_part, words_in_part};
+use crate::remaps::{awaits_in_remap, taken_in_remap, words_in_remap};
 use crate::scans::{awaits_in_scan, words_in_scan};
 use grid_layout::Layout;
 use grid_links::{Message, Words};
@@ -132,6 +133,7 @@ fn words_for(
         Instr::Gather { truth, array, slot } => {
             words_in_gather(alloc, code, layout, p, local, truth, array, slot, to)
         }
+        Instr::Remap { .. } => words_in_remap(alloc, code, layout, p, local, row, to),
         Instr::Vote { group } => {
             let agreement = Agreement::Flag(group);
             words_in_agreement(alloc, code, layout, p, local, agreement, false, to)
@@ -229,6 +231,7 @@ fn row_awaits(
         Instr::Gather { truth, array, slot } => {
             awaits_in_gather(code, layout, p, local, truth, array, slot, sender, many)
         }
+        Instr::Remap { .. } => awaits_in_remap(code, layout, p, local, row, sender, many),
         _ => many == 1,
     }
 }
@@ -306,6 +309,7 @@ fn words_taken(
         } => Ok(taken_in_part(
             code, layout, p, local, array, target, fold, from, source, sender, words,
         )),
+        Instr::Remap { .. } => taken_in_remap(alloc, code, layout, p, local, row, sender, words),
         _ => keep_copy(alloc, local, sender, words),
     }
 }

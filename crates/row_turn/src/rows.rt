@@ -5,7 +5,7 @@ ghost use Rattle.grid_meaning.specs.Local.{processors};
 ghost use Rattle.grid_meaning.specs.Stored.{arrangement_of};
 ghost use Rattle.node_stages.specs.Stage.{staged};
 ghost use Rattle.row_turn.specs.Placed.{IsAtRow};
-ghost use Rattle.row_turn.specs.Together.{IsAlone, IsServed, IsTogether, NamesOne, OfRow};
+ghost use Rattle.row_turn.specs.Together.{IsAlone, IsTogether, NamesOne, OfRow};
 
 use crate::agreements::kin_of;
 use crate::edges::stage_in_edge;
@@ -13,6 +13,7 @@ use crate::exchanges::{stage_in_finish, stage_in_start};
 use crate::floods::stage_in_flood;
 use crate::gathers::stage_in_gather;
 use crate::parts::stage_in_part;
+use crate::remaps::stage_in_remap;
 use crate::scans::stage_in_scan;
 use grid_layout::Layout;
 use node_form::{Instr, NodeProgram};
@@ -22,7 +23,7 @@ use node_stages::Stage;
 /// Whether processors work together in a row.
 pub fn is_together(row: &Instr) -> bool
     ensures yes { (result ≡ true) → IsTogether row.now }
-    ensures no { (result ≡ false) → IsServed row.now → IsAlone row.now }
+    ensures no { (result ≡ false) → IsAlone row.now }
 {
     match *row {
         Instr::Start { .. }
@@ -32,6 +33,7 @@ pub fn is_together(row: &Instr) -> bool
         | Instr::Part { .. }
         | Instr::Scan { .. }
         | Instr::Gather { .. }
+        | Instr::Remap { .. }
         | Instr::Vote { .. }
         | Instr::TreeVote { .. }
         | Instr::Fold { .. }
@@ -74,6 +76,7 @@ fn stage_of_row(code: &NodeProgram, layout: &Layout, p: u32, local: &Local, row:
         Instr::Gather { truth, array, slot } => {
             stage_in_gather(code, layout, p, local, truth, array, slot)
         }
+        Instr::Remap { .. } => stage_in_remap(code, layout, p, local, row),
         Instr::Vote { .. } => kin_of(code, layout, p, false).stage(local.made()),
         Instr::Fold { .. } => kin_of(code, layout, p, false).stage(local.made()),
         Instr::TreeVote { .. } => kin_of(code, layout, p, true).stage(local.made()),

@@ -16,6 +16,7 @@ use crate::edges::alone_in_edge;
 use crate::floods::alone_in_flood;
 use crate::gathers::last_in_gather;
 use crate::parts::alone_in_part;
+use crate::remaps::alone_in_remap;
 use crate::scans::last_in_scan;
 use crate::slots::leave;
 use grid_layout::Layout;
@@ -67,6 +68,7 @@ fn made_alone(
         } => alone_in_part(
             alloc, code, layout, p, local, array, target, fold, from, source,
         ),
+        Instr::Remap { .. } => alone_in_remap(alloc, code, layout, p, local, row),
         _ => Ok(false),
     }
 }
