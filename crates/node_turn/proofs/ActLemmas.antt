@@ -62,6 +62,7 @@ together_acts code p local (instr.Flood array target from source) is = refl
 together_acts code p local (instr.Part array target f from source) is = refl
 together_acts code p local (instr.Scan array slot f along from mask) is = refl
 together_acts code p local (instr.Gather truth array slot) is = refl
+together_acts code p local (instr.Remap array slot from parts) is = refl
 together_acts code p local (instr.Vote group) is = refl
 together_acts code p local (instr.TreeVote group) is = refl
 together_acts code p local (instr.Fold scalar f) is = refl

@@ -2,6 +2,7 @@
 use Rattle.std.proofs.Common.{◌≡◌, ℕ, zero, suc, ◌+◌, ◌<◌, ◌&&◌, Bool, true, false, cond, List, [], ◌∷◌, length, not, refl, sym, ap, ◌∙◌, subst, ℤ}
 use Rattle.std.specs.Prelude.{Option, Some, None, is_some, slice_get}
 use Rattle.std.specs.Fmt.{signed_decimal}
+use Rattle.std.specs.List.{filter_map}
 use Rattle.std.specs.Option.{IfSome, option_map}
 use Rattle.std.proofs.lemmas.Bool.{lt-ltb}
 use Rattle.zpl_region.specs.declared.regions.Region.{Region}
@@ -34,6 +35,7 @@ use Rattle.grid_meaning.specs.Loop.{after_members, looped, turn_at_index}
 use Rattle.grid_meaning.specs.Owner.{region_in, tuples_of}
 use Rattle.grid_meaning.specs.Place.{values_at}
 use Rattle.grid_meaning.specs.Room.{cleared, roomed}
+use Rattle.grid_meaning.specs.Remap.{remapped}
 use Rattle.grid_meaning.specs.Rows.{collective}
 use Rattle.grid_meaning.specs.Scan.{scan_done, scanned_row}
 use Rattle.grid_meaning.specs.Turn.{Turn, act, act_at, controlled, expression_value, fed, prints_text, prints_value, registers_of, sends, steps_on, unless_ended}
@@ -159,6 +161,8 @@ quiet_last code p local (instr.Flood array target from source) is = refl
 quiet_last code p local (instr.Part array target f from source) is = refl
 quiet_last code p local (instr.Scan array slot f along from mask) is = quiet-scan code p f along from mask _
 quiet_last code p local (instr.Gather truth array slot) is = quiet-gather code p truth array (region_in local slot) local
+quiet_last code p local (instr.Remap array slot from parts) is =
+    quiet-found (slice_get code.arrays from) (remapped code p array slot from (filter_map (λ part. part) parts)) local (λ read. refl)
 quiet_last code p local (instr.Vote number) is = quiet-decided code number local _
 quiet_last code p local (instr.TreeVote number) is = quiet-decided code number local _
 quiet_last code p local (instr.Fold scalar f) is = refl

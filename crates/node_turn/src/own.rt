@@ -5,6 +5,7 @@ ghost use Rattle.grid_meaning.specs.Turn.{act_at};
 ghost use Rattle.node_control.specs.Running.{IsControlRow, IsPrintRow};
 ghost use Rattle.row_turn.specs.Own.{IsOwn};
 ghost use Rattle.row_turn.specs.Placed.{IsAtRow};
+ghost use Rattle.row_turn.specs.Together.{IsAlone};
 
 use grid_layout::Layout;
 use node_control::{run_control, run_print};
@@ -115,6 +116,7 @@ pub(crate) fn own_turn(
     row: &Instr,
 ) -> Result<OwnTurn, AllocError>
     requires layout { layout.now ≡ arrangement_of code.now }
+    requires alone { IsAlone row.now }
     requires at { IsAtRow code.now p local.old row.now }
     ensures own { IfOk result (λ turn. IsOwn p
         (act_at code.now p local.old.local (Some row.now)) local.old local.new turn) }
@@ -138,6 +140,6 @@ pub(crate) fn own_turn(
         | Instr::Unless { .. }
         | Instr::Trap { .. }
         | Instr::End => Ok(own_control(code, p, local, row)),
-        _ => Err(AllocError),
+        _ => unreachable!(),
     }
 }

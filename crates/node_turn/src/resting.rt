@@ -1,12 +1,12 @@
 //! Processors at rest.
-ghost use Rattle.std.specs.Prelude.{◌≡◌, ◌<◌, IfSome, Some, slice_get};
+ghost use Rattle.std.specs.Prelude.{◌≡◌, ◌<◌, Some};
 ghost use Rattle.grid_meaning.specs.Collective.{Sends, TakesFrom, stage_of};
 ghost use Rattle.grid_meaning.specs.Local.{processors};
 ghost use Rattle.grid_meaning.specs.Stored.{arrangement_of};
 ghost use Rattle.node_local.specs.Workplace.{IsReady};
 ghost use Rattle.node_turn.specs.Turned.{is_resting, turn_over};
 ghost use Rattle.row_turn.specs.Placed.{IsAtRow};
-ghost use Rattle.row_turn.specs.Together.{IsServed, IsTogether, OfRow};
+ghost use Rattle.row_turn.specs.Together.{IsTogether, OfRow};
 
 use grid_layout::Layout;
 use grid_links::Links;
@@ -95,7 +95,6 @@ pub fn rests(code: &NodeProgram, layout: &Layout, p: u32, local: &Local, links: 
     requires processor { p < processors code.now }
     requires ready { IsReady code.now p local.now }
     requires links { links.now.count ≡ processors code.now }
-    requires served { IfSome (slice_get code.now.code local.now.local.at) IsServed }
     ensures { result ≡ is_resting (turn_over code.now p local.now.local links.now) }
 {
     if local.ending().is_some() {

@@ -7,7 +7,7 @@ ghost use Rattle.grid_meaning.specs.Stored.{arrangement_of};
 ghost use Rattle.node_local.specs.Workplace.{IsReady};
 ghost use Rattle.node_turn.specs.Turned.{IsTurn, turn_over};
 ghost use Rattle.row_turn.specs.Placed.{IsAtRow};
-ghost use Rattle.row_turn.specs.Together.{IsTogether, OfRow};
+ghost use Rattle.row_turn.specs.Together.{IsAlone, IsTogether, OfRow};
 
 use crate::answers::told;
 use crate::own::own_turn;
@@ -81,6 +81,7 @@ pub(crate) fn own_step(
     row: &Instr,
 ) -> Result<Step, AllocError>
     requires layout { layout.now ≡ arrangement_of code.now }
+    requires alone { IsAlone row.now }
     requires at { IsAtRow code.now p local.old row.now }
     ensures turn { IfOk result (λ step. (links : Network) → IsTurn code.now p local.old local.new
         links links (turn_over code.now p local.old.local links) step) }

@@ -1,10 +1,8 @@
-use Rattle.std.proofs.Common.{rules, ◌≡◌, true, false, sym, subst}
+use Rattle.std.proofs.Common.{rules, ◌≡◌, true, false, sym}
 use Rattle.std.specs.Prelude.{None, Some, is_some, slice_get}
-use Rattle.std.specs.Option.{IfSome}
 use Rattle.node_form.specs.Fits.{FitsInstr}
 use Rattle.node_turn.proofs.QuietLemmas.{none_from, rests_behind, rests_ended, rests_own}
 use Rattle.row_turn.specs.Placed.{IsAtRow}
-use Rattle.row_turn.specs.Together.{IsServed}
 use Rattle.node_turn.proofs.resting.rests.Goals as goal
 
 pub returns-then-is_some : goal.returns-then-is_some
@@ -31,4 +29,4 @@ returns-else-is_together c =
       fits = fits;
     } in
     sym (rests_own c.args.code.now c.args.p c.args.local.now c.in-Some.row.now at c.args.links.now
-    (c.is_together.ensures.no c.if-is_together.false (subst (λ o. IfSome o IsServed) here c.requires.served)))
+    (c.is_together.ensures.no c.if-is_together.false))
