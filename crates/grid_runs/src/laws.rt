@@ -1,0 +1,20 @@
+//! The laws of runs.
+ghost use Rattle.std.specs.Prelude.{◌≡◌, ◌≢◌, ◌+◌, ℕ, List, Option};
+ghost use Rattle.zpl_nums.specs.declared.ends.End.{End as Ending};
+ghost use Rattle.zpl_nums.specs.declared.ends.End.TheVariants.{More};
+ghost use Rattle.node_form.specs.declared.tables.Tables.{Tables as Code};
+ghost use Rattle.grid_meaning.specs.Grid.{EndsAs, after, start_grid};
+ghost use Rattle.grid_runs.specs.Run.{Run, grid_at};
+
+/// Each turn of a run counts.
+pub fn turns_count()
+    ensures { (run : Run) (k : ℕ) → (grid_at run k).turns ≡ run.start.turns + k }
+{}
+
+/// A grid of code that is over ended normally or with a trap: it never wants more.
+pub fn endings_are_final()
+    ensures orders { (code : Code) (links : Option ℕ) (order : List ℕ) (ending : Ending) →
+        EndsAs (after code links order) ending → ending ≢ More }
+    ensures runs { (run : Run) (k : ℕ) (ending : Ending) → run.start ≡ start_grid run.code →
+        EndsAs (grid_at run k) ending → ending ≢ More }
+{}
