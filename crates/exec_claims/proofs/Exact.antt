@@ -11,15 +11,15 @@ use Rattle.call_claims.specs.declared.status.TheConstants.{DONE, USAGE, UNREADAB
 use Rattle.call_claims.specs.declared.status.TheConstants.{TURN_LIMIT, PUT_FAILED, NO_MEMORY}
 use Rattle.exec_words.specs.Asked.{Asked, IsNoExec}
 use Rattle.exec_words.proofs.OneLemmas.{exec_is_one}
-use Rattle.exec_claims.specs.Run.{Run, GoesOnTo, IsLimitedAt}
-use Rattle.exec_claims.specs.Cause.{RunCause, OrderCause, TextCause, OrderFileCause, ListingCause}
-use Rattle.exec_claims.specs.Cause.{ListingFileCause, Cause, Source, IsTooLong, run_of}
+use Rattle.grid_runs.specs.Run.{Run, GoesOnTo, IsLimitedAt}
+use Rattle.exec_claims.specs.Cause.{RunCause, OrderCause, OrderFileCause, ListingCause}
+use Rattle.exec_claims.specs.Cause.{ListingFileCause, Cause, Source, run_of}
 use Rattle.exec_claims.specs.Cause.RunCause.{done, trap, turn_limit, stuck, idle}
 use Rattle.exec_claims.specs.Cause.OrderCause.{bad_item, ran}
 use Rattle.exec_claims.specs.Cause.TextCause.{unreadable, too_long, work}
 use Rattle.exec_claims.specs.Cause.ListingCause.{bad_line, bad_table, listed}
 use Rattle.exec_claims.specs.Cause.Cause.{usage, no_memory, exec}
-use Rattle.exec_claims.specs.Decided.{Execs, IsOrderText, HasRun, RunsTo, IsDoneAt, IsTrapAt}
+use Rattle.exec_claims.specs.Decided.{IsOrderText, HasRun, RunsTo, IsDoneAt, IsTrapAt}
 use Rattle.exec_claims.specs.Decided.{IsStuckOrIdleAt, HasNoListing, ExecsNoListing}
 use Rattle.exec_claims.specs.declared.status.TheConstants.{ORDER_REFUSED, LISTING_REFUSED, STUCK}
 use Rattle.exec_claims.proofs.OneCause.{cause_one, text_short, texts_same}

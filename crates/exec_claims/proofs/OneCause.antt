@@ -1,5 +1,5 @@
 -- Of what was made and run in a call there is a cause of one status.
-use Rattle.std.proofs.Common.{◌≡◌, ◌≢◌, ℕ, ◌<◌, ◌≤◌, Bool, List, [], length, Option, Some, None, Result, Ok, Err}
+use Rattle.std.proofs.Common.{◌≡◌, ◌≢◌, ℕ, Bool, List, [], length, Option, Some, None, Result, Ok, Err}
 use Rattle.std.proofs.Common.{refl, sym, ◌∙◌, ap, subst, inl, inr, arith}
 use Rattle.zpl_nums.specs.declared.ends.End.TheVariants.{Done, Trap}
 use Rattle.zpl_nums.specs.declared.ends.End.{End}
@@ -13,7 +13,7 @@ use Rattle.call_claims.specs.Execution.{Execution}
 use Rattle.call_claims.specs.declared.status.TheConstants.{UNREADABLE}
 use Rattle.exec_words.specs.Asked.{Asked}
 use Rattle.exec_words.proofs.OneLemmas.{exec_is_one}
-use Rattle.exec_claims.specs.Run.{Run}
+use Rattle.grid_runs.specs.Run.{Run}
 use Rattle.exec_claims.specs.Cause.{RunCause, OrderCause, TextCause, OrderFileCause, ListingCause}
 use Rattle.exec_claims.specs.Cause.{ListingFileCause, Cause, Source, IsTooLong, run_of}
 use Rattle.exec_claims.specs.Cause.RunCause.{done, trap, turn_limit, stuck, idle}
@@ -21,7 +21,6 @@ use Rattle.exec_claims.specs.Cause.OrderCause.{bad_item, ran}
 use Rattle.exec_claims.specs.Cause.TextCause.{unreadable, too_long, work}
 use Rattle.exec_claims.specs.Cause.ListingCause.{bad_line, bad_table, listed}
 use Rattle.exec_claims.specs.Cause.Cause.{usage, no_memory, exec}
-use Rattle.exec_claims.specs.declared.limits.TheConstants.{MOST_LISTING}
 
 -- ---- a run
 ends_one : (ending : Option End) (kind : TrapKind) (line : ℕ) → ending ≡ Some Done

@@ -1,7 +1,6 @@
 -- What a call of `exec` answers: its code and counts, what the stream for output took, and what the
 -- stream for errors did.
-use Rattle.std.specs.Prelude.{◌≡◌, ◌⊎◌, ℕ, ◌+◌, ◌≤◌, List, [], ◌++◌, Option, Some, None, Ok}
-use Rattle.zpl_lists.specs.Front.{IsFrontOf}
+use Rattle.std.specs.Prelude.{◌≡◌, ◌⊎◌, ℕ, ◌≤◌, List, [], Option, Some, None, Ok}
 use Rattle.zpl_io.specs.Sink.{Takes, TakesFront}
 use Rattle.node_form.specs.declared.tables.Tables.{Tables}
 use Rattle.grid_meaning.specs.Grid.{processors}
@@ -13,7 +12,7 @@ use Rattle.call_claims.specs.Execution.{execution_of, HasNoCounts}
 use Rattle.exec_words.specs.Asked.{Asked}
 use Rattle.exec_claims.specs.Cause.{Cause, Source, run_of}
 use Rattle.exec_claims.specs.Decided.{Execs, IsOrderText}
-use Rattle.exec_claims.specs.Run.{Run, grid_at, turns_in, GoesOnTo}
+use Rattle.grid_runs.specs.Run.{Run, grid_at, turns_in, GoesOnTo}
 
 -- ---- the code and the counts
 -- the file's text is the listing of the code
@@ -55,12 +54,6 @@ TakesPrinted call ran before after (Some code) =
     (HasNoCounts ran × Takes before [] after)
     ⊎ Execs call (λ file asked. Runs call code asked
     (λ run. Takes before (grid_at run ran.turns).printed after))
-
--- what is printed in the given turns, and a front of what the next turn prints
-pub record IsCutOff (run : Run) (turns : ℕ) (before after : List ℕ → Type 0) : Type 0 where
-  pub front : List ℕ
-  pub is_front : IsFrontOf ((grid_at run turns).printed ++ front) (grid_at run (turns + 1)).printed
-  pub takes : Takes before ((grid_at run turns).printed ++ front) after
 
 -- ---- what the stream for errors took
 -- The status has its cause, and the stream took its text.

@@ -5,7 +5,7 @@ use Rattle.zpl_nums.specs.declared.ends.End.TheVariants.{Done, Trap}
 use Rattle.zpl_nums.specs.declared.ends.TrapKind.{TrapKind}
 use Rattle.node_form.specs.declared.tables.Tables.{Tables}
 use Rattle.grid_meaning.specs.Action.{StuckKind}
-use Rattle.grid_meaning.specs.Grid.{EndsAs, processors}
+use Rattle.grid_meaning.specs.Grid.{EndsAs, processors, start_grid}
 use Rattle.grid_order.specs.Reading.{reading}
 use Rattle.listing_lines.specs.Listing.{IsBadLine}
 use Rattle.node_text.specs.Listing.{IsBadTable, IsListing}
@@ -16,7 +16,7 @@ use Rattle.call_claims.specs.Texts.{turn_limit_text, no_memory_text}
 use Rattle.call_claims.specs.declared.status.TheConstants.{DONE, USAGE, UNREADABLE, TOO_LONG}
 use Rattle.call_claims.specs.declared.status.TheConstants.{TRAPPED, TURN_LIMIT, NO_MEMORY}
 use Rattle.exec_words.specs.Asked.{Asked, IsExec, IsNoExec, limit_of}
-use Rattle.exec_claims.specs.Run.{Run, grid_at, GoesOnTo, IsStuckAt, IsIdleAt, IsLimitedAt}
+use Rattle.grid_runs.specs.Run.{Run, grid_at, GoesOnTo, IsStuckAt, IsIdleAt, IsLimitedAt}
 use Rattle.exec_claims.specs.Texts.{order_refused_text, listing_refused_text, report_text}
 use Rattle.exec_claims.specs.Texts.{stuck_text, kind_name, idle_name}
 use Rattle.exec_claims.specs.declared.limits.TheConstants.{MOST_LISTING}
@@ -45,7 +45,13 @@ pub data RunCause (run : Run) (report : Bool) (k : ℕ) : ℕ → List ℕ → T
 -- the run of the code under an order, as the words ask for it
 abbrev pub run_of : Tables → Asked → List ℕ → Run
 run_of code asked order =
-    record { code = code; capacity = asked.links; order = order; limit = limit_of asked }
+    record {
+      code = code;
+      capacity = asked.links;
+      start = start_grid code;
+      order = order;
+      limit = limit_of asked;
+    }
 
 -- An item of the text is wrong, the first such at this byte; or the code was run under the order.
 pub data OrderCause (code : Tables) (asked : Asked) (turns : ℕ) (text : List ℕ)

@@ -11,7 +11,7 @@ use Rattle.call_claims.specs.Call.{Call}
 use Rattle.call_claims.specs.Execution.{Execution}
 use Rattle.exec_words.specs.Asked.{Asked, IsExec}
 use Rattle.exec_claims.specs.Cause.{Source, run_of}
-use Rattle.exec_claims.specs.Run.{Run, grid_at, GoesOnTo, IsStuckAt, IsIdleAt, IsLimitedAt}
+use Rattle.grid_runs.specs.Run.{Run, grid_at, GoesOnTo, IsStuckAt, IsIdleAt}
 
 -- The words run a listing, and this holds of its file and of what they ask for.
 pub record Execs (call : Call) (Holds : List ℕ → Asked → Type 0) : Type 0 where

@@ -1,5 +1,4 @@
 pub mod Answer
 pub mod Cause
 pub mod Decided
-pub mod Run
 pub mod Texts

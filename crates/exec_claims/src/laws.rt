@@ -9,7 +9,7 @@ ghost use Rattle.exec_words.specs.Asked.{IsNoExec};
 ghost use Rattle.exec_claims.specs.Cause.{Cause};
 ghost use Rattle.exec_claims.specs.Decided.{ExecsNoListing, IsDoneAt, IsStuckOrIdleAt, IsTrapAt};
 ghost use Rattle.exec_claims.specs.Decided.{RunsTo};
-ghost use Rattle.exec_claims.specs.Run.{IsLimitedAt};
+ghost use Rattle.grid_runs.specs.Run.{IsLimitedAt};
 ghost use Rattle.exec_claims.specs.declared.status.TheConstants.{LISTING_REFUSED, STUCK};
 
 use node_text::bytes_have_one_program;
