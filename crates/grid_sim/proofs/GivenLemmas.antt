@@ -1,13 +1,13 @@
 -- What a turn makes of a simulation, by what it made of the processors and of the counts.
-use Rattle.std.proofs.Common.{◌≡◌, ◌≢◌, ℕ, zero, suc, ◌+◌, List, [], ◌∷◌, ◌++◌, length, Option, Some, None, refl, sym, ◌∙◌, ap, subst, arith, add-zero, zero-add}
+use Rattle.std.proofs.Common.{◌≡◌, ℕ, ◌+◌, List, [], ◌∷◌, length, Option, Some, None, refl, sym, ◌∙◌, ap, subst, add-zero, zero-add}
 use Rattle.std.specs.Prelude.{sum_by}
 use Rattle.std.specs.Option.{IsSomeAnd, option_map}
 use Rattle.grid_links.specs.declared.messages.Message.{Message}
-use Rattle.grid_links.specs.Machine.{Move, Moves, Waiting, Over, Stuck}
+use Rattle.grid_links.specs.Machine.{Move, Moves}
 use Rattle.grid_links.specs.Run as run
 use Rattle.node_form.specs.declared.tables.Tables.{Tables}
 use Rattle.grid_meaning.specs.Action.{StuckKind}
-use Rattle.grid_meaning.specs.Grid.{message_of, printed_by, sent_in, shown_in, system_over}
+use Rattle.grid_meaning.specs.Grid.{message_of, sent_in}
 use Rattle.grid_meaning.specs.Local.{Local, processors, start_locals}
 use Rattle.grid_meaning.specs.Turn.{Turn}
 use Rattle.grid_meaning.proofs.GridLemmas.{length-start_locals}
@@ -16,12 +16,10 @@ use Rattle.node_turn.specs.declared.steps.Traffic.{Traffic}
 use Rattle.node_turn.specs.declared.steps.Traffic.TheVariants as traffic
 use Rattle.grid_sim.specs.declared.counts.Counts.{Counts}
 use Rattle.grid_sim.specs.declared.processors.Processors.{Processors}
-use Rattle.grid_sim.specs.declared.turns.Told.{Told}
-use Rattle.grid_sim.specs.declared.turns.Turned.TheVariants as turned
 use Rattle.grid_sim.specs.Counting.{with_message, with_traffic, with_turn}
 use Rattle.grid_sim.specs.Inside.{simulation_in}
-use Rattle.grid_sim.specs.Processors.{AreSame, HaveMoved, state_of, turn_of, world_of}
-use Rattle.grid_sim.specs.Simulation.{IsTold, Simulation, printed_next, receiver_in, sender_in, turn_given, turn_in, turned_by}
+use Rattle.grid_sim.specs.Processors.{AreSame, HaveMoved, turn_of, world_of}
+use Rattle.grid_sim.specs.Simulation.{IsTold, Simulation, turn_given}
 use Rattle.grid_sim.specs.Telling.{told_of}
 
 -- ---- counts

@@ -8,4 +8,3 @@ mod RunLemmas
 mod PlaceLemmas
 mod TurnLemmas
 mod StartLemmas
-mod ServingLemmas

@@ -1,5 +1,5 @@
 -- What marks tell of a grid.
-use Rattle.std.proofs.Common.{◌≡◌, ◌⊎◌, inl, inr, ℕ, zero, suc, ◌<◌, ◌≤◌, ◌↔◌, Bool, true, false, List, [], ◌∷◌, length, map, get_or, Option, Some, None, refl, sym, ◌∙◌, ap, subst, arith}
+use Rattle.std.proofs.Common.{◌≡◌, ◌⊎◌, inl, inr, ℕ, ◌<◌, ◌≤◌, ◌↔◌, Bool, true, false, List, [], ◌∷◌, length, map, get_or, Option, Some, None, refl, sym, ◌∙◌, ap, subst, arith}
 use Rattle.std.specs.Prelude.{All, IsSome, IsTrue, is_some, not, slice_get}
 use Rattle.std.specs.Option.{option_and_then, option_map}
 use Rattle.std.proofs.lemmas.List.{length-map}
@@ -15,9 +15,9 @@ use Rattle.node_turn.specs.Turned.{is_resting}
 use Rattle.grid_sim.specs.declared.counts.Counts.{Counts}
 use Rattle.grid_sim.specs.declared.processors.Processors.{Processors}
 use Rattle.grid_sim.specs.Inside.{simulation_in}
-use Rattle.grid_sim.specs.Marks.{IsFirstUnmarked, TellsWhere}
-use Rattle.grid_sim.specs.Processors.{AreProcessors, Anywhere, has_ended, is_at_rest, state_of, turn_of}
-use Rattle.grid_sim.specs.Run.{IsFirstRunning}
+use Rattle.grid_sim.specs.Marks.{IsFirstUnmarked}
+use Rattle.grid_sim.specs.Processors.{AreProcessors, has_ended, state_of, turn_of}
+use Rattle.grid_runs.specs.Run.{IsFirstRunning}
 
 -- a mark, whatever stands for one that isn't there
 get_or_any : {X : Type 0} (xs : List X) (i : ℕ) (d e : X) → i < length xs → get_or xs i d ≡ get_or xs i e
@@ -71,16 +71,15 @@ module _ (code : Tables) (team : Processors) (are : AreProcessors code team) whe
   first_is p grid same first =
       let below : p < processors code = subst (λ n. p < n) are.marked.ended.many first.there in
       subst (λ ls. IsFirstRunning (with_locals grid ls) p) (sym same) (record {
-        running = none_is _ (sym (has_ended-map team.locals.items p) ∙ (sym (are.marked.ended.each p below tt) ∙ first.unmarked));
         there = subst (λ n. p < n) (sym many) below;
+        running = not_both _ (sym (has_ended-map team.locals.items p) ∙ (sym (are.marked.ended.each p below tt) ∙ first.unmarked));
         before = λ q less.
             let under : q < processors code = omega arith in
             sym (has_ended-map team.locals.items q) ∙ (sym (are.marked.ended.each q under tt) ∙ first.before q less);
       })
     where
-      none_is : (o : Option End) → is_some o ≡ false → o ≡ None
-      none_is None e = refl
-      none_is (Some x) e = cc
+      not_both : (mark : Bool) → mark ≡ false → mark ≡ true → ⊥
+      not_both mark off on = let both : false ≡ true = sym off ∙ on in cc
 
 -- ---- rest
 rests_true : (turn : Turn) → is_resting turn ≡ true → (turn ≡ Waiting) ⊎ (turn ≡ Over)

@@ -1,13 +1,13 @@
 -- A move changes the next turns of two processes at most: its own, and that of the one at the other
 -- end of its message.
-use Rattle.std.proofs.Common.{◌≡◌, ◌≢◌, ◌⊎◌, inl, inr, ℕ, zero, suc, ◌+◌, ◌*◌, ◌<◌, ◌≤◌, Bool, true, false, nat_lt, ◌&&◌, List, [], ◌∷◌, ◌++◌, length, Option, Some, None, refl, sym, ◌∙◌, ap, subst, arith, ⊎_elim, eqb-true, ltb-true}
+use Rattle.std.proofs.Common.{◌≡◌, ◌≢◌, ◌⊎◌, inl, inr, ℕ, zero, suc, ◌+◌, ◌*◌, ◌<◌, ◌≤◌, Bool, true, false, nat_lt, ◌&&◌, List, [], ◌∷◌, Option, Some, None, refl, sym, ◌∙◌, ap, arith, ltb-true}
 use Rattle.std.specs.Prelude.{slice_get, slice_set}
 use Rattle.std.specs.Option.{IfSome}
 use Rattle.std.proofs.Math.Nat.{mul-le-mul_right}
 use Rattle.std.proofs.Math.Path.{fun_ext}
 use Rattle.std.proofs.lemmas.List.{get_or-set_other}
 use Rattle.grid_links.specs.Links.{link_number, link_of, with_link, has_room}
-use Rattle.grid_links.specs.Machine.{Move, Turn, Moves, Heads, Rooms, turn_of}
+use Rattle.grid_links.specs.Machine.{Move, Moves, turn_of}
 use Rattle.grid_links.specs.Run.{System, World, count_of, heads_at, rooms_at, links_taken, links_sent, after_turn, next_turn, turn_or_over}
 
 -- ---- numbers of links

@@ -1,11 +1,10 @@
 -- Processors before their first turn.
-use Rattle.std.proofs.Common.{◌≡◌, ◌⊎◌, inl, inr, ℕ, zero, suc, ◌+◌, ◌<◌, ◌≤◌, List, [], ◌∷◌, ◌++◌, length, map, Some, refl, sym, ◌∙◌, ap, subst, arith, add-zero, add-one}
+use Rattle.std.proofs.Common.{◌≡◌, ◌⊎◌, inl, inr, ℕ, zero, suc, ◌+◌, List, [], ◌∷◌, ◌++◌, length, map, Some, refl, sym, ◌∙◌, ap, subst, arith, add-zero, add-one}
 use Rattle.std.specs.Prelude.{slice_get}
 use Rattle.std.specs.List.{range_with_len}
 use Rattle.std.proofs.lemmas.List.{map-append, length-map}
 use Rattle.std.proofs.lemmas.List.FromFn.{length-range_with_len}
 use Rattle.node_form.specs.declared.tables.Tables.{Tables}
-use Rattle.grid_layout.specs.Grid.{processors_of}
 use Rattle.grid_meaning.specs.Local.{processors, start_local, start_locals}
 use Rattle.grid_meaning.proofs.GridLemmas.{length-start_locals}
 use Rattle.node_local.specs.Workplace.{IsReady, Workplace}

@@ -1,10 +1,10 @@
 -- What a move makes of the processors: their world, and the marks that stay right.
-use Rattle.std.proofs.Common.{◌≡◌, ◌≢◌, ℕ, ◌<◌, Bool, true, false, ◌==◌, List, [], ◌∷◌, length, map, set, get_or, Option, Some, None, refl, sym, ◌∙◌, ap, subst, arith, eqb-true, length-set}
+use Rattle.std.proofs.Common.{◌≡◌, ◌≢◌, ℕ, ◌<◌, Bool, true, false, ◌==◌, List, length, map, set, get_or, Option, Some, None, refl, sym, ◌∙◌, ap, subst, eqb-true, length-set}
 use Rattle.std.specs.Prelude.{is_some, slice_get}
 use Rattle.std.specs.Option.{IfSome, IsSomeAnd, option_and_then, option_map}
 use Rattle.std.proofs.lemmas.Bool.{eqb-false}
-use Rattle.std.proofs.lemmas.List.{map-set, set-get_or, get_or-set_same}
-use Rattle.std.proofs.lemmas.Option.{slice_get-get_or, slice_get-map, slice_get_within, get_or_from_slice_get}
+use Rattle.std.proofs.lemmas.List.{map-set, get_or-set_same}
+use Rattle.std.proofs.lemmas.Option.{slice_get-get_or, slice_get-map}
 use Rattle.grid_links.specs.declared.messages.Message.{Message}
 use Rattle.grid_links.specs.Machine as machine
 use Rattle.grid_links.specs.Machine.{Move, Moves}
@@ -128,7 +128,6 @@ module _ (code : Tables) (old new : Processors) (p : ℕ) (workplace : Workplace
     many = ap length changed.locals ∙ (length-set old.locals.items p workplace ∙ states.many);
     ready = λ q other found. ready_by q other (sym (ap (λ ws. slice_get ws q) changed.locals) ∙ found) (q == p) refl;
     links = ap (λ (n : Network). n.count) changed.links ∙ states.links;
-    served = states.served;
   }
 
   -- ---- the others
@@ -178,7 +177,7 @@ looked_at Before After code team p marked here others = record {
 
 pub looked_states : (code : Tables) (team : Processors) (p : ℕ) → HaveStates code team → HaveStates code (looked code team p)
 looked_states code team p states =
-    record { many = states.many; ready = states.ready; links = states.links; served = states.served }
+    record { many = states.many; ready = states.ready; links = states.links }
 
 -- all but the partner
 abbrev pub IsNoPartner : Traffic → ℕ → Type 0
@@ -214,7 +213,6 @@ same_processors code old new same are = record {
     many = ap length same.locals ∙ are.states.many;
     ready = λ q w found. are.states.ready q w (sym (ap (λ ws. slice_get ws q) same.locals) ∙ found);
     links = ap (λ (n : Network). n.count) same.links ∙ are.states.links;
-    served = are.states.served;
   };
   marked = record {
     ended = subst (λ ws. TellsWhere Anywhere (has_ended ws) (processors code) new.ended) (sym same.locals)

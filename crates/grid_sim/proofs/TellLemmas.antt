@@ -1,8 +1,7 @@
 -- Marks that tell of each processor what is so.
-use Rattle.std.proofs.Common.{◌≡◌, ◌≢◌, ◌⊎◌, inl, inr, ℕ, zero, suc, ◌<◌, Bool, true, false, ◌==◌, List, [], ◌∷◌, length, get_or, set, refl, sym, ◌∙◌, ap, subst, arith, ⊎_elim, eqb-true, length-set, get_or-set_same}
-use Rattle.std.specs.Prelude.{replicate, All}
+use Rattle.std.proofs.Common.{◌≡◌, ◌≢◌, ℕ, ◌<◌, Bool, true, false, ◌==◌, List, length, get_or, set, refl, sym, ◌∙◌, subst, eqb-true, length-set, get_or-set_same}
 use Rattle.std.proofs.lemmas.Bool.{eqb-false}
-use Rattle.std.proofs.lemmas.List.{get_or-set_other, length-replicate}
+use Rattle.std.proofs.lemmas.List.{get_or-set_other}
 use Rattle.grid_sim.specs.Marks.{TellsWhere}
 
 -- what is known of all but one processor is known of all once that one is marked

@@ -1,12 +1,12 @@
 -- Turns of processors in memory.
-use Rattle.std.proofs.Common.{◌≡◌, ◌≢◌, ℕ, zero, suc, ◌<◌, Bool, List, [], ◌∷◌, ◌++◌, length, map, set, get_or, Option, Some, None, refl, sym, ◌∙◌, ap, subst, arith, append-nil}
+use Rattle.std.proofs.Common.{◌≡◌, ℕ, zero, suc, ◌<◌, Bool, List, [], ◌++◌, map, set, get_or, Option, Some, None, refl, sym, ◌∙◌, ap, subst, append-nil}
 use Rattle.std.specs.Prelude.{Result, Ok, Err, OnErr, is_some, slice_get}
 use Rattle.std.specs.Option.{option_and_then}
 use Rattle.std.specs.Vec.{with_item}
 use Rattle.std.proofs.lemmas.List.{set-get_or}
 use Rattle.zpl_io.specs.Sink.{Takes}
 use Rattle.grid_links.specs.declared.messages.Message.{Message}
-use Rattle.grid_links.specs.Machine.{Move, Moves, Waiting, Over, Stuck}
+use Rattle.grid_links.specs.Machine.{Move, Waiting, Over, Stuck}
 use Rattle.grid_links.specs.Network.{Network}
 use Rattle.grid_links.specs.Run as run
 use Rattle.node_form.specs.declared.tables.Tables.{Tables}
@@ -15,7 +15,7 @@ use Rattle.grid_meaning.specs.Grid.{printed_by, shown_in, system_over}
 use Rattle.grid_meaning.specs.Local.{Local, processors}
 use Rattle.grid_meaning.specs.Turn.{Turn}
 use Rattle.node_local.specs.Workplace.{IsReady, Workplace}
-use Rattle.node_turn.specs.Turned.{IsAnswered, IsMade, IsPrinting, IsStuckAs, IsTraffic, IsTurn, is_resting, kind_told, links_behind, printing, turn_over}
+use Rattle.node_turn.specs.Turned.{IsAnswered, IsMade, IsPrinting, IsStuckAs, IsTurn, is_resting, kind_told, printing, turn_over}
 use Rattle.node_turn.specs.declared.steps.Step.{Step}
 use Rattle.node_turn.specs.declared.steps.Step.TheVariants as step
 use Rattle.node_turn.specs.declared.steps.Traffic.{Traffic}
@@ -24,12 +24,12 @@ use Rattle.grid_sim.specs.declared.counts.Counts.{Counts}
 use Rattle.grid_sim.specs.declared.processors.Processors.{Processors}
 use Rattle.grid_sim.specs.Counting.{with_traffic}
 use Rattle.grid_sim.specs.Inside.{simulation_in}
-use Rattle.grid_sim.specs.Processors.{AreMarkedWhere, AreProcessors, AreSame, Anywhere, HaveMoved, HaveMovedOn, HavePrinted, HaveStates, HaveTurned, IsOther, PrintsNext, has_ended, is_at_rest, looked, partner, state_of, turn_of, world_of}
+use Rattle.grid_sim.specs.Processors.{AreMarkedWhere, AreProcessors, AreSame, HaveMoved, HaveMovedOn, HavePrinted, HaveStates, HaveTurned, IsOther, PrintsNext, has_ended, is_at_rest, looked, partner, state_of, turn_of}
 use Rattle.grid_sim.specs.Simulation.{IsGiven, IsTold, Simulation, printed_next, turn_given}
 use Rattle.grid_sim.specs.Simulation as sim
 use Rattle.grid_sim.specs.Telling.{told_of}
 use Rattle.grid_sim.proofs.GivenLemmas.{moved_is, same_simulation, told_moved}
-use Rattle.grid_sim.proofs.TeamLemmas.{HaveChanged, changed_marked, changed_moved, changed_states, looked_first, looked_second, looked_states, nothing_left, rest_is, same_processors, turn_is}
+use Rattle.grid_sim.proofs.TeamLemmas.{HaveChanged, changed_moved, looked_first, looked_second, looked_states, nothing_left, rest_is, turn_is}
 
 -- ---- answers
 pub on_err : {V E : Type 0} {P : Type 0} (answer : Result V E) → P → OnErr answer P

@@ -3,7 +3,6 @@ pub mod Inside
 pub mod Marks
 pub mod Processors
 pub mod Run
-pub mod Serving
 pub mod Simulation
 pub mod Stop
 pub mod Telling

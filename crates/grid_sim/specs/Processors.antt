@@ -4,7 +4,7 @@
 --   world_of       the world that they stand for
 --   turn_of        the next turn of a processor
 --   has_ended, is_at_rest   what the marks tell
---   HaveStates     the states are those of the code's processors, and may be; the code can be run
+--   HaveStates     the states are those of the code's processors, and may be
 --   AreMarkedWhere, AreProcessors   and the marks are right, at some or at all
 --   HaveTurned     what a turn made of them, by its answer
 use Rattle.std.specs.Prelude.{◌≡◌, ◌≢◌, ℕ, ◌<◌, Bool, List, [], length, map, Option, Some, None, is_some, slice_get, slice_set, ⊤}
@@ -25,7 +25,6 @@ use Rattle.node_turn.specs.declared.steps.Step.TheVariants as step
 use Rattle.node_turn.specs.declared.steps.Traffic.{Traffic}
 use Rattle.node_turn.specs.declared.steps.Traffic.TheVariants as traffic
 use Rattle.grid_sim.specs.Marks.{TellsWhere}
-use Rattle.grid_sim.specs.Serving.{IsServedCode}
 use Rattle.grid_sim.specs.Simulation.{IsStuckTurn}
 use Rattle.grid_sim.specs.declared.processors.Processors.{Processors}
 
@@ -57,7 +56,6 @@ pub record HaveStates (code : Tables) (team : Processors) : Type 0 where
   pub many : length team.locals.items ≡ processors code
   pub ready : AllReady code team.locals.items
   pub links : team.links.count ≡ processors code
-  pub served : IsServedCode code
 
 pub record AreMarkedWhere (Known : ℕ → Type 0) (code : Tables) (team : Processors) : Type 0 where
   pub ended : TellsWhere Known (has_ended team.locals.items) (processors code) team.ended

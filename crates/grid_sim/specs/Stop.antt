@@ -6,7 +6,7 @@ use Rattle.node_turn.specs.declared.steps.StuckKind.{StuckKind}
 use Rattle.node_turn.specs.declared.steps.StuckKind.TheVariants.{Idle}
 use Rattle.grid_meaning.specs.Grid.{Grid, EndsAs, IsIdle}
 use Rattle.grid_meaning.specs.Order.{turn_number}
-use Rattle.grid_sim.specs.Run.{IsFirstRunning, Stops}
+use Rattle.grid_runs.specs.Run.{IsFirstRunning, IsStopped}
 use Rattle.grid_sim.specs.declared.faults.SimFault.{SimFault}
 use Rattle.grid_sim.specs.declared.faults.SimFault.TheVariants as fault
 use Rattle.grid_sim.specs.declared.runs.Rounds.{Rounds}
@@ -21,7 +21,7 @@ pub record IsIdleStop (code : Tables) (capacity : Option ℕ) (grid : Grid) (p :
 
 -- what is answered where the run stops, if it does
 abbrev pub IsStop : Tables → Option ℕ → Grid → Option (Result End SimFault) → Type 0
-IsStop code capacity grid None = Stops code capacity grid → ⊥
+IsStop code capacity grid None = IsStopped code capacity grid → ⊥
 IsStop code capacity grid (Some (Ok ending)) = EndsAs grid ending
 IsStop code capacity grid (Some (Err fault.TurnLimit)) = ⊥
 IsStop code capacity grid (Some (Err fault.SinkFailed)) = ⊥

@@ -5,7 +5,7 @@ ghost use Rattle.grid_links.specs.Network.{Network};
 ghost use Rattle.grid_meaning.specs.Grid.{EndsAs, IsIdle, IsOver};
 ghost use Rattle.grid_meaning.specs.Local.{processors};
 ghost use Rattle.node_local.specs.Workplace.{IsReady};
-ghost use Rattle.grid_sim.specs.Run.{IsFirstRunning};
+ghost use Rattle.grid_runs.specs.Run.{IsFirstRunning};
 ghost use Rattle.grid_sim.specs.Simulation.{counts_of, links_of};
 
 use crate::counts::Counts;
@@ -59,6 +59,13 @@ impl Sim {
         ensures silent { self.now.grid.printed ≡ [] }
     {
         self.layout.grid().count()
+    }
+
+    /// How many processors the grid has.
+    pub fn processors(&self) -> u32
+        ensures { result ≡ processors self.now.code }
+    {
+        self.count()
     }
 
     /// How many turns were given, messages sent, and words in them.

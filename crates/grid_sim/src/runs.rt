@@ -4,7 +4,7 @@ ghost use Rattle.zpl_nums.specs.declared.ends.End.{End as Ending};
 ghost use Rattle.zpl_io.specs.Faults.{CountsFaults};
 ghost use Rattle.grid_meaning.specs.Local.{processors};
 ghost use Rattle.grid_meaning.specs.Order.{IsOrder};
-ghost use Rattle.grid_sim.specs.Run.{IsRun};
+ghost use Rattle.grid_sim.specs.Run.{IsRun, run_in};
 ghost use Rattle.grid_sim.specs.Stop.{IsNext, IsPlace, IsRoundTurn, IsStop};
 
 use crate::faults::SimFault;
@@ -85,7 +85,7 @@ impl Sim {
     ) -> Result<End, SimFault>
         requires order { IsOrder (processors self.old.code) order.old }
         requires turns { self.old.grid.turns + length order.old + tail_limit ≤ 2 ^ 63 }
-        ensures run { IsRun self.old self.new order.old order.new tail_limit
+        ensures run { IsRun (run_in self.old order.old tail_limit) self.new order.new
             (O.tells out.old) (O.tells out.new) result }
         ensures counts { CountsFaults (result ≡ Err SimFault.SinkFailed)
             (O.faults out.old) (O.faults out.new) }

@@ -3,7 +3,6 @@ ghost use Rattle.std.specs.Prelude.{◌≡◌, ◌≤◌, Some, None, IfErr, IfO
 ghost use Rattle.code_layout.specs.Room.{HasRoom};
 ghost use Rattle.grid_links.specs.Network.{empty_network};
 ghost use Rattle.grid_meaning.specs.Grid.{IsCapacity};
-ghost use Rattle.grid_sim.specs.Serving.{IsServedCode};
 ghost use Rattle.grid_sim.specs.Simulation.{start_simulation};
 
 use crate::counts::Counts;
@@ -56,7 +55,6 @@ impl Sim {
     /// For want of memory the program comes back.
     pub fn new(alloc: Global, code: NodeProgram) -> Result<Sim, NodeProgram>
         requires room { HasRoom code }
-        requires served { IsServedCode code }
         ensures start { IfOk result (λ sim. sim ≡ start_simulation code None) }
         ensures back { IfErr result (λ back. back ≡ code) }
     {
@@ -67,7 +65,6 @@ impl Sim {
     /// messages each. For want of memory the program comes back.
     pub fn bounded(alloc: Global, code: NodeProgram, capacity: u32) -> Result<Sim, NodeProgram>
         requires room { HasRoom code }
-        requires served { IsServedCode code }
         requires capacity { 1 ≤ capacity }
         ensures start { IfOk result (λ sim. sim ≡ start_simulation code (Some capacity)) }
         ensures back { IfErr result (λ back. back ≡ code) }
@@ -78,7 +75,6 @@ impl Sim {
     /// The grid of the program before its first turn, over links of a capacity or of none.
     fn over(alloc: Global, code: NodeProgram, capacity: Option<u32>) -> Result<Sim, NodeProgram>
         requires room { HasRoom code }
-        requires served { IsServedCode code }
         requires capacity { IsCapacity capacity }
         ensures start { IfOk result (λ sim. sim ≡ start_simulation code capacity) }
         ensures back { IfErr result (λ back. back ≡ code) }

@@ -6,7 +6,6 @@ ghost use Rattle.grid_meaning.specs.Grid.{system_over};
 ghost use Rattle.grid_meaning.specs.Local.{processors, start_locals};
 ghost use Rattle.grid_meaning.specs.Stored.{arrangement_of};
 ghost use Rattle.grid_sim.specs.Processors.{AllReady, AreProcessors, state_of, world_of};
-ghost use Rattle.grid_sim.specs.Serving.{IsServedCode};
 
 use crate::marks::Marks;
 use crate::processors::Processors;
@@ -45,7 +44,6 @@ impl Processors {
     ) -> Result<Processors, AllocError>
         requires layout { layout.now ≡ arrangement_of code.now }
         requires links { links ≡ empty_network (processors code.now) links.capacity }
-        requires served { IsServedCode code.now }
         ensures world { IfOk result (λ team. world_of team
             ≡ start_world (system_over code.now links.capacity)) }
         ensures capacity { IfOk result (λ team. team.links.capacity ≡ links.capacity) }

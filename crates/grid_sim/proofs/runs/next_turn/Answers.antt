@@ -1,4 +1,4 @@
-use Rattle.std.proofs.Common.{◌≡◌, sym, ◌∙◌}
+use Rattle.std.proofs.Common.{sym, ◌∙◌}
 use Rattle.grid_sim.proofs.PlaceLemmas.{rounds_next}
 use Rattle.grid_sim.proofs.runs.next_turn.Goals as goal
 

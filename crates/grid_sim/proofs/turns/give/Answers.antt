@@ -1,4 +1,4 @@
-use Rattle.std.proofs.Common.{◌≡◌, ◌∙◌, ap, sym, subst}
+use Rattle.std.proofs.Common.{sym, subst}
 use Rattle.zpl_io.specs.Sink.{Takes}
 use Rattle.grid_sim.specs.Inside.{simulation_in}
 use Rattle.grid_sim.specs.Processors.{AreSame, HaveMovedOn, HaveTurned, PrintsNext}

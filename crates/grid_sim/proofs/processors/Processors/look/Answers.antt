@@ -1,6 +1,5 @@
-use Rattle.std.proofs.Common.{◌≡◌, ◌<◌, ap, sym, ◌∙◌, subst, length, Some}
-use Rattle.std.specs.Prelude.{is_some, slice_get}
-use Rattle.grid_sim.proofs.ServingLemmas.{served_at}
+use Rattle.std.proofs.Common.{◌<◌, ap, sym, ◌∙◌, subst, length}
+use Rattle.std.specs.Prelude.{is_some}
 use Rattle.grid_sim.proofs.TeamLemmas.{item_there}
 use Rattle.grid_sim.proofs.TurnLemmas.{look_made}
 use Rattle.grid_sim.proofs.processors.Processors.look.Goals as goal
@@ -10,10 +9,6 @@ rests-at_rest-requires-clause-ready c =
     let items = c.args.self.now.locals.items in
     let inside : c.args.p < length items = subst (λ n. c.args.p < n) (sym c.requires.states.many) c.requires.processor in
     c.requires.states.ready c.args.p c.index-local.result.now (item_there items c.args.p c.index-local.result.now c.index-local.ensures inside)
-
-pub rests-at_rest-requires-clause-served : goal.rests-at_rest-requires-clause-served
-rests-at_rest-requires-clause-served c =
-    served_at c.args.code.now.code c.index-local.result.now.local.at c.requires.states.served
 
 pub returns : goal.returns
 returns c =

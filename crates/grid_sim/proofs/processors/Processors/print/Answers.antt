@@ -1,4 +1,4 @@
-use Rattle.std.proofs.Common.{◌≡◌, ◌<◌, sym, subst, length, refl}
+use Rattle.std.proofs.Common.{◌<◌, sym, subst, length, refl}
 use Rattle.node_turn.specs.declared.steps.Traffic.TheVariants.{Quiet}
 use Rattle.grid_sim.proofs.TeamLemmas.{changed_marked, changed_states, item_there}
 use Rattle.grid_sim.proofs.TurnLemmas.{print_changed, print_moved, print_next, with_state}

@@ -1,4 +1,4 @@
-use Rattle.std.proofs.Common.{◌≡◌, ◌<◌, ap, sym, ◌∙◌, subst}
+use Rattle.std.proofs.Common.{ap, sym, subst}
 use Rattle.grid_meaning.specs.Local.{processors}
 use Rattle.grid_sim.specs.Processors.{HaveStates, IsAmong, partner}
 use Rattle.grid_sim.proofs.TeamLemmas.{looked_states}

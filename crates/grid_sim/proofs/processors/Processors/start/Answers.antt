@@ -1,4 +1,4 @@
-use Rattle.std.proofs.Common.{◌≡◌, ◌<◌, ◌≤◌, ◌+◌, ◌∙◌, ℕ, List, Bool, length, ap, sym, subst, refl, arith}
+use Rattle.std.proofs.Common.{◌≡◌, ◌<◌, ◌≤◌, ◌+◌, ◌∙◌, ℕ, length, ap, sym, subst, refl, arith}
 use Rattle.std.proofs.lemmas.List.{length-replicate}
 use Rattle.grid_layout.specs.Grid.{processors_of}
 use Rattle.grid_layout.specs.Layout.{Arrangement}
@@ -31,7 +31,6 @@ loop-p-init c =
         many = start_many code c.in_ok-locals.locals.items c.in_ok-locals.ensures.start;
         ready = c.in_ok-locals.ensures.ready;
         links = ap (λ (l : Network). l.count) c.requires.links;
-        served = c.requires.served;
       };
       marked = record {
         ended = tells_none (λ q. q < 0) _ (processors code) c.in_ok-ended.ended (ap length c.in_ok-ended.ensures ∙ (length-replicate _ _ ∙ n)) none;

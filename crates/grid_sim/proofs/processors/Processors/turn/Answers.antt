@@ -1,5 +1,4 @@
-use Rattle.std.proofs.Common.{◌≡◌, ◌<◌, ap, sym, ◌∙◌, subst, length, refl}
-use Rattle.std.specs.Prelude.{slice_get, Some}
+use Rattle.std.proofs.Common.{◌<◌, ap, sym, subst, length, refl}
 use Rattle.node_turn.specs.Turned.{IsMade, IsTurn, turn_over}
 use Rattle.grid_sim.specs.declared.processors.Processors.{Processors as Team}
 use Rattle.grid_sim.specs.Processors.{AreProcessors, HaveTurned}

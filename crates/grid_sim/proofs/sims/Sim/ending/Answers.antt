@@ -1,5 +1,4 @@
-use Rattle.std.proofs.Common.{◌≡◌, ◌↔◌, ◌≤◌, ◌<◌, true, false, Some, None, length, map, subst, sym, ◌∙◌, ap, arith}
-use Rattle.std.specs.Prelude.{IsSome}
+use Rattle.std.proofs.Common.{◌≡◌, ◌↔◌, ◌≤◌, ◌<◌, true, false, Some, length, map, subst, sym, ◌∙◌, ap, arith}
 use Rattle.std.proofs.lemmas.List.{length-map}
 use Rattle.grid_layout.specs.Layout.{Arrangement}
 use Rattle.grid_layout.specs.Grid.{processors_of}

@@ -1,11 +1,11 @@
-use Rattle.std.proofs.Common.{◌≡◌, ◌<◌, ◌≤◌, ◌∙◌, length, subst, sym, ap, arith, refl}
+use Rattle.std.proofs.Common.{◌≡◌, ◌∙◌, subst, sym, ap, arith, refl}
 use Rattle.grid_layout.specs.Layout.{Arrangement}
 use Rattle.grid_layout.specs.Grid.{processors_of}
 use Rattle.grid_meaning.specs.Grid.{IsOver}
 use Rattle.grid_meaning.specs.Local.{processors}
 use Rattle.grid_meaning.proofs.WorldLemmas.{processors_alike}
 use Rattle.grid_sim.specs.Simulation.{Simulation}
-use Rattle.grid_sim.specs.Run.{IsFirstRunning}
+use Rattle.grid_runs.specs.Run.{IsFirstRunning}
 use Rattle.grid_sim.proofs.ReadLemmas.{first_is, over_marks}
 use Rattle.grid_sim.proofs.sims.Sim.first_running.Goals as goal
 

@@ -1,4 +1,4 @@
-use Rattle.std.proofs.Common.{◌≡◌, ◌↔◌, subst, not}
+use Rattle.std.proofs.Common.{◌↔◌, subst, not}
 use Rattle.std.specs.Prelude.{IsTrue}
 use Rattle.grid_meaning.specs.Grid.{IsIdle}
 use Rattle.grid_sim.specs.Simulation.{Simulation}

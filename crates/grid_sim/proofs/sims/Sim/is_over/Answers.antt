@@ -1,4 +1,4 @@
-use Rattle.std.proofs.Common.{◌≡◌, ◌↔◌, subst}
+use Rattle.std.proofs.Common.{◌↔◌, subst}
 use Rattle.std.specs.Prelude.{IsTrue}
 use Rattle.grid_meaning.specs.Grid.{IsOver}
 use Rattle.grid_sim.specs.Simulation.{Simulation}

@@ -1,4 +1,4 @@
-use Rattle.std.proofs.Common.{◌≡◌, ◌<◌, sym, subst, length}
+use Rattle.std.proofs.Common.{◌<◌, sym, subst, length}
 use Rattle.grid_meaning.specs.Local.{processors}
 use Rattle.node_local.specs.Workplace.{IsReady}
 use Rattle.grid_sim.specs.Simulation.{Simulation}

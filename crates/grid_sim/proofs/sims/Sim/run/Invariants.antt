@@ -1,11 +1,12 @@
-use Rattle.std.proofs.Common.{◌≡◌, ◌+◌, ℕ, length}
+use Rattle.std.proofs.Common.{◌≡◌, ◌+◌, length}
 use Rattle.grid_meaning.specs.Local.{processors}
+use Rattle.grid_sim.specs.Run.{run_in}
 use Rattle.grid_sim.proofs.RunLemmas.{HasGiven}
 use Rattle.grid_sim.proofs.sims.Sim.run.Given as goal
 
 abbrev pub invariant-turns : goal.invariant-turns
 invariant-turns g l = record {
-  so : HasGiven l.fn.self l.self l.fn.order l.order l.tail_limit l.rounds (g.O.Sink.tells l.fn.out) (g.O.Sink.tells l.out);
+  so : HasGiven (run_in l.fn.self l.fn.order l.tail_limit) l.self l.order l.rounds (g.O.Sink.tells l.fn.out) (g.O.Sink.tells l.out);
   count : l.rounds.count ≡ processors l.fn.self.code;
   faults : g.O.Sink.faults l.out ≡ g.O.Sink.faults l.fn.out;
 }

@@ -1,4 +1,3 @@
-use Rattle.std.proofs.Common.{◌≡◌}
 use Rattle.grid_sim.proofs.sims.Sim.stop.Goals as goal
 
 pub returns-in-Some : goal.returns-in-Some
