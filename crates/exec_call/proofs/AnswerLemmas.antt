@@ -1,0 +1,73 @@
+-- Answers, and whether a put failed.
+use Rattle.std.proofs.Common.{◌≡◌, ◌≢◌, ℕ, ◌⊎◌, refl, sym, ◌∙◌, ap, inl, inr, arith}
+use Rattle.call_claims.specs.Decided.{IsDecided}
+use Rattle.call_claims.specs.declared.status.TheConstants.{PUT_FAILED}
+use Rattle.exec_call.specs.Answers.{status_of, stop_status}
+use Rattle.exec_call.specs.declared.answers.Answer.{Answer}
+use Rattle.exec_call.specs.declared.answers.Answer.TheVariants as answer
+use Rattle.exec_call.specs.declared.answers.Stop.{Stop}
+use Rattle.exec_call.specs.declared.answers.Stop.TheVariants as stop
+
+-- the status of how a run stopped is neither that of a failed put nor of want of memory
+record IsOther (n : ℕ) : Type 0 where
+  put : n ≢ 9
+  memory : n ≢ 10
+  read : n ≢ 2
+
+stopped_other : (s : Stop) → IsOther (stop_status s)
+stopped_other stop.Done =
+    record { put = λ e. omega arith; memory = λ e. omega arith; read = λ e. omega arith }
+stopped_other (stop.Trap kind line) =
+    record { put = λ e. omega arith; memory = λ e. omega arith; read = λ e. omega arith }
+stopped_other stop.TurnLimit =
+    record { put = λ e. omega arith; memory = λ e. omega arith; read = λ e. omega arith }
+stopped_other (stop.Stuck p kind) =
+    record { put = λ e. omega arith; memory = λ e. omega arith; read = λ e. omega arith }
+
+-- the status of a failed put is that answer's alone
+pub failed_of : (a : Answer) → status_of a ≡ PUT_FAILED → a ≡ answer.PutFailed
+failed_of answer.PutFailed e = refl
+failed_of (answer.Stopped s report) e = absurd ((stopped_other s).put e)
+failed_of (answer.Unreadable file) e = absurd (omega arith)
+failed_of (answer.TooLong file) e = absurd (omega arith)
+failed_of (answer.BadLine line) e = absurd (omega arith)
+failed_of (answer.BadTable line) e = absurd (omega arith)
+failed_of (answer.BadItem at) e = absurd (omega arith)
+failed_of answer.NoMemory e = absurd (omega arith)
+
+-- an answer is a failed put, want of memory, or decided
+pub data Kind (a : Answer) : Type 0 where
+  is_failed : a ≡ answer.PutFailed → Kind a
+  is_wanting : a ≡ answer.NoMemory → Kind a
+  is_decided : a ≢ answer.PutFailed → IsDecided (status_of a) → Kind a
+
+decided_by : (a : Answer) → status_of a ≢ 9 → status_of a ≢ 10 → Kind a
+decided_by a put memory = is_decided (λ e. put (ap status_of e))
+    (record { put = put; memory = memory })
+
+pub kind_of : (a : Answer) → Kind a
+kind_of answer.PutFailed = is_failed refl
+kind_of answer.NoMemory = is_wanting refl
+kind_of (answer.Stopped s report) =
+    decided_by (answer.Stopped s report) (stopped_other s).put (stopped_other s).memory
+kind_of (answer.Unreadable file) =
+    decided_by (answer.Unreadable file) (λ e. omega arith) (λ e. omega arith)
+kind_of (answer.TooLong file) =
+    decided_by (answer.TooLong file) (λ e. omega arith) (λ e. omega arith)
+kind_of (answer.BadLine line) =
+    decided_by (answer.BadLine line) (λ e. omega arith) (λ e. omega arith)
+kind_of (answer.BadTable line) =
+    decided_by (answer.BadTable line) (λ e. omega arith) (λ e. omega arith)
+kind_of (answer.BadItem at) =
+    decided_by (answer.BadItem at) (λ e. omega arith) (λ e. omega arith)
+
+pub failed_or : (a : Answer) → (a ≡ answer.PutFailed) ⊎ (a ≢ answer.PutFailed)
+failed_or a = elim (kind_of a) [
+  | is_failed e ↦ inl e
+  | is_wanting e ↦ inr (λ f. let no : answer.NoMemory ≡ answer.PutFailed = sym e ∙ f in cc)
+  | is_decided other decided ↦ inr other
+]
+
+-- a run that stopped fetched nothing
+pub stopped_fetched : (s : Stop) → stop_status s ≡ 2 → ⊥
+stopped_fetched s e = (stopped_other s).read e

@@ -1,0 +1,5 @@
+pub mod AnswerLemmas
+pub mod AskedLemmas
+pub mod RunLemmas
+pub mod TellLemmas
+pub mod WorkLemmas

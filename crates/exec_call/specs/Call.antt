@@ -1,0 +1,82 @@
+-- What is said of a call of `exec`.
+--
+--   Stream, stream_of   a sink in a call
+--   IsOutputCut         where a put of what is printed failed
+--   IsExecuted          what comes of the call
+use Rattle.std.specs.Prelude.{◌≡◌, ◌≢◌, ◌⊎◌, ◌↔◌, ℕ, List, Some, MatchOption}
+use Rattle.zpl_io.specs.Faults.{Rose}
+use Rattle.node_form.specs.declared.tables.Tables.{Tables}
+use Rattle.grid_runs.specs.Run.{IsCutOff, IsLimitedAt}
+use Rattle.call_claims.specs.declared.ran.Ran.{Ran}
+use Rattle.call_claims.specs.Call.{Call}
+use Rattle.call_claims.specs.Decided.{IsSettled}
+use Rattle.call_claims.specs.Execution.{execution_of, HasNoCounts}
+use Rattle.call_claims.specs.declared.status.TheConstants.{DONE, TRAPPED, TURN_LIMIT, PUT_FAILED}
+use Rattle.exec_words.specs.Asked.{Asked}
+use Rattle.exec_claims.specs.Answer.{IsAnswered, IsHalfAnswered, IsReadFor, Runs, TakesPrinted}
+use Rattle.exec_claims.specs.Decided.{Execs, ExecsNoListing, IsDoneAt, IsStuckOrIdleAt, IsTrapAt}
+use Rattle.exec_claims.specs.Decided.{RunsTo}
+use Rattle.exec_claims.specs.declared.status.TheConstants.{LISTING_REFUSED, STUCK}
+
+-- ---- sinks
+-- what a sink told that it took before the call and after it, how many puts had failed, and that it
+-- is as it was
+pub record Stream : Type 1 where
+  pub before : List ℕ → Type 0
+  pub after : List ℕ → Type 0
+  pub faults : ℕ
+  pub faults_after : ℕ
+  pub same : Type 0
+
+abbrev pub stream_of : (List ℕ → Type 0) → (List ℕ → Type 0) → ℕ → ℕ → Type 0 → Stream
+stream_of before after faults faults_after same = record {
+  before = before;
+  after = after;
+  faults = faults;
+  faults_after = faults_after;
+  same = same;
+}
+
+-- ---- a put that failed
+-- The code was run, and the stream took what is printed in the given turns and a front of what the
+-- next turn prints.
+pub record IsCutIn (call : Call) (answered : Ran) (asked : Asked) (before after : List ℕ → Type 0)
+    : Type 0 where
+  pub code : Tables
+  pub read : answered.code ≡ Some code
+  pub runs : Runs call code asked (λ run. IsCutOff run answered.turns before after)
+
+abbrev pub IsOutputCut : Call → Ran → (List ℕ → Type 0) → (List ℕ → Type 0) → Type 0
+IsOutputCut call answered before after =
+    Execs call (λ file asked. IsCutIn call answered asked before after)
+
+-- ---- the call
+pub record IsExecuted (call : Call) (ran : Ran) (out errs : Stream) : Type 0 where
+  -- The code is the listed one, once that was read. It wasn't run, or it was under the order that
+  -- the words ask for, and the counts are those of the grid after the given turns, before which it
+  -- is neither over nor idle.
+  pub code : MatchOption ran.code (HasNoCounts ran) (IsReadFor call ran)
+  -- Out took what that grid has printed.
+  pub output : ran.status ≢ PUT_FAILED
+      → TakesPrinted call ran out.before out.after ran.code
+  -- Each status but that of a failed put has its cause, and errs took its text, with the report
+  -- behind it.
+  pub cause : ran.status ≢ PUT_FAILED → IsAnswered call ran errs.before errs.after
+  -- When statuses come, where no put or fetch failed and memory wasn't wanting.
+  pub refused : IsSettled call ran.status
+      → (ran.status ≡ LISTING_REFUSED) ↔ ExecsNoListing call
+  pub done : IsSettled call ran.status
+      → (ran.status ≡ DONE) ↔ RunsTo call (execution_of ran) IsDoneAt
+  pub trap : IsSettled call ran.status
+      → (ran.status ≡ TRAPPED) ↔ RunsTo call (execution_of ran) IsTrapAt
+  pub turn_limit : IsSettled call ran.status
+      → (ran.status ≡ TURN_LIMIT) ↔ RunsTo call (execution_of ran) IsLimitedAt
+  pub stuck : IsSettled call ran.status
+      → (ran.status ≡ STUCK) ↔ RunsTo call (execution_of ran) IsStuckOrIdleAt
+  -- A put failed: one of out, and errs took nothing, or one of errs, once out had taken all.
+  pub put_failed : ran.status ≡ PUT_FAILED
+      → (IsOutputCut call ran out.before out.after
+      × Rose out.faults out.faults_after × errs.same)
+      ⊎ (TakesPrinted call ran out.before out.after ran.code
+      × Rose errs.faults errs.faults_after
+      × IsHalfAnswered call ran errs.before errs.after)

@@ -1,0 +1,126 @@
+//! The call.
+ghost use Rattle.std.specs.Prelude.{◌≡◌, ◌≢◌, ℕ, List, Some};
+ghost use Rattle.zpl_io.specs.Faults.{CountsFaults};
+ghost use Rattle.zpl_io.specs.Files.{SameTexts};
+ghost use Rattle.code_layout.specs.Room.{HasRoom};
+ghost use Rattle.call_claims.specs.Answer.{CountsFetches, CountsPuts};
+ghost use Rattle.call_claims.specs.Call.{call_of};
+ghost use Rattle.call_claims.specs.declared.status.TheConstants.{UNREADABLE, USAGE};
+ghost use Rattle.exec_words.specs.Asked.{IsExec};
+ghost use Rattle.exec_words.specs.Reading.{asked_in};
+ghost use Rattle.exec_call.specs.Answers.{status_of};
+ghost use Rattle.exec_call.specs.Call.{stream_of, IsExecuted};
+ghost use Rattle.exec_call.specs.Work.{CanBeMet, IsCodeWork, IsWorkOn};
+
+use crate::answers::Answer;
+use crate::fetches::fetch_code;
+use crate::orders::fetch_order;
+use crate::runs::run;
+use crate::telling::told;
+use crate::work::Work;
+use call_claims::Ran;
+use exec_claims::exec_statuses_are_exact;
+use exec_words::{Asked, ExecCommand};
+use grid_order::orders_have_their_bounds;
+use listing_runs::listed_code_has_room;
+use node_form::NodeProgram;
+use std::alloc::Global;
+use zpl_io::{Files, Sink};
+
+/// Runs a listing: what the program prints goes to `out`, and what is told of the answer to `errs`.
+///
+/// The listing is fetched and read, then the order of turns, and the code is run under it. The status
+/// has its cause. All that is told is made before anything of it is put, and after a failed put
+/// nothing more is put on either sink.
+pub fn exec<F: Files, O: Sink, E: Sink>(
+    alloc: Global,
+    command: ExecCommand<'_>,
+    files: &mut F,
+    out: &mut O,
+    errs: &mut E,
+) -> Ran
+    // Words give the command: what is said of the call holds of these.
+    requires given { (words : List (List ℕ)) ×
+        IsExec words command.file.now (asked_in command.asked) }
+
+    // The code and the counts, what out and errs took, the cause of the status, and when statuses
+    // come.
+    ensures executed { (words : List (List ℕ)) →
+        IsExec words command.entry.file.now (asked_in command.entry.asked) →
+        IsExecuted (call_of words (F.tells files.old) (F.may_fail files.old)) result
+        (stream_of (O.tells out.old) (O.tells out.new) (O.faults out.old) (O.faults out.new)
+        (out.new ≡ out.old))
+        (stream_of (E.tells errs.old) (E.tells errs.new) (E.faults errs.old) (E.faults errs.new)
+        (errs.new ≡ errs.old)) }
+    ensures known { result.status ≢ USAGE }
+
+    // Files and counts after the call: the texts are the same, and a count of faults rises only
+    // with its status.
+    ensures texts { SameTexts (F.tells files.old) (F.tells files.new) }
+    ensures fetches { CountsFetches result.status (F.faults files.old) (F.faults files.new) }
+    ensures puts { CountsPuts result.status (O.faults out.old) (O.faults out.new) }
+    ensures told { CountsPuts result.status (E.faults errs.old) (E.faults errs.new) }
+{
+    exec_statuses_are_exact::<F>();
+    let work = work_for(alloc, command, files, out);
+    let answer = told(alloc, work.answer, errs);
+    Ran {
+        status: answer.status(),
+        code: work.code,
+        turns: work.counts.turns,
+        sends: work.counts.sends,
+        words_sent: work.counts.words,
+    }
+}
+
+/// The work of the command, up to its answer.
+fn work_for<'a, F: Files, O: Sink>(
+    alloc: Global,
+    command: ExecCommand<'a>,
+    files: &mut F,
+    out: &mut O,
+) -> Work<'a>
+    requires asked { CanBeMet (asked_in command.asked) }
+    ensures work { (words : List (List ℕ)) →
+        IsWorkOn (call_of words (F.tells files.old) (F.may_fail files.old))
+        command.entry.file.now (asked_in command.entry.asked) result
+        (O.tells out.old) (O.tells out.new) }
+    ensures texts { SameTexts (F.tells files.old) (F.tells files.new) }
+    ensures fetches { CountsFaults (status_of result.answer ≡ UNREADABLE)
+        (F.faults files.old) (F.faults files.new) }
+    ensures puts { CountsFaults (result.answer ≡ Answer.PutFailed)
+        (O.faults out.old) (O.faults out.new) }
+{
+    listed_code_has_room();
+    match fetch_code(alloc, command.file, files) {
+        Ok(code) => work_on(alloc, code, command.asked, files, out),
+        Err(answer) => Work::without_turns(None, answer),
+    }
+}
+
+/// The work on listed code: an order is read, and the code is run under it.
+fn work_on<'a, F: Files, O: Sink>(
+    alloc: Global,
+    code: NodeProgram,
+    asked: Asked<'a>,
+    files: &mut F,
+    out: &mut O,
+) -> Work<'a>
+    requires room { HasRoom code }
+    requires asked { CanBeMet (asked_in asked) }
+    ensures code { result.code ≡ Some code }
+    ensures work { (words : List (List ℕ)) →
+        IsCodeWork (call_of words (F.tells files.old) (F.may_fail files.old)) code
+        (asked_in asked.entry) result (O.tells out.old) (O.tells out.new) }
+    ensures texts { SameTexts (F.tells files.old) (F.tells files.new) }
+    ensures fetches { CountsFaults (status_of result.answer ≡ UNREADABLE)
+        (F.faults files.old) (F.faults files.new) }
+    ensures puts { CountsFaults (result.answer ≡ Answer.PutFailed)
+        (O.faults out.old) (O.faults out.new) }
+{
+    orders_have_their_bounds();
+    match fetch_order(alloc, asked.order, &code, files) {
+        Ok(order) => run(alloc, code, order, asked, out),
+        Err(answer) => Work::without_turns(Some(code), answer),
+    }
+}

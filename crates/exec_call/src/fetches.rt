@@ -1,0 +1,54 @@
+//! The listing: a file is fetched, and its text read.
+ghost use Rattle.std.specs.Prelude.{◌≡◌, ◌≢◌, ◌≤◌, ℕ, List, IfErr, IfOk, length};
+ghost use Rattle.zpl_io.specs.Faults.{CountsFaults};
+ghost use Rattle.zpl_io.specs.Files.{SameTexts};
+ghost use Rattle.node_text.specs.Listing.{IsListing};
+ghost use Rattle.call_claims.specs.Call.{call_of};
+ghost use Rattle.exec_claims.specs.Answer.{IsListedIn};
+ghost use Rattle.exec_claims.specs.declared.limits.TheConstants.{MOST_LISTING};
+ghost use Rattle.exec_call.specs.Work.{FailsToFetch, IsUnlisted, ReadsNone};
+
+use crate::answers::Answer;
+use exec_claims::MOST_LISTING;
+use node_form::NodeProgram;
+use node_text::{ListFault, read_listing};
+use std::alloc::Global;
+use zpl_io::{Fetched, Files};
+
+/// Fetches a file and reads its text as a listing, or answers why there is no code.
+pub(crate) fn fetch_code<'a, F: Files>(
+    alloc: Global,
+    file: &'a str,
+    files: &mut F,
+) -> Result<NodeProgram, Answer<'a>>
+    ensures ok { (words : List (List ℕ)) → IfOk result
+        (IsListedIn (call_of words (F.tells files.old) (F.may_fail files.old)) file.now) }
+    ensures err { (words : List (List ℕ)) → IfErr result
+        (ReadsNone (call_of words (F.tells files.old) (F.may_fail files.old)) file.now) }
+    ensures put { IfErr result (λ answer. answer ≢ Answer.PutFailed) }
+    ensures texts { SameTexts (F.tells files.old) (F.tells files.new) }
+    ensures fetches { CountsFaults (FailsToFetch result)
+        (F.faults files.old) (F.faults files.new) }
+{
+    let mut text = Vec::new(alloc);
+    match files.fetch(alloc, file, MOST_LISTING as u64, &mut text) {
+        Fetched::Whole => code_of(alloc, text.as_slice()),
+        Fetched::TooLong => Err(Answer::TooLong(file)),
+        Fetched::Failed => Err(Answer::Unreadable(file)),
+        Fetched::NoMemory => Err(Answer::NoMemory),
+    }
+}
+
+/// The code whose listing a text is, or the answer that it is none.
+fn code_of<'a>(alloc: Global, text: &[u8]) -> Result<NodeProgram, Answer<'a>>
+    requires { length text.now ≤ MOST_LISTING }
+    ensures ok { IfOk result (IsListing text.now) }
+    ensures err { IfErr result (IsUnlisted text.now) }
+{
+    match read_listing(alloc, text) {
+        Ok(code) => Ok(code),
+        Err(ListFault::BadLine { line }) => Err(Answer::BadLine(line)),
+        Err(ListFault::BadTable { line }) => Err(Answer::BadTable(line)),
+        Err(ListFault::NoMemory) => Err(Answer::NoMemory),
+    }
+}

@@ -1,0 +1,91 @@
+//! The order of turns: a file is fetched where the words name one, and its text read.
+ghost use Rattle.std.specs.Prelude.{◌≡◌, ◌≤◌, ◌≢◌, ℕ, List, IfErr, IfOk, Some, length};
+ghost use Rattle.std.specs.Option.{option_map};
+ghost use Rattle.zpl_io.specs.Faults.{CountsFaults};
+ghost use Rattle.zpl_io.specs.Files.{SameTexts};
+ghost use Rattle.node_form.specs.Grid.{IsGrid, processors_of};
+ghost use Rattle.grid_meaning.specs.Local.{processors};
+ghost use Rattle.call_claims.specs.Call.{call_of};
+ghost use Rattle.exec_claims.specs.declared.limits.TheConstants.{MOST_LISTING};
+ghost use Rattle.exec_call.specs.Work.{FailsToFetch, IsNoOrder, IsOrderOf, IsReading, OrderFails};
+
+use crate::answers::Answer;
+use exec_claims::MOST_LISTING;
+use grid_order::{Order, OrderFault, read_order};
+use node_form::{Grid3, NodeProgram};
+use std::alloc::Global;
+use zpl_io::{Fetched, Files};
+
+/// The order of turns that a file tells, and the empty one where none is named; or the answer that
+/// there is none.
+pub(crate) fn fetch_order<'a, F: Files>(
+    alloc: Global,
+    named: Option<&'a str>,
+    code: &NodeProgram,
+    files: &mut F,
+) -> Result<Order, Answer<'a>>
+    ensures ok { (words : List (List ℕ)) → IfOk result
+        (IsOrderOf (call_of words (F.tells files.old) (F.may_fail files.old)) code.now
+        (option_map (λ file. file.now) named.entry)) }
+    ensures err { (words : List (List ℕ)) → IfErr result
+        (OrderFails (call_of words (F.tells files.old) (F.may_fail files.old)) code.now
+        (option_map (λ file. file.now) named.entry)) }
+    ensures put { IfErr result (λ answer. answer ≢ Answer.PutFailed) }
+    ensures texts { SameTexts (F.tells files.old) (F.tells files.new) }
+    ensures fetches { CountsFaults (FailsToFetch result)
+        (F.faults files.old) (F.faults files.new) }
+{
+    match named {
+        Some(file) => fetch_named(alloc, file, code, files),
+        None => order_of(alloc, b"", code),
+    }
+}
+
+/// The order of turns that a file tells, or the answer that it tells none.
+fn fetch_named<'a, F: Files>(
+    alloc: Global,
+    file: &'a str,
+    code: &NodeProgram,
+    files: &mut F,
+) -> Result<Order, Answer<'a>>
+    ensures ok { (words : List (List ℕ)) → IfOk result
+        (IsOrderOf (call_of words (F.tells files.old) (F.may_fail files.old)) code.now
+        (Some file.now)) }
+    ensures err { (words : List (List ℕ)) → IfErr result
+        (OrderFails (call_of words (F.tells files.old) (F.may_fail files.old)) code.now
+        (Some file.now)) }
+    ensures put { IfErr result (λ answer. answer ≢ Answer.PutFailed) }
+    ensures texts { SameTexts (F.tells files.old) (F.tells files.new) }
+    ensures fetches { CountsFaults (FailsToFetch result)
+        (F.faults files.old) (F.faults files.new) }
+{
+    let mut text = Vec::new(alloc);
+    match files.fetch(alloc, file, MOST_LISTING as u64, &mut text) {
+        Fetched::Whole => order_of(alloc, text.as_slice(), code),
+        Fetched::TooLong => Err(Answer::TooLong(file)),
+        Fetched::Failed => Err(Answer::Unreadable(file)),
+        Fetched::NoMemory => Err(Answer::NoMemory),
+    }
+}
+
+/// The order of turns that a text is for the processors of a program, or the answer that it is none.
+fn order_of<'a>(alloc: Global, text: &[u8], code: &NodeProgram) -> Result<Order, Answer<'a>>
+    requires { length text.now ≤ MOST_LISTING }
+    ensures ok { IfOk result (IsReading code.now text.now) }
+    ensures err { IfErr result (IsNoOrder code.now text.now) }
+{
+    match read_order(alloc, text, count_in(&code.tables().grid)) {
+        Ok(order) => Ok(order),
+        Err(OrderFault::BadItem { at }) => Err(Answer::BadItem(at)),
+        Err(OrderFault::NoMemory) => Err(Answer::NoMemory),
+    }
+}
+
+/// How many processors a grid has.
+fn count_in(grid: &Grid3) -> u32
+    requires { IsGrid grid.now }
+    ensures { result ≡ processors_of grid.now }
+{
+    let [first, second, third] = *grid;
+    first * second.max(1) * third.max(1)
+}

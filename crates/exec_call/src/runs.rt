@@ -1,0 +1,97 @@
+//! Runs of listed code.
+ghost use Rattle.std.specs.Prelude.{◌≡◌, ◌+◌, ◌≤◌, ◌^◌, None, Some, IfErr, IfOk, length};
+ghost use Rattle.zpl_io.specs.Faults.{CountsFaults};
+ghost use Rattle.code_layout.specs.Room.{HasRoom};
+ghost use Rattle.grid_meaning.specs.Grid.{IsCapacity};
+ghost use Rattle.grid_meaning.specs.Local.{processors};
+ghost use Rattle.grid_meaning.specs.Order.{IsOrder};
+ghost use Rattle.grid_sim.specs.Simulation.{start_simulation};
+ghost use Rattle.exec_words.specs.Asked.{limit_of};
+ghost use Rattle.exec_words.specs.Reading.{asked_in};
+ghost use Rattle.exec_claims.specs.Cause.{run_of};
+ghost use Rattle.exec_call.specs.Answers.{counts_for};
+ghost use Rattle.exec_call.specs.Work.{IsRunOn};
+
+use crate::answers::Answer;
+use crate::work::Work;
+use exec_words::Asked;
+use grid_order::Order;
+use grid_runs::{endings_are_final, turns_count};
+use grid_sim::{Counts, Sim};
+use node_form::NodeProgram;
+use std::alloc::Global;
+use zpl_io::Sink;
+
+/// Runs code under an order of turns, as the words ask for it, up to the answer.
+pub(crate) fn run<'a, O: Sink>(
+    alloc: Global,
+    code: NodeProgram,
+    order: Order,
+    asked: Asked<'_>,
+    out: &mut O,
+) -> Work<'a>
+    requires room { HasRoom code }
+    requires order { IsOrder (processors code) order }
+    requires turns { length order + limit_of (asked_in asked) ≤ 2 ^ 63 }
+    requires links { IsCapacity asked.links }
+    ensures code { result.code ≡ Some code }
+    ensures ran { IsRunOn (run_of code (asked_in asked.entry) order) asked.entry.report
+        result.answer result.counts (O.tells out.old) (O.tells out.new) }
+    ensures puts { CountsFaults (result.answer ≡ Answer.PutFailed)
+        (O.faults out.old) (O.faults out.new) }
+{
+    match sim_over(alloc, code, asked.links) {
+        Ok(sim) => run_sim(alloc, sim, order, asked, out),
+        Err(code) => Work::without_turns(Some(code), Answer::NoMemory),
+    }
+}
+
+/// The grid of the program before its first turn, over links that hold at most so many messages, or
+/// any number. For want of memory the program comes back.
+fn sim_over(alloc: Global, code: NodeProgram, links: Option<u32>) -> Result<Sim, NodeProgram>
+    requires room { HasRoom code }
+    requires links { IsCapacity links }
+    ensures start { IfOk result (λ sim. sim ≡ start_simulation code links) }
+    ensures back { IfErr result (λ back. back ≡ code) }
+{
+    match links {
+        None => Sim::new(alloc, code),
+        Some(capacity) => Sim::bounded(alloc, code, capacity),
+    }
+}
+
+/// Gives the turns of an order, and then as many round the processors as the words ask for.
+fn run_sim<'a, O: Sink>(
+    alloc: Global,
+    mut sim: Sim,
+    mut order: Order,
+    asked: Asked<'_>,
+    out: &mut O,
+) -> Work<'a>
+    requires start { sim ≡ start_simulation sim.code asked.links }
+    requires order { IsOrder (processors sim.code) order }
+    requires turns { length order + limit_of (asked_in asked) ≤ 2 ^ 63 }
+    ensures code { result.code ≡ Some sim.code }
+    ensures ran { IsRunOn (run_of sim.code (asked_in asked.entry) order)
+        asked.entry.report result.answer result.counts (O.tells out.old) (O.tells out.new) }
+    ensures puts { CountsFaults (result.answer ≡ Answer.PutFailed)
+        (O.faults out.old) (O.faults out.new) }
+{
+    turns_count();
+    endings_are_final();
+    let ended = sim.run(alloc, &mut order, asked.limit(), out);
+    let counts = sim.counts();
+    let report = report_for(asked.report, counts);
+    Work {
+        answer: Answer::of_run(ended, report),
+        code: Some(sim.into_code()),
+        counts,
+    }
+}
+
+/// The counts, where a report is wanted.
+fn report_for(wanted: bool, counts: Counts) -> Option<Counts>
+    ensures { result ≡ counts_for wanted counts }
+{
+    if wanted { Some(counts) } else { None }
+}
