@@ -10,14 +10,14 @@ use zpl_tree::Name;
 
 /// The names in reach: those of the procedure, which hide global ones, and the global ones.
 #[derive(Clone, Copy)]
-pub struct Environment<'a> {
+pub struct Environment<'a, 'n> {
     /// Parameters and local variables.
-    pub own: &'a Things<'a>,
+    pub own: &'a Things<'n>,
     /// Configs, constants and global variables.
-    pub globals: &'a Things<'a>,
+    pub globals: &'a Things<'n>,
 }
 
-impl<'a> Environment<'a> {
+impl Environment<'_, '_> {
     /// What a name stands for, if it is in reach.
     pub fn find(&self, name: &Name<'_>) -> Option<Thing>
         ensures found { option_map thing_in result

@@ -39,28 +39,28 @@ pub struct Currents {
     pub three: Option<Over>,
 }
 
-/// What a run knows of the whole program.
+/// What a run knows of the whole program. It is lent for a while, and names live as long as the tree.
 #[derive(Clone, Copy)]
-pub struct Setup<'a> {
+pub struct Setup<'a, 'n> {
     /// Its text.
-    pub program: &'a Program<'a>,
+    pub program: &'a Program<'n>,
     /// What was computed of its declarations.
-    pub known: &'a Known<'a>,
+    pub known: &'a Known<'n>,
     /// The parts of the text, with its borders among them.
-    pub parts: &'a [Part<'a>],
+    pub parts: &'a [Part<'n>],
     /// Its global names.
-    pub globals: &'a Things<'a>,
+    pub globals: &'a Things<'n>,
 }
 
 /// Where a statement stands.
 #[derive(Clone, Copy)]
-pub struct Place<'a> {
+pub struct Place<'a, 'n> {
     /// What is known of the program.
-    pub setup: &'a Setup<'a>,
+    pub setup: &'a Setup<'a, 'n>,
     /// The kinds of the names in reach.
     pub scope: Scope<'a>,
     /// What the names in reach stand for.
-    pub environment: Environment<'a>,
+    pub environment: Environment<'a, 'n>,
     /// The place of the scalar that takes what the procedure answers.
     pub result: usize,
     /// The rank of the innermost prefix that encloses it in its procedure's text, or 0.

@@ -42,7 +42,7 @@ fn applied(op: Op, first: i64, second: i64) -> Result<i64, TrapKind>
 /// always; the first trap in the order of the text counts. What no bound of an accepted program has
 /// counts as 0.
 pub fn value_of(
-    environment: &Environment<'_>,
+    environment: &Environment<'_, '_>,
     store: &Store,
     expr: &Expr<'_>,
 ) -> Result<i64, TrapKind>
@@ -134,7 +134,7 @@ impl Plain {
 }
 
 /// What an expression has by itself, whatever stands in it, found in one walk over it.
-pub fn plain_value(environment: &Environment<'_>, store: &Store, expr: &Expr<'_>) -> Plain
+pub fn plain_value(environment: &Environment<'_, '_>, store: &Store, expr: &Expr<'_>) -> Plain
     ensures { HasPlain (environment_of environment.now) store.now (expr_of expr.now) result }
 {
     match &expr.form {

@@ -21,7 +21,7 @@ use zpl_tree::{Inner, Name, Post, Pre, RegionBase};
 
 /// A region expression over a name, which alone may be an index of rank 1.
 fn named_over(
-    place: &Place<'_>,
+    place: &Place<'_, '_>,
     store: &Store,
     pre: &[Pre<'_>],
     name: &Name<'_>,
@@ -42,7 +42,7 @@ fn named_over(
 
 /// A region expression, where this region is the current one of its rank.
 fn rexpr_over(
-    place: &Place<'_>,
+    place: &Place<'_, '_>,
     store: &Store,
     current: &Region,
     pre: &[Pre<'_>],
@@ -64,7 +64,7 @@ fn rexpr_over(
 
 /// What stands between brackets, where this region is the current one of its rank.
 fn inner_over(
-    place: &Place<'_>,
+    place: &Place<'_, '_>,
     store: &Store,
     current: &Region,
     inner: &Inner<'_>,
@@ -85,7 +85,7 @@ fn inner_over(
 }
 
 /// The current region of the rank that a bracket has, for a hint of a mask or an operand.
-pub fn current_for(place: &Place<'_>, hint: Rank, inner: &Inner<'_>) -> Region
+pub fn current_for(place: &Place<'_, '_>, hint: Rank, inner: &Inner<'_>) -> Region
     requires { IsPlace place.now }
     ensures current { result ≡ regions.current_for (place_of place.now) hint (inner_of inner.now) }
     ensures small { IsSmall result }
@@ -97,7 +97,7 @@ pub fn current_for(place: &Place<'_>, hint: Rank, inner: &Inner<'_>) -> Region
 /// The region of a bracket, for a hint of a mask or an operand. A zero divisor in a bound is a trap,
 /// and so is a region past the limit.
 pub fn region_in(
-    place: &Place<'_>,
+    place: &Place<'_, '_>,
     store: &Store,
     hint: Rank,
     inner: &Inner<'_>,

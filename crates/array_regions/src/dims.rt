@@ -38,7 +38,7 @@ fn all_from(lo: i64, hi: i64) -> Dim
 
 /// A dimension. A blank is that of the current region.
 fn dim_in(
-    environment: &Environment<'_>,
+    environment: &Environment<'_, '_>,
     store: &Store,
     current: Dim,
     text: &DimText<'_>,
@@ -65,7 +65,7 @@ fn dim_in(
 
 /// The region of one to three dimensions. All bounds are computed before the limit is tested.
 pub fn span_in(
-    environment: &Environment<'_>,
+    environment: &Environment<'_, '_>,
     store: &Store,
     current: &Region,
     dims: &[DimText<'_>],
@@ -100,7 +100,7 @@ pub fn span_in(
 
 /// An index of rank 1 that is a name alone.
 pub fn index_in(
-    environment: &Environment<'_>,
+    environment: &Environment<'_, '_>,
     store: &Store,
     name: &Name<'_>,
 ) -> Result<Region, TrapKind>

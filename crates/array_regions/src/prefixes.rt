@@ -38,7 +38,7 @@ fn mask_rank(scope: &Scope<'_>, mask: &Option<MaskText<'_>>) -> Rank
 }
 
 /// A mask by the place of its array.
-pub fn mask_in(environment: &Environment<'_>, mask: &Option<MaskText<'_>>) -> Option<Mask>
+pub fn mask_in(environment: &Environment<'_, '_>, mask: &Option<MaskText<'_>>) -> Option<Mask>
     ensures { option_map mask_of result
         ≡ regions.mask_in (environment_of environment.now) (option_map seen_mask mask.now) }
 {
@@ -55,7 +55,7 @@ pub fn mask_in(environment: &Environment<'_>, mask: &Option<MaskText<'_>>) -> Op
 }
 
 /// The region and the mask of a prefix.
-pub fn over_in(place: &Place<'_>, store: &Store, prefix: &Prefix<'_>) -> Result<Over, TrapKind>
+pub fn over_in(place: &Place<'_, '_>, store: &Store, prefix: &Prefix<'_>) -> Result<Over, TrapKind>
     requires place { IsPlace place.now }
     requires fit { IsFitInner (inner_of prefix.now.region) }
     ensures computes { ComputesAs result over_of
@@ -119,7 +119,7 @@ fn edge_in(known: &Known<'_>, current: &Region, inner: &Inner<'_>) -> Option<Edg
 }
 
 /// What is in reach under a prefix, which has this region and mask.
-pub fn under_prefix<'a>(place: &Place<'a>, prefix: &Prefix<'_>, over: Over) -> Place<'a>
+pub fn under_prefix<'a, 'n>(place: &Place<'a, 'n>, prefix: &Prefix<'_>, over: Over) -> Place<'a, 'n>
     requires place { IsPlace place.now }
     requires over { IsSmall over.region }
     ensures under { place_of result
@@ -139,7 +139,7 @@ pub fn under_prefix<'a>(place: &Place<'a>, prefix: &Prefix<'_>, over: Over) -> P
 
 /// What is in reach of the operand of an operator over a region: that is the current one of its
 /// rank there, without a mask.
-pub fn under_source<'a>(place: &Place<'a>, rank: Rank, source: Region) -> Place<'a>
+pub fn under_source<'a, 'n>(place: &Place<'a, 'n>, rank: Rank, source: Region) -> Place<'a, 'n>
     requires place { IsPlace place.now }
     requires source { IsSmall source }
     ensures under { place_of result ≡ regions.under_source (place_of place.now) rank source }

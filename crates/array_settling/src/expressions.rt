@@ -27,7 +27,7 @@ use zpl_region::Region;
 use zpl_tree::{Expr, ExprForm, Inner, Name};
 
 /// The rank of the region that an operator with an operand is over.
-fn source_rank(place: &Place<'_>, source: &Inner<'_>, operand: &Expr<'_>) -> Rank
+fn source_rank(place: &Place<'_, '_>, source: &Inner<'_>, operand: &Expr<'_>) -> Rank
     ensures { result
         ≡ plain.source_rank (place_of place.now) (inner_of source.now) (expr_of operand.now) }
 {
@@ -37,7 +37,7 @@ fn source_rank(place: &Place<'_>, source: &Inner<'_>, operand: &Expr<'_>) -> Ran
 
 /// That region.
 fn source_in(
-    place: &Place<'_>,
+    place: &Place<'_, '_>,
     store: &Store,
     source: &Inner<'_>,
     operand: &Expr<'_>,
@@ -71,7 +71,7 @@ fn each_is_fit(exprs: &[Expr<'_>], place: usize)
 #[cycle(settled)]
 pub fn settled<'t>(
     arena: &'t Bump<Global>,
-    place: &Place<'_>,
+    place: &Place<'_, '_>,
     store: &Store,
     rank: Rank,
     expr: &Expr<'_>,
@@ -150,7 +150,7 @@ pub fn settled<'t>(
 #[cycle(settled)]
 fn reduced<'t>(
     arena: &'t Bump<Global>,
-    place: &Place<'_>,
+    place: &Place<'_, '_>,
     store: &Store,
     operator: Fold,
     over: &Option<Inner<'_>>,
@@ -188,7 +188,7 @@ fn reduced<'t>(
 #[cycle(settled)]
 fn flooded<'t>(
     arena: &'t Bump<Global>,
-    place: &Place<'_>,
+    place: &Place<'_, '_>,
     store: &Store,
     source: &Inner<'_>,
     operand: &Expr<'_>,
@@ -215,7 +215,7 @@ fn flooded<'t>(
 #[cycle(settled)]
 fn settled_all<'t>(
     arena: &'t Bump<Global>,
-    place: &Place<'_>,
+    place: &Place<'_, '_>,
     store: &Store,
     rank: Rank,
     exprs: &[Expr<'_>],

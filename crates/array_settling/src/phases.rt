@@ -44,7 +44,7 @@ fn placed_is_fit(exprs: &[Placed<'_>], place: usize)
 /// one. It takes no more stack for many expressions than for one.
 pub fn settled_each<'t>(
     arena: &'t Bump<Global>,
-    place: &Place<'_>,
+    place: &Place<'_, '_>,
     store: &Store,
     exprs: &[Placed<'_>],
 ) -> Result<&'t Terms<'t>, Stop>
@@ -70,7 +70,7 @@ pub fn settled_each<'t>(
 /// then conformity, then references.
 pub fn checked_terms<'t>(
     arena: &'t Bump<Global>,
-    place: &Place<'_>,
+    place: &Place<'_, '_>,
     store: &Store,
     own: bool,
     exprs: &[Placed<'_>],
