@@ -12,17 +12,16 @@ use Rattle.exec_call.specs.declared.answers.Stop.TheVariants as stop
 record IsOther (n : ℕ) : Type 0 where
   put : n ≢ 9
   memory : n ≢ 10
-  read : n ≢ 2
 
 stopped_other : (s : Stop) → IsOther (stop_status s)
 stopped_other stop.Done =
-    record { put = λ e. omega arith; memory = λ e. omega arith; read = λ e. omega arith }
+    record { put = λ e. omega arith; memory = λ e. omega arith }
 stopped_other (stop.Trap kind line) =
-    record { put = λ e. omega arith; memory = λ e. omega arith; read = λ e. omega arith }
+    record { put = λ e. omega arith; memory = λ e. omega arith }
 stopped_other stop.TurnLimit =
-    record { put = λ e. omega arith; memory = λ e. omega arith; read = λ e. omega arith }
+    record { put = λ e. omega arith; memory = λ e. omega arith }
 stopped_other (stop.Stuck p kind) =
-    record { put = λ e. omega arith; memory = λ e. omega arith; read = λ e. omega arith }
+    record { put = λ e. omega arith; memory = λ e. omega arith }
 
 -- the status of a failed put is that answer's alone
 pub failed_of : (a : Answer) → status_of a ≡ PUT_FAILED → a ≡ answer.PutFailed
@@ -67,7 +66,3 @@ failed_or a = elim (kind_of a) [
   | is_wanting e ↦ inr (λ f. let no : answer.NoMemory ≡ answer.PutFailed = sym e ∙ f in cc)
   | is_decided other decided ↦ inr other
 ]
-
--- a run that stopped fetched nothing
-pub stopped_fetched : (s : Stop) → stop_status s ≡ 2 → ⊥
-stopped_fetched s e = (stopped_other s).read e

@@ -1,9 +1,9 @@
 -- What the words of a command ask for can be met.
-use Rattle.std.proofs.Common.{◌≡◌, ℕ, ◌≤◌, Bool, List, ◌∷◌, Option, Some, None, subst, arith}
+use Rattle.std.proofs.Common.{ℕ, ◌≤◌, Bool, List, ◌∷◌, Option, Some, None, subst, arith}
 use Rattle.std.specs.Option.{option_map}
 use Rattle.call_claims.specs.declared.limits.TheConstants.{MOST_TURNS}
 use Rattle.exec_words.specs.Words.{Word, Order, Turns, Report, Links, IsWord}
-use Rattle.exec_words.specs.Asked.{Asked, Adds, AddAll, IsExec, added, first_report, once}
+use Rattle.exec_words.specs.Asked.{Asked, AddAll, IsExec, added, first_report, once}
 use Rattle.exec_words.specs.Asked.AddAll.{no_more, one_more}
 use Rattle.exec_call.specs.Work.{CanBeMet}
 

@@ -1,10 +1,9 @@
 -- From the run of a grid to what came of it, and to the cause of its answer.
-use Rattle.std.proofs.Common.{◌≡◌, ◌≢◌, ℕ, ◌+◌, Bool, true, false, List, [], ◌++◌, Option, Some, None}
-use Rattle.std.proofs.Common.{Result, Ok, Err, refl, sym, ◌∙◌, ap, subst, arith, zero-add}
+use Rattle.std.proofs.Common.{◌≡◌, ◌≢◌, ℕ, ◌+◌, Bool, true, false, List, ◌++◌, Option}
+use Rattle.std.proofs.Common.{Result, Ok, Err, refl, sym, ◌∙◌, ap, subst, zero-add}
 use Rattle.zpl_io.specs.Sink.{Takes}
 use Rattle.zpl_nums.specs.declared.ends.End.{End}
 use Rattle.zpl_nums.specs.declared.ends.End.TheVariants as ending
-use Rattle.node_form.specs.declared.tables.Tables.{Tables}
 use Rattle.node_turn.specs.declared.steps.StuckKind.{StuckKind}
 use Rattle.node_turn.specs.declared.steps.StuckKind.TheVariants as kind
 use Rattle.grid_meaning.specs.Action.{WrongTag, WrongLength, Unheld}
@@ -128,8 +127,11 @@ counts_are law run start wanted new left before after ended is =
     let turns : (grid_at run is.turns).turns ≡ is.turns =
     law run is.turns ∙ (ap (λ n. n + is.turns) start ∙ zero-add is.turns) in
     ap (λ s. counts_of s.grid) is.grid
-    ∙ ap (λ n. record { turns = n; sends = (grid_at run is.turns).sends; words = (grid_at run is.turns).words })
-    turns
+    ∙ ap (λ n. record {
+      turns = n;
+      sends = (grid_at run is.turns).sends;
+      words = (grid_at run is.turns).words;
+    }) turns
 
 pub run_is_on : TurnsCount → (run : Run) → run.start.turns ≡ 0 → (wanted : Bool)
     (new : Simulation) (left : List ℕ) (before after : List ℕ → Type 0)
@@ -145,22 +147,3 @@ run_is_on law run start wanted new left before after ended counts told a is coun
     subst (λ c. IsRunOn run wanted a c before after) (sym same)
     (subst (λ b. IsRunOn run wanted b (counted run wanted is.turns) before after) answered
     (ran_so run wanted new left before after ended is))
-
--- no turn was given, for want of memory
-pub not_begun : (run : Run) (wanted : Bool) (before after : List ℕ → Type 0) (a : Answer)
-    (counts : Counts) → a ≡ answer.NoMemory
-    → counts ≡ record { turns = 0; sends = (grid_at run 0).sends; words = (grid_at run 0).words }
-    → Takes before (grid_at run 0).printed after
-    → IsRunOn run wanted a counts before after
-not_begun run wanted before after a counts a_is counts_is takes =
-    subst (λ c. IsRunOn run wanted a c before after) (sym counts_is)
-    (subst (λ b. IsRunOn run wanted b (counted run wanted 0) before after) (sym a_is)
-    (record {
-      goes_on = λ j below. absurd (omega arith);
-      within = omega arith;
-      sends = refl;
-      words = refl;
-      printed = λ put. takes;
-      cut_off = λ failed. let no : ⊥ = cc in absurd no;
-      cause = λ d. absurd (d.memory refl);
-    }))

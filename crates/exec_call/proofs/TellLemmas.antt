@@ -1,5 +1,5 @@
 -- What was told, with its cause.
-use Rattle.std.proofs.Common.{◌≡◌, ◌≢◌, ℕ, ◌⊎◌, List, [], ◌++◌, refl, sym, ◌∙◌, ap, subst, inl, inr, append-nil}
+use Rattle.std.proofs.Common.{◌≡◌, ◌≢◌, ℕ, ◌⊎◌, List, sym, ◌∙◌, ap, subst, inl, inr}
 use Rattle.call_claims.specs.Call.{Call}
 use Rattle.call_claims.specs.Decided.{IsDecided}
 use Rattle.call_claims.specs.Execution.{execution_of}
@@ -8,24 +8,13 @@ use Rattle.call_claims.specs.declared.status.TheConstants.{PUT_FAILED}
 use Rattle.exec_claims.specs.Answer.{IsHalfAnswered}
 use Rattle.exec_claims.specs.Cause.{Cause}
 use Rattle.exec_claims.specs.Cause.Cause.{no_memory}
-use Rattle.exec_call.specs.Answers.{IsHalfTold, report_of, status_of, text_of, told_of}
+use Rattle.exec_call.specs.Answers.{IsHalfTold, status_of, told_of}
 use Rattle.exec_call.specs.Work.{execution_in}
 use Rattle.exec_call.specs.declared.answers.Answer.{Answer}
 use Rattle.exec_call.specs.declared.answers.Answer.TheVariants as answer
 use Rattle.exec_call.specs.declared.work.Work.{Work}
 use Rattle.exec_call.proofs.AnswerLemmas.{kind_of}
 use Rattle.exec_call.proofs.AnswerLemmas.Kind.{is_failed, is_wanting, is_decided}
-
--- what is told is the text, and the report behind it
-pub told_in_two : (a : Answer) → text_of a ++ report_of a ≡ told_of a
-told_in_two (answer.Stopped stop report) = refl
-told_in_two (answer.Unreadable file) = append-nil _
-told_in_two (answer.TooLong file) = append-nil _
-told_in_two (answer.BadLine line) = append-nil _
-told_in_two (answer.BadTable line) = append-nil _
-told_in_two (answer.BadItem at) = append-nil _
-told_in_two answer.PutFailed = refl
-told_in_two answer.NoMemory = append-nil _
 
 module _ (call : Call) (work : Work)
     (caused : IsDecided (status_of work.answer)

@@ -1,34 +1,33 @@
 -- From what was fetched, read and run to the cause of the answer, and to what out took.
-use Rattle.std.proofs.Common.{◌≡◌, ◌≢◌, ℕ, ◌+◌, ◌*◌, ◌<◌, ◌≤◌, ◌⊎◌, Bool, Result, List, [], length, Option, Some, None, Ok, Err}
+use Rattle.std.proofs.Common.{◌≡◌, ◌≢◌, ℕ, ◌+◌, ◌*◌, ◌≤◌, ◌⊎◌, Bool, Result, List, [], length, Option, Some, None, Ok, Err}
 use Rattle.std.proofs.Common.{IfErr, IfOk, MatchOption, refl, sym, ◌∙◌, ap, subst, inl, inr, arith}
 use Rattle.zpl_io.specs.Faults.{CountsFaults}
 use Rattle.zpl_io.specs.Files.{GainsWhole, GainsTooMuch, SameTexts}
-use Rattle.zpl_io.specs.Sink.{Takes}
 use Rattle.node_form.specs.declared.tables.Tables.{Tables}
 use Rattle.grid_meaning.specs.Grid.{processors}
 use Rattle.grid_order.specs.Reading.{reading}
 use Rattle.grid_sim.specs.declared.counts.Counts.{Counts}
-use Rattle.grid_runs.specs.Run.{Run, GoesOnTo, grid_at}
+use Rattle.grid_runs.specs.Run.{Run, GoesOnTo}
 use Rattle.call_claims.specs.Call.{Call, call_of}
 use Rattle.call_claims.specs.Decided.{IsDecided}
-use Rattle.call_claims.specs.Execution.{Execution, HasNoCounts, HasNoRun}
+use Rattle.call_claims.specs.Execution.{HasNoCounts}
 use Rattle.call_claims.specs.declared.ran.Ran.{Ran}
 use Rattle.exec_words.specs.Asked.{Asked, IsExec}
-use Rattle.exec_claims.specs.Answer.{HasCounts, IsListedIn, IsRead, IsReadFor, Runs, TakesPrinted}
-use Rattle.exec_claims.specs.Cause.{Cause, IsTooLong, ListingCause, ListingFileCause, OrderCause}
-use Rattle.exec_claims.specs.Cause.{OrderFileCause, RunCause, Source, TextCause, run_of}
+use Rattle.exec_claims.specs.Answer.{HasCounts, IsReadFor, Runs, TakesPrinted}
+use Rattle.exec_claims.specs.Cause.{Cause, IsTooLong}
+use Rattle.exec_claims.specs.Cause.{OrderFileCause, RunCause, Source, run_of}
 use Rattle.exec_claims.specs.Cause.Cause.{exec}
 use Rattle.exec_claims.specs.Cause.ListingCause.{bad_line, bad_table, listed}
 use Rattle.exec_claims.specs.Cause.RunCause.{done, trap, turn_limit, stuck, idle}
 use Rattle.exec_claims.specs.Cause.OrderCause.{bad_item, ran as under_order}
 use Rattle.exec_claims.specs.Cause.TextCause.{too_long, unreadable, work as of_text}
-use Rattle.exec_claims.specs.Decided.{Execs, IsOrderText}
+use Rattle.exec_claims.specs.Decided.{IsOrderText}
 use Rattle.exec_claims.specs.declared.limits.TheConstants.{MOST_LISTING}
 use Rattle.exec_call.specs.Answers.{status_of, told_of}
 use Rattle.exec_call.specs.Call.{IsOutputCut}
 use Rattle.exec_call.specs.Work.{execution_in, HasNoTurns, IsCodeWork, IsNoOrder, IsOrderOf}
-use Rattle.exec_call.specs.Work.{IsReading, IsRunOn, IsUnlisted, IsWorkOn}
-use Rattle.exec_call.specs.Work.{FailsToFetch, OrderFails, ReadsNone}
+use Rattle.exec_call.specs.Work.{IsRunOn, IsUnlisted, IsWorkOn}
+use Rattle.exec_call.specs.Work.{OrderFails, ReadsNone}
 use Rattle.exec_call.specs.Work.IsCodeWork.{unordered, ran}
 use Rattle.exec_call.specs.Work.IsWorkOn.{unread, read}
 use Rattle.exec_call.specs.declared.answers.Answer.{Answer}
@@ -76,17 +75,6 @@ unread_order call code file source (answer.BadLine line) is = elim is [ ]
 unread_order call code file source (answer.BadTable line) is = elim is [ ]
 unread_order call code file source (answer.Stopped stop report) is = elim is [ ]
 unread_order call code file source answer.PutFailed is = elim is [ ]
-
-pub unread_none : (call : Call) (code : Tables) (a : Answer) → IsNoOrder code [] a
-    → OrderFails call code None a
-unread_none call code (answer.BadItem at) is = λ d asked. bad_item at is refl
-unread_none call code answer.NoMemory is = λ d. absurd (d.memory refl)
-unread_none call code (answer.Unreadable name) is = elim is [ ]
-unread_none call code (answer.TooLong name) is = elim is [ ]
-unread_none call code (answer.BadLine line) is = elim is [ ]
-unread_none call code (answer.BadTable line) is = elim is [ ]
-unread_none call code (answer.Stopped stop report) is = elim is [ ]
-unread_none call code answer.PutFailed is = elim is [ ]
 
 -- ---- files that tell the same texts
 module _ (words : List (List ℕ)) (tells other : List ℕ → List ℕ → Type 0)
@@ -317,47 +305,6 @@ not_fetched P Q before after passed never counts = record {
   never_falls = counts.never_falls;
   bounded = counts.bounded;
 }
-
-not_more : (n m : ℕ) → ¬ (n < m) → n ≤ m → n ≡ m
-not_more n m not_less within = omega arith
-
--- one fetch and then another, the first of which didn't fail
-pub then_fetched : (P Q : Type 0) (before between after : ℕ) → ¬ P
-    → CountsFaults P before between → CountsFaults Q between after → CountsFaults Q before after
-then_fetched P Q before between after passed first second =
-    let same : before ≡ between = not_more before between (λ less. passed (first.only less)) first.never_falls in
-    subst (λ n. CountsFaults Q n after) (sym same) second
-
-pub unlisted_put : (text : List ℕ) (a : Answer) → IsUnlisted text a → a ≢ answer.PutFailed
-unlisted_put text a is failed = absurd (subst (IsUnlisted text) failed is)
-
-pub unlisted_fetched : {A : Type 0} (text : List ℕ) (r : Result A Answer)
-    → IfErr r (IsUnlisted text) → FailsToFetch r → ⊥
-unlisted_fetched text (Ok v) is fails = fails
-unlisted_fetched text (Err (answer.BadLine line)) is fails = omega arith
-unlisted_fetched text (Err (answer.BadTable line)) is fails = omega arith
-unlisted_fetched text (Err answer.NoMemory) is fails = omega arith
-unlisted_fetched text (Err (answer.Unreadable name)) is fails = elim is [ ]
-unlisted_fetched text (Err (answer.TooLong name)) is fails = elim is [ ]
-unlisted_fetched text (Err (answer.BadItem at)) is fails = elim is [ ]
-unlisted_fetched text (Err (answer.Stopped stop report)) is fails = elim is [ ]
-unlisted_fetched text (Err answer.PutFailed) is fails = elim is [ ]
-
-pub unordered_put : (code : Tables) (text : List ℕ) (a : Answer) → IsNoOrder code text a
-    → a ≢ answer.PutFailed
-unordered_put code text a is failed = absurd (subst (IsNoOrder code text) failed is)
-
-pub unordered_fetched : {A : Type 0} (code : Tables) (text : List ℕ) (r : Result A Answer)
-    → IfErr r (IsNoOrder code text) → FailsToFetch r → ⊥
-unordered_fetched code text (Ok v) is fails = fails
-unordered_fetched code text (Err (answer.BadItem at)) is fails = omega arith
-unordered_fetched code text (Err answer.NoMemory) is fails = omega arith
-unordered_fetched code text (Err (answer.Unreadable name)) is fails = elim is [ ]
-unordered_fetched code text (Err (answer.TooLong name)) is fails = elim is [ ]
-unordered_fetched code text (Err (answer.BadLine line)) is fails = elim is [ ]
-unordered_fetched code text (Err (answer.BadTable line)) is fails = elim is [ ]
-unordered_fetched code text (Err (answer.Stopped stop report)) is fails = elim is [ ]
-unordered_fetched code text (Err answer.PutFailed) is fails = elim is [ ]
 
 -- ---- orders
 -- the text of an order isn't too long

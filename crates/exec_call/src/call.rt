@@ -29,9 +29,9 @@ use zpl_io::{Files, Sink};
 
 /// Runs a listing: what the program prints goes to `out`, and what is told of the answer to `errs`.
 ///
-/// The listing is fetched and read, then the order of turns, and the code is run under it. The status
-/// has its cause. All that is told is made before anything of it is put, and after a failed put
-/// nothing more is put on either sink.
+/// The listing is fetched and read, then the order of turns, and the code is run under it. The
+/// status has its cause. All that is told is made before anything of it is put, and after a failed
+/// put nothing more is put on either sink.
 pub fn exec<F: Files, O: Sink, E: Sink>(
     alloc: Global,
     command: ExecCommand<'_>,

@@ -68,7 +68,8 @@ fn fetch_named<'a, F: Files>(
     }
 }
 
-/// The order of turns that a text is for the processors of a program, or the answer that it is none.
+/// The order of turns that a text is for the processors of a program, or the answer that it is
+/// none.
 fn order_of<'a>(alloc: Global, text: &[u8], code: &NodeProgram) -> Result<Order, Answer<'a>>
     requires { length text.now ≤ MOST_LISTING }
     ensures ok { IfOk result (IsReading code.now text.now) }

@@ -7,6 +7,7 @@ mod call;
 mod compiling;
 mod lists;
 mod refusals;
+mod run_or_list;
 mod runs;
 mod settings;
 mod work;

@@ -8,7 +8,7 @@ use Rattle.call_words.specs.Asked.{asked_in}
 use Rattle.call_words.specs.Commands.{command_in}
 use Rattle.top_call.specs.declared.answers.Answer.TheVariants as answer
 use Rattle.top_call.proofs.WorkLemmas.{call_without, no_run, on_some}
-use Rattle.top_call.proofs.call.work_for.Goals as goal
+use Rattle.top_call.proofs.run_or_list.work_for.Goals as goal
 
 pub returns-in-Some-Run-clause-cause : goal.returns-in-Some-Run-clause-cause
 returns-in-Some-Run-clause-cause g c = λ d.
