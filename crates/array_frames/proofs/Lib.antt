@@ -1,0 +1,5 @@
+pub mod RankLemmas
+pub mod FrameLemmas
+pub mod StorageLemmas
+pub mod LoopLemmas
+pub mod SmallLemmas

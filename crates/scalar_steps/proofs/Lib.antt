@@ -1,0 +1,2 @@
+pub mod ScalarLemmas
+pub mod ActualLemmas
