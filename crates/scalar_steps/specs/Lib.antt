@@ -1,3 +1,3 @@
 pub mod Scalars
 pub mod Actuals
-pub mod Heads
+pub mod Start

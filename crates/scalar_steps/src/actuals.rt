@@ -1,10 +1,12 @@
 //! What a call hands on.
-ghost use Rattle.std.specs.Prelude.{◌≡◌, ◌∷◌, [], ◌++◌, ◌≤◌, All, IfOk, IfSome, List, OnOk, ℤ, map, slice_get};
+ghost use Rattle.std.specs.Prelude.{◌≡◌, ◌∷◌, [], ◌++◌, ◌≤◌, All, IfOk, IfSome, List, OnOk, ℤ, map};
+ghost use Rattle.std.specs.Prelude.{slice_get};
 ghost use Rattle.std.specs.Option.{option_map};
 ghost use Rattle.zpl_tree.specs.Syntax.{NoExpr, ThenExpr};
 ghost use Rattle.zpl_tree.specs.View.{expr_of, exprs_of, name_of};
 ghost use Rattle.zpl_names.specs.Scope.{kind_of};
-ghost use Rattle.zpl_meaning.specs.Calls.{Copied, actual_thing, actuals_in, copied_array, formals_in};
+ghost use Rattle.zpl_meaning.specs.Calls.{Copied, actual_thing, actuals_in, copied_array};
+ghost use Rattle.zpl_meaning.specs.Calls.{formals_in};
 ghost use Rattle.zpl_meaning.specs.Calls.{handed_on, referred, value_exprs};
 ghost use Rattle.zpl_meaning.specs.Store.{array_at};
 ghost use Rattle.name_kinds.specs.Reach.{scope_of};
@@ -69,7 +71,8 @@ fn value_exprs<'a>(
     actuals: &'a [Expr<'a>],
 ) -> Result<Vec<Placed<'a>>, AllocError>
     ensures { IfOk result (λ exprs. map placed_of exprs.items
-        ≡ value_exprs (place_of place.now) (map formal_of formals.now) (exprs_of actuals.entry.now)) }
+        ≡ value_exprs (place_of place.now) (map formal_of formals.now)
+        (exprs_of actuals.entry.now)) }
 {
     let mut exprs = Vec::new(alloc);
     let count = formals.len().min(actuals.len());

@@ -11,7 +11,7 @@ ghost use Rattle.array_places.specs.Sound.{IsPlace};
 ghost use Rattle.array_places.specs.View.{place_of};
 ghost use Rattle.array_settling.specs.Fit.{IsFit};
 ghost use Rattle.array_settling.specs.Placed.{placed_of};
-ghost use Rattle.scalar_steps.specs.Heads.{start_in};
+ghost use Rattle.scalar_steps.specs.Start.{start_in};
 
 use crate::buffers::Buffers;
 use crate::scalars::scalars_in;

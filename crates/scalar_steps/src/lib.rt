@@ -1,5 +1,5 @@
-//! Values that stand by themselves where a statement stands: tests, answers, the heads of loops, and
-//! what calls hand on.
+//! Values that stand by themselves where a statement stands: tests, answers, the heads of loops,
+//! and what calls hand on.
 #![tactic(auto)]
 
 mod actuals;
