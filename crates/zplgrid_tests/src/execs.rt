@@ -35,7 +35,7 @@ const CASES: [Case; 7] = [
         &["report", "turns=1", "order=o"],
         b"1x2 0x2",
         8,
-        b"hi",
+        b"hi21",
         b"turn limit\nturns 5 sends 0 words 0\n",
         5,
     ),
