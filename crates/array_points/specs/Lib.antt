@@ -1,0 +1,6 @@
+pub mod Elementwise
+pub mod Left
+pub mod Own
+pub mod Run
+pub mod Checked
+pub mod Targets

@@ -1,0 +1,4 @@
+pub mod CheckedLemmas
+pub mod StepLemmas
+pub mod WalkLemmas
+pub mod PrintLemmas

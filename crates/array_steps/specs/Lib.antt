@@ -1,0 +1,5 @@
+pub mod Steps
+pub mod Fit
+pub mod Checked
+pub mod Edges
+pub mod Prints

@@ -1,0 +1,12 @@
+//! What one simple statement does: an assignment, a border of an array, the text of a print.
+#![tactic(auto)]
+
+mod assigns;
+mod borders;
+mod checks;
+mod edges;
+mod prints;
+
+pub use assigns::assign_to;
+pub use borders::border_thing;
+pub use prints::print_text;
