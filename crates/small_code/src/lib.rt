@@ -13,8 +13,6 @@ mod program;
 mod scope;
 mod statements;
 mod sums;
-#[cfg(test)]
-mod tests;
 mod texts;
 
 pub use fault::CodeFault;

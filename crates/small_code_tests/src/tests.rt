@@ -1,6 +1,6 @@
-use crate::{CodeFault, code_of_small};
 use bumpalo::Bump;
 use node_form::{ExprOp, Instr, Tables};
+use small_code::{CodeFault, code_of_small};
 use std::alloc::{AllocError, Global};
 use std::test::Fail;
 use zpl_nums::Op;
