@@ -1,6 +1,7 @@
 -- Lemmas on places along a dimension.
 use Rattle.std.proofs.Common.{◌≡◌, ℕ, suc, ◌+◌, ◌-◌, ◌*◌, ◌/◌, ◌<◌, ◌≤◌, ◌↔◌, IsTrue, Bool, true, false, ◌&&◌, if◌then◌else◌, Option, Some, None, List, [], ◌∷◌, All, ℤ, pos, negsuc, ◌≤ℤ◌, ◌-ℤ◌, ◌+ℤ◌, unsigned_abs, refl, sym, ◌∙◌, ap, subst, arith, rules}
 use Rattle.std.specs.List.{AllZip}
+use Rattle.std.specs.Option.{IfSome}
 use Rattle.std.proofs.Math.Nat.{mul-le-mul_right}
 use Rattle.std.proofs.lemmas.Int.{ints}
 use Rattle.std.proofs.lemmas.Bool.{and_from, and_parts}
@@ -81,6 +82,27 @@ pub spot_one : (lo hi align x : ℤ) → lo ≤ℤ x → x ≤ℤ hi → spot (R
 spot_one lo hi align x h l =
     let here : is_coordinate (Range lo hi (pos 1) align) x ≡ true = and_from (is_between lo hi x) _ (between-true lo hi x h l) (one_multiple (x -ℤ align)) in
     rw here (ap Some (place_by_one lo hi align x))
+
+-- by the bounds alone
+pub spot_by_bounds : (lo hi align x : ℤ) → (if is_between lo hi x then Some (unsigned_abs (x -ℤ lo)) else None) ≡ spot (Range lo hi (pos 1) align) x
+spot_by_bounds lo hi align x = sym (by (is_between lo hi x) refl)
+  where
+    by : (test : Bool) → is_between lo hi x ≡ test
+        → (if test && is_multiple (pos 1) (x -ℤ align) then Some (place_along (Range lo hi (pos 1) align) x) else None) ≡ (if test then Some (unsigned_abs (x -ℤ lo)) else None)
+    by true e = rw (one_multiple (x -ℤ align)) (ap Some (place_by_one lo hi align x))
+    by false e = refl
+
+pub spot_of_bounds : (dim : Dim) (lo hi step align x l h y : ℤ) → dim ≡ Range lo hi step align → step ≡ pos 1 → l ≡ lo → h ≡ hi → y ≡ x
+    → (if is_between l h y then Some (unsigned_abs (y -ℤ l)) else None) ≡ spot dim x
+spot_of_bounds dim lo hi step align x l h y e one low high at =
+    ap (λ z. if is_between z h y then Some (unsigned_abs (y -ℤ z)) else None) low
+    ∙ (ap (λ z. if is_between lo z y then Some (unsigned_abs (y -ℤ lo)) else None) high
+    ∙ (ap (λ z. if is_between lo hi z then Some (unsigned_abs (z -ℤ lo)) else None) at
+    ∙ (spot_by_bounds lo hi align x ∙ (ap (λ z. spot (Range lo hi z align) x) (sym one) ∙ ap (λ d. spot d x) (sym e)))))
+
+pub below_of_spot : (dim : Dim) (x : ℤ) (found : Option ℕ) → HasStep dim → found ≡ spot dim x → IfSome found (λ place. place < coordinate_count dim)
+below_of_spot dim x None h e = tt
+below_of_spot dim x (Some p) h e = spot_below dim x p h (sym e)
 
 record IsAbove (lo hi x : ℤ) (p : ℕ) : Type 0 where
   high : x ≤ℤ hi

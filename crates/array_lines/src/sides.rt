@@ -1,7 +1,9 @@
 //! Places along one dimension of an array's storage.
-ghost use Rattle.std.specs.Prelude.{◌≡◌, ◌+◌, ◌-◌, ◌*◌, ◌<◌, IfSome, ℕ, Some, pos, ◌+ℤ◌};
+ghost use Rattle.std.specs.Prelude.{◌≡◌, ◌+◌, ◌-◌, ◌*◌, ◌<◌, IfSome, ℕ, Some, None, pos, ◌+ℤ◌};
+ghost use Rattle.std.specs.Prelude.{◌-ℤ◌, if◌then◌else◌, unsigned_abs};
 ghost use Rattle.zpl_region.specs.Dim.{IsDim, IsUpTo, coordinates};
 ghost use Rattle.zpl_region.specs.Ends.{coordinate_count};
+ghost use Rattle.zpl_region.specs.Progression.{is_between};
 ghost use Rattle.array_lines.specs.Axis.{along};
 ghost use Rattle.array_lines.specs.Read.{IsSide, IsWay, gone, spot};
 
@@ -44,8 +46,19 @@ impl Way {
     }
 }
 
-/// The place of a coordinate along a dimension, if it has one.
-fn spot(dim: Dim, x: i64) -> Option<u64>
+/// How far a number is above a range's lower bound, if it lies in the bounds.
+fn above(lo: i64, hi: i64, x: i64) -> Option<u64>
+    ensures { result ≡ (if is_between lo hi x then Some (unsigned_abs (x -ℤ lo)) else None) }
+{
+    if lo <= x && x <= hi {
+        Some(x.abs_diff(lo))
+    } else {
+        None
+    }
+}
+
+/// The place of a coordinate along a dimension of any step, if it has one.
+fn stepped_spot(dim: Dim, x: i64) -> Option<u64>
     requires { IsDim dim }
     ensures spot { result ≡ spot dim x }
     ensures below { IfSome result (λ place. place < coordinate_count dim) }
@@ -63,6 +76,20 @@ fn spot(dim: Dim, x: i64) -> Option<u64>
     } else {
         None
     }
+}
+
+/// The place of a coordinate along a dimension, if it has one.
+fn spot(dim: Dim, x: i64) -> Option<u64>
+    requires { IsDim dim }
+    ensures spot { result ≡ spot dim x }
+    ensures below { IfSome result (λ place. place < coordinate_count dim) }
+{
+    if let Dim::Range { lo, hi, step, .. } = dim {
+        if step == 1 {
+            return above(lo, hi, x);
+        }
+    }
+    stepped_spot(dim, x)
 }
 
 /// One dimension of an array under a region.

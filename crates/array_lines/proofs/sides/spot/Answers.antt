@@ -1,25 +1,21 @@
-use Rattle.std.proofs.Common.{◌≡◌, ◌<◌, ◌^◌, ◌≤◌, Some, None, ℤ, pos, to_z, of_z, w64, length, refl, sym, ◌∙◌, ap, subst, arith, rules}
+use Rattle.std.proofs.Common.{◌≡◌, pos, to_z, of_z, w64, ◌∙◌, arith}
 use Rattle.std.proofs.lemmas.Int.{ints}
-use Rattle.region_places.proofs.PlaceLemmas.{few_coordinates, length-single}
 use Rattle.array_lines.specs.Read.{spot}
-use Rattle.array_lines.proofs.SpotLemmas.{below_of_member, spot_of_member, spot_of_none}
+use Rattle.array_lines.proofs.SpotLemmas.{below_of_spot, spot_of_bounds}
 use Rattle.array_lines.proofs.sides.spot.Goals as goal
+use Rattle.array_lines.proofs.sides.spot.Goals.{After-above}
 
-pub place-requires-clause-fits : goal.place-requires-clause-fits
-place-requires-clause-fits c = omega (arith, length-single c.args.dim c.requires, few_coordinates c.args.dim c.requires)
+spot_is : (c : After-above) → c.above.result ≡ spot c.args.dim c.args.x
+spot_is c =
+    let one : c.in-Range.step ≡ pos 1 = omega (arith, ints, c.if-step-eq1.true) in
+    let low : to_z w64 (of_z w64 c.in-Range.lo) ≡ c.in-Range.lo = omega (arith, ints) in
+    let high : to_z w64 (of_z w64 c.in-Range.hi) ≡ c.in-Range.hi = omega (arith, ints) in
+    let at : to_z w64 (of_z w64 c.args.x) ≡ c.args.x = omega (arith, ints) in
+    c.above.ensures
+    ∙ spot_of_bounds c.args.dim c.in-Range.lo c.in-Range.hi c.in-Range.step c.in-Range.align c.args.x _ _ _ c.in-Range.is one low high at
 
-pub returns-then-contains-clause-spot : goal.returns-then-contains-clause-spot
-returns-then-contains-clause-spot c =
-    let x_is : to_z w64 (of_z w64 c.args.x) ≡ c.args.x = omega (arith, ints) in
-    spot_of_member c.args.dim (to_z w64 (of_z w64 c.args.x)) c.place.result c.requires.0 (c.contains.ensures.0 c.if-contains.true) c.place.ensures.place
-    ∙ ap (spot c.args.dim) x_is
+pub returns-then-step-eq1-clause-spot : goal.returns-then-step-eq1-clause-spot
+returns-then-step-eq1-clause-spot c = spot_is c
 
-pub returns-then-contains-clause-below : goal.returns-then-contains-clause-below
-returns-then-contains-clause-below c =
-    below_of_member c.args.dim (to_z w64 (of_z w64 c.args.x)) c.place.result c.requires.0 (c.contains.ensures.0 c.if-contains.true) c.place.ensures.place
-
-pub returns-else-contains-clause-spot : goal.returns-else-contains-clause-spot
-returns-else-contains-clause-spot c =
-    let x_is : to_z w64 (of_z w64 c.args.x) ≡ c.args.x = omega (arith, ints) in
-    spot_of_none c.args.dim (to_z w64 (of_z w64 c.args.x)) c.contains.result c.requires.0 c.in_default.not-Flood c.contains.ensures c.if-contains.false
-    ∙ ap (spot c.args.dim) x_is
+pub returns-then-step-eq1-clause-below : goal.returns-then-step-eq1-clause-below
+returns-then-step-eq1-clause-below c = below_of_spot c.args.dim c.args.x _ c.requires.0 (spot_is c)
