@@ -1,6 +1,5 @@
 -- Lemmas on what an array has at a tuple, dimension by dimension.
-use Rattle.std.proofs.Common.{◌≡◌, ℕ, zero, suc, ◌+◌, ◌-◌, ◌*◌, ◌<◌, ◌≤◌, ◌↔◌, IsTrue, Bool, true, false, ◌&&◌, if◌then◌else◌, Option, Some, None, List, [], ◌∷◌, ◌++◌, All, length, map, flat_map, replicate, get_or, ℤ, pos, ◌+ℤ◌, refl, sym, ◌∙◌, ap, subst, arith, rules, slice_get}
-use Rattle.std.specs.List.{AllZip}
+use Rattle.std.proofs.Common.{◌≡◌, ℕ, ◌+◌, ◌*◌, ◌<◌, ◌≤◌, Bool, true, false, ◌&&◌, if◌then◌else◌, Option, Some, None, List, [], ◌∷◌, ◌++◌, All, length, map, flat_map, append-nil, replicate, get_or, ℤ, pos, ◌+ℤ◌, refl, sym, ◌∙◌, ap, subst, arith}
 use Rattle.std.specs.Option.{IfSome}
 use Rattle.std.proofs.Math.Nat.{mul-le-mul_left, mul-le-mul_right}
 use Rattle.std.proofs.lemmas.List.{map-append}
@@ -9,23 +8,22 @@ use Rattle.std.proofs.lemmas.Option.{slice_get_within}
 use Rattle.zpl_region.specs.declared.dims.Dim.{Dim}
 use Rattle.zpl_region.specs.declared.dims.Dim.TheVariants.{Range, Flood}
 use Rattle.zpl_region.specs.declared.regions.Region.{Region}
-use Rattle.zpl_region.specs.Dim.{HasStep, IsCoordinate, coordinates}
 use Rattle.zpl_region.specs.Ends.{coordinate_count, tuple_count}
+use Rattle.zpl_region.specs.Progression.{progression}
 use Rattle.zpl_region.specs.Region.{IsRegion, members, tuples}
 use Rattle.zpl_region.specs.Tests.{is_coordinate}
-use Rattle.zpl_region.proofs.EndLemmas.{length-tuple_count, positive_right}
+use Rattle.zpl_region.proofs.EndLemmas.{positive_right}
 use Rattle.zpl_region.proofs.HullLemmas.{has_steps}
 use Rattle.zpl_region.proofs.ListLemmas.{cons_same}
-use Rattle.zpl_arrays.specs.Array.{Array, each_has_place, flattened, has_place, place_along, place_among}
+use Rattle.zpl_arrays.specs.Array.{each_has_place, flattened, has_place, place_along, place_among}
 use Rattle.zpl_arrays.proofs.ArrayLemmas.{flattened_member, place_of_tuple}
-use Rattle.array_lines.specs.declared.sides.Way.{Way}
 use Rattle.array_lines.specs.declared.sides.Side.{Side}
 use Rattle.array_lines.specs.declared.reads.Sides.{Sides}
 use Rattle.array_lines.specs.declared.reads.Reading.{Reading}
 use Rattle.array_lines.specs.Axis.{along}
 use Rattle.array_lines.proofs.RunLemmas.{map_run}
 use Rattle.array_lines.proofs.SpotLemmas.{spot_below}
-use Rattle.array_lines.specs.Read.{IsSide, IsUnder, all_values, line_values, run_of, array_seen, each_gone, gone, line_of, plane_values, read_at, row_values, spot, spot_on, value_along, value_on, values_at}
+use Rattle.array_lines.specs.Read.{IsSide, IsSingle, IsUnder, all_values, line_values, run_of, array_seen, each_gone, gone, line_of, read_at, spot, spot_on, value_along, value_on}
 
 -- ---- lists of three
 
@@ -226,3 +224,44 @@ in_line side x p is e = omega (arith, spot_below side.dim (gone side.way x) p is
 
 pub begin_bound : (line : Option ℕ) (begin n : ℕ) → line ≡ Some begin → IfSome line (λ l. (l + 1) * n ≤ 4194304) → begin * n + n ≤ 4194304
 begin_bound line begin n e h = let bound : (begin + 1) * n ≤ 4194304 = subst (λ l. IfSome l (λ l. (l + 1) * n ≤ 4194304)) e h in omega (arith, bound)
+
+-- ---- other lines
+
+flat_each : {X : Type 0} (g : ℤ → X) (xs : List ℤ) → map g xs ≡ flat_map (λ x. g x ∷ []) xs
+flat_each g [] = refl
+flat_each g (x ∷ xs) = ap (λ l. g x ∷ l) (flat_each g xs)
+
+pub along_one : (side : Side) → IsSingle side → along side.along ≡ side.along.first ∷ []
+along_one side is = ap (progression side.along.first side.along.step) is.count
+
+-- the lists of one element each come first
+pub turned_lists : {X : Type 0} (g h : ℤ → ℤ → ℤ → X) (xs ys zs : List ℤ) (z : ℤ) → zs ≡ z ∷ [] → ((x y : ℤ) → h z x y ≡ g x y z)
+    → flat_map (λ z. flat_map (λ x. map (h z x) ys) xs) zs ≡ flat_map (λ x. flat_map (λ y. map (g x y) zs) ys) xs
+turned_lists g h xs ys zs z e same =
+    ap (flat_map (λ z. flat_map (λ x. map (h z x) ys) xs)) e
+    ∙ (append-nil (flat_map (λ x. map (h z x) ys) xs)
+    ∙ flat_same (λ x. map (h z x) ys) (λ x. flat_map (λ y. map (g x y) zs) ys) xs (λ x.
+    flat_each (h z x) ys
+    ∙ flat_same (λ y. h z x y ∷ []) (λ y. map (g x y) zs) ys (λ y.
+    cons_same (same x y) refl ∙ ap (map (g x y)) (sym e))))
+
+turned_value : (values : List ℤ) (default : ℤ) (k m : ℕ) (plane row : Option ℕ)
+    → value_on values default m (line_of k (Some 0) plane) row ≡ value_on values default 1 (line_of m plane row) (Some 0)
+turned_value values default k m (Some p) (Some r) = let place : (0 * k + p) * m + r ≡ (p * m + r) * 1 + 0 = omega arith in ap (λ n. get_or values n (pos 0)) place
+turned_value values default k m (Some p) None = refl
+turned_value values default k m None (Some r) = refl
+turned_value values default k m None None = refl
+
+abbrev pub values_by : List ℤ → ℤ → Side → Side → Side → List ℤ
+values_by values default p r c =
+    flat_map (λ x. flat_map (λ y. map (λ z. value_on values default c.size (line_of r.size (spot_on p x) (spot_on r y)) (spot_on c z)) (along c.along)) (along r.along)) (along p.along)
+
+pub turned_values : (values : List ℤ) (default : ℤ) (p r c : Side) → IsSingle c → values_by values default c p r ≡ values_by values default p r c
+turned_values values default p r c is =
+    turned_lists (λ x y z. value_on values default c.size (line_of r.size (spot_on p x) (spot_on r y)) (spot_on c z))
+    (λ z x y. value_on values default r.size (line_of p.size (spot_on c z) (spot_on p x)) (spot_on r y))
+    (along p.along) (along r.along) (along c.along) c.along.first (along_one c is) (λ x y.
+    ap (λ o. value_on values default r.size (line_of p.size o (spot_on p x)) (spot_on r y)) is.place
+    ∙ (turned_value values default p.size r.size (spot_on p x) (spot_on r y)
+    ∙ (ap (λ o. value_on values default 1 (line_of r.size (spot_on p x) (spot_on r y)) o) (sym is.place)
+    ∙ ap (λ n. value_on values default n (line_of r.size (spot_on p x) (spot_on r y)) (spot_on c c.along.first)) (sym is.size))))

@@ -1,14 +1,14 @@
 -- Lemmas on places along a dimension.
-use Rattle.std.proofs.Common.{◌≡◌, ℕ, suc, ◌+◌, ◌-◌, ◌*◌, ◌/◌, ◌<◌, ◌≤◌, ◌↔◌, IsTrue, Bool, true, false, ◌&&◌, if◌then◌else◌, Option, Some, None, List, [], ◌∷◌, All, ℤ, pos, negsuc, ◌≤ℤ◌, ◌-ℤ◌, ◌+ℤ◌, unsigned_abs, refl, sym, ◌∙◌, ap, subst, arith, rules}
+use Rattle.std.proofs.Common.{◌≡◌, ℕ, ◌+◌, ◌-◌, ◌*◌, ◌/◌, ◌<◌, ◌≤◌, ◌↔◌, IsTrue, Bool, true, false, ◌&&◌, if◌then◌else◌, Option, Some, None, [], ◌∷◌, ℤ, pos, ◌≤ℤ◌, ◌-ℤ◌, ◌+ℤ◌, unsigned_abs, refl, sym, ◌∙◌, ap, subst, arith}
 use Rattle.std.specs.List.{AllZip}
-use Rattle.std.specs.Option.{IfSome}
+use Rattle.std.specs.Option.{IfSome, is_some}
 use Rattle.std.proofs.Math.Nat.{mul-le-mul_right}
 use Rattle.std.proofs.lemmas.Int.{ints}
-use Rattle.std.proofs.lemmas.Bool.{and_from, and_parts}
+use Rattle.std.proofs.lemmas.Bool.{and_from}
 use Rattle.zpl_region.specs.declared.dims.Dim.{Dim}
 use Rattle.zpl_region.specs.declared.dims.Dim.TheVariants.{Range, Flood}
-use Rattle.zpl_region.specs.Dim.{HasStep, IsCoordinate, IsDim, is_multiple}
-use Rattle.zpl_region.specs.Ends.{coordinate_count, first_from, first_of}
+use Rattle.zpl_region.specs.Dim.{HasStep, IsCoordinate, is_multiple}
+use Rattle.zpl_region.specs.Ends.{coordinate_count, first_from}
 use Rattle.zpl_region.specs.Progression.{is_between}
 use Rattle.zpl_region.specs.Region.{IsMember, padding}
 use Rattle.zpl_region.specs.Tests.{is_coordinate}
@@ -18,9 +18,10 @@ use Rattle.zpl_region.proofs.ProgressionLemmas.{between-true}
 use Rattle.zpl_region.proofs.TestLemmas.{is_coordinate_iff}
 use Rattle.zpl_arrays.specs.Array.{place_along, place_among}
 use Rattle.region_places.proofs.PlaceLemmas.{place_below, single}
+use Rattle.array_lines.specs.declared.sides.Side.{Side}
 use Rattle.array_lines.specs.declared.sides.Way.{Way}
 use Rattle.array_lines.specs.declared.sides.Way.TheVariants.{Moved}
-use Rattle.array_lines.specs.Read.{gone, spot}
+use Rattle.array_lines.specs.Read.{IsSingle, gone, spot}
 
 -- ---- by the region of one dimension
 
@@ -160,3 +161,16 @@ stride_moved dim way lo hi step align by f x y s n p q e one g first here last t
     ∙ (ap (λ w. spot d (gone w (f +ℤ pos (k * s)))) g
     ∙ (ap (spot d) (regrouped f by (k * s))
     ∙ spots_by_one lo hi align (f +ℤ by) s k (n - 1) p q (omega arith) begin end))
+
+-- ---- a dimension with one place
+
+pub single_place : (side : Side) (found : Option ℕ) (test : Bool) → test ≡ is_some found → side.size ≡ 1 → side.along.count ≡ 1 → found ≡ spot side.dim (gone side.way (side.along.first +ℤ pos (0 * side.along.step)))
+    → IfSome found (λ place. place < side.size) → IsTrue test ↔ IsSingle side
+single_place side found test told size count e below =
+    let none : side.along.first +ℤ pos (0 * side.along.step) ≡ side.along.first = omega (arith, ints) in
+    let at : found ≡ spot side.dim (gone side.way side.along.first) = e ∙ ap (λ x. spot side.dim (gone side.way x)) none in
+    subst (λ b. IsTrue b ↔ IsSingle side) (sym told) (by found at below)
+  where
+    by : (found : Option ℕ) → found ≡ spot side.dim (gone side.way side.along.first) → IfSome found (λ place. place < side.size) → IsTrue (is_some found) ↔ IsSingle side
+    by None at b = (λ yes. absurd (let never : false ≡ true = yes in cc), λ is. absurd (let never : ◌≡◌ {A = Option ℕ} None (Some 0) = at ∙ is.place in cc))
+    by (Some p) at b = (λ yes. record { size = size; count = count; place = sym at ∙ ap Some (let below : p < side.size = b in omega (arith, below, size)) }, λ is. refl)

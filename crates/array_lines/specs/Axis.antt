@@ -1,5 +1,5 @@
 -- The coordinates of a dimension, as numbers with one step between them.
-use Rattle.std.specs.Prelude.{◌≡◌, ℕ, ◌-◌, ◌*◌, ◌^◌, ◌<◌, ℤ, pos, neg_ℤ, ◌+ℤ◌, ◌≤ℤ◌, List}
+use Rattle.std.specs.Prelude.{◌-◌, ◌*◌, ◌^◌, ◌<◌, ℤ, pos, neg_ℤ, ◌+ℤ◌, ◌≤ℤ◌, List}
 use Rattle.zpl_region.specs.Progression.{progression}
 use Rattle.array_lines.specs.declared.axes.Axis.{Axis}
 

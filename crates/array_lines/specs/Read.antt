@@ -84,6 +84,12 @@ pub record IsSide (side : Side) : Type 0 where
   pub axis : IsAxis side.along
   pub few : side.along.count ≤ 2 ^ 41 + 1
 
+-- the region has one coordinate here, which is read at the one place that there is
+pub record IsSingle (side : Side) : Type 0 where
+  pub size : side.size ≡ 1
+  pub count : side.along.count ≡ 1
+  pub place : spot side.dim (gone side.way side.along.first) ≡ Some 0
+
 pub record AreSides (sides : Sides) : Type 0 where
   pub planes : IsSide sides.planes
   pub rows : IsSide sides.rows

@@ -1,7 +1,7 @@
 //! Arrays, read and written line by line under regions.
 //!
-//! A region is walked by arithmetic, along the lines of its last dimension. No call takes memory for
-//! a tuple.
+//! A region is walked by arithmetic, along the lines of its last dimension, or of the one before it
+//! where the last has a single place. No call takes memory for a tuple.
 #![tactic(auto)]
 
 mod axes;

@@ -4,7 +4,7 @@ ghost use Rattle.std.specs.Prelude.{map, pos, replicate, slice_index_or};
 ghost use Rattle.zpl_region.specs.Ends.{tuple_count};
 ghost use Rattle.zpl_region.specs.Region.{IsRegion, members};
 ghost use Rattle.array_lines.specs.Axis.{along};
-ghost use Rattle.array_lines.specs.Read.{AreSides, IsUnder, IsWay, array_seen, line_of};
+ghost use Rattle.array_lines.specs.Read.{AreSides, IsUnder, IsWay, all_values, array_seen, line_of};
 ghost use Rattle.array_lines.specs.Read.{line_values, plane_values, read_at, run_of, value_on};
 
 use crate::sides::{Side, Way};
@@ -179,6 +179,45 @@ fn sides_of<'a>(storage: &Region, reading: &Reading<'a>, region: &Region) -> Sid
     }
 }
 
+/// The same values by other lines: where the last dimension has a single place, it comes first, and
+/// the lines go along the one before it.
+fn turned(sides: Sides<'_>) -> Sides<'_>
+    requires { AreSides sides }
+    ensures sides { AreSides result }
+    ensures values { all_values result (along result.planes.along)
+        ≡ all_values sides.entry (along sides.entry.planes.along) }
+    ensures places { (result.planes.size * result.rows.size) * result.columns.size
+        ≡ (sides.entry.planes.size * sides.entry.rows.size) * sides.entry.columns.size }
+{
+    if sides.columns.is_single() {
+        return Sides {
+            values: sides.values,
+            default: sides.default,
+            planes: sides.columns,
+            rows: sides.planes,
+            columns: sides.rows,
+        };
+    }
+    sides
+}
+
+/// A reading under a region, by lines as long as the rank allows: what stands for the dimensions past
+/// it comes first.
+fn lines_under<'a>(storage: &Region, reading: &Reading<'a>, region: &Region) -> Sides<'a>
+    requires storage { IsRegion storage.now }
+    requires ways { All IsWay reading.now.ways }
+    requires region { IsRegion region.now }
+    ensures sides { AreSides result }
+    ensures values { all_values result (along result.planes.along)
+        ≡ map (read_at (array_seen storage.now reading.now) reading.now.default reading.now.ways)
+        (members region.now) }
+    ensures places { tuple_count storage.now.dims
+        ≡ (result.planes.size * result.rows.size) * result.columns.size }
+{
+    let sides = sides_of(storage, reading, region);
+    turned(turned(sides))
+}
+
 /// Appends what an array has at each tuple of a region, in row-major order. Each coordinate of a
 /// tuple goes its way first.
 pub fn push_read(
@@ -199,7 +238,7 @@ pub fn push_read(
     if storage.is_empty() {
         return push_same(reading.default, region.count(), out);
     }
-    let sides = sides_of(storage, reading, region);
+    let sides = lines_under(storage, reading, region);
     let planes = sides.planes;
     for k in 0..planes.along.count {
         let plane = planes.spot(k);

@@ -1,11 +1,11 @@
 //! Places along one dimension of an array's storage.
 ghost use Rattle.std.specs.Prelude.{◌≡◌, ◌+◌, ◌-◌, ◌*◌, ◌<◌, IfSome, ℕ, Some, None, pos, ◌+ℤ◌};
-ghost use Rattle.std.specs.Prelude.{◌-ℤ◌, if◌then◌else◌, unsigned_abs};
+ghost use Rattle.std.specs.Prelude.{◌-ℤ◌, ◌↔◌, IsTrue, if◌then◌else◌, unsigned_abs};
 ghost use Rattle.zpl_region.specs.Dim.{IsDim, IsUpTo, coordinates};
 ghost use Rattle.zpl_region.specs.Ends.{coordinate_count};
 ghost use Rattle.zpl_region.specs.Progression.{is_between};
 ghost use Rattle.array_lines.specs.Axis.{along};
-ghost use Rattle.array_lines.specs.Read.{IsSide, IsWay, gone, spot};
+ghost use Rattle.array_lines.specs.Read.{IsSide, IsSingle, IsWay, gone, spot};
 
 use crate::axes::Axis;
 use region_places::{place, size};
@@ -134,6 +134,17 @@ impl Side {
         ensures below { IfSome result (λ place. place < self.size) }
     {
         spot(self.dim, self.way.gone(self.along.at(k)))
+    }
+
+    /// Whether the region has one coordinate here, which is read at the one place that there is.
+    pub fn is_single(self) -> bool
+        requires { IsSide self }
+        ensures { IsTrue result ↔ IsSingle self }
+    {
+        if self.size != 1 || self.along.count != 1 {
+            return false;
+        }
+        self.spot(0).is_some()
     }
 
     /// How the places of the coordinates follow each other: the first one, and how far it is from

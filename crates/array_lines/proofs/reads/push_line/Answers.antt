@@ -1,4 +1,4 @@
-use Rattle.std.proofs.Common.{◌≡◌, ◌<◌, ◌++◌, get_or, pos, refl, sym, ◌∙◌, ap, arith, rules}
+use Rattle.std.proofs.Common.{◌∙◌, ap, arith, rules}
 use Rattle.array_lines.specs.Read.{value_along, value_on}
 use Rattle.array_lines.proofs.RunLemmas.{map_all, map_begin, map_more}
 use Rattle.array_lines.proofs.reads.push_line.Goals as goal

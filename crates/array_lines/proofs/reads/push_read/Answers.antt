@@ -1,4 +1,4 @@
-use Rattle.std.proofs.Common.{◌≡◌, ◌<◌, ◌*◌, ◌≤◌, ◌++◌, length, replicate, pos, to_z, of_z, w64, refl, sym, ◌∙◌, ap, subst, arith, rules}
+use Rattle.std.proofs.Common.{◌≡◌, ◌<◌, ◌++◌, length, replicate, to_z, of_z, w64, ◌∙◌, ap, subst, arith, rules}
 use Rattle.std.specs.Result.{OnOk}
 use Rattle.zpl_region.specs.Ends.{tuple_count}
 use Rattle.zpl_region.specs.Region.{members}
@@ -7,10 +7,9 @@ use Rattle.zpl_region.proofs.HullCode.{some_told}
 use Rattle.zpl_region.proofs.HullLemmas.{has_steps}
 use Rattle.array_lines.specs.Axis.{along}
 use Rattle.array_lines.specs.Read.{plane_values, values_at}
-use Rattle.array_lines.proofs.ReadLemmas.{plane_bound, read_by_lines, read_nowhere, sizes_product, some_columns}
+use Rattle.array_lines.proofs.ReadLemmas.{plane_bound, read_nowhere, some_columns}
 use Rattle.array_lines.proofs.RunLemmas.{flat_all, flat_begin, flat_more}
 use Rattle.array_lines.proofs.reads.push_read.Goals as goal
-use Rattle.array_lines.proofs.reads.push_read.Goals.{After-sides_of-sides}
 
 pub count-requires-clause-fits : goal.count-requires-clause-fits
 count-requires-clause-fits c =
@@ -24,28 +23,23 @@ returns-then-is_empty c =
     ∙ read_nowhere c.args.storage.now c.args.reading.now c.args.region.now c.requires.storage (c.is_empty.ensures.0 c.if-is_empty.true)))
     c.push_same.ensures
 
-product_is : (c : After-sides_of-sides) → tuple_count c.args.storage.now.dims ≡ (c.sides_of-sides.result.planes.size * c.sides_of-sides.result.rows.size) * c.sides_of-sides.result.columns.size
-product_is c = sizes_product c.sides_of-sides.result c.args.storage.now c.args.reading.now c.args.region.now c.sides_of-sides.ensures
-
 pub loop-k-init : goal.loop-k-init
-loop-k-init c = flat_begin (values_at c.sides_of-sides.result) _ _ _ _
+loop-k-init c = flat_begin (values_at c.lines_under-sides.result) _ _ _ _
 
 pub push_plane-requires-clause-plane : goal.push_plane-requires-clause-plane
 push_plane-requires-clause-plane c =
-    let w = (goal.at.push_plane-requires-clause-plane c).After-sides_of-sides in
-    let s = c.sides_of-sides.result in
-    plane_bound c.spot-plane.result s.planes.size s.rows.size s.columns.size (omega (arith, product_is w, c.requires.few)) c.spot-plane.ensures.below
+    let s = c.lines_under-sides.result in
+    plane_bound c.spot-plane.result s.planes.size s.rows.size s.columns.size (omega (arith, c.lines_under-sides.ensures.places, c.requires.few)) c.spot-plane.ensures.below
 
 pub push_plane-requires-clause-some : goal.push_plane-requires-clause-some
 push_plane-requires-clause-some c =
-    let w = (goal.at.push_plane-requires-clause-some c).After-sides_of-sides in
-    let s = c.sides_of-sides.result in
+    let s = c.lines_under-sides.result in
     let some : 0 < tuple_count c.args.storage.now.dims = some_told c.is_empty.result c.args.storage.now c.requires.storage c.is_empty.ensures c.if-is_empty.false in
-    some_columns s.planes.size s.rows.size s.columns.size (omega (arith, some, product_is w))
+    some_columns s.planes.size s.rows.size s.columns.size (omega (arith, some, c.lines_under-sides.ensures.places))
 
 pub loop-k-preserved : goal.loop-k-preserved
 loop-k-preserved c =
-    let s = c.sides_of-sides.result in
+    let s = c.lines_under-sides.result in
     flat_more (values_at s) c.loop-k.out.items _ _ _ s.planes.along.first s.planes.along.step s.planes.along.count c.loop-k.k c.loop-k-test.true
     (c.in_ok-push_plane.ensures {u = tt})
     (ap (λ p. plane_values s p (along s.rows.along)) c.spot-plane.ensures.spot)
@@ -53,6 +47,6 @@ loop-k-preserved c =
 
 pub returns : goal.returns
 returns c =
-    let s = c.sides_of-sides.result in
+    let s = c.lines_under-sides.result in
     flat_all (values_at s) _ _ s.planes.along.first s.planes.along.step s.planes.along.count c.loop-k.k (omega arith) c.loop-k.invariant
-    ∙ ap (λ l. c.args.out.now.items ++ l) (read_by_lines s c.args.storage.now c.args.reading.now c.args.region.now c.sides_of-sides.ensures)
+    ∙ ap (λ l. c.args.out.now.items ++ l) c.lines_under-sides.ensures.values

@@ -1,5 +1,4 @@
-use Rattle.std.proofs.Common.{◌≡◌, ℕ, ◌<◌, ◌-◌, ◌+◌, ◌*◌, ◌≤◌, ◌++◌, take, drop, get_or, pos, to_z, of_z, w64, refl, sym, ◌∙◌, ap, arith, rules}
-use Rattle.std.proofs.Math.Nat.{mul-le-mul_right}
+use Rattle.std.proofs.Common.{◌≡◌, ◌-◌, ◌+◌, ◌++◌, take, drop, sym, ◌∙◌, ap, arith, rules}
 use Rattle.array_lines.specs.Read.{run_of}
 use Rattle.array_lines.proofs.RunLemmas.{run_all, run_begin, run_by_one, run_more}
 use Rattle.array_lines.proofs.reads.push_run.Goals as goal

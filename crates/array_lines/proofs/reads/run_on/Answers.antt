@@ -1,5 +1,4 @@
-use Rattle.std.proofs.Common.{◌≡◌, ℕ, ◌<◌, ◌+◌, ◌-◌, ◌*◌, ◌≤◌, Some, pos, ◌+ℤ◌, refl, sym, ◌∙◌, ap, arith, rules}
-use Rattle.array_lines.specs.Read.{spot_on}
+use Rattle.std.proofs.Common.{◌<◌, ◌+◌, ◌-◌, ◌*◌, ◌≤◌, arith}
 use Rattle.array_lines.proofs.ReadLemmas.{begin_bound, in_line, run_is}
 use Rattle.array_lines.proofs.reads.run_on.Goals as goal
 use Rattle.array_lines.proofs.reads.run_on.Goals.{In_ok-first}

@@ -1,4 +1,4 @@
-use Rattle.std.proofs.Common.{◌≡◌, pos, get_or, refl, sym, ◌∙◌, ap, arith, rules}
+use Rattle.std.proofs.Common.{refl, sym, ◌∙◌, arith, rules}
 use Rattle.zpl_region.specs.Dim.{IsDim, coordinates}
 use Rattle.zpl_region.proofs.ListLemmas.{cons_same}
 use Rattle.array_lines.proofs.ReadLemmas.{each_of_three, map_three, three_of}

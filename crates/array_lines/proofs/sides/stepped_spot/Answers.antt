@@ -1,4 +1,4 @@
-use Rattle.std.proofs.Common.{◌≡◌, ◌<◌, ◌^◌, ◌≤◌, Some, None, ℤ, pos, to_z, of_z, w64, length, refl, sym, ◌∙◌, ap, subst, arith, rules}
+use Rattle.std.proofs.Common.{◌≡◌, to_z, of_z, w64, ◌∙◌, ap, arith}
 use Rattle.std.proofs.lemmas.Int.{ints}
 use Rattle.region_places.proofs.PlaceLemmas.{few_coordinates, length-single}
 use Rattle.array_lines.specs.Read.{spot}

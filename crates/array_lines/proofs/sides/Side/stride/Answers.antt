@@ -1,4 +1,4 @@
-use Rattle.std.proofs.Common.{◌≡◌, ◌*◌, ◌+ℤ◌, ◌<◌, Some, ℤ, pos, to_z, of_z, w64, refl, sym, ◌∙◌, ap, arith, rules}
+use Rattle.std.proofs.Common.{◌≡◌, ◌*◌, ◌+ℤ◌, pos, refl, ap, arith}
 use Rattle.std.proofs.lemmas.Int.{ints}
 use Rattle.array_lines.specs.Read.{gone}
 use Rattle.array_lines.proofs.SpotLemmas.{stride_moved}
