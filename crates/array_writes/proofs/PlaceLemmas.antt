@@ -20,11 +20,12 @@ use Rattle.zpl_arrays.proofs.ArrayLemmas.{flattened_member, place_of_tuple}
 use Rattle.zpl_region.proofs.RegionLemmas.{length-tuples_one}
 use Rattle.zpl_region.proofs.TupleLemmas.{length-tuples}
 use Rattle.zpl_arrays.specs.Array.{each_has_place, flattened, has_place, place_along, place_among}
+use Rattle.array_lines.specs.declared.sides.Side.{Side}
 use Rattle.array_lines.specs.declared.sides.Way.{Way}
 use Rattle.array_lines.specs.declared.sides.Way.TheVariants.{Moved}
 use Rattle.array_lines.specs.Axis.{along}
-use Rattle.array_lines.specs.Read.{each_gone, gone, line_of, spot, spot_on}
-use Rattle.array_lines.proofs.ReadLemmas.{has_along, map_by_lines, map_three, place_is, three_of}
+use Rattle.array_lines.specs.Read.{IsSingle, each_gone, gone, line_of, spot, spot_on}
+use Rattle.array_lines.proofs.ReadLemmas.{along_one, has_along, map_by_lines, map_three, place_is, three_of, turned_lists}
 use Rattle.array_writes.specs.declared.puts.Change.{Change}
 use Rattle.array_writes.specs.declared.puts.Sides.{Sides}
 use Rattle.array_writes.specs.Write.{IsUnder, all_places, line_place, line_places, place_at, place_gone, places_at, put_each, put_one, row_places, run_places, solid, solid_region, still}
@@ -271,3 +272,25 @@ run_is sides line begin first apart e found =
     let place : begin * sides.columns.size + (first + k * apart) ≡ (begin * sides.columns.size + first) + k * apart = omega arith in
     ap (line_of sides.columns.size (Some begin)) (found k h) ∙ ap Some place)
     ∙ ap (λ l. line_places sides l (along sides.columns.along)) (sym e)
+
+-- ---- other lines
+
+turned_place : (k m : ℕ) (plane row : Option ℕ) → line_of m (line_of k (Some 0) plane) row ≡ line_of 1 (line_of m plane row) (Some 0)
+turned_place k m (Some p) (Some r) = let place : (0 * k + p) * m + r ≡ (p * m + r) * 1 + 0 = omega arith in ap Some place
+turned_place k m (Some p) None = refl
+turned_place k m None (Some r) = refl
+turned_place k m None None = refl
+
+abbrev places_by : Side → Side → Side → List (Option ℕ)
+places_by p r c =
+    flat_map (λ x. flat_map (λ y. map (λ z. line_of c.size (line_of r.size (spot_on p x) (spot_on r y)) (spot_on c z)) (along c.along)) (along r.along)) (along p.along)
+
+pub turned_places : (p r c : Side) → IsSingle c → places_by c p r ≡ places_by p r c
+turned_places p r c is =
+    turned_lists (λ x y z. line_of c.size (line_of r.size (spot_on p x) (spot_on r y)) (spot_on c z))
+    (λ z x y. line_of r.size (line_of p.size (spot_on c z) (spot_on p x)) (spot_on r y))
+    (along p.along) (along r.along) (along c.along) c.along.first (along_one c is) (λ x y.
+    ap (λ o. line_of r.size (line_of p.size o (spot_on p x)) (spot_on r y)) is.place
+    ∙ (turned_place p.size r.size (spot_on p x) (spot_on r y)
+    ∙ (ap (λ o. line_of 1 (line_of r.size (spot_on p x) (spot_on r y)) o) (sym is.place)
+    ∙ ap (λ n. line_of n (line_of r.size (spot_on p x) (spot_on r y)) (spot_on c c.along.first)) (sym is.size))))

@@ -1,5 +1,5 @@
 -- What values come to when those of a row are put at the places of a region's tuples.
-use Rattle.std.specs.Prelude.{◌≡◌, ℕ, zero, suc, ◌+◌, Bool, true, false, ◌&&◌, ℤ, pos}
+use Rattle.std.specs.Prelude.{◌≡◌, ℕ, zero, suc, ◌+◌, ◌*◌, Bool, true, false, ◌&&◌, ℤ, pos}
 use Rattle.std.specs.Prelude.{Option, Some, None, if◌then◌else◌, List, [], ◌∷◌, map, flat_map}
 use Rattle.std.specs.Prelude.{drop, slice_index_or, slice_set, take}
 use Rattle.zpl_nums.specs.Fold.{joined}
@@ -79,6 +79,11 @@ pub record AreSides (sides : Sides) : Type 0 where
   pub planes : IsSide sides.planes
   pub rows : IsSide sides.rows
   pub columns : IsSide sides.columns
+
+-- how many tuples the region has
+abbrev pub tuples_under : Sides → ℕ
+tuples_under sides =
+    sides.planes.along.count * (sides.rows.along.count * sides.columns.along.count)
 
 -- the dimensions of a storage and of a region
 pub record IsUnder (sides : Sides) (storage region : Region) (ways : List Way) : Type 0 where

@@ -5,8 +5,9 @@ ghost use Rattle.zpl_region.specs.Ends.{tuple_count};
 ghost use Rattle.zpl_region.specs.Region.{IsRegion, members};
 ghost use Rattle.array_lines.specs.Axis.{along};
 ghost use Rattle.array_lines.specs.Read.{IsWay};
-ghost use Rattle.array_writes.specs.Write.{AreSides, IsPart, IsUnder, line_places, place_gone};
-ghost use Rattle.array_writes.specs.Write.{placed, plane_places, put_each, put_one, run_places};
+ghost use Rattle.array_writes.specs.Write.{AreSides, IsPart, IsUnder, all_places, line_places};
+ghost use Rattle.array_writes.specs.Write.{place_gone, placed, plane_places, put_each, put_one};
+ghost use Rattle.array_writes.specs.Write.{run_places, tuples_under};
 
 use array_lines::{Side, Way, line_of};
 use zpl_nums::{Fold, join};
@@ -189,6 +190,47 @@ fn sides_of(storage: &Region, aim: &Aim, region: &Region) -> Sides
     }
 }
 
+/// The same places by other lines: where the last dimension has a single place, it comes first, and
+/// the lines go along the one before it.
+fn turned(sides: Sides) -> Sides
+    requires { AreSides sides }
+    ensures sides { AreSides result }
+    ensures how { result.how ≡ sides.how }
+    ensures places { all_places result (along result.planes.along)
+        ≡ all_places sides (along sides.planes.along) }
+    ensures size { (result.planes.size * result.rows.size) * result.columns.size
+        ≡ (sides.planes.size * sides.rows.size) * sides.columns.size }
+    ensures count { tuples_under result ≡ tuples_under sides }
+{
+    if sides.columns.is_single() {
+        return Sides {
+            how: sides.how,
+            planes: sides.columns,
+            rows: sides.planes,
+            columns: sides.rows,
+        };
+    }
+    sides
+}
+
+/// A storage under a region, by lines as long as the rank allows: what stands for the dimensions past
+/// it comes first.
+fn lines_under(storage: &Region, aim: &Aim, region: &Region) -> Sides
+    requires storage { IsRegion storage.now }
+    requires ways { All IsWay aim.now.ways }
+    requires region { IsRegion region.now }
+    ensures sides { AreSides result }
+    ensures how { result.how ≡ aim.now.how }
+    ensures places { all_places result (along result.planes.along)
+        ≡ map (place_gone storage.now aim.now.ways) (members region.now) }
+    ensures size { tuple_count storage.now.dims
+        ≡ (result.planes.size * result.rows.size) * result.columns.size }
+    ensures count { length (members region.now) ≡ tuples_under result }
+{
+    let sides = sides_of(storage, aim, region);
+    turned(turned(sides))
+}
+
 /// Puts the values of a row, one for each tuple of a region, into the values of a storage, each at
 /// the place to which its tuple leads. Where a tuple is masked out, or leads to no place, nothing
 /// changes.
@@ -207,7 +249,7 @@ pub fn put_row(storage: &Region, stored: &mut [i64], aim: &Aim, region: &Region,
     if storage.is_empty() {
         return;
     }
-    let sides = sides_of(storage, aim, region);
+    let sides = lines_under(storage, aim, region);
     let planes = sides.planes;
     for k in 0..planes.along.count {
         let plane = planes.spot(k);
