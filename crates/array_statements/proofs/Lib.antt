@@ -1,0 +1,13 @@
+pub mod RunLemmas
+pub mod FitLemmas
+pub mod VisitLemmas
+pub mod ChoiceLemmas
+pub mod LoopLemmas
+pub mod CallLemmas
+pub mod DepthLemmas
+pub mod RankLemmas
+pub mod StatementLemmas
+pub mod CycleLemmas
+pub mod StepLemmas
+pub mod SizeLemmas
+pub mod FormLemmas

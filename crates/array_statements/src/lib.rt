@@ -1,0 +1,17 @@
+//! The statements of an array program, run one after the other. What is printed goes to a sink at
+//! once.
+#![tactic(auto)]
+
+mod arms;
+mod choices;
+mod counting;
+mod endings;
+mod faults;
+mod ranks;
+mod runs;
+mod simple;
+mod statements;
+
+pub use faults::MeanFault;
+pub use runs::Run;
+pub use statements::{call, exec};
