@@ -2,3 +2,4 @@ pub mod OwnLemmas
 pub mod PartnerLemmas
 pub mod PieceLemmas
 pub mod StageLemmas
+pub mod WalkLemmas

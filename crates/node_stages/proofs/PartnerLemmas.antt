@@ -14,7 +14,7 @@ range-more from (suc many) =
     let same : from + 1 + many ≡ from + suc many = omega arith in
     ap (λ list. from ∷ list) (range-more (from + 1) many ∙ ap (λ n. range_with_len (from + 1) many ++ n ∷ []) same)
 
-filter-last : (test : ℕ → Bool) (xs : List ℕ) (y : ℕ) → length (filter test (xs ++ y ∷ [])) ≡ length (filter test xs) + cond (test y) 1 0
+pub filter-last : (test : ℕ → Bool) (xs : List ℕ) (y : ℕ) → length (filter test (xs ++ y ∷ [])) ≡ length (filter test xs) + cond (test y) 1 0
 filter-last test [] y = by (test y)
   where
     by : (b : Bool) → length (cond b (y ∷ []) []) ≡ 0 + cond b 1 0
@@ -36,7 +36,7 @@ flagged-more flags q =
     ∙ (filter-last (λ k. get_or flags k false) (range_with_len 0 q) (0 + q)
     ∙ ap (λ k. length (flagged flags q) + cond (get_or flags k false) 1 0) same))
 
-found_at : (test : ℕ → Bool) (from many i : ℕ) → i < many → test (from + i) ≡ true
+pub found_at : (test : ℕ → Bool) (from many i : ℕ) → i < many → test (from + i) ≡ true
     → slice_get (filter test (range_with_len from many)) (length (filter test (range_with_len from i))) ≡ Some (from + i)
 found_at test from zero i few is = absurd (omega arith)
 found_at test from (suc many) zero few is =

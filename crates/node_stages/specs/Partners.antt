@@ -12,8 +12,5 @@ flagged flags count = filter (λ q. slice_index_or flags q false) (range_with_le
 abbrev pub taking : List ℕ → List Stage
 taking from = map TakesFrom from ++ Last ∷ []
 
-abbrev pub sending : List ℕ → List Stage
-sending to = map Sends to ++ Last ∷ []
-
 abbrev pub exchanging : List ℕ → List ℕ → List Stage
 exchanging to from = map Sends to ++ taking from

@@ -1,5 +1,5 @@
 //! The stages of exchanges.
-ghost use Rattle.std.specs.Prelude.{◌≡◌, ◌<◌, length, nat_lt, slice_get, All, Some};
+ghost use Rattle.std.specs.Prelude.{◌≡◌, ◌<◌, ℕ, length, nat_lt, slice_get, All, Some};
 ghost use Rattle.std.specs.List.{AllZip};
 ghost use Rattle.zpl_region.specs.Region.{IsRegion, members};
 ghost use Rattle.node_form.specs.Fits.{FitsItem};
@@ -8,15 +8,17 @@ ghost use Rattle.grid_meaning.specs.Exchange.{finished, places_of, started, word
 ghost use Rattle.grid_meaning.specs.Local.{processors};
 ghost use Rattle.grid_meaning.specs.State.{IsSlot};
 ghost use Rattle.grid_meaning.specs.Stored.{arrangement_of};
-ghost use Rattle.node_stages.specs.Partners.{flagged};
+ghost use Rattle.node_stages.specs.Place.{IsNth};
+ghost use Rattle.reach_plan.specs.Reach.{IsReach, LiesInReach};
 ghost use Rattle.node_stages.specs.Slots.{at_slots};
 ghost use Rattle.node_stages.specs.Stage.{staged};
 
 use crate::boxes::box_number;
-use crate::partners::{MOST, sending_stage, taking_stage};
+use crate::partners::Place;
 use crate::stages::Stage;
 use grid_layout::Layout;
 use node_form::{Item, NodeProgram};
+use reach_plan::{Reach, needers_of, owners_for};
 use zpl_region::Region;
 
 /// The places of an item that one processor owns and another needs, where these regions are in the
@@ -67,46 +69,164 @@ fn has_words(
     false
 }
 
-/// Sets the flags of the others for whom a processor has words.
-fn mark_receivers(
+/// Blocks that have all processors that need places of an item that p owns.
+fn item_receivers(
     code: &NodeProgram,
     layout: &Layout,
     slots: &[Region],
-    items: &[Item],
+    item: &Item,
     p: u32,
-    flags: &mut [bool; MOST],
-)
+) -> Reach
     requires layout { layout.now ≡ arrangement_of code.now }
     requires slots { AllZip IsSlot code.now.slots slots.now }
-    requires items { All (FitsItem code.now) items.now }
+    requires item { FitsItem code.now item.now }
     requires processor { p < processors code.now }
-    ensures { flagged flags.new (processors code.now)
-        ≡ others_where code.now p (word_count code.now (at_slots slots.now) items.now p) }
+    ensures sound { IsReach result }
+    ensures all { (q : ℕ) → q < processors code.now
+        → 0 < length (places_of code.now (at_slots slots.now) p q item.now)
+        → LiesInReach result q }
 {
-    for q in 0..layout.grid().count() {
-        flags[q as usize] = q != p && has_words(code, layout, slots, items, p, q);
-    }
+    let number = box_number(code, item.array);
+    let region = slots[item.slot as usize];
+    needers_of(layout, number, p, &region, &item.shift)
 }
 
-/// Sets the flags of the others who have words for a processor.
-fn mark_senders(
+/// Blocks that have all processors that own places of an item that p needs.
+fn item_senders(
+    code: &NodeProgram,
+    layout: &Layout,
+    slots: &[Region],
+    item: &Item,
+    p: u32,
+) -> Reach
+    requires layout { layout.now ≡ arrangement_of code.now }
+    requires slots { AllZip IsSlot code.now.slots slots.now }
+    requires item { FitsItem code.now item.now }
+    requires processor { p < processors code.now }
+    ensures sound { IsReach result }
+    ensures all { (q : ℕ) → q < processors code.now
+        → 0 < length (places_of code.now (at_slots slots.now) q p item.now)
+        → LiesInReach result q }
+{
+    let number = box_number(code, item.array);
+    let region = slots[item.slot as usize];
+    owners_for(layout, number, p, &region, &item.shift)
+}
+
+/// Blocks that have all processors for whom p has words.
+fn receivers(
     code: &NodeProgram,
     layout: &Layout,
     slots: &[Region],
     items: &[Item],
     p: u32,
-    flags: &mut [bool; MOST],
-)
+) -> Reach
     requires layout { layout.now ≡ arrangement_of code.now }
     requires slots { AllZip IsSlot code.now.slots slots.now }
     requires items { All (FitsItem code.now) items.now }
     requires processor { p < processors code.now }
-    ensures { flagged flags.new (processors code.now) ≡ others_where code.now p
-        (λ q. word_count code.now (at_slots slots.now) items.now q p) }
+    ensures sound { IsReach result }
+    ensures all { (q : ℕ) → q < processors code.now
+        → 0 < word_count code.now (at_slots slots.now) items.now p q → LiesInReach result q }
 {
-    for q in 0..layout.grid().count() {
-        flags[q as usize] = q != p && has_words(code, layout, slots, items, q, p);
+    let _count = layout.grid().count();
+    let mut reach = Reach::nowhere();
+    for item in items {
+        let more = item_receivers(code, layout, slots, item, p);
+        reach = reach.with(&more);
     }
+    reach
+}
+
+/// Blocks that have all processors who have words for p.
+fn senders(
+    code: &NodeProgram,
+    layout: &Layout,
+    slots: &[Region],
+    items: &[Item],
+    p: u32,
+) -> Reach
+    requires layout { layout.now ≡ arrangement_of code.now }
+    requires slots { AllZip IsSlot code.now.slots slots.now }
+    requires items { All (FitsItem code.now) items.now }
+    requires processor { p < processors code.now }
+    ensures sound { IsReach result }
+    ensures all { (q : ℕ) → q < processors code.now
+        → 0 < word_count code.now (at_slots slots.now) items.now q p → LiesInReach result q }
+{
+    let _count = layout.grid().count();
+    let mut reach = Reach::nowhere();
+    for item in items {
+        let more = item_senders(code, layout, slots, item, p);
+        reach = reach.with(&more);
+    }
+    reach
+}
+
+/// The processor at a place among the others for whom p has words. Only those are looked at whose
+/// blocks can need p's.
+fn nth_receiver(
+    code: &NodeProgram,
+    layout: &Layout,
+    slots: &[Region],
+    items: &[Item],
+    p: u32,
+    place: u64,
+) -> Place
+    requires layout { layout.now ≡ arrangement_of code.now }
+    requires slots { AllZip IsSlot code.now.slots slots.now }
+    requires items { All (FitsItem code.now) items.now }
+    requires processor { p < processors code.now }
+    ensures { IsNth (others_where code.now p (word_count code.now (at_slots slots.now) items.now p))
+        place result }
+{
+    let count = layout.grid().count();
+    let reach = receivers(code, layout, slots, items, p);
+    let mut left = place;
+    let mut q = reach.first_from(0);
+    while q < count {
+        if q != p && has_words(code, layout, slots, items, p, q) {
+            if left == 0 {
+                return Place::There(q);
+            }
+            left -= 1;
+        }
+        q = reach.first_from(q + 1);
+    }
+    Place::Behind(left)
+}
+
+/// The processor at a place among the others who have words for p. Only those are looked at whose
+/// blocks can have them.
+fn nth_sender(
+    code: &NodeProgram,
+    layout: &Layout,
+    slots: &[Region],
+    items: &[Item],
+    p: u32,
+    place: u64,
+) -> Place
+    requires layout { layout.now ≡ arrangement_of code.now }
+    requires slots { AllZip IsSlot code.now.slots slots.now }
+    requires items { All (FitsItem code.now) items.now }
+    requires processor { p < processors code.now }
+    ensures { IsNth (others_where code.now p
+        (λ q. word_count code.now (at_slots slots.now) items.now q p)) place result }
+{
+    let count = layout.grid().count();
+    let reach = senders(code, layout, slots, items, p);
+    let mut left = place;
+    let mut q = reach.first_from(0);
+    while q < count {
+        if q != p && has_words(code, layout, slots, items, q, p) {
+            if left == 0 {
+                return Place::There(q);
+            }
+            left -= 1;
+        }
+        q = reach.first_from(q + 1);
+    }
+    Place::Behind(left)
 }
 
 /// What processor p does in `start`, with these items, when it has made so many turns there.
@@ -127,9 +247,10 @@ pub fn start_stage(
     ensures { slice_get ((started code.now p 0 items.now).stages (at_slots slots.now)) made
         ≡ Some (staged result) }
 {
-    let mut sends = [false; MOST];
-    mark_receivers(code, layout, slots, items, p, &mut sends);
-    sending_stage(&sends, layout.grid().count(), made)
+    match nth_receiver(code, layout, slots, items, p, made) {
+        Place::There(q) => Stage::Sends(q),
+        Place::Behind(_) => Stage::Last,
+    }
 }
 
 /// What processor p does in `finish`, with these items, when it has made so many turns there.
@@ -150,7 +271,8 @@ pub fn finish_stage(
     ensures { slice_get ((finished code.now p 0 items.now).stages (at_slots slots.now)) made
         ≡ Some (staged result) }
 {
-    let mut takes = [false; MOST];
-    mark_senders(code, layout, slots, items, p, &mut takes);
-    taking_stage(&takes, layout.grid().count(), made)
+    match nth_sender(code, layout, slots, items, p, made) {
+        Place::There(q) => Stage::TakesFrom(q),
+        Place::Behind(_) => Stage::Last,
+    }
 }

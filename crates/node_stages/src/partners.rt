@@ -1,7 +1,7 @@
 //! Partners that are told by flags, one for each processor.
 ghost use Rattle.std.specs.Prelude.{◌≡◌, ◌+◌, ◌<◌, ◌≤◌, length, slice_get, Some};
 ghost use Rattle.node_stages.specs.Place.{IsNth};
-ghost use Rattle.node_stages.specs.Partners.{exchanging, flagged, sending, taking};
+ghost use Rattle.node_stages.specs.Partners.{exchanging, flagged, taking};
 ghost use Rattle.node_stages.specs.Stage.{staged};
 
 use crate::stages::Stage;
@@ -43,18 +43,6 @@ pub(crate) fn taking_stage(takes: &[bool; MOST], count: u32, place: u64) -> Stag
 {
     match nth(takes, count, place) {
         Place::There(q) => Stage::TakesFrom(q),
-        Place::Behind(_) => Stage::Last,
-    }
-}
-
-/// The stage at a place of a row that sends a message to each of those whose flags are set.
-pub(crate) fn sending_stage(sends: &[bool; MOST], count: u32, place: u64) -> Stage
-    requires few { count ≤ 64 }
-    requires there { place < length (sending (flagged sends.now count)) }
-    ensures { slice_get (sending (flagged sends.now count)) place ≡ Some (staged result) }
-{
-    match nth(sends, count, place) {
-        Place::There(q) => Stage::Sends(q),
         Place::Behind(_) => Stage::Last,
     }
 }

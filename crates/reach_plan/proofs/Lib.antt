@@ -1,0 +1,4 @@
+pub mod NumberLemmas
+pub mod ReachLemmas
+pub mod SpanLemmas
+pub mod PieceLemmas
