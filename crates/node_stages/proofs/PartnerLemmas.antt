@@ -8,7 +8,7 @@ use Rattle.std.proofs.lemmas.Bool.Decides.{nat_tests}
 use Rattle.node_stages.specs.Partners.{flagged}
 
 -- ---- one processor more
-range-more : (from many : ℕ) → range_with_len from (suc many) ≡ range_with_len from many ++ (from + many) ∷ []
+pub range-more : (from many : ℕ) → range_with_len from (suc many) ≡ range_with_len from many ++ (from + many) ∷ []
 range-more from zero = let same : from ≡ from + 0 = omega arith in ap (λ n. n ∷ []) same
 range-more from (suc many) =
     let same : from + 1 + many ≡ from + suc many = omega arith in

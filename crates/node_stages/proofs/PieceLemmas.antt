@@ -1,6 +1,9 @@
 -- Items of an exchange: their slots, their arrays, and their pieces.
-use Rattle.std.proofs.Common.{◌≡◌, ℕ, zero, suc, ◌+◌, ◌-◌, ◌<◌, ◌≤◌, ◌^◌, Bool, true, false, cond, get_or, List, [], ◌∷◌, ◌++◌, length, map, take, refl, sym, ap, ◌∙◌, subst, ℤ, pos, neg_ℤ, ◌+ℤ◌, ◌≤ℤ◌, arith}
-use Rattle.std.specs.Prelude.{Option, Some, None, All, filter, slice_get}
+use Rattle.std.proofs.Common.{◌≡◌, ℕ, zero, suc, ◌+◌, ◌-◌, ◌<◌, ◌≤◌, ◌^◌, Bool, true, false, cond, get_or, List, [], ◌∷◌, ◌++◌, length, map, take, drop, drop-cons, ◌⊎◌, inl, inr, refl, sym, ap, ◌∙◌, subst, ℤ, pos, neg_ℤ, ◌+ℤ◌, ◌≤ℤ◌, arith}
+use Rattle.std.specs.Prelude.{Option, Some, None, All, filter, slice_get, sum_by}
+use Rattle.std.proofs.lemmas.Bool.{cases_lt}
+use Rattle.std.proofs.lemmas.List.{drop_all}
+use Rattle.std.proofs.lemmas.List.Sums.{sum_by-cons}
 use Rattle.std.specs.List.{AllZip}
 use Rattle.std.specs.Option.{IsSomeAnd}
 use Rattle.std.proofs.lemmas.Int.{ints}
@@ -11,19 +14,22 @@ use Rattle.zpl_region.specs.declared.dims.Dim.{Dim}
 use Rattle.zpl_region.specs.declared.dims.Dim.TheVariants.{Range, Flood}
 use Rattle.zpl_region.specs.declared.regions.Region.{Region}
 use Rattle.zpl_region.specs.Dim.{HasAlign, IsDimWithinLimit, IsUpTo, dim_moved}
-use Rattle.zpl_region.specs.Region.{IsRegion, components, each, moved}
+use Rattle.zpl_region.specs.Region.{IsRegion, components, each, members, moved}
 use Rattle.zpl_region.proofs.RegionLemmas.{within_is_dim}
 use Rattle.grid_layout.specs.Grid as layout
 use Rattle.grid_layout.specs.declared.boxes.ArrayBox.{ArrayBox}
 use Rattle.grid_layout.specs.Layout.{Arrangement, box_at, no_box}
+use Rattle.grid_layout.specs.Piece.{piece_of}
 use Rattle.node_form.specs.declared.arrays.ArrayRow.{ArrayRow}
 use Rattle.node_form.specs.declared.arrays.Item.{Item}
 use Rattle.node_form.specs.declared.tables.Tables.{Tables}
 use Rattle.node_form.specs.Fits.{FitsItem}
+use Rattle.grid_meaning.specs.Exchange.{places_in, places_of}
 use Rattle.grid_meaning.specs.Local.{processors}
 use Rattle.grid_meaning.proofs.WorldLemmas.{processors_alike}
 use Rattle.grid_meaning.specs.State.{IsSlot}
 use Rattle.grid_meaning.specs.Stored.{arrangement_of, box_number, box_of, stored}
+use Rattle.node_stages.specs.Slots.{at_slots}
 
 -- ---- slots
 pub slot_there : (ranks : List ℕ) (slots : List Region) (slot rank : ℕ) → AllZip IsSlot ranks slots → slice_get ranks slot ≡ Some rank
@@ -142,3 +148,32 @@ aligned_slot rank region shift slot near =
 -- ---- how many processors a layout's grid has
 pub grid_count : (code : Tables) (a : Arrangement) → a ≡ arrangement_of code → layout.processors_of a.grid ≡ processors code
 grid_count code a is = ap (λ (b : Arrangement). layout.processors_of b.grid) is ∙ sym (processors_alike code.grid)
+
+-- ---- the places of an item, by the region in its slot
+pub places_are : (code : Tables) (a : Arrangement) (slots : List Region) (from to : ℕ) (item : Item) (number : ℕ) (found region : Region)
+    → a ≡ arrangement_of code → number ≡ box_number code item.array → slice_get slots item.slot ≡ Some region → found ≡ region
+    → members (piece_of a number from to found item.shift) ≡ places_of code (at_slots slots) from to item
+places_are code a slots from to item number found region alike numbered there same =
+    ap (λ r. members (piece_of a number from to r item.shift)) same
+    ∙ (ap (λ b. members (piece_of b number from to region item.shift)) alike
+    ∙ (ap (λ n. members (piece_of (arrangement_of code) n from to region item.shift)) numbered
+    ∙ sym (ap (places_in code from to item) there)))
+
+pub some_places : {A : Type 0} (xs ys : List A) → xs ≡ ys → 0 < length ys → 0 < length xs
+some_places xs ys same some = subst (λ list. 0 < length list) (sym same) some
+
+-- ---- items whose words were counted, and those that are left
+pub first_or_rest : {A : Type 0} (f : A → ℕ) (items : List A) (i : ℕ) (d : A) → i < length items → 0 < sum_by f (drop i items)
+    → (0 < f (get_or items i d)) ⊎ (0 < sum_by f (drop (i + 1) items))
+first_or_rest f items i d below some =
+    let next : suc i ≡ i + 1 = omega arith in
+    by (subst (λ n. 0 < n) (sum_by-cons f (get_or items i d) (drop (i + 1) items)) (subst (λ list. 0 < sum_by f list) (drop-cons items i d below ∙ ap (λ n. get_or items i d ∷ drop n items) next) some))
+  where
+    by : 0 < f (get_or items i d) + sum_by f (drop (i + 1) items) → (0 < f (get_or items i d)) ⊎ (0 < sum_by f (drop (i + 1) items))
+    by more = elim (cases_lt 0 (f (get_or items i d))) [
+      | inl here ↦ inl here
+      | inr none ↦ inr (omega (arith, more, none))
+    ]
+
+pub none_left : {A : Type 0} (f : A → ℕ) (items : List A) (i : ℕ) → length items ≤ i → 0 < sum_by f (drop i items) → 1 ≤ 0
+none_left f items i past some = let none : sum_by f (drop i items) ≡ 0 = ap (sum_by f) (drop_all i items past) in omega (arith, none, some)
