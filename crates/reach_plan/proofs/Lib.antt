@@ -1,4 +1,5 @@
 pub mod NumberLemmas
 pub mod ReachLemmas
 pub mod SpanLemmas
+pub mod EdgeLemmas
 pub mod PieceLemmas

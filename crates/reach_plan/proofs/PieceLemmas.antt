@@ -33,10 +33,10 @@ some_first [] rest some = absurd (omega (arith, some))
 some_first (x ∷ xs) [] some = let more = some_first xs [] some in (omega arith, more.1)
 some_first (x ∷ xs) (t ∷ rest) some = (omega arith, omega arith)
 
-abbrev HaveSome : Dim → Dim → Dim → Type 0
+abbrev pub HaveSome : Dim → Dim → Dim → Type 0
 HaveSome x y z = (0 < length (coordinates x)) × (0 < length (coordinates y)) × (0 < length (coordinates z))
 
-some_each : (x y z : Dim) → 0 < length (tuples (map coordinates (x ∷ y ∷ z ∷ []))) → HaveSome x y z
+pub some_each : (x y z : Dim) → 0 < length (tuples (map coordinates (x ∷ y ∷ z ∷ []))) → HaveSome x y z
 some_each x y z some =
     let one = some_first (coordinates x) (tuples (map coordinates (y ∷ z ∷ []))) some in
     let two = some_first (coordinates y) (tuples (map coordinates (z ∷ []))) one.1 in
@@ -108,7 +108,7 @@ seven P all axes ns cs ks helds vs dims la ln lc lk lh lv ld =
     by_three (λ dims. P (x ∷ y ∷ z ∷ []) (l ∷ m ∷ n ∷ []) (a ∷ b ∷ c ∷ []) (p ∷ q ∷ r ∷ []) (h ∷ i ∷ j ∷ []) (u ∷ v ∷ w ∷ []) dims) dims ld (λ d e f.
     all x y z l m n a b c p q r h i j u v w d e f)))))))
 
-below_cuts : (grid : List ℕ) (rank p : ℕ) → 1 ≤ rank → rank ≤ 3 → p < processors_of grid → AreBelow (blocks_at (cuts grid rank) p) (cuts grid rank)
+pub below_cuts : (grid : List ℕ) (rank p : ℕ) → 1 ≤ rank → rank ≤ 3 → p < processors_of grid → AreBelow (blocks_at (cuts grid rank) p) (cuts grid rank)
 below_cuts grid rank p above below inside =
     let c : AreCuts grid rank = are_cuts grid rank above below in
     let count = c.count in

@@ -97,7 +97,7 @@ under_place (Range lo hi step align) d a b (Range from to stride base) range und
     let high = inside.1 in (omega (arith, ints, low), omega (arith, ints, high)))
 
 -- ---- a block has part of a dimension between bounds
-none_there : 0 < length (coordinates nothing) → 1 ≤ 0
+pub none_there : 0 < length (coordinates nothing) → 1 ≤ 0
 none_there some = let none : length (coordinates nothing) ≡ 0 = refl in omega (arith, some, none)
 
 pub owned_meets : (axis : Axis) (n c k : ℕ) (a b : ℤ) (dim : Dim) → Under a b dim → 0 < length (coordinates (owned_dim axis n c k dim))

@@ -1,2 +1,3 @@
+pub mod Edge
 pub mod Reach
 pub mod Span

@@ -3,8 +3,10 @@
 #![tactic(auto)]
 
 mod cuts;
+mod edges;
 mod reaches;
 mod spans;
 
+pub use edges::{sources_for, targets_of};
 pub use reaches::{Reach, Span};
 pub use spans::{needers_of, owners_for};

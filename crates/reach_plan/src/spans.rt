@@ -14,7 +14,7 @@ use grid_layout::{Axis, Blocks, Layout, components};
 use zpl_region::{Dim, Region, Vec3};
 
 /// What is shared out in each dimension of a rank.
-fn axes_at(blocks: &Blocks, rank: u8) -> [Axis; 3]
+pub(crate) fn axes_at(blocks: &Blocks, rank: u8) -> [Axis; 3]
     requires blocks { AreBlocks blocks.now }
     requires above { 1 ≤ rank }
     requires below { rank ≤ 3 }
