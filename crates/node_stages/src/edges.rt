@@ -1,21 +1,24 @@
 //! The stages of `wrap` and `reflect`.
-ghost use Rattle.std.specs.Prelude.{◌≡◌, ◌<◌, [], ◌∷◌, length, nat_lt, slice_get, All, Some};
+ghost use Rattle.std.specs.Prelude.{◌≡◌, ◌<◌, ℕ, [], ◌∷◌, length, nat_lt, slice_get, All, Some};
 ghost use Rattle.grid_meaning.specs.Collective.{others_where};
 ghost use Rattle.grid_meaning.specs.Delivery.{border_targets, edged};
 ghost use Rattle.grid_meaning.specs.Local.{processors};
 ghost use Rattle.grid_meaning.specs.State.{IsSlot};
 ghost use Rattle.grid_meaning.specs.Stored.{arrangement_of};
-ghost use Rattle.node_stages.specs.Partners.{flagged};
+ghost use Rattle.node_stages.specs.Partners.{exchanging, taking};
+ghost use Rattle.node_stages.specs.Place.{IsNth};
+ghost use Rattle.reach_plan.specs.Reach.{IsReach, LiesInReach};
 ghost use Rattle.node_stages.specs.Slots.{at_slots};
 ghost use Rattle.node_stages.specs.Stage.{staged};
 ghost use Rattle.zpl_region.specs.Dim.{IsUpTo};
 ghost use Rattle.zpl_region.specs.Region.{IsRegion, members};
 
-use crate::partners::{MOST, exchanging_stage};
+use crate::partners::Place;
 use crate::stages::Stage;
 use grid_layout::Layout;
 use move_plan::{border_piece, border_pieces_go_by_sources};
 use node_form::NodeProgram;
+use reach_plan::{Reach, sources_for, targets_of};
 use zpl_nums::Border;
 use zpl_region::{Region, Vec3};
 
@@ -64,47 +67,173 @@ fn has_edge_words(
     !piece.is_empty()
 }
 
-/// Sets the flags of the others for whom a processor has words.
-fn mark_edge_receivers(
+/// Blocks that have all processors for whom p has words.
+fn edge_receivers(
     code: &NodeProgram,
     layout: &Layout,
     region: &Region,
     kind: Border,
     shift: &Vec3,
     p: u32,
-    flags: &mut [bool; MOST],
-)
+) -> Reach
     requires layout { layout.now ≡ arrangement_of code.now }
     requires slot { IsSlot region.now.rank region.now }
     requires shift { All (IsUpTo 31) shift.now }
     requires processor { p < processors code.now }
-    ensures { flagged flags.new (processors code.now) ≡ others_where code.now p
-        (λ q. length (border_targets code.now kind region.now shift.now p q)) }
+    ensures sound { IsReach result }
+    ensures all { (q : ℕ) → q < processors code.now
+        → 0 < length (border_targets code.now kind region.now shift.now p q)
+        → LiesInReach result q }
 {
-    for q in 0..layout.grid().count() {
-        flags[q as usize] = q != p && has_edge_words(code, layout, region, kind, shift, p, q);
+    border_pieces_go_by_sources();
+    let blocks = layout.blocks();
+    targets_of(blocks, kind, region, shift, p)
+}
+
+/// Blocks that have all processors who have words for p.
+fn edge_senders(
+    code: &NodeProgram,
+    layout: &Layout,
+    region: &Region,
+    kind: Border,
+    shift: &Vec3,
+    p: u32,
+) -> Reach
+    requires layout { layout.now ≡ arrangement_of code.now }
+    requires slot { IsSlot region.now.rank region.now }
+    requires shift { All (IsUpTo 31) shift.now }
+    requires processor { p < processors code.now }
+    ensures sound { IsReach result }
+    ensures all { (q : ℕ) → q < processors code.now
+        → 0 < length (border_targets code.now kind region.now shift.now q p)
+        → LiesInReach result q }
+{
+    border_pieces_go_by_sources();
+    let blocks = layout.blocks();
+    sources_for(blocks, kind, region, shift, p)
+}
+
+/// The processor at a place among the others for whom p has words. Only those are looked at whose
+/// blocks can have targets of its sources.
+fn nth_edge_receiver(
+    code: &NodeProgram,
+    layout: &Layout,
+    region: &Region,
+    kind: Border,
+    shift: &Vec3,
+    p: u32,
+    place: u64,
+) -> Place
+    requires layout { layout.now ≡ arrangement_of code.now }
+    requires slot { IsSlot region.now.rank region.now }
+    requires shift { All (IsUpTo 31) shift.now }
+    requires processor { p < processors code.now }
+    ensures { IsNth (others_where code.now p
+        (λ q. length (border_targets code.now kind region.now shift.now p q))) place result }
+{
+    let count = layout.grid().count();
+    let reach = edge_receivers(code, layout, region, kind, shift, p);
+    let mut left = place;
+    let mut q = reach.first_from(0);
+    while q < count {
+        if q != p && has_edge_words(code, layout, region, kind, shift, p, q) {
+            if left == 0 {
+                return Place::There(q);
+            }
+            left -= 1;
+        }
+        q = reach.first_from(q + 1);
+    }
+    Place::Behind(left)
+}
+
+/// The processor at a place among the others who have words for p. Only those are looked at whose
+/// blocks can have sources of its targets.
+fn nth_edge_sender(
+    code: &NodeProgram,
+    layout: &Layout,
+    region: &Region,
+    kind: Border,
+    shift: &Vec3,
+    p: u32,
+    place: u64,
+) -> Place
+    requires layout { layout.now ≡ arrangement_of code.now }
+    requires slot { IsSlot region.now.rank region.now }
+    requires shift { All (IsUpTo 31) shift.now }
+    requires processor { p < processors code.now }
+    ensures { IsNth (others_where code.now p
+        (λ q. length (border_targets code.now kind region.now shift.now q p))) place result }
+{
+    let count = layout.grid().count();
+    let reach = edge_senders(code, layout, region, kind, shift, p);
+    let mut left = place;
+    let mut q = reach.first_from(0);
+    while q < count {
+        if q != p && has_edge_words(code, layout, region, kind, shift, q, p) {
+            if left == 0 {
+                return Place::There(q);
+            }
+            left -= 1;
+        }
+        q = reach.first_from(q + 1);
+    }
+    Place::Behind(left)
+}
+
+/// The stage at a place behind those of the messages that p sends.
+fn taking_edge_stage(
+    code: &NodeProgram,
+    layout: &Layout,
+    region: &Region,
+    kind: Border,
+    shift: &Vec3,
+    p: u32,
+    place: u64,
+) -> Stage
+    requires layout { layout.now ≡ arrangement_of code.now }
+    requires slot { IsSlot region.now.rank region.now }
+    requires shift { All (IsUpTo 31) shift.now }
+    requires processor { p < processors code.now }
+    requires there { place < length (taking (others_where code.now p
+        (λ q. length (border_targets code.now kind region.now shift.now q p)))) }
+    ensures { slice_get (taking (others_where code.now p
+        (λ q. length (border_targets code.now kind region.now shift.now q p)))) place
+        ≡ Some (staged result) }
+{
+    match nth_edge_sender(code, layout, region, kind, shift, p, place) {
+        Place::There(q) => Stage::TakesFrom(q),
+        Place::Behind(_) => Stage::Last,
     }
 }
 
-/// Sets the flags of the others who have words for a processor.
-fn mark_edge_senders(
+/// The stage at a place behind the first one.
+fn later_edge_stage(
     code: &NodeProgram,
     layout: &Layout,
     region: &Region,
     kind: Border,
     shift: &Vec3,
     p: u32,
-    flags: &mut [bool; MOST],
-)
+    place: u64,
+) -> Stage
     requires layout { layout.now ≡ arrangement_of code.now }
     requires slot { IsSlot region.now.rank region.now }
     requires shift { All (IsUpTo 31) shift.now }
     requires processor { p < processors code.now }
-    ensures { flagged flags.new (processors code.now) ≡ others_where code.now p
-        (λ q. length (border_targets code.now kind region.now shift.now q p)) }
+    requires there { place < length (exchanging (others_where code.now p
+        (λ q. length (border_targets code.now kind region.now shift.now p q)))
+        (others_where code.now p
+        (λ q. length (border_targets code.now kind region.now shift.now q p)))) }
+    ensures { slice_get (exchanging (others_where code.now p
+        (λ q. length (border_targets code.now kind region.now shift.now p q)))
+        (others_where code.now p
+        (λ q. length (border_targets code.now kind region.now shift.now q p)))) place
+        ≡ Some (staged result) }
 {
-    for q in 0..layout.grid().count() {
-        flags[q as usize] = q != p && has_edge_words(code, layout, region, kind, shift, q, p);
+    match nth_edge_receiver(code, layout, region, kind, shift, p, place) {
+        Place::There(q) => Stage::Sends(q),
+        Place::Behind(place) => taking_edge_stage(code, layout, region, kind, shift, p, place),
     }
 }
 
@@ -131,9 +260,5 @@ pub fn edge_stage(
     if made == 0 {
         return Stage::Alone;
     }
-    let mut sends = [false; MOST];
-    let mut takes = [false; MOST];
-    mark_edge_receivers(code, layout, region, kind, shift, p, &mut sends);
-    mark_edge_senders(code, layout, region, kind, shift, p, &mut takes);
-    exchanging_stage(&sends, &takes, layout.grid().count(), made - 1)
+    later_edge_stage(code, layout, region, kind, shift, p, made - 1)
 }

@@ -1,7 +1,7 @@
 //! Partners that are told by flags, one for each processor.
 ghost use Rattle.std.specs.Prelude.{◌≡◌, ◌+◌, ◌<◌, ◌≤◌, length, slice_get, Some};
 ghost use Rattle.node_stages.specs.Place.{IsNth};
-ghost use Rattle.node_stages.specs.Partners.{exchanging, flagged, taking};
+ghost use Rattle.node_stages.specs.Partners.{flagged, taking};
 ghost use Rattle.node_stages.specs.Stage.{staged};
 
 use crate::stages::Stage;
@@ -44,24 +44,5 @@ pub(crate) fn taking_stage(takes: &[bool; MOST], count: u32, place: u64) -> Stag
     match nth(takes, count, place) {
         Place::There(q) => Stage::TakesFrom(q),
         Place::Behind(_) => Stage::Last,
-    }
-}
-
-/// The stage at a place of a row that first sends, and then takes.
-pub(crate) fn exchanging_stage(
-    sends: &[bool; MOST],
-    takes: &[bool; MOST],
-    count: u32,
-    place: u64,
-) -> Stage
-    requires few { count ≤ 64 }
-    requires there { place
-        < length (exchanging (flagged sends.now count) (flagged takes.now count)) }
-    ensures { slice_get (exchanging (flagged sends.now count) (flagged takes.now count)) place
-        ≡ Some (staged result) }
-{
-    match nth(sends, count, place) {
-        Place::There(q) => Stage::Sends(q),
-        Place::Behind(place) => taking_stage(takes, count, place),
     }
 }

@@ -1,12 +1,9 @@
 use Rattle.std.proofs.Common.{◌≡◌, ℕ, zero, suc, ◌-◌, ◌<◌, List, [], ◌∷◌, length, refl, sym, ap, ◌∙◌, subst, arith}
 use Rattle.std.specs.Prelude.{Some, slice_get}
-use Rattle.grid_layout.specs.Grid.{processors_of}
 use Rattle.grid_meaning.specs.Collective.{Stage, others_where}
 use Rattle.grid_meaning.specs.Delivery.{border_targets}
-use Rattle.grid_meaning.specs.Local.{processors}
-use Rattle.node_stages.specs.Partners.{exchanging, flagged}
+use Rattle.node_stages.specs.Partners.{exchanging}
 use Rattle.node_stages.specs.Stage.{staged}
-use Rattle.node_stages.proofs.PieceLemmas.{grid_count}
 use Rattle.node_stages.proofs.edges.edge_stage.Goals as goal
 
 -- behind the first stage
@@ -21,25 +18,11 @@ first_stage first rest made none = ap (slice_get (first ∷ rest)) none
 pub returns-then-made-eq0 : goal.returns-then-made-eq0
 returns-then-made-eq0 c = first_stage _ _ c.args.made c.if-made-eq0.true
 
-pub exchanging_stage-requires-clause-there : goal.exchanging_stage-requires-clause-there
-exchanging_stage-requires-clause-there c =
-    let count : c.count.result ≡ processors c.args.code.now =
-    c.count.ensures.count ∙ (ap processors_of c.grid.ensures ∙ grid_count c.args.code.now c.args.layout.now c.requires.layout) in
-    let sends = ap (flagged c.mark_edge_receivers.new.flags) count ∙ c.mark_edge_receivers.ensures in
-    let takes = ap (flagged c.mark_edge_senders.new.flags) count ∙ c.mark_edge_senders.ensures in
-    subst (λ list. c.args.made - 1 < length (exchanging list (flagged c.mark_edge_senders.new.flags c.count.result))) (sym sends)
-    (subst (λ list. c.args.made - 1 < length (exchanging (others_where c.args.code.now c.args.p (λ q. length (border_targets c.args.code.now c.args.kind c.args.region.now c.args.shift.now c.args.p q))) list)) (sym takes)
-    (let within = c.requires.made in omega arith))
+pub later_edge_stage-requires-clause-there : goal.later_edge_stage-requires-clause-there
+later_edge_stage-requires-clause-there c = let within = c.requires.made in omega arith
 
 pub returns : goal.returns
 returns c =
-    let count : c.count.result ≡ processors c.args.code.now =
-    c.count.ensures.count ∙ (ap processors_of c.grid.ensures ∙ grid_count c.args.code.now c.args.layout.now c.requires.layout) in
-    let sends = ap (flagged c.mark_edge_receivers.new.flags) count ∙ c.mark_edge_receivers.ensures in
-    let takes = ap (flagged c.mark_edge_senders.new.flags) count ∙ c.mark_edge_senders.ensures in
     later _ (exchanging (others_where c.args.code.now c.args.p (λ q. length (border_targets c.args.code.now c.args.kind c.args.region.now c.args.shift.now c.args.p q)))
     (others_where c.args.code.now c.args.p (λ q. length (border_targets c.args.code.now c.args.kind c.args.region.now c.args.shift.now q c.args.p))))
-    c.args.made (staged c.exchanging_stage.result) (λ none. absurd (omega (arith, none)))
-    (subst (λ list. slice_get (exchanging list (others_where c.args.code.now c.args.p (λ q. length (border_targets c.args.code.now c.args.kind c.args.region.now c.args.shift.now q c.args.p)))) (c.args.made - 1) ≡ Some (staged c.exchanging_stage.result)) sends
-    (subst (λ list. slice_get (exchanging (flagged c.mark_edge_receivers.new.flags c.count.result) list) (c.args.made - 1) ≡ Some (staged c.exchanging_stage.result)) takes
-    c.exchanging_stage.ensures))
+    c.args.made (staged c.later_edge_stage.result) (λ none. absurd (omega (arith, none))) c.later_edge_stage.ensures
