@@ -92,13 +92,7 @@ fn item_receivers(
 }
 
 /// Blocks that have all processors that own places of an item that p needs.
-fn item_senders(
-    code: &NodeProgram,
-    layout: &Layout,
-    slots: &[Region],
-    item: &Item,
-    p: u32,
-) -> Reach
+fn item_senders(code: &NodeProgram, layout: &Layout, slots: &[Region], item: &Item, p: u32) -> Reach
     requires layout { layout.now ≡ arrangement_of code.now }
     requires slots { AllZip IsSlot code.now.slots slots.now }
     requires item { FitsItem code.now item.now }
@@ -114,13 +108,7 @@ fn item_senders(
 }
 
 /// Blocks that have all processors for whom p has words.
-fn receivers(
-    code: &NodeProgram,
-    layout: &Layout,
-    slots: &[Region],
-    items: &[Item],
-    p: u32,
-) -> Reach
+fn receivers(code: &NodeProgram, layout: &Layout, slots: &[Region], items: &[Item], p: u32) -> Reach
     requires layout { layout.now ≡ arrangement_of code.now }
     requires slots { AllZip IsSlot code.now.slots slots.now }
     requires items { All (FitsItem code.now) items.now }
@@ -139,13 +127,7 @@ fn receivers(
 }
 
 /// Blocks that have all processors who have words for p.
-fn senders(
-    code: &NodeProgram,
-    layout: &Layout,
-    slots: &[Region],
-    items: &[Item],
-    p: u32,
-) -> Reach
+fn senders(code: &NodeProgram, layout: &Layout, slots: &[Region], items: &[Item], p: u32) -> Reach
     requires layout { layout.now ≡ arrangement_of code.now }
     requires slots { AllZip IsSlot code.now.slots slots.now }
     requires items { All (FitsItem code.now) items.now }

@@ -19,9 +19,9 @@ loop-item-preserved c = record {
         | inl lies ↦ inl (c.with-reach.ensures.mine q few lies)
         | inr rest ↦ elim (first_or_rest (λ item. length (places_of c.args.code.now (at_slots c.args.slots.now) q c.args.p item)) c.args.items.now c.loop-item.item-index
             (record { array = 0; slot = 0; shift = [] }) c.loop-item-test.true rest) [
-          | inl here ↦ inl (c.with-reach.ensures.other q few (c.item_senders-more.ensures.all q below here))
-          | inr later ↦ inr later
-        ]
+              | inl here ↦ inl (c.with-reach.ensures.other q few (c.item_senders-more.ensures.all q below here))
+              | inr later ↦ inr later
+            ]
       ];
 }
 
