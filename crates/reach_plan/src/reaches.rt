@@ -99,7 +99,7 @@ impl Reach {
     }
 
     /// A number from `at` on before which no processor from `at` on has blocks among these. After four
-    /// steps it is one that has, or 64: out of a row, out of a plane, and to these blocks.
+    /// steps at most it is one that has, or 64: out of a row, out of a plane, and to these blocks.
     pub fn first_from(&self, at: u32) -> u32
         requires reach { IsReach self.now }
         requires at { at ≤ 64 }
@@ -109,7 +109,11 @@ impl Reach {
     {
         let mut next = at;
         for _step in 0..4 {
-            next = skipped(self, next);
+            let further = skipped(self, next);
+            if further == next {
+                return next;
+            }
+            next = further;
         }
         next
     }

@@ -13,7 +13,7 @@ none_further reach at one two first then q low high lies = elim (cases_lt q one)
 
 pub loop-step-preserved : goal.loop-step-preserved
 loop-step-preserved c = record {
-  behind = let more = c.skipped-next.ensures.behind in let was = c.loop-step.invariant.behind in omega (arith, more, was);
-  few = c.skipped-next.ensures.few;
-  none = none_further c.args.self.now c.args.at c.loop-step.next c.skipped-next.result c.loop-step.invariant.none c.skipped-next.ensures.none;
+  behind = let more = c.skipped-further.ensures.behind in let was = c.loop-step.invariant.behind in omega (arith, more, was);
+  few = c.skipped-further.ensures.few;
+  none = none_further c.args.self.now c.args.at c.loop-step.next c.skipped-further.result c.loop-step.invariant.none c.skipped-further.ensures.none;
 }
