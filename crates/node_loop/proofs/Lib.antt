@@ -1,4 +1,5 @@
 mod BracketLemmas
+mod IndexLemmas
 mod RanLemmas
 mod RoomLemmas
 mod StepLemmas

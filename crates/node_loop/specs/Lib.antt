@@ -1,3 +1,4 @@
 pub mod Bracket
+pub mod Line
 pub mod LocalTurn
 pub mod Step

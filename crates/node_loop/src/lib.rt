@@ -5,6 +5,7 @@
 #![tactic(auto)]
 
 mod brackets;
+mod indices;
 mod loops;
 mod members;
 mod modes;

@@ -6,6 +6,7 @@ ghost use Rattle.grid_meaning.specs.Stored.{arrangement_of};
 ghost use Rattle.node_local.specs.Workplace.{IsReady};
 ghost use Rattle.node_loop.specs.LocalTurn.{StaysWhereStuck, turned};
 
+use crate::indices::nth;
 use crate::turns::{LocalTurn, turn_at};
 use grid_layout::Layout;
 use node_form::NodeProgram;
@@ -41,7 +42,7 @@ pub fn loop_turn(
         return LocalTurn::Undefined;
     };
     let own = own_tuples(code, layout, &region, p);
-    match own.nth(local.index()) {
+    match nth(&own, local.index()) {
         Some(index) => turn_at(local, tables, &index, members.as_slice()),
         None => {
             local.go_on();
