@@ -1,8 +1,8 @@
 //! The stages of rows in which the processors of a grid work together: what a processor does in its
 //! next turn of such a row, by the turns that it has made in it.
 //!
-//! Nothing here takes memory, and no list of stages is made: a stage is found by one walk over the
-//! processors.
+//! Nothing here takes memory, and no list of stages is made: a stage is found by one walk over
+//! processors, in exchanges and borders over those whose blocks can meet.
 #![tactic(auto)]
 
 mod boxes;

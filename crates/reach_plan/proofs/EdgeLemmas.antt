@@ -188,8 +188,7 @@ source_lies axis n c k kind d lo hi step align low high first last x y owner oth
     let le = moved_piece axis n c k kind d lo hi step align low high beside some in
     let meets = source_meets kind d lo hi step align (block_first axis n c) (block_last axis n c) first last other (omega (arith, ints, clamps, le, l)) (omega (arith, ints, clamps, le, f)) in
     let above = meets.0 in
-    let below = meets.1 in
-    (
+    let below = meets.1 in (
       omega (arith, ints, clamps, le, f, l),
       (ended_above axis n c (int_min x y) owner (omega (arith, ints, clamps, below, p, q)), begun_below axis n c (int_max x y) owner (omega (arith, ints, clamps, above, p, q))),
     )
@@ -213,8 +212,7 @@ target_lies axis n c k kind d lo hi step align low high first last x y receiver 
     let le = moved_piece axis n c k kind d lo hi step align low high beside some in
     let within = bounds_within kind d lo hi step align (block_first axis n c) (block_last axis n c) x y other p q in
     let under = within.0 in
-    let over = within.1 in
-    (
+    let over = within.1 in (
       omega (arith, ints, clamps, le, f, l, under, over),
       (ended_above axis n k first receiver (omega (arith, ints, clamps, le, f, under)), begun_below axis n k last receiver (omega (arith, ints, clamps, le, l, over))),
     )
