@@ -13,9 +13,10 @@ use Rattle.grid_layout.specs.declared.axes.Axis.{Axis}
 use Rattle.grid_layout.specs.declared.blocks.Blocks.{Blocks}
 use Rattle.grid_layout.specs.Block.{block_first, block_last}
 use Rattle.grid_layout.specs.Grid.{cuts, blocks_at, processors_of}
-use Rattle.grid_layout.specs.Layout.{axes_at, each_bound, laid_out}
-use Rattle.grid_layout.specs.Piece.{each_owned, nothing, owned_dim, owned_part, range_or_nothing}
-use Rattle.grid_layout.proofs.OwnerLemmas.{AreCuts, are_cuts}
+use Rattle.grid_layout.specs.Layout.{AreBlocks, axes_at, each_bound, laid_out, own_first, own_last}
+use Rattle.grid_layout.specs.Piece.{each_owned, nothing, owned_dim, owned_part, part, range_or_nothing}
+use Rattle.grid_layout.proofs.OwnerLemmas.{AreCuts, are_cuts, axes_three}
+use Rattle.grid_layout.proofs.ThreeLemmas.{by_three, three_same}
 use Rattle.grid_layout.proofs.PartLemmas.{blocks_length}
 use Rattle.grid_layout.proofs.SoundLemmas.{block_past, cut_past}
 use Rattle.node_form.specs.declared.tables.Tables.{Tables}
@@ -142,3 +143,41 @@ IsShaped-outside region shift shape = record {
   many = length-each _ (components region.rank shift) region.dims ∙ shape.many;
   padded = padded-each _ refl region.rank (3 - region.rank) shift region.dims shape.padded;
 }
+
+-- the part of a dimension within a block, as its owner has it for itself
+part_own : (axis : Axis) (n c : ℕ) (dim : Dim) → part (block_first axis n c) (block_last axis n c) dim ≡ owned_dim axis n c c dim
+part_own axis n c (Range lo hi step align) = refl
+part_own axis n c Flood = sym (ap (λ b. cond b Flood nothing) (eq-eqb c c refl))
+
+abbrev PartsAreOwn : List Axis → List ℕ → List ℕ → List Dim → Dim → Type 0
+PartsAreOwn axes ns cs dims e =
+    part (get_or (each_bound block_first axes ns cs) 0 (pos 0)) (get_or (each_bound block_last axes ns cs) 0 (pos 0)) (get_or dims 0 e)
+    ∷ part (get_or (each_bound block_first axes ns cs) 1 (pos 0)) (get_or (each_bound block_last axes ns cs) 1 (pos 0)) (get_or dims 1 e)
+    ∷ part (get_or (each_bound block_first axes ns cs) 2 (pos 0)) (get_or (each_bound block_last axes ns cs) 2 (pos 0)) (get_or dims 2 e) ∷ []
+    ≡ each_owned axes ns cs cs dims
+
+parts_are_own : (axes : List Axis) (ns cs : List ℕ) (dims : List Dim) (e : Dim) → length axes ≡ 3 → length ns ≡ 3 → length cs ≡ 3 → length dims ≡ 3 → PartsAreOwn axes ns cs dims e
+parts_are_own axes ns cs dims e la ln lc ld =
+    by_three (λ axes. PartsAreOwn axes ns cs dims e) axes la (λ x y z.
+    by_three (λ ns. PartsAreOwn (x ∷ y ∷ z ∷ []) ns cs dims e) ns ln (λ l m n.
+    by_three (λ cs. PartsAreOwn (x ∷ y ∷ z ∷ []) (l ∷ m ∷ n ∷ []) cs dims e) cs lc (λ a b c.
+    by_three (λ dims. PartsAreOwn (x ∷ y ∷ z ∷ []) (l ∷ m ∷ n ∷ []) (a ∷ b ∷ c ∷ []) dims e) dims ld (λ f g h.
+    three_same _ _ _ _ _ _ (part_own x l a f) (part_own y m b g) (part_own z n c h)))))
+
+-- what the code answers: the parts of the dimensions within the own block
+pub own_parts : (blocks : Blocks) (q : ℕ) (region : Region) (e x y z : Dim) (firsts lasts : List ℤ) → AreBlocks blocks → 1 ≤ region.rank → region.rank ≤ 3 → length region.dims ≡ 3
+    → firsts ≡ own_first blocks region.rank q → lasts ≡ own_last blocks region.rank q
+    → x ≡ part (get_or firsts 0 (pos 0)) (get_or lasts 0 (pos 0)) (get_or region.dims 0 e)
+    → y ≡ part (get_or firsts 1 (pos 0)) (get_or lasts 1 (pos 0)) (get_or region.dims 1 e)
+    → z ≡ part (get_or firsts 2 (pos 0)) (get_or lasts 2 (pos 0)) (get_or region.dims 2 e)
+    → x ∷ y ∷ z ∷ [] ≡ (owned_part blocks q q region).dims
+own_parts blocks q region e x y z firsts lasts sound above below many f l p r s =
+    let ns = cuts blocks.grid region.rank in
+    let are : AreCuts blocks.grid region.rank = are_cuts blocks.grid region.rank above below in
+    three_same x y z _ _ _ p r s
+    ∙ (ap (λ list. part (get_or list 0 (pos 0)) (get_or lasts 0 (pos 0)) (get_or region.dims 0 e) ∷ part (get_or list 1 (pos 0)) (get_or lasts 1 (pos 0)) (get_or region.dims 1 e)
+    ∷ part (get_or list 2 (pos 0)) (get_or lasts 2 (pos 0)) (get_or region.dims 2 e) ∷ []) f
+    ∙ (ap (λ list. part (get_or (own_first blocks region.rank q) 0 (pos 0)) (get_or list 0 (pos 0)) (get_or region.dims 0 e)
+    ∷ part (get_or (own_first blocks region.rank q) 1 (pos 0)) (get_or list 1 (pos 0)) (get_or region.dims 1 e)
+    ∷ part (get_or (own_first blocks region.rank q) 2 (pos 0)) (get_or list 2 (pos 0)) (get_or region.dims 2 e) ∷ []) l
+    ∙ parts_are_own (axes_at blocks region.rank) ns (blocks_at ns q) region.dims e (axes_three blocks region.rank sound above below) are.three (blocks_length ns q ∙ are.three) many))

@@ -12,7 +12,7 @@ ghost use Rattle.zpl_region.specs.Region.{IsRegion, members};
 
 use crate::partners::{MOST, taking_stage};
 use crate::stages::Stage;
-use grid_layout::Layout;
+use grid_layout::{Layout, part};
 use node_form::NodeProgram;
 use zpl_region::Region;
 
@@ -24,7 +24,17 @@ pub fn own_tuples(code: &NodeProgram, layout: &Layout, region: &Region, q: u32) 
     ensures tuples { members result ≡ tuples_of code.now q region.now }
     ensures region { IsRegion result }
 {
-    layout.blocks().owned(q, q, region)
+    let _blocks = layout.blocks();
+    let (first, last) = layout.own_block(region.rank, q);
+    let [planes, rows, columns] = region.dims;
+    Region {
+        rank: region.rank,
+        dims: [
+            part(planes, first[0], last[0]),
+            part(rows, first[1], last[1]),
+            part(columns, first[2], last[2]),
+        ],
+    }
 }
 
 /// Whether there are any.
