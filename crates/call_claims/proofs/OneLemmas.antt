@@ -1,17 +1,15 @@
--- A list of words gives one command, and a run has one number of turns.
-use Rattle.std.proofs.Common.{◌≡◌, ℕ, ◌+◌, ◌<◌, Bool, true, false, ◌&&◌, ◌||◌, List, [], ◌∷◌, ◌++◌, length, take, drop, get_or}
-use Rattle.std.proofs.Common.{codes, IsTrue, Some, None, refl, sym, ◌∙◌, ap, subst, inl, inr, arith, cond}
+-- Words ask for one thing.
+use Rattle.std.proofs.Common.{◌≡◌, ℕ, ◌+◌, Bool, true, false, ◌&&◌, ◌||◌, List, [], ◌∷◌, ◌++◌, length, take, drop}
+use Rattle.std.proofs.Common.{codes, IsTrue, Some, None, refl, sym, ◌∙◌, ap, subst, arith, cond}
 use Rattle.std.proofs.Math.Seq.{take-append_seam, drop-append_seam}
 use Rattle.std.specs.List.{list_all, prefix_len}
 use Rattle.zpl_text.specs.Bytes.{is_word_start, is_word_byte}
 use Rattle.zpl_text.specs.Kinds.{IsWord}
 use Rattle.zpl_binding.specs.Settings.{Setting}
-use Rattle.node_form.specs.declared.tables.Tables.{Tables}
 use Rattle.call_claims.specs.Command.{Asked, IsNumber, IsTurnsWord, IsSettingWord, Adds, AddAll}
 use Rattle.call_claims.specs.Command.Adds.{asks_turns, sets}
 use Rattle.call_claims.specs.Command.AddAll.{no_more, one_more}
-use Rattle.call_claims.specs.Command.{AskFor, Command, Run, Listing, IsCommand}
-use Rattle.call_claims.specs.Run.{IsRun}
+use Rattle.call_claims.specs.Command.{AskFor, IsList}
 use Rattle.call_claims.specs.Setting.{setting_in, set_by}
 
 number_is_one : (text : List ℕ) (n m : ℕ) → IsNumber text n → IsNumber text m → n ≡ m
@@ -104,50 +102,10 @@ asked_one words others one other same f g =
     add_all_one others _ one other (subst (λ ws. AskFor ws one) same f) g
 
 -- ---- commands
-run_is_one_command : (words : List (List ℕ)) (file name : List ℕ) (one other : Asked)
-    → IsCommand words (Run file one) → IsCommand words (Run name other) → Run file one ≡ Run name other
-run_is_one_command words file name one other f g =
-    let same : codes "run" ∷ file ∷ f.more ≡ codes "run" ∷ name ∷ g.more = sym f.split ∙ g.split in
-    let files : file ≡ name = cc in
+pub list_is_one : (words : List (List ℕ)) (file other : List ℕ) (asked more : Asked)
+    → IsList words file asked → IsList words other more → (file ≡ other) × (asked ≡ more)
+list_is_one words file other asked more f g =
+    let same : codes "list" ∷ file ∷ f.more ≡ codes "list" ∷ other ∷ g.more = sym f.split ∙ g.split in
+    let files : file ≡ other = cc in
     let mores : f.more ≡ g.more = cc in
-    ap (λ x. Run x one) files ∙ ap (Run name) (asked_one f.more g.more one other mores f.are g.are)
-
-list_is_one_command : (words : List (List ℕ)) (file name : List ℕ) (one other : Asked)
-    → IsCommand words (Listing file one) → IsCommand words (Listing name other)
-    → Listing file one ≡ Listing name other
-list_is_one_command words file name one other f g =
-    let same : codes "list" ∷ file ∷ f.more ≡ codes "list" ∷ name ∷ g.more = sym f.split ∙ g.split in
-    let files : file ≡ name = cc in
-    let mores : f.more ≡ g.more = cc in
-    ap (λ x. Listing x one) files
-    ∙ ap (Listing name) (asked_one f.more g.more one other mores f.are g.are)
-
-not_run_and_list : (words : List (List ℕ)) (file name : List ℕ) (asked other : Asked)
-    → IsCommand words (Run file asked) → IsCommand words (Listing name other) → ⊥
-not_run_and_list words file name asked other f g =
-    let same : 114 ≡ 108 = ap (λ (ws : List (List ℕ)). get_or (get_or ws 0 []) 0 0) (sym f.split ∙ g.split) in
-    omega (arith, same)
-
-pub command_is_one : (words : List (List ℕ)) (one other : Command) → IsCommand words one
-    → IsCommand words other → one ≡ other
-command_is_one words (Run file one) (Run name other) f g =
-    run_is_one_command words file name one other f g
-command_is_one words (Run file one) (Listing name other) f g =
-    absurd (not_run_and_list words file name one other f g)
-command_is_one words (Listing file one) (Run name other) f g =
-    absurd (not_run_and_list words name file other one g f)
-command_is_one words (Listing file one) (Listing name other) f g =
-    list_is_one_command words file name one other f g
-
--- ---- runs
-no_later : (code : Tables) (order : List ℕ) (limit k j : ℕ) → IsRun code order limit k
-    → IsRun code order limit j → k < j → ⊥
-no_later code order limit k j f g less = elim f.ends
-    [ inl stops ↦ g.goes_on k less stops | inr last ↦ omega (arith, g.within) ]
-
-pub run_is_one : (code : Tables) (order : List ℕ) (limit k j : ℕ) → IsRun code order limit k
-    → IsRun code order limit j → k ≡ j
-run_is_one code order limit k j f g =
-    let not_below : k < j → ⊥ = no_later code order limit k j f g in
-    let not_above : j < k → ⊥ = no_later code order limit j k g f in
-    omega arith
+    (files, asked_one f.more g.more asked more mores f.are g.are)

@@ -1,4 +1,4 @@
--- The commands that a list of words gives.
+-- What words behind a file ask for, and the command `list`. Other commands have words of their own.
 use Rattle.std.specs.Prelude.{◌≡◌, ℕ, ◌≤◌, List, [], ◌∷◌, ◌++◌, length, codes, IsTrue, Option, Some, None}
 use Rattle.std.specs.List.{list_all}
 use Rattle.std.specs.Char.{is_ascii_digit}
@@ -64,46 +64,14 @@ most_turns (Some n) = n
 abbrev pub limit_of : Asked → ℕ
 limit_of asked = most_turns asked.turns
 
--- ---- run FILE [turns=N] [name:=value ..]
--- The first word is the command, and the second names the file, whatever it holds.
-pub record IsRunCommand (words : List (List ℕ)) (file : List ℕ) (asked : Asked) : Type 0 where
-  pub more : List (List ℕ)
-  pub split : words ≡ codes "run" ∷ file ∷ more
-  pub are : AskFor more asked
-
 -- ---- list FILE [name:=value ..]
-pub record IsListCommand (words : List (List ℕ)) (file : List ℕ) (asked : Asked) : Type 0 where
+-- The first word is the command, and the second names the file, whatever it holds.
+pub record IsList (words : List (List ℕ)) (file : List ℕ) (asked : Asked) : Type 0 where
   pub more : List (List ℕ)
   pub split : words ≡ codes "list" ∷ file ∷ more
   pub are : AskFor more asked
   pub no_turns : asked.turns ≡ None
 
--- ---- what there is to do
-pub data Command : Type 0 where
-  Run : (file : List ℕ) (asked : Asked) → Command
-  Listing : (file : List ℕ) (asked : Asked) → Command
-
--- the file that it names
-abbrev pub file_of : Command → List ℕ
-file_of (Run file asked) = file
-file_of (Listing file asked) = file
-
--- the settings of its words
-abbrev pub settings_of : Command → List Setting
-settings_of (Run file asked) = asked.settings
-settings_of (Listing file asked) = asked.settings
-
--- the words give the command
-abbrev pub IsCommand : List (List ℕ) → Command → Type 0
-IsCommand words (Run file asked) = IsRunCommand words file asked
-IsCommand words (Listing file asked) = IsListCommand words file asked
-
--- they give none
-abbrev pub IsNoCommand : List (List ℕ) → Type 0
-IsNoCommand words = (command : Command) → ¬ IsCommand words command
-
--- they ask for a listing, or for none
-pub record AsksListing (words : List (List ℕ)) : Type 0 where
-  pub file : List ℕ
-  pub asked : Asked
-  pub given : IsListCommand words file asked
+-- they are no such command
+abbrev pub IsNoList : List (List ℕ) → Type 0
+IsNoList words = (file : List ℕ) (asked : Asked) → ¬ IsList words file asked

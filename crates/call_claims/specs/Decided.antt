@@ -1,14 +1,14 @@
 -- When each status comes.
-use Rattle.std.specs.Prelude.{◌≡◌, ◌≢◌, ◌⊎◌, ℕ, List}
-use Rattle.zpl_nums.specs.declared.ends.End.TheVariants.{Done, Trap}
-use Rattle.zpl_nums.specs.declared.ends.TrapKind.{TrapKind}
+use Rattle.std.specs.Prelude.{◌≡◌, ◌≢◌, ◌↔◌, ℕ, List}
+use Rattle.zpl_binding.specs.Settings.{Setting}
 use Rattle.call_claims.specs.Call.{Call}
-use Rattle.call_claims.specs.Command.{limit_of}
-use Rattle.call_claims.specs.Cause.{IsCutShort, IsTooLong, Lists, Names, Runs}
-use Rattle.call_claims.specs.Execution.{Execution, HasCode, HasEnded}
+use Rattle.call_claims.specs.Cause.{IsTooLong, Lists}
+use Rattle.call_claims.specs.Command.{IsNoList}
+use Rattle.call_claims.specs.Execution.{Execution, HasCode}
 use Rattle.call_claims.specs.Refusal.{HasUnbound, IsRefused}
 use Rattle.call_claims.specs.Source.{Source}
-use Rattle.call_claims.specs.declared.status.TheConstants.{UNREADABLE, PUT_FAILED, NO_MEMORY}
+use Rattle.call_claims.specs.declared.status.TheConstants.{DONE, USAGE, UNREADABLE, TOO_LONG}
+use Rattle.call_claims.specs.declared.status.TheConstants.{REFUSED, UNBOUND, PUT_FAILED, NO_MEMORY}
 
 -- no put failed, and memory wasn't wanting
 pub record IsDecided (status : ℕ) : Type 0 where
@@ -21,39 +21,32 @@ pub record IsSettled (call : Call) (status : ℕ) : Type 0 where
   pub read : status ≢ UNREADABLE
   pub one : (file text other : List ℕ) → call.tells file text → call.tells file other → text ≡ other
 
--- 0: the words run a file, and the run is over and ended normally; or they list it, and code was
--- made
-abbrev pub IsDone : Call → Execution → Type 0
-IsDone call execution =
-    Runs call (λ file asked. HasEnded execution Done) ⊎
-    Lists call (λ file asked. HasCode execution)
+-- ---- a program's file
+-- it tells a text that isn't too long, and that has no small program under the settings and no fault
+-- of settings or declarations to be told
+abbrev pub HasNoProgramIn : Call → List ℕ → List Setting → Type 0
+HasNoProgramIn call file settings =
+    (source : Source call file) × IsRefused source.text settings
 
--- 3: the words name a file that tells a text that is too long
-abbrev pub NamesTooLong : Call → Type 0
-NamesTooLong call = Names call (λ file settings. IsTooLong call file)
+-- it tells a text that isn't too long, has no small program under the settings, and has a fault of
+-- settings or declarations
+abbrev pub HasUnboundIn : Call → List ℕ → List Setting → Type 0
+HasUnboundIn call file settings =
+    (source : Source call file) × HasUnbound source.text settings
 
--- 4: the words name a file that tells a text that isn't too long, has no small program under the
--- settings of the words, and has no fault of settings or declarations to be told
-abbrev pub NamesNoProgram : Call → Type 0
-NamesNoProgram call =
-    Names call (λ file settings. (source : Source call file) × IsRefused source.text settings)
-
--- 5: the words name a file that tells a text that isn't too long, has no small program under the
--- settings of the words, and has a fault of settings or declarations
-abbrev pub NamesUnbound : Call → Type 0
-NamesUnbound call =
-    Names call (λ file settings. (source : Source call file) × HasUnbound source.text settings)
-
--- 7: the words run a file, and the run is over with a trap
-abbrev pub HasTrapped : Execution → Type 0
-HasTrapped execution = (kind : TrapKind) × (line : ℕ) × HasEnded execution (Trap kind line)
-
-abbrev pub RunsToTrap : Call → Execution → Type 0
-RunsToTrap call execution = Runs call (λ file asked. HasTrapped execution)
-
--- 8: all turns that the words ask for were given, and the run isn't over. They are fewer than the
--- bound on turns wherever the meaning ends.
-abbrev pub RunsTooShort : Call → Execution → Type 0
-RunsTooShort call execution =
-    Runs call (λ file asked. (source : Source call file)
-    × IsCutShort source.text asked.settings (limit_of asked) execution)
+-- ---- list FILE: each status comes just where its own cause is
+pub record IsExact (call : Call) (execution : Execution) (status : ℕ) : Type 0 where
+  -- 0: the words list a file, and code was made
+  pub done : IsDecided status
+      → (status ≡ DONE) ↔ Lists call (λ file asked. HasCode execution)
+  -- 1: they don't
+  pub usage : IsDecided status → (status ≡ USAGE) ↔ IsNoList call.words
+  -- 3: they list one that tells a text that is too long
+  pub too_long : IsSettled call status
+      → (status ≡ TOO_LONG) ↔ Lists call (λ file asked. IsTooLong call file)
+  -- 4: they list one whose text has no program
+  pub refused : IsSettled call status
+      → (status ≡ REFUSED) ↔ Lists call (λ file asked. HasNoProgramIn call file asked.settings)
+  -- 5: they list one with a fault of settings or declarations
+  pub unbound : IsSettled call status
+      → (status ≡ UNBOUND) ↔ Lists call (λ file asked. HasUnboundIn call file asked.settings)

@@ -5,7 +5,6 @@ pub mod Command
 pub mod Decided
 pub mod Execution
 pub mod Refusal
-pub mod Run
 pub mod Setting
 pub mod Source
 pub mod Texts
