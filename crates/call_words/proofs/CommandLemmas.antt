@@ -1,35 +1,15 @@
 -- When words are a command.
-use Rattle.std.proofs.Common.{◌≡◌, ◌≢◌, ℕ, List, [], ◌∷◌, Option, None, true, codes, sym, ◌∙◌, ap, subst, get_or, arith}
+use Rattle.std.proofs.Common.{◌≡◌, ◌≢◌, ℕ, ◌-◌, ◌≤◌, List, [], ◌∷◌, Option, None, true, codes, map, length, take, drop, get_or, sym, ◌∙◌, ap, subst, arith}
+use Rattle.std.proofs.lemmas.List.{length-drop, take_all}
 use Rattle.std.specs.Option.{is_some}
-use Rattle.call_claims.specs.Command.{AskFor, Asked, Run, Listing, IsNoCommand}
+use Rattle.call_claims.specs.Command.{AskFor, Asked, IsNoList}
 use Rattle.call_claims.proofs.OneLemmas.{add_all_one}
 
-first_letter : (one other : List ℕ) (rest more : List (List ℕ)) → one ∷ rest ≡ other ∷ more
-    → get_or one 0 0 ≡ get_or other 0 0
-first_letter one other rest more e = ap (λ (words : List (List ℕ)). get_or
-    (get_or words 0 []) 0 0) e
-
--- words behind the file that are none of a command's
-pub not_run : (file : List ℕ) (more : List (List ℕ)) → ((asked : Asked) → ¬ AskFor more asked)
-    → IsNoCommand (codes "run" ∷ file ∷ more)
-not_run file more none (Run name asked) is =
-    let same : codes "run" ∷ file ∷ more ≡ codes "run" ∷ name ∷ is.more = is.split in
-    let mores : is.more ≡ more = cc in
-    none asked (subst (λ ws. AskFor ws asked) mores is.are)
-not_run file more none (Listing name asked) is =
-    let same : 114 ≡ 108 = first_letter (codes "run") (codes "list") (file ∷ more)
-    (name ∷ is.more) is.split in
-    omega (arith, same)
-
--- or that a listing doesn't take
+-- words behind the file that a listing doesn't take
 pub not_list : (file : List ℕ) (more : List (List ℕ))
     → ((asked : Asked) → AskFor more asked → asked.turns ≢ None)
-    → IsNoCommand (codes "list" ∷ file ∷ more)
-not_list file more other (Run name asked) is =
-    let same : 108 ≡ 114 = first_letter (codes "list") (codes "run") (file ∷ more)
-    (name ∷ is.more) is.split in
-    omega (arith, same)
-not_list file more other (Listing name asked) is =
+    → IsNoList (codes "list" ∷ file ∷ more)
+not_list file more other name asked is =
     let same : codes "list" ∷ file ∷ more ≡ codes "list" ∷ name ∷ is.more = is.split in
     let mores : is.more ≡ more = cc in
     other asked (subst (λ ws. AskFor ws asked) mores is.are) is.no_turns
@@ -44,10 +24,29 @@ pub some_there : (turns : Option ℕ) → is_some turns ≡ true → turns ≢ N
 some_there turns some none =
     let no : is_some {T = ℕ} None ≡ true = ap is_some (sym none) ∙ some in cc
 
--- a first word that is none of the commands
-pub not_first : (command file : List ℕ) (more : List (List ℕ)) → command ≢ codes "run"
-    → command ≢ codes "list" → IsNoCommand (command ∷ file ∷ more)
-not_first command file more run list (Run name asked) is =
-    let same : command ∷ file ∷ more ≡ codes "run" ∷ name ∷ is.more = is.split in run cc
-not_first command file more run list (Listing name asked) is =
-    let same : command ∷ file ∷ more ≡ codes "list" ∷ name ∷ is.more = is.split in list cc
+-- a first word that is another
+pub not_first : (command file : List ℕ) (more : List (List ℕ)) → command ≢ codes "list"
+    → IsNoList (command ∷ file ∷ more)
+not_first command file more other name asked is =
+    let same : command ∷ file ∷ more ≡ codes "list" ∷ name ∷ is.more = is.split in other cc
+
+-- ---- the first two words
+pub begins_with : (a b c d : List ℕ) (rest : List (List ℕ)) → a ≡ b → c ≡ d
+    → a ∷ c ∷ rest ≡ b ∷ d ∷ rest
+begins_with a b c d rest e f = ap (λ x. x ∷ c ∷ rest) e ∙ ap (λ x. b ∷ x ∷ rest) f
+
+two_first : {X : Type 0} (f : X → List ℕ) (xs : List X) (one other : X) → 2 ≤ length xs
+    → one ≡ get_or xs 0 one → other ≡ get_or xs 1 other
+    → map f xs ≡ f one ∷ f other ∷ map f (drop 2 xs)
+two_first f [] one other some is also = absurd (omega arith)
+two_first f (x ∷ []) one other some is also = absurd (omega arith)
+two_first f (x ∷ y ∷ xs) one other some is also =
+    begins_with (f x) (f one) (f y) (f other) (map f xs) (ap f (sym is)) (ap f (sym also))
+
+pub two_words : {X : Type 0} (f : X → List ℕ) (xs : List X) (one other : X) → 2 ≤ length xs
+    → one ≡ get_or xs 0 one → other ≡ get_or xs 1 other
+    → map f xs ≡ f one ∷ f other ∷ map f (take (length xs - 2) (drop 2 xs))
+two_words f xs one other some is also =
+    let few : length (drop 2 xs) ≤ length xs - 2 = omega (arith, length-drop 2 xs) in
+    two_first f xs one other some is also
+    ∙ ap (λ ys. f one ∷ f other ∷ map f ys) (sym (take_all (length xs - 2) (drop 2 xs) few))

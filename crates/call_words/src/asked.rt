@@ -64,7 +64,7 @@ fn turns_with(turns: Option<u64>, word: &[u8]) -> Option<Option<u64>>
 }
 
 /// The number behind `turns=`.
-fn turns_of(word: &[u8]) -> Option<u64>
+pub fn turns_of(word: &[u8]) -> Option<u64>
     ensures { MatchOption result ((n : ℕ) → ¬ IsTurnsWord word.now n) (IsTurnsWord word.now) }
 {
     let [b't', b'u', b'r', b'n', b's', b'=', digits @ ..] = word else {

@@ -1,7 +1,7 @@
-//! The commands that words give.
+//! The command `list`.
 ghost use Rattle.std.specs.Prelude.{◌∷◌, codes, map, MatchOption, string_bytes};
-ghost use Rattle.call_claims.specs.Command.{IsCommand, IsNoCommand};
-ghost use Rattle.call_words.specs.Commands.{command_in};
+ghost use Rattle.call_claims.specs.Command.{IsList, IsNoList};
+ghost use Rattle.call_words.specs.Asked.{asked_in};
 
 use crate::asked::{Asked, asked_of};
 
@@ -14,20 +14,12 @@ pub struct FileCommand<'a> {
     pub asked: Asked<'a>,
 }
 
-/// What there is to do.
-#[derive(Clone, Copy)]
-pub enum Command<'a> {
-    /// A file is run.
-    Run(FileCommand<'a>),
-    /// The code of a file is listed.
-    Listing(FileCommand<'a>),
-}
-
-/// The command that the words give, or None where they give none.
-pub fn command_of(words: &[String]) -> Option<Command<'_>>
+/// The file that the words list, with what they ask for, or None where they are no such command:
+/// `list FILE`, and then settings.
+pub fn list_command(words: &[String]) -> Option<FileCommand<'_>>
     ensures { MatchOption result
-        (IsNoCommand (map string_bytes words.now))
-        (λ command. IsCommand (map string_bytes words.now) (command_in command)) }
+        (IsNoList (map string_bytes words.now))
+        (λ list. IsList (map string_bytes words.now) list.file.now (asked_in list.asked)) }
 {
     match words {
         [command, file, rest @ ..] => file_command(command.as_bytes(), file.as_str(), rest),
@@ -36,43 +28,28 @@ pub fn command_of(words: &[String]) -> Option<Command<'_>>
 }
 
 /// The command of a first word, a file and the words behind it.
-fn file_command<'a>(command: &[u8], file: &'a str, rest: &'a [String]) -> Option<Command<'a>>
+#[tactic(auto, using(crate::proofs::CommandLemmas::not_first))]
+fn file_command<'a>(command: &[u8], file: &'a str, rest: &'a [String]) -> Option<FileCommand<'a>>
     ensures { MatchOption result
-        (IsNoCommand (command.now ∷ file.now ∷ map string_bytes rest.now))
-        (λ found. IsCommand (command.now ∷ file.now ∷ map string_bytes rest.now)
-        (command_in found)) }
+        (IsNoList (command.now ∷ file.now ∷ map string_bytes rest.now))
+        (λ list. IsList (command.now ∷ file.now ∷ map string_bytes rest.now)
+        list.file.now (asked_in list.asked)) }
 {
-    if command == b"run".as_slice() {
-        return run_command(file, rest);
-    }
     if command == b"list".as_slice() {
-        return list_command(file, rest);
+        return behind_list(file, rest);
     }
     None
 }
 
-/// `run FILE`, with the words behind the file.
-fn run_command<'a>(file: &'a str, rest: &'a [String]) -> Option<Command<'a>>
-    ensures { MatchOption result
-        (IsNoCommand (codes "run" ∷ file.now ∷ map string_bytes rest.now))
-        (λ found. IsCommand (codes "run" ∷ file.now ∷ map string_bytes rest.now)
-        (command_in found)) }
-{
-    match asked_of(rest) {
-        Some(asked) => Some(Command::Run(FileCommand { file, asked })),
-        None => None,
-    }
-}
-
 /// `list FILE`, with the words behind the file, which ask for no turns.
-fn list_command<'a>(file: &'a str, rest: &'a [String]) -> Option<Command<'a>>
+fn behind_list<'a>(file: &'a str, rest: &'a [String]) -> Option<FileCommand<'a>>
     ensures { MatchOption result
-        (IsNoCommand (codes "list" ∷ file.now ∷ map string_bytes rest.now))
-        (λ found. IsCommand (codes "list" ∷ file.now ∷ map string_bytes rest.now)
-        (command_in found)) }
+        (IsNoList (codes "list" ∷ file.now ∷ map string_bytes rest.now))
+        (λ list. IsList (codes "list" ∷ file.now ∷ map string_bytes rest.now)
+        list.file.now (asked_in list.asked)) }
 {
     match asked_of(rest) {
-        Some(asked) if asked.turns.is_none() => Some(Command::Listing(FileCommand { file, asked })),
+        Some(asked) if asked.turns.is_none() => Some(FileCommand { file, asked }),
         _ => None,
     }
 }

@@ -1,4 +1,5 @@
-//! The words of a command line: what they ask for, read without taking memory.
+//! The words of `list`, and parts of words that commands share: what they ask for, read without taking
+//! memory.
 #![tactic(auto)]
 
 mod asked;
@@ -7,6 +8,7 @@ mod names;
 mod numbers;
 mod settings;
 
-pub use asked::Asked;
-pub use commands::{Command, FileCommand, command_of};
-pub use settings::{sets_nothing, setting_in};
+pub use asked::{Asked, asked_of, turns_of};
+pub use commands::{FileCommand, list_command};
+pub use numbers::number_of;
+pub use settings::{is_setting, sets_nothing, setting_in};

@@ -1,16 +1,17 @@
-use Rattle.std.proofs.Common.{map, string_bytes}
+use Rattle.std.proofs.Common.{◌-◌, map, length, take, drop, MatchOption, string_bytes, Global, sym, ◌∙◌, subst, arith}
+use Rattle.call_claims.specs.Command.{IsList, IsNoList}
 use Rattle.call_words.specs.Asked.{asked_in}
-use Rattle.call_words.proofs.CommandLemmas.{not_list, some_there, turns_asked}
+use Rattle.call_words.proofs.CommandLemmas.{begins_with, two_words}
 use Rattle.call_words.proofs.commands.list_command.Goals as goal
-use Rattle.call_words.proofs.commands.list_command.Goals.{in_default-via-in-Some+else-is_none, in_default-via-in_default}
 
-pub returns-in_default : goal.returns-in_default
-returns-in_default c =
-    let more = map string_bytes c.args.rest.now in
-    elim c.in_default.branch [
-      | in_default-via-in-Some+else-is_none w ↦ not_list c.args.file.now more
-          (λ other asks. turns_asked more (asked_in w.in-Some.asked) other (w.in-Some.ensures {u = tt})
-          (some_there w.in-Some.asked.turns (w.if-is_none.ensures {u = tt})) asks)
-      | in_default-via-in_default w ↦ not_list c.args.file.now more
-          (λ other asks. absurd (w.in_default.ensures {u = tt} other asks))
-    ]
+pub returns-in-len2-up : goal.returns-in-len2-up
+returns-in-len2-up c =
+    let words = c.args.words.now in
+    let all = two_words (string_bytes {Z = Global}) words c.command-item.result c.file-item.result
+    (omega (arith, c.in-len2-up.len_at_least)) c.command-item.is c.file-item.is in
+    let read = begins_with c.as_bytes.result.now (string_bytes c.command-item.result)
+    c.as_str.result.now (string_bytes c.file-item.result) (map string_bytes (take (length words - 2) (drop 2 words)))
+    c.as_bytes.ensures.value c.as_str.ensures.value in
+    subst (λ texts. MatchOption c.file_command.result (IsNoList texts)
+    (λ list. IsList texts list.file.now (asked_in list.asked))) (read ∙ sym all)
+    c.file_command.ensures
