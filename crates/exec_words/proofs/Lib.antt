@@ -1,3 +1,3 @@
 pub mod AskedLemmas
-pub mod NumberLemmas
+pub mod MetLemmas
 pub mod OneLemmas

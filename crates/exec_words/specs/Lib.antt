@@ -1,3 +1,4 @@
 pub mod Asked
+pub mod Met
 pub mod Reading
 pub mod Words

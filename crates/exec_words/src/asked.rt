@@ -1,13 +1,16 @@
-//! What the words behind a listing ask for.
-ghost use Rattle.std.specs.Prelude.{◌≡◌, List, map, MatchOption, option_map, string_bytes};
-ghost use Rattle.exec_words.specs.Asked.{added, Adds, AskFor, limit_of};
-ghost use Rattle.exec_words.specs.Asked.{Asked as Claimed};
-ghost use Rattle.exec_words.specs.Reading.{asked_in, word_in};
+//! What the words behind a file ask for.
+ghost use Rattle.std.specs.Prelude.{◌≡◌, ◌++◌, List, map, MatchOption, option_map, string_bytes};
+ghost use Rattle.zpl_binding.specs.Settings.{Setting};
+ghost use Rattle.call_claims.specs.Setting.{one_or_none, setting_in, settings_among};
+ghost use Rattle.exec_words.specs.Asked.{asked_more, Adds, AskFor, limit_of};
+ghost use Rattle.exec_words.specs.Asked.{Wanted as Claimed};
+ghost use Rattle.exec_words.specs.Reading.{asked_in, wanted_in, word_in};
 
 use crate::words::{Word, word_of};
 use call_claims::MOST_TURNS;
+use call_words::is_setting;
 
-/// What the words behind a listing ask for.
+/// What the words behind a file ask for, besides settings.
 #[derive(Clone, Copy)]
 pub struct Asked<'a> {
     /// The file of the order of turns, where a word names one.
@@ -29,11 +32,13 @@ impl<'a> Asked<'a> {
     }
 }
 
-/// What the words ask for, or None where one of them is none of a listing's, or asks again.
+/// What the words ask for, or None where one of them is none of a command's, or asks again. What they
+/// set is among them.
 pub fn asked_of(words: &[String]) -> Option<Asked<'_>>
     ensures { MatchOption result
-        ((asked : Claimed) → ¬ AskFor (map string_bytes words.now) asked)
-        (λ asked. AskFor (map string_bytes words.now) (asked_in asked)) }
+        ((all : Claimed) → ¬ AskFor (map string_bytes words.now) all)
+        (λ asked. AskFor (map string_bytes words.now)
+        (wanted_in asked (settings_among (map string_bytes words.now)))) }
 {
     let mut asked = Asked {
         order: None,
@@ -50,12 +55,16 @@ pub fn asked_of(words: &[String]) -> Option<Asked<'_>>
     Some(asked)
 }
 
-/// What is asked for with one word more, or None where it is none of a listing's, or asks again.
+/// What is asked for with one word more, or None where it is none of a command's, or asks again.
 fn with_text<'a>(asked: Asked<'a>, text: &'a str) -> Option<Asked<'a>>
-    ensures { MatchOption result
-        ((next : Claimed) → ¬ Adds (asked_in asked.entry) text.now next)
-        (λ next. Adds (asked_in asked.entry) text.now (asked_in next)) }
+    ensures { (settings : List Setting) → MatchOption result
+        ((next : Claimed) → ¬ Adds (wanted_in asked.entry settings) text.now next)
+        (λ next. Adds (wanted_in asked.entry settings) text.now
+        (wanted_in next (settings ++ one_or_none (setting_in text.now)))) }
 {
+    if is_setting(text.as_bytes()) {
+        return Some(asked);
+    }
     match word_of(text) {
         Some(word) => with_word(asked, word),
         None => None,
@@ -64,7 +73,7 @@ fn with_text<'a>(asked: Asked<'a>, text: &'a str) -> Option<Asked<'a>>
 
 /// What is asked for with one word more, or None where it asks again.
 fn with_word<'a>(asked: Asked<'a>, word: Word<'a>) -> Option<Asked<'a>>
-    ensures { option_map asked_in result ≡ added (asked_in asked.entry) (word_in word.entry) }
+    ensures { option_map asked_in result ≡ asked_more (asked_in asked.entry) (word_in word.entry) }
 {
     match word {
         Word::Order(file) => match asked.order {

@@ -1,15 +1,15 @@
-//! The words that may stand behind a listing.
+//! The words that may stand behind a file, besides settings.
 ghost use Rattle.std.specs.Prelude.{◌≡◌, ◌≢◌, ◌++◌, ℕ, List, codes, MatchOption};
-ghost use Rattle.call_claims.specs.Command.{IsTurnsWord};
+ghost use Rattle.zpl_binding.specs.Settings.{Setting};
+ghost use Rattle.call_claims.specs.Command.{IsSettingWord};
 ghost use Rattle.exec_words.specs.Reading.{word_in};
 ghost use Rattle.exec_words.specs.Words.{IsCapacityText, IsLinksWord, IsWord};
 ghost use Rattle.exec_words.specs.Words.{Word as Claimed};
 
 use crate::limits::MOST_LINKS;
-use crate::numbers::number_of;
-use call_claims::MOST_TURNS;
+use call_words::{number_of, turns_of};
 
-/// A word behind a listing.
+/// A word behind a file.
 #[derive(Clone, Copy)]
 pub enum Word<'a> {
     /// The file of the order of turns.
@@ -24,6 +24,7 @@ pub enum Word<'a> {
 
 /// The word that a text is, if it is one.
 pub fn word_of(text: &str) -> Option<Word<'_>>
+    requires unset { (setting : Setting) → ¬ IsSettingWord text.now setting }
     ensures { MatchOption result
         ((word : Claimed) → ¬ IsWord text.now word)
         (λ word. IsWord text.now (word_in word)) }
@@ -50,21 +51,6 @@ fn order_of(text: &str) -> Option<&str>
         (λ file. text.now ≡ codes "order=" ++ file.now) }
 {
     text.strip_prefix("order=")
-}
-
-/// The number behind `turns=`.
-fn turns_of(text: &[u8]) -> Option<u64>
-    ensures { MatchOption result ((n : ℕ) → ¬ IsTurnsWord text.now n) (IsTurnsWord text.now) }
-{
-    let [b't', b'u', b'r', b'n', b's', b'=', digits @ ..] = text else {
-        return None;
-    };
-    let turns = number_of(digits)?;
-    if turns <= MOST_TURNS {
-        Some(turns)
-    } else {
-        None
-    }
 }
 
 /// The number behind `links=`.

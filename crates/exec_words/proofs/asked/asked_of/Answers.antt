@@ -1,8 +1,9 @@
-use Rattle.std.proofs.Common.{◌≡◌, ℕ, List, [], ◌+◌, map, length, get_or, drop, string_bytes, Global, sym, subst, arith}
+use Rattle.std.proofs.Common.{◌≡◌, [], ◌+◌, map, get_or, take, string_bytes, Global, sym, subst, arith}
 use Rattle.std.proofs.Math.ListN.{length-map}
-use Rattle.exec_words.specs.Asked.{Adds, Asked}
-use Rattle.exec_words.specs.Reading.{asked_in}
-use Rattle.exec_words.proofs.AskedLemmas.{all_read, as_many, word_here, word_put, word_read, word_refused}
+use Rattle.call_claims.specs.Setting.{settings_among}
+use Rattle.exec_words.specs.Asked.{Adds, Wanted}
+use Rattle.exec_words.specs.Reading.{wanted_in}
+use Rattle.exec_words.proofs.AskedLemmas.{all_read, as_many, word_adds, word_here, word_put, word_read, word_refused}
 use Rattle.exec_words.proofs.asked.asked_of.Goals as goal
 
 pub returns-in-None : goal.returns-in-None
@@ -12,9 +13,10 @@ returns-in-None c = λ last ask.
     let inside = as_many string_bytes c.args.words.now i c.loop-word-test.true in
     let here : get_or words i [] ≡ c.as_str.result.now = word_here string_bytes c.args.words.now i c.word-item.result
     c.as_str.result.now c.loop-word-test.true c.word-item.is c.as_str.ensures.value in
-    word_refused words i inside (asked_in c.loop-word.asked) last
-    (subst (λ word. (next : Asked) → ¬ Adds (asked_in c.loop-word.asked) word next)
-    (sym here) (c.in-None.ensures {u = tt}))
+    let settings = settings_among (take i words) in
+    word_refused words i inside (wanted_in c.loop-word.asked settings) last
+    (subst (λ word. (next : Wanted) → ¬ Adds (wanted_in c.loop-word.asked settings) word next)
+    (sym here) (c.in-None.ensures {u = tt} settings))
     (c.loop-word.invariant.left last ask)
 
 pub loop-word-preserved : goal.loop-word-preserved
@@ -24,10 +26,11 @@ loop-word-preserved c =
     let inside = as_many string_bytes c.args.words.now i c.loop-word-test.true in
     let here : get_or words i [] ≡ c.as_str.result.now = word_here string_bytes c.args.words.now i c.word-item.result
     c.as_str.result.now c.loop-word-test.true c.word-item.is c.as_str.ensures.value in
-    let before = asked_in c.loop-word.asked in
-    let after = asked_in c.in-Some.next in
-    let adds : Adds before (get_or words i []) after =
-    subst (λ word. Adds before word after) (sym here) (c.in-Some.ensures {u = tt}) in
+    let settings = settings_among (take i words) in
+    let before = wanted_in c.loop-word.asked settings in
+    let after = wanted_in c.in-Some.next (settings_among (take (i + 1) words)) in
+    let adds = word_adds words i inside c.as_str.result.now c.loop-word.asked c.in-Some.next here
+    (c.in-Some.ensures {u = tt} settings) in
     record {
       left = λ last ask. word_read words i inside before after last adds
           (c.loop-word.invariant.left last ask);
@@ -38,7 +41,6 @@ loop-word-preserved c =
 pub returns : goal.returns
 returns c =
     let words = map string_bytes c.args.words.now in
-    let asked = asked_in c.loop-word.asked in
-    c.loop-word.invariant.all asked
-    (all_read words c.loop-word.word-index asked
+    c.loop-word.invariant.all (wanted_in c.loop-word.asked (settings_among words))
+    (all_read words c.loop-word.word-index c.loop-word.asked
     (omega (arith, c.loop-word-test.false, length-map c.args.words.now (string_bytes {Z = Global}))))

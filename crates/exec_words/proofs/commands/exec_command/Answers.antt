@@ -1,7 +1,7 @@
-use Rattle.std.proofs.Common.{◌≡◌, ◌∷◌, ◌-◌, map, length, take, drop, MatchOption, string_bytes, Global, sym, ◌∙◌, subst, arith}
+use Rattle.std.proofs.Common.{◌-◌, map, length, take, drop, MatchOption, string_bytes, Global, sym, ◌∙◌, subst, arith}
 use Rattle.exec_words.specs.Asked.{IsExec, IsNoExec}
 use Rattle.exec_words.specs.Reading.{asked_in}
-use Rattle.exec_words.proofs.AskedLemmas.{begins_with, two_words}
+use Rattle.call_words.proofs.CommandLemmas.{begins_with, two_words}
 use Rattle.exec_words.proofs.commands.exec_command.Goals as goal
 
 pub returns-in-len2-up : goal.returns-in-len2-up
