@@ -39,21 +39,21 @@ record IsRunStatus (n : ℕ) : Type 0 where
 
 -- ---- from the cause to how the run ended
 module _ (run : Run) (report : Bool) (k : ℕ) where
-  run_done : {n : ℕ} {told : List ℕ} → RunCause run report k n told → n ≡ DONE → IsDoneAt run k
+  pub run_done : {n : ℕ} {told : List ℕ} → RunCause run report k n told → n ≡ DONE → IsDoneAt run k
   run_done (done e) h = e
   run_done (trap kind line e) h = absurd (omega arith)
   run_done (turn_limit e) h = absurd (omega arith)
   run_done (stuck p kind e) h = absurd (omega arith)
   run_done (idle p e) h = absurd (omega arith)
 
-  run_trap : {n : ℕ} {told : List ℕ} → RunCause run report k n told → n ≡ TRAPPED → IsTrapAt run k
+  pub run_trap : {n : ℕ} {told : List ℕ} → RunCause run report k n told → n ≡ TRAPPED → IsTrapAt run k
   run_trap (done e) h = absurd (omega arith)
   run_trap (trap kind line e) h = (kind, line, e)
   run_trap (turn_limit e) h = absurd (omega arith)
   run_trap (stuck p kind e) h = absurd (omega arith)
   run_trap (idle p e) h = absurd (omega arith)
 
-  run_limit : {n : ℕ} {told : List ℕ} → RunCause run report k n told → n ≡ TURN_LIMIT
+  pub run_limit : {n : ℕ} {told : List ℕ} → RunCause run report k n told → n ≡ TURN_LIMIT
       → IsLimitedAt run k
   run_limit (done e) h = absurd (omega arith)
   run_limit (trap kind line e) h = absurd (omega arith)
@@ -61,7 +61,7 @@ module _ (run : Run) (report : Bool) (k : ℕ) where
   run_limit (stuck p kind e) h = absurd (omega arith)
   run_limit (idle p e) h = absurd (omega arith)
 
-  run_stuck : {n : ℕ} {told : List ℕ} → RunCause run report k n told → n ≡ STUCK
+  pub run_stuck : {n : ℕ} {told : List ℕ} → RunCause run report k n told → n ≡ STUCK
       → IsStuckOrIdleAt run k
   run_stuck (done e) h = absurd (omega arith)
   run_stuck (trap kind line e) h = absurd (omega arith)
@@ -78,13 +78,13 @@ module _ (run : Run) (report : Bool) (k : ℕ) where
   run_other (idle p e) = (λ h. omega arith, λ h. omega arith)
 
 -- ---- from how the run ended to a cause
-told_done : (run : Run) (k : ℕ) (report : Bool) → IsDoneAt run k → (told : List ℕ) × RunCause run report k DONE told
+pub told_done : (run : Run) (k : ℕ) (report : Bool) → IsDoneAt run k → (told : List ℕ) × RunCause run report k DONE told
 told_done run k report e = (_, done e)
 
-told_trap : (run : Run) (k : ℕ) (report : Bool) → IsTrapAt run k → (told : List ℕ) × RunCause run report k TRAPPED told
+pub told_trap : (run : Run) (k : ℕ) (report : Bool) → IsTrapAt run k → (told : List ℕ) × RunCause run report k TRAPPED told
 told_trap run k report e = (_, trap e.0 e.1 e.2)
 
-told_limit : (run : Run) (k : ℕ) (report : Bool) → IsLimitedAt run k → (told : List ℕ) × RunCause run report k TURN_LIMIT told
+pub told_limit : (run : Run) (k : ℕ) (report : Bool) → IsLimitedAt run k → (told : List ℕ) × RunCause run report k TURN_LIMIT told
 told_limit run k report e = (_, turn_limit e)
 
 told_stuck : (run : Run) (k : ℕ) (report : Bool) → IsStuckOrIdleAt run k → (told : List ℕ) × RunCause run report k STUCK told
@@ -92,12 +92,12 @@ told_stuck run k report (inl e) = (_, stuck e.0 e.1 e.2)
 told_stuck run k report (inr e) = (_, idle e.0 e.1)
 
 -- ---- orders
-record Ordered (code : Tables) (asked : Asked) (turns : ℕ) (text : List ℕ) (n : ℕ) (told : List ℕ)
+pub record Ordered (code : Tables) (asked : Asked) (turns : ℕ) (text : List ℕ) (n : ℕ) (told : List ℕ)
     : Type 0 where
-  order : List ℕ
-  read : reading (processors code) text ≡ Ok order
-  goes_on : GoesOnTo (run_of code asked order) turns
-  cause : RunCause (run_of code asked order) asked.report turns n told
+  pub order : List ℕ
+  pub read : reading (processors code) text ≡ Ok order
+  pub goes_on : GoesOnTo (run_of code asked order) turns
+  pub cause : RunCause (run_of code asked order) asked.report turns n told
 
 module _ (call : Call) (code : Tables) (asked : Asked) (turns : ℕ) where
   order_run : (text : List ℕ) {n : ℕ} {told : List ℕ} → OrderCause code asked turns text n told
@@ -106,7 +106,7 @@ module _ (call : Call) (code : Tables) (asked : Asked) (turns : ℕ) where
   order_run text (ran order e goes c) a =
       record { order = order; read = e; goes_on = goes; cause = c }
 
-  order_file_run : (file : Option (List ℕ)) {n : ℕ} {told : List ℕ}
+  pub order_file_run : (file : Option (List ℕ)) {n : ℕ} {told : List ℕ}
       → OrderFileCause call code asked turns file n told → n ≢ ORDER_REFUSED → n ≢ UNREADABLE
       → n ≢ TOO_LONG
       → (text : List ℕ) × IsOrderText call file text × Ordered code asked turns text n told
@@ -116,7 +116,7 @@ module _ (call : Call) (code : Tables) (asked : Asked) (turns : ℕ) where
   order_file_run (Some file) (work source w) a b d =
       (source.text, (source, refl), order_run source.text w a)
 
-  order_file_cause : (file : Option (List ℕ)) (text : List ℕ) {n : ℕ} {told : List ℕ}
+  pub order_file_cause : (file : Option (List ℕ)) (text : List ℕ) {n : ℕ} {told : List ℕ}
       → IsOrderText call file text → OrderCause code asked turns text n told
       → OrderFileCause call code asked turns file n told
   order_file_cause None text {n = n} {told = told} is c =

@@ -57,7 +57,7 @@ module _ (run : Run) (report : Bool) (k : ℕ) where
   run_one (idle p e) (idle q f) = refl
 
 -- ---- the text of an order
-read_one : {read : Result (List ℕ) ℕ} (at : ℕ) (order : List ℕ) → read ≡ Err at → read ≡ Ok order → ⊥
+pub read_one : {read : Result (List ℕ) ℕ} (at : ℕ) (order : List ℕ) → read ≡ Err at → read ≡ Ok order → ⊥
 read_one at order a b = let no : Err at ≡ Ok order = sym a ∙ b in cc
 
 same_order : (read : Result (List ℕ) ℕ) (order other : List ℕ) → read ≡ Ok order → read ≡ Ok other
@@ -84,16 +84,17 @@ IsOneWork : (List ℕ → ℕ → List ℕ → Type 0) → Type 0
 IsOneWork Works = (text : List ℕ) (n m : ℕ) (told other : List ℕ) → Works text n told
     → Works text m other → n ≢ UNREADABLE → m ≢ UNREADABLE → n ≡ m
 
-module _ (call : Call) (one : TellsOne call) (file : List ℕ) where
-  not_long : IsTooLong call file → Source call file → ⊥
-  unfolding TellsOne
+abbrev pub TellsOneAt : Call → List ℕ → Type 0
+TellsOneAt call file = (text other : List ℕ) → call.tells file text → call.tells file other → text ≡ other
+
+module _ (call : Call) (file : List ℕ) (one : TellsOneAt call file) where
+  pub not_long : IsTooLong call file → Source call file → ⊥
   not_long long source =
-      let same : length long.text ≡ length source.text = ap length (one file long.text source.text long.told source.told) in
+      let same : length long.text ≡ length source.text = ap length (one long.text source.text long.told source.told) in
       omega (arith, same, long.long, source.short)
 
-  same_text : (a b : Source call file) → a.text ≡ b.text
-  unfolding TellsOne
-  same_text a b = one file a.text b.text a.told b.told
+  pub same_text : (a b : Source call file) → a.text ≡ b.text
+  same_text a b = one a.text b.text a.told b.told
 
   text_one : {May Ends : Type 0} {Works : List ℕ → ℕ → List ℕ → Type 0} {n m : ℕ}
       {told other : List ℕ} → IsOneWork Works → TextCause call file May Ends Works n told
@@ -110,18 +111,32 @@ module _ (call : Call) (one : TellsOne call) (file : List ℕ) where
       works also.text n m told other (subst (λ t. Works t n told) (same_text source also) w) v a b
 
 -- ---- the order's file, and the text of a listing
+orders_one : (code : Tables) (asked : Asked) (turns : ℕ) → IsOneWork (OrderCause code asked turns)
+unfolding IsOneWork
+orders_one code asked turns = λ text n m told other c d a b. order_one code asked turns text c d
+
+-- where words name the file of the order, both statuses are of a fetch that didn't fail, and it tells
+-- one text
+abbrev pub IsOneFile : Call → ℕ → ℕ → Option (List ℕ) → Type 0
+IsOneFile call n m None = Unit {0}
+IsOneFile call n m (Some file) = (n ≢ UNREADABLE) × (m ≢ UNREADABLE) × TellsOneAt call file
+
+pub order_file_one : (call : Call) (asked : Asked) (code : Tables) (turns : ℕ)
+    (file : Option (List ℕ)) (n m : ℕ) (told other : List ℕ) → IsOneFile call n m file
+    → OrderFileCause call code asked turns file n told
+    → OrderFileCause call code asked turns file m other → n ≡ m
+order_file_one call asked code turns None n m told other is c d =
+    order_one code asked turns [] c d
+order_file_one call asked code turns (Some file) n m told other is c d =
+    text_one call file is.2 (orders_one code asked turns) c d is.0 is.1
+
+one_file : (call : Call) → TellsOne call → (n m : ℕ) (file : Option (List ℕ)) → n ≢ UNREADABLE
+    → m ≢ UNREADABLE → IsOneFile call n m file
+unfolding TellsOne
+one_file call one n m None a b = tt
+one_file call one n m (Some file) a b = (a, b, one file)
+
 module _ (call : Call) (one : TellsOne call) (asked : Asked) where
-  orders_one : (code : Tables) (turns : ℕ) → IsOneWork (OrderCause code asked turns)
-  unfolding IsOneWork
-  orders_one code turns = λ text n m told other c d a b. order_one code asked turns text c d
-
-  order_file_one : (code : Tables) (turns : ℕ) (file : Option (List ℕ)) (n m : ℕ)
-      (told other : List ℕ) → OrderFileCause call code asked turns file n told
-      → OrderFileCause call code asked turns file m other → n ≢ UNREADABLE → m ≢ UNREADABLE → n ≡ m
-  order_file_one code turns None n m told other c d a b = order_one code asked turns [] c d
-  order_file_one code turns (Some file) n m told other c d a b =
-      text_one call one file (orders_one code turns) c d a b
-
   module _ (execution : Execution)
       (line_law : (bytes : List ℕ) (tables : Tables) (number : ℕ) → IsListing bytes tables
       → IsBadLine bytes number → ⊥)
@@ -144,9 +159,10 @@ module _ (call : Call) (one : TellsOne call) (asked : Asked) where
     listing_one text (listed code is made c) (bad_table line e z) a b = absurd (table_law text code line is e)
     listing_one text {n = n} {m = m} {told = told} {other = other} (listed code is made c)
         (listed more also too d) a b =
-        order_file_one more execution.turns asked.order n m told other
+        order_file_one call asked more execution.turns asked.order n m told other
+        (one_file call one n m asked.order a b)
         (subst (λ t. OrderFileCause call t asked execution.turns asked.order n told)
-        (same_code code more made too) c) d a b
+        (same_code code more made too) c) d
 
     listings_one : IsOneWork (ListingCause call asked execution)
     unfolding IsOneWork
@@ -156,7 +172,8 @@ module _ (call : Call) (one : TellsOne call) (asked : Asked) where
         → ListingFileCause call file asked execution n told
         → ListingFileCause call file asked execution m other → n ≢ UNREADABLE → m ≢ UNREADABLE
         → n ≡ m
-    file_one file c d a b = text_one call one file listings_one c d a b
+    unfolding TellsOne
+    file_one file c d a b = text_one call file (one file) listings_one c d a b
 
 -- ---- any call
 tells_one : (call : Call) (n : ℕ) → IsSettled call n → TellsOne call
@@ -165,11 +182,11 @@ tells_one call n settled = settled.one
 
 pub text_short : (call : Call) (file : List ℕ) (n : ℕ) → IsSettled call n → IsTooLong call file
     → Source call file → ⊥
-text_short call file n settled long source = not_long call (tells_one call n settled) file long source
+text_short call file n settled long source = not_long call file (settled.one file) long source
 
 pub texts_same : (call : Call) (file : List ℕ) (n : ℕ) → IsSettled call n
     → (one other : Source call file) → one.text ≡ other.text
-texts_same call file n settled one other = same_text call (tells_one call n settled) file one other
+texts_same call file n settled one other = same_text call file (settled.one file) one other
 
 pub cause_one : (call : Call) (execution : Execution) (n m : ℕ) (told other : List ℕ)
     → ((bytes : List ℕ) (tables : Tables) (number : ℕ) → IsListing bytes tables
