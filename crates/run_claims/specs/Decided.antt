@@ -1,0 +1,130 @@
+-- When each status comes.
+--
+--   IsRunSettled      no put failed, memory wasn't wanting, and the order is one
+--   HasCodeOf         code was made of the file's text
+--   IsUnder           it was run under the order that the words ask for
+--   IsTooFew          so few turns that no bound on those of the code is within them
+--   IsExact           each status comes just where its own cause is
+use Rattle.std.specs.Prelude.{◌≡◌, ◌≢◌, ◌⊎◌, ◌↔◌, ℕ, ◌<◌, List, Option, Some, None, Ok, Err, ⊤}
+use Rattle.zpl_nums.specs.declared.ends.End.TheVariants.{More}
+use Rattle.node_form.specs.declared.tables.Tables.{Tables}
+use Rattle.zpl_binding.specs.Settings.{Setting}
+use Rattle.zpl_names.specs.Expansion.{shattered_loops}
+use Rattle.zpl_meaning.specs.Program.{Meaning, mean_of, steps_of}
+use Rattle.zpl_claims.specs.Bound.{turn_bound}
+use Rattle.grid_meaning.specs.Grid.{processors}
+use Rattle.grid_order.specs.Reading.{reading}
+use Rattle.grid_runs.specs.Run.{Run, GoesOnTo, IsLimitedAt, Stops, turns_in}
+use Rattle.call_claims.specs.Call.{Call}
+use Rattle.call_claims.specs.Cause.{IsTooLong}
+use Rattle.call_claims.specs.Decided.{HasNoProgramIn, HasUnboundIn, IsDecided, IsSettled}
+use Rattle.call_claims.specs.Execution.{Execution}
+use Rattle.call_claims.specs.Source.{IsCodeOf, Source}
+use Rattle.call_claims.specs.declared.status.TheConstants.{DONE, UNREADABLE, TOO_LONG, REFUSED}
+use Rattle.call_claims.specs.declared.status.TheConstants.{UNBOUND, TRAPPED, TURN_LIMIT}
+use Rattle.exec_words.specs.Asked.{Asked, IsRun, limit_of}
+use Rattle.exec_claims.specs.Cause.{run_of}
+use Rattle.exec_claims.specs.Cause as orders
+use Rattle.exec_claims.specs.Decided.{IsDoneAt, IsOrderText, IsTrapAt}
+use Rattle.exec_claims.specs.declared.status.TheConstants.{ORDER_REFUSED, STUCK}
+use Rattle.run_claims.specs.Cause.{Runs}
+
+-- ---- the order of a run
+-- where words name its file, no fetch failed, and the file tells at most one text
+abbrev pub IsOneOrder : Call → ℕ → Option (List ℕ) → Type 0
+IsOneOrder call status None = ⊤
+IsOneOrder call status (Some file) = (status ≢ UNREADABLE)
+    × ((text other : List ℕ) → call.tells file text → call.tells file other → text ≡ other)
+
+-- No put failed, memory wasn't wanting, and the order of the run is one.
+pub record IsRunSettled (call : Call) (status : ℕ) : Type 0 where
+  pub decided : IsDecided status
+  pub order : (file : List ℕ) (asked : Asked) (settings : List Setting)
+      → IsRun call.words file asked settings → IsOneOrder call status asked.order
+
+-- ---- code
+-- Code was made of the text that the file tells, and this holds of it.
+pub record HasCodeOf (call : Call) (file : List ℕ) (settings : List Setting)
+    (execution : Execution) (Holds : Tables → Type 0) : Type 0 where
+  pub source : Source call file
+  pub code : Tables
+  pub of_text : IsCodeOf source.text settings code
+  pub made : execution.code ≡ Some code
+  pub holds : Holds code
+
+-- It was run under the order that the words ask for, and this holds of the run and of the turns
+-- given.
+pub record IsUnder (call : Call) (asked : Asked) (turns : ℕ) (Holds : Run → ℕ → Type 0)
+    (code : Tables) : Type 0 where
+  pub text : List ℕ
+  pub order_text : IsOrderText call asked.order text
+  pub order : List ℕ
+  pub read : reading (processors code) text ≡ Ok order
+  pub goes_on : GoesOnTo (run_of code asked order) turns
+  pub holds : Holds (run_of code asked order) turns
+
+abbrev pub RunsTo : Call → Execution → (Run → ℕ → Type 0) → Type 0
+RunsTo call execution Holds =
+    Runs call (λ file asked settings. HasCodeOf call file settings execution
+    (IsUnder call asked execution.turns Holds))
+
+-- ---- the last turn of a run
+-- there it stops, or there are no turns left
+abbrev pub IsLast : Run → ℕ → Type 0
+IsLast run k = Stops run k ⊎ (k ≡ turns_in run)
+
+-- ---- too few turns
+-- No bound that brings the meaning to its end brings the code to its end within so many turns
+-- behind any order.
+abbrev pub IsTooFew : ℕ → Tables → (ℕ → Meaning) → (ℕ → ℕ) → ℕ → Type 0
+IsTooFew limit code mean steps loops =
+    (n : ℕ) → (mean n).ending ≢ More → limit < turn_bound code steps loops n
+
+-- 8: all turns of the order, and all that may follow it, were given, and the run isn't over. Those
+-- that may follow are fewer than the bound wherever the meaning ends.
+pub record IsCutShort (call : Call) (file : List ℕ) (asked : Asked) (settings : List Setting)
+    (execution : Execution) : Type 0 where
+  pub of_code : HasCodeOf call file settings execution
+      (IsUnder call asked execution.turns IsLimitedAt)
+  pub too_few : let program = of_code.of_text.program in
+      IsTooFew (limit_of asked) of_code.code (mean_of program settings)
+      (steps_of program settings) (shattered_loops program)
+
+-- ---- files that are too long
+-- that of the order, where words name one
+abbrev pub HasLongOrder : Call → Option (List ℕ) → Type 0
+HasLongOrder call None = ⊥
+HasLongOrder call (Some file) = orders.IsTooLong call file
+
+-- 3: the program's, or that of the order, where code was made
+abbrev pub HasLongFile : Call → List ℕ → Asked → List Setting → Execution → Type 0
+HasLongFile call file asked settings execution =
+    IsTooLong call file
+    ⊎ HasCodeOf call file settings execution (λ code. HasLongOrder call asked.order)
+
+-- ---- 6: code was made, and an item of the order's text is wrong
+pub record HasBadOrder (call : Call) (asked : Asked) (code : Tables) : Type 0 where
+  pub text : List ℕ
+  pub order_text : IsOrderText call asked.order text
+  pub at : ℕ
+  pub bad : reading (processors code) text ≡ Err at
+
+-- ---- each status comes just where its own cause is
+pub record IsExact (call : Call) (execution : Execution) (status : ℕ) : Type 0 where
+  pub too_long : IsSettled call status
+      → (status ≡ TOO_LONG) ↔ Runs call (λ file asked settings.
+      HasLongFile call file asked settings execution)
+  pub refused : IsSettled call status
+      → (status ≡ REFUSED) ↔ Runs call (λ file asked settings. HasNoProgramIn call file settings)
+  pub unbound : IsSettled call status
+      → (status ≡ UNBOUND) ↔ Runs call (λ file asked settings. HasUnboundIn call file settings)
+  pub order_refused : IsRunSettled call status
+      → (status ≡ ORDER_REFUSED) ↔ Runs call (λ file asked settings.
+      HasCodeOf call file settings execution (HasBadOrder call asked))
+  pub done : IsRunSettled call status → (status ≡ DONE) ↔ RunsTo call execution IsDoneAt
+  pub trap : IsRunSettled call status → (status ≡ TRAPPED) ↔ RunsTo call execution IsTrapAt
+  pub turn_limit : IsRunSettled call status
+      → (status ≡ TURN_LIMIT) ↔ Runs call (λ file asked settings.
+      IsCutShort call file asked settings execution)
+  -- 12 never comes: over links of every capacity the code goes on until it is over.
+  pub never_stuck : status ≢ STUCK

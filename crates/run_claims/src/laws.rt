@@ -1,0 +1,30 @@
+//! The laws of causes and runs.
+ghost use Rattle.std.specs.Prelude.{◌≡◌, ◌≤◌, ℕ, List};
+ghost use Rattle.call_claims.specs.Call.{call_of};
+ghost use Rattle.call_claims.specs.Execution.{Execution};
+ghost use Rattle.grid_runs.specs.Run.{GoesOnTo, Run, turns_in};
+ghost use Rattle.run_claims.specs.Cause.{Cause};
+ghost use Rattle.run_claims.specs.Decided.{IsExact, IsLast};
+
+use grid_meaning::{given_turns_are_orders, over_stays};
+use grid_order::orders_have_their_bounds;
+use zpl_io::Files;
+
+/// A status of `run` that has its cause comes just where its own cause is, where memory wasn't wanting,
+/// no put failed and the order is one; for some, where no fetch failed and the files tell one text a
+/// name. That a processor is stuck, or that none can move, never comes.
+pub fn run_causes_are_exact<F: Files>()
+    ensures { (files : F) (words : List (List ℕ)) (ran : Execution) (n : ℕ) (told : List ℕ) →
+        let call = call_of words (F.tells files) (F.may_fail files) in
+        Cause call ran n told → IsExact call ran n }
+{
+    given_turns_are_orders();
+    over_stays();
+    orders_have_their_bounds();
+}
+
+/// A run that is over, or was given all turns, has one number of turns.
+pub fn runs_are_one()
+    ensures { (run : Run) (k j : ℕ) → GoesOnTo run k → GoesOnTo run j →
+        k ≤ turns_in run → j ≤ turns_in run → IsLast run k → IsLast run j → k ≡ j }
+{}
