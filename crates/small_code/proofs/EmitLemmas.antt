@@ -53,6 +53,7 @@ extends_expr t row = record {
   grid = refl;
   scalars = refl;
   cells = refl;
+  arrays = refl;
   texts = front_all t.texts;
   exprs = front_push t.exprs row;
   code = front_all t.code;
@@ -63,6 +64,7 @@ extends_text t row = record {
   grid = refl;
   scalars = refl;
   cells = refl;
+  arrays = refl;
   texts = front_push t.texts row;
   exprs = front_all t.exprs;
   code = front_all t.code;
@@ -73,6 +75,7 @@ extends_row t row = record {
   grid = refl;
   scalars = refl;
   cells = refl;
+  arrays = refl;
   texts = front_all t.texts;
   exprs = front_all t.exprs;
   code = front_push t.code row;
@@ -410,6 +413,7 @@ loop_emits source names room line a a1 a2 a3 a4 a5 test body start expr exit fir
         scalars = ap (λ (t : Tables). t.scalars) e5 ∙ ap (λ (t : Tables). t.scalars) e4 ∙
             through.scalars;
         cells = ap (λ (t : Tables). t.cells) e5 ∙ ap (λ (t : Tables). t.cells) e4 ∙ through.cells;
+        arrays = ap (λ (t : Tables). t.arrays) e5 ∙ ap (λ (t : Tables). t.arrays) e4 ∙ through.arrays;
         texts = subst (IsFrontOf a.texts) (sym texts5) through.texts;
         exprs = subst (IsFrontOf a.exprs) (sym exprs5) through.exprs;
         code = record { rest = row ∷ (inside ++ back ∷ []); joins = code5 };

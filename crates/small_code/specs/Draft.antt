@@ -50,11 +50,12 @@ pub record IsDraft (tables : Tables) : Type 0 where
   pub scalar_rows : All IsScalarRow tables.code
   pub newline_first : slice_get tables.texts 0 ≡ Some newline
 
--- the new tables have the rows of the old ones in front, and the same grid, scalars and cells
+-- the new tables have the rows of the old ones in front, and the same grid, scalars, cells and arrays
 pub record Extends (old new : Tables) : Type 0 where
   pub grid : new.grid ≡ old.grid
   pub scalars : new.scalars ≡ old.scalars
   pub cells : new.cells ≡ old.cells
+  pub arrays : new.arrays ≡ old.arrays
   pub texts : IsFrontOf old.texts new.texts
   pub exprs : IsFrontOf old.exprs new.exprs
   pub code : IsFrontOf old.code new.code

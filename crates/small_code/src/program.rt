@@ -1,5 +1,5 @@
 //! The code of a program.
-ghost use Rattle.std.specs.Prelude.{◌∷◌, [], OnOk, IfOk, IfErr, length, map};
+ghost use Rattle.std.specs.Prelude.{◌≡◌, ◌∷◌, [], OnOk, IfOk, IfErr, length, map};
 ghost use Rattle.zpl_tree.specs.Spelling.{program_words};
 ghost use Rattle.zpl_tree.specs.View.{name_of, stmts_of, syntax_of};
 ghost use Rattle.grid_meaning.specs.Scalar.{IsScalarCode};
@@ -49,8 +49,9 @@ pub fn code_of_small(alloc: Global, program: &Program<'_>) -> Result<NodeProgram
         IfOk result (λ code. HoldsItsWords tree →
         IsTidy (1 ∷ 0 ∷ 0 ∷ []) tree (length (program_words tree)) code) }
 
-    // Its rows need scalars alone.
+    // Its rows need scalars alone, and it has no arrays.
     ensures rows { IfOk result IsScalarCode }
+    ensures arrays { IfOk result (λ code. code.arrays ≡ []) }
 {
     given_turns_are_orders();
     orders_go_on();

@@ -1,4 +1,5 @@
-use Rattle.std.proofs.Common.{map}
+use Rattle.std.proofs.Common.{◌∙◌, ap, map}
+use Rattle.node_form.specs.declared.tables.Tables.{Tables}
 use Rattle.zpl_tree.specs.View.{name_of, procedure_of, stmts_of, syntax_of}
 use Rattle.small_code.proofs.PartLemmas.{ok_fact, on_value, same_text}
 use Rattle.small_code.proofs.ProgramLemmas.{small_is_plain, made_is_small, made_is_code, made_is_tidy}
@@ -80,3 +81,9 @@ returns-clause-tidy c =
 
 pub returns-clause-rows : goal.returns-clause-rows
 returns-clause-rows c = on_value c.code_of_body.result _ _ (λ code made. made.rows) c.code_of_body.ensures.made
+
+pub returns-clause-arrays : goal.returns-clause-arrays
+returns-clause-arrays c =
+    on_value c.code_of_body.result _ _
+    (λ code made. ap (λ (t : Tables). t.arrays) made.ended ∙ made.emitted.extends.arrays)
+    c.code_of_body.ensures.made
