@@ -1,5 +1,1 @@
-pub mod AnswerLemmas
-pub mod AskedLemmas
-pub mod RunLemmas
-pub mod TellLemmas
 pub mod WorkLemmas

@@ -1,53 +1,25 @@
--- From what was fetched, read and run to the cause of the answer, and to what out took.
-use Rattle.std.proofs.Common.{◌≡◌, ◌≢◌, ℕ, ◌+◌, ◌*◌, ◌≤◌, ◌⊎◌, Bool, Result, List, [], length, Option, Some, None, Ok, Err}
-use Rattle.std.proofs.Common.{IfErr, IfOk, MatchOption, refl, sym, ◌∙◌, ap, subst, inl, inr, arith}
-use Rattle.zpl_io.specs.Faults.{CountsFaults}
-use Rattle.zpl_io.specs.Files.{GainsWhole, GainsTooMuch, SameTexts}
+-- From what was fetched and read to the cause of the answer, and to what out took.
+use Rattle.std.proofs.Common.{◌≡◌, ◌≢◌, ℕ, List, Some, MatchOption, sym, ap, subst, inl, inr}
 use Rattle.node_form.specs.declared.tables.Tables.{Tables}
-use Rattle.grid_meaning.specs.Grid.{processors}
-use Rattle.grid_order.specs.Reading.{reading}
-use Rattle.grid_sim.specs.declared.counts.Counts.{Counts}
-use Rattle.grid_runs.specs.Run.{Run, GoesOnTo}
-use Rattle.call_claims.specs.Call.{Call, call_of}
+use Rattle.call_claims.specs.Call.{Call}
 use Rattle.call_claims.specs.Decided.{IsDecided}
 use Rattle.call_claims.specs.Execution.{HasNoCounts}
-use Rattle.call_claims.specs.declared.ran.Ran.{Ran}
 use Rattle.exec_words.specs.Asked.{Asked, IsExec}
-use Rattle.exec_claims.specs.Answer.{HasCounts, IsReadFor, Runs, TakesPrinted}
-use Rattle.exec_claims.specs.Cause.{Cause, IsTooLong}
-use Rattle.exec_claims.specs.Cause.{OrderFileCause, RunCause, Source, run_of}
+use Rattle.exec_claims.specs.Answer.{IsReadFor, TakesPrinted}
+use Rattle.exec_claims.specs.Cause.{Cause, Source}
 use Rattle.exec_claims.specs.Cause.Cause.{exec}
 use Rattle.exec_claims.specs.Cause.ListingCause.{bad_line, bad_table, listed}
-use Rattle.exec_claims.specs.Cause.RunCause.{done, trap, turn_limit, stuck, idle}
-use Rattle.exec_claims.specs.Cause.OrderCause.{bad_item, ran as under_order}
-use Rattle.exec_claims.specs.Cause.TextCause.{too_long, unreadable, work as of_text}
-use Rattle.exec_claims.specs.Decided.{IsOrderText}
-use Rattle.exec_claims.specs.declared.limits.TheConstants.{MOST_LISTING}
-use Rattle.exec_call.specs.Answers.{status_of, told_of}
+use Rattle.exec_claims.specs.Cause.TextCause.{work as of_text}
+use Rattle.grid_call.specs.Answers.{status_of, told_of}
+use Rattle.grid_call.specs.Work.{execution_in, IsCodeWork}
+use Rattle.grid_call.specs.Work.IsCodeWork.{unordered, ran}
+use Rattle.grid_call.specs.declared.answers.Answer.{Answer}
+use Rattle.grid_call.specs.declared.answers.Answer.TheVariants as answer
+use Rattle.grid_call.specs.declared.work.Work.{Work}
+use Rattle.grid_call.proofs.WorkLemmas.{none_counted, of_code, ran_of, run_counted}
 use Rattle.exec_call.specs.Call.{IsOutputCut}
-use Rattle.exec_call.specs.Work.{execution_in, HasNoTurns, IsCodeWork, IsNoOrder, IsOrderOf}
-use Rattle.exec_call.specs.Work.{IsRunOn, IsUnlisted, IsWorkOn}
-use Rattle.exec_call.specs.Work.{OrderFails, ReadsNone}
-use Rattle.exec_call.specs.Work.IsCodeWork.{unordered, ran}
+use Rattle.exec_call.specs.Work.{IsUnlisted, IsWorkOn, ReadsNone}
 use Rattle.exec_call.specs.Work.IsWorkOn.{unread, read}
-use Rattle.exec_call.specs.declared.answers.Answer.{Answer}
-use Rattle.exec_call.specs.declared.answers.Answer.TheVariants as answer
-use Rattle.exec_call.specs.declared.work.Work.{Work}
-
--- ---- files
--- a whole text that was fetched
-abbrev pub source_of : (call : Call) (file text new : List ℕ)
-    → GainsWhole (call.tells file) MOST_LISTING [] new → text ≡ new → Source call file
-source_of call file text new gains is = record {
-  text = text;
-  told = subst (call.tells file) (sym (is ∙ gains.gained)) gains.is_told;
-  short = subst (λ t. length t ≤ MOST_LISTING) (sym (is ∙ gains.gained)) gains.is_short;
-}
-
-abbrev pub too_long_of : (call : Call) (file new : List ℕ)
-    → GainsTooMuch (call.tells file) MOST_LISTING [] new → IsTooLong call file
-too_long_of call file new gains =
-    record { text = gains.text; told = gains.is_told; long = gains.is_long }
 
 -- ---- no listing
 pub unlisted_of : (call : Call) (file : List ℕ) (source : Source call file) (a : Answer)
@@ -63,91 +35,7 @@ unlisted_of call file source (answer.BadItem at) is = elim is [ ]
 unlisted_of call file source (answer.Stopped stop report) is = elim is [ ]
 unlisted_of call file source answer.PutFailed is = elim is [ ]
 
--- ---- no order
-pub unread_order : (call : Call) (code : Tables) (file : List ℕ) (source : Source call file)
-    (a : Answer) → IsNoOrder code source.text a → OrderFails call code (Some file) a
-unread_order call code file source (answer.BadItem at) is =
-    λ d asked. of_text source (bad_item at is refl)
-unread_order call code file source answer.NoMemory is = λ d. absurd (d.memory refl)
-unread_order call code file source (answer.Unreadable name) is = elim is [ ]
-unread_order call code file source (answer.TooLong name) is = elim is [ ]
-unread_order call code file source (answer.BadLine line) is = elim is [ ]
-unread_order call code file source (answer.BadTable line) is = elim is [ ]
-unread_order call code file source (answer.Stopped stop report) is = elim is [ ]
-unread_order call code file source answer.PutFailed is = elim is [ ]
-
--- ---- files that tell the same texts
-module _ (words : List (List ℕ)) (tells other : List ℕ → List ℕ → Type 0)
-    (fails fail : List ℕ → Type 0) (same : SameTexts tells other) where
-  abbrev source_back : (file : List ℕ) → Source (call_of words other fail) file
-      → Source (call_of words tells fails) file
-  source_back file s =
-      record { text = s.text; told = (same file s.text).1 s.told; short = s.short }
-
-  text_back : (named : Option (List ℕ)) (text : List ℕ)
-      → IsOrderText (call_of words other fail) named text
-      → IsOrderText (call_of words tells fails) named text
-  text_back None text is = is
-  text_back (Some file) text is = (source_back file is.0, is.1)
-
-  order_back : (code : Tables) (named : Option (List ℕ)) (order : List ℕ)
-      → IsOrderOf (call_of words other fail) code named order
-      → IsOrderOf (call_of words tells fails) code named order
-  order_back code named order is = record {
-    text = is.text;
-    order_text = text_back named is.text is.order_text;
-    read = is.read;
-  }
-
-  cause_back : (code : Tables) (asked : Asked) (turns status : ℕ) (told : List ℕ)
-      (named : Option (List ℕ))
-      → OrderFileCause (call_of words other fail) code asked turns named status told
-      → OrderFileCause (call_of words tells fails) code asked turns named status told
-  cause_back code asked turns status told None cause = cause
-  cause_back code asked turns status told (Some file) (unreadable may ends) =
-      unreadable tt ends
-  cause_back code asked turns status told (Some file) (too_long long ends) =
-      too_long
-      (record { text = long.text; told = (same file long.text).1 long.told; long = long.long })
-      ends
-  cause_back code asked turns status told (Some file) (of_text source works) =
-      of_text (source_back file source) works
-
-  pub work_back : (code : Tables) (asked : Asked) (work : Work) (before after : List ℕ → Type 0)
-      → IsCodeWork (call_of words other fail) code asked work before after
-      → IsCodeWork (call_of words tells fails) code asked work before after
-  work_back code asked work before after (unordered fails nothing) =
-      unordered (λ d more. cause_back code more 0 _ _ asked.order (fails d more)) nothing
-  work_back code asked work before after (ran order is run) =
-      ran order (order_back code asked.order order is) run
-
 -- ---- the cause of the answer
--- of a run under an order that was read
-ordered : (call : Call) (code : Tables) (asked : Asked) (turns status : ℕ) (told : List ℕ)
-    (named : Option (List ℕ)) (order : List ℕ) → IsOrderOf call code named order
-    → GoesOnTo (run_of code asked order) turns
-    → RunCause (run_of code asked order) asked.report turns status told
-    → OrderFileCause call code asked turns named status told
-ordered call code asked turns status told None order is goes_on cause =
-    under_order order
-    (subst (λ text. reading (processors code) text ≡ Ok order) is.order_text is.read) goes_on cause
-ordered call code asked turns status told (Some file) order is goes_on cause =
-    of_text is.order_text.0
-    (under_order order
-    (subst (λ text. reading (processors code) text ≡ Ok order) (sym is.order_text.1) is.read)
-    goes_on cause)
-
-of_code : (call : Call) (code : Tables) (asked : Asked) (work : Work)
-    (before after : List ℕ → Type 0) → IsCodeWork call code asked work before after
-    → IsDecided (status_of work.answer)
-    → OrderFileCause call code asked work.counts.turns asked.order (status_of work.answer)
-    (told_of work.answer)
-of_code call code asked work before after (unordered fails nothing) d =
-    subst (λ n. OrderFileCause call code asked n asked.order (status_of work.answer)
-    (told_of work.answer)) (sym (ap (λ counts. counts.turns) nothing.counts)) (fails d asked)
-of_code call code asked work before after (ran order is run) d =
-    ordered call code asked work.counts.turns _ _ asked.order order is run.goes_on (run.cause d)
-
 pub caused : (call : Call) (file : List ℕ) (asked : Asked) (work : Work)
     (before after : List ℕ → Type 0) → IsExec call.words file asked
     → IsWorkOn call file asked work before after → IsDecided (status_of work.answer)
@@ -160,43 +48,6 @@ caused call file asked work before after given (read code made is of) d =
     (listed code is.listing made (of_code call code asked work before after of d)))
 
 -- ---- the code and the counts
--- what is answered, with a status
-abbrev pub ran_of : ℕ → Work → Ran
-ran_of status work = record {
-  status = status;
-  code = work.code;
-  turns = work.counts.turns;
-  sends = work.counts.sends;
-  words_sent = work.counts.words;
-}
-
-none_counted : (status : ℕ) (work : Work) (before after : List ℕ → Type 0)
-    → HasNoTurns work before after → HasNoCounts (ran_of status work)
-none_counted status work before after nothing = record {
-  turns = ap (λ counts. counts.turns) nothing.counts;
-  sends = ap (λ counts. counts.sends) nothing.counts;
-  words = ap (λ counts. counts.words) nothing.counts;
-}
-
-run_counted : (status : ℕ) (call : Call) (code : Tables) (asked : Asked) (work : Work)
-    (before after : List ℕ → Type 0) → IsCodeWork call code asked work before after
-    → HasNoCounts (ran_of status work) ⊎ Runs call code asked
-    (λ run. HasCounts run (ran_of status work))
-run_counted status call code asked work before after (unordered fails nothing) =
-    inl (none_counted status work before after nothing)
-run_counted status call code asked work before after (ran order is run) = inr (record {
-  text = is.text;
-  order_text = is.order_text;
-  order = order;
-  read = is.read;
-  holds = record {
-    goes_on = run.goes_on;
-    within = run.within;
-    sends = run.sends;
-    words = run.words;
-  };
-})
-
 pub read_for : (status : ℕ) (call : Call) (file : List ℕ) (asked : Asked) (work : Work)
     (before after : List ℕ → Type 0) → IsExec call.words file asked
     → IsWorkOn call file asked work before after
@@ -283,66 +134,3 @@ cut_for status call file asked work before after given (unread none reads nothin
     absurd (nothing.put failed)
 cut_for status call file asked work before after given (read code made is of) failed =
     run_cut status call file code asked work before after given made of failed
-
--- ---- answers of results
-pub on_ok : {A B : Type 0} (r : Result A B) (P Q : A → Type 0) → ((v : A) → P v → Q v) → IfOk r P
-    → IfOk r Q
-on_ok (Ok v) P Q to h = to v h
-on_ok (Err e) P Q to h = tt
-
-pub on_err : {A B : Type 0} (r : Result A B) (P Q : B → Type 0) → ((e : B) → P e → Q e)
-    → IfErr r P → IfErr r Q
-on_err (Ok v) P Q to h = tt
-on_err (Err e) P Q to h = to e h
-
--- ---- fetches
--- where neither failed the counts are as they were
-pub not_fetched : (P Q : Type 0) (before after : ℕ) → ¬ P → ¬ Q → CountsFaults P before after
-    → CountsFaults Q before after
-not_fetched P Q before after passed never counts = record {
-  rises = λ q. absurd (never q);
-  only = λ less. absurd (passed (counts.only less));
-  never_falls = counts.never_falls;
-  bounded = counts.bounded;
-}
-
--- ---- orders
--- the text of an order isn't too long
-text_few : (call : Call) (named : Option (List ℕ)) (text : List ℕ)
-    → IsOrderText call named text → length text ≤ 16777216
-text_few call None text is = subst (λ t. length t ≤ 16777216) (sym is) (omega arith)
-text_few call (Some file) text is = subst (λ t. length t ≤ 16777216) is.1 is.0.short
-
-few_turns : (turns bytes limit : ℕ) → turns ≤ 1000000 * bytes → bytes ≤ 16777216
-    → limit ≤ 2305843009213693952 → turns + limit ≤ 9223372036854775808
-few_turns turns bytes limit few short most = omega arith
-
-abbrev pub AreFew : Type 0
-AreFew = (count : ℕ) (text order : List ℕ) → reading count text ≡ Ok order
-    → length order ≤ 1000000 * length text
-
--- so all turns that it gives can be counted
-pub turns_fit : AreFew → (call : Call) (code : Tables) (named : Option (List ℕ)) (order : List ℕ)
-    (limit : ℕ) → IsOrderOf call code named order → limit ≤ 2305843009213693952
-    → length order + limit ≤ 9223372036854775808
-turns_fit few call code named order limit is most =
-    few_turns (length order) (length is.text) limit
-    (few (processors code) is.text order is.read) (text_few call named is.text is.order_text) most
-
--- ---- a run fetches nothing
-run_read_none : {run : Run} {wanted : Bool} {k status : ℕ} {told : List ℕ}
-    → RunCause run wanted k status told → status ≡ 2 → ⊥
-run_read_none (done ends) e = omega arith
-run_read_none (trap kind line ends) e = omega arith
-run_read_none (turn_limit ends) e = omega arith
-run_read_none (stuck p kind ends) e = omega arith
-run_read_none (idle p ends) e = omega arith
-
-pub run_fetches_none : (run : Run) (wanted : Bool) (a : Answer) (counts : Counts)
-    (before after : List ℕ → Type 0) → IsRunOn run wanted a counts before after
-    → status_of a ≡ 2 → ⊥
-run_fetches_none run wanted a counts before after is e =
-    run_read_none (is.cause (record {
-      put = λ nine. omega (arith, e, nine);
-      memory = λ ten. omega (arith, e, ten);
-    })) e

@@ -1,8 +1,7 @@
 -- What is said of a call of `exec`.
 --
---   Stream, stream_of   a sink in a call
---   IsOutputCut         where a put of what is printed failed
---   IsExecuted          what comes of the call
+--   IsOutputCut   where a put of what is printed failed
+--   IsExecuted    what comes of the call
 use Rattle.std.specs.Prelude.{◌≡◌, ◌≢◌, ◌⊎◌, ◌↔◌, ℕ, List, Some, MatchOption}
 use Rattle.zpl_io.specs.Faults.{Rose}
 use Rattle.node_form.specs.declared.tables.Tables.{Tables}
@@ -13,29 +12,11 @@ use Rattle.call_claims.specs.Decided.{IsSettled}
 use Rattle.call_claims.specs.Execution.{execution_of, HasNoCounts}
 use Rattle.call_claims.specs.declared.status.TheConstants.{DONE, TRAPPED, TURN_LIMIT, PUT_FAILED}
 use Rattle.exec_words.specs.Asked.{Asked}
+use Rattle.grid_call.specs.Stream.{Stream}
 use Rattle.exec_claims.specs.Answer.{IsAnswered, IsHalfAnswered, IsReadFor, Runs, TakesPrinted}
 use Rattle.exec_claims.specs.Decided.{Execs, ExecsNoListing, IsDoneAt, IsStuckOrIdleAt, IsTrapAt}
 use Rattle.exec_claims.specs.Decided.{RunsTo}
 use Rattle.exec_claims.specs.declared.status.TheConstants.{LISTING_REFUSED, STUCK}
-
--- ---- sinks
--- what a sink told that it took before the call and after it, how many puts had failed, and that it
--- is as it was
-pub record Stream : Type 1 where
-  pub before : List ℕ → Type 0
-  pub after : List ℕ → Type 0
-  pub faults : ℕ
-  pub faults_after : ℕ
-  pub same : Type 0
-
-abbrev pub stream_of : (List ℕ → Type 0) → (List ℕ → Type 0) → ℕ → ℕ → Type 0 → Stream
-stream_of before after faults faults_after same = record {
-  before = before;
-  after = after;
-  faults = faults;
-  faults_after = faults_after;
-  same = same;
-}
 
 -- ---- a put that failed
 -- The code was run, and the stream took what is printed in the given turns and a front of what the

@@ -1,38 +1,23 @@
 -- What comes of the work of a call, up to what is told of it.
 --
---   execution_in, HasNoTurns   the code and the turns; nothing was run
---   ReadsNone, OrderFails      no code, or no order, was read, and why
---   IsOrderOf                  the order that the words ask for
---   IsRunOn                    what came of a run
---   IsWorkOn                   what came of the work of a call
-use Rattle.std.specs.Prelude.{◌≡◌, ◌≢◌, ℕ, ◌≤◌, Bool, List, [], Option, Some, None, Result, Ok, Err, ⊤}
-use Rattle.zpl_io.specs.Sink.{Takes}
+--   ReadsNone    no code was read, and why
+--   IsUnlisted   why a text is no listing
+--   IsWorkOn     what came of the work of a call
+use Rattle.std.specs.Prelude.{◌≡◌, ℕ, List, Some, None, ⊤}
 use Rattle.node_form.specs.declared.tables.Tables.{Tables}
 use Rattle.listing_lines.specs.Listing.{IsBadLine}
 use Rattle.node_text.specs.Listing.{IsBadTable}
-use Rattle.grid_meaning.specs.Grid.{processors, IsCapacity}
-use Rattle.grid_order.specs.Reading.{reading}
-use Rattle.grid_runs.specs.Run.{Run, grid_at, turns_in, GoesOnTo, IsCutOff}
-use Rattle.grid_sim.specs.declared.counts.Counts.{Counts}
-use Rattle.call_claims.specs.declared.status.TheConstants.{UNREADABLE}
 use Rattle.call_claims.specs.Call.{Call}
 use Rattle.call_claims.specs.Decided.{IsDecided}
 use Rattle.call_claims.specs.Execution.{Execution, HasNoRun}
-use Rattle.call_claims.specs.declared.limits.TheConstants.{MOST_TURNS}
-use Rattle.exec_words.specs.Asked.{Asked, limit_of}
+use Rattle.exec_words.specs.Asked.{Asked}
 use Rattle.exec_claims.specs.Answer.{IsListedIn}
-use Rattle.exec_claims.specs.Cause.{ListingFileCause, OrderFileCause, RunCause, run_of}
-use Rattle.exec_claims.specs.Decided.{IsOrderText}
-use Rattle.exec_call.specs.Answers.{status_of, told_of}
-use Rattle.exec_call.specs.declared.answers.Answer.{Answer}
-use Rattle.exec_call.specs.declared.answers.Answer.TheVariants as answer
-use Rattle.exec_call.specs.declared.work.Work.{Work}
-
-abbrev pub execution_in : Work → Execution
-execution_in work = record { code = work.code; turns = work.counts.turns }
-
-abbrev pub no_counts : Counts
-no_counts = record { turns = 0; sends = 0; words = 0 }
+use Rattle.exec_claims.specs.Cause.{ListingFileCause}
+use Rattle.grid_call.specs.Answers.{status_of, told_of}
+use Rattle.grid_call.specs.Work.{HasNoTurns, IsCodeWork}
+use Rattle.grid_call.specs.declared.answers.Answer.{Answer}
+use Rattle.grid_call.specs.declared.answers.Answer.TheVariants as answer
+use Rattle.grid_call.specs.declared.work.Work.{Work}
 
 -- ---- the listing
 -- No code was read, and that has its cause, whatever the words ask for besides.
@@ -47,64 +32,6 @@ IsUnlisted text (answer.BadTable line) = IsBadTable text line
 IsUnlisted text answer.NoMemory = ⊤
 IsUnlisted text a = ⊥
 
--- ---- the order
--- What the words ask for can be met: links hold a message, and turns round the processors are
--- within the most.
-pub record CanBeMet (asked : Asked) : Type 0 where
-  pub links : IsCapacity asked.links
-  pub turns : limit_of asked ≤ MOST_TURNS
-
--- the text has these turns; or none, and why
-abbrev pub IsReading : Tables → List ℕ → List ℕ → Type 0
-IsReading code text order = reading (processors code) text ≡ Ok order
-
-abbrev pub IsNoOrder : Tables → List ℕ → Answer → Type 0
-IsNoOrder code text (answer.BadItem at) = reading (processors code) text ≡ Err at
-IsNoOrder code text answer.NoMemory = ⊤
-IsNoOrder code text a = ⊥
-
--- these are its turns
-pub record IsOrderOf (call : Call) (code : Tables) (named : Option (List ℕ)) (order : List ℕ)
-    : Type 0 where
-  pub text : List ℕ
-  pub order_text : IsOrderText call named text
-  pub read : IsReading code text order
-
--- There is none, and that has its cause.
-abbrev pub OrderFails : Call → Tables → Option (List ℕ) → Answer → Type 0
-OrderFails call code named a = IsDecided (status_of a) → (asked : Asked)
-    → OrderFileCause call code asked 0 named (status_of a) (told_of a)
-
--- ---- a run
--- So many turns were given, before none of which it stopped; the counts are the grid's, what was
--- printed was put, or all of it up to a put that failed, and the answer has its cause.
-pub record IsRunOn (run : Run) (report : Bool) (a : Answer) (counts : Counts)
-    (before after : List ℕ → Type 0) : Type 0 where
-  pub goes_on : GoesOnTo run counts.turns
-  pub within : counts.turns ≤ turns_in run
-  pub sends : counts.sends ≡ (grid_at run counts.turns).sends
-  pub words : counts.words ≡ (grid_at run counts.turns).words
-  pub printed : a ≢ answer.PutFailed → Takes before (grid_at run counts.turns).printed after
-  pub cut_off : a ≡ answer.PutFailed → IsCutOff run counts.turns before after
-  pub cause : IsDecided (status_of a)
-      → RunCause run report counts.turns (status_of a) (told_of a)
-
--- ---- a call
--- nothing was run or printed
-pub record HasNoTurns (work : Work) (before after : List ℕ → Type 0) : Type 0 where
-  pub counts : work.counts ≡ no_counts
-  pub put : work.answer ≢ answer.PutFailed
-  pub printed : Takes before [] after
-
--- of the code: no order was read, or it was run under the order
-pub data IsCodeWork (call : Call) (code : Tables) (asked : Asked) (work : Work)
-    (before after : List ℕ → Type 0) : Type 0 where
-  unordered : OrderFails call code asked.order work.answer
-      → HasNoTurns work before after → IsCodeWork call code asked work before after
-  ran : (order : List ℕ) → IsOrderOf call code asked.order order
-      → IsRunOn (run_of code asked order) asked.report work.answer work.counts before after
-      → IsCodeWork call code asked work before after
-
 -- of the listing: no code was read, or some was
 pub data IsWorkOn (call : Call) (file : List ℕ) (asked : Asked) (work : Work)
     (before after : List ℕ → Type 0) : Type 0 where
@@ -113,8 +40,3 @@ pub data IsWorkOn (call : Call) (file : List ℕ) (asked : Asked) (work : Work)
   read : (code : Tables) → work.code ≡ Some code → IsListedIn call file code
       → IsCodeWork call code asked work before after
       → IsWorkOn call file asked work before after
-
--- a fetch failed
-abbrev pub FailsToFetch : {A : Type 0} → Result A Answer → Type 0
-FailsToFetch (Ok told) = ⊥
-FailsToFetch (Err a) = status_of a ≡ UNREADABLE

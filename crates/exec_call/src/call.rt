@@ -1,29 +1,24 @@
 //! The call.
-ghost use Rattle.std.specs.Prelude.{◌≡◌, ◌≢◌, ℕ, List, Some};
+ghost use Rattle.std.specs.Prelude.{◌≡◌, ◌≢◌, ℕ, List};
 ghost use Rattle.zpl_io.specs.Faults.{CountsFaults};
 ghost use Rattle.zpl_io.specs.Files.{SameTexts};
-ghost use Rattle.code_layout.specs.Room.{HasRoom};
 ghost use Rattle.call_claims.specs.Answer.{CountsFetches, CountsPuts};
 ghost use Rattle.call_claims.specs.Call.{call_of};
 ghost use Rattle.call_claims.specs.declared.status.TheConstants.{UNREADABLE, USAGE};
 ghost use Rattle.exec_words.specs.Asked.{IsExec};
+ghost use Rattle.exec_words.specs.Met.{CanBeMet};
 ghost use Rattle.exec_words.specs.Reading.{asked_in};
-ghost use Rattle.exec_call.specs.Answers.{status_of};
-ghost use Rattle.exec_call.specs.Call.{stream_of, IsExecuted};
-ghost use Rattle.exec_call.specs.Work.{CanBeMet, IsCodeWork, IsWorkOn};
+ghost use Rattle.grid_call.specs.Answers.{status_of};
+ghost use Rattle.grid_call.specs.Stream.{stream_of};
+ghost use Rattle.exec_call.specs.Call.{IsExecuted};
+ghost use Rattle.exec_call.specs.Work.{IsWorkOn};
 
-use crate::answers::Answer;
 use crate::fetches::fetch_code;
-use crate::orders::fetch_order;
-use crate::runs::run;
-use crate::telling::told;
-use crate::work::Work;
 use call_claims::Ran;
 use exec_claims::exec_statuses_are_exact;
-use exec_words::{Asked, ExecCommand};
-use grid_order::orders_have_their_bounds;
+use exec_words::ExecCommand;
+use grid_call::{Answer, Work, run_code, told};
 use listing_runs::listed_code_has_room;
-use node_form::NodeProgram;
 use std::alloc::Global;
 use zpl_io::{Files, Sink};
 
@@ -93,34 +88,7 @@ fn work_for<'a, F: Files, O: Sink>(
 {
     listed_code_has_room();
     match fetch_code(alloc, command.file, files) {
-        Ok(code) => work_on(alloc, code, command.asked, files, out),
+        Ok(code) => run_code(alloc, code, command.asked, files, out),
         Err(answer) => Work::without_turns(None, answer),
-    }
-}
-
-/// The work on listed code: an order is read, and the code is run under it.
-fn work_on<'a, F: Files, O: Sink>(
-    alloc: Global,
-    code: NodeProgram,
-    asked: Asked<'a>,
-    files: &mut F,
-    out: &mut O,
-) -> Work<'a>
-    requires room { HasRoom code }
-    requires asked { CanBeMet (asked_in asked) }
-    ensures code { result.code ≡ Some code }
-    ensures work { (words : List (List ℕ)) →
-        IsCodeWork (call_of words (F.tells files.old) (F.may_fail files.old)) code
-        (asked_in asked.entry) result (O.tells out.old) (O.tells out.new) }
-    ensures texts { SameTexts (F.tells files.old) (F.tells files.new) }
-    ensures fetches { CountsFaults (status_of result.answer ≡ UNREADABLE)
-        (F.faults files.old) (F.faults files.new) }
-    ensures puts { CountsFaults (result.answer ≡ Answer.PutFailed)
-        (O.faults out.old) (O.faults out.new) }
-{
-    orders_have_their_bounds();
-    match fetch_order(alloc, asked.order, &code, files) {
-        Ok(order) => run(alloc, code, order, asked, out),
-        Err(answer) => Work::without_turns(Some(code), answer),
     }
 }

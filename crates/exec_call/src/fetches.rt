@@ -6,10 +6,11 @@ ghost use Rattle.node_text.specs.Listing.{IsListing};
 ghost use Rattle.call_claims.specs.Call.{call_of};
 ghost use Rattle.exec_claims.specs.Answer.{IsListedIn};
 ghost use Rattle.exec_claims.specs.declared.limits.TheConstants.{MOST_LISTING};
-ghost use Rattle.exec_call.specs.Work.{FailsToFetch, IsUnlisted, ReadsNone};
+ghost use Rattle.grid_call.specs.Work.{FailsToFetch};
+ghost use Rattle.exec_call.specs.Work.{IsUnlisted, ReadsNone};
 
-use crate::answers::Answer;
 use exec_claims::MOST_LISTING;
+use grid_call::Answer;
 use node_form::NodeProgram;
 use node_text::{ListFault, read_listing};
 use std::alloc::Global;

@@ -5,13 +5,7 @@
 //! listed code is run under that order and then round the processors. Each status has its cause.
 #![tactic(auto)]
 
-mod answers;
 mod call;
 mod fetches;
-mod lines;
-mod orders;
-mod runs;
-mod telling;
-mod work;
 
 pub use call::exec;

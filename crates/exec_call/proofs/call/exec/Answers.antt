@@ -1,11 +1,13 @@
-use Rattle.std.proofs.Common.{inl, inr, refl, sym, ◌∙◌, ap}
+use Rattle.std.proofs.Common.{inl, inr, sym, ◌∙◌, ap}
 use Rattle.call_claims.specs.Call.{call_of}
 use Rattle.exec_words.specs.Reading.{asked_in}
-use Rattle.exec_call.specs.Answers.{status_of, told_of}
-use Rattle.exec_call.specs.Work.{execution_in}
-use Rattle.exec_call.proofs.AnswerLemmas.{failed_of, failed_or}
-use Rattle.exec_call.proofs.AskedLemmas.{asked_are_met}
-use Rattle.exec_call.proofs.TellLemmas.{half_caused, status_has_cause}
+use Rattle.exec_words.proofs.MetLemmas.{asked_are_met}
+use Rattle.exec_claims.specs.Cause.{Cause}
+use Rattle.exec_claims.specs.Cause.Cause.{no_memory}
+use Rattle.grid_call.specs.Answers.{status_of, told_of}
+use Rattle.grid_call.specs.Work.{execution_in}
+use Rattle.grid_call.proofs.AnswerLemmas.{failed_of, failed_or}
+use Rattle.grid_call.proofs.TellLemmas.{half_caused, status_has_cause}
 use Rattle.exec_call.proofs.WorkLemmas.{caused, cut_for, printed_for, read_for}
 use Rattle.exec_call.proofs.call.exec.Goals as goal
 
@@ -29,7 +31,8 @@ returns-clause-executed g c = λ words given.
     let after = g.O.Sink.tells work.new.out in
     let is = work.ensures.work words in
     let has_cause = caused call file asked work.result before after given is in
-    let cause = status_has_cause call work.result has_cause status told.result c.status.ensures
+    let cause = status_has_cause (Cause call (execution_in work.result)) no_memory
+    work.result.answer has_cause status told.result c.status.ensures
     told.ensures.same (λ e. (told.ensures.kept e).0) in
     record {
       code = read_for status call file asked work.result before after given is;
@@ -66,8 +69,15 @@ returns-clause-executed g c = λ words given.
             | inr other ↦ inr (
               printed_for status call file asked work.result before after given is other,
               told.ensures.counts.rises (other, failed),
-              half_caused call work.result has_cause (g.E.Sink.tells c.args.errs.now)
-                  (g.E.Sink.tells told.new.errs) _ refl other (told.ensures.half other failed),
+              (let half = half_caused (Cause call (execution_in work.result)) no_memory
+                  work.result.answer has_cause (g.E.Sink.tells c.args.errs.now)
+                  (g.E.Sink.tells told.new.errs) other (told.ensures.half other failed) in
+                  record {
+                    status = half.status;
+                    text = half.text;
+                    cause = half.cause;
+                    front = half.front;
+                  }),
             )
           ];
     }

@@ -4,7 +4,7 @@ use Rattle.zpl_io.specs.declared.outside.Fetched.TheVariants.{TooLong, Failed}
 use Rattle.call_claims.specs.Call.{call_of}
 use Rattle.exec_claims.specs.Cause.TextCause.{unreadable, too_long}
 use Rattle.exec_claims.specs.declared.limits.TheConstants.{MOST_LISTING}
-use Rattle.exec_call.proofs.WorkLemmas.{not_fetched, on_err, on_ok, source_of, too_long_of}
+use Rattle.grid_call.proofs.WorkLemmas.{not_fetched, on_err, on_ok, source_of, too_long_of}
 use Rattle.exec_call.proofs.WorkLemmas.{unlisted_of}
 use Rattle.exec_call.proofs.fetches.fetch_code.Goals as goal
 

@@ -2,8 +2,8 @@
 ghost use Rattle.std.specs.Prelude.{◌≡◌, ◌≢◌, ◌⊎◌, ◌++◌, IfOk, IsErr, OnErr, OnOk};
 ghost use Rattle.zpl_io.specs.Faults.{CountsFaults};
 ghost use Rattle.zpl_io.specs.Sink.{Takes, TakesFront};
-ghost use Rattle.exec_call.specs.Answers.{counts_text, report_of, stop_text, text_of, told_of};
-ghost use Rattle.exec_call.specs.Answers.{IsHalfTold};
+ghost use Rattle.grid_call.specs.Answers.{counts_text, report_of, stop_text, text_of, told_of};
+ghost use Rattle.grid_call.specs.Answers.{IsHalfTold};
 
 use crate::answers::{Answer, Stop};
 use crate::lines::{file_line, listing_line, order_line, report_line, stuck_line, trap_line};
@@ -12,7 +12,7 @@ use std::alloc::{AllocError, Global};
 use zpl_io::{PutFailed, Sink, put_piece, puts_join};
 
 /// Tells of an answer. After a failed put there is nothing to tell.
-pub(crate) fn told<'a, E: Sink>(alloc: Global, answer: Answer<'a>, errs: &mut E) -> Answer<'a>
+pub fn told<'a, E: Sink>(alloc: Global, answer: Answer<'a>, errs: &mut E) -> Answer<'a>
     ensures told { result ≢ Answer.PutFailed →
         Takes (E.tells errs.old) (told_of result) (E.tells errs.new) }
     ensures same { result ≢ Answer.PutFailed →

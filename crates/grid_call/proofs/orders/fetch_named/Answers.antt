@@ -4,9 +4,9 @@ use Rattle.zpl_io.specs.declared.outside.Fetched.TheVariants.{TooLong, Failed}
 use Rattle.call_claims.specs.Call.{call_of}
 use Rattle.exec_claims.specs.Cause.TextCause.{unreadable, too_long}
 use Rattle.exec_claims.specs.declared.limits.TheConstants.{MOST_LISTING}
-use Rattle.exec_call.proofs.WorkLemmas.{not_fetched, on_err, on_ok, source_of, too_long_of}
-use Rattle.exec_call.proofs.WorkLemmas.{unread_order}
-use Rattle.exec_call.proofs.orders.fetch_named.Goals as goal
+use Rattle.grid_call.proofs.WorkLemmas.{not_fetched, on_err, on_ok, source_of, too_long_of}
+use Rattle.grid_call.proofs.WorkLemmas.{unread_order}
+use Rattle.grid_call.proofs.orders.fetch_named.Goals as goal
 
 pub returns-in-Whole-clause-ok : goal.returns-in-Whole-clause-ok
 returns-in-Whole-clause-ok g c = λ words.

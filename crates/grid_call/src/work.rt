@@ -1,6 +1,6 @@
 //! What comes of the work of a call.
 ghost use Rattle.std.specs.Prelude.{◌≡◌};
-ghost use Rattle.exec_call.specs.Work.{no_counts};
+ghost use Rattle.grid_call.specs.Work.{no_counts};
 
 use crate::answers::Answer;
 use grid_sim::Counts;

@@ -3,8 +3,8 @@ use Rattle.exec_words.specs.Reading.{asked_in}
 use Rattle.exec_claims.specs.Cause.{run_of}
 use Rattle.zpl_nums.specs.declared.ends.End.TheVariants.{More}
 use Rattle.grid_sim.specs.Run.{EndsRun, IsRun, run_in}
-use Rattle.exec_call.proofs.RunLemmas.{run_is_on}
-use Rattle.exec_call.proofs.runs.run_sim.Goals as goal
+use Rattle.grid_call.proofs.RunLemmas.{run_is_on}
+use Rattle.grid_call.proofs.runs.run_sim.Goals as goal
 
 pub of_run-requires : goal.of_run-requires
 of_run-requires g c = λ more.

@@ -19,10 +19,10 @@ use Rattle.call_claims.specs.declared.status.TheConstants.{DONE, UNREADABLE, TOO
 use Rattle.call_claims.specs.declared.status.TheConstants.{TRAPPED, TURN_LIMIT, PUT_FAILED, NO_MEMORY}
 use Rattle.exec_claims.specs.Texts.{order_refused_text, listing_refused_text, report_text, stuck_text}
 use Rattle.exec_claims.specs.declared.status.TheConstants.{ORDER_REFUSED, LISTING_REFUSED, STUCK}
-use Rattle.exec_call.specs.declared.answers.Answer.{Answer}
-use Rattle.exec_call.specs.declared.answers.Answer.TheVariants as answer
-use Rattle.exec_call.specs.declared.answers.Stop.{Stop}
-use Rattle.exec_call.specs.declared.answers.Stop.TheVariants as stop
+use Rattle.grid_call.specs.declared.answers.Answer.{Answer}
+use Rattle.grid_call.specs.declared.answers.Answer.TheVariants as answer
+use Rattle.grid_call.specs.declared.answers.Stop.{Stop}
+use Rattle.grid_call.specs.declared.answers.Stop.TheVariants as stop
 
 -- ---- how a run stopped
 abbrev pub stop_status : Stop → ℕ

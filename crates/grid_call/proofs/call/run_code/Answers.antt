@@ -3,9 +3,9 @@ use Rattle.grid_meaning.specs.Local.{processors}
 use Rattle.call_claims.specs.Call.{call_of}
 use Rattle.exec_words.specs.Asked.{limit_of}
 use Rattle.exec_words.specs.Reading.{asked_in}
-use Rattle.exec_call.specs.Work.IsCodeWork.{ran}
-use Rattle.exec_call.proofs.WorkLemmas.{not_fetched, run_fetches_none, turns_fit}
-use Rattle.exec_call.proofs.call.work_on.Goals as goal
+use Rattle.grid_call.specs.Work.IsCodeWork.{ran}
+use Rattle.grid_call.proofs.WorkLemmas.{not_fetched, run_fetches_none, turns_fit}
+use Rattle.grid_call.proofs.call.run_code.Goals as goal
 
 pub run-requires-clause-order : goal.run-requires-clause-order
 run-requires-clause-order g c =

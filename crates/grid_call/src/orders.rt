@@ -7,7 +7,7 @@ ghost use Rattle.node_form.specs.Grid.{IsGrid, processors_of};
 ghost use Rattle.grid_meaning.specs.Local.{processors};
 ghost use Rattle.call_claims.specs.Call.{call_of};
 ghost use Rattle.exec_claims.specs.declared.limits.TheConstants.{MOST_LISTING};
-ghost use Rattle.exec_call.specs.Work.{FailsToFetch, IsNoOrder, IsOrderOf, IsReading, OrderFails};
+ghost use Rattle.grid_call.specs.Work.{FailsToFetch, IsNoOrder, IsOrderOf, IsReading, OrderFails};
 
 use crate::answers::Answer;
 use exec_claims::MOST_LISTING;
@@ -18,7 +18,7 @@ use zpl_io::{Fetched, Files};
 
 /// The order of turns that a file tells, and the empty one where none is named; or the answer that
 /// there is none.
-pub(crate) fn fetch_order<'a, F: Files>(
+pub fn fetch_order<'a, F: Files>(
     alloc: Global,
     named: Option<&'a str>,
     code: &NodeProgram,

@@ -4,7 +4,7 @@ ghost use Rattle.std.specs.Fmt.{decimal};
 ghost use Rattle.call_claims.specs.Texts.{trap_name, trap_text};
 ghost use Rattle.exec_claims.specs.Texts.{listing_refused_text, order_refused_text};
 ghost use Rattle.exec_claims.specs.Texts.{report_text, stuck_text};
-ghost use Rattle.exec_call.specs.Answers.{kind_text};
+ghost use Rattle.grid_call.specs.Answers.{kind_text};
 
 use grid_sim::{Counts, StuckKind};
 use itoa::Buffer;
@@ -20,7 +20,7 @@ fn write_decimal(number: u128, into: &mut Vec<u8>) -> Result<(), AllocError>
 }
 
 /// A line with a file's name.
-pub(crate) fn file_line(alloc: Global, what: &[u8], file: &str) -> Result<Vec<u8>, AllocError>
+pub fn file_line(alloc: Global, what: &[u8], file: &str) -> Result<Vec<u8>, AllocError>
     ensures { IfOk result (λ text. text.items ≡ what.now ++ (file.now ++ codes "\n")) }
 {
     let mut text = Vec::from_slice(alloc, what)?;
@@ -30,7 +30,7 @@ pub(crate) fn file_line(alloc: Global, what: &[u8], file: &str) -> Result<Vec<u8
 }
 
 /// A line with a fault of a listing, and the number of its line there.
-pub(crate) fn listing_line(alloc: Global, name: &[u8], line: u32) -> Result<Vec<u8>, AllocError>
+pub fn listing_line(alloc: Global, name: &[u8], line: u32) -> Result<Vec<u8>, AllocError>
     ensures { IfOk result (λ text. text.items ≡ listing_refused_text name.now line) }
 {
     let mut text = Vec::from_slice(alloc, b"listing refused: ")?;
@@ -42,7 +42,7 @@ pub(crate) fn listing_line(alloc: Global, name: &[u8], line: u32) -> Result<Vec<
 }
 
 /// A line with the place of a wrong item of an order.
-pub(crate) fn order_line(alloc: Global, at: u32) -> Result<Vec<u8>, AllocError>
+pub fn order_line(alloc: Global, at: u32) -> Result<Vec<u8>, AllocError>
     ensures { IfOk result (λ text. text.items ≡ order_refused_text at) }
 {
     let mut text = Vec::from_slice(alloc, b"order refused, byte ")?;
@@ -52,7 +52,7 @@ pub(crate) fn order_line(alloc: Global, at: u32) -> Result<Vec<u8>, AllocError>
 }
 
 /// A line with a trap and its line.
-pub(crate) fn trap_line(alloc: Global, kind: TrapKind, line: u32) -> Result<Vec<u8>, AllocError>
+pub fn trap_line(alloc: Global, kind: TrapKind, line: u32) -> Result<Vec<u8>, AllocError>
     ensures { IfOk result (λ text. text.items ≡ trap_text kind line) }
 {
     let mut text = Vec::from_slice(alloc, b"trap: ")?;
@@ -76,7 +76,7 @@ fn trap_name(kind: TrapKind) -> &'static [u8]
 }
 
 /// A line with a processor and how it is stuck.
-pub(crate) fn stuck_line(alloc: Global, p: u32, kind: StuckKind) -> Result<Vec<u8>, AllocError>
+pub fn stuck_line(alloc: Global, p: u32, kind: StuckKind) -> Result<Vec<u8>, AllocError>
     ensures { IfOk result (λ text. text.items ≡ stuck_text p (kind_text kind)) }
 {
     let mut text = Vec::from_slice(alloc, b"stuck: processor ")?;
@@ -100,7 +100,7 @@ fn kind_name(kind: StuckKind) -> &'static [u8]
 }
 
 /// A line with what a run counted.
-pub(crate) fn report_line(alloc: Global, counts: Counts) -> Result<Vec<u8>, AllocError>
+pub fn report_line(alloc: Global, counts: Counts) -> Result<Vec<u8>, AllocError>
     ensures { IfOk result (λ text.
         text.items ≡ report_text counts.turns counts.sends counts.words) }
 {

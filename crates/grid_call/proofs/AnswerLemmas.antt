@@ -2,11 +2,11 @@
 use Rattle.std.proofs.Common.{◌≡◌, ◌≢◌, ℕ, ◌⊎◌, refl, sym, ◌∙◌, ap, inl, inr, arith}
 use Rattle.call_claims.specs.Decided.{IsDecided}
 use Rattle.call_claims.specs.declared.status.TheConstants.{PUT_FAILED}
-use Rattle.exec_call.specs.Answers.{status_of, stop_status}
-use Rattle.exec_call.specs.declared.answers.Answer.{Answer}
-use Rattle.exec_call.specs.declared.answers.Answer.TheVariants as answer
-use Rattle.exec_call.specs.declared.answers.Stop.{Stop}
-use Rattle.exec_call.specs.declared.answers.Stop.TheVariants as stop
+use Rattle.grid_call.specs.Answers.{status_of, stop_status}
+use Rattle.grid_call.specs.declared.answers.Answer.{Answer}
+use Rattle.grid_call.specs.declared.answers.Answer.TheVariants as answer
+use Rattle.grid_call.specs.declared.answers.Stop.{Stop}
+use Rattle.grid_call.specs.declared.answers.Stop.TheVariants as stop
 
 -- the status of how a run stopped is neither that of a failed put nor of want of memory
 record IsOther (n : ℕ) : Type 0 where

@@ -9,8 +9,8 @@ ghost use Rattle.grid_sim.specs.Simulation.{start_simulation};
 ghost use Rattle.exec_words.specs.Asked.{limit_of};
 ghost use Rattle.exec_words.specs.Reading.{asked_in};
 ghost use Rattle.exec_claims.specs.Cause.{run_of};
-ghost use Rattle.exec_call.specs.Answers.{counts_for};
-ghost use Rattle.exec_call.specs.Work.{IsRunOn};
+ghost use Rattle.grid_call.specs.Answers.{counts_for};
+ghost use Rattle.grid_call.specs.Work.{IsRunOn};
 
 use crate::answers::Answer;
 use crate::work::Work;
@@ -23,7 +23,7 @@ use std::alloc::Global;
 use zpl_io::Sink;
 
 /// Runs code under an order of turns, as the words ask for it, up to the answer.
-pub(crate) fn run<'a, O: Sink>(
+pub fn run<'a, O: Sink>(
     alloc: Global,
     code: NodeProgram,
     order: Order,

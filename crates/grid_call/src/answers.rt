@@ -1,7 +1,7 @@
 //! The answers of a call, and their statuses.
 ghost use Rattle.std.specs.Prelude.{◌≡◌, ◌≢◌, Ok};
 ghost use Rattle.zpl_nums.specs.declared.ends.End.TheVariants.{More};
-ghost use Rattle.exec_call.specs.Answers.{answer_in, status_of};
+ghost use Rattle.grid_call.specs.Answers.{answer_in, status_of};
 
 use call_claims::status as common;
 use exec_claims::status;
