@@ -1,6 +1,8 @@
 pub mod CodeLemmas
+pub mod FetchLemmas
+pub mod FileLemmas
 pub mod ListLemmas
+pub mod RunLemmas
 pub mod SettingLemmas
 pub mod SmallLemmas
 pub mod TopLemmas
-pub mod WorkLemmas

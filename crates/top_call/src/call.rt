@@ -3,12 +3,12 @@ ghost use Rattle.std.specs.Prelude.{◌≡◌, ◌≢◌, ◌↔◌, map, string
 ghost use Rattle.zpl_io.specs.Files.{SameTexts};
 ghost use Rattle.call_claims.specs.Answer.{CountsFetches, CountsPuts};
 ghost use Rattle.call_claims.specs.Call.{call_of};
-ghost use Rattle.call_claims.specs.Command.{IsNoCommand};
 ghost use Rattle.call_claims.specs.Decided.{IsDecided};
 ghost use Rattle.call_claims.specs.declared.status.TheConstants.{USAGE};
-ghost use Rattle.exec_words.specs.Asked.{IsNoExec};
-ghost use Rattle.exec_call.specs.Call.{stream_of, IsExecuted};
-ghost use Rattle.top_call.specs.Call.{AsksExec, IsRunOrList};
+ghost use Rattle.exec_words.specs.Asked.{IsNoExec, IsNoRun};
+ghost use Rattle.grid_call.specs.Stream.{stream_of};
+ghost use Rattle.exec_call.specs.Call.{IsExecuted};
+ghost use Rattle.top_call.specs.Call.{AsksExec, AsksRun, IsNoCommand, IsOfList, IsRan};
 
 use crate::run_or_list::run_or_list;
 use call_claims::Ran;
@@ -28,10 +28,20 @@ pub fn zplgrid<F: Files, O: Sink, E: Sink>(
     out: &mut O,
     errs: &mut E,
 ) -> Ran
-    // `run` and `list`: what code is made, run and listed, and why the status is what it is.
-    ensures run_or_list { let call =
+    // `run`: what code is made and run, and why the status is what it is.
+    ensures run { let call =
         call_of (map string_bytes words.now) (F.tells files.old) (F.may_fail files.old) in
-        IsNoExec call.words → IsRunOrList call result
+        AsksRun call.words → IsRan call result
+        (stream_of (O.tells out.old) (O.tells out.new) (O.faults out.old) (O.faults out.new)
+        (out.new ≡ out.old))
+        (stream_of (E.tells errs.old) (E.tells errs.new) (E.faults errs.old) (E.faults errs.new)
+        (errs.new ≡ errs.old)) }
+
+    // `list`: what code is made and listed, and why the status is what it is; and words that are no
+    // command.
+    ensures list { let call =
+        call_of (map string_bytes words.now) (F.tells files.old) (F.may_fail files.old) in
+        IsNoRun call.words → IsNoExec call.words → IsOfList call result
         (stream_of (O.tells out.old) (O.tells out.new) (O.faults out.old) (O.faults out.new)
         (out.new ≡ out.old))
         (stream_of (E.tells errs.old) (E.tells errs.new) (E.faults errs.old) (E.faults errs.new)

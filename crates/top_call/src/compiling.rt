@@ -5,7 +5,7 @@ ghost use Rattle.zpl_text.specs.Tokens.{IsTokens};
 ghost use Rattle.zpl_text.specs.declared.TheConstants.{MOST_SOURCE};
 ghost use Rattle.zpl_tree.specs.View.{syntax_of};
 ghost use Rattle.zpl_grammar.specs.Texts.{IsShallowTree};
-ghost use Rattle.grid_meaning.specs.Scalar.{IsScalarCode};
+ghost use Rattle.code_layout.specs.Room.{HasRoom};
 ghost use Rattle.zpl_bind.specs.Lists.{settings_of};
 ghost use Rattle.call_claims.specs.Setting.{settings_among};
 ghost use Rattle.call_claims.specs.Source.{HasNoProgram, IsCodeOf};
@@ -33,7 +33,7 @@ use zpl_tree::Program;
 pub fn compile(alloc: Global, text: &[u8], words: &[String]) -> Result<NodeProgram, Refusal>
     requires { length text.now ≤ MOST_SOURCE }
     ensures code { IfOk result (IsCodeOf text.now (settings_among (map string_bytes words.now))) }
-    ensures rows { IfOk result IsScalarCode }
+    ensures room { IfOk result HasRoom }
     ensures refused { IfErr result (Refuses text.now (settings_among (map string_bytes words.now))) }
 {
     let tokens = tokens_of(alloc, text)?;
@@ -84,7 +84,7 @@ fn code_of_tree<'a>(
     requires tree { IsShallowTree text.now tokens.now (syntax_of program.now) }
     requires only { IsOnlyTree text.now tokens.now (syntax_of program.now) }
     ensures code { IfOk result (IsCodeOf text.now (settings_among (map string_bytes words.now))) }
-    ensures rows { IfOk result IsScalarCode }
+    ensures room { IfOk result HasRoom }
     ensures refused { IfErr result (Refuses text.now (settings_among (map string_bytes words.now))) }
 {
     text_is_cut_one_way();

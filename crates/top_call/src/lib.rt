@@ -5,6 +5,7 @@
 mod answers;
 mod call;
 mod compiling;
+mod fetches;
 mod lists;
 mod refusals;
 mod run_or_list;

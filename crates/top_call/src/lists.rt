@@ -1,32 +1,102 @@
-//! `list FILE`: a file is fetched, code is made of its text, and the listing of the code is put.
-ghost use Rattle.std.specs.Prelude.{◌≡◌, ◌≢◌, ◌≤◌, ℕ, List, [], Some, IfSome, length, map, string_bytes};
+//! `list FILE`: a file is fetched, code is made of its text, and the listing of the code is put. And words
+//! that are no command.
+ghost use Rattle.std.specs.Prelude.{◌≡◌, ◌≢◌, ◌↔◌, ℕ, List, [], Some, IfSome, map, string_bytes};
 ghost use Rattle.zpl_io.specs.Faults.{CountsFaults};
 ghost use Rattle.zpl_io.specs.Files.{SameTexts};
 ghost use Rattle.zpl_io.specs.Sink.{Takes, TakesFront};
-ghost use Rattle.zpl_text.specs.declared.TheConstants.{MOST_SOURCE};
-ghost use Rattle.grid_meaning.specs.Scalar.{IsScalarCode};
 ghost use Rattle.listing_rows.specs.Listing.{listing_of};
+ghost use Rattle.call_claims.specs.Answer.{CountsFetches, CountsPuts};
 ghost use Rattle.call_claims.specs.Call.{call_of};
-ghost use Rattle.call_claims.specs.Execution.{IsListedFor, TakesListing, TakesListingFront};
-ghost use Rattle.call_claims.specs.Setting.{settings_among};
-ghost use Rattle.call_claims.specs.Source.{IsCodeOf};
-ghost use Rattle.call_claims.specs.declared.status.TheConstants.{UNREADABLE};
+ghost use Rattle.call_claims.specs.Cause.{Lists};
+ghost use Rattle.call_claims.specs.Command.{IsNoList};
+ghost use Rattle.call_claims.specs.Decided.{IsDecided};
+ghost use Rattle.call_claims.specs.Execution.{IsMadeOf, TakesListing, TakesListingFront};
+ghost use Rattle.call_claims.specs.declared.status.TheConstants.{UNREADABLE, USAGE};
 ghost use Rattle.call_words.specs.Asked.{asked_in};
+ghost use Rattle.grid_call.specs.Stream.{stream_of};
 ghost use Rattle.top_call.specs.Answers.{status_of};
-ghost use Rattle.top_call.specs.Work.{execution_in, IsListOf, IsListOn, IsOfListing};
+ghost use Rattle.top_call.specs.Call.{IsOfList};
+ghost use Rattle.top_call.specs.Work.{execution_in, IsListOn, IsOfListing, IsWorkFor};
 
-use crate::answers::Answer;
-use crate::compiling::compile;
+use crate::answers::{Answer, told};
+use crate::fetches::code_of_file;
 use crate::work::Work;
-use call_words::FileCommand;
+use call_claims::{Ran, list_statuses_are_exact};
+use call_words::{FileCommand, list_command};
 use listing_rows::write_listing;
 use node_form::NodeProgram;
 use std::alloc::Global;
-use zpl_io::{Fetched, Files, PutFailed, Sink, put_piece};
-use zpl_text::MOST_SOURCE;
+use zpl_io::{Files, PutFailed, Sink, put_piece};
+
+/// Does what the words ask for, where they are a `list`, and tells that they are no command elsewhere:
+/// the listing goes to `out`, and what is told of the answer to `errs`.
+pub fn list<F: Files, O: Sink, E: Sink>(
+    alloc: Global,
+    words: &[String],
+    files: &mut F,
+    out: &mut O,
+    errs: &mut E,
+) -> Ran
+    ensures list { let call =
+        call_of (map string_bytes words.now) (F.tells files.old) (F.may_fail files.old) in
+        IsOfList call result
+        (stream_of (O.tells out.old) (O.tells out.new) (O.faults out.old) (O.faults out.new)
+        (out.new ≡ out.old))
+        (stream_of (E.tells errs.old) (E.tells errs.new) (E.faults errs.old) (E.faults errs.new)
+        (errs.new ≡ errs.old)) }
+    ensures usage { IsDecided result.status →
+        (result.status ≡ USAGE) ↔ IsNoList (map string_bytes words.now) }
+    ensures texts { SameTexts (F.tells files.old) (F.tells files.new) }
+    ensures fetches { CountsFetches result.status (F.faults files.old) (F.faults files.new) }
+    ensures puts { CountsPuts result.status (O.faults out.old) (O.faults out.new) }
+    ensures told { CountsPuts result.status (E.faults errs.old) (E.faults errs.new) }
+{
+    list_statuses_are_exact::<F>();
+    let work = work_for(alloc, words, files, out);
+    let answer = told(alloc, work.answer, errs);
+    Ran {
+        status: answer.status(),
+        code: work.code,
+        turns: 0,
+        sends: 0,
+        words_sent: 0,
+    }
+}
+
+/// The work that the words ask for, up to its answer.
+fn work_for<'a, F: Files, O: Sink>(
+    alloc: Global,
+    words: &'a [String],
+    files: &mut F,
+    out: &mut O,
+) -> Work<'a>
+    ensures cause { let call =
+        call_of (map string_bytes words.now) (F.tells files.old) (F.may_fail files.old) in
+        IsWorkFor call result }
+    ensures code { let call =
+        call_of (map string_bytes words.now) (F.tells files.old) (F.may_fail files.old) in
+        IfSome result.code
+        (λ code. Lists call (λ file asked. IsMadeOf call file asked.settings code)) }
+    ensures listed { result.answer ≡ Answer.Done →
+        TakesListing (execution_in result) (O.tells out.old) (O.tells out.new) }
+    ensures not_listed { result.answer ≢ Answer.Done → result.answer ≢ Answer.PutFailed →
+        Takes (O.tells out.old) [] (O.tells out.new) }
+    ensures cut_off { result.answer ≡ Answer.PutFailed →
+        TakesListingFront (execution_in result) (O.tells out.old) (O.tells out.new) }
+    ensures texts { SameTexts (F.tells files.old) (F.tells files.new) }
+    ensures fetches { CountsFaults (status_of result.answer ≡ UNREADABLE)
+        (F.faults files.old) (F.faults files.new) }
+    ensures puts { CountsFaults (result.answer ≡ Answer.PutFailed)
+        (O.faults out.old) (O.faults out.new) }
+{
+    match list_command(words) {
+        Some(command) => list_file(alloc, command, files, out),
+        None => Work::without_code(Answer::Usage),
+    }
+}
 
 /// Fetches a file, and puts the listing of its text's code, up to the answer.
-pub fn list_file<'a, F: Files, O: Sink>(
+fn list_file<'a, F: Files, O: Sink>(
     alloc: Global,
     list: FileCommand<'a>,
     files: &mut F,
@@ -37,60 +107,42 @@ pub fn list_file<'a, F: Files, O: Sink>(
         IsListOn (call_of words (F.tells files.old) (F.may_fail files.old))
         list.entry.file.now (asked_in list.entry.asked) result }
     ensures code { (words : List (List ℕ)) → IfSome result.code
-        (IsListedFor (call_of words (F.tells files.old) (F.may_fail files.old))
-        list.entry.file.now (asked_in list.entry.asked) result.turns) }
-
-    ensures rows { IfSome result.code IsScalarCode }
-    ensures no_turns { result.turns ≡ 0 }
+        (IsMadeOf (call_of words (F.tells files.old) (F.may_fail files.old))
+        list.entry.file.now (asked_in list.entry.asked).settings) }
     ensures listed { result.answer ≡ Answer.Done →
         TakesListing (execution_in result) (O.tells out.old) (O.tells out.new) }
     ensures not_listed { result.answer ≢ Answer.Done → result.answer ≢ Answer.PutFailed →
         Takes (O.tells out.old) [] (O.tells out.new) }
     ensures cut_off { result.answer ≡ Answer.PutFailed →
         TakesListingFront (execution_in result) (O.tells out.old) (O.tells out.new) }
-
     ensures texts { SameTexts (F.tells files.old) (F.tells files.new) }
     ensures fetches { CountsFaults (status_of result.answer ≡ UNREADABLE)
         (F.faults files.old) (F.faults files.new) }
     ensures puts { CountsFaults (result.answer ≡ Answer.PutFailed)
         (O.faults out.old) (O.faults out.new) }
 {
-    let mut text = Vec::new(alloc);
-    match files.fetch(alloc, list.file, MOST_SOURCE, &mut text) {
-        Fetched::Whole => list_text(alloc, text.as_slice(), list.asked.words, out),
-        Fetched::TooLong => Work::without_code(Answer::TooLong(list.file)),
-        Fetched::Failed => Work::without_code(Answer::Unreadable(list.file)),
-        Fetched::NoMemory => Work::without_code(Answer::NoMemory),
+    match code_of_file(alloc, list.file, list.asked.words, files) {
+        Ok(code) => list_code(alloc, code, out),
+        Err(answer) => Work::without_code(answer),
     }
 }
 
-/// Makes code of a text under the settings among words, and puts its listing.
-fn list_text<'a, O: Sink>(alloc: Global, text: &[u8], words: &[String], out: &mut O) -> Work<'a>
-    requires { length text.now ≤ MOST_SOURCE }
-    ensures cause { IsListOf text.now (settings_among (map string_bytes words.now)) result }
-    ensures code { IfSome result.code
-        (IsCodeOf text.now (settings_among (map string_bytes words.now))) }
-    ensures rows { IfSome result.code IsScalarCode }
-    ensures no_turns { result.turns ≡ 0 }
+/// Puts the listing of code, up to the answer.
+fn list_code<'a, O: Sink>(alloc: Global, code: NodeProgram, out: &mut O) -> Work<'a>
+    ensures code { result.code ≡ Some code }
+    ensures answer { IsOfListing result.answer }
     ensures listed { result.answer ≡ Answer.Done →
-        TakesListing (execution_in result) (O.tells out.old) (O.tells out.new) }
-    ensures not_listed { result.answer ≢ Answer.Done → result.answer ≢ Answer.PutFailed →
-        Takes (O.tells out.old) [] (O.tells out.new) }
+        Takes (O.tells out.old) (listing_of code) (O.tells out.new) }
+    ensures not_listed { result.answer ≡ Answer.NoMemory → out.new ≡ out.old }
     ensures cut_off { result.answer ≡ Answer.PutFailed →
-        TakesListingFront (execution_in result) (O.tells out.old) (O.tells out.new) }
+        TakesFront (O.tells out.old) (listing_of code) (O.tells out.new) }
     ensures counts { CountsFaults (result.answer ≡ Answer.PutFailed)
         (O.faults out.old) (O.faults out.new) }
 {
-    match compile(alloc, text, words) {
-        Ok(code) => {
-            let answer = put_listing(alloc, &code, out);
-            Work {
-                answer,
-                code: Some(code),
-                turns: 0,
-            }
-        }
-        Err(refusal) => Work::without_code(Answer::of_refusal(text, refusal)),
+    let answer = put_listing(alloc, &code, out);
+    Work {
+        answer,
+        code: Some(code),
     }
 }
 

@@ -1,55 +1,110 @@
-//! `run FILE`: a file is fetched, code is made of its text, and the code is run.
-ghost use Rattle.std.specs.Prelude.{◌≡◌, ◌≢◌, ℕ, List, IfSome};
+//! `run FILE`: a file is fetched, code is made of its text, and the code is run under an order of turns.
+ghost use Rattle.std.specs.Prelude.{◌≡◌, ◌≢◌, ℕ, List, IfErr, IfOk};
 ghost use Rattle.zpl_io.specs.Faults.{CountsFaults};
 ghost use Rattle.zpl_io.specs.Files.{SameTexts};
-ghost use Rattle.grid_meaning.specs.Scalar.{IsScalarCode};
+ghost use Rattle.call_claims.specs.Answer.{CountsFetches, CountsPuts};
 ghost use Rattle.call_claims.specs.Call.{call_of};
-ghost use Rattle.call_claims.specs.Execution.{IsCutOff, IsMadeFor, TakesPrinted};
-ghost use Rattle.call_claims.specs.declared.status.TheConstants.{UNREADABLE};
-ghost use Rattle.call_words.specs.Asked.{asked_in};
-ghost use Rattle.top_call.specs.Answers.{status_of};
-ghost use Rattle.top_call.specs.Work.{execution_in, IsRunOn, WentOn};
+ghost use Rattle.call_claims.specs.declared.status.TheConstants.{USAGE};
+ghost use Rattle.exec_words.specs.Asked.{IsRun};
+ghost use Rattle.exec_words.specs.Met.{CanBeMet};
+ghost use Rattle.exec_words.specs.Reading.{asked_in, settings_in};
+ghost use Rattle.grid_call.specs.Stream.{stream_of};
+ghost use Rattle.top_call.specs.Call.{IsRan};
+ghost use Rattle.top_call.specs.Work.{HasNoCode, IsRunWork, RunFailsToFetch, RunFailsToPut};
 
-use crate::answers::Answer;
-use crate::work::{Work, work_on};
-use call_words::FileCommand;
+use crate::answers::{Answer, told};
+use crate::fetches::code_of_file;
+use call_claims::Ran;
+use exec_words::RunCommand;
+use grid_call::{Work, run_code};
+use run_claims::run_causes_are_exact;
 use std::alloc::Global;
-use zpl_io::{Fetched, Files, Sink};
-use zpl_text::MOST_SOURCE;
+use zpl_io::{Files, Sink};
 
-/// Fetches a file, and does the work on its text, up to the answer.
-pub fn run_file<'a, F: Files, O: Sink>(
+/// Runs a program: what it prints goes to `out`, and what is told of the answer to `errs`.
+///
+/// The program is fetched and compiled, then the order of turns is fetched and read, and the code is
+/// run under it. The status has its cause. All that is told is made before anything of it is put, and
+/// after a failed put nothing more is put on either sink.
+pub fn run<F: Files, O: Sink, E: Sink>(
     alloc: Global,
-    run: FileCommand<'a>,
+    command: RunCommand<'_>,
     files: &mut F,
     out: &mut O,
-) -> Work<'a>
-    // The cause of the answer, and of what the code was made, whatever the words of the call are.
-    ensures cause { (words : List (List ℕ)) →
-        IsRunOn (call_of words (F.tells files.old) (F.may_fail files.old))
-        run.entry.file.now (asked_in run.entry.asked) result }
-    ensures code { (words : List (List ℕ)) → IfSome result.code
-        (IsMadeFor (call_of words (F.tells files.old) (F.may_fail files.old))
-        run.entry.file.now (asked_in run.entry.asked) result.turns) }
+    errs: &mut E,
+) -> Ran
+    // Words give the command: what is said of the call holds of these.
+    requires given { (words : List (List ℕ)) ×
+        IsRun words command.file.now (asked_in command.asked) (settings_in command) }
 
-    ensures rows { IfSome result.code IsScalarCode }
-    ensures went_on { WentOn result.code result.turns }
-    ensures printed { result.answer ≢ Answer.PutFailed →
-        TakesPrinted (execution_in result) (O.tells out.old) (O.tells out.new) }
-    ensures cut_off { result.answer ≡ Answer.PutFailed →
-        IsCutOff (execution_in result) (O.tells out.old) (O.tells out.new) }
+    // The code and the counts, what out and errs took, the cause of the status, and when statuses
+    // come.
+    ensures ran { (words : List (List ℕ)) →
+        IsRun words command.entry.file.now (asked_in command.entry.asked)
+        (settings_in command.entry) →
+        IsRan (call_of words (F.tells files.old) (F.may_fail files.old)) result
+        (stream_of (O.tells out.old) (O.tells out.new) (O.faults out.old) (O.faults out.new)
+        (out.new ≡ out.old))
+        (stream_of (E.tells errs.old) (E.tells errs.new) (E.faults errs.old) (E.faults errs.new)
+        (errs.new ≡ errs.old)) }
+    ensures known { result.status ≢ USAGE }
 
+    // Files and counts after the call: the texts are the same, and a count of faults rises only
+    // with its status.
     ensures texts { SameTexts (F.tells files.old) (F.tells files.new) }
-    ensures fetches { CountsFaults (status_of result.answer ≡ UNREADABLE)
-        (F.faults files.old) (F.faults files.new) }
-    ensures puts { CountsFaults (result.answer ≡ Answer.PutFailed)
-        (O.faults out.old) (O.faults out.new) }
+    ensures fetches { CountsFetches result.status (F.faults files.old) (F.faults files.new) }
+    ensures puts { CountsPuts result.status (O.faults out.old) (O.faults out.new) }
+    ensures told { CountsPuts result.status (E.faults errs.old) (E.faults errs.new) }
 {
-    let mut text = Vec::new(alloc);
-    match files.fetch(alloc, run.file, MOST_SOURCE, &mut text) {
-        Fetched::Whole => work_on(alloc, text.as_slice(), run.asked, out),
-        Fetched::TooLong => Work::without_code(Answer::TooLong(run.file)),
-        Fetched::Failed => Work::without_code(Answer::Unreadable(run.file)),
-        Fetched::NoMemory => Work::without_code(Answer::NoMemory),
+    run_causes_are_exact::<F>();
+    match work_for(alloc, command, files, out) {
+        Ok(work) => {
+            let answer = grid_call::told(alloc, work.answer, errs);
+            Ran {
+                status: answer.status(),
+                code: work.code,
+                turns: work.counts.turns,
+                sends: work.counts.sends,
+                words_sent: work.counts.words,
+            }
+        }
+        Err(answer) => {
+            let answer = told(alloc, answer, errs);
+            Ran {
+                status: answer.status(),
+                code: None,
+                turns: 0,
+                sends: 0,
+                words_sent: 0,
+            }
+        }
+    }
+}
+
+/// The work on the code of a program, up to its answer, or the answer that there is no code.
+fn work_for<'a, F: Files, O: Sink>(
+    alloc: Global,
+    command: RunCommand<'a>,
+    files: &mut F,
+    out: &mut O,
+) -> Result<Work<'a>, Answer<'a>>
+    requires asked { CanBeMet (asked_in command.asked) }
+    ensures work { (words : List (List ℕ)) → IfOk result
+        (IsRunWork (call_of words (F.tells files.old) (F.may_fail files.old))
+        command.entry.file.now (asked_in command.entry.asked) (settings_in command.entry)
+        (O.tells out.old) (O.tells out.new)) }
+    ensures none { (words : List (List ℕ)) → IfErr result
+        (HasNoCode (call_of words (F.tells files.old) (F.may_fail files.old))
+        command.entry.file.now (settings_in command.entry)) }
+    ensures put { IfErr result (λ answer. answer ≢ Answer.PutFailed) }
+    ensures nothing { IfErr result (λ answer. out.new ≡ out.old) }
+    ensures texts { SameTexts (F.tells files.old) (F.tells files.new) }
+    ensures fetches { CountsFaults (RunFailsToFetch result)
+        (F.faults files.old) (F.faults files.new) }
+    ensures puts { CountsFaults (RunFailsToPut result) (O.faults out.old) (O.faults out.new) }
+{
+    match code_of_file(alloc, command.file, command.words, files) {
+        Ok(code) => Ok(run_code(alloc, code, command.asked, files, out)),
+        Err(answer) => Err(answer),
     }
 }

@@ -5,6 +5,7 @@ use Rattle.call_claims.specs.declared.limits.TheConstants.{MOST_TOKENS}
 use Rattle.call_claims.specs.Setting.{settings_among}
 use Rattle.call_claims.specs.Source.{IsCodeOf}
 use Rattle.top_call.proofs.CodeLemmas.{code_is, small_words}
+use Rattle.top_call.proofs.FileLemmas.{no_arrays_have_room}
 use Rattle.top_call.proofs.compiling.code_of_tree.Goals as goal
 
 pub returns-in-Ok-clause-code : goal.returns-in-Ok-clause-code
@@ -21,3 +22,6 @@ returns-in-Ok-clause-code c =
     (code_is text tokens program c.in-Ok.code c.requires.tokens few c.requires.tree
     (c.words_fit_their_text.ensures text tokens (program_words program) c.requires.tokens words)
     made.built made.good made.in_step made.bound made.tidy)
+
+pub returns-in-Ok-clause-room : goal.returns-in-Ok-clause-room
+returns-in-Ok-clause-room c = no_arrays_have_room c.in-Ok.code (c.in-Ok.ensures {u = tt}).arrays

@@ -1,100 +1,32 @@
-use Rattle.std.proofs.Common.{rules, ◌≡◌, sym, ◌∙◌, ap, subst, arith}
-use Rattle.zpl_io.specs.Files.{GainsWhole, GainsTooMuch}
-use Rattle.zpl_io.specs.declared.outside.Fetched.TheVariants.{Whole, TooLong, Failed}
-use Rattle.zpl_text.specs.declared.TheConstants.{MOST_SOURCE}
 use Rattle.call_claims.specs.Call.{call_of}
-use Rattle.call_claims.specs.Cause.FileCause.{unreadable, too_long, work}
-use Rattle.call_claims.specs.Execution.{IsListedFor}
-use Rattle.call_claims.specs.Source.{IsCodeOf}
-use Rattle.call_claims.specs.declared.status.TheConstants.{TOO_LONG, UNREADABLE}
 use Rattle.call_words.specs.Asked.{asked_in}
-use Rattle.top_call.specs.Answers.{status_of}
-use Rattle.top_call.specs.declared.answers.Answer.TheVariants as answer
-use Rattle.top_call.proofs.ListLemmas.{list_not_unread, list_without, no_put}
-use Rattle.top_call.proofs.WorkLemmas.{source_of, too_long_of, on_some}
-use Rattle.top_call.proofs.WorkLemmas.{unread_is_decided, no_run}
+use Rattle.top_call.proofs.ListLemmas.{list_caused, list_none, listing_cut}
+use Rattle.top_call.proofs.ListLemmas.{listing_taken}
 use Rattle.top_call.proofs.lists.list_file.Goals as goal
 
-pub returns-in-Whole-clause-cause : goal.returns-in-Whole-clause-cause
-returns-in-Whole-clause-cause g c = λ words d.
+pub returns-in-Ok-clause-cause : goal.returns-in-Ok-clause-cause
+returns-in-Ok-clause-cause g c = λ words.
     let call = call_of words (g.F.Files.tells c.args.files.now)
     (g.F.Files.may_fail c.args.files.now) in
-    let file = c.args.list.file.now in
-    let gains = subst (λ old. GainsWhole (call.tells file) MOST_SOURCE old c.fetch.new.into.items)
-    c.new-text.ensures.items
-    (c.fetch.ensures.whole (search rules)) in
-    work (source_of call file c.as_slice.result.now c.fetch.new.into.items gains
-    c.as_slice.ensures.value) (c.list_text.ensures.cause d)
+    list_caused call c.args.list.file.now (asked_in c.args.list.asked) c.list_code.result
+    c.in-Ok.code ((c.in-Ok.ensures {u = tt}).code words) c.list_code.ensures.code
+    c.list_code.ensures.answer
 
-pub returns-in-Whole-clause-code : goal.returns-in-Whole-clause-code
-returns-in-Whole-clause-code g c = λ words.
+pub returns-in-Err-clause-cause : goal.returns-in-Err-clause-cause
+returns-in-Err-clause-cause g c = λ words.
     let call = call_of words (g.F.Files.tells c.args.files.now)
     (g.F.Files.may_fail c.args.files.now) in
-    let file = c.args.list.file.now in
-    let gains = subst (λ old. GainsWhole (call.tells file) MOST_SOURCE old c.fetch.new.into.items)
-    c.new-text.ensures.items
-    (c.fetch.ensures.whole (search rules)) in
-    on_some c.list_text.result.code (IsCodeOf c.as_slice.result.now (asked_in c.args.list.asked).settings)
-    (IsListedFor call file (asked_in c.args.list.asked) c.list_text.result.turns)
-    (λ code of_text. record {
-      source = source_of call file c.as_slice.result.now c.fetch.new.into.items gains
-          c.as_slice.ensures.value;
-      of_text = of_text;
-      no_turns = c.list_text.ensures.no_turns;
-    }) c.list_text.ensures.code
+    list_none call c.args.list.file.now (asked_in c.args.list.asked) c.without_code.result
+    c.in-Err.answer ((c.in-Err.ensures {u = tt}).none words) c.without_code.ensures.answer
+    c.without_code.ensures.code
 
-pub returns-in-Whole-clause-fetches : goal.returns-in-Whole-clause-fetches
-returns-in-Whole-clause-fetches g c =
-    let counts = c.fetch.ensures.counts in
-    let whole : c.fetch.result ≡ Whole = search rules in
-    record {
-      rises = λ e. absurd (list_not_unread (c.list_text.ensures.cause (unread_is_decided e)) e);
-      only = λ less. let failed : c.fetch.result ≡ Failed = counts.only less in absurd
-          (let no : ⊥ = cc in no);
-      never_falls = counts.never_falls;
-      bounded = counts.bounded;
-    }
+pub returns-in-Ok-clause-listed : goal.returns-in-Ok-clause-listed
+returns-in-Ok-clause-listed g c = λ done.
+    listing_taken c.list_code.result c.in-Ok.code (g.O.Sink.tells c.args.out.now)
+    (g.O.Sink.tells c.list_code.new.out) c.list_code.ensures.code (c.list_code.ensures.listed done)
 
-pub returns-in-TooLong-clause-cause : goal.returns-in-TooLong-clause-cause
-returns-in-TooLong-clause-cause g c = λ words.
-    let call = call_of words (g.F.Files.tells c.args.files.now)
-    (g.F.Files.may_fail c.args.files.now) in
-    let file = c.args.list.file.now in
-    let without = c.without_code in
-    let gains = subst (λ old. GainsTooMuch (call.tells file) MOST_SOURCE old c.fetch.new.into.items)
-    c.new-text.ensures.items
-    (c.fetch.ensures.too_long (search rules)) in
-    list_without call file (asked_in c.args.list.asked) without.result
-    (answer.TooLong c.args.list.file) without.ensures.answer
-    (too_long (too_long_of call file c.fetch.new.into.items gains)
-    (no_run without.result without.ensures.code without.ensures.turns))
-
-pub returns-in-Failed-clause-cause : goal.returns-in-Failed-clause-cause
-returns-in-Failed-clause-cause g c = λ words.
-    let call = call_of words (g.F.Files.tells c.args.files.now)
-    (g.F.Files.may_fail c.args.files.now) in
-    let file = c.args.list.file.now in
-    let without = c.without_code-in-Failed in
-    let failed : c.fetch.result ≡ Failed = search rules in
-    list_without call file (asked_in c.args.list.asked) without.result
-    (answer.Unreadable c.args.list.file) without.ensures.answer
-    (unreadable (c.fetch.ensures.cause failed)
-    (no_run without.result without.ensures.code without.ensures.turns))
-
-pub returns-in-TooLong-clause-fetches : goal.returns-in-TooLong-clause-fetches
-returns-in-TooLong-clause-fetches g c =
-    let counts = c.fetch.ensures.counts in
-    let long : c.fetch.result ≡ TooLong = search rules in
-    record {
-      rises = λ e. let same : TOO_LONG ≡ UNREADABLE = sym (ap status_of c.without_code.ensures.answer)
-          ∙ e in absurd (omega (arith, same));
-      only = λ less. let failed : c.fetch.result ≡ Failed = counts.only less in absurd
-          (let no : ⊥ = cc in no);
-      never_falls = counts.never_falls;
-      bounded = counts.bounded;
-    }
-
-pub returns-in-TooLong-clause-puts : goal.returns-in-TooLong-clause-puts
-returns-in-TooLong-clause-puts g c =
-    no_put (g.O.Sink.faults c.args.out.now) c.without_code.result.answer
-    (answer.TooLong c.args.list.file) c.without_code.ensures.answer (λ e. cc)
+pub returns-in-Ok-clause-cut_off : goal.returns-in-Ok-clause-cut_off
+returns-in-Ok-clause-cut_off g c = λ failed.
+    listing_cut c.list_code.result c.in-Ok.code (g.O.Sink.tells c.args.out.now)
+    (g.O.Sink.tells c.list_code.new.out) c.list_code.ensures.code
+    (c.list_code.ensures.cut_off failed)

@@ -1,4 +1,0 @@
-mod Examples
-mod RunLemmas
-mod StackLemmas
-mod TurnLemmas

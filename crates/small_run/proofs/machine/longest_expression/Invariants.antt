@@ -1,7 +1,0 @@
-use Rattle.std.proofs.Common.{ℕ, ◌<◌, ◌≤◌, List, length, get_or}
-use Rattle.node_form.specs.declared.words.ExprOp.{ExprOp}
-use Rattle.small_run.proofs.machine.longest_expression.Given as goal
-
-abbrev pub invariant-loop-i : goal.invariant-loop-i
-invariant-loop-i l = (k : ℕ) (words : List ExprOp) → k < l.i
-    → length (get_or l.code.exprs k words) ≤ l.longest

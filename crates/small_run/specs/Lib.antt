@@ -1,4 +1,0 @@
-pub mod Machine
-pub mod Processor
-pub mod Run
-pub mod Words
