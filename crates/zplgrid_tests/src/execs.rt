@@ -1,25 +1,10 @@
 //! Runs of listings.
-use super::rows::command_line;
-use std::alloc::{AllocError, Global};
-use std::process::Abort;
+use super::rows::{Case, expect_under_order};
 use std::test::Fail;
-use top_call::zplgrid;
-use zpl_io::{MemFiles, MemSink};
 
 /// Two processors, of which each has four turns.
 const TWICE: &[u8] = b"zplnode 1\ngrid 2\nscalars 1\nslots\ncells 0\ntext 6869\nexpr n20\n\
     expr s0 n1 +\ncode\nset 0 0 1\nprint 0\nnumber 1\nend\n";
-
-/// Words behind the listing, the order `o`, and what comes of it: the status, what out and errs
-/// took, and the turns.
-type Case = (
-    &'static [&'static str],
-    &'static [u8],
-    u8,
-    &'static [u8],
-    &'static [u8],
-    u64,
-);
 
 const CASES: [Case; 7] = [
     (
@@ -59,35 +44,10 @@ const CASES: [Case; 7] = [
     (&["turns=0"], b"", 8, b"", b"turn limit\n", 0),
 ];
 
-/// Runs a listing with words behind it and an order, and compares what comes of it.
-fn expect_exec(
-    rt: &impl Abort,
-    alloc: Global,
-    listing: &[u8],
-    case: &Case,
-) -> Result<(), AllocError> {
-    let (more, order, status, taken, told, turns) = *case;
-    let mut files = MemFiles::new(alloc);
-    files.add(alloc, "a.lst", listing)?;
-    files.add(alloc, "o", order)?;
-    let mut out = MemSink::new(alloc, 100)?;
-    let mut errs = MemSink::new(alloc, 100)?;
-    let mut words = command_line(alloc, &["exec", "a.lst"])?;
-    for word in more {
-        words.push(word.to_string(alloc)?)?;
-    }
-    let ran = zplgrid(alloc, words.as_slice(), &mut files, &mut out, &mut errs);
-    assert_eq!(rt; ran.status, status);
-    assert_eq!(rt; out.taken(), taken);
-    assert_eq!(rt; errs.taken(), told);
-    assert_eq!(rt; ran.turns, turns);
-    Ok(())
-}
-
 #[test]
 fn runs_of_a_listing(rt: HostRuntime) -> Result<(), Fail> {
     for case in &CASES {
-        expect_exec(&rt, rt.alloc(), TWICE, case)?;
+        expect_under_order(&rt, rt.alloc(), "exec", TWICE, case)?;
     }
     Ok(())
 }
@@ -112,7 +72,7 @@ const LINKS: [Case; 2] = [
 #[test]
 fn links_of_a_capacity(rt: HostRuntime) -> Result<(), Fail> {
     for case in &LINKS {
-        expect_exec(&rt, rt.alloc(), CROSSED, case)?;
+        expect_under_order(&rt, rt.alloc(), "exec", CROSSED, case)?;
     }
     Ok(())
 }
@@ -120,6 +80,6 @@ fn links_of_a_capacity(rt: HostRuntime) -> Result<(), Fail> {
 #[test]
 fn a_text_that_is_no_listing(rt: HostRuntime) -> Result<(), Fail> {
     let refused: Case = (&[], b"", 11, b"", b"listing refused: BadLine, line 1\n", 0);
-    expect_exec(&rt, rt.alloc(), b"", &refused)?;
+    expect_under_order(&rt, rt.alloc(), "exec", b"", &refused)?;
     Ok(())
 }

@@ -61,3 +61,41 @@ pub fn expect_no_run(
     };
     expect(rt, alloc, words, text, wanted)
 }
+
+/// Words behind a file, the order `o`, and what comes of it: the status, what out and errs took, and
+/// the turns.
+pub type Case = (
+    &'static [&'static str],
+    &'static [u8],
+    u8,
+    &'static [u8],
+    &'static [u8],
+    u64,
+);
+
+/// Does what a command does with a text and an order, with words behind the file, and compares what
+/// comes of it.
+pub fn expect_under_order(
+    rt: &impl Abort,
+    alloc: Global,
+    command: &str,
+    text: &[u8],
+    case: &Case,
+) -> Result<(), AllocError> {
+    let (more, order, status, taken, told, turns) = *case;
+    let mut files = MemFiles::new(alloc);
+    files.add(alloc, "a.file", text)?;
+    files.add(alloc, "o", order)?;
+    let mut out = MemSink::new(alloc, 100)?;
+    let mut errs = MemSink::new(alloc, 100)?;
+    let mut words = command_line(alloc, &[command, "a.file"])?;
+    for word in more {
+        words.push(word.to_string(alloc)?)?;
+    }
+    let ran = zplgrid(alloc, words.as_slice(), &mut files, &mut out, &mut errs);
+    assert_eq!(rt; ran.status, status);
+    assert_eq!(rt; out.taken(), taken);
+    assert_eq!(rt; errs.taken(), told);
+    assert_eq!(rt; ran.turns, turns);
+    Ok(())
+}
