@@ -3,7 +3,7 @@ use Rattle.std.proofs.Common.{ℕ, List, Result, Ok, Err, IfErr}
 use Rattle.node_form.specs.declared.tables.Tables.{Tables}
 use Rattle.zpl_binding.specs.Settings.{Setting}
 use Rattle.top_call.specs.Work.{FailsToFetch, IsUncoded}
-use Rattle.top_call.specs.declared.answers.Answer.{Answer}
+use Rattle.call_answers.specs.declared.answers.Answer.{Answer}
 use Rattle.top_call.proofs.FileLemmas.{uncoded_read}
 
 pub text_fetches_none : (text : List ℕ) (settings : List Setting) (r : Result Tables Answer)

@@ -1,8 +1,6 @@
 -- Why a text, or a file, has no code.
 use Rattle.std.proofs.Common.{◌≡◌, ◌≢◌, ℕ, ◌≤◌, List, [], length, map, Option, Some, None, Result, Ok, Err}
 use Rattle.std.proofs.Common.{IfErr, IfOk, IfSome, refl, sym, ◌∙◌, subst, arith}
-use Rattle.zpl_io.specs.Files.{GainsWhole, GainsTooMuch}
-use Rattle.zpl_text.specs.declared.TheConstants.{MOST_SOURCE}
 use Rattle.node_form.specs.declared.arrays.ArrayRow.{ArrayRow}
 use Rattle.node_form.specs.declared.tables.Tables.{Tables}
 use Rattle.grid_layout.specs.Words.{words_of}
@@ -10,7 +8,7 @@ use Rattle.grid_meaning.specs.Stored.{box_of, stored}
 use Rattle.code_layout.specs.Room.{HasRoom}
 use Rattle.zpl_binding.specs.Settings.{Setting}
 use Rattle.call_claims.specs.Call.{Call}
-use Rattle.call_claims.specs.Cause.{TextFault, FileCause, ProgramCause, IsTooLong}
+use Rattle.call_claims.specs.Cause.{TextFault, FileCause, ProgramCause}
 use Rattle.call_claims.specs.Cause.CodeCause.{faulty}
 use Rattle.call_claims.specs.Cause.FileCause.{unreadable, too_long, work}
 use Rattle.call_claims.specs.Cause.TextFault.{refused, unbound}
@@ -18,14 +16,14 @@ use Rattle.call_claims.specs.Decided.{IsDecided}
 use Rattle.call_claims.specs.Execution.{Execution, HasNoRun}
 use Rattle.call_claims.specs.Source.{Source}
 use Rattle.call_claims.specs.declared.status.TheConstants.{UNREADABLE, USAGE}
-use Rattle.top_call.specs.Answers.{status_of, text_of, answer_of}
+use Rattle.call_answers.specs.Answers.{status_of, text_of, answer_of}
 use Rattle.top_call.specs.Refusals.{Refuses}
 use Rattle.top_call.specs.Work.{IsUncoded, HasNoCode}
-use Rattle.top_call.specs.declared.answers.Answer.{Answer}
-use Rattle.top_call.specs.declared.answers.Answer.TheVariants as answer
-use Rattle.top_call.specs.declared.refusals.Refusal.{Refusal}
-use Rattle.top_call.specs.declared.refusals.Refusal.TheVariants.{Lex, Parse, Judge, Bind, NotBuilt}
-use Rattle.top_call.specs.declared.refusals.Refusal.TheVariants.{NoMemory}
+use Rattle.call_answers.specs.declared.answers.Answer.{Answer}
+use Rattle.call_answers.specs.declared.answers.Answer.TheVariants as answer
+use Rattle.call_answers.specs.declared.refusals.Refusal.{Refusal}
+use Rattle.call_answers.specs.declared.refusals.Refusal.TheVariants.{Lex, Parse, Judge, Bind, NotBuilt}
+use Rattle.call_answers.specs.declared.refusals.Refusal.TheVariants.{NoMemory}
 
 -- code without arrays has room
 pub no_arrays_have_room : (code : Tables) → code.arrays ≡ [] → HasRoom code
@@ -33,24 +31,6 @@ no_arrays_have_room code none =
     subst (λ (arrays : List ArrayRow).
     words_of (record { grid = code.grid; boxes = map box_of (stored arrays) }) ≤ 16777216)
     (sym none) (omega arith)
-
--- ---- of files
--- a whole text that was fetched
-abbrev pub source_of : (call : Call) (file text new : List ℕ)
-    → GainsWhole (call.tells file) MOST_SOURCE [] new → text ≡ new → Source call file
-source_of call file text new gains is = record {
-  text = text;
-  told = subst (call.tells file) (sym (is ∙ gains.gained)) gains.is_told;
-  short = subst (λ t. length t ≤ MOST_SOURCE) (sym (is ∙ gains.gained)) gains.is_short;
-}
-
-pub too_long_of : (call : Call) (file new : List ℕ)
-    → GainsTooMuch (call.tells file) MOST_SOURCE [] new → IsTooLong call file
-too_long_of call file new gains = record {
-  text = gains.text;
-  told = gains.is_told;
-  long = gains.is_long;
-}
 
 -- ---- a text's refusal is the fault of its answer
 pub uncoded : (text : List ℕ) (settings : List Setting) (refusal : Refusal)

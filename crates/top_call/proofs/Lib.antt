@@ -3,6 +3,5 @@ pub mod FetchLemmas
 pub mod FileLemmas
 pub mod ListLemmas
 pub mod RunLemmas
-pub mod SettingLemmas
 pub mod SmallLemmas
 pub mod TopLemmas

@@ -15,10 +15,10 @@ use Rattle.call_claims.specs.Command.{Asked, IsList, IsNoList}
 use Rattle.call_claims.specs.Decided.{IsDecided}
 use Rattle.call_claims.specs.Execution.{HasNoRun, IsMadeOf, TakesListing, TakesListingFront}
 use Rattle.call_claims.specs.declared.status.TheConstants.{UNREADABLE}
-use Rattle.top_call.specs.Answers.{status_of, text_of}
+use Rattle.call_answers.specs.Answers.{status_of, text_of}
 use Rattle.top_call.specs.Work.{execution_in, HasNoCode, IsListOn, IsOfListing, IsWorkFor}
-use Rattle.top_call.specs.declared.answers.Answer.{Answer}
-use Rattle.top_call.specs.declared.answers.Answer.TheVariants as answer
+use Rattle.call_answers.specs.declared.answers.Answer.{Answer}
+use Rattle.call_answers.specs.declared.answers.Answer.TheVariants as answer
 use Rattle.top_call.specs.declared.work.Work.{Work}
 use Rattle.top_call.proofs.FileLemmas.{none_caused}
 
@@ -91,13 +91,3 @@ listing_read a is = elim is [
     | inr e ↦ λ f. omega (arith, ap status_of e, f)
   ]
 ]
-
--- a call that puts nothing counts no fault
-pub no_put : (count : ℕ) (a b : Answer) → a ≡ b → b ≢ answer.PutFailed
-    → CountsFaults (a ≡ answer.PutFailed) count count
-no_put count a b is other = record {
-  rises = λ e. absurd (other (sym is ∙ e));
-  only = λ less. absurd (omega (arith, less));
-  never_falls = omega arith;
-  bounded = λ h. h;
-}

@@ -22,9 +22,9 @@ use Rattle.grid_call.proofs.WorkLemmas.{none_counted, of_code, ran_of, run_count
 use Rattle.run_claims.specs.Answer.{IsMadeFor, IsOutputCut, TakesPrinted}
 use Rattle.run_claims.specs.Cause.{Cause}
 use Rattle.run_claims.specs.Cause.Cause.{run}
-use Rattle.top_call.specs.Answers.{status_of, text_of}
+use Rattle.call_answers.specs.Answers.{status_of, text_of}
 use Rattle.top_call.specs.Work.{HasNoCode, IsRunWork}
-use Rattle.top_call.specs.declared.answers.Answer.{Answer}
+use Rattle.call_answers.specs.declared.answers.Answer.{Answer}
 use Rattle.top_call.proofs.FileLemmas.{none_caused}
 
 -- what was answered without code

@@ -1,44 +1,18 @@
 -- From the answer of the work, and what was told of it, to the answer of the call, whatever a cause is.
-use Rattle.std.proofs.Common.{◌≡◌, ◌≢◌, ℕ, ◌⊎◌, List, refl, sym, ◌∙◌, ap, subst, inl, inr, arith}
+use Rattle.std.proofs.Common.{◌≡◌, ◌≢◌, ℕ, ◌⊎◌, List, [], get_or, refl, sym, ◌∙◌, ap, subst, inl, inr, arith}
+use Rattle.zpl_binding.specs.Settings.{Setting}
+use Rattle.call_claims.specs.Command as command
 use Rattle.call_claims.specs.Decided.{IsDecided}
 use Rattle.call_claims.specs.Texts.{no_memory_text}
 use Rattle.call_claims.specs.declared.status.TheConstants.{DONE, NO_MEMORY, PUT_FAILED, USAGE}
 use Rattle.grid_call.proofs.TellLemmas.{HalfCaused}
-use Rattle.top_call.specs.declared.answers.Answer.{Answer}
-use Rattle.top_call.specs.declared.answers.Answer.TheVariants as answer
-use Rattle.top_call.specs.Answers.{status_of, text_of, IsHalfTold}
-
--- the status of a failed put is that answer's alone
-pub failed_of : (a : Answer) → status_of a ≡ PUT_FAILED → a ≡ answer.PutFailed
-failed_of answer.PutFailed e = refl
-failed_of a e = absurd (omega arith)
-
--- and that of work that was done
-pub done_of : (a : Answer) → status_of a ≡ DONE → a ≡ answer.Done
-done_of answer.Done e = refl
-done_of a e = absurd (omega arith)
-
--- an answer is a failed put, want of memory, or decided
-pub data Kind (a : Answer) : Type 0 where
-  is_failed : a ≡ answer.PutFailed → Kind a
-  is_wanting : a ≡ answer.NoMemory → Kind a
-  is_decided : a ≢ answer.PutFailed → IsDecided (status_of a) → Kind a
-
-decided_by : (a : Answer) → status_of a ≢ 9 → status_of a ≢ 10 → Kind a
-decided_by a put memory = is_decided (λ e. put (ap status_of e))
-    (record { put = put; memory = memory })
-
-pub kind_of : (a : Answer) → Kind a
-kind_of answer.PutFailed = is_failed refl
-kind_of answer.NoMemory = is_wanting refl
-kind_of a = decided_by a (λ e. omega arith) (λ e. omega arith)
-
-pub failed_or : (a : Answer) → (a ≡ answer.PutFailed) ⊎ (a ≢ answer.PutFailed)
-failed_or a = elim (kind_of a) [
-  | is_failed e ↦ inl e
-  | is_wanting e ↦ inr (λ f. let no : answer.NoMemory ≡ answer.PutFailed = sym e ∙ f in cc)
-  | is_decided other decided ↦ inr other
-]
+use Rattle.call_answers.specs.declared.answers.Answer.{Answer}
+use Rattle.call_answers.specs.declared.answers.Answer.TheVariants as answer
+use Rattle.call_answers.specs.Answers.{status_of, text_of, IsHalfTold}
+use Rattle.call_answers.proofs.AnswerLemmas.{done_of, failed_or, kind_of}
+use Rattle.call_answers.proofs.AnswerLemmas.Kind.{is_failed, is_wanting, is_decided}
+use Rattle.exec_words.specs.Asked.{Asked, IsExec, IsRun}
+use Rattle.mean_claims.specs.Command.{IsMean}
 
 module _ (Caused : ℕ → List ℕ → Type 0) (wanting : Caused NO_MEMORY no_memory_text) (a : Answer)
     (caused : IsDecided (status_of a) → Caused (status_of a) (text_of a)) where
@@ -97,3 +71,20 @@ pub not_done : (a b : Answer) → (a ≡ answer.Done → b ≡ answer.Done) → 
     → a ≢ answer.Done
 not_done a b forth failed done =
     let no : answer.PutFailed ≡ answer.Done = sym failed ∙ forth done in absurd cc
+
+-- ---- words
+-- an `exec` is no `mean`, and a `run` is none
+pub exec_is_no_mean : (words : List (List ℕ)) (file : List ℕ) (asked : Asked) (name : List ℕ)
+    (other : command.Asked) → IsExec words file asked → IsMean words name other → ⊥
+exec_is_no_mean words file asked name other f g =
+    let same : 101 ≡ 109 = ap (λ (ws : List (List ℕ)). get_or (get_or ws 0 []) 0 0)
+    (sym f.split ∙ g.split) in
+    omega (arith, same)
+
+pub run_is_no_mean : (words : List (List ℕ)) (file : List ℕ) (asked : Asked)
+    (settings : List Setting) (name : List ℕ) (other : command.Asked)
+    → IsRun words file asked settings → IsMean words name other → ⊥
+run_is_no_mean words file asked settings name other f g =
+    let same : 114 ≡ 109 = ap (λ (ws : List (List ℕ)). get_or (get_or ws 0 []) 0 0)
+    (sym f.split ∙ g.split) in
+    omega (arith, same)

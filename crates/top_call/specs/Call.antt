@@ -1,11 +1,12 @@
--- What is said of a call of `run` and of `list`, and which words are which command. Of `exec` it is
--- said by `IsExecuted` of `exec_call`.
+-- What is said of a call of `run`, of `list` and of `mean`, and which words are which command. Of
+-- `exec` it is said by `IsExecuted` of `exec_call`.
 --
 --   AsksRun, IsRan         the words are a `run`; what is said of one
 --   IsOfList               what is said of `list`, and of words that are no command
 --   IsNoCommand            the words are neither
 --   AsksExec               they are an `exec`
-use Rattle.std.specs.Prelude.{◌≡◌, ◌≢◌, ◌⊎◌, ℕ, List, [], IfSome, MatchOption}
+--   AsksMean, IsMeant      they are a `mean`; what is said of one
+use Rattle.std.specs.Prelude.{◌≡◌, ◌≢◌, ◌⊎◌, ℕ, List, [], IfSome, MatchOption, None}
 use Rattle.zpl_io.specs.Faults.{Rose}
 use Rattle.zpl_io.specs.Sink.{Takes}
 use Rattle.zpl_binding.specs.Settings.{Setting}
@@ -13,13 +14,17 @@ use Rattle.call_claims.specs.declared.ran.Ran.{Ran}
 use Rattle.call_claims.specs.Answer.{IsAnswered, IsHalfAnswered}
 use Rattle.call_claims.specs.Call.{Call}
 use Rattle.call_claims.specs.Cause.{Lists}
+use Rattle.call_claims.specs.Command as command
 use Rattle.call_claims.specs.Command.{IsNoList}
-use Rattle.call_claims.specs.Decided.{IsExact}
+use Rattle.call_claims.specs.Decided.{IsExact, IsSettled}
 use Rattle.call_claims.specs.Execution.{execution_of, HasNoCounts, IsMadeOf, TakesListingFront}
 use Rattle.call_claims.specs.Execution.{TakesOutput}
 use Rattle.call_claims.specs.declared.status.TheConstants.{PUT_FAILED}
 use Rattle.exec_words.specs.Asked.{Asked, IsExec, IsNoRun, IsRun}
 use Rattle.grid_call.specs.Stream.{Stream}
+use Rattle.mean_claims.specs.Answer as meant
+use Rattle.mean_claims.specs.Command.{IsMean}
+use Rattle.mean_claims.specs.Decided.{IsExact as IsMeanExact}
 use Rattle.run_claims.specs.Answer as ran
 use Rattle.run_claims.specs.Decided.{IsExact as IsRunExact}
 
@@ -82,3 +87,29 @@ IsNoCommand words = IsNoRun words × IsNoList words
 -- ---- exec
 abbrev pub AsksExec : List (List ℕ) → Type 0
 AsksExec words = (file : List ℕ) × (asked : Asked) × IsExec words file asked
+
+-- ---- mean
+abbrev pub AsksMean : List (List ℕ) → Type 0
+AsksMean words = (file : List ℕ) × (asked : command.Asked) × IsMean words file asked
+
+pub record IsMeant (call : Call) (answered : Ran) (out errs : Stream) : Type 0 where
+  -- No code is made.
+  pub code : answered.code ≡ None
+  pub no_counts : HasNoCounts answered
+  -- With a status of a meaning out took just its bytes, with that of want of memory a front of them
+  -- or nothing, and with others nothing.
+  pub output : answered.status ≢ PUT_FAILED
+      → meant.TakesOutput call answered.status out.before out.after
+  -- Each status but that of a failed put has its cause, and errs took its text.
+  pub cause : answered.status ≢ PUT_FAILED
+      → meant.IsAnswered call answered.status errs.before errs.after
+  -- Each status comes just where its own cause is, where no put or fetch failed and memory wasn't
+  -- wanting.
+  pub exact : IsSettled call answered.status → IsMeanExact call answered.status
+  -- A put failed: one of out, which took a front of the bytes, and errs took nothing; or one of errs,
+  -- once out had taken all.
+  pub put_failed : answered.status ≡ PUT_FAILED
+      → (meant.TakesPart call out.before out.after
+      × Rose out.faults out.faults_after × errs.same)
+      ⊎ (Rose errs.faults errs.faults_after
+      × meant.IsHalfAnswered call out.before out.after errs.before errs.after)

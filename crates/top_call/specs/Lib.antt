@@ -1,4 +1,3 @@
-pub mod Answers
 pub mod Call
 pub mod Refusals
 pub mod Work

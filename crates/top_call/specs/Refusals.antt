@@ -1,70 +1,12 @@
--- What a refusal says of a text, and what is told of it.
-use Rattle.std.specs.Prelude.{◌≡◌, ℕ, List, [], codes, ⊤}
-use Rattle.zpl_text.specs.declared.faults.LexFault.{LexFault}
-use Rattle.zpl_text.specs.declared.faults.LexFault.TheVariants as lex
-use Rattle.zpl_text.specs.declared.tokens.Token.{Token}
-use Rattle.zpl_text.specs.Faults.{lexical_name, lexical_offset}
-use Rattle.zpl_text.specs.Lines.{line_at}
-use Rattle.zpl_tree.specs.Syntax.{Program}
-use Rattle.zpl_grammar.specs.Texts.{IsShallowTree}
-use Rattle.zpl_parse.specs.declared.faults.ParseFault.{ParseFault}
-use Rattle.zpl_parse.specs.declared.faults.ParseFault.TheVariants as parse
-use Rattle.zpl_parse.specs.Faults.{parse_name, parse_offset}
-use Rattle.rank_types.specs.declared.faults.Fault.{Fault}
-use Rattle.rank_types.specs.declared.faults.Fault.TheVariants as judge
-use Rattle.rank_types.specs.Faults.{judge_name, judge_offset}
-use Rattle.zpl_bind.specs.declared.faults.BindFault.{BindFault}
-use Rattle.zpl_bind.specs.declared.faults.BindFault.TheVariants as bind
-use Rattle.zpl_bind.specs.Fault.{fault_name}
+-- What a refusal says of a text that was to have code.
+use Rattle.std.specs.Prelude.{ℕ, List, ⊤}
 use Rattle.zpl_binding.specs.Settings.{Setting}
 use Rattle.call_claims.specs.Refusal.{IsRefusal, IsUnbound}
-use Rattle.call_claims.specs.Texts.{fault_text, settings_text, too_deep_text}
-use Rattle.top_call.specs.declared.refusals.Refusal.{Refusal}
-use Rattle.top_call.specs.declared.refusals.Refusal.TheVariants.{Lex, Parse, Judge, Bind, NotBuilt}
-use Rattle.top_call.specs.declared.refusals.Refusal.TheVariants.{NoMemory}
+use Rattle.call_answers.specs.declared.refusals.Refusal.{Refusal}
+use Rattle.call_answers.specs.declared.refusals.Refusal.TheVariants.{Lex, Parse, Judge, Bind, NotBuilt}
+use Rattle.call_answers.specs.declared.refusals.Refusal.TheVariants.{NoMemory}
+use Rattle.call_answers.specs.Refusals.{told_of}
 
--- ---- from a layer's faults
-abbrev pub of_lex : LexFault → Refusal
-of_lex lex.NoMemory = NoMemory
-of_lex fault = Lex fault
-
-abbrev pub of_parse : ParseFault → Refusal
-of_parse parse.NoMemory = NoMemory
-of_parse fault = Parse fault
-
-abbrev pub of_judge : Fault → Refusal
-of_judge judge.NoMemory = NoMemory
-of_judge fault = Judge fault
-
-abbrev pub of_bind : BindFault → Refusal
-of_bind bind.NoMemory = NoMemory
-of_bind fault = Bind fault
-
--- ---- what is told
--- the offset of the place, and 0 where there is none
-abbrev pub offset_of : Refusal → ℕ
-offset_of (Lex fault) = lexical_offset fault
-offset_of (Parse fault) = parse_offset fault
-offset_of (Judge fault) = judge_offset fault
-offset_of (Bind fault) = 0
-offset_of NotBuilt = 0
-offset_of NoMemory = 0
-
--- the piece, for the line of the place
-abbrev pub refusal_text : Refusal → ℕ → List ℕ
-refusal_text (Lex fault) line = fault_text (lexical_name fault) line (lexical_offset fault)
-refusal_text (Parse (parse.Syntax at)) line = fault_text (parse_name (parse.Syntax at)) line at
-refusal_text (Parse parse.TooDeep) line = too_deep_text
-refusal_text (Parse parse.NoMemory) line = []
-refusal_text (Judge fault) line = fault_text (judge_name fault) line (judge_offset fault)
-refusal_text (Bind fault) line = settings_text (fault_name fault)
-refusal_text NotBuilt line = fault_text (codes "NotBuilt") line 0
-refusal_text NoMemory line = []
-
-abbrev pub told_of : List ℕ → Refusal → List ℕ
-told_of text refusal = refusal_text refusal (line_at text (offset_of refusal))
-
--- ---- what it says
 -- The text is refused for what is told of it, or the settings or its declarations are; or memory
 -- was wanting.
 abbrev pub Refuses : List ℕ → List Setting → Refusal → Type 0
@@ -74,8 +16,3 @@ Refuses text settings (Judge fault) = IsRefusal text settings (told_of text (Jud
 Refuses text settings (Bind fault) = IsUnbound text settings (told_of text (Bind fault))
 Refuses text settings NotBuilt = IsRefusal text settings (told_of text NotBuilt)
 Refuses text settings NoMemory = ⊤
-
--- Each tree of the text that isn't too deep is this one.
-abbrev pub IsOnlyTree : List ℕ → List Token → Program → Type 0
-IsOnlyTree text tokens program =
-    (tree : Program) → IsShallowTree text tokens tree → program ≡ tree

@@ -19,9 +19,9 @@ use Rattle.grid_call.specs.Answers.{status_of as run_status}
 use Rattle.grid_call.specs.Work.{IsCodeWork}
 use Rattle.grid_call.specs.declared.answers.Answer.TheVariants as run_answer
 use Rattle.grid_call.specs.declared.work.Work.{Work as RunWork}
-use Rattle.top_call.specs.Answers.{status_of, text_of}
-use Rattle.top_call.specs.declared.answers.Answer.{Answer}
-use Rattle.top_call.specs.declared.answers.Answer.TheVariants as answer
+use Rattle.call_answers.specs.Answers.{status_of, text_of}
+use Rattle.call_answers.specs.declared.answers.Answer.{Answer}
+use Rattle.call_answers.specs.declared.answers.Answer.TheVariants as answer
 use Rattle.top_call.specs.declared.work.Work.{Work}
 
 -- ---- no code: the answer has its cause, unless memory was wanting

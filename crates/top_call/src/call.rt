@@ -8,9 +8,11 @@ ghost use Rattle.call_claims.specs.declared.status.TheConstants.{USAGE};
 ghost use Rattle.exec_words.specs.Asked.{IsNoExec, IsNoRun};
 ghost use Rattle.grid_call.specs.Stream.{stream_of};
 ghost use Rattle.exec_call.specs.Call.{IsExecuted};
-ghost use Rattle.top_call.specs.Call.{AsksExec, AsksRun, IsNoCommand, IsOfList, IsRan};
+ghost use Rattle.mean_claims.specs.Command.{IsNoMean};
+ghost use Rattle.top_call.specs.Call.{AsksExec, AsksMean, AsksRun, IsMeant, IsNoCommand};
+ghost use Rattle.top_call.specs.Call.{IsOfList, IsRan};
 
-use crate::run_or_list::run_or_list;
+use crate::text_commands::text_command;
 use call_claims::Ran;
 use exec_call::exec;
 use exec_words::exec_command;
@@ -41,7 +43,7 @@ pub fn zplgrid<F: Files, O: Sink, E: Sink>(
     // command.
     ensures list { let call =
         call_of (map string_bytes words.now) (F.tells files.old) (F.may_fail files.old) in
-        IsNoRun call.words → IsNoExec call.words → IsOfList call result
+        IsNoRun call.words → IsNoExec call.words → IsNoMean call.words → IsOfList call result
         (stream_of (O.tells out.old) (O.tells out.new) (O.faults out.old) (O.faults out.new)
         (out.new ≡ out.old))
         (stream_of (E.tells errs.old) (E.tells errs.new) (E.faults errs.old) (E.faults errs.new)
@@ -56,9 +58,19 @@ pub fn zplgrid<F: Files, O: Sink, E: Sink>(
         (stream_of (E.tells errs.old) (E.tells errs.new) (E.faults errs.old) (E.faults errs.new)
         (errs.new ≡ errs.old)) }
 
+    // `mean`: that the program's meaning is printed, and why the status is what it is.
+    ensures mean { let call =
+        call_of (map string_bytes words.now) (F.tells files.old) (F.may_fail files.old) in
+        AsksMean call.words → IsMeant call result
+        (stream_of (O.tells out.old) (O.tells out.new) (O.faults out.old) (O.faults out.new)
+        (out.new ≡ out.old))
+        (stream_of (E.tells errs.old) (E.tells errs.new) (E.faults errs.old) (E.faults errs.new)
+        (errs.new ≡ errs.old)) }
+
     // The status of words comes just where they are no command.
     ensures usage { let words = map string_bytes words.now in
-        IsDecided result.status → (result.status ≡ USAGE) ↔ (IsNoCommand words × IsNoExec words) }
+        IsDecided result.status →
+        (result.status ≡ USAGE) ↔ (IsNoCommand words × IsNoExec words × IsNoMean words) }
 
     // Files and counts after the call: the texts are the same, and a count of faults rises only
     // with its status.
@@ -69,6 +81,6 @@ pub fn zplgrid<F: Files, O: Sink, E: Sink>(
 {
     match exec_command(words) {
         Some(command) => exec(alloc, command, files, out, errs),
-        None => run_or_list(alloc, words, files, out, errs),
+        None => text_command(alloc, words, files, out, errs),
     }
 }

@@ -1,30 +1,25 @@
 //! From the bytes of a text to its node code.
-ghost use Rattle.std.specs.Prelude.{◌≤◌, List, length, map, string_bytes, IfOk, IfErr};
-ghost use Rattle.zpl_binding.specs.Settings.{Setting};
+ghost use Rattle.std.specs.Prelude.{◌≤◌, length, map, string_bytes, IfOk, IfErr};
 ghost use Rattle.zpl_text.specs.Tokens.{IsTokens};
 ghost use Rattle.zpl_text.specs.declared.TheConstants.{MOST_SOURCE};
 ghost use Rattle.zpl_tree.specs.View.{syntax_of};
 ghost use Rattle.zpl_grammar.specs.Texts.{IsShallowTree};
 ghost use Rattle.code_layout.specs.Room.{HasRoom};
-ghost use Rattle.zpl_bind.specs.Lists.{settings_of};
+ghost use Rattle.bound_texts.specs.Refused.{IsOnlyTree};
 ghost use Rattle.call_claims.specs.Setting.{settings_among};
 ghost use Rattle.call_claims.specs.Source.{HasNoProgram, IsCodeOf};
-ghost use Rattle.top_call.specs.Refusals.{Refuses, IsOnlyTree};
+ghost use Rattle.top_call.specs.Refusals.{Refuses};
 
-use crate::refusals::Refusal;
-use crate::settings::settings_of;
+use bound_texts::{accepted_tree, tokens_of, tree_of};
 use bumpalo::Bump;
+use call_answers::Refusal;
 use call_claims::MOST_TOKENS;
 use call_words::sets_nothing;
 use node_form::NodeProgram;
-use rank_types::{Typed, judge};
 use small_code::{CodeFault, code_of_small};
 use std::alloc::Global;
-use zpl_bind::Settings;
-use zpl_bound::bind;
 use zpl_grammar::words_fit_their_text;
-use zpl_parse::parse;
-use zpl_text::{Token, lex, text_is_cut_one_way};
+use zpl_text::{Token, text_is_cut_one_way};
 use zpl_tree::Program;
 
 /// The code of a text, for one processor, under the settings among words. There is none where the
@@ -40,35 +35,6 @@ pub fn compile(alloc: Global, text: &[u8], words: &[String]) -> Result<NodeProgr
     let arena = Bump::new(alloc);
     let program = tree_of(alloc, &arena, text, tokens.as_slice())?;
     code_of_tree(alloc, &arena, text, tokens.as_slice(), program, words)
-}
-
-/// The tokens of a text, where there are any.
-fn tokens_of(alloc: Global, text: &[u8]) -> Result<Vec<Token>, Refusal>
-    requires { length text.now ≤ MOST_SOURCE }
-    ensures tokens { IfOk result (λ tokens. IsTokens text.now tokens.items) }
-    ensures refused { (settings : List Setting) → IfErr result (Refuses text.now settings) }
-{
-    text_is_cut_one_way();
-    let mut tokens = Vec::new(alloc);
-    lex(alloc, text, &mut tokens)?;
-    Ok(tokens)
-}
-
-/// The tree of a text with these tokens, where there is one that isn't too deep.
-fn tree_of<'a>(
-    alloc: Global,
-    arena: &'a Bump<Global>,
-    text: &'a [u8],
-    tokens: &[Token],
-) -> Result<&'a Program<'a>, Refusal>
-    requires { IsTokens text.now tokens.now }
-    ensures tree { IfOk result (λ tree. IsShallowTree text.now tokens.now (syntax_of tree.now)) }
-    ensures only { IfOk result (λ tree. IsOnlyTree text.now tokens.now (syntax_of tree.now)) }
-    ensures refused { (settings : List Setting) → IfErr result (Refuses text.now settings) }
-{
-    text_is_cut_one_way();
-    let program = parse(alloc, arena, tokens, text)?;
-    Ok(program)
 }
 
 /// The code of a text with these tokens and this tree, under the settings among words.
@@ -120,50 +86,8 @@ fn without_code<'a>(
     ensures { Refuses text.now (settings_among (map string_bytes words.now)) result }
 {
     text_is_cut_one_way();
-    match judge(alloc, arena, program) {
-        Ok(typed) => of_declarations(alloc, text, tokens, &typed, words),
-        Err(fault) => Refusal::from(fault),
-    }
-}
-
-/// Why a text without a small program under the settings among words, and without faults of names,
-/// ranks and types, is refused.
-fn of_declarations(
-    alloc: Global,
-    text: &[u8],
-    tokens: &[Token],
-    typed: &Typed<'_>,
-    words: &[String],
-) -> Refusal
-    requires none { HasNoProgram text.now (settings_among (map string_bytes words.now)) }
-    requires tokens { IsTokens text.now tokens.now }
-    requires tree { IsShallowTree text.now tokens.now (syntax_of typed.now.program.now) }
-    requires only { IsOnlyTree text.now tokens.now (syntax_of typed.now.program.now) }
-    ensures { Refuses text.now (settings_among (map string_bytes words.now)) result }
-{
-    match settings_of(alloc, words) {
-        Ok(settings) => under_settings(alloc, text, tokens, typed, &settings),
-        Err(_) => Refusal::NoMemory,
-    }
-}
-
-/// Why it is refused, under these settings.
-fn under_settings(
-    alloc: Global,
-    text: &[u8],
-    tokens: &[Token],
-    typed: &Typed<'_>,
-    settings: &Settings,
-) -> Refusal
-    requires none { HasNoProgram text.now (settings_of settings.now) }
-    requires tokens { IsTokens text.now tokens.now }
-    requires tree { IsShallowTree text.now tokens.now (syntax_of typed.now.program.now) }
-    requires only { IsOnlyTree text.now tokens.now (syntax_of typed.now.program.now) }
-    ensures { Refuses text.now (settings_of settings.now) result }
-{
-    text_is_cut_one_way();
-    match bind(alloc, typed, settings) {
+    match accepted_tree(alloc, arena, text, tokens, program, words) {
         Ok(_) => Refusal::NotBuilt,
-        Err(fault) => Refusal::from(fault),
+        Err(refusal) => refusal,
     }
 }

@@ -10,7 +10,7 @@ ghost use Rattle.call_claims.specs.Setting.{settings_among};
 ghost use Rattle.call_claims.specs.Source.{IsCodeOf};
 ghost use Rattle.top_call.specs.Work.{FailsToFetch, HasNoCode, IsUncoded};
 
-use crate::answers::Answer;
+use call_answers::Answer;
 use crate::compiling::compile;
 use node_form::NodeProgram;
 use std::alloc::Global;

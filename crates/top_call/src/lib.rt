@@ -2,15 +2,13 @@
 //! printed and told.
 #![tactic(auto)]
 
-mod answers;
 mod call;
 mod compiling;
 mod fetches;
 mod lists;
-mod refusals;
 mod run_or_list;
 mod runs;
-mod settings;
+mod text_commands;
 mod work;
 
 pub use call::zplgrid;

@@ -14,11 +14,11 @@ ghost use Rattle.call_claims.specs.Execution.{IsMadeOf, TakesListing, TakesListi
 ghost use Rattle.call_claims.specs.declared.status.TheConstants.{UNREADABLE, USAGE};
 ghost use Rattle.call_words.specs.Asked.{asked_in};
 ghost use Rattle.grid_call.specs.Stream.{stream_of};
-ghost use Rattle.top_call.specs.Answers.{status_of};
+ghost use Rattle.call_answers.specs.Answers.{status_of};
 ghost use Rattle.top_call.specs.Call.{IsOfList};
 ghost use Rattle.top_call.specs.Work.{execution_in, IsListOn, IsOfListing, IsWorkFor};
 
-use crate::answers::{Answer, told};
+use call_answers::{Answer, told};
 use crate::fetches::code_of_file;
 use crate::work::Work;
 use call_claims::{Ran, list_statuses_are_exact};

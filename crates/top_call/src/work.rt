@@ -1,7 +1,7 @@
 //! What comes of the work of a `list`.
 ghost use Rattle.std.specs.Prelude.{◌≡◌, None};
 
-use crate::answers::Answer;
+use call_answers::Answer;
 use node_form::NodeProgram;
 
 /// What came of the work.

@@ -89,7 +89,7 @@ fn words_that_are_no_command(rt: HostRuntime) -> Result<(), Fail> {
     let cases: [&[&str]; 8] = [
         &[],
         &["run"],
-        &["mean", "a.zpl"],
+        &["mean"],
         &["Run", "a.zpl"],
         &["run", "a.zpl", "turns="],
         &["run", "a.zpl", "turns=2305843009213693953"],

@@ -13,6 +13,8 @@ mod forms;
 #[cfg(test)]
 mod lists;
 #[cfg(test)]
+mod means;
+#[cfg(test)]
 mod orders;
 #[cfg(test)]
 mod rows;

@@ -21,17 +21,18 @@ pub fn command_line(alloc: Global, words: &[&str]) -> Result<Vec<String>, AllocE
     Ok(strings)
 }
 
-/// Calls the program with a text as `a.zpl`, and compares what comes of it.
-pub fn expect(
+/// Calls the program with a text as `a.zpl`, compares what comes of it, and tells whether code was
+/// made.
+fn compare(
     rt: &impl Abort,
     alloc: Global,
     words: &[&str],
     text: &[u8],
     wanted: Wanted<'_>,
-) -> Result<(), AllocError> {
+) -> Result<bool, AllocError> {
     let mut files = MemFiles::new(alloc);
     files.add(alloc, "a.zpl", text)?;
-    let mut out = MemSink::new(alloc, 100)?;
+    let mut out = MemSink::new(alloc, 400)?;
     let mut errs = MemSink::new(alloc, 100)?;
     let words = command_line(alloc, words)?;
     let ran = zplgrid(alloc, words.as_slice(), &mut files, &mut out, &mut errs);
@@ -39,8 +40,32 @@ pub fn expect(
     assert_eq!(rt; out.taken(), wanted.out);
     assert_eq!(rt; errs.taken(), wanted.errs);
     assert_eq!(rt; ran.turns, wanted.turns);
-    let has_code = wanted.status == 0 || wanted.status == 8;
-    assert_eq!(rt; ran.code.is_some(), has_code);
+    Ok(ran.code.is_some())
+}
+
+/// Calls the program where a run is made, or none.
+pub fn expect(
+    rt: &impl Abort,
+    alloc: Global,
+    words: &[&str],
+    text: &[u8],
+    wanted: Wanted<'_>,
+) -> Result<(), AllocError> {
+    let has_code = compare(rt, alloc, words, text, wanted)?;
+    assert_eq!(rt; has_code, wanted.status == 0 || wanted.status == 8);
+    Ok(())
+}
+
+/// Calls the program where a meaning is put, or none.
+pub fn expect_meaning(
+    rt: &impl Abort,
+    alloc: Global,
+    words: &[&str],
+    text: &[u8],
+    wanted: Wanted<'_>,
+) -> Result<(), AllocError> {
+    let has_code = compare(rt, alloc, words, text, wanted)?;
+    assert!(rt; !has_code);
     Ok(())
 }
 

@@ -7,7 +7,8 @@ use Rattle.call_claims.specs.Cause.FileCause.{unreadable, too_long}
 use Rattle.call_claims.specs.Setting.{settings_among}
 use Rattle.grid_call.proofs.WorkLemmas.{not_fetched}
 use Rattle.top_call.proofs.FetchLemmas.{text_fetches_none}
-use Rattle.top_call.proofs.FileLemmas.{no_code, on_err, on_ok, source_of, too_long_of}
+use Rattle.call_answers.proofs.FileLemmas.{source_of, too_long_of}
+use Rattle.top_call.proofs.FileLemmas.{no_code, on_err, on_ok}
 use Rattle.top_call.proofs.fetches.code_of_file.Goals as goal
 
 pub returns-in-Whole-clause-code : goal.returns-in-Whole-clause-code

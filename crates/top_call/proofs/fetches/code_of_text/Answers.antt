@@ -1,7 +1,7 @@
 use Rattle.std.proofs.Common.{◌≢◌, map, string_bytes, sym, subst}
 use Rattle.call_claims.specs.Setting.{settings_among}
 use Rattle.top_call.specs.Work.{IsUncoded}
-use Rattle.top_call.specs.declared.answers.Answer.TheVariants as answer
+use Rattle.call_answers.specs.declared.answers.Answer.TheVariants as answer
 use Rattle.top_call.proofs.FileLemmas.{refusal_not_put, uncoded}
 use Rattle.top_call.proofs.fetches.code_of_text.Goals as goal
 

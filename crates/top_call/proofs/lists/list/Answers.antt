@@ -2,11 +2,11 @@ use Rattle.std.proofs.Common.{◌≢◌, map, string_bytes, inl, inr, refl, sym,
 use Rattle.call_claims.specs.Call.{call_of}
 use Rattle.call_claims.specs.Cause.{Cause}
 use Rattle.call_claims.specs.Cause.Cause.{no_memory}
-use Rattle.top_call.specs.Answers.{status_of, text_of}
-use Rattle.top_call.specs.declared.answers.Answer.TheVariants as answer
+use Rattle.call_answers.specs.Answers.{status_of, text_of}
+use Rattle.call_answers.specs.declared.answers.Answer.TheVariants as answer
 use Rattle.top_call.specs.Work.{execution_in}
-use Rattle.top_call.proofs.TopLemmas.{done_of, failed_of, failed_or, half_caused, not_done}
-use Rattle.top_call.proofs.TopLemmas.{status_has_cause, told_back}
+use Rattle.call_answers.proofs.AnswerLemmas.{done_of, failed_of, failed_or}
+use Rattle.top_call.proofs.TopLemmas.{half_caused, not_done, status_has_cause, told_back}
 use Rattle.top_call.proofs.lists.list.Goals as goal
 
 pub returns-clause-list : goal.returns-clause-list

@@ -9,11 +9,12 @@ use Rattle.grid_call.proofs.AnswerLemmas as told_lemmas
 use Rattle.grid_call.proofs.TellLemmas as grid_lemmas
 use Rattle.run_claims.specs.Cause.{Cause}
 use Rattle.run_claims.specs.Cause.Cause.{no_memory}
-use Rattle.top_call.specs.Answers.{status_of, text_of}
+use Rattle.call_answers.specs.Answers.{status_of, text_of}
 use Rattle.top_call.proofs.RunLemmas.{made_caused, made_cut, made_for, made_printed}
 use Rattle.top_call.proofs.RunLemmas.{no_execution, nothing_taken, unmade_caused}
 use Rattle.top_call.proofs.FileLemmas.{none_known}
-use Rattle.top_call.proofs.TopLemmas.{failed_of, failed_or, half_caused, status_has_cause, told_known}
+use Rattle.call_answers.proofs.AnswerLemmas.{failed_of, failed_or}
+use Rattle.top_call.proofs.TopLemmas.{half_caused, status_has_cause, told_known}
 use Rattle.top_call.proofs.runs.run.Goals as goal
 
 pub work_for-requires : goal.work_for-requires

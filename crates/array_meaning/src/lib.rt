@@ -1,0 +1,8 @@
+//! The meaning of an array program: what it prints, and how it ends.
+#![tactic(auto)]
+
+mod means;
+
+pub use array_statements::MeanFault;
+pub use means::mean;
+pub use zpl_nums::{End, TrapKind};

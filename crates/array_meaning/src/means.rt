@@ -1,0 +1,155 @@
+//! The meaning of a program.
+ghost use Rattle.std.specs.Prelude.{◌≡◌, ◌≤◌, List, length};
+ghost use Rattle.zpl_tree.specs.Grammar.{IsProgram};
+ghost use Rattle.zpl_tree.specs.View.{syntax_of};
+ghost use Rattle.zpl_io.specs.Faults.{CountsFaults};
+ghost use Rattle.zpl_binding.specs.Bound.{Binds};
+ghost use Rattle.zpl_binding.specs.Settings.{Setting};
+ghost use Rattle.zpl_binding.specs.Declarations.{known_of};
+ghost use Rattle.zpl_bind.specs.Known.{known_in};
+ghost use Rattle.zpl_bind.specs.Lists.{bound_of};
+ghost use Rattle.zpl_meaning.specs.Program.{mean_of};
+ghost use Rattle.array_meaning.specs.Means.{IsBound, Means};
+ghost use Rattle.array_meaning.specs.Opened.{IsOpened};
+ghost use Rattle.array_statements.specs.declared.faults.MeanFault.TheVariants.{SinkFailed};
+
+use array_frames::{Head, Opening, opening_of};
+use array_places::{Currents, Setup, Things};
+use array_statements::{MeanFault, Run, call};
+use array_store::Store;
+use bound_tables::{faultless_programs_are_fit, known_of};
+use bumpalo::Bump;
+use meaning_ranks::ranks_agree;
+use rank_types::Typed;
+use routine_walks::Text;
+use scalar_steps::Buffers;
+use std::alloc::Global;
+use text_routines::text_of;
+use zpl_bind::{Bound, Known};
+use zpl_io::Sink;
+use zpl_nums::End;
+use zpl_parts::{Part, parts_of_text};
+use zpl_tree::Program;
+
+/// The most different procedures of a chain of calls.
+const LONGEST_CHAIN: u32 = 32;
+
+/// Puts what a program prints under the settings that it was bound by, with at most so many turns of
+/// each loop that is entered, and answers how it ends: `End::More` just where a loop wanted a further
+/// turn. The arena is that of the tree; it keeps what is known of parameters.
+pub fn mean<'a, O: Sink>(
+    alloc: Global,
+    arena: &'a Bump<Global>,
+    typed: &Typed<'a>,
+    bound: &Bound,
+    loops: u64,
+    out: &mut O,
+) -> Result<End, MeanFault>
+    requires grammar { IsProgram (syntax_of typed.now.program.now) }
+    requires bound { IsBound (syntax_of typed.now.program.now) (bound_of bound.now) }
+    requires short { length typed.now.program.now.source.now ≤ 1048576 }
+    ensures means { (settings : List Setting) →
+        Binds (syntax_of typed.now.program.now) settings (bound_of bound.now) →
+        Means result (mean_of (syntax_of typed.now.program.now) settings loops)
+        (O.tells out.old) (O.tells out.new) }
+    ensures counts { CountsFaults (result ≡ Err SinkFailed) (O.faults out.old) (O.faults out.new) }
+{
+    faultless_programs_are_fit();
+    let program = typed.program;
+    let Ok((text, _found)) = text_of(alloc, arena, program) else {
+        return Err(MeanFault::NoMemory);
+    };
+    let known = known_of(alloc, program, bound)?;
+    let parts = parts_of_text(alloc, program)?;
+    let Opening {
+        things,
+        mut store,
+        heads,
+    } = opening_of(alloc, &known, bound.storages.as_slice(), program)?;
+    run_all(
+        alloc,
+        program,
+        &text,
+        &known,
+        parts.as_slice(),
+        &things,
+        &heads,
+        &mut store,
+        loops,
+        out,
+    )
+}
+
+/// Lends what a run goes by.
+fn run_all<'n, O: Sink>(
+    alloc: Global,
+    program: &Program<'n>,
+    text: &Text<'n>,
+    known: &Known<'n>,
+    parts: &[Part<'n>],
+    things: &Things<'n>,
+    heads: &[Head<'n>],
+    store: &mut Store,
+    loops: u64,
+    out: &mut O,
+) -> Result<End, MeanFault>
+    requires { IsOpened program.now text.now known.now parts.now things.now heads.now store.old }
+    ensures means { (settings : List Setting) →
+        known_in known.now ≡ known_of (syntax_of program.now) settings →
+        Means result (mean_of (syntax_of program.now) settings loops)
+        (O.tells out.old) (O.tells out.new) }
+    ensures counts { CountsFaults (result ≡ Err SinkFailed) (O.faults out.old) (O.faults out.new) }
+{
+    run_in(
+        alloc, &*program, &*text, &*known, &*parts, &*things, &*heads, store, loops, out,
+    )
+}
+
+/// Runs the entry procedure.
+fn run_in<'a, 'n, O: Sink>(
+    alloc: Global,
+    program: &'a Program<'n>,
+    text: &'a Text<'n>,
+    known: &'a Known<'n>,
+    parts: &'a [Part<'n>],
+    things: &'a Things<'n>,
+    heads: &'a [Head<'n>],
+    store: &mut Store,
+    loops: u64,
+    out: &mut O,
+) -> Result<End, MeanFault>
+    requires { IsOpened program.now text.now known.now parts.now things.now heads.now store.old }
+    ensures means { (settings : List Setting) →
+        known_in known.entry.now ≡ known_of (syntax_of program.entry.now) settings →
+        Means result (mean_of (syntax_of program.entry.now) settings loops)
+        (O.tells out.old) (O.tells out.new) }
+    ensures counts { CountsFaults (result ≡ Err SinkFailed) (O.faults out.old) (O.faults out.new) }
+{
+    ranks_agree();
+    let setup = Setup {
+        program,
+        known,
+        parts,
+        globals: things,
+    };
+    let run = Run {
+        alloc,
+        text,
+        heads,
+        turns: loops,
+        depth: LONGEST_CHAIN,
+    };
+    let mut buffers = Buffers::new(alloc);
+    let none = Vec::new(alloc);
+    call(
+        &run,
+        &setup,
+        Currents::none(),
+        &program.name,
+        none,
+        0,
+        store,
+        &mut buffers,
+        out,
+    )
+}

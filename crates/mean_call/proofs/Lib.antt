@@ -1,0 +1,4 @@
+mod CallLemmas
+mod TextLemmas
+mod WordLemmas
+mod WorkLemmas

@@ -1,0 +1,10 @@
+//! The call `mean FILE`: it prints what the program of a file means, and ends as the meaning does.
+#![tactic(auto)]
+
+mod call;
+mod files;
+mod texts;
+mod words;
+
+pub use call::mean;
+pub use words::mean_command;
