@@ -1,5 +1,5 @@
 -- From what was fetched and read to the cause of the answer, and to what out took.
-use Rattle.std.proofs.Common.{◌≡◌, ◌≢◌, ℕ, List, Some, MatchOption, sym, ap, subst, inl, inr}
+use Rattle.std.proofs.Common.{◌≡◌, ◌≢◌, ℕ, List, Some, MatchOption, refl, sym, ap, subst, inl, inr}
 use Rattle.node_form.specs.declared.tables.Tables.{Tables}
 use Rattle.call_claims.specs.Call.{Call}
 use Rattle.call_claims.specs.Decided.{IsDecided}
