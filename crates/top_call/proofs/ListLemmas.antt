@@ -9,7 +9,7 @@ use Rattle.call_claims.specs.Call.{Call}
 use Rattle.call_claims.specs.Cause.{Cause, IsListed, ListCause}
 use Rattle.call_claims.specs.Cause.Cause.{list, usage}
 use Rattle.call_claims.specs.Cause.CodeCause.{made}
-use Rattle.call_claims.specs.Cause.FileCause.{work}
+use Rattle.call_claims.specs.Cause.FileCause.{work as of_text}
 use Rattle.call_claims.specs.Cause.IsListed.{listed}
 use Rattle.call_claims.specs.Command.{Asked, IsList, IsNoList}
 use Rattle.call_claims.specs.Decided.{IsDecided}
@@ -32,7 +32,7 @@ pub list_caused : (call : Call) (file : List ℕ) (asked : Asked) (work : Work) 
 list_caused call file asked w code of_file is_made is = elim is [
   | inl e ↦ subst (λ a. IsDecided (status_of a)
       → ListCause call file asked (execution_in w) (status_of a) (text_of a)) (sym e)
-      (λ d. work of_file.source (made code of_file.of_text is_made (listed refl)))
+      (λ d. of_text of_file.source (made code of_file.of_text is_made (listed refl)))
   | inr other ↦ elim other [
     | inl e ↦ λ d. absurd (d.put (ap status_of e))
     | inr e ↦ λ d. absurd (d.memory (ap status_of e))

@@ -9,7 +9,7 @@ exec-requires g c =
 
 pub returns-in-Some-clause-run : goal.returns-in-Some-clause-run
 returns-in-Some-clause-run g c = λ asks.
-    absurd (run_is_no_exec (map string_bytes c.args.words.now) asks.0 _ asks.1 _ asks.2.0 asks.2.1
+    absurd (run_is_no_exec (map string_bytes c.args.words.now) asks.0 _ asks.1 _ asks.2 asks.3
     (c.in-Some.ensures {u = tt}))
 
 pub returns-in-Some-clause-list : goal.returns-in-Some-clause-list

@@ -20,7 +20,7 @@ returns-in-Some-clause-usage g c = λ d. (
 
 pub returns-in-None-clause-run : goal.returns-in-None-clause-run
 returns-in-None-clause-run g c = λ asks.
-    absurd (c.in-None.ensures {u = tt} asks.0 asks.1 asks.2.0 asks.2.1)
+    absurd (c.in-None.ensures {u = tt} asks.0 asks.1 asks.2 asks.3)
 
 pub returns-in-None-clause-list : goal.returns-in-None-clause-list
 returns-in-None-clause-list g c = λ none. c.list.ensures.list
