@@ -55,7 +55,7 @@ module _ (program : Program) (text : Text) (tables : Known) (parts : List Part) 
   abbrev p : syntax.Program
   p = syntax_of program
 
-  abbrev setup : Setup
+  abbrev pub setup : Setup
   setup = setup_with p (known_in tables) (borders_in parts) globals
 
   pub setup_is : (settings : List Setting) → known_in tables ≡ known_of p settings →
@@ -117,11 +117,11 @@ entry_is program actuals currents none nowhere =
     ap₂ (called_with program) none nowhere
 
 -- a sink that was not used took a front of any bytes
-pub means_nothing : {P : MeanFault → Type 0} (result : Result End MeanFault)
+pub means_nothing : (P : MeanFault → Type 0) (result : Result End MeanFault)
     (program : syntax.Program) (settings : List Setting) (n : ℕ) (told : List ℕ → Type 0) →
     IsErrAnd result P → Means result (mean_of program settings n) told told
-means_nothing (Ok ending) program settings n told is = absurd is
-means_nothing (Err fault) program settings n told is = record {
+means_nothing P (Ok ending) program settings n told is = absurd is
+means_nothing P (Err fault) program settings n told is = record {
   front = [];
   is_front = record { rest = (mean_of program settings n).bytes; joins = refl };
   takes = λ taken has. subst told (sym (append-nil taken)) has;

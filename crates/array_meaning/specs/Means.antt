@@ -17,8 +17,8 @@ pub record IsBound (program : Program) (bound : Bound) : Type 0 where
 -- The sink took just the bytes of the meaning, and the answer is its end.
 pub record HasMeant (meaning : Meaning) (answer : End) (before after : List ℕ → Type 0) : Type 0
   where
-  pub ends : meaning.ending ≡ answer
-  pub takes : Takes before meaning.bytes after
+    pub ends : meaning.ending ≡ answer
+    pub takes : Takes before meaning.bytes after
 
 -- Where a put failed or memory was wanting, the sink took a front of the bytes.
 abbrev pub Means : Result End MeanFault → Meaning → (List ℕ → Type 0) → (List ℕ → Type 0) → Type 0

@@ -10,8 +10,8 @@ ghost use Rattle.call_claims.specs.Setting.{settings_among};
 ghost use Rattle.call_claims.specs.Source.{IsCodeOf};
 ghost use Rattle.top_call.specs.Work.{FailsToFetch, HasNoCode, IsUncoded};
 
-use call_answers::Answer;
 use crate::compiling::compile;
+use call_answers::Answer;
 use node_form::NodeProgram;
 use std::alloc::Global;
 use zpl_io::{Fetched, Files};

@@ -18,9 +18,9 @@ ghost use Rattle.call_answers.specs.Answers.{status_of};
 ghost use Rattle.top_call.specs.Call.{IsOfList};
 ghost use Rattle.top_call.specs.Work.{execution_in, IsListOn, IsOfListing, IsWorkFor};
 
-use call_answers::{Answer, told};
 use crate::fetches::code_of_file;
 use crate::work::Work;
+use call_answers::{Answer, told};
 use call_claims::{Ran, list_statuses_are_exact};
 use call_words::{FileCommand, list_command};
 use listing_rows::write_listing;

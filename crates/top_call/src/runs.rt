@@ -12,8 +12,8 @@ ghost use Rattle.grid_call.specs.Stream.{stream_of};
 ghost use Rattle.top_call.specs.Call.{IsRan};
 ghost use Rattle.top_call.specs.Work.{HasNoCode, IsRunWork, RunFailsToFetch, RunFailsToPut};
 
-use call_answers::{Answer, told};
 use crate::fetches::code_of_file;
+use call_answers::{Answer, told};
 use call_claims::Ran;
 use exec_words::RunCommand;
 use grid_call::{Work, run_code};

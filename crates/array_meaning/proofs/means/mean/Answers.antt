@@ -18,17 +18,17 @@ opening_of-requires-clause-fit g c =
 
 pub returns-in_err-known-clause-means : goal.returns-in_err-known-clause-means
 returns-in_err-known-clause-means g c = λ settings binds.
-    means_nothing c.from_residual.result (syntax_of c.args.typed.now.program.now) settings
+    means_nothing _ c.from_residual.result (syntax_of c.args.typed.now.program.now) settings
     c.args.loops (g.O.Sink.tells c.args.out.now) c.from_residual.ensures.1
 
 pub returns-in_err-parts-clause-means : goal.returns-in_err-parts-clause-means
 returns-in_err-parts-clause-means g c = λ settings binds.
-    means_nothing c.from_residual-in_err-parts.result (syntax_of c.args.typed.now.program.now)
+    means_nothing _ c.from_residual-in_err-parts.result (syntax_of c.args.typed.now.program.now)
     settings c.args.loops (g.O.Sink.tells c.args.out.now) c.from_residual-in_err-parts.ensures.1
 
 pub returns-in_err-things-clause-means : goal.returns-in_err-things-clause-means
 returns-in_err-things-clause-means g c = λ settings binds.
-    means_nothing c.from_residual-in_err-things.result (syntax_of c.args.typed.now.program.now)
+    means_nothing _ c.from_residual-in_err-things.result (syntax_of c.args.typed.now.program.now)
     settings c.args.loops (g.O.Sink.tells c.args.out.now) c.from_residual-in_err-things.ensures.1
 
 pub run_all-requires : goal.run_all-requires
