@@ -1,8 +1,8 @@
-//! Runs of code that is there, as the words of a command ask for them: with an order of turns, a limit, a
-//! report and a capacity of links. And what is told of answers.
+//! Runs of code that is there, as the words of a command ask for them: with an order of turns, a
+//! limit, a report and a capacity of links. And what is told of answers.
 //!
-//! The text of an order is fetched where the words name one, and read, and the code is run under that
-//! order and then round the processors.
+//! The text of an order is fetched where the words name one, and read, and the code is run under
+//! that order and then round the processors.
 #![tactic(auto)]
 
 mod answers;

@@ -1,5 +1,5 @@
-//! `list FILE`: a file is fetched, code is made of its text, and the listing of the code is put. And words
-//! that are no command.
+//! `list FILE`: a file is fetched, code is made of its text, and the listing of the code is put. And
+//! words that are no command.
 ghost use Rattle.std.specs.Prelude.{◌≡◌, ◌≢◌, ◌↔◌, ℕ, List, [], Some, IfSome, map, string_bytes};
 ghost use Rattle.zpl_io.specs.Faults.{CountsFaults};
 ghost use Rattle.zpl_io.specs.Files.{SameTexts};
@@ -28,8 +28,8 @@ use node_form::NodeProgram;
 use std::alloc::Global;
 use zpl_io::{Files, PutFailed, Sink, put_piece};
 
-/// Does what the words ask for, where they are a `list`, and tells that they are no command elsewhere:
-/// the listing goes to `out`, and what is told of the answer to `errs`.
+/// Does what the words ask for, where they are a `list`, and tells that they are no command
+/// elsewhere: the listing goes to `out`, and what is told of the answer to `errs`.
 pub fn list<F: Files, O: Sink, E: Sink>(
     alloc: Global,
     words: &[String],

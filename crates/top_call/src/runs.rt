@@ -1,4 +1,5 @@
-//! `run FILE`: a file is fetched, code is made of its text, and the code is run under an order of turns.
+//! `run FILE`: a file is fetched, code is made of its text, and the code is run under an order of
+//! turns.
 ghost use Rattle.std.specs.Prelude.{◌≡◌, ◌≢◌, ℕ, List, IfErr, IfOk};
 ghost use Rattle.zpl_io.specs.Faults.{CountsFaults};
 ghost use Rattle.zpl_io.specs.Files.{SameTexts};
@@ -23,9 +24,9 @@ use zpl_io::{Files, Sink};
 
 /// Runs a program: what it prints goes to `out`, and what is told of the answer to `errs`.
 ///
-/// The program is fetched and compiled, then the order of turns is fetched and read, and the code is
-/// run under it. The status has its cause. All that is told is made before anything of it is put, and
-/// after a failed put nothing more is put on either sink.
+/// The program is fetched and compiled, then the order of turns is fetched and read, and the code
+/// is run under it. The status has its cause. All that is told is made before anything of it is
+/// put, and after a failed put nothing more is put on either sink.
 pub fn run<F: Files, O: Sink, E: Sink>(
     alloc: Global,
     command: RunCommand<'_>,

@@ -29,7 +29,7 @@ const CASES: [Case; 12] = [
         &["order=o", "turns=40", "report"],
         b"0x3 0",
         8,
-        b"sum ",
+        b"sum 55",
         b"turn limit\nturns 44 sends 0 words 0\n",
         44,
     ),
