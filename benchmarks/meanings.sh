@@ -1,5 +1,5 @@
 #!/bin/sh
-# Measures what `mean` takes, as docs/BENCHMARKS.md has it: `benchmarks/meanings.sh`, in a clone with Rattle's kit and rustc on the path.
+# Measures what `mean` takes, as docs/BENCHMARKS.md has it: `benchmarks/meanings.sh`, in a clone with Rattle's kit, rustc and GNU time.
 # Each program is run by the proved program and by the plain evaluator beside this script, turn about, so that both meet the same machine.
 top=$(cd "$(dirname "$0")/.." && pwd) || exit 1
 program=$top/crates/zplgrid/out/zplgrid
@@ -12,12 +12,8 @@ rustc -O -o "$place/plain" "$top/benchmarks/plain_arrays.rs" 2>/dev/null || exit
 
 # seconds of processor time that a command takes, and the most memory that it holds in MiB, what it prints left out
 measured() {
-    python3 - "$@" <<'END'
-import resource, subprocess, sys
-subprocess.run(sys.argv[1:], stdout=subprocess.DEVNULL, check=False)
-used = resource.getrusage(resource.RUSAGE_CHILDREN)
-print(f"{used.ru_utime + used.ru_stime:.3f} {used.ru_maxrss / 1024:.1f}")
-END
+    /usr/bin/time -f '%U %S %M' -o "$place/used" "$@" >/dev/null 2>&1
+    awk 'END { printf "%.2f %.1f\n", $1 + $2, $3 / 1024 }' "$place/used"
 }
 
 # the least of some numbers, one a line
