@@ -1,5 +1,5 @@
 use Rattle.std.proofs.Common.{◌∷◌, ◌-◌, map, length, take, drop, string_bytes, Global, sym, ◌∙◌, subst, arith}
-use Rattle.exec_words.proofs.AskedLemmas.{begins_with, two_words}
+use Rattle.call_words.proofs.CommandLemmas.{begins_with, two_words}
 use Rattle.mean_call.specs.Words.{Finds}
 use Rattle.mean_call.proofs.words.mean_command.Goals as goal
 
