@@ -1,1 +1,2 @@
 mod PlayLemmas
+mod StandingLemmas

@@ -21,4 +21,6 @@ mod remaps;
 #[cfg(test)]
 mod scans;
 #[cfg(test)]
+mod standings;
+#[cfg(test)]
 mod stuck;

@@ -5,6 +5,7 @@ ghost use Rattle.grid_meaning.specs.Local.{processors};
 ghost use Rattle.grid_meaning.specs.Stored.{arrangement_of};
 ghost use Rattle.node_local.specs.Workplace.{IsReady};
 
+use crate::standings::restored;
 use code_layout::layout_of;
 use grid_layout::Layout;
 use grid_links::Links;
@@ -219,12 +220,34 @@ fn links_for(alloc: Global, count: u32, capacity: Option<u32>) -> Result<Links, 
     }
 }
 
-/// Gives a processor a turn, and writes what comes of it.
+/// Restores a processor from what its readers tell, where that is asked for.
+fn restore(
+    alloc: Global,
+    code: &NodeProgram,
+    layout: &Layout,
+    player: &mut Player,
+    restoring: bool,
+) -> Result<(), AllocError>
+    requires layout { layout.now ≡ arrangement_of code.now }
+    requires number { player.old.number < processors code.now }
+    requires ready { IsReady code.now player.old.number player.old.local }
+    ensures number { OnOk result (player.new.number ≡ player.old.number) }
+    ensures ready { OnOk result (IsReady code.now player.new.number player.new.local) }
+{
+    if restoring {
+        player.local = restored(alloc, code, layout, player.number, &player.local)?;
+    }
+    Ok(())
+}
+
+/// Gives a processor a turn, and writes what comes of it. Behind the turn it may be restored from
+/// what its readers tell.
 fn step_on(
     alloc: Global,
     code: &NodeProgram,
     layout: &Layout,
     player: &mut Player,
+    restoring: bool,
     links: &mut Links,
     text: &mut Vec<u8>,
 ) -> Result<(), AllocError>
@@ -238,6 +261,7 @@ fn step_on(
 {
     let number = player.number;
     let step = give(alloc, code, layout, player, links)?;
+    restore(alloc, code, layout, player, restoring)?;
     push_number(alloc, b"", u64::from(number), text)?;
     text.push(b' ')?;
     push_step(alloc, &step, text)?;
@@ -253,6 +277,7 @@ fn step_at(
     layout: &Layout,
     players: &mut Vec<Player>,
     number: usize,
+    restoring: bool,
     links: &mut Links,
     text: &mut Vec<u8>,
 ) -> Result<(), AllocError>
@@ -265,17 +290,19 @@ fn step_at(
     ensures links { OnOk result (links.new.count ≡ processors code.now) }
 {
     match players.get_mut(number) {
-        Some(player) => step_on(alloc, code, layout, player, links, text),
+        Some(player) => step_on(alloc, code, layout, player, restoring, links, text),
         None => Ok(()),
     }
 }
 
-/// What comes of these turns, a line each. Processors are told by digits.
+/// What comes of these turns, a line each. Processors are told by digits. Behind each turn the
+/// processor may be restored from what its readers tell.
 fn trace(
     alloc: Global,
     code: &NodeProgram,
     capacity: Option<u32>,
     order: &[u8],
+    restoring: bool,
 ) -> Result<Vec<u8>, AllocError>
     requires { HasRoom code.now }
 {
@@ -291,6 +318,7 @@ fn trace(
             &layout,
             &mut players,
             number,
+            restoring,
             &mut links,
             &mut text,
         )?;
@@ -298,7 +326,8 @@ fn trace(
     Ok(text)
 }
 
-/// Compares what comes of these turns with what is to come, over links of a capacity or of none.
+/// Compares what comes of these turns with what is to come, over links of a capacity or of none: for
+/// processors as they are, and for processors that are restored behind each turn.
 pub fn expect_over(
     rt: &impl Abort,
     alloc: Global,
@@ -311,8 +340,10 @@ pub fn expect_over(
     assert!(rt; listing.len() < 1 << 32);
     match read_listing(alloc, listing) {
         Ok(code) => {
-            let text = trace(alloc, &code, capacity, order)?;
+            let text = trace(alloc, &code, capacity, order, false)?;
             assert_eq!(rt; text.as_slice(), want);
+            let restored = trace(alloc, &code, capacity, order, true)?;
+            assert_eq!(rt; restored.as_slice(), want);
         }
         Err(fault) => assert!(rt; false, "{fault:?}"),
     }
