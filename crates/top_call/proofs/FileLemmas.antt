@@ -1,6 +1,6 @@
 -- Why a text, or a file, has no code.
-use Rattle.std.proofs.Common.{◌≡◌, ◌≢◌, ℕ, ◌≤◌, List, [], length, map, Option, Some, None, Result, Ok, Err}
-use Rattle.std.proofs.Common.{IfErr, IfOk, IfSome, refl, sym, ◌∙◌, subst, arith}
+use Rattle.std.proofs.Common.{◌≡◌, ◌≢◌, ℕ, ◌≤◌, List, [], map, Option, Some, None, Result, Ok, Err}
+use Rattle.std.proofs.Common.{IfErr, IfOk, IfSome, refl, sym, subst, arith}
 use Rattle.node_form.specs.declared.arrays.ArrayRow.{ArrayRow}
 use Rattle.node_form.specs.declared.tables.Tables.{Tables}
 use Rattle.grid_layout.specs.Words.{words_of}

@@ -1,7 +1,6 @@
 -- The cause of the answer of a listing, and what out took.
-use Rattle.std.proofs.Common.{◌≡◌, ◌≢◌, ℕ, List, Some, None, refl, sym, ◌∙◌, ap}
+use Rattle.std.proofs.Common.{◌≡◌, ◌≢◌, ℕ, List, Some, None, refl, sym, ap}
 use Rattle.std.proofs.Common.{subst, inl, inr, arith}
-use Rattle.zpl_io.specs.Faults.{CountsFaults}
 use Rattle.zpl_io.specs.Sink.{Takes, TakesFront}
 use Rattle.node_form.specs.declared.tables.Tables.{Tables}
 use Rattle.listing_rows.specs.Listing.{listing_of}

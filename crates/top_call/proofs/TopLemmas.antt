@@ -1,15 +1,15 @@
 -- From the answer of the work, and what was told of it, to the answer of the call, whatever a cause is.
-use Rattle.std.proofs.Common.{◌≡◌, ◌≢◌, ℕ, ◌⊎◌, List, [], get_or, refl, sym, ◌∙◌, ap, subst, inl, inr, arith}
+use Rattle.std.proofs.Common.{◌≡◌, ◌≢◌, ℕ, ◌⊎◌, List, [], get_or, sym, ◌∙◌, ap, subst, inl, inr, arith}
 use Rattle.zpl_binding.specs.Settings.{Setting}
 use Rattle.call_claims.specs.Command as command
 use Rattle.call_claims.specs.Decided.{IsDecided}
 use Rattle.call_claims.specs.Texts.{no_memory_text}
-use Rattle.call_claims.specs.declared.status.TheConstants.{DONE, NO_MEMORY, PUT_FAILED, USAGE}
+use Rattle.call_claims.specs.declared.status.TheConstants.{NO_MEMORY, PUT_FAILED, USAGE}
 use Rattle.grid_call.proofs.TellLemmas.{HalfCaused}
 use Rattle.call_answers.specs.declared.answers.Answer.{Answer}
 use Rattle.call_answers.specs.declared.answers.Answer.TheVariants as answer
 use Rattle.call_answers.specs.Answers.{status_of, text_of, IsHalfTold}
-use Rattle.call_answers.proofs.AnswerLemmas.{done_of, failed_or, kind_of}
+use Rattle.call_answers.proofs.AnswerLemmas.{failed_or, kind_of}
 use Rattle.call_answers.proofs.AnswerLemmas.Kind.{is_failed, is_wanting, is_decided}
 use Rattle.exec_words.specs.Asked.{Asked, IsExec, IsRun}
 use Rattle.mean_claims.specs.Command.{IsMean}

@@ -87,7 +87,7 @@ fn without_code<'a>(
 {
     text_is_cut_one_way();
     match accepted_tree(alloc, arena, text, tokens, program, words) {
-        Ok(_) => Refusal::NotBuilt,
+        Ok(_accepted) => Refusal::NotBuilt,
         Err(refusal) => refusal,
     }
 }

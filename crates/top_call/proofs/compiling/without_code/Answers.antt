@@ -9,7 +9,7 @@ pub returns-in-Ok : goal.returns-in-Ok
 returns-in-Ok c =
     let found = c.in-Ok.ensures {u = tt} in
     not_built_refused c.args.text.now (settings_among (map string_bytes c.args.words.now))
-    c.args.tokens.now (syntax_of c.args.program.now) (program_of c.in-Ok.field-0)
+    c.args.tokens.now (syntax_of c.args.program.now) (program_of c.in-Ok._accepted)
     c.text_is_cut_one_way.ensures.tokens c.requires.none c.requires.tokens c.requires.only
     found.accepted found.with_settings
 

@@ -13,7 +13,7 @@ use Rattle.call_answers.specs.Answers.{status_of, text_of}
 use Rattle.top_call.proofs.RunLemmas.{made_caused, made_cut, made_for, made_printed}
 use Rattle.top_call.proofs.RunLemmas.{no_execution, nothing_taken, unmade_caused}
 use Rattle.top_call.proofs.FileLemmas.{none_known}
-use Rattle.call_answers.proofs.AnswerLemmas.{failed_of, failed_or}
+use Rattle.call_answers.proofs.AnswerLemmas.{failed_of}
 use Rattle.top_call.proofs.TopLemmas.{half_caused, status_has_cause, told_known}
 use Rattle.top_call.proofs.runs.run.Goals as goal
 

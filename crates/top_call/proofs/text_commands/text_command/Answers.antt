@@ -6,7 +6,7 @@ use Rattle.top_call.proofs.text_commands.text_command.Goals as goal
 
 pub returns-in-Some-clause-run : goal.returns-in-Some-clause-run
 returns-in-Some-clause-run g c = λ asks.
-    absurd (run_is_no_mean (map string_bytes c.args.words.now) asks.0 asks.1 asks.2.0 _ _ asks.2.1
+    absurd (run_is_no_mean (map string_bytes c.args.words.now) asks.0 asks.1 asks.2 _ _ asks.3
     (c.in-Some.ensures {u = tt}))
 
 pub returns-in-Some-clause-list : goal.returns-in-Some-clause-list
