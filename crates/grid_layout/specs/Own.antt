@@ -1,5 +1,5 @@
 -- The own blocks that a layout keeps, so that none is found twice.
-use Rattle.std.specs.Prelude.{◌≡◌, ℕ, ℤ, List, map, All}
+use Rattle.std.specs.Prelude.{◌≡◌, ℕ, ◌==◌, ℤ, if◌then◌else◌, List, map, All}
 use Rattle.zpl_region.specs.Dim.{IsUpTo}
 use Rattle.grid_layout.specs.declared.blocks.Blocks.{Blocks}
 use Rattle.grid_layout.specs.declared.boxes.ArrayBox.{ArrayBox}
@@ -20,6 +20,10 @@ own_blocks blocks p = record {
   spaces = own_of blocks 3 p;
 }
 
+-- that of a rank, where those of each are kept
+abbrev pub kept_at : OwnBlocks → ℕ → List ℤ × List ℤ
+kept_at own rank = if rank == 1 then own.lines else if rank == 2 then own.planes else own.spaces
+
 -- of the first n processors
 abbrev pub first_own : Blocks → ℕ → List OwnBlocks
 first_own blocks n = map (own_blocks blocks) (numbers_from 0 n)
@@ -34,7 +38,7 @@ pub record HasBlocks (own : OwnBlocks) : Type 0 where
   pub spaces : IsBlock own.spaces
 
 -- the blocks are those of the arrays, and the own blocks are those of all processors
-pub record IsKept (blocks : Blocks) (boxes : List ArrayBox) (own : List OwnBlocks) : Type 0 where
+pub record IsKept (blocks : Blocks) (boxes : List ArrayBox) (kept : List OwnBlocks) : Type 0 where
   pub layout : IsLayout blocks boxes
-  pub own : own ≡ first_own blocks (processors_of blocks.grid)
-  pub bounds : All HasBlocks own
+  pub own : kept ≡ first_own blocks (processors_of blocks.grid)
+  pub bounds : All HasBlocks kept

@@ -88,8 +88,6 @@ impl Layout {
     pub fn grid(&self) -> Grid
         ensures { result ≡ self.now.grid }
     {
-        let _boxes = &self.boxes;
-        let _own = &self.own;
         self.blocks.grid
     }
 
@@ -128,12 +126,7 @@ impl Layout {
     {
         let _blocks = &self.blocks;
         let _boxes = &self.boxes;
-        let own = self.own[p as usize];
-        match rank {
-            1 => own.lines,
-            2 => own.planes,
-            _ => own.spaces,
-        }
+        self.own[p as usize].of_rank(rank)
     }
 
     /// The box of an array that a processor holds: its own block, widened by the fringe, within the

@@ -2,7 +2,7 @@
 ghost use Rattle.std.specs.Prelude.{◌≡◌, ◌<◌, ◌≤◌, All, IfOk};
 ghost use Rattle.grid_layout.specs.Grid.{processors_of};
 ghost use Rattle.grid_layout.specs.Layout.{AreBlocks};
-ghost use Rattle.grid_layout.specs.Own.{HasBlocks, IsBlock, first_own, own_blocks};
+ghost use Rattle.grid_layout.specs.Own.{HasBlocks, IsBlock, first_own, kept_at, own_blocks};
 
 use crate::blocks::Blocks;
 use std::alloc::{AllocError, Global};
@@ -17,6 +17,23 @@ pub(crate) struct OwnBlocks {
     pub(crate) planes: (Vec3, Vec3),
     /// Of rank 3.
     pub(crate) spaces: (Vec3, Vec3),
+}
+
+impl OwnBlocks {
+    /// The first and the last tuple of the own block of a rank.
+    pub(crate) fn of_rank(&self, rank: u8) -> (Vec3, Vec3)
+        requires bounds { HasBlocks self.now }
+        requires above { 1 ≤ rank }
+        requires below { rank ≤ 3 }
+        ensures own { result ≡ kept_at self.now rank }
+        ensures bounds { IsBlock result }
+    {
+        match rank {
+            1 => self.lines,
+            2 => self.planes,
+            _ => self.spaces,
+        }
+    }
 }
 
 /// The own blocks of a processor.
