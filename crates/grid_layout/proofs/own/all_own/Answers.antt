@@ -1,4 +1,4 @@
-use Rattle.std.proofs.Common.{◌≡◌, ◌∙◌, ap, arith, subst, sym, ◌++◌, ◌∷◌, [], All, rules}
+use Rattle.std.proofs.Common.{◌≡◌, ◌∙◌, ap, arith, subst, sym, ◌++◌, ◌∷◌, [], All}
 use Rattle.std.proofs.lemmas.List.Elements.{All-append, All-cons, All-nil}
 use Rattle.grid_layout.specs.Own.{HasBlocks, first_own}
 use Rattle.grid_layout.proofs.OwnLemmas.{first_own_more}

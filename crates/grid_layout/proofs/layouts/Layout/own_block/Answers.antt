@@ -1,4 +1,4 @@
-use Rattle.std.proofs.Common.{◌≡◌, ◌<◌, ◌∙◌, ap, arith, length, subst, sym, rules}
+use Rattle.std.proofs.Common.{◌<◌, ◌∙◌, ap, arith, length, subst, sym}
 use Rattle.grid_layout.specs.Grid.{processors_of}
 use Rattle.grid_layout.specs.Layout.{Arrangement, laid_out, own_first, own_last}
 use Rattle.grid_layout.specs.Own.{HasBlocks, kept_at}
