@@ -210,6 +210,14 @@ impl FlatStore {
         Some(self.values[place])
     }
 
+    /// The value at a tuple with these coordinates; `None` where it has no place.
+    fn value_of(&self, x: i64, y: i64, z: i64) -> Option<i64>
+        ensures { result ≡ held_value (x ∷ y ∷ z ∷ []) self.now }
+    {
+        let place = place_among(&self.shape.dims, x, y, z)?;
+        Some(self.values[place])
+    }
+
     /// The value at a tuple moved by a vector; `None` where it has no place. A coordinate past the
     /// ends of its type has no place, and the end of the type has none either.
     pub(crate) fn value_beside(&self, index: &Vec3, shift: Vec3) -> Option<i64>
@@ -218,12 +226,11 @@ impl FlatStore {
         let [x, y, z] = *index;
         let [a, b, c] = shift;
         let _shape = &self.shape;
-        let moved = [
+        self.value_of(
             x.saturating_add(a),
             y.saturating_add(b),
             z.saturating_add(c),
-        ];
-        self.value_at(&moved)
+        )
     }
 
     /// The value at a tuple of the box; `None` where the tuple isn't one.

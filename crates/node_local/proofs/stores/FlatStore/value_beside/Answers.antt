@@ -34,7 +34,7 @@ returns c =
     (subst (λ (a : Array). All IsBoxed a.storage.dims) c.self.view_is c.self.invariant.boxed)
     (subst (λ (a : Array). All HasWideBounds a.storage.dims) c.self.view_is c.self.invariant.bounds)
     (moved_three shift index (omega arith) (omega arith))
-    (held_three c.args.self.now c.value_at.ensures
+    (held_three c.args.self.now c.value_of.ensures
     (saturated c.saturating_add.result _ _ _ _ first c.saturating_add.ensures i u)
     (saturated c.saturating_add-2.result _ _ _ _ second c.saturating_add-2.ensures j v)
     (saturated c.saturating_add-3.result _ _ _ _ third c.saturating_add-3.ensures k w))
