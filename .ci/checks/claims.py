@@ -1,14 +1,16 @@
 #!/usr/bin/env python3
 """What the documents name is there: crates, functions, clauses, words of specs.
 
-Run it at the top of the repository: .ci/checks/claims.py. It says what each README of a crate, `README.md`, `docs/ARCHITECTURE.md` and
-`docs/DEFINITIONS.md` name that isn't there, or leave out. It reads names alone: that a sentence says no more than its clause is for readers.
+Run it at the top of the repository: .ci/checks/claims.py. It says what each README of a crate, `README.md`,
+`docs/ARCHITECTURE.md` and `docs/DEFINITIONS.md` name that isn't there, or leave out. It reads names alone: that a
+sentence says no more than its clause is for readers.
 
 - A README has the five heads of a library, or the three of a crate of tests.
 - What stands below a crate is what its line of crates.txt names.
 - A word stands in the module of `specs/` that its row names; and so for `docs/DEFINITIONS.md`.
 - In a row of a function a name in front of a colon is a clause of it.
-- Each other name of what is proved is one of the sources of the crate, of a crate below it, or of one that is named beside it.
+- Each other name of what is proved is one of the sources of the crate, of a crate below it, or of one that is
+  named beside it.
 - The tables of `README.md` and `docs/ARCHITECTURE.md` have each library.
 """
 import glob
