@@ -57,7 +57,8 @@ fn with_variable<'a>(
 ) -> Result<Things<'a>, AllocError>
     requires { HasBoxes variable.boxes }
     ensures { IfOk result (λ all. framed all store.new
-        ≡ with_declared (framed things.entry store.old) (named variable.entry.name.now) variable.entry.boxes) }
+        ≡ with_declared (framed things.entry store.old) (named variable.entry.name.now)
+        variable.entry.boxes) }
 {
     match variable.boxes {
         None => with_scalar(things, store, variable.name, 0),
@@ -94,7 +95,8 @@ pub fn with_values<'a>(
 ) -> Result<Things<'a>, AllocError>
     requires { IsKnown known.now }
     ensures { (store : Plain) → IfOk result (λ all. framed all store
-        ≡ with_values (known_in known.now) (framed things.entry store) (map define_of defines.now)) }
+        ≡ with_values (known_in known.now) (framed things.entry store)
+        (map define_of defines.now)) }
 {
     let mut things = things;
     for define in defines {

@@ -1,5 +1,6 @@
 //! The names of procedures, with the boxes of their local arrays.
-ghost use Rattle.std.specs.Prelude.{◌≡◌, ◌∷◌, [], ◌+◌, ◌<◌, ◌^◌, ◌++◌, All, IfOk, OnOk, flat_map, length, map};
+ghost use Rattle.std.specs.Prelude.{◌≡◌, ◌∷◌, [], ◌+◌, ◌<◌, ◌^◌, ◌++◌, All, IfOk, OnOk, flat_map};
+ghost use Rattle.std.specs.Prelude.{length, map};
 ghost use Rattle.zpl_tree.specs.View.{decl_of, name_of, param_of, procedure_of};
 ghost use Rattle.zpl_names.specs.Expansion.{formal_names};
 ghost use Rattle.zpl_bind.specs.Known.{known_in};

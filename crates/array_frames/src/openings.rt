@@ -10,7 +10,8 @@ ghost use Rattle.array_terms.specs.Sound.{IsSmall};
 ghost use Rattle.array_places.specs.Sound.{IsRanked};
 ghost use Rattle.array_frames.specs.Heads.{AreFitVars, IsFitDecl, IsHead, names_in, names_of};
 ghost use Rattle.array_frames.specs.Variables.{with_each};
-ghost use Rattle.array_frames.specs.Variables.{all_declared_at, framed, with_decl_at, with_decls_at};
+ghost use Rattle.array_frames.specs.Variables.{all_declared_at, framed, with_decl_at};
+ghost use Rattle.array_frames.specs.Variables.{with_decls_at};
 
 use crate::frames::{with_values, with_variables};
 use crate::heads::{Head, heads_at};

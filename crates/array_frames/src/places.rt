@@ -26,7 +26,8 @@ pub fn place_in<'a, 'n>(
     requires currents { AreSmall currents }
     ensures place { (routine : Routine) (called : Called) (frame : Frame) →
         scope_of scope.entry ≡ names.scope_of (syntax_of setup.entry.now.program.now) routine →
-        own.entry.now ≡ frame.names → answer ≡ called.result → currents_of currents ≡ called.currents →
+        own.entry.now ≡ frame.names → answer ≡ called.result → currents_of currents
+        ≡ called.currents →
         place_of result ≡ plain.place_in (setup_of setup.entry.now) routine called frame }
     ensures sound { IsPlace result }
 {

@@ -1,5 +1,6 @@
 //! Variables as they are declared, with the boxes of arrays.
-ghost use Rattle.std.specs.Prelude.{◌≡◌, ◌++◌, ◌+◌, ◌≤◌, ◌^◌, ◌<◌, All, OnOk, flat_map, length, map};
+ghost use Rattle.std.specs.Prelude.{◌≡◌, ◌++◌, ◌+◌, ◌≤◌, ◌^◌, ◌<◌, All, OnOk, flat_map, length};
+ghost use Rattle.std.specs.Prelude.{map};
 ghost use Rattle.zpl_region.specs.Region.{IsRegion};
 ghost use Rattle.zpl_binding.specs.Storages.{shaped_by};
 ghost use Rattle.zpl_tree.specs.View.{bracket_of, inner_of as seen_inner, name_of, var_of};

@@ -37,7 +37,8 @@ impl Sides<'_> {
     fn value(&self, line: Option<u64>, column: Option<u64>) -> i64
         requires line { IfSome line (λ l. (l + 1) * self.now.columns.size ≤ 4194304) }
         requires column { IfSome column (λ c. c < self.now.columns.size) }
-        ensures { result ≡ value_on self.now.values.now self.now.default self.now.columns.size line column }
+        ensures { result ≡ value_on self.now.values.now self.now.default
+            self.now.columns.size line column }
     {
         let Some(line) = line else {
             return self.default;
@@ -56,8 +57,8 @@ fn value_at(values: &[i64], place: u64) -> i64
     values.get(place as usize).copied().unwrap_or(0)
 }
 
-/// The place of a line among the lines of a storage, by those of its two coordinates: of a plane, and
-/// of a row of which each plane has so many.
+/// The place of a line among the lines of a storage, by those of its two coordinates: of a plane,
+/// and of a row of which each plane has so many.
 pub fn line_of(rows: u64, plane: Option<u64>, row: Option<u64>) -> Option<u64>
     requires plane { IfSome plane (λ p. (p + 1) * rows ≤ 4194304) }
     requires row { IfSome row (λ r. r < rows) }
@@ -201,8 +202,8 @@ fn turned(sides: Sides<'_>) -> Sides<'_>
     sides
 }
 
-/// A reading under a region, by lines as long as the rank allows: what stands for the dimensions past
-/// it comes first.
+/// A reading under a region, by lines as long as the rank allows: what stands for the dimensions
+/// past it comes first.
 fn lines_under<'a>(storage: &Region, reading: &Reading<'a>, region: &Region) -> Sides<'a>
     requires storage { IsRegion storage.now }
     requires ways { All IsWay reading.now.ways }

@@ -34,9 +34,9 @@ use zpl_tree::Program;
 /// The most different procedures of a chain of calls.
 const LONGEST_CHAIN: u32 = 32;
 
-/// Puts what a program prints under the settings that it was bound by, with at most so many turns of
-/// each loop that is entered, and answers how it ends: `End::More` just where a loop wanted a further
-/// turn. The arena is that of the tree; it keeps what is known of parameters.
+/// Puts what a program prints under the settings that it was bound by, with at most so many turns
+/// of each loop that is entered, and answers how it ends: `End::More` just where a loop wanted a
+/// further turn. The arena is that of the tree; it keeps what is known of parameters.
 pub fn mean<'a, O: Sink>(
     alloc: Global,
     arena: &'a Bump<Global>,

@@ -39,7 +39,8 @@ pub struct Currents {
     pub three: Option<Over>,
 }
 
-/// What a run knows of the whole program. It is lent for a while, and names live as long as the tree.
+/// What a run knows of the whole program. It is lent for a while, and names live as long as the
+/// tree.
 #[derive(Clone, Copy)]
 pub struct Setup<'a, 'n> {
     /// Its text.

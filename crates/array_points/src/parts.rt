@@ -1,7 +1,8 @@
 //! What is read and written in a statement, in the order of its text.
 ghost use Rattle.std.specs.Prelude.{◌≡◌, ◌++◌, OnOk, map};
 ghost use Rattle.zpl_tree.specs.View.{arm_of, arms_of, statement_of, stmt_of, stmts_of};
-ghost use Rattle.zpl_meaning.specs.Points.{arm_parts, arms_parts, form_parts, stmt_parts, stmts_parts};
+ghost use Rattle.zpl_meaning.specs.Points.{arm_parts, arms_parts, form_parts, stmt_parts};
+ghost use Rattle.zpl_meaning.specs.Points.{stmts_parts};
 ghost use Rattle.array_points.specs.Checked.{part_of};
 
 use std::alloc::AllocError;

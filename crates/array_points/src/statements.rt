@@ -85,7 +85,8 @@ fn run_all(
     places: &[usize],
 ) -> Result<Vec<Array>, Cut>
     requires { IsSmall over.now.region }
-    ensures ok { IfOk result (λ arrays. all_tuples (stand_of stand.now) (over_of over.now) places.now
+    ensures ok { IfOk result (λ arrays. all_tuples (stand_of stand.now)
+        (over_of over.now) places.now
         (statement_of form.now) ≡ Counts None arrays.items) }
     ensures err { IfErr result (λ cut. IsCutBy cut (all_tuples (stand_of stand.now)
         (over_of over.now) places.now (statement_of form.now))) }
@@ -125,9 +126,9 @@ fn run_under(
     run_all(alloc, &stand, over, form, places)
 }
 
-/// A shattered statement of a rank: what it reads and writes has to lie around the current region of
-/// the rank; then each tuple that isn't masked out runs the whole form by itself, with so many turns
-/// for each loop, and what the tuples have written is written where all of them go on.
+/// A shattered statement of a rank: what it reads and writes has to lie around the current region
+/// of the rank; then each tuple that isn't masked out runs the whole form by itself, with so many
+/// turns for each loop, and what the tuples have written is written where all of them go on.
 pub fn shattered(
     alloc: Global,
     place: &Place<'_, '_>,

@@ -61,8 +61,8 @@ fn applied(op: Op, first: i64, second: i64) -> Result<i64, TrapKind>
     }
 }
 
-/// The value of an elementwise expression. Both operands are computed always. What else no shattered
-/// statement of an accepted program has counts as 0.
+/// The value of an elementwise expression. Both operands are computed always. What else no
+/// shattered statement of an accepted program has counts as 0.
 pub fn value_at(stand: &Stand<'_, '_>, owns: &[Own], expr: &Expr<'_>) -> Result<i64, TrapKind>
     ensures { Computes result (value_at (stand_of stand.now) owns.now (expr_of expr.now)) }
 {

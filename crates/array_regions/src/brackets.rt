@@ -94,8 +94,8 @@ pub fn current_for(place: &Place<'_, '_>, hint: Rank, inner: &Inner<'_>) -> Regi
     place.currents.at(rank).region
 }
 
-/// The region of a bracket, for a hint of a mask or an operand. A zero divisor in a bound is a trap,
-/// and so is a region past the limit.
+/// The region of a bracket, for a hint of a mask or an operand. A zero divisor in a bound is a
+/// trap, and so is a region past the limit.
 pub fn region_in(
     place: &Place<'_, '_>,
     store: &Store,

@@ -67,7 +67,8 @@ fn each_is_fit(exprs: &[Expr<'_>], place: usize)
     ensures { (d : Parsed) → IsFit (expr_of (get_or exprs.now place d)) }
 {}
 
-/// An expression of a rank as a term. The trap is the one that comes first in the order of the text.
+/// An expression of a rank as a term. The trap is the one that comes first in the order of the
+/// text.
 #[cycle(settled)]
 pub fn settled<'t>(
     arena: &'t Bump<Global>,

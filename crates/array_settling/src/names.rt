@@ -1,5 +1,5 @@
-//! The terms of names. One that stands for nothing of its kind, as none of an accepted program does,
-//! counts as 0.
+//! The terms of names. One that stands for nothing of its kind, as none of an accepted program
+//! does, counts as 0.
 ghost use Rattle.std.specs.Prelude.{◌≡◌, IfSome};
 ghost use Rattle.std.specs.Option.{option_map};
 ghost use Rattle.zpl_meaning.specs.Settled as plain;

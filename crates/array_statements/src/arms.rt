@@ -33,8 +33,8 @@ fn offset_or(number: usize, at: u32, own: u32) -> u32
     if number == 0 { at } else { own }
 }
 
-/// The first arm whose test is true. The first test stands at the statement's offset, and each other
-/// one at its own.
+/// The first arm whose test is true. The first test stands at the statement's offset, and each
+/// other one at its own.
 pub fn arm_taken(
     alloc: Global,
     place: &Place<'_, '_>,

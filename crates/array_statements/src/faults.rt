@@ -1,6 +1,7 @@
 //! What cuts a run off.
 ghost use Rattle.std.specs.Prelude.{◌≡◌};
-ghost use Rattle.array_statements.specs.declared.faults.MeanFault.TheVariants.{NoMemory, SinkFailed};
+ghost use Rattle.array_statements.specs.declared.faults.MeanFault.TheVariants.{NoMemory};
+ghost use Rattle.array_statements.specs.declared.faults.MeanFault.TheVariants.{SinkFailed};
 
 use std::alloc::AllocError;
 use zpl_io::PutFailed;

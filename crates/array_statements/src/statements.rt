@@ -456,8 +456,8 @@ fn assign_call<'n, O: Sink>(
     Ok(End::Done)
 }
 
-/// Runs the body of a procedure that is called, under these current regions, if calls may go down one
-/// procedure more.
+/// Runs the body of a procedure that is called, under these current regions, if calls may go down
+/// one procedure more.
 #[cycle(statements)]
 pub fn call<'n, O: Sink>(
     run: &Run<'_, 'n>,

@@ -120,7 +120,8 @@ impl Array {
         }
     }
 
-    /// Whether its storage has a place for a tuple, whatever its coordinates are in flood dimensions.
+    /// Whether its storage has a place for a tuple, whatever its coordinates are in flood
+    /// dimensions.
     pub fn has_place(&self, tuple: &Vec3) -> bool
         ensures { result ≡ has_place self.now.storage tuple.now }
     {
@@ -152,8 +153,8 @@ impl Array {
         write_row(&self.storage, self.values.as_mut_slice(), region, row);
     }
 
-    /// Appends what it has at each tuple of a region, in row-major order, where each coordinate goes
-    /// a way first. The value of a tuple without a place is 0.
+    /// Appends what it has at each tuple of a region, in row-major order, where each coordinate
+    /// goes a way first. The value of a tuple without a place is 0.
     fn push_at(&self, ways: [Way; 3], region: &Region, out: &mut Vec<i64>) -> Result<(), AllocError>
         requires ways { All IsWay ways }
         requires region { IsRegion region.now }
@@ -195,7 +196,8 @@ impl Array {
         requires region { IsRegion region.now }
         requires points { tuple_count region.now.dims ≤ 4194304 }
         ensures { OnOk result (out.new.items ≡ out.old.items
-            ++ map (λ t. element self.now (tuple_moved shift.now over.now t)) (members region.now)) }
+            ++ map (λ t. element self.now (tuple_moved shift.now over.now t))
+            (members region.now)) }
     {
         let _dims = three_dims(region);
         self.push_at(ways_shifted(over, shift), region, out)
@@ -215,7 +217,8 @@ impl Array {
         requires region { IsRegion region.now }
         requires points { tuple_count region.now.dims ≤ 4194304 }
         ensures { OnOk result (out.new.items ≡ out.old.items
-            ++ map (λ t. element self.now (around_source home.now shift.now t)) (members region.now)) }
+            ++ map (λ t. element self.now (around_source home.now shift.now t))
+            (members region.now)) }
     {
         let _dims = three_dims(region);
         self.push_at(ways_around(home, shift), region, out)

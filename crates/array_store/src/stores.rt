@@ -1,6 +1,8 @@
 //! The store of a run.
-ghost use Rattle.std.specs.Prelude.{◌≡◌, IfErr, IfOk, IfSome, IsNone, MatchOption, OnErr, OnOk, length, take};
-ghost use Rattle.zpl_meaning.specs.Store.{array_at, empty_store, no_array, scalar_at, with_array, with_scalar};
+ghost use Rattle.std.specs.Prelude.{◌≡◌, IfErr, IfOk, IfSome, IsNone, MatchOption, OnErr, OnOk};
+ghost use Rattle.std.specs.Prelude.{length, take};
+ghost use Rattle.zpl_meaning.specs.Store.{array_at, empty_store, no_array, scalar_at, with_array};
+ghost use Rattle.zpl_meaning.specs.Store.{with_scalar};
 ghost use Rattle.zpl_meaning.specs.Variables.{with_new_array, with_new_scalar};
 
 use crate::arrays::Array;

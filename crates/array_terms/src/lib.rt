@@ -1,7 +1,7 @@
 //! The terms of a statement, in an arena, with the checks that come before their values.
 //!
-//! A term is an expression whose regions have been computed, and whose names are places of the store.
-//! It lasts as long as the arena that it is placed in.
+//! A term is an expression whose regions have been computed, and whose names are places of the
+//! store. It lasts as long as the arena that it is placed in.
 #![tactic(auto)]
 
 mod checks;

@@ -8,8 +8,8 @@ ghost use Rattle.array_writes.specs.declared.puts.Change.{Change};
 ghost use Rattle.array_writes.specs.Write.{place_at, put_each, written_in};
 
 /// A write of the values that a function has at the tuples of a region, with the mask that another
-/// one is there, makes the array with these values at its own tuples in the region, those aside that
-/// are masked out.
+/// one is there, makes the array with these values at its own tuples in the region, those aside
+/// that are masked out.
 pub fn writes_are_those_of_functions()
     ensures { (array : Array) (region : Tuples) (is_in : List ℤ → Bool) (value : List ℤ → ℤ) →
         IsArray array → All HasStep region.dims →

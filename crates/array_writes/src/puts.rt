@@ -88,8 +88,8 @@ fn put_run(stored: &mut [i64], how: Change, first: u64, apart: u64, row: &Row<'_
     }
 }
 
-/// Where the places of a line of the region follow each other: the first one, and how far it is from
-/// each to the next.
+/// Where the places of a line of the region follow each other: the first one, and how far it is
+/// from each to the next.
 fn run_on(sides: &Sides, line: Option<u64>) -> Option<(u64, u64)>
     requires sides { AreSides sides.now }
     requires line { IfSome line (λ l. (l + 1) * sides.now.columns.size ≤ 4194304) }
@@ -213,8 +213,8 @@ fn turned(sides: Sides) -> Sides
     sides
 }
 
-/// A storage under a region, by lines as long as the rank allows: what stands for the dimensions past
-/// it comes first.
+/// A storage under a region, by lines as long as the rank allows: what stands for the dimensions
+/// past it comes first.
 fn lines_under(storage: &Region, aim: &Aim, region: &Region) -> Sides
     requires storage { IsRegion storage.now }
     requires ways { All IsWay aim.now.ways }

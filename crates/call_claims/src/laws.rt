@@ -14,8 +14,8 @@ pub fn list_commands_are_one()
         IsList words file asked → IsList words other more → (file ≡ other) × (asked ≡ more) }
 {}
 
-/// A status that has its cause comes just where its own cause is, where memory wasn't wanting and no
-/// put failed; for some, where no fetch failed and the files tell one text a name.
+/// A status that has its cause comes just where its own cause is, where memory wasn't wanting and
+/// no put failed; for some, where no fetch failed and the files tell one text a name.
 pub fn list_statuses_are_exact<F: Files>()
     ensures { (files : F) (words : List (List ℕ)) (ran : Execution) (n : ℕ) (told : List ℕ) →
         let call = call_of words (F.tells files) (F.may_fail files) in

@@ -3,7 +3,8 @@ ghost use Rattle.std.specs.Prelude.{◌≡◌, ◌+◌, ◌<◌, ◌^◌, IfErr,
 ghost use Rattle.std.specs.Prelude.{[], ◌∷◌, length, reverse, slice_get, slice_index, Some};
 ghost use Rattle.call_heights.specs.Calls.{IsCycle, IsInside, edges_at};
 ghost use Rattle.call_heights.specs.Walk.{AreExact, IsBack, IsCome, IsGoing, IsIn, IsPath};
-ghost use Rattle.call_heights.specs.Walk.{IsWalkFault, Steps, entered, fresh, in_frame, passed, state_of};
+ghost use Rattle.call_heights.specs.Walk.{IsWalkFault, Steps, entered, fresh, in_frame, passed};
+ghost use Rattle.call_heights.specs.Walk.{state_of};
 
 use crate::graph::{CallFault, Edge};
 use std::alloc::Global;

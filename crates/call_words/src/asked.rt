@@ -1,5 +1,6 @@
 //! What the words behind a file ask for.
-ghost use Rattle.std.specs.Prelude.{◌≡◌, ◌∷◌, ◌++◌, ℕ, List, map, MatchOption, Some, None, string_bytes};
+ghost use Rattle.std.specs.Prelude.{◌≡◌, ◌∷◌, ◌++◌, ℕ, List, map, MatchOption, Some, None};
+ghost use Rattle.std.specs.Prelude.{string_bytes};
 ghost use Rattle.zpl_binding.specs.Settings.{Setting};
 ghost use Rattle.call_claims.specs.Command.{Adds, AskFor, IsTurnsWord, limit_of};
 ghost use Rattle.call_claims.specs.Command.{Asked as Claimed};

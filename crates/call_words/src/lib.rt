@@ -1,5 +1,5 @@
-//! The words of `list`, and parts of words that commands share: what they ask for, read without taking
-//! memory.
+//! The words of `list`, and parts of words that commands share: what they ask for, read without
+//! taking memory.
 #![tactic(auto)]
 
 mod asked;

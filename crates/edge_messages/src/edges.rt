@@ -1,5 +1,6 @@
 //! The messages and turns of `wrap` and `reflect`.
-ghost use Rattle.std.specs.Prelude.{◌≡◌, ◌<◌, ℕ, All, length, slice_get, Some, None, false, if◌then◌else◌};
+ghost use Rattle.std.specs.Prelude.{◌≡◌, ◌<◌, ℕ, All, length, slice_get, Some, None, false};
+ghost use Rattle.std.specs.Prelude.{if◌then◌else◌};
 ghost use Rattle.std.specs.Prelude.{IfOk, OnErr};
 ghost use Rattle.std.specs.List.{AllZip};
 ghost use Rattle.grid_meaning.specs.Delivery.{border_targets, edged};
@@ -39,7 +40,8 @@ pub fn edge_words(
     requires shift { All (IsUpTo 31) shift.now }
     requires owner { p < processors code.now }
     requires receiver { to < processors code.now }
-    ensures { IfOk result (λ found. (slot : ℕ) → slice_get local.now.local.slots slot ≡ Some region.now →
+    ensures { IfOk result (λ found. (slot : ℕ) → slice_get local.now.local.slots slot
+        ≡ Some region.now →
         (edged code.now p kind array slot shift.now).words_to local.now.local to ≡ found) }
 {
     let targets = edge_piece(code, layout, region, kind, shift, p, to);

@@ -1,4 +1,5 @@
-//! The messages of exchanges: the words that `start` sends, and what those that `finish` takes write.
+//! The messages of exchanges: the words that `start` sends, and what those that `finish` takes
+//! write.
 #![tactic(auto)]
 
 mod held;

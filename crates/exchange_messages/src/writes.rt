@@ -72,7 +72,8 @@ fn write_items(
     requires items { All (FitsItem code.now) items.now }
     requires owner { from < processors code.now }
     requires receiver { to < processors code.now }
-    ensures written { words_written code.now local.old.local from to items.now words.now local.old.local.stores
+    ensures written { words_written code.now local.old.local from to items.now words.now
+        local.old.local.stores
         ≡ (if result then Some local.new.local.stores else None) }
     ensures stores { local.new ≡ record local.old {
       local = record local.old.local { stores = local.new.local.stores };
@@ -89,9 +90,9 @@ fn write_items(
     true
 }
 
-/// What the words of the message from a processor make of the state of processor p in `finish`, with
-/// these items, where they are as many as it awaits: they are written at the places that it needs.
-/// Answers whether all of these are held; where one isn't, nothing changes.
+/// What the words of the message from a processor make of the state of processor p in `finish`,
+/// with these items, where they are as many as it awaits: they are written at the places that it
+/// needs. Answers whether all of these are held; where one isn't, nothing changes.
 pub fn finish_taken(
     code: &NodeProgram,
     layout: &Layout,

@@ -32,8 +32,8 @@ impl<'a> Asked<'a> {
     }
 }
 
-/// What the words ask for, or None where one of them is none of a command's, or asks again. What they
-/// set is among them.
+/// What the words ask for, or None where one of them is none of a command's, or asks again. What
+/// they set is among them.
 pub fn asked_of(words: &[String]) -> Option<Asked<'_>>
     ensures { MatchOption result
         ((all : Claimed) → ¬ AskFor (map string_bytes words.now) all)

@@ -1,5 +1,5 @@
-//! The words of `exec FILE` and `run FILE`: which listing or program is run, and what the words behind
-//! it ask for, read without taking memory.
+//! The words of `exec FILE` and `run FILE`: which listing or program is run, and what the words
+//! behind it ask for, read without taking memory.
 #![tactic(auto)]
 
 mod asked;

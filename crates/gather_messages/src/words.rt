@@ -15,8 +15,8 @@ use std::alloc::{AllocError, Global};
 use zpl_region::Region;
 
 /// The words of the message from processor p in `gather`: the values of the array at the region's
-/// tuples in its own block, in row-major order; none where a place isn't held. The region is that in
-/// the slot.
+/// tuples in its own block, in row-major order; none where a place isn't held. The region is that
+/// in the slot.
 pub fn gather_words(
     alloc: Global,
     code: &NodeProgram,

@@ -1,5 +1,6 @@
 //! The values of a gathered array, in row-major order.
-ghost use Rattle.std.specs.Prelude.{◌≡◌, ◌≢◌, ◌+◌, ◌<◌, ◌≤◌, ◌∷◌, ◌++◌, ◌==◌, ℕ, find, map, pos, slice_get, slice_index_or, OnOk, if◌then◌else◌};
+ghost use Rattle.std.specs.Prelude.{◌≡◌, ◌≢◌, ◌+◌, ◌<◌, ◌≤◌, ◌∷◌, ◌++◌, ◌==◌, ℕ, find, map, pos};
+ghost use Rattle.std.specs.Prelude.{slice_get, slice_index_or, OnOk, if◌then◌else◌};
 ghost use Rattle.grid_meaning.specs.Gather.{gathered_value, words_from};
 ghost use Rattle.grid_meaning.specs.State.{IsSlot};
 ghost use Rattle.grid_meaning.specs.Stored.{arrangement_of};

@@ -19,7 +19,8 @@ pub fn states_are_kept()
     ensures moves { (code : Code) (p : ℕ) (local next : Local) (sent : Option (ℕ × OneMessage))
         (shown : List ℕ) → Fits code → NextHasThree code local →
         IsLocal code p local → act code p local ≡ Goes next sent shown → IsLocal code p next }
-    ensures messages { (code : Code) (p : ℕ) (local next : Local) (from : ℕ) (message : OneMessage) →
+    ensures messages { (code : Code) (p : ℕ) (local next : Local) (from : ℕ)
+        (message : OneMessage) →
         Fits code → IsLocal code p local → act code p local ≡ Awaits from →
         fed code p local message ≡ Takes next → IsLocal code p next }
 {

@@ -57,8 +57,8 @@ impl Order {
         Ok(())
     }
 
-    /// Takes the next turn off the order: the number of the processor that it is given to, or `None`
-    /// exactly at the order's end. It takes no memory.
+    /// Takes the next turn off the order: the number of the processor that it is given to, or
+    /// `None` exactly at the order's end. It takes no memory.
     pub fn next(&mut self) -> Option<u32>
         ensures next { result ≡ slice_get self.old 0 }
         ensures rest { self.new ≡ drop 1 self.old }

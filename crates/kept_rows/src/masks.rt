@@ -95,7 +95,8 @@ pub fn push_kept(
 ) -> Result<(), AllocError>
     requires { IsSmall over.now.region }
     ensures { OnOk result (out.new.items
-        ≡ out.old.items ++ map (is_kept_in store.now (over_of over.now)) (members over.now.region)) }
+        ≡ out.old.items ++ map (is_kept_in store.now (over_of over.now))
+        (members over.now.region)) }
 {
     match over.mask {
         Some(mask) => push_masked(alloc, store, mask, &over.region, out),

@@ -105,7 +105,8 @@ fn push_present(
 
 fn fix_line(alloc: Global, slot: u32, region: &Region) -> Result<Line, AllocError>
     ensures { IfOk result (λ line. line
-        ≡ line_of Keyword.Fix (Said.Number slot ∷ map Said.Bounds (take region.now.rank region.now.dims))) }
+        ≡ line_of Keyword.Fix (Said.Number slot
+        ∷ map Said.Bounds (take region.now.rank region.now.dims))) }
 {
     let mut fields = Vec::new(alloc);
     push_said(alloc, &mut fields, Said::Number(slot))?;

@@ -3,7 +3,8 @@ ghost use Rattle.std.specs.Prelude.{◌≡◌, ◌++◌, [], ◌∷◌, IfOk, On
 ghost use Rattle.std.specs.List.{flat_map};
 ghost use Rattle.node_form.specs.Grid.{factors_of};
 ghost use Rattle.listing_rows.specs.Fields.{fields_of};
-ghost use Rattle.listing_rows.specs.Listing.{body_lines, code_lines, head_lines, lines_of, listing_of};
+ghost use Rattle.listing_rows.specs.Listing.{body_lines, code_lines, head_lines, lines_of};
+ghost use Rattle.listing_rows.specs.Listing.{listing_of};
 ghost use Rattle.listing_rows.specs.Rows.{
   array_line,
   exchange_lines,

@@ -20,7 +20,8 @@ pub fn listed_code_has_room()
 /// An order that was read for a program's grid names its processors; and its turns, with a limit's
 /// behind them, can be counted.
 pub fn read_orders_can_be_given()
-    ensures order { (code : Code) (text order : List ℕ) → reading (processors code) text ≡ Ok order →
+    ensures order { (code : Code) (text order : List ℕ)
+        → reading (processors code) text ≡ Ok order →
         IsOrder (processors code) order }
     ensures turns { (count limit : ℕ) (text order : List ℕ) → reading count text ≡ Ok order →
         length text < 2 ^ 32 → limit ≤ 2 ^ 62 → length order + limit ≤ 2 ^ 63 }

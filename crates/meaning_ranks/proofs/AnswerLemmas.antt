@@ -47,6 +47,7 @@ use Rattle.meaning_runs.proofs.VisitedLemmas.{met_visited}
 use Rattle.meaning_ranks.specs.Answered.{HasAnswered}
 use Rattle.meaning_ranks.proofs.PlaceLemmas.{behind, inside_at, visited_at, proper_called}
 use Rattle.meaning_ranks.proofs.PlaceLemmas.{proper_behind, found_routine}
+use Rattle.zpl_meaning.proofs.StatementLemmas.{and_false}
 
 -- ---- runs that end normally
 
@@ -289,10 +290,6 @@ procedure_site program (Directions directions ∷ decls) earlier routine m =
 procedure_site program (Vars vars ∷ decls) earlier routine m =
     right-among (decl_sites program earlier (Vars vars)) _ _
     (procedure_site program decls _ routine m)
-
-and_false : (a b : Bool) → a ≡ true → a && b ≡ false → b ≡ false
-and_false true b h e = e
-and_false false b h e = absurd (true≢false (sym h))
 
 answers_some : (found : Option Kind) (signature : Signature)
     → found ≡ Some (kind.Procedure signature)

@@ -43,6 +43,7 @@ use Rattle.meaning_runs.specs.Met.{ComesUnder, Bare, Behind}
 use Rattle.meaning_ranks.specs.Shaped.{is_flood, AreFloods, IsShaped, IsOverOf, HaveTheirRanks}
 use Rattle.meaning_ranks.proofs.ShapeLemmas.{Fits, FitsIn, IsSmall, IsToldFlood, computed_fits}
 use Rattle.meaning_ranks.proofs.ShapeLemmas.{forms_fit, span_fits_in}
+use Rattle.zpl_meaning.proofs.ProperLemmas.{blank_or}
 
 -- ---- one current region
 
@@ -151,10 +152,6 @@ some_of o x e = subst IsSome (sym e) refl
 length_of : (shape : Option Shape) (n : ℕ) → option_map length shape ≡ Some n → HasLength n shape
 length_of None n e = cc
 length_of (Some shape) n e = cc
-
-blank_or : (b : Bool) (xs : List ℕ) → cond b xs [] ≡ [] → (b ≡ false) ⊎ (xs ≡ [])
-blank_or true xs e = inr e
-blank_or false xs e = inl refl
 
 shape_length : (shape : Option Shape) (found : Shape) (n : ℕ) → shape ≡ Some found
     → length found ≡ n → HasLength n shape

@@ -43,7 +43,8 @@ use Rattle.meaning_ranks.specs.Flat.{AreFlatActuals, IsFlatAssign, AreFlatTests,
 use Rattle.meaning_ranks.specs.Flat.{AreFlatItems, IsFlatCall, IsFlatForm}
 use Rattle.meaning_ranks.specs.Ranked.{AreArraysOf, IsOfRank, IsRankedForm}
 use Rattle.meaning_ranks.proofs.RankLemmas.{KnowsDirections, zero_or_same, of_rank}
-use Rattle.meaning_ranks.proofs.FormLemmas.{joined_rank, first_above, above_is_array, test_same}
+use Rattle.meaning_ranks.proofs.FormLemmas.{first_above, above_is_array, test_same}
+use Rattle.zpl_meaning.proofs.StatementLemmas.{joined_rank}
 use Rattle.meaning_ranks.proofs.FormLemmas.{arms_same}
 use Rattle.meaning_ranks.proofs.FlatPointLemmas.{read_append, points, point_arms, point_else}
 use Rattle.meaning_ranks.proofs.FlatPointLemmas.{test_flat as test_point_flat}

@@ -56,25 +56,12 @@ use Rattle.meaning_ranks.specs.Ranked.{AreRankedTests, IsRankedTested, AreRanked
 use Rattle.meaning_ranks.specs.Ranked.{IsRankedUnder}
 use Rattle.meaning_ranks.proofs.RankLemmas.{same_of_no_clash, zero_or_same, KnowsDirections}
 use Rattle.meaning_ranks.proofs.RankLemmas.{region_of, of_rank, raised}
+use Rattle.zpl_meaning.proofs.StatementLemmas.{first_not_above, joined_rank}
 
 -- ---- ranks
 
--- of two ranks the first of which isn't above 0
-first_not_above : (one other : Rank) → IsSome one → is_above_zero (first_rank one other) ≡ false
-    → (is_above_zero one ≡ false) × (is_above_zero other ≡ false)
-first_not_above None other k e = none_is_not None k refl
-first_not_above (Some zero) other k e = (refl, e)
-first_not_above (Some (suc n)) other k e = absurd (true≢false e)
-
 not_above : (rank : Rank) → IsSome rank → is_above_zero rank ≡ false → rank ≡ Some 0
 not_above rank k e = sym (zero_rank rank k e)
-
-pub joined_rank : (rank own other given : Rank) → IsArrayRank rank → IsSome (first_rank own given)
-    → first_rank (both_ranks rank own) other ≡ rank
-joined_rank rank None other given p k = none_is_not None k refl
-joined_rank (Some (suc a)) (Some b) other given p k = refl
-joined_rank (Some zero) (Some b) other given p k = absurd p
-joined_rank None (Some b) other given p k = absurd p
 
 -- a name of a scalar, or of an array, stands in expressions of that rank
 named_of : (place : Place) (rank : Rank) (name : Name) (thing : Option Thing)

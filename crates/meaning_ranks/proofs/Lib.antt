@@ -5,7 +5,6 @@ pub mod PlaceLemmas
 pub mod VisitedLemmas
 pub mod AnswerLemmas
 pub mod CurrentLemmas
-pub mod ValueLemmas
 pub mod MetLemmas
 pub mod BorderLemmas
 pub mod ShapeLemmas

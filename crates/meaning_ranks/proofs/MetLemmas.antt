@@ -48,7 +48,7 @@ use Rattle.meaning_ranks.proofs.VisitedLemmas.{aimed, visited_ranked, ranked_beh
 use Rattle.meaning_ranks.proofs.RankLemmas.{KnowsDirections}
 use Rattle.meaning_ranks.proofs.FlatFormLemmas.{form_flat}
 use Rattle.meaning_ranks.proofs.BorderLemmas.{bordered}
-use Rattle.meaning_ranks.proofs.ValueLemmas.{handed_values}
+use Rattle.zpl_meaning.proofs.HandedLemmas.{handed_values}
 use Rattle.meaning_ranks.proofs.CurrentLemmas.{AreTold, KnowsRegions, prefixes_told}
 use Rattle.meaning_ranks.proofs.CurrentLemmas.{unmasked, their_ranks}
 use Rattle.meaning_ranks.proofs.ShapeLemmas.{Fits as FitsRegion}

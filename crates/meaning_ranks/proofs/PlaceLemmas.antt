@@ -56,32 +56,15 @@ use Rattle.zpl_meaning.proofs.ProperLemmas.{reach_at}
 use Rattle.zpl_meaning.proofs.StatementLemmas.{first_known, FitsUnder, under_fits}
 use Rattle.zpl_meaning.proofs.VisitLemmas.{IsHere, clean_of, Inside, InStmt, InBody, IsPart}
 use Rattle.zpl_meaning.proofs.VisitLemmas.{all_handed, HasSites, Laws, visited_proper}
+use Rattle.zpl_meaning.proofs.VisitLemmas.{find_among, call_there, stmts_part, arms_part}
+use Rattle.zpl_meaning.proofs.VisitLemmas.{else_part, body_part}
 use Rattle.zpl_meaning.proofs.NamesLemmas.{Listed, Nothing, listed_append, listed_found, IsGood}
 use Rattle.zpl_meaning.proofs.NamesLemmas.{IsFound, OptGood, good_in, good_from, named_from, Shaped}
 use Rattle.zpl_meaning.proofs.NamesLemmas.{globals_shaped, routine_sound, variables_listed}
 use Rattle.zpl_meaning.proofs.NamesLemmas.{declarations_listed, AreHanded, formals_listed}
-
--- ---- lists
-
-find_among : {A : Type 0} (p : A → Bool) (xs : List A) (x : A) → find p xs ≡ Some x → Among xs x
-find_among p [] x e = cc
-find_among p (y ∷ ys) x e = by (p y) e (find_among p ys x)
-  where
-    by : (b : Bool) → cond b (Some y) (find p ys) ≡ Some x
-        → (find p ys ≡ Some x → Among ys x) → Among (y ∷ ys) x
-    by true e later = inl cc
-    by false e later = inr (later e)
-
-filter_among : {A B : Type 0} (f : A → Option B) (xs : List A) (x : A) (y : B) → Among xs x
-    → f x ≡ Some y → Among (filter_map f xs) y
-filter_among f [] x y m e = absurd m
-filter_among f (z ∷ zs) x y (inl same) e =
-    subst (λ o. Among (cons_option o (filter_map f zs)) y) (sym (ap f same ∙ e)) (inl refl)
-filter_among f (z ∷ zs) x y (inr m) e = by (f z) (filter_among f zs x y m e)
-  where
-    by : (o : Option _) → Among (filter_map f zs) y → Among (cons_option o (filter_map f zs)) y
-    by None h = h
-    by (Some other) h = inr h
+use Rattle.zpl_meaning.proofs.VisitLemmas.{none_there, body_grammar, IsOwn, AllOwn, own_append}
+use Rattle.zpl_meaning.proofs.VisitLemmas.{own_variable, own_each, own_flat, all_own, own_in}
+use Rattle.zpl_meaning.proofs.VisitLemmas.{global_procedure, all_good, or_good, found_in}
 
 -- ---- statements in statements
 
@@ -92,102 +75,14 @@ module _ (program : Program) (text : List ℕ) (around : Shapes) where
   abbrev Part : Place → Shapes → Stmt → Type 0
   Part place shapes part = IsPart program text around place shapes part
 
-  -- a call that stands there is one of the procedure's
-  call_there : (reach : Reach) (role : CallRole) (name : Name) (actuals : Exprs)
-      → Here (AtCall reach role name actuals) → is_procedure (kind_of reach.scope name) ≡ true
-      → Contains (calls_at program text around)
-      (record { name = name; actuals = actuals; shapes = reach.shapes })
-  call_there reach role name actuals h e = by (routine_named program text) h.there
-    where
-      by : (routine : Option Routine)
-          → Contains (sites_of program around routine) (AtCall reach role name actuals)
-          → Contains (calls_of program around routine)
-          (record { name = name; actuals = actuals; shapes = reach.shapes })
-      by None c = absurd (among_from_Contains [] _ c)
-      by (Some routine) c =
-          let call : CallSite =
-          record { name = name; actuals = actuals; shapes = reach.shapes } in
-          let found : call_of (AtCall reach role name actuals) ≡ Some call =
-          ap (λ b. cond b (Some call) None) e in
-          Contains-from_among (filter_map call_of (routine_sites program around routine)) call
-          (filter_among call_of (routine_sites program around routine)
-          (AtCall reach role name actuals) call
-          (among_from_Contains (routine_sites program around routine)
-          (AtCall reach role name actuals) c) found)
-
-  -- ---- statements in statements
-
-  stmts_part : (stmts : Stmts) (reach : Reach) (part : Stmt) → Each Here (stmts_sites reach stmts)
-      → AreStmts stmts → Among (list_of stmts) part
-      → Each Here (stmt_sites reach part) × IsStmt part
-  stmts_part NoStmt reach part h g m = absurd m
-  stmts_part (ThenStmt first rest) reach part h g (inl e) = (
-    subst (λ stmt. Each Here (stmt_sites reach stmt)) e
-        (each_left Here (stmt_sites reach first) (stmts_sites reach rest) h),
-    subst IsStmt e g.0,
-  )
-  stmts_part (ThenStmt first rest) reach part h g (inr m) =
-      stmts_part rest reach part
-      (each_right Here (stmt_sites reach first) (stmts_sites reach rest) h) g.1 m
-
-  arms_part : (arms : Arms) (reach within : Reach) (part : Stmt)
-      → Each Here (arms_sites reach within arms) → AreArms arms → Among (arms_parts arms) part
-      → Each Here (stmt_sites within part) × IsStmt part
-  arms_part NoArm reach within part h g m = absurd m
-  arms_part (ThenArm (Tested at test body) rest) reach within part h g m =
-      let own = each_left Here (arm_sites reach within (Tested at test body))
-      (arms_sites reach within rest) h in
-      elim (split (list_of body) (arms_parts rest) part m) [
-        | inl m ↦ stmts_part body within part
-            (each_right Here (whole_sites reach TestRole test) (stmts_sites within body) own)
-            g.0.1 m
-        | inr m ↦ arms_part rest reach within part
-            (each_right Here (arm_sites reach within (Tested at test body))
-            (arms_sites reach within rest) h) g.1 m
-      ]
-
-  else_part : (otherwise : Otherwise) (within : Reach) (part : Stmt)
-      → Each Here (otherwise_sites within otherwise) → IsOtherwise otherwise
-      → Among (else_parts otherwise) part → Each Here (stmt_sites within part) × IsStmt part
-  else_part NoElse within part h g m = absurd m
-  else_part (Else body) within part h g m = stmts_part body within part h g m
-
-  body_part : (stmts : Stmts) (place : Place) (shapes : Shapes) (shattered : Rank)
-      (result answer : Option Base) (part : Stmt)
-      → Each Here (body_sites (reach_at place shapes shattered result) answer stmts)
-      → AreStmts stmts → Among (list_of stmts) part
-      → (own : Option Base)
-      × Each Here (stmt_sites (reach_at place shapes shattered own) part) × IsStmt part
-  body_part NoStmt place shapes shattered result answer part h g m = absurd m
-  body_part (ThenStmt last NoStmt) place shapes shattered result answer part h g (inl e) = (
-    answer,
-    subst (λ stmt. Each Here (stmt_sites (reach_at place shapes shattered answer) stmt)) e h,
-    subst IsStmt e g.0,
-  )
-  body_part (ThenStmt last NoStmt) place shapes shattered result answer part h g (inr m) = absurd m
-  body_part (ThenStmt first (ThenStmt second rest)) place shapes shattered result answer part h g
-      (inl e) =
-      let reach = reach_at place shapes shattered result in (
-        result,
-        subst (λ stmt. Each Here (stmt_sites reach stmt)) e
-            (each_left Here (stmt_sites reach first)
-            (body_sites reach answer (ThenStmt second rest)) h),
-        subst IsStmt e g.0,
-      )
-  body_part (ThenStmt first (ThenStmt second rest)) place shapes shattered result answer part h g
-      (inr m) =
-      let reach = reach_at place shapes shattered result in
-      body_part (ThenStmt second rest) place shapes shattered result answer part
-      (each_right Here (stmt_sites reach first) (body_sites reach answer (ThenStmt second rest)) h)
-      g.1 m
-
   form_part : (form : Form) (at : ℕ) (prefixes : List Prefix) (place : Place) (shapes : Shapes)
       (shattered : Rank) (result : Option Base) (part : Stmt) → Fits place shapes
       → IsSome shattered
       → Each Here (form_sites (reach_at place shapes shattered result) form) → IsForm form
       → Among (parts_of form) part → Part place shapes part
   form_part (Block body) at prefixes place shapes shattered result part fits known h g m =
-      let found = stmts_part body (inside (reach_at place shapes shattered result) (Some 0)) part h
+      let found = stmts_part program text around body
+      (inside (reach_at place shapes shattered result) (Some 0)) part h
       g m in record {
         shattered = first_rank shattered (Some 0);
         result = None;
@@ -202,8 +97,8 @@ module _ (program : Program) (text : List ℕ) (around : Shapes) where
       in
       let found = elim (split (arms_parts arms) (else_parts otherwise) part m)
       as (λ _. Each Here (stmt_sites within part) × IsStmt part) [
-        | inl m ↦ arms_part arms reach within part own g.1 m
-        | inr m ↦ else_part otherwise within part
+        | inl m ↦ arms_part program text around arms reach within part own g.1 m
+        | inr m ↦ else_part program text around otherwise within part
             (each_right Here (arms_sites reach within arms) (otherwise_sites within otherwise) h)
             g.2 m
       ] in record {
@@ -233,7 +128,7 @@ module _ (program : Program) (text : List ℕ) (around : Shapes) where
       let reach = reach_at place shapes shattered result in
       let within = inside reach (test_rank reach test) in
       let own = each_left Here (whole_sites reach TestRole test) (stmts_sites within body) h in
-      let found = stmts_part body within part
+      let found = stmts_part program text around body within part
       (each_right Here (whole_sites reach TestRole test) (stmts_sites within body) h) g.1 m in
       record {
         shattered = first_rank shattered (test_rank reach test);
@@ -247,7 +142,7 @@ module _ (program : Program) (text : List ℕ) (around : Shapes) where
       let reach = reach_at place shapes shattered result in
       let within = inside reach (test_rank reach test) in
       let own = each_right Here (stmts_sites within body) (whole_sites reach TestRole test) h in
-      let found = stmts_part body within part
+      let found = stmts_part program text around body within part
       (each_left Here (stmts_sites within body) (whole_sites reach TestRole test) h) g.0 m in
       record {
         shattered = first_rank shattered (test_rank reach test);
@@ -261,7 +156,7 @@ module _ (program : Program) (text : List ℕ) (around : Shapes) where
       let within = inside reach (Some 0) in
       let before = whole_sites reach Limit head.first ++ whole_sites reach Limit head.last ++
       step_sites reach head.step in
-      let found = stmts_part body within part
+      let found = stmts_part program text around body within part
       (each_right Here before (stmts_sites within body) h) g.1 m in
       record {
         shattered = first_rank shattered (Some 0);
@@ -290,7 +185,8 @@ module _ (program : Program) (text : List ℕ) (around : Shapes) where
       form_part form at prefixes place shapes shattered result part fits known h.1 g m
   inside_part at prefixes (Block body) place shapes shattered result part fits known
       (InBody answer h) g m =
-      let found = body_part body place shapes shattered result answer part h g m in record {
+      let found = body_part program text around body place shapes shattered result answer part h g m
+      in record {
         shattered = shattered;
         result = found.0;
         known = known;
@@ -300,22 +196,6 @@ module _ (program : Program) (text : List ℕ) (around : Shapes) where
 
 some_same : {A : Type 0} (a b : A) → Some a ≡ Some b → a ≡ b
 some_same a b e = cc
-
-pub none_there : (xs : List ℕ) → ((at : ℕ) → ¬ Contains xs at) → xs ≡ []
-none_there [] h = refl
-none_there (x ∷ xs) h = absurd (h x (zero, omega arith, refl))
-
-body_grammar : (stmt : Stmt) → IsBody stmt → IsStmt stmt
-body_grammar (Prefixed at prefixes (Block body)) g = g
-body_grammar (Prefixed at prefixes (Assign name op value)) g = absurd g
-body_grammar (Prefixed at prefixes (Invoke name actuals)) g = absurd g
-body_grammar (Prefixed at prefixes (If arms otherwise)) g = absurd g
-body_grammar (Prefixed at prefixes (While test body)) g = absurd g
-body_grammar (Prefixed at prefixes (Repeat body until test)) g = absurd g
-body_grammar (Prefixed at prefixes (For head body)) g = absurd g
-body_grammar (Prefixed at prefixes (Border border names)) g = absurd g
-body_grammar (Prefixed at prefixes (Write line items)) g = absurd g
-body_grammar (Prefixed at prefixes (Return value)) g = absurd g
 
 -- ---- the sites of a statement
 
@@ -354,102 +234,6 @@ module _ (program : Program) (text : List ℕ) (around : Shapes) where
   body_sited reach answer (Prefixed at prefixes (Return value)) g h = absurd g
 
 -- ---- the names in a procedure
-
--- own names are those of variables
-abbrev IsOwn : Option Kind → Type 0
-IsOwn None = Unit {0}
-IsOwn (Some (kind.Scalar base)) = Unit {0}
-IsOwn (Some (kind.Array base shape)) = Unit {0}
-IsOwn (Some (kind.Config base)) = ⊥
-IsOwn (Some (kind.Constant base)) = ⊥
-IsOwn (Some (kind.Region shape)) = ⊥
-IsOwn (Some (kind.Direction rank)) = ⊥
-IsOwn (Some (kind.Procedure signature)) = ⊥
-
-abbrev AllOwn : List Entry → Type 0
-AllOwn entries = AllByRecursion (λ entry. IsOwn (Some entry.kind)) entries
-
-own_append : (xs ys : List Entry) → AllOwn xs → AllOwn ys → AllOwn (xs ++ ys)
-own_append [] ys h k = k
-own_append (x ∷ xs) ys h k = (h.0, own_append xs ys h.1 k)
-
-own_variable : (scope : Scope) (shape : Bracket) (base : Base)
-    → IsOwn (Some (variable_kind scope shape base))
-own_variable scope NoBracket base = tt
-own_variable scope (Bracketed inner) base = tt
-
-own_each : (thing : Kind) → IsOwn (Some thing) → (names : List Name)
-    → AllOwn (map (entry_for thing) names)
-own_each thing h [] = tt
-own_each thing h (name ∷ names) = (h, own_each thing h names)
-
-own_flat : {A : Type 0} (f : A → List Entry) → ((a : A) → AllOwn (f a)) → (list : List A)
-    → AllOwn (flat_map f list)
-own_flat f h [] = tt
-own_flat f h (a ∷ rest) = own_append (f a) (flat_map f rest) (h a) (own_flat f h rest)
-
-all_own : (earlier : List Entry) (procedure : plain.Procedure)
-    → AllOwn (own_entries earlier procedure)
-all_own earlier procedure =
-    let scope = head_scope earlier procedure in
-    own_append
-    (flat_map (λ param. map (entry_for (variable_kind scope param.shape param.base)) param.names)
-    procedure.params) _
-    (own_flat (λ (param : Param). map (entry_for (variable_kind scope param.shape param.base))
-    param.names)
-    (λ param. own_each (variable_kind scope param.shape param.base)
-    (own_variable scope param.shape param.base) param.names) procedure.params)
-    (own_flat (λ (var : VarDef). map (entry_for (variable_kind scope var.shape var.base)) var.names)
-    (λ var. own_each (variable_kind scope var.shape var.base)
-    (own_variable scope var.shape var.base) var.names) procedure.locals)
-
-own_in : (entries : List Entry) (text : List ℕ) → AllOwn entries → IsOwn (kind_in entries text)
-own_in [] text h = tt
-own_in (first ∷ rest) text h = by (bytes_eq first.name.text text) (own_in rest text h.1)
-  where
-    by : (b : Bool) → IsOwn (kind_in rest text)
-        → IsOwn (option_map (λ entry. entry.kind)
-        (cond b (Some first) (find (λ entry. bytes_eq entry.name.text text) rest)))
-    by true later = h.0
-    by false later = later
-
-global_procedure : (own globals : Option Kind) (signature : Signature) → IsOwn own
-    → option_or own globals ≡ Some (kind.Procedure signature)
-    → globals ≡ Some (kind.Procedure signature)
-global_procedure None globals signature h e = e
-global_procedure (Some (kind.Scalar base)) globals signature h e = cc
-global_procedure (Some (kind.Array base shape)) globals signature h e = cc
-global_procedure (Some (kind.Config base)) globals signature h e = absurd h
-global_procedure (Some (kind.Constant base)) globals signature h e = absurd h
-global_procedure (Some (kind.Region shape)) globals signature h e = absurd h
-global_procedure (Some (kind.Direction rank)) globals signature h e = absurd h
-global_procedure (Some (kind.Procedure other)) globals signature h e = absurd h
-
--- all entries are good
-all_good : (entries : List Entry) → AllByRecursion (λ entry. IsKnownKind entry.kind) entries
-    → AllByRecursion (λ entry. HasRank entry.kind) entries → Shaped entries
-    → AllByRecursion (λ entry. IsGood entry.kind) entries
-all_good [] k le h = tt
-all_good (entry ∷ entries) k le h =
-    (good_from entry.kind k.0 le.0 h.0, all_good entries k.1 le.1 h.1)
-
-or_good : (one other : Option Kind) → OptGood one → OptGood other → OptGood (option_or one other)
-or_good None other h k = k
-or_good (Some kind) other h k = h
-
--- two lists of entries, one behind the other
-pub found_in : (xs ys : List Entry) (text : List ℕ)
-    → kind_in (xs ++ ys) text ≡ option_or (kind_in xs text) (kind_in ys text)
-found_in [] ys text = refl
-found_in (x ∷ xs) ys text = by (bytes_eq x.name.text text) (found_in xs ys text)
-  where
-    by : (b : Bool) → kind_in (xs ++ ys) text ≡ option_or (kind_in xs text) (kind_in ys text)
-        → option_map (λ entry. entry.kind)
-        (cond b (Some x) (find (λ entry. bytes_eq entry.name.text text) (xs ++ ys)))
-        ≡ option_or (option_map (λ entry. entry.kind)
-        (cond b (Some x) (find (λ entry. bytes_eq entry.name.text text) xs))) (kind_in ys text)
-    by true later = refl
-    by false later = later
 
 module _ (program : Program) (settings : List Setting) (laws : Laws program)
     (grammar : IsProgram program) (clean : IsFaultless program) where
@@ -652,7 +436,8 @@ module _ (program : Program) (settings : List Setting) (laws : Laws program)
   called_at form name actuals at prefixes place text around shapes shattered result
       (AsAnswer {target = target} {at = offset}) (InStmt h) =
       let reach = reach_at place shapes shattered result in
-      call_there program text around reach (call_place (kind_of place.scope target)) name actuals
+      call_there program text around reach (call_place (kind_of place.scope target)) name
+      actuals
       h.1.1.0 (taken reach is_procedure name h.1.1.0.clean.none.known)
 
   -- the body of what a call calls

@@ -42,6 +42,7 @@ use Rattle.zpl_meaning.proofs.ProperLemmas.{region_rank, fits_source}
 use Rattle.meaning_ranks.specs.Ranked.{IsArrayOf, IsNameOf, HasDimension, GoesAlong}
 use Rattle.meaning_ranks.specs.Ranked.{ArePresOf, ArePostsOf, IsInnerOf, IsRegionOf, IsOfRank}
 use Rattle.meaning_ranks.specs.Ranked.{AreOfRank}
+use Rattle.zpl_meaning.proofs.ProperLemmas.{both_assoc}
 
 -- ---- ranks
 
@@ -64,16 +65,6 @@ zero_or_same (Some (suc a)) (Some (suc b)) p k c =
     inr (sym (ap (λ n. Some (suc n)) (eqb-true a b (not_false (a == b) c))))
 zero_or_same (Some zero) (Some (suc b)) p k c = absurd p
 zero_or_same None (Some (suc b)) p k c = absurd p
-
-both_assoc : (a b c : Rank) → both_ranks (both_ranks a b) c ≡ both_ranks a (both_ranks b c)
-both_assoc a b None = refl
-both_assoc a None (Some c) = refl
-both_assoc None (Some zero) (Some c) = refl
-both_assoc (Some zero) (Some zero) (Some c) = refl
-both_assoc (Some (suc a)) (Some zero) (Some c) = refl
-both_assoc None (Some (suc b)) (Some c) = refl
-both_assoc (Some zero) (Some (suc b)) (Some c) = refl
-both_assoc (Some (suc a)) (Some (suc b)) (Some c) = refl
 
 -- ---- directions
 

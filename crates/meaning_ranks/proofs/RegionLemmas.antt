@@ -42,7 +42,7 @@ use Rattle.zpl_binding.specs.Regions.{Known, region_over, limited, no_region, is
 use Rattle.zpl_binding.specs.Regions.{region_named, index_of, named_or_index, inner_of, region_of}
 use Rattle.zpl_binding.specs.Declarations as bind
 use Rattle.zpl_binding.specs.Declarations.{computed_for, with_all, nothing_known, known_of}
-use Rattle.meaning_ranks.proofs.PlaceLemmas.{found_in, none_there}
+use Rattle.zpl_meaning.proofs.VisitLemmas.{found_in, none_there}
 use Rattle.meaning_ranks.proofs.ShapeLemmas.{Fits, IsSmall, forms_fit, posts_fit, span_fits}
 use Rattle.meaning_ranks.proofs.ShapeLemmas.{index_fits}
 

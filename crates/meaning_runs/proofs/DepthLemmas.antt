@@ -33,6 +33,7 @@ use Rattle.meaning_runs.specs.Met.{ComesUnder, MakesCall, Opening, opening_of, c
 use Rattle.meaning_runs.proofs.PartLemmas.{goes_among}
 use Rattle.meaning_runs.proofs.OwnLemmas.{named_among}
 use Rattle.meaning_runs.proofs.ResultLemmas.{not_false, callee_there}
+use Rattle.zpl_meaning.proofs.DepthLemmas.{IsKnownCall, known_call}
 
 -- ---- what holds at the sites of a statement holds at those of the statements in it
 
@@ -172,25 +173,6 @@ module _ (P : Site → Type 0) where
       behind at prefixes (Return value) (record { reach = reach; sites = h })
 
 -- ---- which procedures a procedure calls
-
-abbrev IsKnownCall : Site → Type 0
-IsKnownCall (AtCall reach place name actuals) = is_procedure (kind_of reach.scope name) ≡ true
-IsKnownCall site = Unit {0}
-
-known_call : (site : Site) → HasNoFault site → IsKnownCall site
-known_call (AtCall reach place name actuals) h =
-    not_false (is_procedure (kind_of reach.scope name))
-    (no_place (not (is_procedure (kind_of reach.scope name))) name.at h.known)
-known_call (AtWhole reach role expr) h = tt
-known_call (AtExpr reach rank expr) h = tt
-known_call (AtNamed reach name) h = tt
-known_call (AtDir reach dir) h = tt
-known_call (AtRegion reach hint region) h = tt
-known_call (AtMask reach prefix mask) h = tt
-known_call (AtStmt reach at prefixes form) h = tt
-known_call (AtBase base) h = tt
-known_call (AtPosts reach region posts) h = tt
-known_call (AtProcedure procedure) h = tt
 
 -- no chain of calls from a procedure with this name on has more than so many
 abbrev IsShallowName : Program → ℕ → List ℕ → Type 0

@@ -18,63 +18,8 @@ use Rattle.zpl_names.specs.Declared.{routines_behind, routines_of, routine_named
 use Rattle.zpl_names.specs.Declared.{globals_of}
 use Rattle.zpl_names.specs.Declared.{with_procedure}
 use Rattle.zpl_names.proofs.ListLemmas.{Among}
-
-abbrev IsOwn : Option Kind → Type 0
-IsOwn None = Unit {0}
-IsOwn (Some (kind.Scalar base)) = Unit {0}
-IsOwn (Some (kind.Array base shape)) = Unit {0}
-IsOwn (Some (kind.Config base)) = ⊥
-IsOwn (Some (kind.Constant base)) = ⊥
-IsOwn (Some (kind.Region shape)) = ⊥
-IsOwn (Some (kind.Direction rank)) = ⊥
-IsOwn (Some (kind.Procedure signature)) = ⊥
-
-abbrev AllOwn : List Entry → Type 0
-AllOwn entries = AllByRecursion (λ entry. IsOwn (Some entry.kind)) entries
-
-own_append : (xs ys : List Entry) → AllOwn xs → AllOwn ys → AllOwn (xs ++ ys)
-own_append [] ys h k = k
-own_append (x ∷ xs) ys h k = (h.0, own_append xs ys h.1 k)
-
-own_variable : (scope : Scope) (shape : Bracket) (base : Base)
-    → IsOwn (Some (variable_kind scope shape base))
-own_variable scope NoBracket base = tt
-own_variable scope (Bracketed inner) base = tt
-
-own_each : (thing : Kind) → IsOwn (Some thing) → (names : List Name)
-    → AllOwn (map (entry_for thing) names)
-own_each thing h [] = tt
-own_each thing h (name ∷ names) = (h, own_each thing h names)
-
-own_flat : {A : Type 0} (f : A → List Entry) → ((a : A) → AllOwn (f a)) → (list : List A)
-    → AllOwn (flat_map f list)
-own_flat f h [] = tt
-own_flat f h (a ∷ rest) = own_append (f a) (flat_map f rest) (h a) (own_flat f h rest)
-
-all_own : (earlier : List Entry) (procedure : plain.Procedure)
-    → AllOwn (own_entries earlier procedure)
-all_own earlier procedure =
-    let scope = head_scope earlier procedure in
-    own_append
-    (flat_map (λ param. map (entry_for (variable_kind scope param.shape param.base)) param.names)
-    procedure.params) _
-    (own_flat (λ (param : Param). map (entry_for (variable_kind scope param.shape param.base))
-    param.names)
-    (λ param. own_each (variable_kind scope param.shape param.base)
-    (own_variable scope param.shape param.base) param.names) procedure.params)
-    (own_flat (λ (var : VarDef). map (entry_for (variable_kind scope var.shape var.base)) var.names)
-    (λ var. own_each (variable_kind scope var.shape var.base)
-    (own_variable scope var.shape var.base) var.names) procedure.locals)
-
-own_in : (entries : List Entry) (text : List ℕ) → AllOwn entries → IsOwn (kind_in entries text)
-own_in [] text h = tt
-own_in (first ∷ rest) text h = by (bytes_eq first.name.text text) (own_in rest text h.1)
-  where
-    by : (b : Bool) → IsOwn (kind_in rest text)
-        → IsOwn (option_map (λ entry. entry.kind)
-        (cond b (Some first) (find (λ entry. bytes_eq entry.name.text text) rest)))
-    by true later = h.0
-    by false later = later
+use Rattle.zpl_meaning.proofs.VisitLemmas.{IsOwn, AllOwn, own_append, own_variable, own_each}
+use Rattle.zpl_meaning.proofs.VisitLemmas.{own_flat, all_own, own_in, find_among}
 
 -- a kind that no own name has
 abbrev pub IsGlobal : Kind → Type 0
@@ -136,15 +81,6 @@ pub global_kind : (program : Program) (routine : Routine) → Among (routines_of
     → kind_in (globals_of program) name.text ≡ Some thing
 global_kind program routine m name thing is e =
     global_in program routine m name.text thing is e
-
-find_among : {A : Type 0} (p : A → Bool) (xs : List A) (x : A) → find p xs ≡ Some x → Among xs x
-find_among p [] x e = cc
-find_among p (y ∷ ys) x e = by (p y) e (find_among p ys x)
-  where
-    by : (b : Bool) → cond b (Some y) (find p ys) ≡ Some x
-        → (find p ys ≡ Some x → Among ys x) → Among (y ∷ ys) x
-    by true e later = inl cc
-    by false e later = inr (later e)
 
 pub named_among : (program : Program) (text : List ℕ) (routine : Routine)
     → routine_named program text ≡ Some routine → Among (routines_of program) routine

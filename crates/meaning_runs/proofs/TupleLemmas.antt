@@ -22,9 +22,7 @@ use Rattle.meaning_runs.specs.Stops.{SomeTupleStops}
 use Rattle.meaning_runs.proofs.PartLemmas.{by_parts, form_among}
 use Rattle.meaning_runs.proofs.FormLemmas.{done_no_more, Runs, else_run, Wants, finds, comes_wants}
 use Rattle.meaning_runs.proofs.FormLemmas.{turn_wants}
-
-pub trap_no_more : {A : Type 0} (kind : _) (line : ℕ) → Trap kind line ≡ More → A
-trap_no_more kind line e = cc
+use Rattle.zpl_meaning.proofs.MoreLemmas.{trap_no_more}
 
 pub value_wants : {A : Type 0} (computed : Computed A) (store : Store) (line : ℕ)
     (next : A → Outcome) → (with_value computed store line next).ending ≡ More

@@ -1,5 +1,5 @@
-//! Rows of node code that need scalars and slots alone, and those that print a text or a value: what
-//! they make of a processor's state.
+//! Rows of node code that need scalars and slots alone, and those that print a text or a value:
+//! what they make of a processor's state.
 #![tactic(auto)]
 
 mod dims;

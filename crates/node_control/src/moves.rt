@@ -37,7 +37,8 @@ pub(crate) fn jump(local: &mut Local, goal: u32)
 /// Goes on where a condition stands, and else ends with a trap.
 pub(crate) fn check(code: &NodeProgram, local: &mut Local, stands: bool, kind: TrapKind, line: u32)
     requires { local.old.local.at < length code.now.code }
-    ensures { MovesBy (checked (registers_of local.old.local) stands kind line) local.old local.new }
+    ensures { MovesBy (checked (registers_of local.old.local) stands kind line)
+        local.old local.new }
 {
     if stands {
         go_on(code, local);

@@ -72,9 +72,9 @@ fn show_value(
     show(alloc, code, local, p, digits.as_slice())
 }
 
-/// Makes the turn of a row that prints. Answers the bytes that processor p prints, if there are any:
-/// then nothing has changed yet, and the turn is to be ended by going on to the next row. For want of
-/// memory nothing changes.
+/// Makes the turn of a row that prints. Answers the bytes that processor p prints, if there are
+/// any: then nothing has changed yet, and the turn is to be ended by going on to the next row. For
+/// want of memory nothing changes.
 pub fn run_print(
     alloc: Global,
     code: &NodeProgram,

@@ -91,7 +91,8 @@ pub(crate) fn place(
 )
     requires slot { slot < length local.old.local.slots }
     requires next { local.old.local.at < length code.now.code }
-    ensures { (region : Tuples) → All HasStep region.dims → OkIff made (IsWithinLimit region) region →
+    ensures { (region : Tuples) → All HasStep region.dims
+        → OkIff made (IsWithinLimit region) region →
         MovesBy (with_slot (registers_of local.old.local) slot line region) local.old local.new }
 {
     match made {

@@ -5,7 +5,8 @@ ghost use Rattle.grid_meaning.specs.Turn.{registers_of};
 ghost use Rattle.node_control.specs.Moving.{MovesBy};
 ghost use Rattle.node_control.specs.Running.{CanRun, IsControlRow};
 ghost use Rattle.node_form.specs.Control.{control};
-ghost use Rattle.node_form.specs.Fits.{FitsInstr, FitsPart, HasArray, HasScalarExpr, HasSlot, IsStored};
+ghost use Rattle.node_form.specs.Fits.{FitsInstr, FitsPart, HasArray, HasScalarExpr, HasSlot};
+ghost use Rattle.node_form.specs.Fits.{IsStored};
 ghost use Rattle.zpl_region.specs.Dim.{HasStep};
 
 use crate::dims::region_dims;
@@ -39,7 +40,8 @@ fn set(code: &NodeProgram, local: &mut Local, scalar: u32, expr: u32, line: u32)
 fn unless(code: &NodeProgram, local: &mut Local, expr: u32, goal: u32, line: u32)
     requires can { CanRun code.now local.old }
     requires fits { FitsInstr code.now (Instr.Unless expr goal line) }
-    ensures { MovesBy (control code.now (registers_of local.old.local) (Instr.Unless expr goal line))
+    ensures { MovesBy (control code.now (registers_of local.old.local)
+        (Instr.Unless expr goal line))
         local.old local.new }
 {
     match scalar_value(code, local, expr) {
@@ -64,7 +66,8 @@ fn fix(code: &NodeProgram, local: &mut Local, slot: u32, region: Region)
 fn dims(code: &NodeProgram, local: &mut Local, slot: u32, parts: &[DimRow; 3], line: u32)
     requires can { CanRun code.now local.old }
     requires fits { FitsInstr code.now (Instr.Dims slot parts.now line) }
-    ensures { MovesBy (control code.now (registers_of local.old.local) (Instr.Dims slot parts.now line))
+    ensures { MovesBy (control code.now (registers_of local.old.local)
+        (Instr.Dims slot parts.now line))
         local.old local.new }
 {
     rows_fit();
@@ -125,7 +128,8 @@ fn same(code: &NodeProgram, local: &mut Local, target: u32, source: u32, kind: S
 fn fits(code: &NodeProgram, local: &mut Local, slot: u32, shift: &Vec3, line: u32)
     requires can { CanRun code.now local.old }
     requires fits { FitsInstr code.now (Instr.Fits slot shift.now line) }
-    ensures { MovesBy (control code.now (registers_of local.old.local) (Instr.Fits slot shift.now line))
+    ensures { MovesBy (control code.now (registers_of local.old.local)
+        (Instr.Fits slot shift.now line))
         local.old local.new }
 {
     let region = region_in(code, local, slot);
@@ -133,13 +137,14 @@ fn fits(code: &NodeProgram, local: &mut Local, slot: u32, shift: &Vec3, line: u3
     check(code, local, stands, TrapKind::RegionMismatch, line);
 }
 
-/// Makes the turn of a row that needs scalars and slots alone: a move without a message. It takes no
-/// memory.
+/// Makes the turn of a row that needs scalars and slots alone: a move without a message. It takes
+/// no memory.
 pub fn run_control(code: &NodeProgram, local: &mut Local, row: &Instr)
     requires row { IsControlRow row.now }
     requires fits { FitsInstr code.now row.now }
     requires can { CanRun code.now local.old }
-    ensures { MovesBy (control code.now (registers_of local.old.local) row.now) local.old local.new }
+    ensures { MovesBy (control code.now (registers_of local.old.local) row.now)
+        local.old local.new }
 {
     match *row {
         Instr::Set { scalar, expr, line } => set(code, local, scalar, expr, line),

@@ -9,8 +9,8 @@ use crate::lookups::words_at;
 use node_form::{NodeProgram, rows_fit, scalar_expressions_lack_nothing};
 use node_local::Local;
 
-/// The value of an expression of the code that needs no index; `None` where a divisor is 0. It takes
-/// no memory.
+/// The value of an expression of the code that needs no index; `None` where a divisor is 0. It
+/// takes no memory.
 pub fn scalar_value(code: &NodeProgram, local: &mut Local, expr: u32) -> Option<i64>
     requires can { CanRun code.now local.old }
     requires expr { HasScalarExpr code.now expr }

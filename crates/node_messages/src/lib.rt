@@ -1,5 +1,5 @@
-//! The messages of rows in which the processors of a grid work together: their words, and what words
-//! that were taken and the last turn make of a processor's state.
+//! The messages of rows in which the processors of a grid work together: their words, and what
+//! words that were taken and the last turn make of a processor's state.
 #![tactic(auto)]
 
 mod agreements;

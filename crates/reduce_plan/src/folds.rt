@@ -104,7 +104,8 @@ fn fold_at(fold: Fold, block: &Region, values: &[i64], tuples: &Region) -> i64
     requires tuples { IsRegion tuples.now }
     requires inside { All (IsMember block.now) (members tuples.now) }
     requires few { length (members tuples.now) ≤ length (members block.now) }
-    ensures { result ≡ folded fold (map (element (record { storage = block.now; values = values.now })) (members tuples.now)) }
+    ensures { result ≡ folded fold (map (element
+        (record { storage = block.now; values = values.now })) (members tuples.now)) }
 {
     let mut so_far = unit(fold);
     for i in 0..tuples.count() {
@@ -133,7 +134,8 @@ pub fn partials(
     requires ranks { target.now.rank ≡ block.now.rank }
     requires filled { length values.now ≡ length (members block.now) }
     ensures ok { OnOk result (into.new.items ≡ into.old.items
-        ++ partials_of fold target.now within.now (record { storage = block.now; values = values.now })) }
+        ++ partials_of fold target.now within.now
+        (record { storage = block.now; values = values.now })) }
     ensures err { OnErr result (into.new.items ≡ into.old.items) }
 {
     let mut folds = Vec::new(alloc);

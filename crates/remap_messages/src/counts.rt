@@ -1,5 +1,6 @@
 //! How many tuples are wanted of each processor.
-ghost use Rattle.std.specs.Prelude.{◌≡◌, ◌<◌, ◌+◌, ◌^◌, ℕ, IfSome, Some, if◌then◌else◌, is_some, length, slice_get, slice_index_or};
+ghost use Rattle.std.specs.Prelude.{◌≡◌, ◌<◌, ◌+◌, ◌^◌, ℕ, IfSome, Some, if◌then◌else◌, is_some};
+ghost use Rattle.std.specs.Prelude.{length, slice_get, slice_index_or};
 ghost use Rattle.grid_meaning.specs.Local.{processors};
 ghost use Rattle.grid_meaning.specs.Remap.{is_number, some_wants, wants as wanted};
 ghost use Rattle.grid_meaning.specs.State.{IsSlot};
@@ -48,9 +49,13 @@ pub(crate) fn count_wants(
     requires processor { p < processors code.now }
     requires none { (q : ℕ) → slice_index_or counts.old q 0 ≡ 0 }
     ensures held { (read : Rows) → slice_get code.now.arrays row.now.from ≡ Some read →
-        is_some (wanted code.now p row.now.array row.now.slot row.now.from (given row.now.parts) read local.now.local) ≡ result }
+        is_some (wanted code.now p row.now.array row.now.slot row.now.from (given row.now.parts)
+        read local.now.local) ≡ result }
     ensures counts { (read : Rows) (q : ℕ) → slice_get code.now.arrays row.now.from ≡ Some read →
-        q < processors code.now → slice_index_or counts.new q 0 ≡ length (some_wants code.now p row.now.array row.now.slot row.now.from (given row.now.parts) read (wanted code.now p row.now.array row.now.slot row.now.from (given row.now.parts) read local.now.local) q) }
+        q < processors code.now → slice_index_or counts.new q 0
+        ≡ length (some_wants code.now p row.now.array row.now.slot row.now.from
+        (given row.now.parts) read (wanted code.now p row.now.array row.now.slot row.now.from
+        (given row.now.parts) read local.now.local) q) }
 {
     let _count = layout.grid().count();
     let part = own_tuples(code, layout, region, p);

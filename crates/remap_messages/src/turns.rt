@@ -21,8 +21,8 @@ use std::alloc::{AllocError, Global};
 use zpl_region::Region;
 
 /// The first turn of a `remap` over this region: what processor p owns itself is written, and 0
-/// where a tuple isn't in the storage. Answers whether all places are held; where one isn't, and for
-/// want of memory, nothing changes.
+/// where a tuple isn't in the storage. Answers whether all places are held; where one isn't, and
+/// for want of memory, nothing changes.
 pub fn remap_alone(
     alloc: Global,
     code: &NodeProgram,

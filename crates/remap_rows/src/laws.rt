@@ -8,9 +8,9 @@ ghost use Rattle.zpl_arrays.specs.Array.{Array, array_of, element};
 ghost use Rattle.zpl_meaning.specs.Fields.{has_target, target_of};
 ghost use Rattle.remap_rows.specs.Remap.{all_placed, remapped};
 
-/// Of rows that have what functions are at the tuples of a region, one after the other, the array is
-/// read at the tuples that the arrays with these values have there; and a tuple that isn't masked out
-/// has its target in the storage where that is so of the rows.
+/// Of rows that have what functions are at the tuples of a region, one after the other, the array
+/// is read at the tuples that the arrays with these values have there; and a tuple that isn't
+/// masked out has its target in the storage where that is so of the rows.
 pub fn remaps_are_those_of_functions()
     ensures values { (array : Array) (region : Tuples) (indices : List (List ℤ → ℤ)) →
         All HasStep region.dims →

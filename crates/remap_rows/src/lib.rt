@@ -1,7 +1,7 @@
 //! Reads of an array at computed indices, for a row of tuples.
 //!
-//! The rows of the indices stand one after the other. The law says that such a read has what a remap
-//! read means.
+//! The rows of the indices stand one after the other. The law says that such a read has what a
+//! remap read means.
 #![tactic(auto)]
 
 mod laws;

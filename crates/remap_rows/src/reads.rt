@@ -38,8 +38,8 @@ fn target(targets: &Targets<'_>, k: usize) -> Vec3
     ]
 }
 
-/// Appends the values of an array at the tuples that the indices have, one after the other. Where the
-/// storage has no place for one the value is 0.
+/// Appends the values of an array at the tuples that the indices have, one after the other. Where
+/// the storage has no place for one the value is 0.
 pub fn push_remapped(
     array: &Array,
     targets: &Targets<'_>,

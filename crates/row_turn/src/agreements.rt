@@ -28,8 +28,8 @@ pub(crate) fn kin_of(code: &NodeProgram, layout: &Layout, p: u32, over_tree: boo
     }
 }
 
-/// Sees that the flag is a number that a word can be: it is that of a member, and no group in memory
-/// is longer.
+/// Sees that the flag is a number that a word can be: it is that of a member, and no group in
+/// memory is longer.
 pub(crate) fn see_flag(code: &NodeProgram, p: u32, local: &Local)
     requires { IsLocal code.now p local.now.local }
     ensures { HasSmallFlag local.now.local }

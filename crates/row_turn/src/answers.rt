@@ -7,8 +7,8 @@ use zpl_io::Bytes;
 pub enum OwnTurn {
     /// It makes a move that prints nothing.
     Moves,
-    /// It is to print these bytes, at least one, and then go on to the next row. Nothing has changed
-    /// yet.
+    /// It is to print these bytes, at least one, and then go on to the next row. Nothing has
+    /// changed yet.
     Prints(Bytes),
     /// It is stuck at a place that it doesn't hold. Nothing has changed.
     Unheld,

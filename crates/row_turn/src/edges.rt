@@ -39,8 +39,8 @@ pub(crate) fn stage_in_edge(
     edge_stage(code, layout, &region, kind, shift, p, local.made())
 }
 
-/// The first turn of such a row: what is made of the state by itself. Answers whether all places are
-/// held; where one isn't, and for want of memory, nothing changes.
+/// The first turn of such a row: what is made of the state by itself. Answers whether all places
+/// are held; where one isn't, and for want of memory, nothing changes.
 pub(crate) fn alone_in_edge(
     alloc: Global,
     code: &NodeProgram,

@@ -139,8 +139,8 @@ pub(crate) fn awaits_in_finish(
     is_count(code, layout, local, items, from, p, many)
 }
 
-/// What the words of a message make of the state in `finish`, where they are as many as are awaited.
-/// Answers whether all places of theirs are held; where one isn't, nothing changes.
+/// What the words of a message make of the state in `finish`, where they are as many as are
+/// awaited. Answers whether all places of theirs are held; where one isn't, nothing changes.
 pub(crate) fn taken_in_finish(
     code: &NodeProgram,
     layout: &Layout,

@@ -40,8 +40,8 @@ pub(crate) fn stage_in_flood(
     flood_stage(code, layout, &region, &other, p, local.made())
 }
 
-/// The first turn of such a row: what is made of the state by itself. Answers whether all places are
-/// held; where one isn't, and for want of memory, nothing changes.
+/// The first turn of such a row: what is made of the state by itself. Answers whether all places
+/// are held; where one isn't, and for want of memory, nothing changes.
 pub(crate) fn alone_in_flood(
     alloc: Global,
     code: &NodeProgram,

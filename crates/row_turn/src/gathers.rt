@@ -120,8 +120,8 @@ fn left_gather(code: &NodeProgram, p: u32, local: &mut Local, truth: bool, array
     leave(code, local);
 }
 
-/// The last turn: processor 0 prints the text of the array, and the others go on. For want of memory
-/// nothing changes.
+/// The last turn: processor 0 prints the text of the array, and the others go on. For want of
+/// memory nothing changes.
 pub(crate) fn last_in_gather(
     alloc: Global,
     code: &NodeProgram,

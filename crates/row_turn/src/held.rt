@@ -158,8 +158,8 @@ fn held_in_gather(
     are_held(local, array, &own)
 }
 
-/// Whether the words of a row's message to a processor are there: each place that they need is held.
-/// It takes no memory.
+/// Whether the words of a row's message to a processor are there: each place that they need is
+/// held. It takes no memory.
 pub fn has_words(
     code: &NodeProgram,
     layout: &Layout,

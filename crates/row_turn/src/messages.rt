@@ -1,5 +1,6 @@
 //! Turns with a message: what is sent, and what a message that is taken makes of the state.
-ghost use Rattle.std.specs.Prelude.{◌≡◌, ◌<◌, ◌==◌, ◌+◌, ◌^◌, ℕ, length, IfOk, OnErr, Some, None, true, false};
+ghost use Rattle.std.specs.Prelude.{◌≡◌, ◌<◌, ◌==◌, ◌+◌, ◌^◌, ℕ, length, IfOk, OnErr, Some, None};
+ghost use Rattle.std.specs.Prelude.{true, false};
 ghost use Rattle.std.specs.Prelude.{if◌then◌else◌};
 ghost use Rattle.grid_meaning.specs.Collective.{keeping};
 ghost use Rattle.grid_meaning.specs.Local.{processors};

@@ -40,8 +40,8 @@ pub(crate) fn stage_in_part(
     part_stage(code, layout, &region, &other, p, local.made())
 }
 
-/// The first turn of such a row: what is made of the state by itself. Answers whether all places are
-/// held; where one isn't, and for want of memory, nothing changes.
+/// The first turn of such a row: what is made of the state by itself. Answers whether all places
+/// are held; where one isn't, and for want of memory, nothing changes.
 pub(crate) fn alone_in_part(
     alloc: Global,
     code: &NodeProgram,
@@ -115,7 +115,8 @@ pub(crate) fn held_in_part(
     requires layout { layout.now ≡ arrangement_of code.now }
     requires receiver { to < processors code.now }
     requires at { IsAtRow code.now p local.now (Instr.Part _array target fold from source) }
-    ensures { is_some ((parted code.now p _array target fold from source).words_to local.now.local to)
+    ensures { is_some ((parted code.now p _array target fold from source).words_to
+        local.now.local to)
         ≡ result }
 {
     let region = region_in(code, local, target);
@@ -140,7 +141,8 @@ pub(crate) fn awaits_in_part(
     requires layout { layout.now ≡ arrangement_of code.now }
     requires sender { sender < processors code.now }
     requires at { IsAtRow code.now p local.now (Instr.Part _array target _fold _from source) }
-    ensures { (parted code.now p _array target _fold _from source).awaits local.now.local sender many
+    ensures { (parted code.now p _array target _fold _from source).awaits
+        local.now.local sender many
         ≡ result }
 {
     let region = region_in(code, local, target);
@@ -166,7 +168,8 @@ pub(crate) fn taken_in_part(
     requires layout { layout.now ≡ arrangement_of code.now }
     requires sender { sender < processors code.now }
     requires at { IsAtRow code.now p local.old (Instr.Part array target fold _from source) }
-    requires awaited { (parted code.now p array target fold _from source).awaits local.old.local sender
+    requires awaited { (parted code.now p array target fold _from source).awaits
+        local.old.local sender
         (length words.now) ≡ true }
     ensures taken { (parted code.now p array target fold _from source).taken local.old.local sender
         words.now ≡ (if result then Some local.new.local else None) }

@@ -59,8 +59,8 @@ pub(crate) fn stage_in_remap(
     remap_stage(code, layout, local, &remap, &region, p)
 }
 
-/// The first turn of such a row: what is made of the state by itself. Answers whether all places are
-/// held; where one isn't, and for want of memory, nothing changes.
+/// The first turn of such a row: what is made of the state by itself. Answers whether all places
+/// are held; where one isn't, and for want of memory, nothing changes.
 pub(crate) fn alone_in_remap(
     alloc: Global,
     code: &NodeProgram,

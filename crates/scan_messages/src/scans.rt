@@ -73,9 +73,9 @@ pub fn scan_words_held(
     are_values_held(local, row, &part)
 }
 
-/// The last turn of a `scan` over this region: the own part becomes the scan, from the totals of all
-/// processors' lines. Answers whether all places are held; where one isn't, and for want of memory,
-/// nothing changes.
+/// The last turn of a `scan` over this region: the own part becomes the scan, from the totals of
+/// all processors' lines. Answers whether all places are held; where one isn't, and for want of
+/// memory, nothing changes.
 pub fn scan_last(
     alloc: Global,
     code: &NodeProgram,

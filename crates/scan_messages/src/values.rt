@@ -9,8 +9,8 @@ use node_local::Local;
 use std::alloc::{AllocError, Global};
 use zpl_region::{Region, Vec3};
 
-/// The value at a tuple; none inside where it is masked out, and the array isn't read there; none at
-/// all where a place that is read isn't held.
+/// The value at a tuple; none inside where it is masked out, and the array isn't read there; none
+/// at all where a place that is read isn't held.
 fn scan_value(local: &Local, row: &ScanRow, x: &Vec3) -> Option<Option<i64>>
     ensures { scan_value local.now.local row.now.from row.now.mask x.now ≡ result }
 {

@@ -67,7 +67,8 @@ fn add_totals(fold: Fold, along: u8, own: &Region, part: &Region, totals: &[i64]
         → coordinate_count (slice_index_or own.now.dims (along - 1) Dimension.Flood) ≤ 1 }
     requires filled { length kept.old ≡ length (members own.now) }
     ensures { (lines : List LineTotal) → kept.old ≡ gone_through fold along (members own.now) lines
-        → kept.new ≡ gone_through fold along (members own.now) (lines ++ zip (members part.now) totals.now) }
+        → kept.new ≡ gone_through fold along (members own.now)
+        (lines ++ zip (members part.now) totals.now) }
 {
     let mut head = part.least();
     for total in totals {
@@ -110,9 +111,11 @@ fn befores(
     requires blocks { AreBlocks blocks.now }
     requires processor { p < processors_of blocks.now.grid }
     requires lists { length all.now ≡ processors_of blocks.now.grid }
-    requires count { count ≡ length (members (heads (line_dim region.now.rank along) (owned_part blocks.now p p region.now))) }
+    requires count { count ≡ length (members
+        (heads (line_dim region.now.rank along) (owned_part blocks.now p p region.now))) }
     ensures { IfOk result (λ v. v.items ≡ map
-        (before fold along (lines_of (line_dim region.now.rank along) (parts_of blocks.now p region.now) all.now))
+        (before fold along (lines_of (line_dim region.now.rank along)
+        (parts_of blocks.now p region.now) all.now))
         (members (heads (line_dim region.now.rank along) (owned_part blocks.now p p region.now)))) }
 {
     let k = line_dim(region.rank, along);

@@ -24,7 +24,8 @@ pub fn totals(
     requires along { along ≤ block.now.rank }
     requires filled { length values.now ≡ length (members block.now) }
     ensures ok { OnOk result (into.new.items ≡ into.old.items
-        ++ totals_of fold (line_dim block.now.rank along) block.now (value_at block.now values.now)) }
+        ++ totals_of fold (line_dim block.now.rank along) block.now
+        (value_at block.now values.now)) }
     ensures err { OnErr result (into.new.items ≡ into.old.items) }
 {
     if values.is_empty() {

@@ -95,8 +95,8 @@ fn units(alloc: Global, fold: Fold, count: u64) -> Result<Vec<i64>, AllocError>
 }
 
 /// Appends a partial reduction of a row over its source, none of which is masked out, at each tuple
-/// of a region, in row-major order. It takes memory for what it gathers, which is at most as much as
-/// the row.
+/// of a region, in row-major order. It takes memory for what it gathers, which is at most as much
+/// as the row.
 pub fn push_parts(
     alloc: Global,
     part: &PartFold,

@@ -23,13 +23,14 @@ use zpl_text::{Token, text_is_cut_one_way};
 use zpl_tree::Program;
 
 /// The code of a text, for one processor, under the settings among words. There is none where the
-/// text has no small program, or something is to be set. Where its tokens are no text of the grammar,
-/// that is told, however many they are.
+/// text has no small program, or something is to be set. Where its tokens are no text of the
+/// grammar, that is told, however many they are.
 pub fn compile(alloc: Global, text: &[u8], words: &[String]) -> Result<NodeProgram, Refusal>
     requires { length text.now ≤ MOST_SOURCE }
     ensures code { IfOk result (IsCodeOf text.now (settings_among (map string_bytes words.now))) }
     ensures room { IfOk result HasRoom }
-    ensures refused { IfErr result (Refuses text.now (settings_among (map string_bytes words.now))) }
+    ensures refused { IfErr result (Refuses text.now
+        (settings_among (map string_bytes words.now))) }
 {
     let tokens = tokens_of(alloc, text)?;
     let arena = Bump::new(alloc);
@@ -51,7 +52,8 @@ fn code_of_tree<'a>(
     requires only { IsOnlyTree text.now tokens.now (syntax_of program.now) }
     ensures code { IfOk result (IsCodeOf text.now (settings_among (map string_bytes words.now))) }
     ensures room { IfOk result HasRoom }
-    ensures refused { IfErr result (Refuses text.now (settings_among (map string_bytes words.now))) }
+    ensures refused { IfErr result (Refuses text.now
+        (settings_among (map string_bytes words.now))) }
 {
     text_is_cut_one_way();
     words_fit_their_text();

@@ -17,8 +17,8 @@ use std::alloc::Global;
 use zpl_io::{Fetched, Files};
 use zpl_text::MOST_SOURCE;
 
-/// Fetches a file and makes code of its text under the settings among words, or answers why there is
-/// none.
+/// Fetches a file and makes code of its text under the settings among words, or answers why there
+/// is none.
 pub fn code_of_file<'a, F: Files>(
     alloc: Global,
     file: &'a str,

@@ -1,5 +1,5 @@
-//! `list FILE`: a file is fetched, code is made of its text, and the listing of the code is put. And
-//! words that are no command.
+//! `list FILE`: a file is fetched, code is made of its text, and the listing of the code is put.
+//! And words that are no command.
 ghost use Rattle.std.specs.Prelude.{◌≡◌, ◌≢◌, ◌↔◌, ℕ, List, [], Some, IfSome, map, string_bytes};
 ghost use Rattle.zpl_io.specs.Faults.{CountsFaults};
 ghost use Rattle.zpl_io.specs.Files.{SameTexts};

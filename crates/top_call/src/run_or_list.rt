@@ -17,8 +17,8 @@ use std::alloc::Global;
 use zpl_io::{Files, Sink};
 
 /// Does what the words ask for, where they are `run` or `list`, and tells that they are no command
-/// elsewhere: what the program prints, or its listing, goes to `out`, and what is told of the answer
-/// to `errs`.
+/// elsewhere: what the program prints, or its listing, goes to `out`, and what is told of the
+/// answer to `errs`.
 ///
 /// The status has its cause. After a failed put nothing more is put on either sink.
 pub fn run_or_list<F: Files, O: Sink, E: Sink>(

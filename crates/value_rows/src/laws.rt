@@ -13,8 +13,9 @@ ghost use Rattle.zpl_arrays.specs.Fold.{reduced};
 ghost use Rattle.value_rows.specs.Row.{folded_row};
 ghost use Rattle.value_rows.specs.Row.{cleared, mapped, misses, paired};
 
-/// Of rows that are the values of terms at tuples, an operator makes the row of its own term; and its
-/// term has a zero divisor where one of its operands has one, or where a divisor of the rows is 0.
+/// Of rows that are the values of terms at tuples, an operator makes the row of its own term; and
+/// its term has a zero divisor where one of its operands has one, or where a divisor of the rows is
+/// 0.
 pub fn rows_are_those_of_totals()
     ensures unary { (operator : UnaryOp) (total : Total) (ts : List (List ℤ)) →
         mapped operator (map total.value ts) ≡ map (unary_total operator total).value ts }
@@ -30,8 +31,8 @@ pub fn rows_are_those_of_totals()
         || misses operator (map one.value ts) (map other.value ts) (map is_in ts)) }
 {}
 
-/// The fold of the row that a term has at the tuples of a region is the reduction over the region of
-/// the array with its values.
+/// The fold of the row that a term has at the tuples of a region is the reduction over the region
+/// of the array with its values.
 pub fn folds_are_those_of_totals()
     ensures { (operator : Fold) (region : Tuples) (is_in : List ℤ → Bool) (total : Total) →
         All HasStep region.dims →

@@ -145,11 +145,15 @@ pub fn storages_of(
     requires known { IsKnown known.now }
     requires few { All (λ decl. IsFewDecl (decl_of decl)) decls.now }
     ensures ok { IfOk result (λ storages. map Gives storages.items
-        ≡ storages_over (known_in known.now) (borders_in parts.now) (flat_map shaped_in (map decl_of decls.now))
-        ++ storages_over (known_in known.now) (borders_in parts.now) (flat_map shaped_locals (map decl_of decls.now))) }
+        ≡ storages_over (known_in known.now) (borders_in parts.now)
+        (flat_map shaped_in (map decl_of decls.now))
+        ++ storages_over (known_in known.now) (borders_in parts.now)
+        (flat_map shaped_locals (map decl_of decls.now))) }
     ensures err { IfErr result (λ fault. IsAmong fault
-        (failures (storages_over (known_in known.now) (borders_in parts.now) (flat_map shaped_in (map decl_of decls.now)))
-        ++ failures (storages_over (known_in known.now) (borders_in parts.now) (flat_map shaped_locals (map decl_of decls.now))))) }
+        (failures (storages_over (known_in known.now) (borders_in parts.now)
+        (flat_map shaped_in (map decl_of decls.now)))
+        ++ failures (storages_over (known_in known.now) (borders_in parts.now)
+        (flat_map shaped_locals (map decl_of decls.now))))) }
 {
     let mut storages = Vec::new(alloc);
     add_globals(&mut storages, known, parts, decls)?;

@@ -46,7 +46,8 @@ fn truth_of(text: &[u8]) -> Option<i64>
 
 /// The number of one or more digits, unless it has more than 64 bits.
 fn number_of(text: &[u8]) -> Option<u64>
-    ensures { MatchOption result (MatchOption (digits_of text.now) (Unit {0}) (λ number. 2 ^ 64 ≤ number))
+    ensures { MatchOption result (MatchOption (digits_of text.now) (Unit {0})
+        (λ number. 2 ^ 64 ≤ number))
         (λ number. digits_of text.now ≡ Some number) }
 {
     if text.is_empty() {

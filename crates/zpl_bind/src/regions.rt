@@ -172,7 +172,8 @@ fn with_post(known: &Known<'_>, region: &Region, post: &Post<'_>) -> Result<Regi
 fn behind(known: &Known<'_>, region: Region, posts: &[Post<'_>]) -> Result<Region, BindFault>
     requires known { IsKnown known.now }
     requires region { IsBuilt region }
-    ensures computes { Computes result (behind (known_in known.now) (Gives region) (posts_of posts.now)) }
+    ensures computes { Computes result (behind (known_in known.now) (Gives region)
+        (posts_of posts.now)) }
     ensures built { IfOk result IsBuilt }
 {
     let mut region = region;
@@ -212,7 +213,8 @@ pub fn direction_named(known: &Known<'_>, name: &Name<'_>) -> Vec3
 fn before(known: &Known<'_>, pre: &[Pre<'_>], region: Region) -> Result<Region, BindFault>
     requires known { IsKnown known.now }
     requires region { IsBuilt region }
-    ensures computes { Computes result (before (known_in known.now) (map pre_of pre.now) (Gives region)) }
+    ensures computes { Computes result (before (known_in known.now) (map pre_of pre.now)
+        (Gives region)) }
     ensures built { IfOk result IsBuilt }
 {
     let mut region = region;
@@ -249,7 +251,8 @@ pub fn no_region() -> Region
 /// A single name: a region, or an index of rank 1.
 fn named_or_index(known: &Known<'_>, name: &Name<'_>) -> Result<Region, BindFault>
     requires { IsKnown known.now }
-    ensures computes { Computes result (named_or_index (known_in known.now) [] (name_of name.now) NoPost) }
+    ensures computes { Computes result (named_or_index (known_in known.now) []
+        (name_of name.now) NoPost) }
     ensures built { IfOk result IsBuilt }
 {
     match known.regions.find(name.text) {

@@ -158,7 +158,8 @@ fn name_alone<'a>(
 ) -> Option<&'a [u8]>
     requires { IsKnown known.now }
     ensures { MatchOption result
-        (HasNoBorders (known_in known.now) (Rexpr (map pre_of pre.now) (base_of base.now) (posts_of post.now)))
+        (HasNoBorders (known_in known.now)
+        (Rexpr (map pre_of pre.now) (base_of base.now) (posts_of post.now)))
         (λ name. HasBordersOf (known_in known.now)
         (Rexpr (map pre_of pre.now) (base_of base.now) (posts_of post.now)) name.now) }
 {
@@ -184,7 +185,8 @@ fn storage_over(
     requires known { IsKnown known.now }
     requires region { IsBuilt region.now }
     ensures { Computes result (and_then (widened (known_in known.now) region.now (hull region.now)
-        (shape_borders (known_in known.now) (borders_in borders.now) (seen_inner inner.now))) limited) }
+        (shape_borders (known_in known.now) (borders_in borders.now)
+        (seen_inner inner.now))) limited) }
 {
     if region.rank == 0 {
         return Ok(*region);
@@ -221,9 +223,11 @@ fn add_var(
     requires known { IsKnown known.now }
     requires few { IsFewBracket (var_of var.now).shape }
     ensures ok { OnOk result (map Gives into.new.items ≡ map Gives into.old.items
-        ++ storages_over (known_in known.now) (borders_in borders.now) (shaped_by (var_of var.now))) }
+        ++ storages_over (known_in known.now) (borders_in borders.now)
+        (shaped_by (var_of var.now))) }
     ensures err { IfErr result (λ fault. IsAmong fault (failures
-        (storages_over (known_in known.now) (borders_in borders.now) (shaped_by (var_of var.now))))) }
+        (storages_over (known_in known.now) (borders_in borders.now)
+        (shaped_by (var_of var.now))))) }
 {
     match &var.shape {
         None => Ok(()),
@@ -311,9 +315,11 @@ fn add_global(
     requires known { IsKnown known.now }
     requires few { IsFewDecl (decl_of decl.now) }
     ensures ok { OnOk result (map Gives into.new.items ≡ map Gives into.old.items
-        ++ storages_over (known_in known.now) (borders_in borders.now) (shaped_in (decl_of decl.now))) }
+        ++ storages_over (known_in known.now) (borders_in borders.now)
+        (shaped_in (decl_of decl.now))) }
     ensures err { IfErr result (λ fault. IsAmong fault (failures
-        (storages_over (known_in known.now) (borders_in borders.now) (shaped_in (decl_of decl.now))))) }
+        (storages_over (known_in known.now) (borders_in borders.now)
+        (shaped_in (decl_of decl.now))))) }
 {
     match decl {
         Decl::Vars(vars) => add_vars(into, known, borders, vars),

@@ -60,7 +60,8 @@ pub fn dir_of(
 ) -> Result<Vec3, BindFault>
     requires values { IsTable values.now }
     requires directions { IsTable directions.now }
-    ensures { Computes result (dir_of (computed (listed values.now)) (computed (listed directions.now))
+    ensures { Computes result (dir_of (computed (listed values.now))
+        (computed (listed directions.now))
         (seen_dir dir.now)) }
 {
     match dir {

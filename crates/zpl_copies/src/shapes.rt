@@ -146,7 +146,8 @@ fn add_names<'a>(
     requires { IsOffsets shapes.old }
     ensures offsets { OnOk result (IsOffsets shapes.new) }
     ensures ok { OnOk result (shapes_in shapes.new
-        ≡ shapes_in shapes.old ++ map (λ name. (name.at, inner_of inner.entry)) (map name_of names.now)) }
+        ≡ shapes_in shapes.old ++ map (λ name. (name.at, inner_of inner.entry))
+        (map name_of names.now)) }
 {
     for name in names {
         shapes.add(name.at, inner)?;

@@ -73,7 +73,8 @@ fn keep<'a>(
     requires own { IsTable scope.now.own }
     requires locals { IsTable scope.now.locals }
     ensures { (procedure : plain.Procedure) → IsScope procedure scope.now → OnOk result
-        (Keeps text.entry.now (array_among (listed globals.now) procedure) (named_use named.now ∷ [])
+        (Keeps text.entry.now (array_among (listed globals.now) procedure)
+        (named_use named.now ∷ [])
         (kept_in uses.old standings.old) (kept_in uses.new standings.new)) }
 {
     let parameter = Parameter {

@@ -299,7 +299,7 @@ module _ (n : ℕ) (one other : Called → Store → Outcome) where
 -- ---- which calls a procedure makes
 
 -- each call that stands there is one of a procedure
-abbrev IsKnownCall : Site → Type 0
+abbrev pub IsKnownCall : Site → Type 0
 IsKnownCall (AtCall reach place name actuals) = is_procedure (kind_of reach.scope name) ≡ true
 IsKnownCall site = Unit {0}
 
@@ -456,7 +456,7 @@ not_false : (b : Bool) → not b ≡ false → b ≡ true
 not_false true e = refl
 not_false false e = cc
 
-known_call : (site : Site) → HasNoFault site → IsKnownCall site
+pub known_call : (site : Site) → HasNoFault site → IsKnownCall site
 known_call (AtCall reach place name actuals) h =
     not_false (is_procedure (kind_of reach.scope name))
     (no_place (not (is_procedure (kind_of reach.scope name))) name.at h.known)

@@ -4,6 +4,7 @@ mod ExamplesOperators
 mod ExamplesScalars
 mod ExamplesShattered
 pub mod GrowthLemmas
+pub mod HandedLemmas
 pub mod MoreLemmas
 pub mod ScalarLemmas
 pub mod TrapLemmas

@@ -53,7 +53,7 @@ use Rattle.zpl_meaning.specs.Wanting.{ElseHasNoLoop, IsWithoutLoops}
 done_no_more : {A : Type 0} → Done ≡ More → A
 done_no_more e = cc
 
-trap_no_more : {A : Type 0} (kind : _) (line : ℕ) → Trap kind line ≡ More → A
+pub trap_no_more : {A : Type 0} (kind : _) (line : ℕ) → Trap kind line ≡ More → A
 trap_no_more kind line e = cc
 
 false_no_true : {A : Type 0} → false ≡ true → A

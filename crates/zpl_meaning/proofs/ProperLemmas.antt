@@ -215,7 +215,7 @@ pub both_zero : (rank : Rank) → both_ranks (Some 0) rank ≡ rank
 both_zero None = refl
 both_zero (Some n) = refl
 
-both_assoc : (a b c : Rank) → both_ranks (both_ranks a b) c ≡ both_ranks a (both_ranks b c)
+pub both_assoc : (a b c : Rank) → both_ranks (both_ranks a b) c ≡ both_ranks a (both_ranks b c)
 both_assoc a b None = refl
 both_assoc a None (Some c) = refl
 both_assoc None (Some zero) (Some c) = refl
@@ -476,7 +476,7 @@ fits_source place shapes rank source region p fits = record {
   callees = fits.callees;
 }
 
-blank_or : (b : Bool) (xs : List ℕ) → cond b xs [] ≡ [] → (b ≡ false) ⊎ (xs ≡ [])
+pub blank_or : (b : Bool) (xs : List ℕ) → cond b xs [] ≡ [] → (b ≡ false) ⊎ (xs ≡ [])
 blank_or true xs e = inr e
 blank_or false xs e = inl refl
 

@@ -91,14 +91,14 @@ zero_or_same (Some (suc a)) (Some (suc b)) p k c =
 zero_or_same (Some zero) (Some (suc b)) p k c = absurd p
 zero_or_same None (Some (suc b)) p k c = absurd p
 
-joined_rank : (rank own other given : Rank) → IsArrayRank rank → IsSome (first_rank own given)
+pub joined_rank : (rank own other given : Rank) → IsArrayRank rank → IsSome (first_rank own given)
     → first_rank (both_ranks rank own) other ≡ rank
 joined_rank rank None other given p k = none_is_not None k refl
 joined_rank (Some (suc a)) (Some b) other given p k = refl
 joined_rank (Some zero) (Some b) other given p k = absurd p
 joined_rank None (Some b) other given p k = absurd p
 
-first_not_above : (one other : Rank) → IsSome one → is_above_zero (first_rank one other) ≡ false
+pub first_not_above : (one other : Rank) → IsSome one → is_above_zero (first_rank one other) ≡ false
     → (is_above_zero one ≡ false) × (is_above_zero other ≡ false)
 first_not_above None other k e = none_is_not None k refl
 first_not_above (Some zero) other k e = (refl, e)
@@ -246,7 +246,7 @@ scalar_value_rank (Some (kind.Direction r)) thing h e z = absurd (true≢false (
 scalar_value_rank (Some (kind.Procedure signature)) thing h e z = absurd (true≢false (sym e))
 scalar_value_rank None thing h e z = absurd (true≢false (sym e))
 
-and_false : (a b : Bool) → a ≡ true → a && b ≡ false → b ≡ false
+pub and_false : (a b : Bool) → a ≡ true → a && b ≡ false → b ≡ false
 and_false true b h e = e
 and_false false b h e = absurd (true≢false (sym h))
 

@@ -62,7 +62,7 @@ use Rattle.zpl_meaning.proofs.NamesLemmas.{declarations_listed, IsHanded, AreHan
 
 -- ---- lists
 
-find_among : {A : Type 0} (p : A → Bool) (xs : List A) (x : A) → find p xs ≡ Some x → Among xs x
+pub find_among : {A : Type 0} (p : A → Bool) (xs : List A) (x : A) → find p xs ≡ Some x → Among xs x
 find_among p [] x e = cc
 find_among p (y ∷ ys) x e = by (p y) e (find_among p ys x)
   where
@@ -71,7 +71,7 @@ find_among p (y ∷ ys) x e = by (p y) e (find_among p ys x)
     by true e later = inl cc
     by false e later = inr (later e)
 
-filter_among : {A B : Type 0} (f : A → Option B) (xs : List A) (x : A) (y : B) → Among xs x
+pub filter_among : {A B : Type 0} (f : A → Option B) (xs : List A) (x : A) (y : B) → Among xs x
     → f x ≡ Some y → Among (filter_map f xs) y
 filter_among f [] x y m e = absurd m
 filter_among f (z ∷ zs) x y (inl same) e =
@@ -89,7 +89,7 @@ pub record IsHere (program : Program) (text : List ℕ) (shapes : Shapes) (site 
   pub there : Contains (sites_at program text shapes) site
 
 module _ (program : Program) (text : List ℕ) (around : Shapes) where
-  abbrev Here : Site → Type 0
+  abbrev pub Here : Site → Type 0
   Here site = IsHere program text around site
 
   pub clean_of : (sites : List Site) → Each Here sites → Clean sites
@@ -97,7 +97,7 @@ module _ (program : Program) (text : List ℕ) (around : Shapes) where
   clean_of (site ∷ sites) h = (h.0.clean, clean_of sites h.1)
 
   -- a call that stands there is one of the procedure's
-  call_there : (reach : Reach) (role : CallRole) (name : Name) (actuals : Exprs)
+  pub call_there : (reach : Reach) (role : CallRole) (name : Name) (actuals : Exprs)
       → Here (AtCall reach role name actuals) → is_procedure (kind_of reach.scope name) ≡ true
       → Contains (calls_at program text around)
       (record { name = name; actuals = actuals; shapes = reach.shapes })
@@ -121,7 +121,7 @@ module _ (program : Program) (text : List ℕ) (around : Shapes) where
 
   -- ---- statements in statements
 
-  stmts_part : (stmts : Stmts) (reach : Reach) (part : Stmt) → Each Here (stmts_sites reach stmts)
+  pub stmts_part : (stmts : Stmts) (reach : Reach) (part : Stmt) → Each Here (stmts_sites reach stmts)
       → AreStmts stmts → Among (list_of stmts) part
       → Each Here (stmt_sites reach part) × IsStmt part
   stmts_part NoStmt reach part h g m = absurd m
@@ -134,7 +134,7 @@ module _ (program : Program) (text : List ℕ) (around : Shapes) where
       stmts_part rest reach part
       (each_right Here (stmt_sites reach first) (stmts_sites reach rest) h) g.1 m
 
-  arms_part : (arms : Arms) (reach within : Reach) (part : Stmt)
+  pub arms_part : (arms : Arms) (reach within : Reach) (part : Stmt)
       → Each Here (arms_sites reach within arms) → AreArms arms → Among (arms_parts arms) part
       → Each Here (stmt_sites within part) × IsStmt part
   arms_part NoArm reach within part h g m = absurd m
@@ -150,13 +150,13 @@ module _ (program : Program) (text : List ℕ) (around : Shapes) where
             (arms_sites reach within rest) h) g.1 m
       ]
 
-  else_part : (otherwise : Otherwise) (within : Reach) (part : Stmt)
+  pub else_part : (otherwise : Otherwise) (within : Reach) (part : Stmt)
       → Each Here (otherwise_sites within otherwise) → IsOtherwise otherwise
       → Among (else_parts otherwise) part → Each Here (stmt_sites within part) × IsStmt part
   else_part NoElse within part h g m = absurd m
   else_part (Else body) within part h g m = stmts_part body within part h g m
 
-  body_part : (stmts : Stmts) (place : Place) (shapes : Shapes) (shattered : Rank)
+  pub body_part : (stmts : Stmts) (place : Place) (shapes : Shapes) (shattered : Rank)
       (result answer : Option Base) (part : Stmt)
       → Each Here (body_sites (reach_at place shapes shattered result) answer stmts)
       → AreStmts stmts → Among (list_of stmts) part
@@ -371,11 +371,11 @@ all_handed place store (ArrayFormal false base shape ∷ formals) (ThenExpr actu
 some_same : {A : Type 0} (a b : A) → Some a ≡ Some b → a ≡ b
 some_same a b e = cc
 
-none_there : (xs : List ℕ) → ((at : ℕ) → ¬ Contains xs at) → xs ≡ []
+pub none_there : (xs : List ℕ) → ((at : ℕ) → ¬ Contains xs at) → xs ≡ []
 none_there [] h = refl
 none_there (x ∷ xs) h = absurd (h x (zero, omega arith, refl))
 
-body_grammar : (stmt : Stmt) → IsBody stmt → IsStmt stmt
+pub body_grammar : (stmt : Stmt) → IsBody stmt → IsStmt stmt
 body_grammar (Prefixed at prefixes (Block body)) g = g
 body_grammar (Prefixed at prefixes (Assign name op value)) g = absurd g
 body_grammar (Prefixed at prefixes (Invoke name actuals)) g = absurd g
@@ -447,7 +447,7 @@ pub record Laws (program : Program) : Type 0 where
       IsProcedureOf signature routine
 
 -- own names are those of variables
-abbrev IsOwn : Option Kind → Type 0
+abbrev pub IsOwn : Option Kind → Type 0
 IsOwn None = Unit {0}
 IsOwn (Some (kind.Scalar base)) = Unit {0}
 IsOwn (Some (kind.Array base shape)) = Unit {0}
@@ -457,29 +457,29 @@ IsOwn (Some (kind.Region shape)) = ⊥
 IsOwn (Some (kind.Direction rank)) = ⊥
 IsOwn (Some (kind.Procedure signature)) = ⊥
 
-abbrev AllOwn : List Entry → Type 0
+abbrev pub AllOwn : List Entry → Type 0
 AllOwn entries = AllByRecursion (λ entry. IsOwn (Some entry.kind)) entries
 
-own_append : (xs ys : List Entry) → AllOwn xs → AllOwn ys → AllOwn (xs ++ ys)
+pub own_append : (xs ys : List Entry) → AllOwn xs → AllOwn ys → AllOwn (xs ++ ys)
 own_append [] ys h k = k
 own_append (x ∷ xs) ys h k = (h.0, own_append xs ys h.1 k)
 
-own_variable : (scope : Scope) (shape : Bracket) (base : Base)
+pub own_variable : (scope : Scope) (shape : Bracket) (base : Base)
     → IsOwn (Some (variable_kind scope shape base))
 own_variable scope NoBracket base = tt
 own_variable scope (Bracketed inner) base = tt
 
-own_each : (thing : Kind) → IsOwn (Some thing) → (names : List Name)
+pub own_each : (thing : Kind) → IsOwn (Some thing) → (names : List Name)
     → AllOwn (map (entry_for thing) names)
 own_each thing h [] = tt
 own_each thing h (name ∷ names) = (h, own_each thing h names)
 
-own_flat : {A : Type 0} (f : A → List Entry) → ((a : A) → AllOwn (f a)) → (list : List A)
+pub own_flat : {A : Type 0} (f : A → List Entry) → ((a : A) → AllOwn (f a)) → (list : List A)
     → AllOwn (flat_map f list)
 own_flat f h [] = tt
 own_flat f h (a ∷ rest) = own_append (f a) (flat_map f rest) (h a) (own_flat f h rest)
 
-all_own : (earlier : List Entry) (procedure : plain.Procedure)
+pub all_own : (earlier : List Entry) (procedure : plain.Procedure)
     → AllOwn (own_entries earlier procedure)
 all_own earlier procedure =
     let scope = head_scope earlier procedure in
@@ -494,7 +494,7 @@ all_own earlier procedure =
     (λ var. own_each (variable_kind scope var.shape var.base)
     (own_variable scope var.shape var.base) var.names) procedure.locals)
 
-own_in : (entries : List Entry) (text : List ℕ) → AllOwn entries → IsOwn (kind_in entries text)
+pub own_in : (entries : List Entry) (text : List ℕ) → AllOwn entries → IsOwn (kind_in entries text)
 own_in [] text h = tt
 own_in (first ∷ rest) text h = by (bytes_eq first.name.text text) (own_in rest text h.1)
   where
@@ -504,7 +504,7 @@ own_in (first ∷ rest) text h = by (bytes_eq first.name.text text) (own_in rest
     by true later = h.0
     by false later = later
 
-global_procedure : (own globals : Option Kind) (signature : Signature) → IsOwn own
+pub global_procedure : (own globals : Option Kind) (signature : Signature) → IsOwn own
     → option_or own globals ≡ Some (kind.Procedure signature)
     → globals ≡ Some (kind.Procedure signature)
 global_procedure None globals signature h e = e
@@ -517,19 +517,19 @@ global_procedure (Some (kind.Direction rank)) globals signature h e = absurd h
 global_procedure (Some (kind.Procedure other)) globals signature h e = absurd h
 
 -- all entries are good
-all_good : (entries : List Entry) → AllByRecursion (λ entry. IsKnownKind entry.kind) entries
+pub all_good : (entries : List Entry) → AllByRecursion (λ entry. IsKnownKind entry.kind) entries
     → AllByRecursion (λ entry. HasRank entry.kind) entries → Shaped entries
     → AllByRecursion (λ entry. IsGood entry.kind) entries
 all_good [] k le h = tt
 all_good (entry ∷ entries) k le h =
     (good_from entry.kind k.0 le.0 h.0, all_good entries k.1 le.1 h.1)
 
-or_good : (one other : Option Kind) → OptGood one → OptGood other → OptGood (option_or one other)
+pub or_good : (one other : Option Kind) → OptGood one → OptGood other → OptGood (option_or one other)
 or_good None other h k = k
 or_good (Some kind) other h k = h
 
 -- two lists of entries, one behind the other
-found_in : (xs ys : List Entry) (text : List ℕ)
+pub found_in : (xs ys : List Entry) (text : List ℕ)
     → kind_in (xs ++ ys) text ≡ option_or (kind_in xs text) (kind_in ys text)
 found_in [] ys text = refl
 found_in (x ∷ xs) ys text = by (bytes_eq x.name.text text) (found_in xs ys text)

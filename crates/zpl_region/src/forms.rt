@@ -12,7 +12,8 @@ impl Region {
     /// A component that is 0, and one past the rank, leaves its dimension as it is.
     pub fn of(&self, d: Vec3) -> Result<Region, RegionLimit>
         requires { IsRegion self.now }
-        ensures limit { OkIff result (IsWithinLimit (outside_of d self.now)) (outside_of d self.now) }
+        ensures limit { OkIff result (IsWithinLimit (outside_of d self.now))
+            (outside_of d self.now) }
         ensures region { IfOk result IsRegion }
     {
         let [x, y, z] = self.components(d);

@@ -35,7 +35,8 @@ impl Region {
         requires below { rank ≤ 3 }
         requires steps { All HasStep dims }
         requires padded { IsPadded rank dims }
-        ensures limit { OkIff result (IsWithinLimit (record { rank = rank; dims = dims })) (record { rank = rank; dims = dims }) }
+        ensures limit { OkIff result (IsWithinLimit (record { rank = rank; dims = dims }))
+            (record { rank = rank; dims = dims }) }
         ensures region { IfOk result IsRegion }
     {
         let [planes, rows, columns] = dims;

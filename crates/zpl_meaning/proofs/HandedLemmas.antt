@@ -1,4 +1,4 @@
--- A call hands on as many values as there are expressions for them.
+-- A call has as many values as expressions for them, and hands on what comes from them.
 use Rattle.std.proofs.Common.{◌≡◌, ℕ, suc, Bool, true, false, ◌&&◌, ℤ, List, [], ◌∷◌, length}
 use Rattle.std.proofs.Common.{refl, subst, arith}
 use Rattle.zpl_nums.specs.declared.ends.TrapKind.{TrapKind}
@@ -13,19 +13,29 @@ use Rattle.zpl_meaning.specs.Fields.{Field, field_of, fields_of}
 use Rattle.zpl_meaning.specs.Phases.{scalar_values, scalars_in}
 use Rattle.zpl_meaning.specs.Calls.{Handed, value_exprs, handed_on, actuals_in}
 use Rattle.zpl_meaning.specs.Visited.{formals_at, handed_at}
-use Rattle.meaning_runs.proofs.HeldLemmas.{gives_same, trap_no_value}
 
-abbrev Given : {A : Type 0} → (A → Type 0) → Computed A → Type 0
+pub gives_same : {A : Type 0} (one other : A) → Gives one ≡ Gives other → one ≡ other
+gives_same one other e = cc
+
+pub trap_no_value : {A : Type 0} (kind : TrapKind) (value : A) → Traps kind ≡ Gives value → ⊥
+trap_no_value kind value e = cc
+
+-- of what is given, where there is something
+abbrev pub Given : {A : Type 0} → (A → Type 0) → Computed A → Type 0
 Given P (Gives value) = P value
 Given P (Traps kind) = Unit {0}
 
+pub given_any : {A : Type 0} (computed : Computed A) → Given (λ value. Unit {0}) computed
+given_any (Gives value) = tt
+given_any (Traps kind) = tt
+
 module _ {A B : Type 0} (P : A → Type 0) (Q : B → Type 0) where
-  given_then : (computed : Computed A) (next : A → Computed B) → Given P computed
+  pub given_then : (computed : Computed A) (next : A → Computed B) → Given P computed
       → ((value : A) → P value → Given Q (next value)) → Given Q (computed_then computed next)
   given_then (Gives value) next h k = k value h
   given_then (Traps kind) next h k = tt
 
-given_both : {A B C : Type 0} (P : A → Type 0) (Q : C → Type 0) (one : Computed A)
+pub given_both : {A B C : Type 0} (P : A → Type 0) (Q : C → Type 0) (one : Computed A)
     (other : Computed B) (next : A → B → Computed C) → Given P one
     → ((value : B) (first : A) → P first → Given Q (next first value))
     → Given Q (both_then other one (λ value first. next first value))
@@ -33,16 +43,16 @@ given_both P Q (Gives first) (Gives value) next h k = k value first h
 given_both P Q (Traps kind) (Gives value) next h k = tt
 given_both P Q one (Traps kind) next h k = tt
 
-given_provided : {A : Type 0} (Q : A → Type 0) (holds : Bool) (kind : TrapKind)
+pub given_provided : {A : Type 0} (Q : A → Type 0) (holds : Bool) (kind : TrapKind)
     (next : Unit {0} → Computed A) → Given Q (next tt) → Given Q (provided holds kind next)
 given_provided Q true kind next h = h
 given_provided Q false kind next h = tt
 
-abbrev terms_count : Terms → ℕ
+abbrev pub terms_count : Terms → ℕ
 terms_count NoTerm = 0
 terms_count (ThenTerm first rest) = suc (terms_count rest)
 
-settled_many : (place : Place) (store : Store) (exprs : List Placed)
+pub settled_many : (place : Place) (store : Store) (exprs : List Placed)
     → Given (λ terms. terms_count terms ≡ length exprs) (settled_each place store exprs)
 settled_many place store [] = refl
 settled_many place store (placed ∷ rest) =
@@ -51,7 +61,7 @@ settled_many place store (placed ∷ rest) =
     (settled place store placed.rank placed.expr) (λ terms term. Gives (ThenTerm term terms))
     (settled_many place store rest) (λ term terms h. omega (arith, h))
 
-fields_many : (store : Store) (terms : Terms)
+pub fields_many : (store : Store) (terms : Terms)
     → Given (λ fields. length fields ≡ terms_count terms) (fields_of store terms)
 fields_many store NoTerm = refl
 fields_many store (ThenTerm first rest) =
@@ -60,7 +70,7 @@ fields_many store (ThenTerm first rest) =
     (field_of store first) (λ fields field. Gives (field ∷ fields))
     (fields_many store rest) (λ field fields h. omega (arith, h))
 
-values_many : (fields : List Field)
+pub values_many : (fields : List Field)
     → Given (λ values. length values ≡ length fields) (scalar_values fields)
 values_many [] = refl
 values_many (field ∷ fields) =
@@ -69,7 +79,7 @@ values_many (field ∷ fields) =
     (λ values value. Gives (value ∷ values)) (values_many fields)
     (λ value values h. omega (arith, h))
 
-scalars_many : (place : Place) (store : Store) (exprs : List Placed)
+pub scalars_many : (place : Place) (store : Store) (exprs : List Placed)
     → Given (λ values. length values ≡ length exprs) (scalars_in place store exprs)
 scalars_many place store exprs =
     given_then (λ fields. length fields ≡ length exprs) (λ values. length values ≡ length exprs)
@@ -106,4 +116,4 @@ handed_values place store name actuals handed e =
         → HasValues place store name actuals handed
     by (Gives values) many e =
         record { values = values; many = many; same = gives_same _ handed e }
-    by (Traps kind) many e = trap_no_value kind handed e
+    by (Traps kind) many e = absurd (trap_no_value kind handed e)
