@@ -2,6 +2,7 @@
 ghost use Rattle.std.specs.Prelude.{◌≡◌, ◌+◌, ◌≤◌, ◌<◌, ◌^◌, All, IfErr, IfOk, OnOk, length, min, sum_by, ◌++◌, ◌-◌};
 ghost use Rattle.grid_layout.specs.Layout.{AreBlocks};
 ghost use Rattle.grid_layout.specs.Words.{box_words};
+ghost use Rattle.grid_meaning.specs.Stored.{box_of, width_above, width_below};
 ghost use Rattle.node_form.specs.Fits.{FitsArray};
 ghost use Rattle.node_form.specs.Grid.{IsGrid, factors_of};
 ghost use Rattle.listing_rules.specs.Reads.{FaultAt};
@@ -10,10 +11,7 @@ ghost use Rattle.listing_rules.specs.Room.{
   HasThree,
   LacksRoom,
   blocks_for,
-  box_of,
   boxes_of,
-  high_of,
-  low_of,
   stored_box,
 };
 
@@ -27,8 +25,9 @@ use zpl_region::Region;
 /// The most words that held boxes may have, on all processors together.
 const STORAGE_LIMIT: u128 = 16_777_216;
 
+/// How far below its own block a processor holds a dimension.
 fn low_of(dim: ArrayDim) -> i64
-    ensures { result ≡ low_of dim }
+    ensures { result ≡ width_below dim }
 {
     match dim {
         ArrayDim::Range { low, .. } => low,
@@ -36,8 +35,9 @@ fn low_of(dim: ArrayDim) -> i64
     }
 }
 
+/// And how far above.
 fn high_of(dim: ArrayDim) -> i64
-    ensures { result ≡ high_of dim }
+    ensures { result ≡ width_above dim }
 {
     match dim {
         ArrayDim::Range { high, .. } => high,
