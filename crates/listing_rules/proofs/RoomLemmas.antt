@@ -1,18 +1,15 @@
 -- Arrays as they are laid out.
-use Rattle.std.proofs.Common.{◌≡◌, ℕ, zero, suc, ◌+◌, ◌<◌, ◌≤◌, Bool, true, false, List, [], ◌∷◌, ◌++◌, length, get_or, map, take, drop, sym, ◌∙◌, ap, subst, refl, arith, rules, ℤ, pos}
+use Rattle.std.proofs.Common.{◌≡◌, ℕ, zero, suc, ◌+◌, ◌<◌, ◌≤◌, Bool, true, false, List, [], ◌∷◌, ◌++◌, length, take, drop, sym, ◌∙◌, ap, refl, arith}
 use Rattle.std.specs.Prelude.{All, sum_by, min, Some, slice_get}
 use Rattle.std.proofs.lemmas.List.{append_assoc, append-nil}
 use Rattle.std.proofs.lemmas.List.Sums.{sum_by-append}
-use Rattle.std.proofs.lemmas.List.Elements.{All-nil, All-cons, All-head, All-tail, All-map, All-append}
-use Rattle.std.proofs.lemmas.Int.{ints}
-use Rattle.zpl_region.specs.declared.dims.Dim.{Dim}
-use Rattle.node_form.specs.declared.arrays.ArrayDim.{ArrayDim}
-use Rattle.node_form.specs.declared.arrays.ArrayDim.TheVariants.{Range, Star}
+use Rattle.std.proofs.lemmas.List.Elements.{All-nil, All-cons, All-head, All-tail, All-append}
+
+
+
 use Rattle.node_form.specs.declared.arrays.ArrayRow.{ArrayRow}
-use Rattle.zpl_region.specs.Dim.{IsDim, IsDimWithinLimit, IsUpTo}
-use Rattle.node_form.specs.Fits.{storage_dim, FitsArray, HasFringe}
-use Rattle.node_form.proofs.ShapeLemmas.{storage-padded}
-use Rattle.grid_layout.specs.Layout.{IsArrayBox, IsBoxDim, IsFringe}
+use Rattle.node_form.specs.Fits.{FitsArray}
+use Rattle.grid_layout.specs.Layout.{IsArrayBox}
 use Rattle.grid_layout.specs.declared.boxes.ArrayBox.{ArrayBox}
 use Rattle.grid_layout.specs.Words.{box_words}
 use Rattle.node_form.specs.declared.tables.Tables.{Tables}
