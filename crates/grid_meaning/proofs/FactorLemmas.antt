@@ -1,22 +1,19 @@
 -- Grids by their factors.
-use Rattle.std.proofs.Common.{◌≡◌, ℕ, zero, suc, ◌-◌, ◌*◌, ◌≤◌, List, [], ◌∷◌, ◌++◌, length, drop, sym, ◌∙◌, refl, arith, rules}
-use Rattle.std.specs.Prelude.{All, fold, replicate, Result, Ok, Err, IsOk}
+use Rattle.std.proofs.Common.{◌≡◌, ℕ, zero, suc, ◌-◌, ◌≤◌, List, [], ◌∷◌, ◌++◌, length, drop, sym, ◌∙◌, refl, arith, rules}
+use Rattle.std.specs.Prelude.{All, replicate, Result, Ok, Err, IsOk}
 use Rattle.std.specs.Result.{OkIff}
 use Rattle.std.proofs.lemmas.List.Elements.{All-nil, All-cons, All-head, All-tail}
 use Rattle.node_form.specs.Grid.{IsGrid, factors_of, processors_of}
 use Rattle.grid_layout.specs.Grid.{product}
+use Rattle.grid_meaning.proofs.WorldLemmas.{fold-product}
 
 pub factors_some : (grid : List ℕ) → All (λ factor. 1 ≤ factor) (factors_of grid)
 factors_some [] = All-nil (λ factor. 1 ≤ factor)
 factors_some (zero ∷ grid) = All-nil (λ factor. 1 ≤ factor)
 factors_some (suc n ∷ grid) = All-cons (λ factor. 1 ≤ factor) (suc n) (factors_of grid) (omega arith) (factors_some grid)
 
-product_from : (a : ℕ) (xs : List ℕ) → fold (λ count factor. count * factor) a xs ≡ a * product xs
-product_from a [] = omega arith
-product_from a (x ∷ xs) = product_from (a * x) xs ∙ omega arith
-
 pub product_few : (grid : List ℕ) → processors_of grid ≤ 64 → product (factors_of grid) ≤ 64
-product_few grid few = let e = product_from 1 (factors_of grid) in omega (arith, e)
+product_few grid few = let e = fold-product (factors_of grid) 1 in omega (arith, e)
 
 padded : (grid : List ℕ) → length grid ≡ 3 → 1 ≤ length (factors_of grid) → All (λ factor. factor ≡ 0) (drop (length (factors_of grid)) grid) → factors_of grid ++ replicate (3 - length (factors_of grid)) 0 ≡ grid
 padded (zero ∷ grid) n some absent = absurd (omega arith)
