@@ -162,6 +162,17 @@ impl Known {
             Instr::Unless { expr, goal, .. } => {
                 self.has_scalar_expr(expr) && u64::from(goal) <= count
             }
+            Instr::Remap {
+                array,
+                slot,
+                from,
+                parts,
+            } => {
+                tables.has_slot(rank, slot)
+                    && tables.has_array(rank, array)
+                    && tables.is_temporary(array)
+                    && tables.fits_remap(rank, array, from, &parts)
+            }
             _ => tables.fits_plain(rank, instr),
         }
     }
