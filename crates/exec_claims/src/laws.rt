@@ -15,8 +15,8 @@ ghost use Rattle.exec_claims.specs.declared.status.TheConstants.{LISTING_REFUSED
 use node_text::bytes_have_one_program;
 use zpl_io::Files;
 
-/// Of what was made and run in a call there is a cause of one status, where memory wasn't wanting, no
-/// put or fetch failed, and the files tell one text a name: each status comes just where its own
+/// Of what was made and run in a call there is a cause of one status, where memory wasn't wanting,
+/// no put or fetch failed, and the files tell one text a name: each status comes just where its own
 /// cause is.
 pub fn exec_causes_are_one<F: Files>()
     ensures { (files : F) (words : List (List ℕ)) (ran : Execution) (n m : ℕ)

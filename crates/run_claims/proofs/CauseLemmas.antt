@@ -25,61 +25,13 @@ use Rattle.exec_claims.specs.Decided.{IsDoneAt, IsOrderText, IsTrapAt}
 use Rattle.exec_claims.specs.declared.status.TheConstants.{ORDER_REFUSED, STUCK}
 use Rattle.exec_claims.proofs.Exact.{order_file_cause, order_file_run, run_done, run_limit}
 use Rattle.exec_claims.proofs.Exact.{run_stuck, run_trap, told_done, told_limit, told_trap}
+use Rattle.exec_claims.proofs.RunStatus.{IsRunStatus, is_done, is_limit, is_stuck, is_trapped}
 use Rattle.exec_claims.proofs.OneCause.{IsOneFile, not_long, order_file_one, read_one, same_text}
 use Rattle.run_claims.specs.Cause.{Cause, RunFileCause, Runs}
 use Rattle.run_claims.specs.Cause.Cause.{no_memory, run}
 use Rattle.run_claims.specs.Decided.{HasBadOrder, HasCodeOf, HasLongFile, HasLongOrder, IsCutShort}
 use Rattle.run_claims.specs.Decided.{IsExact, IsOneOrder, IsUnder}
 use Rattle.run_claims.proofs.CodeLemmas.{Laws, never_idle, never_stuck, too_few}
-
--- ---- statuses of how a run ended
-record IsRunStatus (n : ℕ) : Type 0 where
-  unreadable : n ≢ UNREADABLE
-  too_long : n ≢ TOO_LONG
-  order : n ≢ ORDER_REFUSED
-  refused : n ≢ REFUSED
-  unbound : n ≢ UNBOUND
-  memory : n ≢ NO_MEMORY
-
-is_done : IsRunStatus DONE
-is_done = record {
-  unreadable = λ h. omega arith;
-  too_long = λ h. omega arith;
-  order = λ h. omega arith;
-  refused = λ h. omega arith;
-  unbound = λ h. omega arith;
-  memory = λ h. omega arith;
-}
-
-is_trapped : IsRunStatus TRAPPED
-is_trapped = record {
-  unreadable = λ h. omega arith;
-  too_long = λ h. omega arith;
-  order = λ h. omega arith;
-  refused = λ h. omega arith;
-  unbound = λ h. omega arith;
-  memory = λ h. omega arith;
-}
-
-is_limit : IsRunStatus TURN_LIMIT
-is_limit = record {
-  unreadable = λ h. omega arith;
-  too_long = λ h. omega arith;
-  order = λ h. omega arith;
-  refused = λ h. omega arith;
-  unbound = λ h. omega arith;
-  memory = λ h. omega arith;
-}
-
-is_stuck : IsRunStatus STUCK
-is_stuck = record {
-  unreadable = λ h. omega arith;
-  too_long = λ h. omega arith;
-  order = λ h. omega arith;
-  refused = λ h. omega arith;
-  unbound = λ h. omega arith;
-  memory = λ h. omega arith;
-}
 
 -- ---- statuses of orders and of runs
 record IsLater (n : ℕ) : Type 0 where
