@@ -85,7 +85,9 @@ pub(crate) fn nth(region: &Region, i: u64) -> Option<Vec3>
     let [x, y, z] = region.dims;
     let (Some(planes), Some(rows), Some(columns)) = (numbers_of(x), numbers_of(y), numbers_of(z))
     else {
-        return region.nth(i);
+        // a copy, so that the region needn't stand in memory otherwise
+        let whole = *region;
+        return whole.nth(i);
     };
     nth_of_lines(planes, rows, columns, i)
 }
