@@ -4,9 +4,6 @@ use Rattle.std.specs.Prelude.{All, sum_by, min, Some, slice_get}
 use Rattle.std.proofs.lemmas.List.{append_assoc, append-nil}
 use Rattle.std.proofs.lemmas.List.Sums.{sum_by-append}
 use Rattle.std.proofs.lemmas.List.Elements.{All-nil, All-cons, All-head, All-tail, All-append}
-
-
-
 use Rattle.node_form.specs.declared.arrays.ArrayRow.{ArrayRow}
 use Rattle.node_form.specs.Fits.{FitsArray}
 use Rattle.grid_layout.specs.Layout.{IsArrayBox}

@@ -182,7 +182,8 @@ impl Known {
         ensures { IsTrue result ↔ FitParts self.now.tables rank parts.now }
     {
         let from = usize::from(rank).min(3);
-        parts.iter().all(|part| self.fits_part(rank, part)) && parts[from..].iter().all(is_star)
+        parts.iter().all(|part| self.fits_part(rank, part))
+            && parts[from..].iter().all(|part| is_star(part))
     }
 
     fn fits_part(&self, rank: u8, part: &DimRow) -> bool
