@@ -2,6 +2,7 @@
 use crate::reading::{holds, is_kept, is_refused, text_of};
 use node_text::ListFault;
 use std::alloc::{AllocError, Global};
+use std::process::Abort;
 use std::test::Fail;
 
 const WHOLE: [&str; 28] = [
@@ -169,28 +170,31 @@ fn with_line(alloc: Global, number: u32, line: &str) -> Result<Vec<u8>, AllocErr
     Ok(text)
 }
 
-#[test]
-fn broken_lines(rt: HostRuntime) -> Result<(), Fail> {
-    let alloc = rt.alloc();
-    let rows = HEADS.iter().chain(EXPRS.iter()).chain(ROWS.iter());
-    for (line, row) in rows.chain(STEPS.iter()) {
-        let text = with_line(alloc, *line, row)?;
-        let fault = ListFault::BadTable { line: *line };
-        holds(&rt, is_refused(alloc, &text, fault), row);
+/// Each of these lines breaks a rule.
+fn expect_broken(rt: &impl Abort, alloc: Global, rows: &[(u32, &str)]) -> Result<(), AllocError> {
+    for (number, row) in rows {
+        let text = with_line(alloc, *number, row)?;
+        let fault = ListFault::BadTable { line: *number };
+        holds(rt, is_refused(alloc, &text, fault), row);
     }
     Ok(())
 }
 
 #[test]
+fn broken_lines(rt: HostRuntime) -> Result<(), Fail> {
+    expect_broken(&rt, rt.alloc(), &HEADS)?;
+    expect_broken(&rt, rt.alloc(), &EXPRS)?;
+    expect_broken(&rt, rt.alloc(), &ROWS)?;
+    expect_broken(&rt, rt.alloc(), &STEPS)?;
+    Ok(())
+}
+
+#[test]
 fn lines_without_a_form(rt: HostRuntime) -> Result<(), Fail> {
-    let alloc = rt.alloc();
     for (line, row) in FORMS {
-        let text = with_line(alloc, line, row)?;
-        holds(
-            &rt,
-            is_refused(alloc, &text, ListFault::BadLine { line }),
-            row,
-        );
+        let text = with_line(rt.alloc(), line, row)?;
+        let is_right = is_refused(rt.alloc(), &text, ListFault::BadLine { line });
+        holds(&rt, is_right, row);
     }
     Ok(())
 }

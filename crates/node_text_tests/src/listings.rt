@@ -79,7 +79,7 @@ fn whole_listings(rt: HostRuntime) -> Result<(), Fail> {
 #[test]
 fn cuts_behind_each_line(rt: HostRuntime) -> Result<(), Fail> {
     let alloc = rt.alloc();
-    for count in 0..=WAITS.len() {
+    for count in 0..WAITS.len() {
         let text = text_of(alloc, &WAITS[..count])?;
         let is_right = match count {
             0..=9 => {
