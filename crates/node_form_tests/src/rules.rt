@@ -277,25 +277,39 @@ const LINE: u32 = u32::MAX;
 
 macro_rules! set {
     ($scalar:expr, $expr:expr) => {
-        Added::Code(Instr::Set { scalar: $scalar, expr: $expr, line: LINE })
+        Added::Code(Instr::Set {
+            scalar: $scalar,
+            expr: $expr,
+            line: LINE,
+        })
     };
 }
 
 macro_rules! unless {
     ($expr:expr, $goal:expr) => {
-        Added::Code(Instr::Unless { expr: $expr, goal: $goal, line: LINE })
+        Added::Code(Instr::Unless {
+            expr: $expr,
+            goal: $goal,
+            line: LINE,
+        })
     };
 }
 
 macro_rules! fold {
     ($scalar:expr) => {
-        Added::Code(Instr::Fold { scalar: $scalar, fold: Fold::Any })
+        Added::Code(Instr::Fold {
+            scalar: $scalar,
+            fold: Fold::Any,
+        })
     };
 }
 
 macro_rules! tree {
     ($scalar:expr) => {
-        Added::Code(Instr::TreeFold { scalar: $scalar, fold: Fold::Any })
+        Added::Code(Instr::TreeFold {
+            scalar: $scalar,
+            fold: Fold::Any,
+        })
     };
 }
 
@@ -357,45 +371,85 @@ const FOUR: Dim = Dim::Range {
     align: 1,
 };
 
-macro_rules! fixed {
-    ($lo:expr, $hi:expr, $step:expr, $align:expr) => {
-        Added::Code(Instr::Fix { slot: 0, region: Region { rank: 1, dims: [Dim::Range { lo: $lo, hi: $hi, step: $step, align: $align }, PADDING, PADDING] } })
+macro_rules! ranked {
+    ($slot:expr, $rank:expr, $first:expr, $second:expr) => {
+        Added::Code(Instr::Fix {
+            slot: $slot,
+            region: Region {
+                rank: $rank,
+                dims: [$first, $second, PADDING],
+            },
+        })
     };
 }
 
-macro_rules! ranked {
-    ($slot:expr, $rank:expr, $first:expr, $second:expr) => {
-        Added::Code(Instr::Fix { slot: $slot, region: Region { rank: $rank, dims: [$first, $second, PADDING] } })
+macro_rules! fixed {
+    ($lo:expr, $hi:expr, $step:expr, $align:expr) => {
+        ranked!(
+            0,
+            1,
+            Dim::Range {
+                lo: $lo,
+                hi: $hi,
+                step: $step,
+                align: $align,
+            },
+            PADDING
+        )
     };
 }
 
 macro_rules! dims {
     ($slot:expr, $first:expr, $second:expr) => {
-        Added::Code(Instr::Dims { slot: $slot, parts: [$first, $second, DimRow::Star], line: 1 })
+        Added::Code(Instr::Dims {
+            slot: $slot,
+            parts: [$first, $second, DimRow::Star],
+            line: 1,
+        })
     };
 }
 
 macro_rules! formed {
     ($slot:expr, $from:expr, $shift:expr) => {
-        Added::Code(Instr::Formed { form: RegionForm::By, slot: $slot, from: $from, shift: $shift, line: 1 })
+        Added::Code(Instr::Formed {
+            form: RegionForm::By,
+            slot: $slot,
+            from: $from,
+            shift: $shift,
+            line: 1,
+        })
     };
 }
 
 macro_rules! need {
     ($slot:expr, $array:expr) => {
-        Added::Code(Instr::Need { slot: $slot, array: $array, shift: [0, 0, 0], line: 1 })
+        Added::Code(Instr::Need {
+            slot: $slot,
+            array: $array,
+            shift: [0, 0, 0],
+            line: 1,
+        })
     };
 }
 
 macro_rules! same {
     ($target:expr, $source:expr) => {
-        Added::Code(Instr::Same { target: $target, source: $source, kind: SameKind::Part, line: 1 })
+        Added::Code(Instr::Same {
+            target: $target,
+            source: $source,
+            kind: SameKind::Part,
+            line: 1,
+        })
     };
 }
 
 macro_rules! fits {
     ($slot:expr, $shift:expr) => {
-        Added::Code(Instr::Fits { slot: $slot, shift: $shift, line: 1 })
+        Added::Code(Instr::Fits {
+            slot: $slot,
+            shift: $shift,
+            line: 1,
+        })
     };
 }
 
@@ -446,49 +500,87 @@ const NO_REGIONS: [Added<'static>; 22] = [
 
 macro_rules! room {
     ($array:expr) => {
-        Added::Code(Instr::Room { array: $array, slot: 0 })
+        Added::Code(Instr::Room {
+            array: $array,
+            slot: 0,
+        })
     };
 }
 
 macro_rules! run {
     ($slot:expr, $group:expr) => {
-        Added::Code(Instr::Loop { slot: $slot, group: $group })
+        Added::Code(Instr::Loop {
+            slot: $slot,
+            group: $group,
+        })
     };
 }
 
 macro_rules! edge {
     ($array:expr) => {
-        Added::Code(Instr::Edge { kind: Border::Wrap, array: $array, slot: 0, shift: [1, 0, 0] })
+        Added::Code(Instr::Edge {
+            kind: Border::Wrap,
+            array: $array,
+            slot: 0,
+            shift: [1, 0, 0],
+        })
     };
 }
 
 macro_rules! flood {
     ($array:expr, $source:expr) => {
-        Added::Code(Instr::Flood { array: $array, target: 0, from: 0, source: $source })
+        Added::Code(Instr::Flood {
+            array: $array,
+            target: 0,
+            from: 0,
+            source: $source,
+        })
     };
 }
 
 macro_rules! part {
     ($array:expr, $source:expr) => {
-        Added::Code(Instr::Part { array: $array, target: 0, fold: Fold::Max, from: 0, source: $source })
+        Added::Code(Instr::Part {
+            array: $array,
+            target: 0,
+            fold: Fold::Max,
+            from: 0,
+            source: $source,
+        })
     };
 }
 
 macro_rules! scan {
     ($along:expr, $mask:expr) => {
-        Added::Code(Instr::Scan { array: 0, slot: 0, fold: Fold::Sum, along: $along, from: 1, mask: $mask })
+        Added::Code(Instr::Scan {
+            array: 0,
+            slot: 0,
+            fold: Fold::Sum,
+            along: $along,
+            from: 1,
+            mask: $mask,
+        })
     };
 }
 
 macro_rules! remap {
     ($array:expr, $from:expr, $first:expr, $second:expr) => {
-        Added::Code(Instr::Remap { array: $array, slot: 0, from: $from, parts: [$first, $second, None] })
+        Added::Code(Instr::Remap {
+            array: $array,
+            slot: 0,
+            from: $from,
+            parts: [$first, $second, None],
+        })
     };
 }
 
 macro_rules! gather {
     ($array:expr, $slot:expr) => {
-        Added::Code(Instr::Gather { truth: true, array: $array, slot: $slot })
+        Added::Code(Instr::Gather {
+            truth: true,
+            array: $array,
+            slot: $slot,
+        })
     };
 }
 

@@ -123,7 +123,7 @@ const CUT_ORDERS: [(&str, Wanted<'static>); 8] = [
     ("0 ", (6, "", "order refused, byte 2\n", 0)),
     ("0 1", (0, "hi21", "", 14)),
     ("0 1x", (6, "", "order refused, byte 4\n", 0)),
-    ("0 1x3", (0, "hi21", "", 14)),
+    ("0 1x3", (0, "hi21", "", 16)),
     ("0 1x3 ", (6, "", "order refused, byte 6\n", 0)),
     ("0 1x3 2", (0, "hi21", "", 14)),
 ];
