@@ -7,7 +7,7 @@ place=$(mktemp -d) || exit 1
 trap 'rm -rf "$place"' EXIT
 
 # builds the programs, where they aren't there
-[ -x "$program" ] || "$top/zplgrid" run "$top/examples/sum.zpl" >/dev/null || exit 1
+[ -x "$program" ] || "$top/build" || exit 1
 rustc -O -o "$place/plain" "$top/benchmarks/plain_arrays.rs" 2>/dev/null || exit 1
 
 # seconds of processor time that a command takes, and the most memory that it holds in MiB, what it prints left out

@@ -33,7 +33,7 @@ assignments() {
 }
 
 # builds the program, where it isn't there
-"$top/zplgrid" run "$top/examples/sum.zpl" >/dev/null || exit 1
+[ -x "$program" ] || "$top/build" || exit 1
 
 echo "-- turns"
 cat >"$place/turns.zpl" <<'END'

@@ -8,7 +8,7 @@ place=$(mktemp -d) || exit 1
 trap 'rm -rf "$place"' EXIT
 
 # builds the program, where it isn't there
-[ -x "$program" ] || "$top/zplgrid" run "$top/examples/sum.zpl" >/dev/null || exit 1
+[ -x "$program" ] || "$top/build" || exit 1
 rustc --edition 2024 -O --crate-type cdylib -C panic=abort -o "$place/failing.so" "$top/benchmarks/failing_allocation.rs" || exit 1
 
 # a run in which the allocation of this number fails: its bytes, what is told of it, and its status

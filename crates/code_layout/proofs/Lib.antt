@@ -1,2 +1,1 @@
 mod BoxLemmas
-mod GridLemmas

@@ -2,12 +2,12 @@
 ghost use Rattle.std.specs.Prelude.{◌≡◌, ◌∷◌, ◌++◌, [], All, IfOk, OnOk, map, true};
 ghost use Rattle.grid_layout.specs.Layout.{IsArrayBox};
 ghost use Rattle.grid_meaning.specs.Stored.{box_of, stored, width_above, width_below};
-ghost use Rattle.node_form.specs.Fits.{Fits, FitsArray, storage_dim};
+ghost use Rattle.node_form.specs.Fits.{Fits, FitsArray};
 
 use grid_layout::ArrayBox;
-use node_form::{ArrayDim, ArrayRow, Tables, rows_fit};
+use node_form::{ArrayDim, ArrayRow, Tables, rows_fit, storage_dim};
 use std::alloc::{AllocError, Global};
-use zpl_region::{Dim, Region};
+use zpl_region::Region;
 
 /// The stored arrays, in their order.
 pub(crate) fn boxes_of(alloc: Global, code: &Tables) -> Result<Vec<ArrayBox>, AllocError>
@@ -55,20 +55,6 @@ fn box_of(row: &ArrayRow) -> ArrayBox
         },
         low: [low_planes, low_rows, low_columns],
         high: [high_planes, high_rows, high_columns],
-    }
-}
-
-fn storage_dim(dim: ArrayDim) -> Dim
-    ensures { result ≡ storage_dim dim }
-{
-    match dim {
-        ArrayDim::Range { lo, hi, .. } => Dim::Range {
-            lo,
-            hi,
-            step: 1,
-            align: lo,
-        },
-        ArrayDim::Star => Dim::Flood,
     }
 }
 

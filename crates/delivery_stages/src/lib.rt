@@ -6,4 +6,4 @@
 
 mod stages;
 
-pub use stages::{MOST, delivery_stage};
+pub use stages::delivery_stage;

@@ -10,13 +10,14 @@ use Rattle.call_claims.specs.declared.ran.Ran.{Ran}
 use Rattle.call_claims.specs.Call.{Call}
 use Rattle.call_claims.specs.Decided.{IsSettled}
 use Rattle.call_claims.specs.Execution.{execution_of, HasNoCounts}
-use Rattle.call_claims.specs.declared.status.TheConstants.{DONE, TRAPPED, TURN_LIMIT, PUT_FAILED}
+use Rattle.call_claims.specs.declared.status.TheConstants.{DONE, TOO_LONG, TRAPPED}
+use Rattle.call_claims.specs.declared.status.TheConstants.{TURN_LIMIT, PUT_FAILED}
 use Rattle.exec_words.specs.Asked.{Asked}
 use Rattle.grid_call.specs.Stream.{Stream}
 use Rattle.exec_claims.specs.Answer.{IsAnswered, IsHalfAnswered, IsReadFor, Runs, TakesPrinted}
-use Rattle.exec_claims.specs.Decided.{Execs, ExecsNoListing, IsDoneAt, IsStuckOrIdleAt, IsTrapAt}
-use Rattle.exec_claims.specs.Decided.{RunsTo}
-use Rattle.exec_claims.specs.declared.status.TheConstants.{LISTING_REFUSED, STUCK}
+use Rattle.exec_claims.specs.Decided.{Execs, ExecsNoListing, ExecsTooLong, ExecsBadOrder}
+use Rattle.exec_claims.specs.Decided.{IsDoneAt, IsStuckOrIdleAt, IsTrapAt, RunsTo}
+use Rattle.exec_claims.specs.declared.status.TheConstants.{LISTING_REFUSED, ORDER_REFUSED, STUCK}
 
 -- ---- a put that failed
 -- The code was run, and the stream took what is printed in the given turns and a front of what the
@@ -44,8 +45,12 @@ pub record IsExecuted (call : Call) (ran : Ran) (out errs : Stream) : Type 0 whe
   -- behind it.
   pub cause : ran.status ≢ PUT_FAILED → IsAnswered call ran errs.before errs.after
   -- When statuses come, where no put or fetch failed and memory wasn't wanting.
+  pub too_long : IsSettled call ran.status
+      → (ran.status ≡ TOO_LONG) ↔ ExecsTooLong call
   pub refused : IsSettled call ran.status
       → (ran.status ≡ LISTING_REFUSED) ↔ ExecsNoListing call
+  pub order_refused : IsSettled call ran.status
+      → (ran.status ≡ ORDER_REFUSED) ↔ ExecsBadOrder call
   pub done : IsSettled call ran.status
       → (ran.status ≡ DONE) ↔ RunsTo call (execution_of ran) IsDoneAt
   pub trap : IsSettled call ran.status

@@ -8,7 +8,7 @@ use Rattle.call_claims.specs.Call.{Call}
 use Rattle.call_claims.specs.Decided.{IsSettled}
 use Rattle.call_claims.specs.Execution.{Execution}
 use Rattle.call_claims.specs.declared.status.TheConstants.{DONE, USAGE, UNREADABLE, TOO_LONG, TRAPPED}
-use Rattle.call_claims.specs.declared.status.TheConstants.{TURN_LIMIT, PUT_FAILED, NO_MEMORY}
+use Rattle.call_claims.specs.declared.status.TheConstants.{TURN_LIMIT}
 use Rattle.exec_words.specs.Asked.{Asked, IsNoExec}
 use Rattle.exec_words.proofs.OneLemmas.{exec_is_one}
 use Rattle.grid_runs.specs.Run.{Run, GoesOnTo, IsLimitedAt}
@@ -22,20 +22,11 @@ use Rattle.exec_claims.specs.Cause.Cause.{usage, no_memory, exec}
 use Rattle.exec_claims.specs.Decided.{IsOrderText, HasRun, RunsTo, IsDoneAt, IsTrapAt}
 use Rattle.exec_claims.specs.Decided.{IsStuckOrIdleAt, HasNoListing, ExecsNoListing}
 use Rattle.exec_claims.specs.declared.status.TheConstants.{ORDER_REFUSED, LISTING_REFUSED, STUCK}
+use Rattle.exec_claims.proofs.RunStatus.{IsRunStatus, is_done, is_limit, is_stuck, is_trapped}
 use Rattle.exec_claims.proofs.OneCause.{cause_one, text_short, texts_same}
 use Rattle.grid_order.specs.Reading.{reading}
 use Rattle.grid_meaning.specs.Grid.{processors}
 use Rattle.std.specs.Prelude.{Ok}
-
--- a status that is that of how a run ended
-record IsRunStatus (n : ℕ) : Type 0 where
-  usage : n ≢ USAGE
-  unreadable : n ≢ UNREADABLE
-  too_long : n ≢ TOO_LONG
-  order : n ≢ ORDER_REFUSED
-  put : n ≢ PUT_FAILED
-  memory : n ≢ NO_MEMORY
-  listing : n ≢ LISTING_REFUSED
 
 -- ---- from the cause to how the run ended
 module _ (run : Run) (report : Bool) (k : ℕ) where
@@ -290,50 +281,6 @@ module _ (call : Call) (ex : Execution) (n : ℕ) (told : List ℕ) where
           one = settled.one;
         } in
         cause_one call ex n s told found.0 line table c (exec r.file r.asked r.given found.1) settled also
-
-    is_done : IsRunStatus DONE
-    is_done = record {
-      usage = λ h. omega arith;
-      unreadable = λ h. omega arith;
-      too_long = λ h. omega arith;
-      order = λ h. omega arith;
-      put = λ h. omega arith;
-      memory = λ h. omega arith;
-      listing = λ h. omega arith;
-    }
-
-    is_trapped : IsRunStatus TRAPPED
-    is_trapped = record {
-      usage = λ h. omega arith;
-      unreadable = λ h. omega arith;
-      too_long = λ h. omega arith;
-      order = λ h. omega arith;
-      put = λ h. omega arith;
-      memory = λ h. omega arith;
-      listing = λ h. omega arith;
-    }
-
-    is_limit : IsRunStatus TURN_LIMIT
-    is_limit = record {
-      usage = λ h. omega arith;
-      unreadable = λ h. omega arith;
-      too_long = λ h. omega arith;
-      order = λ h. omega arith;
-      put = λ h. omega arith;
-      memory = λ h. omega arith;
-      listing = λ h. omega arith;
-    }
-
-    is_stuck : IsRunStatus STUCK
-    is_stuck = record {
-      usage = λ h. omega arith;
-      unreadable = λ h. omega arith;
-      too_long = λ h. omega arith;
-      order = λ h. omega arith;
-      put = λ h. omega arith;
-      memory = λ h. omega arith;
-      listing = λ h. omega arith;
-    }
 
     pub done_exactly : Cause call ex n told → IsSettled call n → (n ≡ DONE) ↔ RunsTo call ex IsDoneAt
     done_exactly c settled =

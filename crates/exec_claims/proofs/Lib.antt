@@ -1,2 +1,4 @@
 pub mod Exact
 pub mod OneCause
+pub mod OrderExact
+pub mod RunStatus

@@ -1,5 +1,5 @@
 -- When each status comes.
-use Rattle.std.specs.Prelude.{◌≡◌, ◌⊎◌, ℕ, List, [], Option, Some, None, Ok}
+use Rattle.std.specs.Prelude.{◌≡◌, ◌≢◌, ◌⊎◌, ℕ, List, [], Option, Some, None, Ok, Err, ⊤}
 use Rattle.zpl_nums.specs.declared.ends.End.TheVariants.{Done, Trap}
 use Rattle.zpl_nums.specs.declared.ends.TrapKind.{TrapKind}
 use Rattle.node_form.specs.declared.tables.Tables.{Tables}
@@ -9,8 +9,9 @@ use Rattle.grid_order.specs.Reading.{reading}
 use Rattle.node_text.specs.Listing.{IsListing}
 use Rattle.call_claims.specs.Call.{Call}
 use Rattle.call_claims.specs.Execution.{Execution}
+use Rattle.call_claims.specs.declared.status.TheConstants.{UNREADABLE}
 use Rattle.exec_words.specs.Asked.{Asked, IsExec}
-use Rattle.exec_claims.specs.Cause.{Source, run_of}
+use Rattle.exec_claims.specs.Cause.{Source, IsTooLong, run_of}
 use Rattle.grid_runs.specs.Run.{Run, grid_at, GoesOnTo, IsStuckAt, IsIdleAt}
 
 -- The words run a listing, and this holds of its file and of what they ask for.
@@ -65,3 +66,39 @@ HasNoListing call file = (source : Source call file) × ((code : Tables) → ¬ 
 
 abbrev pub ExecsNoListing : Call → Type 0
 ExecsNoListing call = Execs call (λ file asked. HasNoListing call file)
+
+-- the file tells a text, not too long, that is a listing, and this holds of the listed code
+pub record HasListing (call : Call) (file : List ℕ) (Holds : Tables → Type 0) : Type 0 where
+  pub source : Source call file
+  pub code : Tables
+  pub listing : IsListing source.text code
+  pub holds : Holds code
+
+-- ---- the order
+-- where words name its file, no fetch failed, and the file tells at most one text
+abbrev pub IsOneOrder : Call → ℕ → Option (List ℕ) → Type 0
+IsOneOrder call status None = ⊤
+IsOneOrder call status (Some file) = (status ≢ UNREADABLE)
+    × ((text other : List ℕ) → call.tells file text → call.tells file other → text ≡ other)
+
+-- the text of its file is too long
+abbrev pub HasLongOrder : Call → Option (List ℕ) → Type 0
+HasLongOrder call None = ⊥
+HasLongOrder call (Some file) = IsTooLong call file
+
+-- 3: the words run a file that tells a text that is too long; or one with a listing, and the file of
+-- the order tells such a text
+abbrev pub ExecsTooLong : Call → Type 0
+ExecsTooLong call = Execs call (λ file asked. IsTooLong call file
+    ⊎ HasListing call file (λ code. HasLongOrder call asked.order))
+
+-- 6: an item of the order's text is wrong, for so many processors as the code has
+pub record HasBadOrder (call : Call) (asked : Asked) (code : Tables) : Type 0 where
+  pub text : List ℕ
+  pub order_text : IsOrderText call asked.order text
+  pub at : ℕ
+  pub bad : reading (processors code) text ≡ Err at
+
+-- the words run a file with a listing, and that is so
+abbrev pub ExecsBadOrder : Call → Type 0
+ExecsBadOrder call = Execs call (λ file asked. HasListing call file (HasBadOrder call asked))

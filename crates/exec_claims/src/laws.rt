@@ -3,20 +3,21 @@ ghost use Rattle.std.specs.Prelude.{◌≡◌, ◌↔◌, ℕ, List};
 ghost use Rattle.call_claims.specs.Call.{call_of};
 ghost use Rattle.call_claims.specs.Decided.{IsSettled};
 ghost use Rattle.call_claims.specs.Execution.{Execution};
-ghost use Rattle.call_claims.specs.declared.status.TheConstants.{DONE, USAGE};
+ghost use Rattle.call_claims.specs.declared.status.TheConstants.{DONE, TOO_LONG, USAGE};
 ghost use Rattle.call_claims.specs.declared.status.TheConstants.{TRAPPED, TURN_LIMIT};
 ghost use Rattle.exec_words.specs.Asked.{IsNoExec};
 ghost use Rattle.exec_claims.specs.Cause.{Cause};
-ghost use Rattle.exec_claims.specs.Decided.{ExecsNoListing, IsDoneAt, IsStuckOrIdleAt, IsTrapAt};
-ghost use Rattle.exec_claims.specs.Decided.{RunsTo};
+ghost use Rattle.exec_claims.specs.Decided.{ExecsNoListing, ExecsTooLong, ExecsBadOrder};
+ghost use Rattle.exec_claims.specs.Decided.{IsDoneAt, IsStuckOrIdleAt, IsTrapAt, RunsTo};
 ghost use Rattle.grid_runs.specs.Run.{IsLimitedAt};
-ghost use Rattle.exec_claims.specs.declared.status.TheConstants.{LISTING_REFUSED, STUCK};
+ghost use Rattle.exec_claims.specs.declared.status.TheConstants.{LISTING_REFUSED};
+ghost use Rattle.exec_claims.specs.declared.status.TheConstants.{ORDER_REFUSED, STUCK};
 
 use node_text::bytes_have_one_program;
 use zpl_io::Files;
 
-/// Of what was made and run in a call there is a cause of one status, where memory wasn't wanting, no
-/// put or fetch failed, and the files tell one text a name: each status comes just where its own
+/// Of what was made and run in a call there is a cause of one status, where memory wasn't wanting,
+/// no put or fetch failed, and the files tell one text a name: each status comes just where its own
 /// cause is.
 pub fn exec_causes_are_one<F: Files>()
     ensures { (files : F) (words : List (List ℕ)) (ran : Execution) (n m : ℕ)
@@ -33,6 +34,12 @@ pub fn exec_statuses_are_exact<F: Files>()
     ensures usage { (files : F) (words : List (List ℕ)) (ran : Execution) (n : ℕ) (told : List ℕ) →
         let call = call_of words (F.tells files) (F.may_fail files) in
         Cause call ran n told → IsSettled call n → (n ≡ USAGE) ↔ IsNoExec words }
+    ensures too_long { (files : F) (words : List (List ℕ)) (ran : Execution) (n : ℕ)
+        (told : List ℕ) → let call = call_of words (F.tells files) (F.may_fail files) in
+        Cause call ran n told → IsSettled call n → (n ≡ TOO_LONG) ↔ ExecsTooLong call }
+    ensures order { (files : F) (words : List (List ℕ)) (ran : Execution) (n : ℕ)
+        (told : List ℕ) → let call = call_of words (F.tells files) (F.may_fail files) in
+        Cause call ran n told → IsSettled call n → (n ≡ ORDER_REFUSED) ↔ ExecsBadOrder call }
     ensures listing { (files : F) (words : List (List ℕ)) (ran : Execution) (n : ℕ)
         (told : List ℕ) → let call = call_of words (F.tells files) (F.may_fail files) in
         Cause call ran n told → IsSettled call n →

@@ -1,8 +1,8 @@
-//! What a call of `exec` says: runs of listings under an order of turns, what is told of them, and the
-//! cause of each status.
+//! What a call of `exec` says: runs of listings under an order of turns, what is told of them, and
+//! the cause of each status.
 //!
-//! The definitions stand in `specs/`. The functions here do nothing: each has a law of the definitions
-//! as its contract.
+//! The definitions stand in `specs/`. The functions here do nothing: each has a law of the
+//! definitions as its contract.
 #![tactic(auto)]
 
 mod laws;

@@ -1,5 +1,6 @@
 //! The messages and turns of `flood`.
-ghost use Rattle.std.specs.Prelude.{◌≡◌, ◌<◌, ℕ, is_some, length, slice_get, Some, None, false, if◌then◌else◌};
+ghost use Rattle.std.specs.Prelude.{◌≡◌, ◌<◌, ℕ, is_some, length, slice_get, Some, None, false};
+ghost use Rattle.std.specs.Prelude.{if◌then◌else◌};
 ghost use Rattle.std.specs.Prelude.{IfOk, OnErr};
 ghost use Rattle.grid_meaning.specs.Delivery.{flood_targets, flooded};
 ghost use Rattle.grid_meaning.specs.Local.{processors};

@@ -10,10 +10,10 @@ ghost use Rattle.node_stages.specs.Slots.{at_slots};
 ghost use Rattle.node_stages.specs.Stage.{staged};
 
 use crate::pieces::flood_tuples;
-use delivery_stages::{MOST, delivery_stage};
+use delivery_stages::delivery_stage;
 use grid_layout::Layout;
 use node_form::NodeProgram;
-use node_stages::Stage;
+use node_stages::{MOST, Stage};
 use zpl_region::Region;
 
 /// Whether one processor has words for another.

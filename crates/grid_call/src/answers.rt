@@ -35,7 +35,7 @@ pub enum Answer<'a> {
     BadTable(u32),
     /// The item of the order at this byte is wrong.
     BadItem(u32),
-    /// The listed code was run; with the counts that are to be reported, if they are.
+    /// The code was run; with the counts that are to be reported, if they are.
     Stopped(Stop, Option<Counts>),
     /// A put failed.
     PutFailed,

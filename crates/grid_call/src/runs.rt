@@ -1,4 +1,4 @@
-//! Runs of listed code.
+//! Runs of code.
 ghost use Rattle.std.specs.Prelude.{◌≡◌, ◌+◌, ◌≤◌, ◌^◌, None, Some, IfErr, IfOk, length};
 ghost use Rattle.zpl_io.specs.Faults.{CountsFaults};
 ghost use Rattle.code_layout.specs.Room.{HasRoom};

@@ -11,7 +11,7 @@ use node_form::NodeProgram;
 pub struct Work<'a> {
     /// The answer.
     pub answer: Answer<'a>,
-    /// The listed code, where it was read.
+    /// The code that was handed in.
     pub code: Option<NodeProgram>,
     /// What its run counted.
     pub counts: Counts,

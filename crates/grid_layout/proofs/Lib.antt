@@ -10,3 +10,4 @@ pub mod HullLemmas
 pub mod BoxLemmas
 pub mod DimLemmas
 mod Examples
+pub mod OwnLemmas

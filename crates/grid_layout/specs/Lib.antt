@@ -1,5 +1,6 @@
 pub mod Block
 pub mod Grid
 pub mod Layout
+pub mod Own
 pub mod Piece
 pub mod Words

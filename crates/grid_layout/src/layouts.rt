@@ -14,6 +14,7 @@ ghost use Rattle.zpl_region.specs.Region.{IsRegion, members, moved};
 use crate::blocks::Blocks;
 use crate::boxes::ArrayBox;
 use crate::grids::Grid;
+use crate::own::{OwnBlocks, all_own};
 use std::alloc::Global;
 use std::marker::Model;
 use zpl_region::{Region, Vec3};
@@ -26,16 +27,18 @@ const STORAGE_LIMIT: u128 = 16_777_216;
 pub struct Layout {
     blocks: Blocks,
     boxes: Vec<ArrayBox>,
+    own: Vec<OwnBlocks>,
 }
 
 impl Model for Layout {
-    ghost use Rattle.grid_layout.specs.Layout.{Arrangement, IsLayout};
+    ghost use Rattle.grid_layout.specs.Layout.{Arrangement};
+    ghost use Rattle.grid_layout.specs.Own.{IsKept};
 
     ghost Value = { Arrangement };
 
     ghost view = { λ l. record { grid = l.blocks.grid; boxes = l.boxes.items } };
 
-    ghost invariant = { λ l. IsLayout l.blocks l.boxes.items };
+    ghost invariant = { λ l. IsKept l.blocks l.boxes.items l.own.items };
 }
 
 /// Why there is no layout.
@@ -43,7 +46,7 @@ impl Model for Layout {
 pub enum LayoutFault {
     /// The held boxes have more than 16,777,216 words, on all processors together.
     TooMuchStorage,
-    /// There is no memory for the list of arrays.
+    /// There is no memory for the list of arrays, or for that of own blocks.
     NoMemory,
 }
 
@@ -64,7 +67,10 @@ impl Layout {
         let Ok(boxes) = boxes.to_vec(alloc) else {
             return Err(LayoutFault::NoMemory);
         };
-        Ok(Layout { blocks, boxes })
+        let Ok(own) = all_own(alloc, &blocks) else {
+            return Err(LayoutFault::NoMemory);
+        };
+        Ok(Layout { blocks, boxes, own })
     }
 
     /// The blocks of the layout.
@@ -74,6 +80,7 @@ impl Layout {
         ensures boxes { All IsArrayBox self.now.boxes }
     {
         let _boxes = &self.boxes;
+        let _own = &self.own;
         &self.blocks
     }
 
@@ -92,6 +99,7 @@ impl Layout {
         ensures boxes { All IsArrayBox self.now.boxes }
     {
         let _blocks = &self.blocks;
+        let _own = &self.own;
         self.boxes[array as usize]
     }
 
@@ -116,7 +124,9 @@ impl Layout {
         ensures first_bounds { All (IsUpTo 41) result.0 }
         ensures last_bounds { All (IsUpTo 41) result.1 }
     {
-        self.blocks().own_block(rank, p)
+        let _blocks = &self.blocks;
+        let _boxes = &self.boxes;
+        self.own[p as usize].of_rank(rank)
     }
 
     /// The box of an array that a processor holds: its own block, widened by the fringe, within the

@@ -11,6 +11,7 @@ mod dims;
 mod grids;
 mod laws;
 mod layouts;
+mod own;
 
 pub use axes::Axis;
 pub use blocks::Blocks;

@@ -2,6 +2,8 @@ mod ArrayExamples
 mod Examples
 mod ExchangeExamples
 mod FoldExamples
+pub mod BoxLemmas
+pub mod FactorLemmas
 pub mod GridLemmas
 pub mod ScalarLemmas
 pub mod PartnerLemmas

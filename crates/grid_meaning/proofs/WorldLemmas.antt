@@ -99,7 +99,7 @@ factors_alike [] = refl
 factors_alike (zero ∷ grid) = refl
 factors_alike (suc n ∷ grid) = ap (λ rest. suc n ∷ rest) (factors_alike grid)
 
-fold-product : (numbers : List ℕ) (count : ℕ)
+pub fold-product : (numbers : List ℕ) (count : ℕ)
     → fold (λ so_far factor. so_far * factor) count numbers ≡ count * layout.product numbers
 fold-product [] count = omega arith
 fold-product (n ∷ numbers) count =

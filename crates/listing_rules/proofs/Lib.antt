@@ -1,6 +1,5 @@
 pub mod BlocksLemmas
 pub mod FactsLemmas
-pub mod GridLemmas
 pub mod GroupLemmas
 pub mod OneTables
 pub mod OneWay

@@ -1,28 +1,15 @@
 -- The words of held boxes, up to and with an array.
-use Rattle.std.specs.Prelude.{◌≡◌, ℕ, ◌+◌, ◌≤◌, ◌<◌, Bool, true, false, ℤ, pos, List, [], ◌∷◌, ◌++◌, length, drop, map, flat_map, sum_by}
-use Rattle.node_form.specs.declared.arrays.ArrayDim.{ArrayDim}
-use Rattle.node_form.specs.declared.arrays.ArrayDim.TheVariants.{Range, Star}
+use Rattle.std.specs.Prelude.{◌≡◌, ℕ, ◌+◌, ◌≤◌, ◌<◌, Bool, true, false, List, [], ◌∷◌, ◌++◌, length, drop, flat_map, sum_by}
 use Rattle.node_form.specs.declared.arrays.ArrayRow.{ArrayRow}
 use Rattle.node_form.specs.declared.tables.Tables.{Tables}
-use Rattle.node_form.specs.Fits.{storage_of}
 use Rattle.grid_layout.specs.declared.blocks.Blocks.{Blocks}
 use Rattle.grid_layout.specs.declared.boxes.ArrayBox.{ArrayBox}
 use Rattle.grid_layout.specs.Layout.{blocks_of}
 use Rattle.grid_layout.specs.Words.{box_words}
+use Rattle.grid_meaning.specs.Stored.{box_of}
 use Rattle.listing_lines.specs.declared.lines.Line.{Line}
 
-abbrev pub low_of : ArrayDim → ℤ
-low_of (Range lo hi low high) = low
-low_of Star = pos 0
-
-abbrev pub high_of : ArrayDim → ℤ
-high_of (Range lo hi low high) = high
-high_of Star = pos 0
-
--- a stored array, as it is laid out
-abbrev pub box_of : ArrayRow → ArrayBox
-box_of row = record { shape = storage_of row; low = map low_of row.dims; high = map high_of row.dims }
-
+-- the box of an array, if it is a stored one
 abbrev pub stored_box : Bool → ArrayRow → List ArrayBox
 stored_box true row = box_of row ∷ []
 stored_box false row = []

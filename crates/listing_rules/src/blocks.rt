@@ -38,7 +38,8 @@ fn read_group(
     ensures inside { IfOk result (λ found. found.1 ≤ length lines.now) }
     ensures on { IfOk result (λ found. from < found.1) }
     ensures err { IfErr result (FaultAt (NoBlock (line_of Keyword.Group []) (belongs Part.Members)
-        (IsMemberLine known.now.tables) (FitsGroup known.now.tables) (drop from lines.now)) lines.now) }
+        (IsMemberLine known.now.tables) (FitsGroup known.now.tables)
+        (drop from lines.now)) lines.now) }
 {
     if !is_heading(alloc, Keyword::Group, line)? {
         return Err(bad_table(from));

@@ -1,5 +1,6 @@
 //! Members of groups, as they are read.
-ghost use Rattle.std.specs.Prelude.{◌≡◌, ◌++◌, [], ◌∷◌, ℕ, ◌↔◌, Some, None, IfOk, IsTrue, MatchBool, map, reverse};
+ghost use Rattle.std.specs.Prelude.{◌≡◌, ◌++◌, [], ◌∷◌, ℕ, ◌↔◌, Some, None, IfOk, IsTrue};
+ghost use Rattle.std.specs.Prelude.{MatchBool, map, reverse};
 ghost use Rattle.node_form.specs.declared.members.Member.{Member as Row};
 ghost use Rattle.node_form.specs.declared.tables.Tables.{Tables as Code};
 ghost use Rattle.node_form.specs.Fits.{FitsGroup};

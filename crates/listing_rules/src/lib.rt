@@ -15,9 +15,7 @@ mod parts;
 mod reads;
 mod rooms;
 mod same;
-mod shapes;
 mod tables;
-mod words;
 
 pub use faults::ListFault;
 pub use laws::{lines_have_one_reading, told_tables_fit};

@@ -23,12 +23,13 @@ ghost use Rattle.listing_rules.specs.Rules.{
 use crate::facts::Known;
 use crate::found::{array_in, bytes_in, grid_in, instr_in, item_in, number_at, ranks_in, words_in};
 use crate::same::same_line;
-use crate::shapes::{fits_array, is_grid, is_rank};
 use listing_lines::{Keyword, Line};
 use listing_rows::{
     Said, array_line, expr_line, grid_line, instr_line, item_line, line_of, slots_line, text_line,
 };
-use node_form::{ArrayRow, ExprRow, Grid3, Instr, Item, Row, Rows, Slots, TextRow};
+use node_form::{
+    ArrayRow, ExprRow, Grid3, Instr, Item, Row, Rows, Slots, TextRow, fits_array, is_grid, is_rank,
+};
 use std::alloc::{AllocError, Global};
 
 /// Whether the line is the first one of each listing.
@@ -170,7 +171,7 @@ pub(crate) fn read_item(
 {
     let item = item_in(line.fields.as_slice());
     let written = item_line(alloc, &known.tables, &item)?;
-    if !known.fits_item(&item) || !same_line(line, &written) {
+    if !known.tables.fits_item(&item) || !same_line(line, &written) {
         return Ok(None);
     }
     Ok(Some(item))

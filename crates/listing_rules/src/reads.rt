@@ -1,5 +1,6 @@
 //! Lines that are rows, one after another.
-ghost use Rattle.std.specs.Prelude.{◌≡◌, ◌+◌, ◌^◌, ◌<◌, ◌≤◌, [], ◌∷◌, ◌++◌, OnOk, IfErr, IfOk, drop, length};
+ghost use Rattle.std.specs.Prelude.{◌≡◌, ◌+◌, ◌^◌, ◌<◌, ◌≤◌, [], ◌∷◌, ◌++◌, OnOk, IfErr, IfOk};
+ghost use Rattle.std.specs.Prelude.{drop, length};
 ghost use Rattle.listing_rules.specs.Facts.{AreMembers, Knows};
 ghost use Rattle.listing_rules.specs.Reads.{FaultAt, Reads, Stops};
 ghost use Rattle.listing_rules.specs.Rules.{
@@ -83,7 +84,8 @@ pub(crate) fn read_exprs(
     requires few { length lines.now + 1 < 2 ^ 32 }
     requires inside { from ≤ length lines.now }
     ensures ok { IfOk result (λ found. Reads (belongs Part.Exprs)
-        (λ done. IsExprLine known.now.tables) [] (drop from lines.now) found.0 (drop found.1 lines.now)) }
+        (λ done. IsExprLine known.now.tables) [] (drop from lines.now) found.0
+        (drop found.1 lines.now)) }
     ensures inside { IfOk result (λ found. found.1 ≤ length lines.now) }
     ensures err { IfErr result (FaultAt (Stops (belongs Part.Exprs)
         (λ done. IsExprLine known.now.tables) [] (drop from lines.now)) lines.now) }
@@ -110,7 +112,8 @@ pub(crate) fn read_items(
     requires few { length lines.now + 1 < 2 ^ 32 }
     requires inside { from ≤ length lines.now }
     ensures ok { IfOk result (λ found. Reads (belongs Part.Items)
-        (λ done. IsItemLine known.now.tables) [] (drop from lines.now) found.0.items (drop found.1 lines.now)) }
+        (λ done. IsItemLine known.now.tables) [] (drop from lines.now) found.0.items
+        (drop found.1 lines.now)) }
     ensures inside { IfOk result (λ found. found.1 ≤ length lines.now) }
     ensures on { IfOk result (λ found. from ≤ found.1) }
     ensures err { IfErr result (FaultAt (Stops (belongs Part.Items)
@@ -148,7 +151,8 @@ pub(crate) fn read_instrs(
     requires few { length lines.now + 1 < 2 ^ 32 }
     requires inside { from ≤ length lines.now }
     ensures ok { IfOk result (λ found. Reads (belongs Part.Instructions)
-        (λ done. IsInstrLine known.now.tables count) [] (drop from lines.now) found.0 (drop found.1 lines.now)) }
+        (λ done. IsInstrLine known.now.tables count) [] (drop from lines.now) found.0
+        (drop found.1 lines.now)) }
     ensures inside { IfOk result (λ found. found.1 ≤ length lines.now) }
     ensures err { IfErr result (FaultAt (Stops (belongs Part.Instructions)
         (λ done. IsInstrLine known.now.tables count) [] (drop from lines.now)) lines.now) }

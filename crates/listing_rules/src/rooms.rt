@@ -1,7 +1,9 @@
 //! The words of the arrays' held boxes.
-ghost use Rattle.std.specs.Prelude.{◌≡◌, ◌+◌, ◌≤◌, ◌<◌, ◌^◌, All, IfErr, IfOk, OnOk, length, min, sum_by, ◌++◌, ◌-◌};
+ghost use Rattle.std.specs.Prelude.{◌≡◌, ◌+◌, ◌≤◌, ◌<◌, ◌^◌, All, IfErr, IfOk, OnOk, length, min};
+ghost use Rattle.std.specs.Prelude.{sum_by, ◌++◌, ◌-◌};
 ghost use Rattle.grid_layout.specs.Layout.{AreBlocks};
 ghost use Rattle.grid_layout.specs.Words.{box_words};
+ghost use Rattle.grid_meaning.specs.Stored.{box_of, width_above, width_below};
 ghost use Rattle.node_form.specs.Fits.{FitsArray};
 ghost use Rattle.node_form.specs.Grid.{IsGrid, factors_of};
 ghost use Rattle.listing_rules.specs.Reads.{FaultAt};
@@ -10,26 +12,23 @@ ghost use Rattle.listing_rules.specs.Room.{
   HasThree,
   LacksRoom,
   blocks_for,
-  box_of,
   boxes_of,
-  high_of,
-  low_of,
   stored_box,
 };
 
 use crate::faults::{ListFault, bad_table};
-use crate::shapes::storage_dim;
 use grid_layout::{ArrayBox, Blocks, Grid};
 use listing_lines::Line;
-use node_form::{ArrayDim, ArrayRow, Grid3, Rows, Tables};
+use node_form::{ArrayDim, ArrayRow, Grid3, Rows, Tables, storage_dim};
 use std::alloc::{AllocError, Global};
 use zpl_region::Region;
 
 /// The most words that held boxes may have, on all processors together.
 const STORAGE_LIMIT: u128 = 16_777_216;
 
+/// How far below its own block a processor holds a dimension.
 fn low_of(dim: ArrayDim) -> i64
-    ensures { result ≡ low_of dim }
+    ensures { result ≡ width_below dim }
 {
     match dim {
         ArrayDim::Range { low, .. } => low,
@@ -37,8 +36,9 @@ fn low_of(dim: ArrayDim) -> i64
     }
 }
 
+/// And how far above.
 fn high_of(dim: ArrayDim) -> i64
-    ensures { result ≡ high_of dim }
+    ensures { result ≡ width_above dim }
 {
     match dim {
         ArrayDim::Range { high, .. } => high,
@@ -147,7 +147,8 @@ fn words_of(blocks: &Blocks, row: &ArrayRow) -> u128
     requires blocks { AreBlocks blocks.now }
     requires row { FitsArray row.now }
     requires three { HasThree row.now }
-    ensures { result ≡ min (sum_by (box_words blocks.now) (stored_box row.now.stored row.now)) (2 ^ 128 - 1) }
+    ensures { result ≡ min (sum_by (box_words blocks.now) (stored_box row.now.stored row.now))
+        (2 ^ 128 - 1) }
 {
     if row.stored {
         blocks.words(&box_of(row))

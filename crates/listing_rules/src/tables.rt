@@ -90,7 +90,8 @@ fn known_of(alloc: Global, tables: Tables) -> Result<Known, AllocError>
 /// And the groups and the exchanges.
 fn read_bodies(alloc: Global, lines: &[Line]) -> Result<(Known, usize), ListFault>
     requires { length lines.now + 1 < 2 ^ 32 }
-    ensures ok { IfOk result (λ found. ReadExchanges lines.now found.0.tables (drop found.1 lines.now)) }
+    ensures ok { IfOk result (λ found. ReadExchanges lines.now found.0.tables
+        (drop found.1 lines.now)) }
     ensures knows { IfOk result (λ found. Knows found.0) }
     ensures inside { IfOk result (λ found. found.1 ≤ length lines.now) }
     ensures err { IfErr result (FaultAt (Breaks lines.now) lines.now) }

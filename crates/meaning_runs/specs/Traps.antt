@@ -51,7 +51,7 @@ pub data TestTraps (runner : Runner) : ℕ → Form → Store → TrapKind → �
 -- ---- a statement without its prefixes
 
 -- It has no other statement in it, and calls nothing. A border statement of several names is one
--- statement here; the store at its later names is told nowhere.
+-- statement here; the store at its later names is told by no law here.
 abbrev pub IsAlone : Context → Form → Type 0
 IsAlone context (Assign name op value) = HasNoCall op value
 IsAlone context (Write line items) = Unit {0}

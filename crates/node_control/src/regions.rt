@@ -5,33 +5,17 @@ ghost use Rattle.grid_meaning.specs.State.{IsSlot};
 ghost use Rattle.grid_meaning.specs.Turn.{registers_of};
 ghost use Rattle.node_control.specs.Moving.{MovesBy};
 ghost use Rattle.node_form.specs.Control.{conforms, formed_by, with_slot};
-ghost use Rattle.node_form.specs.Fits.{storage_dim, storage_of};
+ghost use Rattle.node_form.specs.Fits.{storage_of};
 ghost use Rattle.zpl_region.specs.declared.regions.Region.{Region as Tuples};
 ghost use Rattle.zpl_region.specs.Dim.{HasStep};
 ghost use Rattle.zpl_region.specs.Region.{IsRegion, IsWithinLimit};
 
 use crate::moves::{go_on, trap};
-use node_form::{ArrayDim, ArrayRow, NodeProgram, RegionForm, SameKind};
+use node_form::{ArrayRow, NodeProgram, RegionForm, SameKind, storage_dim};
 use node_local::Local;
 use zpl_arrays::{flood_conforms, reduction_conforms};
 use zpl_nums::TrapKind;
-use zpl_region::{Dim, Region, RegionLimit, Vec3};
-
-fn storage_dim(dim: ArrayDim) -> Dim
-    ensures { result ≡ storage_dim dim }
-{
-    match dim {
-        ArrayDim::Range { lo, hi, .. } => {
-            Dim::Range {
-                lo,
-                hi,
-                step: 1,
-                align: lo,
-            }
-        }
-        ArrayDim::Star => Dim::Flood,
-    }
-}
+use zpl_region::{Region, RegionLimit, Vec3};
 
 /// The places that an array has.
 pub(crate) fn storage_of(row: &ArrayRow) -> Region

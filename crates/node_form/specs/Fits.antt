@@ -249,10 +249,26 @@ FitsAt tables rank (instr.Remap array slot from parts) =
     HasSlot tables rank slot × HasArray tables rank array × IsTemporary tables array
     × IsSomeAnd (slice_get tables.arrays from) (FitsRemap tables rank array parts)
 
+-- the same of a row whose rule looks into no expression, no group, and not at the number of
+-- instructions. Of a row whose rule does nothing is asked
+abbrev pub FitsPlain : Tables → ℕ → Instr → Type 0
+FitsPlain tables rank (instr.Set scalar expr line) = Unit {0}
+FitsPlain tables rank (instr.Dims slot parts line) = Unit {0}
+FitsPlain tables rank (instr.Loop slot group) = Unit {0}
+FitsPlain tables rank (instr.Number expr) = Unit {0}
+FitsPlain tables rank (instr.Truth expr) = Unit {0}
+FitsPlain tables rank (instr.Jump goal) = Unit {0}
+FitsPlain tables rank (instr.Unless expr goal line) = Unit {0}
+FitsPlain tables rank row = FitsAt tables rank row
+
 -- there is such a rank. A row without slots has no rank, and fits at each or at none
 pub record FitsInstr (tables : Tables) (row : Instr) : Type 0 where
   pub rank : ℕ
   pub fit : FitsAt tables rank row
+
+-- the tables, with another code
+abbrev pub recoded : Tables → List Instr → Tables
+recoded tables code = record tables { code = code }
 
 -- ---- tables
 -- the tables fit. That a number of scalars or cells and a line are below 2 ^ 32 needs no rule: they

@@ -1,6 +1,7 @@
 //! Whether tables fit.
-ghost use Rattle.std.specs.Prelude.{◌≡◌, ◌≤◌, ◌*◌, ◌↔◌, IsTrue, All, slice_get};
+ghost use Rattle.std.specs.Prelude.{◌≡◌, ◌≤◌, ◌*◌, ◌↔◌, IsTrue, All, List, slice_get};
 ghost use Rattle.std.specs.Option.{IfSome, IsSomeAnd};
+ghost use Rattle.node_form.specs.declared.instructions.Instr.{Instr as Step};
 ghost use Rattle.node_form.specs.Expression.{IsExpression, operands_of};
 ghost use Rattle.node_form.specs.Fits.{
   Fits,
@@ -13,6 +14,7 @@ ghost use Rattle.node_form.specs.Fits.{
   FitsItem,
   FitsMember,
   FitsPart,
+  FitsPlain,
   FitsRemap,
   FitsWord,
   FitParts,
@@ -27,6 +29,7 @@ ghost use Rattle.node_form.specs.Fits.{
   IsStar,
   IsStored,
   IsTemporary,
+  recoded,
 };
 ghost use Rattle.node_form.specs.Grid.{IsGrid};
 
@@ -109,7 +112,8 @@ impl Tables {
 
     // ---- what is in its table
 
-    fn has_slot(&self, rank: u8, slot: u32) -> bool
+    /// Whether the slot is there, and is for regions of this rank.
+    pub fn has_slot(&self, rank: u8, slot: u32) -> bool
         ensures { IsTrue result ↔ HasSlot self.now rank slot }
     {
         match self.slots.get(u64::from(slot)) {
@@ -118,7 +122,8 @@ impl Tables {
         }
     }
 
-    fn has_array(&self, rank: u8, array: u32) -> bool
+    /// Whether the array is there, and has this rank.
+    pub fn has_array(&self, rank: u8, array: u32) -> bool
         ensures { IsTrue result ↔ HasArray self.now rank array }
     {
         match self.arrays.get(u64::from(array)) {
@@ -127,7 +132,8 @@ impl Tables {
         }
     }
 
-    fn is_stored(&self, array: u32) -> bool
+    /// Whether the array is there, and is a stored one.
+    pub fn is_stored(&self, array: u32) -> bool
         ensures { IsTrue result ↔ IsStored self.now array }
     {
         match self.arrays.get(u64::from(array)) {
@@ -136,7 +142,8 @@ impl Tables {
         }
     }
 
-    fn is_temporary(&self, array: u32) -> bool
+    /// Whether the array is there, and is a temporary.
+    pub fn is_temporary(&self, array: u32) -> bool
         ensures { IsTrue result ↔ IsTemporary self.now array }
     {
         match self.arrays.get(u64::from(array)) {
@@ -154,7 +161,8 @@ impl Tables {
             && (self.words_fit(1, words) || self.words_fit(2, words) || self.words_fit(3, words))
     }
 
-    fn words_fit(&self, rank: u8, words: &[ExprOp]) -> bool
+    /// Whether each word fits at this rank.
+    pub fn words_fit(&self, rank: u8, words: &[ExprOp]) -> bool
         ensures { IsTrue result ↔ All (FitsWord self.now rank) words.now }
     {
         words.iter().all(|word| self.fits_word(rank, word))
@@ -186,7 +194,7 @@ impl Tables {
         ensures { IsTrue result ↔ HasScalarExpr self.now expr }
     {
         match self.exprs.get(u64::from(expr)) {
-            Some(words) => words.as_slice().iter().all(is_scalar_word),
+            Some(words) => are_scalar(words.as_slice()),
             None => false,
         }
     }
@@ -268,7 +276,8 @@ impl Tables {
         items.iter().all(|item| self.fits_item(item))
     }
 
-    fn fits_item(&self, item: &Item) -> bool
+    /// Whether the item names a stored array, a slot and a vector of one rank.
+    pub fn fits_item(&self, item: &Item) -> bool
         ensures { IsTrue result ↔ FitsItem self.now item.now }
     {
         match self.slots.get(u64::from(item.slot)) {
@@ -289,9 +298,12 @@ impl Tables {
         self.fits_at(self.rank_of(instr), instr)
     }
 
-    /// The rank of the slot over whose regions the row works, or 0 where there is none.
-    fn rank_of(&self, instr: &Instr) -> u8
-        ensures { FitsInstr self.now instr.now → FitsAt self.now result instr.now }
+    /// The rank of the slot over whose regions the row works, or 0 where there is none. It is the
+    /// one at which the row fits these tables, or these with another code, if it fits them at all.
+    pub fn rank_of(&self, instr: &Instr) -> u8
+        ensures here { FitsInstr self.now instr.now → FitsAt self.now result instr.now }
+        ensures elsewhere { (code : List Step) → FitsInstr (recoded self.now code) instr.now →
+            FitsAt (recoded self.now code) result instr.now }
     {
         match *instr {
             Instr::Fix { slot, .. }
@@ -317,11 +329,29 @@ impl Tables {
     {
         match *instr {
             Instr::Set { scalar, expr, .. } => scalar < self.scalars && self.has_scalar_expr(expr),
-            Instr::Fix { slot, region } => {
-                self.has_slot(rank, slot) && fits_region(&region) && region.rank == rank
-            }
             Instr::Dims { slot, parts, .. } => {
                 self.has_slot(rank, slot) && self.parts_fit(rank, &parts)
+            }
+            Instr::Loop { slot, group } => {
+                self.has_slot(rank, slot) && self.has_group(rank, group)
+            }
+            Instr::Number { expr } | Instr::Truth { expr } => self.has_scalar_expr(expr),
+            Instr::Jump { goal } => u64::from(goal) <= self.code.len(),
+            Instr::Unless { expr, goal, .. } => {
+                self.has_scalar_expr(expr) && u64::from(goal) <= self.code.len()
+            }
+            _ => self.fits_plain(rank, instr),
+        }
+    }
+
+    /// Whether the row fits at this rank, if its rule looks into no expression, no group and not at
+    /// the number of instructions. Of a row whose rule does, nothing is asked.
+    pub fn fits_plain(&self, rank: u8, instr: &Instr) -> bool
+        ensures { IsTrue result ↔ FitsPlain self.now rank instr.now }
+    {
+        match *instr {
+            Instr::Fix { slot, region } => {
+                self.has_slot(rank, slot) && fits_region(&region) && region.rank == rank
             }
             Instr::Formed {
                 slot,
@@ -350,9 +380,6 @@ impl Tables {
                 self.has_slot(rank, slot) && self.has_array(rank, array) && self.is_temporary(array)
             }
             Instr::Clear { array } => self.is_stored(array),
-            Instr::Loop { slot, group } => {
-                self.has_slot(rank, slot) && self.has_group(rank, group)
-            }
             Instr::Start { exchange } | Instr::Finish { exchange } => {
                 u64::from(exchange) < self.exchanges.len()
             }
@@ -401,15 +428,9 @@ impl Tables {
             }
             Instr::Fold { scalar, .. } | Instr::TreeFold { scalar, .. } => scalar < self.scalars,
             Instr::Print { text } => u64::from(text) < self.texts.len(),
-            Instr::Number { expr } | Instr::Truth { expr } => self.has_scalar_expr(expr),
             Instr::Gather { array, slot, .. } => {
                 self.has_slot(rank, slot) && self.has_array(rank, array)
             }
-            Instr::Jump { goal } => u64::from(goal) <= self.code.len(),
-            Instr::Unless { expr, goal, .. } => {
-                self.has_scalar_expr(expr) && u64::from(goal) <= self.code.len()
-            }
-            Instr::Trap { .. } | Instr::End => true,
             Instr::Remap {
                 array,
                 slot,
@@ -421,6 +442,15 @@ impl Tables {
                     && self.is_temporary(array)
                     && self.fits_remap(rank, array, from, &parts)
             }
+            Instr::Set { .. }
+            | Instr::Dims { .. }
+            | Instr::Loop { .. }
+            | Instr::Number { .. }
+            | Instr::Truth { .. }
+            | Instr::Jump { .. }
+            | Instr::Unless { .. }
+            | Instr::Trap { .. }
+            | Instr::End => true,
         }
     }
 
@@ -452,9 +482,10 @@ impl Tables {
 
     /// Whether a stored array without flood dimension is read, by as many temporaries of the rank
     /// as it has dimensions, none of which is the target.
-    fn fits_remap(&self, rank: u8, target: u32, from: u32, parts: &[Option<u32>; 3]) -> bool
+    pub fn fits_remap(&self, rank: u8, target: u32, from: u32, parts: &[Option<u32>; 3]) -> bool
         ensures { IsTrue result
-            ↔ IsSomeAnd (slice_get self.now.arrays from) (FitsRemap self.now rank target parts.now) }
+            ↔ IsSomeAnd (slice_get self.now.arrays from)
+            (FitsRemap self.now rank target parts.now) }
     {
         let Some(row) = self.arrays.get(u64::from(from)) else {
             return false;
@@ -480,7 +511,8 @@ impl Tables {
     }
 }
 
-fn is_star(part: &DimRow) -> bool
+/// Whether the dimension of a region is a star.
+pub fn is_star(part: &DimRow) -> bool
     ensures { IsTrue result ↔ IsStar part.now }
 {
     matches!(part, DimRow::Star)
@@ -501,8 +533,15 @@ fn is_scalar_word(word: &ExprOp) -> bool
     }
 }
 
+/// Whether each word has a value where there is no index.
+pub fn are_scalar(words: &[ExprOp]) -> bool
+    ensures { IsTrue result ↔ All IsScalarWord words.now }
+{
+    words.iter().all(is_scalar_word)
+}
+
 /// Whether each operator finds its operands on the stack, and one value is left.
-fn is_expression(words: &[ExprOp]) -> bool
+pub fn is_expression(words: &[ExprOp]) -> bool
     ensures { IsTrue result ↔ IsExpression words.now }
 {
     let mut depth: usize = 0;
@@ -534,7 +573,7 @@ fn operands_of(word: ExprOp) -> usize
 
 /// Whether the factors stand in front, at least one, with only 0 behind them, for at most 64
 /// processors.
-fn is_grid(grid: &Grid3) -> bool
+pub fn is_grid(grid: &Grid3) -> bool
     ensures { IsTrue result ↔ IsGrid grid.now }
 {
     let [first, second, third] = *grid;

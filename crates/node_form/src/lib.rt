@@ -19,6 +19,7 @@ mod touches;
 mod words;
 
 pub use arrays::{ArrayDim, ArrayRow, ExchangeRow, Item};
+pub use fits::{are_scalar, is_expression, is_grid, is_star};
 pub use instructions::{DimRow, Instr, RegionForm, SameKind};
 pub use laws::{
     expressions_have_three_outcomes, expressions_leave_one_value, growth_keeps_fit,
@@ -28,6 +29,7 @@ pub use laws::{
 pub use members::{GroupRow, Member};
 pub use program::NodeProgram;
 pub use rows::{Row, Rows};
+pub use shapes::{fits_array, is_rank, storage_dim};
 pub use tables::{Arrays, Code, Exchanges, Exprs, Grid3, Groups, Slots, Tables, Texts};
 pub use touches::{Thing, Touch};
 pub use words::{ExprOp, ExprRow, TextRow};

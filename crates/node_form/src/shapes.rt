@@ -21,7 +21,8 @@ use zpl_region::{Dim, Region, Vec3};
 /// The greatest size of a vector's component and of a fringe width.
 const MAX_SIZE: i64 = 2_147_483_648;
 
-pub(crate) fn is_rank(rank: u8) -> bool
+/// Whether it is 1, 2 or 3.
+pub fn is_rank(rank: u8) -> bool
     ensures { IsTrue result ↔ IsRank rank }
 {
     1 <= rank && rank <= 3
@@ -76,7 +77,9 @@ fn is_padding(dim: &Dim) -> bool
     }
 }
 
-pub(crate) fn fits_array(row: &ArrayRow) -> bool
+/// Whether the array is as a row may have it: its storage and its fringes are within their limits,
+/// and past the rank, and in each range of a temporary, stand zeros.
+pub fn fits_array(row: &ArrayRow) -> bool
     ensures { IsTrue result ↔ FitsArray row.now }
 {
     if !is_rank(row.rank) || !row.dims[usize::from(row.rank)..].iter().all(is_unused) {
@@ -100,7 +103,8 @@ fn has_storage(row: &ArrayRow) -> bool
     Region::new(row.rank, dims).is_ok()
 }
 
-fn storage_dim(dim: ArrayDim) -> Dim
+/// The dimension of the region of an array's places.
+pub fn storage_dim(dim: ArrayDim) -> Dim
     ensures { result ≡ storage_dim dim }
 {
     match dim {

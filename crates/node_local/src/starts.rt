@@ -6,14 +6,14 @@ ghost use Rattle.grid_layout.specs.Grid.{processors_of};
 ghost use Rattle.grid_layout.specs.Layout.{HasWideBounds, IsArrayBox, laid_out};
 ghost use Rattle.grid_meaning.specs.Local.{processors, start_places};
 ghost use Rattle.grid_meaning.specs.Stored.{arrangement_of, box_of, no_places};
-ghost use Rattle.node_form.specs.Fits.{Fits, storage_dim};
+ghost use Rattle.node_form.specs.Fits.{Fits};
 ghost use Rattle.grid_meaning.specs.Stored.{width_above, width_below};
 ghost use Rattle.node_local.specs.Standing.{array_in};
 
 use crate::standings::Store;
 use crate::stores::FlatStore;
 use grid_layout::{ArrayBox, Layout};
-use node_form::{ArrayDim, ArrayRow, Tables, rows_fit};
+use node_form::{ArrayDim, ArrayRow, Tables, rows_fit, storage_dim};
 use std::alloc::{AllocError, Global};
 use zpl_region::{Dim, Region};
 
@@ -82,15 +82,6 @@ pub(crate) fn start_slots(alloc: Global, code: &Tables) -> Result<Vec<Region>, A
         slots.push(no_places(*code.slots.get(i).unwrap()))?;
     }
     Ok(slots)
-}
-
-fn storage_dim(dim: ArrayDim) -> Dim
-    ensures { result ≡ storage_dim dim }
-{
-    match dim {
-        ArrayDim::Range { lo, hi, .. } => all_from(lo, hi),
-        ArrayDim::Star => Dim::Flood,
-    }
 }
 
 /// How far beyond its own block a processor holds a dimension.

@@ -36,13 +36,20 @@ fn numbers_of(dim: Dim) -> Option<Line>
     }
 }
 
-/// How often a number goes into another, and what is left; there is no division by 1.
+/// How often a number goes into another, and what is left; there is no division by 1, nor of a
+/// lesser number.
 fn digits(i: u64, n: u64) -> (u64, u64)
     requires { 1 ≤ n }
     ensures often { result.0 ≡ i / n }
     ensures left { result.1 ≡ i % n }
 {
-    if n == 1 { (i, 0) } else { (i / n, i % n) }
+    if i < n {
+        (0, i)
+    } else if n == 1 {
+        (i, 0)
+    } else {
+        (i / n, i % n)
+    }
 }
 
 /// The tuple at a place of a region with these coordinates.

@@ -18,4 +18,5 @@ pub use edges::{edge_piece, edge_stage};
 pub use exchanges::{finish_stage, item_piece, start_stage};
 pub use gathers::{gather_stage, own_tuples};
 pub use kin::Kin;
+pub use partners::{MOST, Place, nth, taking_stage};
 pub use stages::Stage;

@@ -7,11 +7,11 @@ ghost use Rattle.node_stages.specs.Stage.{staged};
 use crate::stages::Stage;
 
 /// The most processors that a grid has.
-pub(crate) const MOST: usize = 64;
+pub const MOST: usize = 64;
 
 /// A processor by its place among those whose flags are set.
 #[derive(Clone, Copy)]
-pub(crate) enum Place {
+pub enum Place {
     /// That processor.
     There(u32),
     /// There are fewer, and the place lies so far behind the last of them.
@@ -19,7 +19,7 @@ pub(crate) enum Place {
 }
 
 /// The processor at a place among those whose flags are set, of so many processors.
-pub(crate) fn nth(flags: &[bool; MOST], count: u32, place: u64) -> Place
+pub fn nth(flags: &[bool; MOST], count: u32, place: u64) -> Place
     requires { count ≤ 64 }
     ensures { IsNth (flagged flags.now count) place result }
 {
@@ -36,7 +36,7 @@ pub(crate) fn nth(flags: &[bool; MOST], count: u32, place: u64) -> Place
 }
 
 /// The stage at a place of a row that takes a message from each of those whose flags are set.
-pub(crate) fn taking_stage(takes: &[bool; MOST], count: u32, place: u64) -> Stage
+pub fn taking_stage(takes: &[bool; MOST], count: u32, place: u64) -> Stage
     requires few { count ≤ 64 }
     requires there { place < length (taking (flagged takes.now count)) }
     ensures { slice_get (taking (flagged takes.now count)) place ≡ Some (staged result) }

@@ -1,5 +1,6 @@
 //! The messages and turns of `part`.
-ghost use Rattle.std.specs.Prelude.{◌≡◌, ◌<◌, ℕ, is_some, length, slice_get, Some, None, false, if◌then◌else◌};
+ghost use Rattle.std.specs.Prelude.{◌≡◌, ◌<◌, ℕ, is_some, length, slice_get, Some, None, false};
+ghost use Rattle.std.specs.Prelude.{if◌then◌else◌};
 ghost use Rattle.std.specs.Prelude.{IfOk, OnErr};
 ghost use Rattle.grid_meaning.specs.Delivery.{part_targets, parted};
 ghost use Rattle.grid_meaning.specs.Local.{processors};

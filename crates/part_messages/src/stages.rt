@@ -11,10 +11,10 @@ ghost use Rattle.node_stages.specs.Stage.{staged};
 ghost use Rattle.zpl_nums.specs.declared.folds.Fold.TheVariants.{Sum};
 
 use crate::walks::Walk;
-use delivery_stages::{MOST, delivery_stage};
+use delivery_stages::delivery_stage;
 use grid_layout::Layout;
 use node_form::NodeProgram;
-use node_stages::Stage;
+use node_stages::{MOST, Stage};
 use zpl_region::Region;
 
 /// Whether one processor has words for another.

@@ -1,5 +1,6 @@
 //! Walks over the tuples of a target that a block of the source reaches.
-ghost use Rattle.std.specs.Prelude.{◌≡◌, ◌≤◌, ◌<◌, ℕ, ℤ, List, [], ◌∷◌, Some, filter, length, drop, slice_get};
+ghost use Rattle.std.specs.Prelude.{◌≡◌, ◌≤◌, ◌<◌, ℕ, ℤ, List, [], ◌∷◌, Some, filter, length, drop};
+ghost use Rattle.std.specs.Prelude.{slice_get};
 ghost use Rattle.grid_meaning.specs.Delivery.{part_targets};
 ghost use Rattle.grid_meaning.specs.Local.{processors};
 ghost use Rattle.grid_meaning.specs.Owner.{tuples_of};
@@ -9,7 +10,8 @@ ghost use Rattle.reduce_plan.specs.Partial.{is_reached};
 ghost use Rattle.zpl_region.specs.Dim.{IsDim};
 ghost use Rattle.zpl_region.specs.Region.{IsRegion, members};
 ghost use Rattle.part_messages.specs.Meeting.{each_meets, may_meet};
-ghost use Rattle.part_messages.specs.Walking.{IsAhead, IsOn, IsWalk, takes_in, tuples_from, tuples_on};
+ghost use Rattle.part_messages.specs.Walking.{IsAhead, IsOn, IsWalk, takes_in, tuples_from};
+ghost use Rattle.part_messages.specs.Walking.{tuples_on};
 
 use crate::blocks::own_part;
 use crate::reaches::{all_from, is_collapsed, is_reached};

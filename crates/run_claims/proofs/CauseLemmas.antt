@@ -21,65 +21,18 @@ use Rattle.exec_claims.specs.Cause.{OrderCause, OrderFileCause, RunCause, run_of
 use Rattle.exec_claims.specs.Cause.RunCause.{done, trap, turn_limit, stuck, idle}
 use Rattle.exec_claims.specs.Cause.OrderCause.{bad_item, ran}
 use Rattle.exec_claims.specs.Cause.TextCause.{unreadable as order_unreadable, too_long as order_long, work as of_order}
-use Rattle.exec_claims.specs.Decided.{IsDoneAt, IsOrderText, IsTrapAt}
+use Rattle.exec_claims.specs.Decided.{HasBadOrder, HasLongOrder, IsDoneAt, IsOneOrder, IsOrderText}
+use Rattle.exec_claims.specs.Decided.{IsTrapAt}
 use Rattle.exec_claims.specs.declared.status.TheConstants.{ORDER_REFUSED, STUCK}
 use Rattle.exec_claims.proofs.Exact.{order_file_cause, order_file_run, run_done, run_limit}
 use Rattle.exec_claims.proofs.Exact.{run_stuck, run_trap, told_done, told_limit, told_trap}
-use Rattle.exec_claims.proofs.OneCause.{IsOneFile, not_long, order_file_one, read_one, same_text}
+use Rattle.exec_claims.proofs.RunStatus.{IsRunStatus, is_done, is_limit, is_stuck, is_trapped}
+use Rattle.exec_claims.proofs.OneCause.{IsOneFile, order_file_one}
+use Rattle.exec_claims.proofs.OrderExact.{bad_order_file, long_order, was_bad_order, was_long_order}
 use Rattle.run_claims.specs.Cause.{Cause, RunFileCause, Runs}
 use Rattle.run_claims.specs.Cause.Cause.{no_memory, run}
-use Rattle.run_claims.specs.Decided.{HasBadOrder, HasCodeOf, HasLongFile, HasLongOrder, IsCutShort}
-use Rattle.run_claims.specs.Decided.{IsExact, IsOneOrder, IsUnder}
+use Rattle.run_claims.specs.Decided.{HasCodeOf, HasLongFile, IsCutShort, IsExact, IsUnder}
 use Rattle.run_claims.proofs.CodeLemmas.{Laws, never_idle, never_stuck, too_few}
-
--- ---- statuses of how a run ended
-record IsRunStatus (n : ℕ) : Type 0 where
-  unreadable : n ≢ UNREADABLE
-  too_long : n ≢ TOO_LONG
-  order : n ≢ ORDER_REFUSED
-  refused : n ≢ REFUSED
-  unbound : n ≢ UNBOUND
-  memory : n ≢ NO_MEMORY
-
-is_done : IsRunStatus DONE
-is_done = record {
-  unreadable = λ h. omega arith;
-  too_long = λ h. omega arith;
-  order = λ h. omega arith;
-  refused = λ h. omega arith;
-  unbound = λ h. omega arith;
-  memory = λ h. omega arith;
-}
-
-is_trapped : IsRunStatus TRAPPED
-is_trapped = record {
-  unreadable = λ h. omega arith;
-  too_long = λ h. omega arith;
-  order = λ h. omega arith;
-  refused = λ h. omega arith;
-  unbound = λ h. omega arith;
-  memory = λ h. omega arith;
-}
-
-is_limit : IsRunStatus TURN_LIMIT
-is_limit = record {
-  unreadable = λ h. omega arith;
-  too_long = λ h. omega arith;
-  order = λ h. omega arith;
-  refused = λ h. omega arith;
-  unbound = λ h. omega arith;
-  memory = λ h. omega arith;
-}
-
-is_stuck : IsRunStatus STUCK
-is_stuck = record {
-  unreadable = λ h. omega arith;
-  too_long = λ h. omega arith;
-  order = λ h. omega arith;
-  refused = λ h. omega arith;
-  unbound = λ h. omega arith;
-  memory = λ h. omega arith;
-}
 
 -- ---- statuses of orders and of runs
 record IsLater (n : ℕ) : Type 0 where
@@ -87,84 +40,33 @@ record IsLater (n : ℕ) : Type 0 where
   unbound : n ≢ UNBOUND
 
 run_later : {a : Run} {report : Bool} {k n : ℕ} {told : List ℕ} → RunCause a report k n told
-    → IsLater n × (n ≢ TOO_LONG) × (n ≢ ORDER_REFUSED)
+    → IsLater n
 run_later (done e) =
-    (record { refused = λ h. omega arith; unbound = λ h. omega arith }, λ h. omega arith, λ h. omega arith)
+    record { refused = λ h. omega arith; unbound = λ h. omega arith }
 run_later (trap kind line e) =
-    (record { refused = λ h. omega arith; unbound = λ h. omega arith }, λ h. omega arith, λ h. omega arith)
+    record { refused = λ h. omega arith; unbound = λ h. omega arith }
 run_later (turn_limit e) =
-    (record { refused = λ h. omega arith; unbound = λ h. omega arith }, λ h. omega arith, λ h. omega arith)
+    record { refused = λ h. omega arith; unbound = λ h. omega arith }
 run_later (stuck p kind e) =
-    (record { refused = λ h. omega arith; unbound = λ h. omega arith }, λ h. omega arith, λ h. omega arith)
+    record { refused = λ h. omega arith; unbound = λ h. omega arith }
 run_later (idle p e) =
-    (record { refused = λ h. omega arith; unbound = λ h. omega arith }, λ h. omega arith, λ h. omega arith)
+    record { refused = λ h. omega arith; unbound = λ h. omega arith }
 
 module _ (call : Call) (code : Tables) (asked : Asked) (turns : ℕ) where
   order_later : (text : List ℕ) {n : ℕ} {told : List ℕ} → OrderCause code asked turns text n told
-      → IsLater n × (n ≢ TOO_LONG)
+      → IsLater n
   order_later text (bad_item at e z) =
-      (record { refused = λ h. omega arith; unbound = λ h. omega arith }, λ h. omega arith)
-  order_later text (ran order e goes c) = ((run_later c).0, (run_later c).1)
+      record { refused = λ h. omega arith; unbound = λ h. omega arith }
+  order_later text (ran order e goes c) = run_later c
 
   order_file_later : (file : Option (List ℕ)) (n : ℕ) (told : List ℕ)
       → OrderFileCause call code asked turns file n told → IsLater n
-  order_file_later None n told c = (order_later [] c).0
+  order_file_later None n told c = order_later [] c
   order_file_later (Some file) n told (order_unreadable may ends) =
       record { refused = λ h. omega arith; unbound = λ h. omega arith }
   order_file_later (Some file) n told (order_long long ends) =
       record { refused = λ h. omega arith; unbound = λ h. omega arith }
-  order_file_later (Some file) n told (of_order source w) = (order_later source.text w).0
-
-  -- an order's file that is too long
-  long_order : (file : Option (List ℕ)) (n : ℕ) (told : List ℕ)
-      → OrderFileCause call code asked turns file n told → n ≡ TOO_LONG → HasLongOrder call file
-  long_order None n told c e = absurd ((order_later [] c).1 e)
-  long_order (Some file) n told (order_unreadable may ends) e = absurd (omega arith)
-  long_order (Some file) n told (order_long long ends) e = long
-  long_order (Some file) n told (of_order source w) e = absurd ((order_later source.text w).1 e)
-
-  was_long_order : (file : Option (List ℕ)) (n : ℕ) (told : List ℕ)
-      → OrderFileCause call code asked turns file n told → IsOneOrder call n file
-      → HasLongOrder call file → n ≡ TOO_LONG
-  was_long_order None n told c one h = absurd h
-  was_long_order (Some file) n told (order_unreadable may ends) one h = absurd (one.0 refl)
-  was_long_order (Some file) n told (order_long long ends) one h = refl
-  was_long_order (Some file) n told (of_order source w) one h = absurd (not_long call file one.1 h source)
-
-  -- a wrong item
-  bad_order : (file : Option (List ℕ)) (text : List ℕ) → IsOrderText call file text → {n : ℕ}
-      {told : List ℕ} → OrderCause code asked turns text n told → n ≡ ORDER_REFUSED
-      → (at : ℕ) × (reading (processors code) text ≡ Err at)
-  bad_order file text is (bad_item at e z) h = (at, e)
-  bad_order file text is (ran order e goes c) h = absurd ((run_later c).2 h)
-
-  bad_order_file : (file : Option (List ℕ)) (n : ℕ) (told : List ℕ)
-      → OrderFileCause call code asked turns file n told → n ≡ ORDER_REFUSED
-      → (text : List ℕ) × IsOrderText call file text
-      × ((at : ℕ) × (reading (processors code) text ≡ Err at))
-  bad_order_file None n told c e = ([], refl, bad_order None [] refl c e)
-  bad_order_file (Some file) n told (order_unreadable may ends) e = absurd (omega arith)
-  bad_order_file (Some file) n told (order_long long ends) e = absurd (omega arith)
-  bad_order_file (Some file) n told (of_order source w) e =
-      (source.text, (source, refl), bad_order (Some file) source.text (source, refl) w e)
-
-  was_bad_text : (text : List ℕ) {n : ℕ} {told : List ℕ} → OrderCause code asked turns text n told
-      → (at : ℕ) → reading (processors code) text ≡ Err at → n ≡ ORDER_REFUSED
-  was_bad_text text (bad_item at e z) other h = refl
-  was_bad_text text (ran order e goes c) other h = absurd (read_one other order h e)
-
-  was_bad_order : (file : Option (List ℕ)) (n : ℕ) (told : List ℕ)
-      → OrderFileCause call code asked turns file n told → IsOneOrder call n file
-      → (text : List ℕ) → IsOrderText call file text → (at : ℕ)
-      → reading (processors code) text ≡ Err at → n ≡ ORDER_REFUSED
-  was_bad_order None n told c one text is at h =
-      was_bad_text [] c at (subst (λ t. reading (processors code) t ≡ Err at) is h)
-  was_bad_order (Some file) n told (order_unreadable may ends) one text is at h = absurd (one.0 refl)
-  was_bad_order (Some file) n told (order_long long ends) one text is at h =
-      absurd (not_long call file one.1 long is.0)
-  was_bad_order (Some file) n told (of_order source w) one text is at h =
-      was_bad_text source.text w at (subst (λ t. reading (processors code) t ≡ Err at)
-      (sym is.1 ∙ same_text call file one.1 is.0 source) h)
+  order_file_later (Some file) n told (of_order source w) = order_later source.text w
 
 -- the order is one for both statuses
 one_order : (call : Call) (n m : ℕ) (file : Option (List ℕ)) → m ≢ UNREADABLE

@@ -5,7 +5,7 @@
 --   IsUnder           it was run under the order that the words ask for
 --   IsTooFew          so few turns that no bound on those of the code is within them
 --   IsExact           each status comes just where its own cause is
-use Rattle.std.specs.Prelude.{◌≡◌, ◌≢◌, ◌⊎◌, ◌↔◌, ℕ, ◌<◌, List, Option, Some, None, Ok, Err, ⊤}
+use Rattle.std.specs.Prelude.{◌≡◌, ◌≢◌, ◌⊎◌, ◌↔◌, ℕ, ◌<◌, List, Ok}
 use Rattle.zpl_nums.specs.declared.ends.End.TheVariants.{More}
 use Rattle.node_form.specs.declared.tables.Tables.{Tables}
 use Rattle.zpl_binding.specs.Settings.{Setting}
@@ -20,22 +20,16 @@ use Rattle.call_claims.specs.Cause.{IsTooLong}
 use Rattle.call_claims.specs.Decided.{HasNoProgramIn, HasUnboundIn, IsDecided, IsSettled}
 use Rattle.call_claims.specs.Execution.{Execution}
 use Rattle.call_claims.specs.Source.{IsCodeOf, Source}
-use Rattle.call_claims.specs.declared.status.TheConstants.{DONE, UNREADABLE, TOO_LONG, REFUSED}
+use Rattle.call_claims.specs.declared.status.TheConstants.{DONE, TOO_LONG, REFUSED}
 use Rattle.call_claims.specs.declared.status.TheConstants.{UNBOUND, TRAPPED, TURN_LIMIT}
 use Rattle.exec_words.specs.Asked.{Asked, IsRun, limit_of}
 use Rattle.exec_claims.specs.Cause.{run_of}
-use Rattle.exec_claims.specs.Cause as orders
-use Rattle.exec_claims.specs.Decided.{IsDoneAt, IsOrderText, IsTrapAt}
+use Rattle.exec_claims.specs.Decided.{HasBadOrder, HasLongOrder, IsDoneAt, IsOneOrder, IsOrderText}
+use Rattle.exec_claims.specs.Decided.{IsTrapAt}
 use Rattle.exec_claims.specs.declared.status.TheConstants.{ORDER_REFUSED, STUCK}
 use Rattle.run_claims.specs.Cause.{Runs}
 
 -- ---- the order of a run
--- where words name its file, no fetch failed, and the file tells at most one text
-abbrev pub IsOneOrder : Call → ℕ → Option (List ℕ) → Type 0
-IsOneOrder call status None = ⊤
-IsOneOrder call status (Some file) = (status ≢ UNREADABLE)
-    × ((text other : List ℕ) → call.tells file text → call.tells file other → text ≡ other)
-
 -- No put failed, memory wasn't wanting, and the order of the run is one.
 pub record IsRunSettled (call : Call) (status : ℕ) : Type 0 where
   pub decided : IsDecided status
@@ -90,24 +84,11 @@ pub record IsCutShort (call : Call) (file : List ℕ) (asked : Asked) (settings 
       IsTooFew (limit_of asked) of_code.code (mean_of program settings)
       (steps_of program settings) (shattered_loops program)
 
--- ---- files that are too long
--- that of the order, where words name one
-abbrev pub HasLongOrder : Call → Option (List ℕ) → Type 0
-HasLongOrder call None = ⊥
-HasLongOrder call (Some file) = orders.IsTooLong call file
-
--- 3: the program's, or that of the order, where code was made
+-- ---- 3: the program's file is too long, or that of the order, where code was made
 abbrev pub HasLongFile : Call → List ℕ → Asked → List Setting → Execution → Type 0
 HasLongFile call file asked settings execution =
     IsTooLong call file
     ⊎ HasCodeOf call file settings execution (λ code. HasLongOrder call asked.order)
-
--- ---- 6: code was made, and an item of the order's text is wrong
-pub record HasBadOrder (call : Call) (asked : Asked) (code : Tables) : Type 0 where
-  pub text : List ℕ
-  pub order_text : IsOrderText call asked.order text
-  pub at : ℕ
-  pub bad : reading (processors code) text ≡ Err at
 
 -- ---- each status comes just where its own cause is
 pub record IsExact (call : Call) (execution : Execution) (status : ℕ) : Type 0 where

@@ -23,7 +23,7 @@ pub fn run_causes_are_exact<F: Files>()
     orders_have_their_bounds();
 }
 
-/// A run that is over, or was given all turns, has one number of turns.
+/// A run that is over or idle, or was given all turns, has one number of turns.
 pub fn runs_are_one()
     ensures { (run : Run) (k j : ℕ) → GoesOnTo run k → GoesOnTo run j →
         k ≤ turns_in run → j ≤ turns_in run → IsLast run k → IsLast run j → k ≡ j }

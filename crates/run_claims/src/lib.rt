@@ -1,8 +1,8 @@
-//! What a call of `run` says: a program is compiled and its code run under an order of turns, what is
-//! told of it, and the cause of each status.
+//! What a call of `run` says: a program is compiled and its code run under an order of turns, what
+//! is told of it, and the cause of each status.
 //!
-//! The definitions stand in `specs/`. The functions here do nothing: each has a law of the definitions
-//! as its contract.
+//! The definitions stand in `specs/`. The functions here do nothing: each has a law of the
+//! definitions as its contract.
 #![tactic(auto)]
 
 mod laws;

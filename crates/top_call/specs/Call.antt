@@ -103,8 +103,8 @@ pub record IsMeant (call : Call) (answered : Ran) (out errs : Stream) : Type 0 w
   -- Each status but that of a failed put has its cause, and errs took its text.
   pub cause : answered.status ≢ PUT_FAILED
       → meant.IsAnswered call answered.status errs.before errs.after
-  -- Each status comes just where its own cause is, where no put or fetch failed and memory wasn't
-  -- wanting.
+  -- Each status comes just where its own cause is, where no put or fetch failed, the files tell one
+  -- text a name, and memory wasn't wanting.
   pub exact : IsSettled call answered.status → IsMeanExact call answered.status
   -- A put failed: one of out, which took a front of the bytes, and errs took nothing; or one of errs,
   -- once out had taken all.

@@ -1,5 +1,5 @@
 use Rattle.std.proofs.Common.{◌≡◌, ◌∙◌, length, arith}
-use Rattle.code_layout.proofs.GridLemmas.{factors_some, product_few, padded_is, ok_from, value_from}
+use Rattle.grid_meaning.proofs.FactorLemmas.{factors_some, product_few, padded_is, ok_from, value_from}
 use Rattle.code_layout.proofs.grids.grid_of.Goals as goal
 
 pub unwrap-requires : goal.unwrap-requires

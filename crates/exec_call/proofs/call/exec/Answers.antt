@@ -43,6 +43,12 @@ returns-clause-executed g c = λ words given.
         cause = cause n;
         told = told.ensures.told (λ e. n (c.status.ensures ∙ ap status_of e));
       };
+      too_long = λ settled. c.exec_statuses_are_exact.ensures.too_long c.args.files.now words
+          (execution_in work.result) status (told_of told.result) (cause settled.decided.put)
+          settled;
+      order_refused = λ settled. c.exec_statuses_are_exact.ensures.order c.args.files.now words
+          (execution_in work.result) status (told_of told.result) (cause settled.decided.put)
+          settled;
       refused = λ settled. c.exec_statuses_are_exact.ensures.listing c.args.files.now words
           (execution_in work.result) status (told_of told.result) (cause settled.decided.put)
           settled;

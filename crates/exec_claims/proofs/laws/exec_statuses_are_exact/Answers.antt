@@ -1,6 +1,7 @@
 use Rattle.call_claims.specs.Call.{call_of}
 use Rattle.exec_claims.proofs.Exact.{usage_exactly, listing_exactly, done_exactly, trap_exactly}
 use Rattle.exec_claims.proofs.Exact.{limit_exactly, stuck_exactly}
+use Rattle.exec_claims.proofs.OrderExact.{long_exactly, order_exactly}
 use Rattle.exec_claims.proofs.laws.exec_statuses_are_exact.Goals as goal
 
 pub returns : goal.returns
@@ -10,6 +11,11 @@ returns g c =
     record {
       usage = λ files words ran n told cause settled. usage_exactly
           (call_of words (g.F.Files.tells files) (g.F.Files.may_fail files)) ran n told cause settled;
+      too_long = λ files words ran n told cause settled. long_exactly
+          (call_of words (g.F.Files.tells files) (g.F.Files.may_fail files)) ran n told line table cause settled;
+      order = λ files words ran n told cause settled. order_exactly
+          (call_of words (g.F.Files.tells files) (g.F.Files.may_fail files)) ran n told line table
+          c.bytes_have_one_program.ensures.program cause settled;
       listing = λ files words ran n told cause settled. listing_exactly
           (call_of words (g.F.Files.tells files) (g.F.Files.may_fail files)) ran n told line table cause settled;
       done = λ files words ran n told cause settled. done_exactly

@@ -1,5 +1,5 @@
 use Rattle.std.proofs.Common.{◌≡◌, length, rules, arith, w64, to_z, of_z, ◌∙◌}
-use Rattle.listing_rules.proofs.RoomLemmas.{box_parts}
+use Rattle.grid_meaning.proofs.BoxLemmas.{box_parts}
 use Rattle.listing_rules.proofs.rooms.box_of.Goals as goal
 
 pub returns : goal.returns

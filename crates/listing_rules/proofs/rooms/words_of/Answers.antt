@@ -1,4 +1,4 @@
-use Rattle.listing_rules.proofs.RoomLemmas.{box_is}
+use Rattle.grid_meaning.proofs.BoxLemmas.{box_is}
 use Rattle.listing_rules.proofs.rooms.words_of.Goals as goal
 
 pub words-requires-clause-array : goal.words-requires-clause-array

@@ -1,0 +1,207 @@
+#!/usr/bin/env python3
+"""What the documents name is there: crates, functions, clauses, words of specs.
+
+Run it at the top of the repository: .ci/checks/claims.py. It says what each README of a crate, `README.md`,
+`docs/ARCHITECTURE.md` and `docs/DEFINITIONS.md` name that isn't there, or leave out. It reads names alone: that a
+sentence says no more than its clause is for readers.
+
+- A README has the five heads of a library, or the three of a crate of tests.
+- What stands below a crate is what its line of crates.txt names.
+- A word stands in the module of `specs/` that its row names; and so for `docs/DEFINITIONS.md`.
+- In a row of a function a name in front of a colon is a clause of it.
+- Each other name of what is proved is one of the sources of the crate, of a crate below it, or of one that is
+  named beside it.
+- The tables of `README.md` and `docs/ARCHITECTURE.md` have each library.
+"""
+import glob
+import os
+import re
+import sys
+
+KIT = {"bumpalo", "hex", "indexmap", "itoa"}
+HEADS = ["What it does", "What is proved, and by which clause", "What is only tested", "What stands below it",
+         "How to read its specs"]
+HEADS_OF_TESTS = ["What it does", "What is proved", "What stands below it"]
+CLAUSE = re.compile(r"\s*(requires|ensures|decreases)\b\s*([A-Za-z_0-9]*)\s*\{")
+
+
+def read(path):
+    with open(path, encoding="utf-8") as file:
+        return file.read()
+
+
+def libraries():
+    """The crates that each crate names, by crates.txt."""
+    found = {}
+    for line in read("crates.txt").splitlines():
+        name, colon, rest = line.split("#")[0].partition(":")
+        if colon:
+            found[name.strip()] = rest.split()
+    return found
+
+
+def below(name, of, found):
+    """The crates below a crate, and itself."""
+    if name in of and name not in found:
+        found.add(name)
+        for library in of[name]:
+            below(library, of, found)
+    return found
+
+
+def texts(crate, folder, kind):
+    return [(path, read(path)) for path in sorted(glob.glob(f"crates/{crate}/{folder}/**/*.{kind}", recursive=True))]
+
+
+def names_of(crate):
+    """All names in the sources of a crate, those of its files too."""
+    found = set()
+    for folder, kind in (("src", "rt"), ("specs", "antt"), ("proofs", "antt")):
+        for path, text in texts(crate, folder, kind):
+            found.update(re.findall(r"[A-Za-z_][A-Za-z0-9_]*", text))
+            found.update(os.path.relpath(path, f"crates/{crate}").replace(".", "/").split("/"))
+    return found
+
+
+def declared(crate, module):
+    """What a module of the specs of a crate declares."""
+    found = set()
+    for path in glob.glob(f"crates/{crate}/specs/**/{module}.antt", recursive=True):
+        text = read(path)
+        found.update(re.findall(r"(?m)^\s*(?:pub )?(?:data|record|abbrev|opaque|unfoldable) (?:pub )?([A-Za-z_][^\s:(\[{]*)", text))
+        found.update(re.findall(r"(?m)^\s*(?:pub )?([A-Za-z_][^\s:(\[{]*) :", text))
+    return found
+
+
+def closed(text, at):
+    """Where the brace that is open before a place is closed."""
+    depth = 1
+    while depth and at < len(text):
+        depth += {"{": 1, "}": -1}.get(text[at], 0)
+        at += 1
+    return at
+
+
+def clauses_of(crate):
+    """The names of the promises of each function of a crate, those of one name together."""
+    found = {}
+    for _, text in texts(crate, "src", "rt"):
+        text = re.sub(r"//[^\n]*", "", text)
+        for begin in re.finditer(r"\bfn ([A-Za-z_0-9]+)", text):
+            own = found.setdefault(begin[1], set())
+            first = re.compile(r"\s(?=(?:requires|ensures|decreases)\b)|[{;](?![^()\[\]]*[)\]])").search(text, begin.end())
+            clause = CLAUSE.match(text, first.start()) if first else None
+            while clause:
+                if clause[1] == "ensures":
+                    own.add(clause[2])
+                clause = CLAUSE.match(text, closed(text, clause.end()))
+    return found
+
+
+def rows(text):
+    """The rows of tables, each with the head of its table."""
+    head = None
+    for line in text.splitlines():
+        if not line.startswith("|"):
+            head = None
+            continue
+        cells = [cell.strip() for cell in re.split(r"(?<!\\)\|", line)[1:-1]]
+        if head is None:
+            head = cells
+        elif not cells[0].startswith("---"):
+            yield head, cells
+
+
+def quoted(text, form=r"[^`]+"):
+    return re.findall(rf"`({form})`", text)
+
+
+def wrong_words(crate, head, cells):
+    """The words of a row that don't stand in the modules that it names."""
+    if head[0] != "Word" or head[-1] != "Where" or not quoted(cells[-1]):
+        return []
+    there = set().union(*(declared(crate, module) for module in quoted(cells[-1])))
+    there |= set().union(*(names_of_file(crate, path) for path in quoted(cells[-1]) if path.startswith("src/")), set())
+    return [f"{word} isn't in {cells[-1]}" for word in quoted(cells[0]) if word not in there]
+
+
+def names_of_file(crate, path):
+    return set(re.findall(r"[A-Za-z_]+", read(f"crates/{crate}/{path}")))
+
+
+def wrong_clauses(clauses, words, head, cells):
+    """The names in front of colons in a row of functions that are neither clauses of them nor words of specs."""
+    functions = [name.split("::")[-1] for name in quoted(cells[0])]
+    if head[0] not in ("Call", "Function", "Law") or not set(functions) & set(clauses):
+        return []
+    own = set().union(words, *(clauses.get(name, set()) for name in functions))
+    named = re.findall(r"(?:^|[;.] )`([a-z_0-9]+)`:", cells[1])
+    return [f"{name} is no clause of {', '.join(functions)}" for name in named if name not in own]
+
+
+def wrong_below(crate, section, of):
+    named = {name for name in quoted(section) if name in of or name in KIT}
+    told = [f"{name} stands below it, and isn't named so" for name in of[crate] if name not in named]
+    return told + [f"{name} isn't in its line of crates.txt" for name in sorted(named - set(of[crate]))]
+
+
+def wrong_in(crate, of, names, clauses):
+    """What is wrong with the README of a crate."""
+    text = read(f"crates/{crate}/README.md")
+    parts = re.split(r"(?m)^## (.*)\n", text)
+    heads, tests = parts[1::2], crate.endswith("_tests")
+    if heads != (HEADS_OF_TESTS if tests else HEADS):
+        return [f"its heads are {heads}"]
+    section = dict(zip(heads, parts[2::2]))
+    told = wrong_below(crate, section["What stands below it"], of)
+    for head, cells in rows(text):
+        told += wrong_words(crate, head, cells)
+    words = {word for _, spec in texts(crate, "specs", "antt") for word in re.findall(r"[A-Za-z_]\w*", spec)}
+    for head, cells in [] if tests else rows(section[HEADS[1]]):
+        told += wrong_clauses(clauses, words, head, cells)
+    proved = section[HEADS_OF_TESTS[1] if tests else HEADS[1]]
+    near = below(crate, of, set()) | {name for name in quoted(proved) if name in of}
+    known = set(of) | KIT | set().union(*(names[library] for library in near))
+    for name in quoted(proved, r"[A-Za-z_][A-Za-z_0-9]*"):
+        if name not in known and not name.endswith("_"):
+            told.append(f"{name} is nowhere in it, below it or in a crate that is named beside it")
+    return told
+
+
+def wrong_definitions():
+    told = []
+    for head, cells in rows(read("docs/DEFINITIONS.md")):
+        crates = [name for name in quoted(cells[-1]) if os.path.isdir(f"crates/{name}")]
+        places = [name for name in quoted(cells[-1]) if name not in crates]
+        for crate in crates:
+            row = cells[:-1] + [" ".join(f"`{place}`" for place in places)]
+            told += wrong_words(crate, head, row)
+    return told
+
+
+def wrong_tables(of):
+    """The libraries that a table leaves out, and the crates of the first one that aren't there, those to come aside."""
+    told, readme = [], read("README.md")
+    if len(readme.splitlines()) > 150:
+        told.append("README.md has more than 150 lines")
+    for page, text in (("README.md", readme), ("docs/ARCHITECTURE.md", read("docs/ARCHITECTURE.md"))):
+        told += [f"{page} leaves out {name}" for name in of if not name.endswith("_tests") and f"`{name}`" not in text]
+    for head, cells in rows(readme):
+        if head[0] == "Promise" and cells[-1] != "to come":
+            told += [f"README.md: {name} isn't there" for name in quoted(cells[1]) if name not in of]
+    return told
+
+
+def main():
+    of = libraries()
+    names = {crate: names_of(crate) for crate in of}
+    told = wrong_tables(of) + [f"docs/DEFINITIONS.md: {wrong}" for wrong in wrong_definitions()]
+    for crate in of:
+        told += [f"crates/{crate}/README.md: {wrong}" for wrong in wrong_in(crate, of, names, clauses_of(crate))]
+    for wrong in told:
+        print(wrong)
+    print(f"{len(of)} READMEs of crates, {len(told)} names that don't fit")
+    return 1 if told else 0
+
+
+sys.exit(main())
