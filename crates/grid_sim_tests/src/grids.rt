@@ -87,6 +87,6 @@ pub fn expect(
     out.fail_at(alloc, failing)?;
     let mut text = run(rt, alloc, sim, order, limit, &mut out)?;
     push_bytes(out.taken(), &mut text)?;
-    assert_eq!(rt; text.as_str(), told);
+    assert!(rt; text.as_str() == told, "{text}");
     Ok(())
 }

@@ -1,10 +1,10 @@
-//! Tests of `node_form` that use its public items alone.
+//! Tests of `node_form` that use public items alone.
 #![tactic(auto)]
 
 #[cfg(test)]
 mod listings;
 #[cfg(test)]
-mod parts;
+mod reading;
 #[cfg(test)]
 mod rules;
 #[cfg(test)]

@@ -1,175 +1,60 @@
-//! Programs that fit, built by hand, and members nested very deep.
-use crate::parts::{FOUR, NOTHING, Parts, fix, range, tables};
-use node_form::{DimRow, ExprOp, GroupRow, Instr, Item, Member, NodeProgram};
+//! Programs that fit, and members nested very deep.
+use crate::reading::program_of;
+use node_form::{GroupRow, Member, NodeProgram};
 use std::alloc::{AllocError, Global};
+use std::fmt::Write;
 use std::test::Fail;
-use zpl_nums::{Fold, Op};
-
-const ACC: Member = Member::Acc {
-    scalar: 0,
-    fold: Fold::Sum,
-    expr: 0,
-    mask: None,
-    line: 1,
-};
-
-const LOOP: Instr = Instr::Loop { slot: 0, group: 0 };
-
-const EAST: Item = Item {
-    array: 0,
-    slot: 0,
-    shift: [1, 0, 0],
-};
-
-const WEST: Item = Item {
-    array: 0,
-    slot: 0,
-    shift: [-1, 0, 0],
-};
 
 /// Sets a scalar to 20, and prints a text and the scalar plus 1.
-const GREETS: Parts<'static> = Parts {
-    grid: [2, 0, 0],
-    scalars: 1,
-    texts: &[b"hi"],
-    exprs: &[
-        &[ExprOp::Const(20)],
-        &[ExprOp::Scalar(0), ExprOp::Const(1), ExprOp::Pair(Op::Add)],
-    ],
-    ..NOTHING
-};
+const GREETS: &str = "zplnode 1\ngrid 2\nscalars 1\nslots\ncells 0\narray 1..4:1,1\ntext 6869\n\
+    expr n20\nexpr s0 n1 +\ncode\nset 0 0 1\nprint 0\nnumber 1\nend\n";
 
-/// Both processors loop, and the one whose scalar isn't 0 waits in a fold.
-const WAITS: Parts<'static> = Parts {
-    grid: [2, 0, 0],
-    scalars: 1,
-    slots: &[1],
-    exprs: &[&[ExprOp::Const(1)], &[ExprOp::Scalar(0)]],
-    groups: &[&[ACC]],
-    ..NOTHING
-};
-
-/// Reads beside each index of an array without fringe.
-const READS_BESIDE: Parts<'static> = Parts {
-    slots: &[1],
-    exprs: &[&[ExprOp::Shifted(0, [1, 0, 0])]],
-    groups: &[&[Member::Put {
-        array: 0,
-        expr: 0,
-        mask: None,
-        line: 1,
-    }]],
-    ..NOTHING
-};
-
-/// Two exchanges that are open at once.
-const EXCHANGES: Parts<'static> = Parts {
-    grid: [2, 0, 0],
-    slots: &[1],
-    exchanges: &[&[EAST, WEST], &[EAST, WEST]],
-    ..NOTHING
-};
+/// Its tables.
+const GREETS_SHOWN: &str = "Tables { grid: [2, 0, 0], scalars: 1, cells: 0, slots: Rows { rows: \
+    [] }, arrays: Rows { rows: [ArrayRow { rank: 1, stored: true, dims: [Range { lo: 1, hi: 4, \
+    low: 1, high: 1 }, Range { lo: 0, hi: 0, low: 0, high: 0 }, Range { lo: 0, hi: 0, low: 0, \
+    high: 0 }] }] }, texts: Rows { rows: [Row { items: [104, 105] }] }, exprs: Rows { rows: [Row \
+    { items: [Const(20)] }, Row { items: [Scalar(0), Const(1), Pair(Add)] }] }, groups: Rows { \
+    rows: [] }, exchanges: Rows { rows: [] }, code: Rows { rows: [Set { scalar: 0, expr: 0, \
+    line: 1 }, Print { text: 0 }, Number { expr: 1 }, End] } }";
 
 /// Prints an array over a region that depends on a scalar.
-const GATHERS: Parts<'static> = Parts {
-    grid: [2, 0, 0],
-    scalars: 1,
-    slots: &[1, 1],
-    exprs: &[
-        &[ExprOp::Const(1)],
-        &[ExprOp::Const(3)],
-        &[ExprOp::Const(3), ExprOp::Scalar(0), ExprOp::Pair(Op::Add)],
-    ],
-    groups: &[&[ACC]],
-    ..NOTHING
-};
+const GATHERS: &str = "zplnode 1\ngrid 2\nscalars 1\nslots 1 1\ncells 0\narray 1..4:1,1\nexpr n1\n\
+    expr n3\nexpr n3 s0 +\ngroup\nacc 0 sum 0 - 1\ncode\nfix 0 4..4:1:4\nloop 0 0\ndims 1 0..1 1\n\
+    gather number 0 1\nend\n";
 
-/// A fold alone.
-const FOLDS: Parts<'static> = Parts {
-    grid: [2, 0, 0],
-    scalars: 1,
-    ..NOTHING
-};
-
-fn greeting() -> [Instr; 4] {
-    [
-        Instr::Set {
-            scalar: 0,
-            expr: 0,
-            line: 1,
-        },
-        Instr::Print { text: 0 },
-        Instr::Number { expr: 1 },
-        Instr::End,
-    ]
-}
-
-/// Whether the parts fit with the array `1..4` and this code.
-fn fit(alloc: Global, parts: Parts<'_>, code: &[Instr]) -> Result<bool, AllocError> {
-    Ok(tables(alloc, parts, &[FOUR], code)?.fits_tables())
-}
+/// Others: both processors loop, and the one whose scalar isn't 0 waits in a fold; a fold alone; a
+/// loop reads beside each index of an array; two exchanges are open at once.
+const OTHERS: [&str; 4] = [
+    "zplnode 1\ngrid 2\nscalars 1\nslots 1\ncells 0\narray 1..4:1,1\nexpr n1\nexpr s0\ngroup\n\
+     acc 0 sum 0 - 1\ncode\nfix 0 1..1:1:1\nloop 0 0\nunless 1 4 1\nfold 0 sum\n",
+    "zplnode 1\ngrid 2\nscalars 1\nslots\ncells 0\narray 1..4:1,1\ncode\nfold 0 sum\nend\n",
+    "zplnode 1\ngrid 1\nscalars 0\nslots 1\ncells 0\narray 1..4:1,1\nexpr a0@1\ngroup\n\
+     put 0 0 - 1\ncode\nfix 0 1..2:1:1\nloop 0 0\nend\n",
+    "zplnode 1\ngrid 2\nscalars 0\nslots 1\ncells 0\narray 1..4:1,1\nexchange\nitem 0 0 1\n\
+     item 0 0 -1\nexchange\nitem 0 0 1\nitem 0 0 -1\ncode\nfix 0 2..3:1:2\nstart 0\nstart 1\n\
+     finish 0\nfinish 1\nend\n",
+];
 
 #[test]
-fn listings_of_scalars_fit(rt: HostRuntime) -> Result<(), Fail> {
-    assert!(rt; fit(rt.alloc(), GREETS, &greeting())?);
-    let fold = Instr::Fold {
-        scalar: 0,
-        fold: Fold::Sum,
-    };
-    let unless = Instr::Unless {
-        expr: 1,
-        goal: 4,
-        line: 1,
-    };
-    let code = [fix(range(1, 1)), LOOP, unless, fold];
-    assert!(rt; fit(rt.alloc(), WAITS, &code)?);
-    assert!(rt; fit(rt.alloc(), FOLDS, &[fold, Instr::End])?);
-    Ok(())
-}
-
-#[test]
-fn listings_of_arrays_fit(rt: HostRuntime) -> Result<(), Fail> {
-    let code = [fix(range(1, 2)), LOOP, Instr::End];
-    assert!(rt; fit(rt.alloc(), READS_BESIDE, &code)?);
-    let code = [
-        fix(range(2, 3)),
-        Instr::Start { exchange: 0 },
-        Instr::Start { exchange: 1 },
-        Instr::Finish { exchange: 0 },
-        Instr::Finish { exchange: 1 },
-        Instr::End,
-    ];
-    assert!(rt; fit(rt.alloc(), EXCHANGES, &code)?);
-    let dims = Instr::Dims {
-        slot: 1,
-        parts: [DimRow::Span(0, 1), DimRow::Star, DimRow::Star],
-        line: 1,
-    };
-    let gather = Instr::Gather {
-        truth: false,
-        array: 0,
-        slot: 1,
-    };
-    let code = [fix(range(4, 4)), LOOP, dims, gather, Instr::End];
-    assert!(rt; fit(rt.alloc(), GATHERS, &code)?);
+fn listings_fit(rt: HostRuntime) -> Result<(), Fail> {
+    for listing in [GREETS, GATHERS, OTHERS[0], OTHERS[1], OTHERS[2], OTHERS[3]] {
+        let program = program_of(&rt, rt.alloc(), listing)?;
+        assert!(rt; program.into_tables().fits_tables(), "{listing}");
+    }
     Ok(())
 }
 
 #[test]
 fn a_program_keeps_its_tables(rt: HostRuntime) -> Result<(), Fail> {
-    let tables = tables(rt.alloc(), GREETS, &[], &greeting())?;
+    let tables = program_of(&rt, rt.alloc(), GREETS)?.into_tables();
     assert!(rt; tables.fits_tables());
     let program = NodeProgram::of(tables);
-    let tables = program.tables();
-    assert_eq!(rt; (tables.scalars, tables.cells), (1, 0));
-    assert_eq!(rt; tables.code.len(), 4);
-    let text = tables.texts.get(0).ok_or("a text")?;
-    assert_eq!(rt; text.as_slice(), b"hi".as_slice());
-    let expr = tables.exprs.get(1).ok_or("an expression")?;
-    assert_eq!(rt; expr.as_slice().len(), 3);
-    assert!(rt; matches!(tables.code.get(3), Some(Instr::End)));
-    assert!(rt; tables.code.get(4).is_none());
-    assert!(rt; program.into_tables().fits_tables());
+    let mut shown = String::new(rt.alloc());
+    write!(shown, "{:?}", program.tables())?;
+    assert!(rt; shown.as_str() == GREETS_SHOWN, "{shown}");
+    let code = &program.tables().code;
+    assert!(rt; code.len() == 4 && code.get(3).is_some() && code.get(4).is_none());
     Ok(())
 }
 
@@ -191,11 +76,11 @@ fn nest(alloc: Global, depth: usize) -> Result<Vec<Member>, AllocError> {
 
 #[test]
 fn ten_thousand_members_nest(rt: HostRuntime) -> Result<(), Fail> {
-    let mut deep = tables(rt.alloc(), GATHERS, &[FOUR], &[])?;
+    let mut deep = program_of(&rt, rt.alloc(), GATHERS)?.into_tables();
     let members = nest(rt.alloc(), 10_000)?;
     deep.groups.push(rt.alloc(), GroupRow::of(members))?;
     assert!(rt; deep.fits_tables());
-    let mut open = tables(rt.alloc(), GATHERS, &[FOUR], &[])?;
+    let mut open = program_of(&rt, rt.alloc(), GATHERS)?.into_tables();
     let mut members = nest(rt.alloc(), 100)?;
     let _ = members.pop();
     open.groups.push(rt.alloc(), GroupRow::of(members))?;

@@ -1,7 +1,7 @@
-//! For each rule of the tables, programs at its edge that fit and programs that break it.
-use crate::parts::{FOUR, NOTHING, PADDING, Parts, TEMPORARY, UNUSED, fix, range, tables};
+//! For each rule of tables, rows at its edge that fit a program, and rows that break it.
+use crate::reading::program_of;
 use node_form::{
-    ArrayDim, ArrayRow, DimRow, ExchangeRow, ExprOp, ExprRow, GroupRow, Instr, Item, Member,
+    ArrayDim, ArrayRow, DimRow, ExchangeRow, ExprOp, ExprRow, Grid3, GroupRow, Instr, Item, Member,
     RegionForm, SameKind, Tables,
 };
 use std::alloc::{AllocError, Global};
@@ -10,181 +10,69 @@ use std::test::Fail;
 use zpl_nums::{Border, Fold, Op, TrapKind};
 use zpl_region::{Dim, Region};
 
-/// A stored array of rank 2, `1..4` and a flood dimension.
-const PLANE: ArrayRow = ArrayRow {
-    rank: 2,
-    stored: true,
-    dims: [
-        ArrayDim::Range {
-            lo: 1,
-            hi: 4,
-            low: 0,
-            high: 0,
-        },
-        ArrayDim::Star,
-        UNUSED,
-    ],
-};
-
-const PUT_FOUR: Member = Member::Put {
-    array: 0,
-    expr: 2,
-    mask: None,
-    line: 1,
-};
-
-const PUT_PLANE: Member = Member::Put {
-    array: 3,
-    expr: 4,
-    mask: None,
-    line: 1,
-};
-
-const PUT_CELL: Member = Member::Cell {
-    cell: 0,
-    expr: 3,
-    mask: None,
-    line: 1,
-};
-
-const EAST: Item = Item {
-    array: 0,
-    slot: 0,
-    shift: [1, 0, 0],
-};
-
 /// Slots of rank 1, 2 and 1; arrays: a stored one, two temporaries, one of rank 2; expressions: a
 /// number, a scalar, an array, a coordinate of rank 2, an array of rank 2; groups of rank 1 and 2,
 /// and one for rank 2 or 3; an exchange.
-const BASE: Parts<'static> = Parts {
-    grid: [2, 0, 0],
-    scalars: 1,
-    cells: 1,
-    slots: &[1, 2, 1],
-    texts: &[b"hi"],
-    exprs: &[
-        &[ExprOp::Const(1)],
-        &[ExprOp::Scalar(0)],
-        &[ExprOp::Here(0)],
-        &[ExprOp::Coord(2)],
-        &[ExprOp::Here(3)],
-    ],
-    groups: &[&[PUT_FOUR], &[PUT_PLANE], &[PUT_CELL]],
-    exchanges: &[&[EAST]],
-};
+const BASE: &str = "zplnode 1\ngrid 2\nscalars 1\nslots 1 2 1\ncells 1\narray 1..4:1,1\n\
+    array -\narray -\narray 1..4:0,0 *\ntext 6869\nexpr n1\nexpr s0\nexpr a0\nexpr i2\nexpr a3\n\
+    group\nput 0 2 - 1\ngroup\nput 3 4 - 1\ngroup\ncell 0 3 - 1\nexchange\nitem 0 0 1\ncode\nend\n";
 
-fn put(array: u32, expr: u32) -> Member {
-    Member::Put {
-        array,
-        expr,
-        mask: None,
-        line: 1,
-    }
+/// A row that is added to the program.
+#[derive(Clone, Copy)]
+enum Added<'a> {
+    Code(Instr),
+    Words(&'a [ExprOp]),
+    Members(&'a [Member]),
+    Array(ArrayRow),
+    Items(&'a [Item]),
 }
 
-fn put_cell(expr: u32) -> Member {
-    Member::Cell {
-        cell: 0,
-        expr,
-        mask: None,
-        line: 1,
-    }
-}
-
-fn item(array: u32, slot: u32) -> Item {
-    Item {
-        array,
-        slot,
-        shift: [1, 0, 0],
-    }
-}
-
-/// The tables of these parts, with their arrays and one instruction.
-fn base(alloc: Global) -> Result<Tables, AllocError> {
-    tables(
-        alloc,
-        BASE,
-        &[FOUR, TEMPORARY, TEMPORARY, PLANE],
-        &[Instr::End],
-    )
-}
-
-/// Each of the instructions fits behind the others of the program, or none does.
-fn all_instrs(
-    rt: &impl Abort,
-    alloc: Global,
-    instrs: &[Instr],
-    fit: bool,
-) -> Result<(), AllocError> {
-    for instr in instrs {
-        let mut tables = base(alloc)?;
-        tables.code.push(alloc, *instr)?;
-        assert_eq!(rt; tables.fits_tables(), fit, "{instr:?}");
-    }
-    Ok(())
-}
-
-fn all_exprs(
-    rt: &impl Abort,
-    alloc: Global,
-    exprs: &[&[ExprOp]],
-    fit: bool,
-) -> Result<(), AllocError> {
-    for words in exprs {
-        let mut tables = base(alloc)?;
-        let row = ExprRow::of(words.to_vec(alloc)?);
-        tables.exprs.push(alloc, row)?;
-        assert_eq!(rt; tables.fits_tables(), fit, "{words:?}");
-    }
-    Ok(())
-}
-
-fn all_groups(
-    rt: &impl Abort,
-    alloc: Global,
-    groups: &[&[Member]],
-    fit: bool,
-) -> Result<(), AllocError> {
-    for members in groups {
-        let mut tables = base(alloc)?;
-        let mut row = Vec::new(alloc);
-        for member in *members {
-            row.push(*member)?;
+fn add(alloc: Global, tables: &mut Tables, row: Added<'_>) -> Result<(), AllocError> {
+    match row {
+        Added::Code(instr) => tables.code.push(alloc, instr),
+        Added::Words(words) => {
+            let row = ExprRow::of(Vec::from_slice(alloc, words)?);
+            tables.exprs.push(alloc, row)
         }
-        tables.groups.push(alloc, GroupRow::of(row))?;
-        assert_eq!(rt; tables.fits_tables(), fit, "{members:?}");
+        Added::Members(members) => {
+            let row = GroupRow::of(Vec::from_slice(alloc, members)?);
+            tables.groups.push(alloc, row)
+        }
+        Added::Array(row) => tables.arrays.push(alloc, row),
+        Added::Items(items) => {
+            let row = ExchangeRow::of(Vec::from_slice(alloc, items)?);
+            tables.exchanges.push(alloc, row)
+        }
+    }
+}
+
+/// Each of these rows fits behind the others of the program, or none does.
+fn expect(rt: &impl Abort, alloc: Global, rows: &[Added<'_>], fit: bool) -> Result<(), Fail> {
+    for (number, row) in rows.iter().enumerate() {
+        let mut tables = program_of(rt, alloc, BASE)?.into_tables();
+        add(alloc, &mut tables, *row)?;
+        assert!(rt; tables.fits_tables() == fit, "row {number}");
     }
     Ok(())
 }
 
-fn all_arrays(
-    rt: &impl Abort,
-    alloc: Global,
-    arrays: &[ArrayRow],
-    fit: bool,
-) -> Result<(), AllocError> {
-    for row in arrays {
-        let mut tables = base(alloc)?;
-        tables.arrays.push(alloc, *row)?;
-        assert_eq!(rt; tables.fits_tables(), fit, "{row:?}");
-    }
-    Ok(())
-}
+/// Grids, and whether they fit.
+const GRIDS: [(Grid3, bool); 7] = [
+    ([1, 0, 0], true),
+    ([64, 0, 0], true),
+    ([1, 1, 64], true),
+    ([0, 0, 0], false),
+    ([2, 0, 2], false),
+    ([13, 5, 0], false),
+    ([65_536, 65_536, 0], false),
+];
 
 #[test]
 fn grids_and_slots(rt: HostRuntime) -> Result<(), Fail> {
-    let mut tables = base(rt.alloc())?;
-    for (grid, fit) in [
-        ([1, 0, 0], true),
-        ([64, 0, 0], true),
-        ([1, 1, 64], true),
-        ([0, 0, 0], false),
-        ([2, 0, 2], false),
-        ([13, 5, 0], false),
-        ([65_536, 65_536, 0], false),
-    ] {
+    let mut tables = program_of(&rt, rt.alloc(), BASE)?.into_tables();
+    for (grid, fit) in GRIDS {
         tables.grid = grid;
-        assert_eq!(rt; tables.fits_tables(), fit, "{grid:?}");
+        assert!(rt; tables.fits_tables() == fit, "{grid:?}");
     }
     tables.grid = [2, 0, 0];
     tables.slots.push(rt.alloc(), 3)?;
@@ -194,590 +82,558 @@ fn grids_and_slots(rt: HostRuntime) -> Result<(), Fail> {
     Ok(())
 }
 
+const ONE: ExprOp = ExprOp::Const(1);
+
+const ADD: ExprOp = ExprOp::Pair(Op::Add);
+
+const EXPRS: [Added<'static>; 5] = [
+    Added::Words(&[
+        ONE,
+        ONE,
+        ONE,
+        ADD,
+        ADD,
+        ExprOp::Neg,
+        ExprOp::Not,
+        ExprOp::Abs,
+    ]),
+    Added::Words(&[ExprOp::Cell(0)]),
+    Added::Words(&[ExprOp::Coord(3)]),
+    Added::Words(&[ExprOp::Shifted(0, [-2_147_483_648, 0, 0])]),
+    Added::Words(&[ExprOp::Here(0), ExprOp::Coord(1), ADD]),
+];
+
+const NO_EXPRS: [Added<'static>; 12] = [
+    Added::Words(&[]),
+    Added::Words(&[ONE, ONE]),
+    Added::Words(&[ONE, ADD]),
+    Added::Words(&[ExprOp::Scalar(1)]),
+    Added::Words(&[ExprOp::Cell(1)]),
+    Added::Words(&[ExprOp::Coord(0)]),
+    Added::Words(&[ExprOp::Coord(4)]),
+    Added::Words(&[ExprOp::Here(4)]),
+    Added::Words(&[ExprOp::Shifted(0, [2_147_483_649, 0, 0])]),
+    Added::Words(&[ExprOp::Shifted(0, [1, 1, 0])]),
+    Added::Words(&[ExprOp::Here(0), ExprOp::Coord(2), ADD]),
+    Added::Words(&[ExprOp::Here(0), ExprOp::Here(3), ADD]),
+];
+
+macro_rules! put {
+    ($array:expr, $expr:expr) => {
+        Member::Put { array: $array, expr: $expr, mask: None, line: 1 }
+    };
+}
+
+macro_rules! cell {
+    ($expr:expr) => {
+        Member::Cell { cell: 0, expr: $expr, mask: None, line: 1 }
+    };
+}
+
+macro_rules! acc {
+    ($scalar:expr, $expr:expr) => {
+        Member::Acc { scalar: $scalar, fold: Fold::Sum, expr: $expr, mask: None, line: 1 }
+    };
+}
+
+const IF: Member = Member::OpenIf {
+    expr: 2,
+    mask: Some(2),
+    line: 1,
+};
+
+const REPEAT: Member = Member::OpenRepeat {
+    mask: None,
+    line: 1,
+};
+
+/// Its mask is no expression.
+const MASKED: Member = Member::OpenRepeat {
+    mask: Some(5),
+    line: 1,
+};
+
+const UNTIL: Member = Member::Until { expr: 2 };
+
+const WHILE: Member = Member::OpenWhile {
+    expr: 2,
+    mask: Some(2),
+    line: 1,
+};
+
+const MEMBERS: [Added<'static>; 5] = [
+    Added::Members(&[]),
+    Added::Members(&[IF, Member::Otherwise, REPEAT, UNTIL, Member::CloseIf]),
+    Added::Members(&[put!(1, 2), cell!(1)]),
+    Added::Members(&[WHILE, put!(0, 2), Member::CloseWhile]),
+    Added::Members(&[acc!(0, 2)]),
+];
+
+const NO_MEMBERS: [Added<'static>; 16] = [
+    Added::Members(&[Member::Otherwise]),
+    Added::Members(&[IF]),
+    Added::Members(&[REPEAT, Member::Otherwise, UNTIL]),
+    Added::Members(&[IF, Member::Otherwise, Member::Otherwise, Member::CloseIf]),
+    Added::Members(&[IF, REPEAT, Member::CloseIf, UNTIL]),
+    Added::Members(&[put!(4, 2)]),
+    Added::Members(&[put!(0, 5)]),
+    Added::Members(&[put!(0, 3)]),
+    Added::Members(&[put!(0, 2), put!(3, 4)]),
+    Added::Members(&[MASKED, UNTIL]),
+    Added::Members(&[WHILE]),
+    Added::Members(&[Member::CloseWhile]),
+    Added::Members(&[WHILE, Member::Otherwise, Member::CloseWhile]),
+    Added::Members(&[WHILE, UNTIL]),
+    Added::Members(&[acc!(1, 2)]),
+    Added::Members(&[acc!(0, 5)]),
+];
+
+/// The range of four zeros.
+const UNUSED: ArrayDim = ArrayDim::Range {
+    lo: 0,
+    hi: 0,
+    low: 0,
+    high: 0,
+};
+
+const WIDE: ArrayDim = ArrayDim::Range {
+    lo: -2_147_483_648,
+    hi: -2_143_289_345,
+    low: 0,
+    high: 2_147_483_648,
+};
+
+const LONG: ArrayDim = ArrayDim::Range {
+    lo: 1,
+    hi: 4_194_305,
+    low: 0,
+    high: 0,
+};
+
+const HIGH: ArrayDim = ArrayDim::Range {
+    lo: 2_147_483_649,
+    hi: 0,
+    low: 0,
+    high: 0,
+};
+
+const NARROW: ArrayDim = ArrayDim::Range {
+    lo: 1,
+    hi: 4,
+    low: -1,
+    high: 0,
+};
+
+macro_rules! array {
+    ($rank:expr, $stored:expr, $first:expr, $second:expr) => {
+        Added::Array(ArrayRow { rank: $rank, stored: $stored, dims: [$first, $second, UNUSED] })
+    };
+}
+
+const ARRAYS: [Added<'static>; 3] = [
+    array!(1, true, WIDE, UNUSED),
+    array!(1, true, ArrayDim::Star, UNUSED),
+    array!(1, false, ArrayDim::Star, UNUSED),
+];
+
+const NO_ARRAYS: [Added<'static>; 6] = [
+    array!(1, true, LONG, UNUSED),
+    array!(1, true, HIGH, UNUSED),
+    array!(1, true, NARROW, UNUSED),
+    array!(1, false, NARROW, UNUSED),
+    array!(1, true, WIDE, ArrayDim::Star),
+    array!(4, true, WIDE, UNUSED),
+];
+
+macro_rules! item {
+    ($array:expr, $slot:expr) => {
+        Added::Items(&[Item { array: $array, slot: $slot, shift: [1, 0, 0] }])
+    };
+}
+
+const ITEMS: [Added<'static>; 1] = [item!(0, 2)];
+
+const NO_ITEMS: [Added<'static>; 4] = [item!(1, 0), item!(0, 1), item!(4, 0), item!(0, 3)];
+
 #[test]
-fn expressions(rt: HostRuntime) -> Result<(), Fail> {
-    let one = ExprOp::Const(1);
-    let add = ExprOp::Pair(Op::Add);
-    all_exprs(
-        &rt,
-        rt.alloc(),
-        &[
-            &[
-                one,
-                one,
-                one,
-                add,
-                add,
-                ExprOp::Neg,
-                ExprOp::Not,
-                ExprOp::Abs,
-            ],
-            &[ExprOp::Cell(0)],
-            &[ExprOp::Coord(3)],
-            &[ExprOp::Shifted(0, [-2_147_483_648, 0, 0])],
-            &[ExprOp::Here(0), ExprOp::Coord(1), add],
-        ],
-        true,
-    )?;
-    all_exprs(
-        &rt,
-        rt.alloc(),
-        &[
-            &[],
-            &[one, one],
-            &[one, add],
-            &[ExprOp::Scalar(1)],
-            &[ExprOp::Cell(1)],
-            &[ExprOp::Coord(0)],
-            &[ExprOp::Coord(4)],
-            &[ExprOp::Here(4)],
-        ],
-        false,
-    )?;
-    all_exprs(
-        &rt,
-        rt.alloc(),
-        &[
-            &[ExprOp::Shifted(0, [2_147_483_649, 0, 0])],
-            &[ExprOp::Shifted(0, [1, 1, 0])],
-            &[ExprOp::Here(0), ExprOp::Coord(2), add],
-            &[ExprOp::Here(0), ExprOp::Here(3), add],
-        ],
-        false,
-    )?;
-    Ok(())
+fn expressions_and_members(rt: HostRuntime) -> Result<(), Fail> {
+    let alloc = rt.alloc();
+    expect(&rt, alloc, &EXPRS, true)?;
+    expect(&rt, alloc, &NO_EXPRS, false)?;
+    expect(&rt, alloc, &MEMBERS, true)?;
+    expect(&rt, alloc, &NO_MEMBERS, false)
 }
 
 #[test]
-fn members(rt: HostRuntime) -> Result<(), Fail> {
-    let open = Member::OpenIf {
-        expr: 2,
-        mask: Some(2),
-        line: 1,
-    };
-    let again = Member::OpenRepeat {
-        mask: None,
-        line: 1,
-    };
-    let until = Member::Until { expr: 2 };
-    all_groups(
-        &rt,
-        rt.alloc(),
-        &[
-            &[],
-            &[open, Member::Otherwise, again, until, Member::CloseIf],
-            &[put(1, 2), put_cell(1)],
-        ],
-        true,
-    )?;
-    all_groups(
-        &rt,
-        rt.alloc(),
-        &[
-            &[Member::Otherwise],
-            &[open],
-            &[again, Member::Otherwise, until],
-            &[open, Member::Otherwise, Member::Otherwise, Member::CloseIf],
-            &[open, again, Member::CloseIf, until],
-        ],
-        false,
-    )?;
-    all_groups(
-        &rt,
-        rt.alloc(),
-        &[
-            &[put(4, 2)],
-            &[put(0, 5)],
-            &[put(0, 3)],
-            &[put(0, 2), put(3, 4)],
-            &[
-                Member::OpenRepeat {
-                    mask: Some(5),
-                    line: 1,
-                },
-                until,
-            ],
-        ],
-        false,
-    )?;
-    Ok(())
+fn arrays_and_items(rt: HostRuntime) -> Result<(), Fail> {
+    let alloc = rt.alloc();
+    expect(&rt, alloc, &ARRAYS, true)?;
+    expect(&rt, alloc, &NO_ARRAYS, false)?;
+    expect(&rt, alloc, &ITEMS, true)?;
+    expect(&rt, alloc, &NO_ITEMS, false)
 }
 
-#[test]
-fn arrays(rt: HostRuntime) -> Result<(), Fail> {
-    let wide = ArrayDim::Range {
-        lo: -2_147_483_648,
-        hi: -2_143_289_345,
-        low: 0,
-        high: 2_147_483_648,
+const LINE: u32 = u32::MAX;
+
+macro_rules! set {
+    ($scalar:expr, $expr:expr) => {
+        Added::Code(Instr::Set {
+            scalar: $scalar,
+            expr: $expr,
+            line: LINE,
+        })
     };
-    let long = ArrayDim::Range {
-        lo: 1,
-        hi: 4_194_305,
-        low: 0,
-        high: 0,
-    };
-    let high = ArrayDim::Range {
-        lo: 2_147_483_649,
-        hi: 0,
-        low: 0,
-        high: 0,
-    };
-    let narrow = ArrayDim::Range {
-        lo: 1,
-        hi: 4,
-        low: -1,
-        high: 0,
-    };
-    let array = |stored, dim| ArrayRow {
-        rank: 1,
-        stored,
-        dims: [dim, UNUSED, UNUSED],
-    };
-    all_arrays(
-        &rt,
-        rt.alloc(),
-        &[
-            array(true, wide),
-            array(true, ArrayDim::Star),
-            array(false, ArrayDim::Star),
-        ],
-        true,
-    )?;
-    all_arrays(
-        &rt,
-        rt.alloc(),
-        &[
-            array(true, long),
-            array(true, high),
-            array(true, narrow),
-            array(false, narrow),
-        ],
-        false,
-    )?;
-    let padded = ArrayRow {
-        rank: 1,
-        stored: true,
-        dims: [wide, ArrayDim::Star, UNUSED],
-    };
-    let four = ArrayRow {
-        rank: 4,
-        stored: true,
-        dims: [wide, UNUSED, UNUSED],
-    };
-    all_arrays(&rt, rt.alloc(), &[padded, four], false)?;
-    Ok(())
 }
 
-#[test]
-fn exchanges(rt: HostRuntime) -> Result<(), Fail> {
-    for (row, fit) in [
-        (item(0, 2), true),
-        (item(1, 0), false),
-        (item(0, 1), false),
-        (item(4, 0), false),
-        (item(0, 3), false),
-    ] {
-        let mut tables = base(rt.alloc())?;
-        let items = [row].to_vec(rt.alloc())?;
-        tables.exchanges.push(rt.alloc(), ExchangeRow::of(items))?;
-        assert_eq!(rt; tables.fits_tables(), fit, "{row:?}");
-    }
-    Ok(())
+macro_rules! unless {
+    ($expr:expr, $goal:expr) => {
+        Added::Code(Instr::Unless {
+            expr: $expr,
+            goal: $goal,
+            line: LINE,
+        })
+    };
 }
 
-#[test]
-fn scalar_rows(rt: HostRuntime) -> Result<(), Fail> {
-    let line = u32::MAX;
-    let unless = |expr, goal| Instr::Unless { expr, goal, line };
-    let set = |scalar, expr| Instr::Set { scalar, expr, line };
-    all_instrs(
-        &rt,
-        rt.alloc(),
-        &[
-            set(0, 1),
-            unless(1, 2),
-            Instr::Jump { goal: 2 },
-            Instr::Print { text: 0 },
-        ],
-        true,
-    )?;
-    all_instrs(
-        &rt,
-        rt.alloc(),
-        &[set(1, 1), set(0, 5), set(0, 2), set(0, 3)],
-        false,
-    )?;
-    all_instrs(
-        &rt,
-        rt.alloc(),
-        &[
-            unless(2, 2),
-            unless(1, 3),
-            Instr::Jump { goal: 3 },
-            Instr::Print { text: 1 },
-        ],
-        false,
-    )?;
-    let fold = |scalar| Instr::Fold {
-        scalar,
-        fold: Fold::Any,
+macro_rules! fold {
+    ($scalar:expr) => {
+        Added::Code(Instr::Fold {
+            scalar: $scalar,
+            fold: Fold::Any,
+        })
     };
-    all_instrs(
-        &rt,
-        rt.alloc(),
-        &[fold(0), Instr::Vote { group: 2 }, Instr::Truth { expr: 0 }],
-        true,
-    )?;
-    all_instrs(
-        &rt,
-        rt.alloc(),
-        &[
-            fold(1),
-            Instr::TreeVote { group: 3 },
-            Instr::Truth { expr: 4 },
-            Instr::Start { exchange: 1 },
-        ],
-        false,
-    )?;
-    Ok(())
 }
 
-#[test]
-fn regions(rt: HostRuntime) -> Result<(), Fail> {
-    let stepped = |step, align| Dim::Range {
-        lo: 1,
-        hi: 4,
-        step,
-        align,
+macro_rules! tree {
+    ($scalar:expr) => {
+        Added::Code(Instr::TreeFold {
+            scalar: $scalar,
+            fold: Fold::Any,
+        })
     };
-    all_instrs(
-        &rt,
-        rt.alloc(),
-        &[
-            fix(range(1, 4_194_304)),
-            fix(stepped(2_147_483_648, 1_099_511_627_776)),
-            fix(Dim::Flood),
-        ],
-        true,
-    )?;
-    all_instrs(
-        &rt,
-        rt.alloc(),
-        &[
-            fix(range(1, 4_194_305)),
-            fix(stepped(0, 1)),
-            fix(stepped(2_147_483_649, 1)),
-            fix(range(0, 2_147_483_649)),
-        ],
-        false,
-    )?;
-    let of_rank = |rank, second| Instr::Fix {
-        slot: 1,
-        region: Region {
-            rank,
-            dims: [range(1, 4), second, PADDING],
-        },
-    };
-    all_instrs(&rt, rt.alloc(), &[of_rank(2, Dim::Flood)], true)?;
-    all_instrs(
-        &rt,
-        rt.alloc(),
-        &[
-            of_rank(1, PADDING),
-            of_rank(1, Dim::Flood),
-            of_rank(4, PADDING),
-        ],
-        false,
-    )?;
-    let dims = |slot, parts| Instr::Dims {
-        slot,
-        parts,
-        line: 1,
-    };
-    let span = DimRow::Span(0, 1);
-    all_instrs(
-        &rt,
-        rt.alloc(),
-        &[
-            dims(0, [span, DimRow::Star, DimRow::Star]),
-            dims(1, [DimRow::Copied(1), span, DimRow::Star]),
-        ],
-        true,
-    )?;
-    all_instrs(
-        &rt,
-        rt.alloc(),
-        &[
-            dims(0, [span, span, DimRow::Star]),
-            dims(1, [DimRow::Copied(0), span, DimRow::Star]),
-            dims(0, [DimRow::Span(0, 2), DimRow::Star, DimRow::Star]),
-        ],
-        false,
-    )?;
-    Ok(())
 }
 
-#[test]
-fn slot_rows(rt: HostRuntime) -> Result<(), Fail> {
-    let formed = |from, shift| Instr::Formed {
-        form: RegionForm::By,
-        slot: 0,
-        from,
-        shift,
-        line: 1,
+macro_rules! code {
+    ($instr:expr) => {
+        Added::Code($instr)
     };
-    all_instrs(&rt, rt.alloc(), &[formed(2, [2_147_483_648, 0, 0])], true)?;
-    all_instrs(
-        &rt,
-        rt.alloc(),
-        &[
-            formed(1, [1, 0, 0]),
-            formed(3, [1, 0, 0]),
-            formed(0, [0, 0, 1]),
-        ],
-        false,
-    )?;
-    let need = |slot, array| Instr::Need {
-        slot,
-        array,
-        shift: [0, 0, 0],
-        line: 1,
-    };
-    all_instrs(&rt, rt.alloc(), &[need(0, 0), need(1, 3)], true)?;
-    all_instrs(
-        &rt,
-        rt.alloc(),
-        &[need(0, 1), need(1, 0), need(0, 4)],
-        false,
-    )?;
-    let room = |array| Instr::Room { array, slot: 0 };
-    all_instrs(&rt, rt.alloc(), &[room(1), Instr::Clear { array: 0 }], true)?;
-    all_instrs(
-        &rt,
-        rt.alloc(),
-        &[room(0), Instr::Clear { array: 1 }],
-        false,
-    )?;
-    let run = |slot, group| Instr::Loop { slot, group };
-    all_instrs(&rt, rt.alloc(), &[run(0, 0), run(1, 1), run(1, 2)], true)?;
-    all_instrs(
-        &rt,
-        rt.alloc(),
-        &[run(1, 0), run(0, 1), run(0, 2), run(0, 3)],
-        false,
-    )?;
-    Ok(())
 }
 
-#[test]
-fn collectives(rt: HostRuntime) -> Result<(), Fail> {
-    let edge = |array, slot| Instr::Edge {
-        kind: Border::Wrap,
-        array,
-        slot,
-        shift: [1, 0, 0],
-    };
-    let flood = |array, source| Instr::Flood {
-        array,
-        target: 0,
-        from: 0,
-        source,
-    };
-    let scan = |along, mask| Instr::Scan {
-        array: 0,
-        slot: 0,
-        fold: Fold::Sum,
-        along,
-        from: 1,
-        mask,
-    };
-    all_instrs(
-        &rt,
-        rt.alloc(),
-        &[edge(0, 0), flood(1, 2), scan(0, None), scan(1, Some(1))],
-        true,
-    )?;
-    all_instrs(
-        &rt,
-        rt.alloc(),
-        &[
-            edge(3, 0),
-            flood(3, 2),
-            flood(1, 1),
-            scan(2, None),
-            scan(1, Some(3)),
-        ],
-        false,
-    )?;
-    let remap = |array, from, parts| Instr::Remap {
-        array,
-        slot: 0,
-        from,
-        parts,
-    };
-    let index = Some(2);
-    all_instrs(&rt, rt.alloc(), &[remap(1, 0, [index, None, None])], true)?;
-    all_instrs(
-        &rt,
-        rt.alloc(),
-        &[
-            remap(2, 0, [index, None, None]),
-            remap(1, 3, [index, index, None]),
-            remap(1, 2, [index, None, None]),
-        ],
-        false,
-    )?;
-    all_instrs(
-        &rt,
-        rt.alloc(),
-        &[
-            remap(0, 0, [index, None, None]),
-            remap(1, 0, [None, None, None]),
-            remap(1, 0, [index, index, None]),
-        ],
-        false,
-    )?;
-    Ok(())
-}
-
-#[test]
-fn loops_of_members(rt: HostRuntime) -> Result<(), Fail> {
-    let again = Member::OpenWhile {
-        expr: 2,
-        mask: Some(2),
-        line: 1,
-    };
-    let add = |scalar, expr| Member::Acc {
-        scalar,
-        fold: Fold::Sum,
-        expr,
-        mask: None,
-        line: 1,
-    };
-    all_groups(
-        &rt,
-        rt.alloc(),
-        &[&[again, PUT_FOUR, Member::CloseWhile], &[add(0, 2)]],
-        true,
-    )?;
-    all_groups(
-        &rt,
-        rt.alloc(),
-        &[
-            &[again],
-            &[Member::CloseWhile],
-            &[again, Member::Otherwise, Member::CloseWhile],
-            &[again, Member::Until { expr: 2 }],
-        ],
-        false,
-    )?;
-    all_groups(&rt, rt.alloc(), &[&[add(1, 2)], &[add(0, 5)]], false)?;
-    Ok(())
-}
-
-#[test]
-fn rows_that_test_regions(rt: HostRuntime) -> Result<(), Fail> {
-    let same = |target, source| Instr::Same {
-        target,
-        source,
-        kind: SameKind::Part,
-        line: 1,
-    };
-    let fits = |slot, shift| Instr::Fits {
-        slot,
-        shift,
-        line: 1,
-    };
-    all_instrs(
-        &rt,
-        rt.alloc(),
-        &[same(0, 2), same(1, 1), fits(1, [1, -2_147_483_648, 0])],
-        true,
-    )?;
-    all_instrs(
-        &rt,
-        rt.alloc(),
-        &[
-            same(0, 1),
-            same(3, 0),
-            same(0, 3),
-            fits(0, [0, 1, 0]),
-            fits(0, [2_147_483_649, 0, 0]),
-            fits(3, [0, 0, 0]),
-        ],
-        false,
-    )?;
-    Ok(())
-}
-
-#[test]
-fn rows_of_all_processors(rt: HostRuntime) -> Result<(), Fail> {
-    let part = |array, source| Instr::Part {
-        array,
-        target: 0,
-        fold: Fold::Max,
-        from: 0,
-        source,
-    };
-    let gather = |array, slot| Instr::Gather {
-        truth: true,
-        array,
-        slot,
-    };
-    all_instrs(
-        &rt,
-        rt.alloc(),
-        &[part(1, 2), gather(0, 0), gather(3, 1)],
-        true,
-    )?;
-    all_instrs(
-        &rt,
-        rt.alloc(),
-        &[
-            part(3, 2),
-            part(1, 1),
-            part(4, 2),
-            gather(0, 1),
-            gather(4, 0),
-            gather(0, 3),
-        ],
-        false,
-    )?;
-    Ok(())
-}
-
-#[test]
-fn other_rows(rt: HostRuntime) -> Result<(), Fail> {
-    let tree = |scalar| Instr::TreeFold {
-        scalar,
-        fold: Fold::Any,
-    };
-    let trap = Instr::Trap {
+/// Rows of scalars, jumps and texts.
+const SCALARS: [Added<'static>; 11] = [
+    set!(0, 1),
+    unless!(1, 2),
+    code!(Instr::Jump { goal: 2 }),
+    code!(Instr::Print { text: 0 }),
+    fold!(0),
+    code!(Instr::Vote { group: 2 }),
+    code!(Instr::Truth { expr: 0 }),
+    tree!(0),
+    code!(Instr::Trap {
         kind: TrapKind::RegionMismatch,
-        line: 4_294_967_295,
+        line: LINE
+    }),
+    code!(Instr::Number { expr: 1 }),
+    code!(Instr::Finish { exchange: 0 }),
+];
+
+const NO_SCALARS: [Added<'static>; 16] = [
+    set!(1, 1),
+    set!(0, 5),
+    set!(0, 2),
+    set!(0, 3),
+    unless!(2, 2),
+    unless!(1, 3),
+    code!(Instr::Jump { goal: 3 }),
+    code!(Instr::Print { text: 1 }),
+    fold!(1),
+    code!(Instr::TreeVote { group: 3 }),
+    code!(Instr::Truth { expr: 4 }),
+    code!(Instr::Start { exchange: 1 }),
+    tree!(1),
+    code!(Instr::Number { expr: 2 }),
+    code!(Instr::Number { expr: 5 }),
+    code!(Instr::Finish { exchange: 1 }),
+];
+
+/// What stands for a dimension past a region's rank.
+const PADDING: Dim = Dim::Range {
+    lo: 0,
+    hi: 0,
+    step: 1,
+    align: 0,
+};
+
+const FOUR: Dim = Dim::Range {
+    lo: 1,
+    hi: 4,
+    step: 1,
+    align: 1,
+};
+
+macro_rules! ranked {
+    ($slot:expr, $rank:expr, $first:expr, $second:expr) => {
+        Added::Code(Instr::Fix {
+            slot: $slot,
+            region: Region {
+                rank: $rank,
+                dims: [$first, $second, PADDING],
+            },
+        })
     };
-    all_instrs(
-        &rt,
-        rt.alloc(),
-        &[
-            tree(0),
-            trap,
-            Instr::Number { expr: 1 },
-            Instr::Finish { exchange: 0 },
-        ],
-        true,
-    )?;
-    all_instrs(
-        &rt,
-        rt.alloc(),
-        &[
-            tree(1),
-            Instr::Number { expr: 2 },
-            Instr::Number { expr: 5 },
-            Instr::Finish { exchange: 1 },
-        ],
-        false,
-    )?;
-    Ok(())
+}
+
+macro_rules! fixed {
+    ($lo:expr, $hi:expr, $step:expr, $align:expr) => {
+        ranked!(
+            0,
+            1,
+            Dim::Range {
+                lo: $lo,
+                hi: $hi,
+                step: $step,
+                align: $align,
+            },
+            PADDING
+        )
+    };
+}
+
+macro_rules! dims {
+    ($slot:expr, $first:expr, $second:expr) => {
+        Added::Code(Instr::Dims {
+            slot: $slot,
+            parts: [$first, $second, DimRow::Star],
+            line: 1,
+        })
+    };
+}
+
+macro_rules! formed {
+    ($slot:expr, $from:expr, $shift:expr) => {
+        Added::Code(Instr::Formed {
+            form: RegionForm::By,
+            slot: $slot,
+            from: $from,
+            shift: $shift,
+            line: 1,
+        })
+    };
+}
+
+macro_rules! need {
+    ($slot:expr, $array:expr) => {
+        Added::Code(Instr::Need {
+            slot: $slot,
+            array: $array,
+            shift: [0, 0, 0],
+            line: 1,
+        })
+    };
+}
+
+macro_rules! same {
+    ($target:expr, $source:expr) => {
+        Added::Code(Instr::Same {
+            target: $target,
+            source: $source,
+            kind: SameKind::Part,
+            line: 1,
+        })
+    };
+}
+
+macro_rules! fits {
+    ($slot:expr, $shift:expr) => {
+        Added::Code(Instr::Fits {
+            slot: $slot,
+            shift: $shift,
+            line: 1,
+        })
+    };
+}
+
+const SPAN: DimRow = DimRow::Span(0, 1);
+
+const STAR: DimRow = DimRow::Star;
+
+/// Rows that make or test regions.
+const REGIONS: [Added<'static>; 12] = [
+    fixed!(1, 4_194_304, 1, 1),
+    fixed!(1, 4, 2_147_483_648, 1_099_511_627_776),
+    ranked!(0, 1, Dim::Flood, PADDING),
+    ranked!(1, 2, FOUR, Dim::Flood),
+    dims!(0, SPAN, STAR),
+    dims!(1, DimRow::Copied(1), SPAN),
+    formed!(0, 2, [2_147_483_648, 0, 0]),
+    need!(0, 0),
+    need!(1, 3),
+    same!(0, 2),
+    same!(1, 1),
+    fits!(1, [1, -2_147_483_648, 0]),
+];
+
+const NO_REGIONS: [Added<'static>; 22] = [
+    fixed!(1, 4_194_305, 1, 1),
+    fixed!(1, 4, 0, 1),
+    fixed!(1, 4, 2_147_483_649, 1),
+    fixed!(0, 2_147_483_649, 1, 0),
+    ranked!(1, 1, FOUR, PADDING),
+    ranked!(1, 1, FOUR, Dim::Flood),
+    ranked!(1, 4, FOUR, PADDING),
+    dims!(0, SPAN, SPAN),
+    dims!(1, DimRow::Copied(0), SPAN),
+    dims!(0, DimRow::Span(0, 2), STAR),
+    formed!(0, 1, [1, 0, 0]),
+    formed!(0, 3, [1, 0, 0]),
+    formed!(0, 0, [0, 0, 1]),
+    need!(0, 1),
+    need!(1, 0),
+    need!(0, 4),
+    same!(0, 1),
+    same!(3, 0),
+    same!(0, 3),
+    fits!(0, [0, 1, 0]),
+    fits!(0, [2_147_483_649, 0, 0]),
+    fits!(3, [0, 0, 0]),
+];
+
+macro_rules! room {
+    ($array:expr) => {
+        Added::Code(Instr::Room {
+            array: $array,
+            slot: 0,
+        })
+    };
+}
+
+macro_rules! run {
+    ($slot:expr, $group:expr) => {
+        Added::Code(Instr::Loop {
+            slot: $slot,
+            group: $group,
+        })
+    };
+}
+
+macro_rules! edge {
+    ($array:expr) => {
+        Added::Code(Instr::Edge {
+            kind: Border::Wrap,
+            array: $array,
+            slot: 0,
+            shift: [1, 0, 0],
+        })
+    };
+}
+
+macro_rules! flood {
+    ($array:expr, $source:expr) => {
+        Added::Code(Instr::Flood {
+            array: $array,
+            target: 0,
+            from: 0,
+            source: $source,
+        })
+    };
+}
+
+macro_rules! part {
+    ($array:expr, $source:expr) => {
+        Added::Code(Instr::Part {
+            array: $array,
+            target: 0,
+            fold: Fold::Max,
+            from: 0,
+            source: $source,
+        })
+    };
+}
+
+macro_rules! scan {
+    ($along:expr, $mask:expr) => {
+        Added::Code(Instr::Scan {
+            array: 0,
+            slot: 0,
+            fold: Fold::Sum,
+            along: $along,
+            from: 1,
+            mask: $mask,
+        })
+    };
+}
+
+macro_rules! remap {
+    ($array:expr, $from:expr, $first:expr, $second:expr) => {
+        Added::Code(Instr::Remap {
+            array: $array,
+            slot: 0,
+            from: $from,
+            parts: [$first, $second, None],
+        })
+    };
+}
+
+macro_rules! gather {
+    ($array:expr, $slot:expr) => {
+        Added::Code(Instr::Gather {
+            truth: true,
+            array: $array,
+            slot: $slot,
+        })
+    };
+}
+
+/// Rows of arrays, loops, and what all processors do together.
+const ARRAY_ROWS: [Added<'static>; 13] = [
+    room!(1),
+    code!(Instr::Clear { array: 0 }),
+    run!(0, 0),
+    run!(1, 1),
+    run!(1, 2),
+    edge!(0),
+    flood!(1, 2),
+    scan!(0, None),
+    scan!(1, Some(1)),
+    remap!(1, 0, Some(2), None),
+    part!(1, 2),
+    gather!(0, 0),
+    gather!(3, 1),
+];
+
+const NO_ARRAY_ROWS: [Added<'static>; 23] = [
+    room!(0),
+    code!(Instr::Clear { array: 1 }),
+    run!(1, 0),
+    run!(0, 1),
+    run!(0, 2),
+    run!(0, 3),
+    edge!(3),
+    flood!(3, 2),
+    flood!(1, 1),
+    scan!(2, None),
+    scan!(1, Some(3)),
+    remap!(2, 0, Some(2), None),
+    remap!(1, 3, Some(2), Some(2)),
+    remap!(1, 2, Some(2), None),
+    remap!(0, 0, Some(2), None),
+    remap!(1, 0, None, None),
+    remap!(1, 0, Some(2), Some(2)),
+    part!(3, 2),
+    part!(1, 1),
+    part!(4, 2),
+    gather!(0, 1),
+    gather!(4, 0),
+    gather!(0, 3),
+];
+
+#[test]
+fn instructions(rt: HostRuntime) -> Result<(), Fail> {
+    let alloc = rt.alloc();
+    expect(&rt, alloc, &SCALARS, true)?;
+    expect(&rt, alloc, &NO_SCALARS, false)?;
+    expect(&rt, alloc, &REGIONS, true)?;
+    expect(&rt, alloc, &NO_REGIONS, false)?;
+    expect(&rt, alloc, &ARRAY_ROWS, true)?;
+    expect(&rt, alloc, &NO_ARRAY_ROWS, false)
 }

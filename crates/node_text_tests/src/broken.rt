@@ -1,261 +1,252 @@
 //! Listings with one line that breaks a rule of tables, or has no form.
-use crate::reading::{expect, expect_rows, text_of};
+use crate::reading::{holds, is_kept, is_refused, text_of};
 use node_text::ListFault;
-use std::alloc::Global;
+use std::alloc::{AllocError, Global};
 use std::process::Abort;
 use std::test::Fail;
 
-const WHOLE: [&[u8]; 28] = [
-    b"zplnode 1",
-    b"grid 2",
-    b"scalars 1",
-    b"slots 1 2",
-    b"cells 1",
-    b"array 0..9:1,1",
-    b"array -",
-    b"array 0..9:0,0 0..9:0,0",
-    b"text 68",
-    b"expr n1",
-    b"expr a0",
-    b"expr i2",
-    b"group",
-    b"put 0 1 - 3",
-    b"group",
-    b"acc 0 sum 0 - 3",
-    b"exchange",
-    b"item 0 0 1",
-    b"code",
-    b"fix 0 1..4:1:1",
-    b"loop 0 0",
-    b"start 0",
-    b"finish 0",
-    b"set 0 0 4",
-    b"room 1 0",
-    b"unless 0 9 5",
-    b"number 0",
-    b"end",
+const WHOLE: [&str; 28] = [
+    "zplnode 1",
+    "grid 2",
+    "scalars 1",
+    "slots 1 2",
+    "cells 1",
+    "array 0..9:1,1",
+    "array -",
+    "array 0..9:0,0 0..9:0,0",
+    "text 68",
+    "expr n1",
+    "expr a0",
+    "expr i2",
+    "group",
+    "put 0 1 - 3",
+    "group",
+    "acc 0 sum 0 - 3",
+    "exchange",
+    "item 0 0 1",
+    "code",
+    "fix 0 1..4:1:1",
+    "loop 0 0",
+    "start 0",
+    "finish 0",
+    "set 0 0 4",
+    "room 1 0",
+    "unless 0 9 5",
+    "number 0",
+    "end",
 ];
 
 /// A line by its number, and what stands in its place: it breaks a rule of tables.
-const HEADS: [(u32, &[u8]); 18] = [
-    (2, b"grid 0"),
-    (2, b"grid -1"),
-    (2, b"grid 65"),
-    (2, b"grid 9 9"),
-    (2, b"grid 1 0 1"),
-    (3, b"scalars -4294967296"),
-    (3, b"scalars -1"),
-    (3, b"scalars 4294967296"),
-    (4, b"slots 0 2"),
-    (4, b"slots 1 4"),
-    (4, b"slots -1 2"),
-    (5, b"cells 4294967296"),
-    (6, b"array 0..9:-1,1"),
-    (6, b"array 0..9:1,2147483649"),
-    (6, b"array 0..4194304:0,0"),
-    (6, b"array -2147483649..-2147483648:0,0"),
-    (7, b"array - - - -"),
-    (8, b"array 0..9:0,0 0..9:0,0 * *"),
+const HEADS: [(u32, &str); 18] = [
+    (2, "grid 0"),
+    (2, "grid -1"),
+    (2, "grid 65"),
+    (2, "grid 9 9"),
+    (2, "grid 1 0 1"),
+    (3, "scalars -4294967296"),
+    (3, "scalars -1"),
+    (3, "scalars 4294967296"),
+    (4, "slots 0 2"),
+    (4, "slots 1 4"),
+    (4, "slots -1 2"),
+    (5, "cells 4294967296"),
+    (6, "array 0..9:-1,1"),
+    (6, "array 0..9:1,2147483649"),
+    (6, "array 0..4194304:0,0"),
+    (6, "array -2147483649..-2147483648:0,0"),
+    (7, "array - - - -"),
+    (8, "array 0..9:0,0 0..9:0,0 * *"),
 ];
 
-const EXPRS: [(u32, &[u8]); 16] = [
-    (10, b"expr +"),
-    (10, b"expr n1 n2"),
-    (10, b"expr n1 +"),
-    (10, b"expr neg n1"),
-    (10, b"expr s1"),
-    (10, b"expr c1"),
-    (10, b"expr s4294967296"),
-    (10, b"expr s-1"),
-    (11, b"expr a3"),
-    (11, b"expr a0 a2 +"),
-    (11, b"expr a0 i2 +"),
-    (11, b"expr a0@1,1"),
-    (11, b"expr a2@1"),
-    (11, b"expr a0@2147483649"),
-    (12, b"expr a0@-2147483649"),
-    (12, b"expr i2 a1 +"),
+const EXPRS: [(u32, &str); 16] = [
+    (10, "expr +"),
+    (10, "expr n1 n2"),
+    (10, "expr n1 +"),
+    (10, "expr neg n1"),
+    (10, "expr s1"),
+    (10, "expr c1"),
+    (10, "expr s4294967296"),
+    (10, "expr s-1"),
+    (11, "expr a3"),
+    (11, "expr a0 a2 +"),
+    (11, "expr a0 i2 +"),
+    (11, "expr a0@1,1"),
+    (11, "expr a2@1"),
+    (11, "expr a0@2147483649"),
+    (12, "expr a0@-2147483649"),
+    (12, "expr i2 a1 +"),
 ];
 
-const ROWS: [(u32, &[u8]); 18] = [
-    (14, b"put 3 1 - 3"),
-    (14, b"put 0 3 - 3"),
-    (14, b"put 0 2 - 3"),
-    (14, b"put 2 1 - 3"),
-    (14, b"put 0 1 3 3"),
-    (14, b"put 0 1 2 3"),
-    (14, b"put 0 1 - -1"),
-    (14, b"put 0 1 - 4294967296"),
-    (14, b"cell 1 1 - 3"),
-    (16, b"acc 1 sum 0 - 3"),
-    (18, b"item 3 0 1"),
-    (18, b"item 1 0 1"),
-    (18, b"item 2 0 1"),
-    (18, b"item 0 2 1"),
-    (18, b"item 0 1 1"),
-    (18, b"item 0 0 1,1"),
-    (18, b"item 0 0 2147483649"),
-    (18, b"item -1 0 1"),
+const ROWS: [(u32, &str); 18] = [
+    (14, "put 3 1 - 3"),
+    (14, "put 0 3 - 3"),
+    (14, "put 0 2 - 3"),
+    (14, "put 2 1 - 3"),
+    (14, "put 0 1 3 3"),
+    (14, "put 0 1 2 3"),
+    (14, "put 0 1 - -1"),
+    (14, "put 0 1 - 4294967296"),
+    (14, "cell 1 1 - 3"),
+    (16, "acc 1 sum 0 - 3"),
+    (18, "item 3 0 1"),
+    (18, "item 1 0 1"),
+    (18, "item 2 0 1"),
+    (18, "item 0 2 1"),
+    (18, "item 0 1 1"),
+    (18, "item 0 0 1,1"),
+    (18, "item 0 0 2147483649"),
+    (18, "item -1 0 1"),
 ];
 
-const STEPS: [(u32, &[u8]); 18] = [
-    (20, b"fix 2 1..4:1:1"),
-    (20, b"fix 1 1..4:1:1"),
-    (20, b"fix 0 1..4:0:1"),
-    (20, b"fix 0 0..4194304:1:0"),
-    (20, b"fix 0 1..4:2147483649:1"),
-    (21, b"loop 0 2"),
-    (21, b"loop 1 0"),
-    (22, b"start 1"),
-    (23, b"finish 1"),
-    (24, b"set 1 0 4"),
-    (24, b"set 0 1 4"),
-    (24, b"set 0 3 4"),
-    (25, b"room 0 0"),
-    (25, b"room 1 1"),
-    (25, b"clear 1"),
-    (25, b"clear 3"),
-    (26, b"unless 0 10 5"),
-    (26, b"unless 2 9 5"),
-];
-
-const MORE_STEPS: [(u32, &[u8]); 18] = [
-    (20, b"dims 0 0..1 3"),
-    (20, b"dims 0 ^1 3"),
-    (20, b"dims 0 0..0 0..0 3"),
-    (25, b"need 0 1 1 5"),
-    (25, b"need 0 0 1,1 5"),
-    (26, b"of 0 1 1 5"),
-    (26, b"same 0 2 part 5"),
-    (26, b"fits 0 1,1 5"),
-    (26, b"jump 10"),
-    (27, b"number 1"),
-    (27, b"truth 2"),
-    (27, b"print 1"),
-    (27, b"vote 2"),
-    (27, b"fold 1 sum"),
-    (27, b"scan 1 0 sum 2 0 -"),
-    (27, b"gather number 3 0"),
-    (27, b"remap 1 0 0 1"),
-    (27, b"trap 1 4294967296"),
+const STEPS: [(u32, &str); 36] = [
+    (20, "fix 2 1..4:1:1"),
+    (20, "fix 1 1..4:1:1"),
+    (20, "fix 0 1..4:0:1"),
+    (20, "fix 0 0..4194304:1:0"),
+    (20, "fix 0 1..4:2147483649:1"),
+    (21, "loop 0 2"),
+    (21, "loop 1 0"),
+    (22, "start 1"),
+    (23, "finish 1"),
+    (24, "set 1 0 4"),
+    (24, "set 0 1 4"),
+    (24, "set 0 3 4"),
+    (25, "room 0 0"),
+    (25, "room 1 1"),
+    (25, "clear 1"),
+    (25, "clear 3"),
+    (26, "unless 0 10 5"),
+    (26, "unless 2 9 5"),
+    (20, "dims 0 0..1 3"),
+    (20, "dims 0 ^1 3"),
+    (20, "dims 0 0..0 0..0 3"),
+    (25, "need 0 1 1 5"),
+    (25, "need 0 0 1,1 5"),
+    (26, "of 0 1 1 5"),
+    (26, "same 0 2 part 5"),
+    (26, "fits 0 1,1 5"),
+    (26, "jump 10"),
+    (27, "number 1"),
+    (27, "truth 2"),
+    (27, "print 1"),
+    (27, "vote 2"),
+    (27, "fold 1 sum"),
+    (27, "scan 1 0 sum 2 0 -"),
+    (27, "gather number 3 0"),
+    (27, "remap 1 0 0 1"),
+    (27, "trap 1 4294967296"),
 ];
 
 /// What stands in the place of a line: it has none of the forms in its place.
-const FORMS: [(u32, &[u8]); 16] = [
-    (1, b"zplnode 2"),
-    (2, b"grid 02"),
-    (2, b"grid +2"),
-    (2, b"grid -0"),
-    (2, b"grid  2"),
-    (2, b"grid 2 "),
-    (2, b"grid\t2"),
-    (2, b"grid 2\r"),
-    (2, b"grid 9223372036854775808"),
-    (7, b"array -*,-"),
-    (7, b"array * -"),
-    (9, b"text 6A"),
-    (9, b"text \xc3\xa9"),
-    (14, b"put 0 1 3"),
-    (19, b"code 1"),
-    (28, b"stop"),
+const FORMS: [(u32, &str); 16] = [
+    (1, "zplnode 2"),
+    (2, "grid 02"),
+    (2, "grid +2"),
+    (2, "grid -0"),
+    (2, "grid  2"),
+    (2, "grid 2 "),
+    (2, "grid\t2"),
+    (2, "grid 2\r"),
+    (2, "grid 9223372036854775808"),
+    (7, "array -*,-"),
+    (7, "array * -"),
+    (9, "text 6A"),
+    (9, "text \u{e9}"),
+    (14, "put 0 1 3"),
+    (19, "code 1"),
+    (28, "stop"),
 ];
 
-fn expect_broken(rt: &impl Abort, alloc: Global, rows: &[(u32, &[u8])]) -> Result<(), Fail> {
+/// The whole listing with this line in the place of the one of that number.
+fn with_line(alloc: Global, number: u32, line: &str) -> Result<Vec<u8>, AllocError> {
+    let mut text = Vec::new(alloc);
+    let mut at: u32 = 0;
+    for own in WHOLE {
+        at = at.wrapping_add(1);
+        let row = if at == number { line } else { own };
+        text.extend_from_slice(row.as_bytes())?;
+        text.push(b'\n')?;
+    }
+    Ok(text)
+}
+
+/// Each of these lines breaks a rule.
+fn expect_broken(rt: &impl Abort, alloc: Global, rows: &[(u32, &str)]) -> Result<(), AllocError> {
     for (number, row) in rows {
-        let mut lines = WHOLE;
-        assert!(rt; 1 <= *number && *number as usize <= lines.len());
-        lines[*number as usize - 1] = row;
+        let text = with_line(alloc, *number, row)?;
         let fault = ListFault::BadTable { line: *number };
-        expect_rows(rt, alloc, &lines, Some(fault))?;
-    }
-    Ok(())
-}
-
-fn expect_formless(rt: &impl Abort, alloc: Global, rows: &[(u32, &[u8])]) -> Result<(), Fail> {
-    for (number, row) in rows {
-        let mut lines = WHOLE;
-        assert!(rt; 1 <= *number && *number as usize <= lines.len());
-        lines[*number as usize - 1] = row;
-        let fault = ListFault::BadLine { line: *number };
-        expect_rows(rt, alloc, &lines, Some(fault))?;
+        holds(rt, is_refused(alloc, &text, fault), row);
     }
     Ok(())
 }
 
 #[test]
-fn the_whole_listing(rt: HostRuntime) -> Result<(), Fail> {
-    expect_rows(&rt, rt.alloc(), &WHOLE, None)
-}
-
-#[test]
-fn broken_heads(rt: HostRuntime) -> Result<(), Fail> {
-    expect_broken(&rt, rt.alloc(), &HEADS)
-}
-
-#[test]
-fn broken_expressions(rt: HostRuntime) -> Result<(), Fail> {
-    expect_broken(&rt, rt.alloc(), &EXPRS)
-}
-
-#[test]
-fn broken_members_and_items(rt: HostRuntime) -> Result<(), Fail> {
-    expect_broken(&rt, rt.alloc(), &ROWS)
-}
-
-#[test]
-fn broken_steps(rt: HostRuntime) -> Result<(), Fail> {
+fn broken_lines(rt: HostRuntime) -> Result<(), Fail> {
+    expect_broken(&rt, rt.alloc(), &HEADS)?;
+    expect_broken(&rt, rt.alloc(), &EXPRS)?;
+    expect_broken(&rt, rt.alloc(), &ROWS)?;
     expect_broken(&rt, rt.alloc(), &STEPS)?;
-    expect_broken(&rt, rt.alloc(), &MORE_STEPS)
+    Ok(())
 }
 
 #[test]
 fn lines_without_a_form(rt: HostRuntime) -> Result<(), Fail> {
-    expect_formless(&rt, rt.alloc(), &FORMS)
+    for (line, row) in FORMS {
+        let text = with_line(rt.alloc(), line, row)?;
+        let is_right = is_refused(rt.alloc(), &text, ListFault::BadLine { line });
+        holds(&rt, is_right, row);
+    }
+    Ok(())
 }
 
-/// The first of two lines that break a rule is named; a line without a form behind it comes first.
+/// Behind the first lines: the first of two that break a rule is named, and a line without a form
+/// behind it comes first.
+const SEVERAL: [(&str, ListFault); 2] = [
+    (
+        "set 1 0 4\nroom 1 0\nunless 0 9 5\nnumber 1\nend\n",
+        ListFault::BadTable { line: 24 },
+    ),
+    (
+        "set 1 0 4\nroom 1 0\nunless 0 9 5\nnumber 1\nstop\n",
+        ListFault::BadLine { line: 28 },
+    ),
+];
+
 #[test]
 fn the_first_of_several(rt: HostRuntime) -> Result<(), Fail> {
-    let mut lines = WHOLE;
-    lines[23] = b"set 1 0 4";
-    lines[26] = b"number 1";
-    let fault = ListFault::BadTable { line: 24 };
-    expect_rows(&rt, rt.alloc(), &lines, Some(fault))?;
-    lines[27] = b"stop";
-    let fault = ListFault::BadLine { line: 28 };
-    expect_rows(&rt, rt.alloc(), &lines, Some(fault))
+    let alloc = rt.alloc();
+    for (rest, fault) in SEVERAL {
+        let mut text = text_of(alloc, &WHOLE[..23])?;
+        text.extend_from_slice(rest.as_bytes())?;
+        holds(&rt, is_refused(alloc, &text, fault), rest);
+    }
+    Ok(())
 }
 
-/// A missing last newline, and no bytes at all.
+/// The whole listing, without its last newline, and no bytes at all.
 #[test]
 fn ends_of_texts(rt: HostRuntime) -> Result<(), Fail> {
     let alloc = rt.alloc();
     let mut text = text_of(alloc, &WHOLE)?;
+    assert!(rt; is_kept(alloc, &text)?);
     let _ = text.pop();
-    expect(&rt, alloc, &text, Some(ListFault::BadLine { line: 28 }))?;
-    expect(&rt, alloc, b"", Some(ListFault::BadLine { line: 1 }))
+    assert!(rt; is_refused(alloc, &text, ListFault::BadLine { line: 28 }));
+    assert!(rt; is_refused(alloc, b"", ListFault::BadLine { line: 1 }));
+    Ok(())
 }
 
-const FULL: &[u8] = b"array 0..4194303:0,0";
+/// Four arrays fill the room of held boxes to the last word.
+const FULL: &str = "zplnode 1\ngrid 1\nscalars 0\nslots\ncells 0\narray 0..4194303:0,0\n\
+    array 0..4194303:0,0\narray 0..4194303:0,0\narray 0..4194303:0,0\narray -\ncode\n";
 
-/// Four arrays fill the room of held boxes to the last word; one word more is too many.
+/// One word more is too many.
+const TOO_FULL: &str = "zplnode 1\ngrid 1\nscalars 0\nslots\ncells 0\narray 0..4194303:0,0\n\
+    array 0..4194303:0,0\narray 0..4194303:0,0\narray 0..4194303:0,0\narray 0..0:0,0\ncode\n";
+
 #[test]
 fn the_room_of_held_boxes(rt: HostRuntime) -> Result<(), Fail> {
-    let alloc = rt.alloc();
-    let mut lines: [&[u8]; 11] = [
-        b"zplnode 1",
-        b"grid 1",
-        b"scalars 0",
-        b"slots",
-        b"cells 0",
-        FULL,
-        FULL,
-        FULL,
-        FULL,
-        b"array -",
-        b"code",
-    ];
-    expect_rows(&rt, alloc, &lines, None)?;
-    lines[9] = b"array 0..0:0,0";
-    expect_rows(&rt, alloc, &lines, Some(ListFault::BadTable { line: 10 }))
+    assert!(rt; is_kept(rt.alloc(), FULL.as_bytes())?);
+    let fault = ListFault::BadTable { line: 10 };
+    assert!(rt; is_refused(rt.alloc(), TOO_FULL.as_bytes(), fault));
+    Ok(())
 }

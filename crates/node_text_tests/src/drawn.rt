@@ -1,13 +1,7 @@
-//! Programs of drawn rows, written, read and written again.
-use crate::parts::{PADDING, Parts, range, tables};
-use crate::reading::expect;
-use node_form::{ArrayDim, ArrayRow, ExprOp, Instr, Item, Member, NodeProgram};
-use node_text::write_listing;
-use std::alloc::Global;
-use std::process::Abort;
+//! Listings of drawn rows, read and written again.
+use crate::reading::is_kept;
+use std::alloc::{AllocError, Global};
 use std::test::Fail;
-use zpl_nums::{Fold, Op};
-use zpl_region::Region;
 
 /// Numbers one after another, by a linear congruence.
 #[derive(Drop)]
@@ -16,12 +10,6 @@ struct Draws {
 }
 
 impl Draws {
-    fn new(seed: u64) -> Draws {
-        Draws {
-            state: seed % 2_147_483_648,
-        }
-    }
-
     /// The next number, below the most.
     fn below(&mut self, most: u32) -> u32 {
         self.state = self.state.wrapping_mul(1_103_515_245).wrapping_add(12_345) % 2_147_483_648;
@@ -29,136 +17,103 @@ impl Draws {
     }
 }
 
-const OPS: [Op; 4] = [Op::Add, Op::Mul, Op::Max, Op::Le];
+/// The parts of a listing: so many lines, of which each has one of these forms. A `?` with a digit
+/// stands for a number below it, a `!` with a digit for one from 1 up to it.
+const PARTS: [(u32, &[&str]); 11] = [
+    (1, &["zplnode 1"]),
+    (1, &["grid !4"]),
+    (1, &["scalars 2\nslots 1\ncells 1"]),
+    (2, &["array -!4..?9:?3,?3", "array ?5..!4:?3,?3"]),
+    (1, &["text 61"]),
+    (
+        3,
+        &[
+            "expr s?2 n?5 +",
+            "expr s?2 n-!4 *",
+            "expr s?2 n?5 max",
+            "expr s?2 n-!4 <=",
+        ],
+    ),
+    (1, &["group"]),
+    (
+        2,
+        &[
+            "put ?2 ?3 - ?9",
+            "put ?2 ?3 ?3 ?9",
+            "cell 0 ?3 - ?9",
+            "cell 0 ?3 ?3 ?9",
+            "acc ?2 sum ?3 - ?9",
+            "acc ?2 min ?3 ?3 ?9",
+            "acc ?2 any ?3 - ?9",
+        ],
+    ),
+    (1, &["exchange"]),
+    (1, &["item ?2 0 -!2", "item ?2 0 ?3"]),
+    (1, &["code"]),
+];
 
-const FOLDS: [Fold; 3] = [Fold::Sum, Fold::Min, Fold::Any];
+/// The forms of the ten instructions.
+const CODE: [&str; 7] = [
+    "set ?2 ?3 ?9",
+    "fix 0 -!4..!9:1:-!4",
+    "fix 0 ?5..9:1:?5",
+    "loop 0 0",
+    "unless ?3 ?9 ?9",
+    "number ?3",
+    "start 0",
+];
 
-/// The expression `sN nM OP`, of two scalars.
-fn expr(draws: &mut Draws) -> [ExprOp; 3] {
-    [
-        ExprOp::Scalar(draws.below(2)),
-        ExprOp::Const(i64::from(draws.below(9)) - 4),
-        ExprOp::Pair(OPS[draws.below(4) as usize % 4]),
-    ]
-}
-
-/// A member for arrays of rank 1, with one of three expressions.
-fn member(draws: &mut Draws) -> Member {
-    let expr = draws.below(3);
-    let mask = if draws.below(2) == 0 {
-        None
-    } else {
-        Some(draws.below(3))
-    };
-    let line = draws.below(99);
-    match draws.below(3) {
-        0 => Member::Put {
-            array: draws.below(2),
-            expr,
-            mask,
-            line,
-        },
-        1 => Member::Cell {
-            cell: 0,
-            expr,
-            mask,
-            line,
-        },
-        _ => Member::Acc {
-            scalar: draws.below(2),
-            fold: FOLDS[draws.below(3) as usize % 3],
-            expr,
-            mask,
-            line,
-        },
+/// Appends a line of this form.
+fn draw_line(draws: &mut Draws, form: &str, text: &mut Vec<u8>) -> Result<(), AllocError> {
+    let mut mark = b' ';
+    for byte in form.as_bytes() {
+        if mark == b'?' || mark == b'!' {
+            let drawn = draws.below(u32::from(byte.wrapping_sub(b'0'))) as u8;
+            let least = if mark == b'!' { b'1' } else { b'0' };
+            text.push(least.wrapping_add(drawn))?;
+            mark = b' ';
+        } else {
+            mark = *byte;
+            if mark != b'?' && mark != b'!' {
+                text.push(mark)?;
+            }
+        }
     }
+    text.push(b'\n')?;
+    Ok(())
 }
 
-/// A stored array of rank 1.
-fn array(draws: &mut Draws) -> ArrayRow {
-    let lo = i64::from(draws.below(9)) - 4;
-    let first = ArrayDim::Range {
-        lo,
-        hi: lo + i64::from(draws.below(9)),
-        low: i64::from(draws.below(3)),
-        high: i64::from(draws.below(3)),
-    };
-    ArrayRow {
-        rank: 1,
-        stored: true,
-        dims: [first, crate::parts::UNUSED, crate::parts::UNUSED],
+/// Appends so many lines, each with one of these forms.
+fn draw_lines(
+    draws: &mut Draws,
+    many: u32,
+    forms: &[&str],
+    text: &mut Vec<u8>,
+) -> Result<(), AllocError> {
+    for _ in 0..many {
+        let at = draws.below(forms.len() as u32);
+        if let Some(form) = forms.get(at as usize) {
+            draw_line(draws, form, text)?;
+        }
     }
+    Ok(())
 }
 
-/// One of the instructions, among ten.
-fn instr(draws: &mut Draws) -> Instr {
-    let lo = i64::from(draws.below(9)) - 4;
-    match draws.below(6) {
-        0 => Instr::Set {
-            scalar: draws.below(2),
-            expr: draws.below(3),
-            line: draws.below(99),
-        },
-        1 => Instr::Fix {
-            slot: 0,
-            region: Region {
-                rank: 1,
-                dims: [range(lo, lo + 5), PADDING, PADDING],
-            },
-        },
-        2 => Instr::Loop { slot: 0, group: 0 },
-        3 => Instr::Unless {
-            expr: draws.below(3),
-            goal: draws.below(11),
-            line: draws.below(99),
-        },
-        4 => Instr::Number {
-            expr: draws.below(3),
-        },
-        _ => Instr::Start { exchange: 0 },
-    }
-}
-
-fn ten(draws: &mut Draws) -> [Instr; 10] {
-    let mut code = [Instr::End; 10];
-    for step in &mut code {
-        *step = instr(draws);
-    }
-    code
-}
-
-fn expect_drawn(rt: &impl Abort, alloc: Global, seed: u64) -> Result<(), Fail> {
-    let mut draws = Draws::new(seed);
-    let arrays = [array(&mut draws), array(&mut draws)];
-    let exprs = [expr(&mut draws), expr(&mut draws), expr(&mut draws)];
-    let members = [member(&mut draws), member(&mut draws)];
-    let item = Item {
-        array: draws.below(2),
-        slot: 0,
-        shift: [i64::from(draws.below(5)) - 2, 0, 0],
-    };
-    let parts = Parts {
-        grid: [draws.below(4).wrapping_add(1), 0, 0],
-        scalars: 2,
-        cells: 1,
-        slots: &[1],
-        texts: &[b"a"],
-        exprs: &[&exprs[0], &exprs[1], &exprs[2]],
-        groups: &[&members],
-        exchanges: &[&[item]],
-    };
-    let tables = tables(alloc, parts, &arrays, &ten(&mut draws))?;
-    let fits = tables.fits_tables();
-    assert!(rt; fits);
+fn drawn_listing(alloc: Global, seed: u64) -> Result<Vec<u8>, AllocError> {
+    let mut draws = Draws { state: seed };
     let mut text = Vec::new(alloc);
-    write_listing(alloc, &NodeProgram::of(tables), &mut text)?;
-    expect(rt, alloc, &text, None)
+    for (many, forms) in PARTS {
+        draw_lines(&mut draws, many, forms, &mut text)?;
+    }
+    draw_lines(&mut draws, 10, &CODE, &mut text)?;
+    Ok(text)
 }
 
 #[test]
-fn drawn_programs(rt: HostRuntime) -> Result<(), Fail> {
+fn drawn_listings(rt: HostRuntime) -> Result<(), Fail> {
     for seed in 0..40 {
-        expect_drawn(&rt, rt.alloc(), seed)?;
+        let text = drawn_listing(rt.alloc(), seed)?;
+        assert!(rt; is_kept(rt.alloc(), &text)?, "{seed}");
     }
     Ok(())
 }

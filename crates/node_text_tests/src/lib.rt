@@ -8,10 +8,6 @@ mod drawn;
 #[cfg(test)]
 mod listings;
 #[cfg(test)]
-mod parts;
-#[cfg(test)]
-mod programs;
-#[cfg(test)]
 mod reading;
 #[cfg(test)]
 mod rows;

@@ -1,5 +1,5 @@
 //! Votes and folds.
-use crate::players::expect;
+use crate::players::{Case, expect_all};
 use std::test::Fail;
 
 const A_SUM_OF_ALL: &[u8] = b"\
@@ -34,18 +34,6 @@ const A_SUM_OF_ALL_TURNS: &[u8] = b"\
 0 moves, 3.0.0 done: 30 | 0
 1 moves, 3.0.0 done: 30 | 0
 ";
-
-/// `fold` on two processors.
-#[test]
-fn a_sum_of_all(rt: HostRuntime) -> Result<(), Fail> {
-    expect(
-        &rt,
-        rt.alloc(),
-        A_SUM_OF_ALL,
-        b"01010110010101",
-        A_SUM_OF_ALL_TURNS,
-    )
-}
 
 const A_SUM_OVER_A_TREE: &[u8] = b"\
 zplnode 1
@@ -116,18 +104,6 @@ const A_SUM_OVER_A_TREE_TURNS: &[u8] = b"\
 5 moves, 3.0.0 done: 21 | 0
 ";
 
-/// `treefold` on six processors: 0 has two children, 1 too, and 2 has one.
-#[test]
-fn a_sum_over_a_tree(rt: HostRuntime) -> Result<(), Fail> {
-    expect(
-        &rt,
-        rt.alloc(),
-        A_SUM_OVER_A_TREE,
-        b"01234501234501234534512121000101230123450123451245",
-        A_SUM_OVER_A_TREE_TURNS,
-    )
-}
-
 const NO_FLAG: &[u8] = b"\
 zplnode 1
 grid 2
@@ -157,12 +133,6 @@ const NO_FLAG_TURNS: &[u8] = b"\
 0 moves, 2.0.0 done:
 1 moves, 2.0.0 done:
 ";
-
-/// `vote` and `treevote` without a flag.
-#[test]
-fn no_flag(rt: HostRuntime) -> Result<(), Fail> {
-    expect(&rt, rt.alloc(), NO_FLAG, b"10010110010101", NO_FLAG_TURNS)
-}
 
 const THE_LEAST_FLAG: &[u8] = b"\
 zplnode 1
@@ -200,18 +170,6 @@ const THE_LEAST_FLAG_TURNS: &[u8] = b"\
 0 moves, 2.0.0 DivideByZero 7: 0 | 0 0 0
 1 moves, 2.0.0 DivideByZero 7: -1 | 0 0 0
 ";
-
-/// `vote` on two processors, which met other members: the least one's line is the trap's.
-#[test]
-fn the_least_flag(rt: HostRuntime) -> Result<(), Fail> {
-    expect(
-        &rt,
-        rt.alloc(),
-        THE_LEAST_FLAG,
-        b"0101010101100101",
-        THE_LEAST_FLAG_TURNS,
-    )
-}
 
 const THE_LEAST_FLAG_OVER_A_TREE: &[u8] = b"\
 zplnode 1
@@ -278,14 +236,35 @@ const THE_LEAST_FLAG_OVER_A_TREE_TURNS: &[u8] = b"\
 5 moves, 2.0.0 DivideByZero 7: 0 | 0
 ";
 
-/// `treevote` on six processors.
-#[test]
-fn the_least_flag_over_a_tree(rt: HostRuntime) -> Result<(), Fail> {
-    expect(
-        &rt,
-        rt.alloc(),
+const CASES: [Case; 5] = [
+    // `fold` on two processors.
+    (A_SUM_OF_ALL, None, b"01010110010101", A_SUM_OF_ALL_TURNS),
+    // `treefold` on six processors: 0 has two children, 1 too, and 2 has one.
+    (
+        A_SUM_OVER_A_TREE,
+        None,
+        b"01234501234501234534512121000101230123450123451245",
+        A_SUM_OVER_A_TREE_TURNS,
+    ),
+    // `vote` and `treevote` without a flag.
+    (NO_FLAG, None, b"10010110010101", NO_FLAG_TURNS),
+    // `vote` on two processors, which met other members: the least one's line is the trap's.
+    (
+        THE_LEAST_FLAG,
+        None,
+        b"0101010101100101",
+        THE_LEAST_FLAG_TURNS,
+    ),
+    // `treevote` on six processors.
+    (
         THE_LEAST_FLAG_OVER_A_TREE,
+        None,
         b"01234501234501234534512121000101230123451245",
         THE_LEAST_FLAG_OVER_A_TREE_TURNS,
-    )
+    ),
+];
+
+#[test]
+fn agreements(rt: HostRuntime) -> Result<(), Fail> {
+    expect_all(&rt, rt.alloc(), &CASES)
 }

@@ -1,5 +1,5 @@
 //! Rows that need scalars and slots alone, and the ends of processors.
-use crate::players::expect;
+use crate::players::{Case, expect_all};
 use std::test::Fail;
 
 const A_TEXT_AND_A_SUM: &[u8] = b"\
@@ -29,18 +29,6 @@ const A_TEXT_AND_A_SUM_TURNS: &[u8] = b"\
 1 moves, 3.0.0 done: 20
 1 over, 3.0.0 done: 20
 ";
-
-/// A text and a sum, on two processors; one more turn of one that has ended.
-#[test]
-fn a_text_and_a_sum(rt: HostRuntime) -> Result<(), Fail> {
-    expect(
-        &rt,
-        rt.alloc(),
-        A_TEXT_AND_A_SUM,
-        b"010101011",
-        A_TEXT_AND_A_SUM_TURNS,
-    )
-}
 
 const A_JUMP_OVER_A_TRAP: &[u8] = b"\
 zplnode 1
@@ -74,18 +62,6 @@ const A_JUMP_OVER_A_TRAP_TURNS: &[u8] = b"\
 0 over, 7.0.0 done: 1
 ";
 
-/// Jumps and tests; a truth value; an empty text; the end of the code without an `end`.
-#[test]
-fn a_jump_over_a_trap(rt: HostRuntime) -> Result<(), Fail> {
-    expect(
-        &rt,
-        rt.alloc(),
-        A_JUMP_OVER_A_TRAP,
-        b"000000000",
-        A_JUMP_OVER_A_TRAP_TURNS,
-    )
-}
-
 const TRAPS_END_A_PROCESSOR: &[u8] = b"\
 zplnode 1
 grid 2
@@ -108,18 +84,6 @@ const TRAPS_END_A_PROCESSOR_TURNS: &[u8] = b"\
 1 moves, 1.0.0 DivideByZero 0: 7
 ";
 
-/// A zero divisor in a `set` traps at its line, and one that is printed at line 0.
-#[test]
-fn traps_end_a_processor(rt: HostRuntime) -> Result<(), Fail> {
-    expect(
-        &rt,
-        rt.alloc(),
-        TRAPS_END_A_PROCESSOR,
-        b"0011",
-        TRAPS_END_A_PROCESSOR_TURNS,
-    )
-}
-
 const A_TRAP_OF_ITS_OWN: &[u8] = b"\
 zplnode 1
 grid 1
@@ -135,18 +99,6 @@ const A_TRAP_OF_ITS_OWN_TURNS: &[u8] = b"\
 0 moves, 0.0.0 RegionMismatch 9: 0
 0 over, 0.0.0 RegionMismatch 9: 0
 ";
-
-/// A row that traps; a zero divisor in a `set` and in a test.
-#[test]
-fn a_trap_of_its_own(rt: HostRuntime) -> Result<(), Fail> {
-    expect(
-        &rt,
-        rt.alloc(),
-        A_TRAP_OF_ITS_OWN,
-        b"00",
-        A_TRAP_OF_ITS_OWN_TURNS,
-    )
-}
 
 const A_DIVISOR_IN_A_SET: &[u8] = b"\
 zplnode 1
@@ -164,17 +116,6 @@ const A_DIVISOR_IN_A_SET_TURNS: &[u8] = b"\
 0 over, 0.0.0 DivideByZero 8: 0
 ";
 
-#[test]
-fn a_divisor_in_a_set(rt: HostRuntime) -> Result<(), Fail> {
-    expect(
-        &rt,
-        rt.alloc(),
-        A_DIVISOR_IN_A_SET,
-        b"00",
-        A_DIVISOR_IN_A_SET_TURNS,
-    )
-}
-
 const A_DIVISOR_IN_A_TEST: &[u8] = b"\
 zplnode 1
 grid 1
@@ -190,17 +131,6 @@ const A_DIVISOR_IN_A_TEST_TURNS: &[u8] = b"\
 0 moves, 0.0.0 DivideByZero 7: 0
 0 over, 0.0.0 DivideByZero 7: 0
 ";
-
-#[test]
-fn a_divisor_in_a_test(rt: HostRuntime) -> Result<(), Fail> {
-    expect(
-        &rt,
-        rt.alloc(),
-        A_DIVISOR_IN_A_TEST,
-        b"00",
-        A_DIVISOR_IN_A_TEST_TURNS,
-    )
-}
 
 const REGIONS_ARE_FORMED: &[u8] = b"\
 zplnode 1
@@ -255,18 +185,6 @@ const REGIONS_ARE_FORMED_TURNS: &[u8] = b"\
 0 moves, 12.0.0 done: 53
 ";
 
-/// Region forms, told by how many indices a loop over them has: `of`, `in`, `at`, `by` and `dims`.
-#[test]
-fn regions_are_formed(rt: HostRuntime) -> Result<(), Fail> {
-    expect(
-        &rt,
-        rt.alloc(),
-        REGIONS_ARE_FORMED,
-        b"000000000000000000000000",
-        REGIONS_ARE_FORMED_TURNS,
-    )
-}
-
 const REGIONS_ARE_TESTED: &[u8] = b"\
 zplnode 1
 grid 2
@@ -289,18 +207,6 @@ const REGIONS_ARE_TESTED_TURNS: &[u8] = b"\
 1 moves, 1.0.0: | 0 0 0
 ";
 
-/// A region inside a storage, one outside it, and a border that doesn't conform.
-#[test]
-fn regions_are_tested(rt: HostRuntime) -> Result<(), Fail> {
-    expect(
-        &rt,
-        rt.alloc(),
-        REGIONS_ARE_TESTED,
-        b"00001",
-        REGIONS_ARE_TESTED_TURNS,
-    )
-}
-
 const A_BORDER_DOES_NOT_CONFORM: &[u8] = b"\
 zplnode 1
 grid 1
@@ -316,17 +222,6 @@ const A_BORDER_DOES_NOT_CONFORM_TURNS: &[u8] = b"\
 0 moves, 1.0.0:
 0 moves, 1.0.0 RegionMismatch 2:
 ";
-
-#[test]
-fn a_border_does_not_conform(rt: HostRuntime) -> Result<(), Fail> {
-    expect(
-        &rt,
-        rt.alloc(),
-        A_BORDER_DOES_NOT_CONFORM,
-        b"00",
-        A_BORDER_DOES_NOT_CONFORM_TURNS,
-    )
-}
 
 const REGIONS_DO_NOT_CONFORM: &[u8] = b"\
 zplnode 1
@@ -350,17 +245,6 @@ const REGIONS_DO_NOT_CONFORM_TURNS: &[u8] = b"\
 0 moves, 4.0.0 RegionMismatch 3:
 ";
 
-#[test]
-fn regions_do_not_conform(rt: HostRuntime) -> Result<(), Fail> {
-    expect(
-        &rt,
-        rt.alloc(),
-        REGIONS_DO_NOT_CONFORM,
-        b"00000",
-        REGIONS_DO_NOT_CONFORM_TURNS,
-    )
-}
-
 const A_REGION_PAST_THE_LIMIT: &[u8] = b"\
 zplnode 1
 grid 1
@@ -377,13 +261,58 @@ const A_REGION_PAST_THE_LIMIT_TURNS: &[u8] = b"\
 0 moves, 0.0.0 RegionLimit 6:
 ";
 
-#[test]
-fn a_region_past_the_limit(rt: HostRuntime) -> Result<(), Fail> {
-    expect(
-        &rt,
-        rt.alloc(),
+const CASES: [Case; 11] = [
+    // A text and a sum, on two processors; one more turn of one that has ended.
+    (A_TEXT_AND_A_SUM, None, b"010101011", A_TEXT_AND_A_SUM_TURNS),
+    // Jumps and tests; a truth value; an empty text; the end of the code without an `end`.
+    (
+        A_JUMP_OVER_A_TRAP,
+        None,
+        b"000000000",
+        A_JUMP_OVER_A_TRAP_TURNS,
+    ),
+    // A zero divisor in a `set` traps at its line, and one that is printed at line 0.
+    (
+        TRAPS_END_A_PROCESSOR,
+        None,
+        b"0011",
+        TRAPS_END_A_PROCESSOR_TURNS,
+    ),
+    // A row that traps; a zero divisor in a `set` and in a test.
+    (A_TRAP_OF_ITS_OWN, None, b"00", A_TRAP_OF_ITS_OWN_TURNS),
+    (A_DIVISOR_IN_A_SET, None, b"00", A_DIVISOR_IN_A_SET_TURNS),
+    (A_DIVISOR_IN_A_TEST, None, b"00", A_DIVISOR_IN_A_TEST_TURNS),
+    // Region forms, told by how many indices a loop over them has: `of`, `in`, `at`, `by` and
+    // `dims`.
+    (
+        REGIONS_ARE_FORMED,
+        None,
+        b"000000000000000000000000",
+        REGIONS_ARE_FORMED_TURNS,
+    ),
+    // A region inside a storage, one outside it, and a border that doesn't conform.
+    (REGIONS_ARE_TESTED, None, b"00001", REGIONS_ARE_TESTED_TURNS),
+    (
+        A_BORDER_DOES_NOT_CONFORM,
+        None,
+        b"00",
+        A_BORDER_DOES_NOT_CONFORM_TURNS,
+    ),
+    (
+        REGIONS_DO_NOT_CONFORM,
+        None,
+        b"00000",
+        REGIONS_DO_NOT_CONFORM_TURNS,
+    ),
+    (
         A_REGION_PAST_THE_LIMIT,
+        None,
         b"0",
         A_REGION_PAST_THE_LIMIT_TURNS,
-    )
+    ),
+];
+
+#[test]
+fn basics(rt: HostRuntime) -> Result<(), Fail> {
+    expect_all(&rt, rt.alloc(), &CASES)
 }

@@ -1,5 +1,5 @@
 //! Exchanges, and borders by `wrap` and `reflect`.
-use crate::players::expect;
+use crate::players::{Case, expect_all};
 use std::test::Fail;
 
 const AN_EXCHANGE_OF_TWO_ITEMS: &[u8] = b"\
@@ -50,18 +50,6 @@ const AN_EXCHANGE_OF_TWO_ITEMS_TURNS: &[u8] = b"\
 1 moves, 5.0.0 done: | 20 30 40 | 23 24
 ";
 
-/// An exchange of two items: what each neighbour needs of two arrays in one message, the first item's words in front.
-#[test]
-fn an_exchange_of_two_items(rt: HostRuntime) -> Result<(), Fail> {
-    expect(
-        &rt,
-        rt.alloc(),
-        AN_EXCHANGE_OF_TWO_ITEMS,
-        b"01010101010101010101",
-        AN_EXCHANGE_OF_TWO_ITEMS_TURNS,
-    )
-}
-
 const WORDS_IN_ROW_MAJOR_ORDER: &[u8] = b"\
 zplnode 1
 grid 2 1
@@ -105,18 +93,6 @@ const WORDS_IN_ROW_MAJOR_ORDER_TURNS: &[u8] = b"\
 1 moves, 5.0.0 done: | 11 12 13 21 22 23
 ";
 
-/// On a grid of two by one, the last row of a block goes in row-major order.
-#[test]
-fn words_in_row_major_order(rt: HostRuntime) -> Result<(), Fail> {
-    expect(
-        &rt,
-        rt.alloc(),
-        WORDS_IN_ROW_MAJOR_ORDER,
-        b"01010101010101010101",
-        WORDS_IN_ROW_MAJOR_ORDER_TURNS,
-    )
-}
-
 const A_BORDER_FROM_THE_OTHER_SIDE: &[u8] = b"\
 zplnode 1
 grid 2
@@ -151,18 +127,6 @@ const A_BORDER_FROM_THE_OTHER_SIDE_TURNS: &[u8] = b"\
 0 moves, 3.0.0 done: | 30 10
 ";
 
-/// `wrap`: the border in front of a region from its last index, which the other processor owns.
-#[test]
-fn a_border_from_the_other_side(rt: HostRuntime) -> Result<(), Fail> {
-    expect(
-        &rt,
-        rt.alloc(),
-        A_BORDER_FROM_THE_OTHER_SIDE,
-        b"010101011101010",
-        A_BORDER_FROM_THE_OTHER_SIDE_TURNS,
-    )
-}
-
 const A_BORDER_FROM_THE_SAME_SIDE: &[u8] = b"\
 zplnode 1
 grid 2
@@ -194,18 +158,6 @@ const A_BORDER_FROM_THE_SAME_SIDE_TURNS: &[u8] = b"\
 1 moves, 3.0.0: | 20 30 0
 1 moves, 3.0.0 done: | 20 30 0
 ";
-
-/// `reflect`: the border in front of a region from its first index.
-#[test]
-fn a_border_from_the_same_side(rt: HostRuntime) -> Result<(), Fail> {
-    expect(
-        &rt,
-        rt.alloc(),
-        A_BORDER_FROM_THE_SAME_SIDE,
-        b"0101010101011",
-        A_BORDER_FROM_THE_SAME_SIDE_TURNS,
-    )
-}
 
 const CORNERS_OF_A_BORDER: &[u8] = b"\
 zplnode 1
@@ -264,14 +216,46 @@ const CORNERS_OF_A_BORDER_TURNS: &[u8] = b"\
 5 moves, 3.0.0 done: | 23 0 0 11
 ";
 
-/// `wrap` along both dimensions on six processors: the corner of a plane of two by three.
-#[test]
-fn corners_of_a_border(rt: HostRuntime) -> Result<(), Fail> {
-    expect(
-        &rt,
-        rt.alloc(),
+const CASES: [Case; 5] = [
+    // An exchange of two items: what each neighbour needs of two arrays in one message, the first
+    // item's words in front.
+    (
+        AN_EXCHANGE_OF_TWO_ITEMS,
+        None,
+        b"01010101010101010101",
+        AN_EXCHANGE_OF_TWO_ITEMS_TURNS,
+    ),
+    // On a grid of two by one, the last row of a block goes in row-major order.
+    (
+        WORDS_IN_ROW_MAJOR_ORDER,
+        None,
+        b"01010101010101010101",
+        WORDS_IN_ROW_MAJOR_ORDER_TURNS,
+    ),
+    // `wrap`: the border in front of a region from its last index, which the other processor owns.
+    (
+        A_BORDER_FROM_THE_OTHER_SIDE,
+        None,
+        b"010101011101010",
+        A_BORDER_FROM_THE_OTHER_SIDE_TURNS,
+    ),
+    // `reflect`: the border in front of a region from its first index.
+    (
+        A_BORDER_FROM_THE_SAME_SIDE,
+        None,
+        b"0101010101011",
+        A_BORDER_FROM_THE_SAME_SIDE_TURNS,
+    ),
+    // `wrap` along both dimensions on six processors: the corner of a plane of two by three.
+    (
         CORNERS_OF_A_BORDER,
+        None,
         b"01234501234501234501234501234501234505",
         CORNERS_OF_A_BORDER_TURNS,
-    )
+    ),
+];
+
+#[test]
+fn borders(rt: HostRuntime) -> Result<(), Fail> {
+    expect_all(&rt, rt.alloc(), &CASES)
 }

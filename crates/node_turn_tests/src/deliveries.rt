@@ -1,5 +1,5 @@
 //! Floods and partial reductions.
-use crate::players::expect;
+use crate::players::{Case, expect_all};
 use std::test::Fail;
 
 const A_ROW_FOR_ALL: &[u8] = b"\
@@ -43,18 +43,6 @@ const A_ROW_FOR_ALL_TURNS: &[u8] = b"\
 1 moves, 5.0.0 done: | 21 22 | 21 22
 0 moves, 5.0.0 done: | 11 12 | 21 22
 ";
-
-/// `flood`: the second row of a plane for both rows of another array.
-#[test]
-fn a_row_for_all(rt: HostRuntime) -> Result<(), Fail> {
-    expect(
-        &rt,
-        rt.alloc(),
-        A_ROW_FOR_ALL,
-        b"01010101010101101010",
-        A_ROW_FOR_ALL_TURNS,
-    )
-}
 
 const A_COLUMN_FOR_ALL: &[u8] = b"\
 zplnode 1
@@ -141,18 +129,6 @@ const A_COLUMN_FOR_ALL_TURNS: &[u8] = b"\
 5 moves, 6.0.0 done: | 23 | 22
 ";
 
-/// `flood` into a flood dimension, on six processors: each block of columns has the value of the second one.
-#[test]
-fn a_column_for_all(rt: HostRuntime) -> Result<(), Fail> {
-    expect(
-        &rt,
-        rt.alloc(),
-        A_COLUMN_FOR_ALL,
-        b"01234501234501234501234501234501234501234514012345012345012345",
-        A_COLUMN_FOR_ALL_TURNS,
-    )
-}
-
 const SUMS_OF_COLUMNS: &[u8] = b"\
 zplnode 1
 grid 2 1
@@ -194,18 +170,6 @@ const SUMS_OF_COLUMNS_TURNS: &[u8] = b"\
 1 moves, 5.0.0 done: | 21 22 |
 0 moves, 5.0.0 done: | 11 12 | 32 34
 ";
-
-/// `part`: sums along columns, for the first row. A processor without an index of the target joins nothing.
-#[test]
-fn sums_of_columns(rt: HostRuntime) -> Result<(), Fail> {
-    expect(
-        &rt,
-        rt.alloc(),
-        SUMS_OF_COLUMNS,
-        b"01010101010101101010",
-        SUMS_OF_COLUMNS_TURNS,
-    )
-}
 
 const A_MINIMUM_BEGINS_WITH_THE_UNIT: &[u8] = b"\
 zplnode 1
@@ -278,14 +242,41 @@ const A_MINIMUM_BEGINS_WITH_THE_UNIT_TURNS: &[u8] = b"\
 1 moves, 5.0.0 done: | 8 | 6
 ";
 
-/// `part` with `min` on six processors: who has no tuple of the source begins with the unit, and the words are joined.
-#[test]
-fn a_minimum_begins_with_the_unit(rt: HostRuntime) -> Result<(), Fail> {
-    expect(
-        &rt,
-        rt.alloc(),
+const CASES: [Case; 4] = [
+    // `flood`: the second row of a plane for both rows of another array.
+    (
+        A_ROW_FOR_ALL,
+        None,
+        b"01010101010101101010",
+        A_ROW_FOR_ALL_TURNS,
+    ),
+    // `flood` into a flood dimension, on six processors: each block of columns has the value of the
+    // second one.
+    (
+        A_COLUMN_FOR_ALL,
+        None,
+        b"01234501234501234501234501234501234501234514012345012345012345",
+        A_COLUMN_FOR_ALL_TURNS,
+    ),
+    // `part`: sums along columns, for the first row. A processor without an index of the target
+    // joins nothing.
+    (
+        SUMS_OF_COLUMNS,
+        None,
+        b"01010101010101101010",
+        SUMS_OF_COLUMNS_TURNS,
+    ),
+    // `part` with `min` on six processors: who has no tuple of the source begins with the unit, and
+    // the words are joined.
+    (
         A_MINIMUM_BEGINS_WITH_THE_UNIT,
+        None,
         b"0123450123450123450123450123450123450234513513511",
         A_MINIMUM_BEGINS_WITH_THE_UNIT_TURNS,
-    )
+    ),
+];
+
+#[test]
+fn deliveries(rt: HostRuntime) -> Result<(), Fail> {
+    expect_all(&rt, rt.alloc(), &CASES)
 }

@@ -1,5 +1,5 @@
 //! Arrays that are printed.
-use crate::players::expect;
+use crate::players::{Case, expect_all};
 use std::test::Fail;
 
 const AN_ARRAY_IS_PRINTED: &[u8] = b"\
@@ -38,18 +38,6 @@ const AN_ARRAY_IS_PRINTED_TURNS: &[u8] = b"\
 1 moves, 3.0.0 done: | -12 -13 -22 -23
 0 moves, 3.0.0 done: | -11 -21
 ";
-
-/// `gather` of a plane as numbers, on two processors.
-#[test]
-fn an_array_is_printed(rt: HostRuntime) -> Result<(), Fail> {
-    expect(
-        &rt,
-        rt.alloc(),
-        AN_ARRAY_IS_PRINTED,
-        b"0101010111101010",
-        AN_ARRAY_IS_PRINTED_TURNS,
-    )
-}
 
 const TRUTH_VALUES_ARE_PRINTED: &[u8] = b"\
 zplnode 1
@@ -100,18 +88,6 @@ const TRUTH_VALUES_ARE_PRINTED_TURNS: &[u8] = b"\
 0 moves, 3.0.0 done: | 0
 ";
 
-/// `gather` of truth values over a strided region, on six processors: who has no value sends no message.
-#[test]
-fn truth_values_are_printed(rt: HostRuntime) -> Result<(), Fail> {
-    expect(
-        &rt,
-        rt.alloc(),
-        TRUTH_VALUES_ARE_PRINTED,
-        b"012345012345123451234501401400",
-        TRUTH_VALUES_ARE_PRINTED_TURNS,
-    )
-}
-
 const NOTHING_IS_PRINTED: &[u8] = b"\
 zplnode 1
 grid 2
@@ -133,14 +109,32 @@ const NOTHING_IS_PRINTED_TURNS: &[u8] = b"\
 1 moves, 2.0.0 done: | 0
 ";
 
-/// Of an empty region nothing is printed, and no message is sent.
-#[test]
-fn nothing_is_printed(rt: HostRuntime) -> Result<(), Fail> {
-    expect(
-        &rt,
-        rt.alloc(),
+const CASES: [Case; 3] = [
+    // `gather` of a plane as numbers, on two processors.
+    (
+        AN_ARRAY_IS_PRINTED,
+        None,
+        b"0101010111101010",
+        AN_ARRAY_IS_PRINTED_TURNS,
+    ),
+    // `gather` of truth values over a strided region, on six processors: who has no value sends no
+    // message.
+    (
+        TRUTH_VALUES_ARE_PRINTED,
+        None,
+        b"012345012345123451234501401400",
+        TRUTH_VALUES_ARE_PRINTED_TURNS,
+    ),
+    // Of an empty region nothing is printed, and no message is sent.
+    (
         NOTHING_IS_PRINTED,
+        None,
         b"010101",
         NOTHING_IS_PRINTED_TURNS,
-    )
+    ),
+];
+
+#[test]
+fn gathers(rt: HostRuntime) -> Result<(), Fail> {
+    expect_all(&rt, rt.alloc(), &CASES)
 }

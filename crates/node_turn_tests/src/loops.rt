@@ -1,5 +1,5 @@
 //! Loops, and the places of arrays.
-use crate::players::expect;
+use crate::players::{Case, expect_all};
 use std::test::Fail;
 
 const AN_INDEX_A_TURN: &[u8] = b"\
@@ -35,18 +35,6 @@ const AN_INDEX_A_TURN_TURNS: &[u8] = b"\
 1 moves, 2.0.0 done: 81 | 50 0 0 80 | 51 0 0 81
 ";
 
-/// A group of three members over a strided region, an index in each turn. The second processor begins within it.
-#[test]
-fn an_index_a_turn(rt: HostRuntime) -> Result<(), Fail> {
-    expect(
-        &rt,
-        rt.alloc(),
-        AN_INDEX_A_TURN,
-        b"010101011",
-        AN_INDEX_A_TURN_TURNS,
-    )
-}
-
 const MEMBERS_ARE_MASKED: &[u8] = b"\
 zplnode 1
 grid 1
@@ -78,18 +66,6 @@ const MEMBERS_ARE_MASKED_TURNS: &[u8] = b"\
 0 moves, 2.0.0: 1 | 0 -2 -3
 0 moves, 2.0.0 done: 1 | 0 -2 -3
 ";
-
-/// Members with masks: one that is skipped, and an `if` with an `else`.
-#[test]
-fn members_are_masked(rt: HostRuntime) -> Result<(), Fail> {
-    expect(
-        &rt,
-        rt.alloc(),
-        MEMBERS_ARE_MASKED,
-        b"000000",
-        MEMBERS_ARE_MASKED_TURNS,
-    )
-}
 
 const A_LOOP_WITHIN_AN_INDEX: &[u8] = b"\
 zplnode 1
@@ -128,18 +104,6 @@ const A_LOOP_WITHIN_AN_INDEX_TURNS: &[u8] = b"\
 0 moves, 2.0.0: 5 0 | 1 2
 0 moves, 2.0.0 done: 5 0 | 1 2
 ";
-
-/// A `while` and a `repeat`: a turn ends where they go back. The mask is read again.
-#[test]
-fn a_loop_within_an_index(rt: HostRuntime) -> Result<(), Fail> {
-    expect(
-        &rt,
-        rt.alloc(),
-        A_LOOP_WITHIN_AN_INDEX,
-        b"00000000000",
-        A_LOOP_WITHIN_AN_INDEX_TURNS,
-    )
-}
 
 const A_DIVISOR_IN_A_GROUP: &[u8] = b"\
 zplnode 1
@@ -180,18 +144,6 @@ const A_DIVISOR_IN_A_GROUP_TURNS: &[u8] = b"\
 1 moves, 2.0.0 DivideByZero 2: -6 | 12 4
 ";
 
-/// A zero divisor leaves the rest of a group out at its index, and the least member is kept. The vote ends all with its line.
-#[test]
-fn a_divisor_in_a_group(rt: HostRuntime) -> Result<(), Fail> {
-    expect(
-        &rt,
-        rt.alloc(),
-        A_DIVISOR_IN_A_GROUP,
-        b"01010101100101",
-        A_DIVISOR_IN_A_GROUP_TURNS,
-    )
-}
-
 const A_DIVISOR_IN_AN_IF: &[u8] = b"\
 zplnode 1
 grid 1
@@ -221,18 +173,6 @@ const A_DIVISOR_IN_AN_IF_TURNS: &[u8] = b"\
 0 moves, 2.0.0 flag 1: | 1
 0 moves, 2.0.0 DivideByZero 2: | 1
 ";
-
-/// Within a member that encloses others, the outermost one's number and line count.
-#[test]
-fn a_divisor_in_an_if(rt: HostRuntime) -> Result<(), Fail> {
-    expect(
-        &rt,
-        rt.alloc(),
-        A_DIVISOR_IN_AN_IF,
-        b"0000",
-        A_DIVISOR_IN_AN_IF_TURNS,
-    )
-}
 
 const PLACES_OF_A_TEMPORARY: &[u8] = b"\
 zplnode 1
@@ -296,18 +236,6 @@ const PLACES_OF_A_TEMPORARY_TURNS: &[u8] = b"\
 1 moves, 11.0.0 done: | 0 0 | 0 0 0 0 | | 2
 ";
 
-/// Places of a temporary: none, those within the own block, and others; a flood dimension has one place.
-#[test]
-fn places_of_a_temporary(rt: HostRuntime) -> Result<(), Fail> {
-    expect(
-        &rt,
-        rt.alloc(),
-        PLACES_OF_A_TEMPORARY,
-        b"0101010101010101010101010101",
-        PLACES_OF_A_TEMPORARY_TURNS,
-    )
-}
-
 const MORE_PROCESSORS_THAN_INDICES: &[u8] = b"\
 zplnode 1
 grid 6
@@ -347,14 +275,52 @@ const MORE_PROCESSORS_THAN_INDICES_TURNS: &[u8] = b"\
 5 moves, 2.0.0 done: 2 | 0 2
 ";
 
-/// Of six processors two have an index, and the others leave the loop in their first turn there.
-#[test]
-fn more_processors_than_indices(rt: HostRuntime) -> Result<(), Fail> {
-    expect(
-        &rt,
-        rt.alloc(),
+const CASES: [Case; 7] = [
+    // A group of three members over a strided region, an index in each turn. The second processor
+    // begins within it.
+    (AN_INDEX_A_TURN, None, b"010101011", AN_INDEX_A_TURN_TURNS),
+    // Members with masks: one that is skipped, and an `if` with an `else`.
+    (
+        MEMBERS_ARE_MASKED,
+        None,
+        b"000000",
+        MEMBERS_ARE_MASKED_TURNS,
+    ),
+    // A `while` and a `repeat`: a turn ends where they go back. The mask is read again.
+    (
+        A_LOOP_WITHIN_AN_INDEX,
+        None,
+        b"00000000000",
+        A_LOOP_WITHIN_AN_INDEX_TURNS,
+    ),
+    // A zero divisor leaves the rest of a group out at its index, and the least member is kept. The
+    // vote ends all with its line.
+    (
+        A_DIVISOR_IN_A_GROUP,
+        None,
+        b"01010101100101",
+        A_DIVISOR_IN_A_GROUP_TURNS,
+    ),
+    // Within a member that encloses others, the outermost one's number and line count.
+    (A_DIVISOR_IN_AN_IF, None, b"0000", A_DIVISOR_IN_AN_IF_TURNS),
+    // Places of a temporary: none, those within the own block, and others; a flood dimension has
+    // one place.
+    (
+        PLACES_OF_A_TEMPORARY,
+        None,
+        b"0101010101010101010101010101",
+        PLACES_OF_A_TEMPORARY_TURNS,
+    ),
+    // Of six processors two have an index, and the others leave the loop in their first turn there.
+    (
         MORE_PROCESSORS_THAN_INDICES,
+        None,
         b"01234501234501234525",
         MORE_PROCESSORS_THAN_INDICES_TURNS,
-    )
+    ),
+];
+
+#[test]
+fn loops(rt: HostRuntime) -> Result<(), Fail> {
+    expect_all(&rt, rt.alloc(), &CASES)
 }

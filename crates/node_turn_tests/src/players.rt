@@ -112,8 +112,8 @@ fn kind_name(kind: StuckKind) -> &'static [u8] {
     }
 }
 
-/// Appends where a processor stands: its instruction, the turns made in it and the indices done, its
-/// flag, and how it ended.
+/// Appends where a processor stands: its instruction, the turns made in it and the indices done,
+/// its flag, and how it ended.
 fn push_place(alloc: Global, local: &Local, text: &mut Vec<u8>) -> Result<(), AllocError> {
     push_number(alloc, b", ", local.at(), text)?;
     push_number(alloc, b".", local.made(), text)?;
@@ -328,7 +328,7 @@ fn trace(
 
 /// Compares what comes of these turns with what is to come, over links of a capacity or of none: for
 /// processors as they are, and for processors that are restored behind each turn.
-pub fn expect_over(
+fn expect_over(
     rt: &impl Abort,
     alloc: Global,
     listing: &[u8],
@@ -341,22 +341,21 @@ pub fn expect_over(
     match read_listing(alloc, listing) {
         Ok(code) => {
             let text = trace(alloc, &code, capacity, order, false)?;
-            assert_eq!(rt; text.as_slice(), want);
+            assert!(rt; text.as_slice() == want);
             let restored = trace(alloc, &code, capacity, order, true)?;
-            assert_eq!(rt; restored.as_slice(), want);
+            assert!(rt; restored.as_slice() == want);
         }
         Err(fault) => assert!(rt; false, "{fault:?}"),
     }
     Ok(())
 }
 
-/// The same over links that hold any number of messages.
-pub fn expect(
-    rt: &impl Abort,
-    alloc: Global,
-    listing: &[u8],
-    order: &[u8],
-    want: &[u8],
-) -> Result<(), Fail> {
-    expect_over(rt, alloc, listing, None, order, want)
+/// A listing, the capacity of its links or none, the order of the turns, and what comes of them.
+pub type Case = (&'static [u8], Option<u32>, &'static [u8], &'static [u8]);
+
+pub fn expect_all(rt: &impl Abort, alloc: Global, cases: &[Case]) -> Result<(), Fail> {
+    for (listing, capacity, order, want) in cases {
+        expect_over(rt, alloc, listing, *capacity, order, want)?;
+    }
+    Ok(())
 }

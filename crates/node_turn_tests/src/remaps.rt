@@ -1,5 +1,5 @@
 //! Remap reads.
-use crate::players::expect;
+use crate::players::{Case, expect_all};
 use std::test::Fail;
 
 const VALUES_FROM_THE_OTHER_END: &[u8] = b"\
@@ -61,18 +61,6 @@ const VALUES_FROM_THE_OTHER_END_TURNS: &[u8] = b"\
 1 moves, 6.0.0 done: | 30 40 | 2 1 | 20 10
 ";
 
-/// `remap` that turns a row round: each processor asks the other for all, and is answered in the order of what it asked.
-#[test]
-fn values_from_the_other_end(rt: HostRuntime) -> Result<(), Fail> {
-    expect(
-        &rt,
-        rt.alloc(),
-        VALUES_FROM_THE_OTHER_END,
-        b"01010101010101010101010101010101",
-        VALUES_FROM_THE_OTHER_END_TURNS,
-    )
-}
-
 const OWN_VALUES_AND_OUTSIDE: &[u8] = b"\
 zplnode 1
 grid 2
@@ -129,18 +117,6 @@ const OWN_VALUES_AND_OUTSIDE_TURNS: &[u8] = b"\
 1 moves, 6.0.0 done: | 30 40 | 5 3 | 0 30
 0 moves, 6.0.0 done: | 10 20 | 3 1 | 30 10
 ";
-
-/// Own values are written in the first turn, and 0 for a tuple outside the storage; requests without tuples are sent and awaited all the same.
-#[test]
-fn own_values_and_outside(rt: HostRuntime) -> Result<(), Fail> {
-    expect(
-        &rt,
-        rt.alloc(),
-        OWN_VALUES_AND_OUTSIDE,
-        b"010101010101010101010101101010",
-        OWN_VALUES_AND_OUTSIDE_TURNS,
-    )
-}
 
 const MORE_PROCESSORS_THAN_VALUES: &[u8] = b"\
 zplnode 1
@@ -291,18 +267,6 @@ const MORE_PROCESSORS_THAN_VALUES_TURNS: &[u8] = b"\
 4 moves, 6.0.0 done: | 30 | 4 | 40
 ";
 
-/// On six processors, four of them with an index, all ask for the value of the last index.
-#[test]
-fn more_processors_than_values(rt: HostRuntime) -> Result<(), Fail> {
-    expect(
-        &rt,
-        rt.alloc(),
-        MORE_PROCESSORS_THAN_VALUES,
-        b"01234501234501234501234501234501234501234501234501234501234501234501234501234501234501234501234501234501234551512512452454",
-        MORE_PROCESSORS_THAN_VALUES_TURNS,
-    )
-}
-
 const A_PLANE_FROM_A_ROW_AND_BACK: &[u8] = b"\
 zplnode 1
 grid 2
@@ -370,14 +334,40 @@ const A_PLANE_FROM_A_ROW_AND_BACK_TURNS: &[u8] = b"\
 1 moves, 8.0.0 done: | 21 22 | 1 | 2 | 12 | 0
 ";
 
-/// Tuples of two coordinates: a plane is read along its diagonal, by a row.
-#[test]
-fn a_plane_from_a_row_and_back(rt: HostRuntime) -> Result<(), Fail> {
-    expect(
-        &rt,
-        rt.alloc(),
+const CASES: [Case; 4] = [
+    // `remap` that turns a row round: each processor asks the other for all, and is answered in the
+    // order of what it asked.
+    (
+        VALUES_FROM_THE_OTHER_END,
+        None,
+        b"01010101010101010101010101010101",
+        VALUES_FROM_THE_OTHER_END_TURNS,
+    ),
+    // Own values are written in the first turn, and 0 for a tuple outside the storage; requests
+    // without tuples are sent and awaited all the same.
+    (
+        OWN_VALUES_AND_OUTSIDE,
+        None,
+        b"010101010101010101010101101010",
+        OWN_VALUES_AND_OUTSIDE_TURNS,
+    ),
+    // On six processors, four of them with an index, all ask for the value of the last index.
+    (
+        MORE_PROCESSORS_THAN_VALUES,
+        None,
+        b"01234501234501234501234501234501234501234501234501234501234501234501234501234501234501234501234501234501234551512512452454",
+        MORE_PROCESSORS_THAN_VALUES_TURNS,
+    ),
+    // Tuples of two coordinates: a plane is read along its diagonal, by a row.
+    (
         A_PLANE_FROM_A_ROW_AND_BACK,
+        None,
         b"0101010101010101010101010101010101",
         A_PLANE_FROM_A_ROW_AND_BACK_TURNS,
-    )
+    ),
+];
+
+#[test]
+fn remaps(rt: HostRuntime) -> Result<(), Fail> {
+    expect_all(&rt, rt.alloc(), &CASES)
 }

@@ -1,5 +1,5 @@
 //! Scans.
-use crate::players::expect;
+use crate::players::{Case, expect_all};
 use std::test::Fail;
 
 const SUMS_UP_TO_EACH_INDEX: &[u8] = b"\
@@ -36,18 +36,6 @@ const SUMS_UP_TO_EACH_INDEX_TURNS: &[u8] = b"\
 0 moves, 3.0.0 done: | 1 3
 1 moves, 3.0.0 done: | 6 10
 ";
-
-/// A sum up to each index; the array may be the one that is scanned.
-#[test]
-fn sums_up_to_each_index(rt: HostRuntime) -> Result<(), Fail> {
-    expect(
-        &rt,
-        rt.alloc(),
-        SUMS_UP_TO_EACH_INDEX,
-        b"0101010101010101",
-        SUMS_UP_TO_EACH_INDEX_TURNS,
-    )
-}
 
 const SUMS_WHERE_A_MASK_ALLOWS: &[u8] = b"\
 zplnode 1
@@ -86,18 +74,6 @@ const SUMS_WHERE_A_MASK_ALLOWS_TURNS: &[u8] = b"\
 0 moves, 3.0.0 done: | 1 1 | 1 0
 1 moves, 3.0.0 done: | 4 4 | 1 0
 ";
-
-/// Where the mask is 0 the sum so far stands.
-#[test]
-fn sums_where_a_mask_allows(rt: HostRuntime) -> Result<(), Fail> {
-    expect(
-        &rt,
-        rt.alloc(),
-        SUMS_WHERE_A_MASK_ALLOWS,
-        b"0101010101010101",
-        SUMS_WHERE_A_MASK_ALLOWS_TURNS,
-    )
-}
 
 const ALONG_THE_ROWS: &[u8] = b"\
 zplnode 1
@@ -208,18 +184,6 @@ const ALONG_THE_ROWS_TURNS: &[u8] = b"\
 5 moves, 3.0.0 done: | 23
 ";
 
-/// Along the rows of a plane, on six processors: words of one row are joined with those of the same row alone.
-#[test]
-fn along_the_rows(rt: HostRuntime) -> Result<(), Fail> {
-    expect(
-        &rt,
-        rt.alloc(),
-        ALONG_THE_ROWS,
-        b"012345012345012345012345012345012345012345012345012345012345012345012345012345012345012345",
-        ALONG_THE_ROWS_TURNS,
-    )
-}
-
 const OVER_ALL_IN_ROW_MAJOR_ORDER: &[u8] = b"\
 zplnode 1
 grid 1 3
@@ -269,14 +233,39 @@ const OVER_ALL_IN_ROW_MAJOR_ORDER_TURNS: &[u8] = b"\
 2 moves, 3.0.0 done: | 36 0 102 0
 ";
 
-/// Over all in row-major order, where a block has parts of several rows; another one is empty.
-#[test]
-fn over_all_in_row_major_order(rt: HostRuntime) -> Result<(), Fail> {
-    expect(
-        &rt,
-        rt.alloc(),
+const CASES: [Case; 4] = [
+    // A sum up to each index; the array may be the one that is scanned.
+    (
+        SUMS_UP_TO_EACH_INDEX,
+        None,
+        b"0101010101010101",
+        SUMS_UP_TO_EACH_INDEX_TURNS,
+    ),
+    // Where the mask is 0 the sum so far stands.
+    (
+        SUMS_WHERE_A_MASK_ALLOWS,
+        None,
+        b"0101010101010101",
+        SUMS_WHERE_A_MASK_ALLOWS_TURNS,
+    ),
+    // Along the rows of a plane, on six processors: words of one row are joined with those of the
+    // same row alone.
+    (
+        ALONG_THE_ROWS,
+        None,
+        b"012345012345012345012345012345012345012345012345012345012345012345012345012345012345012345",
+        ALONG_THE_ROWS_TURNS,
+    ),
+    // Over all in row-major order, where a block has parts of several rows; another one is empty.
+    (
         OVER_ALL_IN_ROW_MAJOR_ORDER,
+        None,
         b"012012012012012012012012012012",
         OVER_ALL_IN_ROW_MAJOR_ORDER_TURNS,
-    )
+    ),
+];
+
+#[test]
+fn scans(rt: HostRuntime) -> Result<(), Fail> {
+    expect_all(&rt, rt.alloc(), &CASES)
 }

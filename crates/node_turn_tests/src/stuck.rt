@@ -1,5 +1,5 @@
 //! Processors that are stuck or wait.
-use crate::players::{expect, expect_over};
+use crate::players::{Case, expect_all};
 use std::test::Fail;
 
 const A_PLACE_THAT_IS_NOT_HELD: &[u8] = b"\
@@ -24,18 +24,6 @@ const A_PLACE_THAT_IS_NOT_HELD_TURNS: &[u8] = b"\
 0 stuck Unheld, 1.0.1: | 0 0
 0 stuck Unheld, 1.0.1: | 0 0
 ";
-
-/// A place beyond the storage isn't held.
-#[test]
-fn a_place_that_is_not_held(rt: HostRuntime) -> Result<(), Fail> {
-    expect(
-        &rt,
-        rt.alloc(),
-        A_PLACE_THAT_IS_NOT_HELD,
-        b"0000",
-        A_PLACE_THAT_IS_NOT_HELD_TURNS,
-    )
-}
 
 const A_STUCK_MEMBER_BEHIND_OTHERS: &[u8] = b"\
 zplnode 1
@@ -66,18 +54,6 @@ const A_STUCK_MEMBER_BEHIND_OTHERS_TURNS: &[u8] = b"\
 0 stuck Unheld, 1.0.2: 3 | 0 0 0
 0 stuck Unheld, 1.0.2: 3 | 0 0 0
 ";
-
-/// A member is stuck behind others that wrote a scalar, a cell and an array: nothing of that stays.
-#[test]
-fn a_stuck_member_behind_others(rt: HostRuntime) -> Result<(), Fail> {
-    expect(
-        &rt,
-        rt.alloc(),
-        A_STUCK_MEMBER_BEHIND_OTHERS,
-        b"000000",
-        A_STUCK_MEMBER_BEHIND_OTHERS_TURNS,
-    )
-}
 
 const A_MESSAGE_OF_ANOTHER_ROW: &[u8] = b"\
 zplnode 1
@@ -114,18 +90,6 @@ const A_MESSAGE_OF_ANOTHER_ROW_TURNS: &[u8] = b"\
 1 waits, 3.1.0: 1
 ";
 
-/// A message for one `fold` at another one has the wrong tag, and stays on its link.
-#[test]
-fn a_message_of_another_row(rt: HostRuntime) -> Result<(), Fail> {
-    expect(
-        &rt,
-        rt.alloc(),
-        A_MESSAGE_OF_ANOTHER_ROW,
-        b"001111010001",
-        A_MESSAGE_OF_ANOTHER_ROW_TURNS,
-    )
-}
-
 const A_MESSAGE_OF_ANOTHER_LENGTH: &[u8] = b"\
 zplnode 1
 grid 2
@@ -160,18 +124,6 @@ const A_MESSAGE_OF_ANOTHER_LENGTH_TURNS: &[u8] = b"\
 0 stuck Length, 3.0.0: 0 | 0 0
 ";
 
-/// A message with two words where three are awaited stays on its link.
-#[test]
-fn a_message_of_another_length(rt: HostRuntime) -> Result<(), Fail> {
-    expect(
-        &rt,
-        rt.alloc(),
-        A_MESSAGE_OF_ANOTHER_LENGTH,
-        b"00011111100",
-        A_MESSAGE_OF_ANOTHER_LENGTH_TURNS,
-    )
-}
-
 const AN_ANSWER_THAT_NEVER_COMES: &[u8] = b"\
 zplnode 1
 grid 2
@@ -203,18 +155,6 @@ const AN_ANSWER_THAT_NEVER_COMES_TURNS: &[u8] = b"\
 1 waits, 3.1.0: 1
 1 waits, 3.1.0: 1
 ";
-
-/// The processor with the index waits for an answer that never comes.
-#[test]
-fn an_answer_that_never_comes(rt: HostRuntime) -> Result<(), Fail> {
-    expect(
-        &rt,
-        rt.alloc(),
-        AN_ANSWER_THAT_NEVER_COMES,
-        b"00001111111",
-        AN_ANSWER_THAT_NEVER_COMES_TURNS,
-    )
-}
 
 const LINKS_THAT_ARE_FULL: &[u8] = b"\
 zplnode 1
@@ -251,19 +191,6 @@ const LINKS_THAT_ARE_FULL_TURNS: &[u8] = b"\
 1 waits, 2.0.0: | 0 0 0
 ";
 
-/// Two exchanges are open at once: over links of one message each processor waits for room.
-#[test]
-fn links_that_are_full(rt: HostRuntime) -> Result<(), Fail> {
-    expect_over(
-        &rt,
-        rt.alloc(),
-        LINKS_THAT_ARE_FULL,
-        Some(1),
-        b"0101010101",
-        LINKS_THAT_ARE_FULL_TURNS,
-    )
-}
-
 const LINKS_WITH_ROOM_TURNS: &[u8] = b"\
 0 moves, 1.0.0: | 0 0 0
 1 moves, 1.0.0: | 0 0 0
@@ -287,15 +214,60 @@ const LINKS_WITH_ROOM_TURNS: &[u8] = b"\
 1 moves, 5.0.0 done: | 0 0 0
 ";
 
-/// Over links of two messages they go on.
-#[test]
-fn links_with_room(rt: HostRuntime) -> Result<(), Fail> {
-    expect_over(
-        &rt,
-        rt.alloc(),
+const CASES: [Case; 7] = [
+    // A place beyond the storage isn't held.
+    (
+        A_PLACE_THAT_IS_NOT_HELD,
+        None,
+        b"0000",
+        A_PLACE_THAT_IS_NOT_HELD_TURNS,
+    ),
+    // A member is stuck behind others that wrote a scalar, a cell and an array: nothing of that
+    // stays.
+    (
+        A_STUCK_MEMBER_BEHIND_OTHERS,
+        None,
+        b"000000",
+        A_STUCK_MEMBER_BEHIND_OTHERS_TURNS,
+    ),
+    // A message for one `fold` at another one has the wrong tag, and stays on its link.
+    (
+        A_MESSAGE_OF_ANOTHER_ROW,
+        None,
+        b"001111010001",
+        A_MESSAGE_OF_ANOTHER_ROW_TURNS,
+    ),
+    // A message with two words where three are awaited stays on its link.
+    (
+        A_MESSAGE_OF_ANOTHER_LENGTH,
+        None,
+        b"00011111100",
+        A_MESSAGE_OF_ANOTHER_LENGTH_TURNS,
+    ),
+    // The processor with the index waits for an answer that never comes.
+    (
+        AN_ANSWER_THAT_NEVER_COMES,
+        None,
+        b"00001111111",
+        AN_ANSWER_THAT_NEVER_COMES_TURNS,
+    ),
+    // Two exchanges are open at once: over links of one message each processor waits for room.
+    (
+        LINKS_THAT_ARE_FULL,
+        Some(1),
+        b"0101010101",
+        LINKS_THAT_ARE_FULL_TURNS,
+    ),
+    // Over links of two messages they go on.
+    (
         LINKS_THAT_ARE_FULL,
         Some(2),
         b"01010101010101010101",
         LINKS_WITH_ROOM_TURNS,
-    )
+    ),
+];
+
+#[test]
+fn stuck(rt: HostRuntime) -> Result<(), Fail> {
+    expect_all(&rt, rt.alloc(), &CASES)
 }

@@ -1,4 +1,4 @@
-//! Tests of `small_code`: the rows of a small program's code, and what is no small program.
+//! Tests of `small_code`: the listings of small programs' code, and what is no small program.
 #![tactic(auto)]
 
 #[cfg(test)]

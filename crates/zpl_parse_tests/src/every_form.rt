@@ -1,6 +1,6 @@
 //! A program with each form of the grammar, and its tree, written by hand from the grammar and the
 //! places of the tokens.
-use super::reading::tree_of;
+use super::reading::expect_tree;
 use std::alloc::AllocError;
 use std::test::Fail;
 
@@ -107,7 +107,5 @@ fn every_form_has_its_tree(rt: HostRuntime) -> Result<(), Fail> {
     let mut wanted = String::new(alloc);
     put_lines(&mut wanted, &DECLARATIONS, ' ')?;
     put_lines(&mut wanted, &STATEMENTS, ' ')?;
-    let shown = tree_of(&rt, alloc, text.as_str())?;
-    assert_eq!(rt; shown.as_str(), wanted.trim_end());
-    Ok(())
+    expect_tree(&rt, alloc, text.as_str(), wanted.trim_end())
 }

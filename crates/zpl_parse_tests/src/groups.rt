@@ -1,161 +1,103 @@
 //! How expressions and brackets are grouped.
-use super::reading::{tokens_of, with_body};
-use bumpalo::Bump;
-use std::alloc::Global;
-use std::process::Abort;
+use super::reading::{expect_tree, with_body};
 use std::test::Fail;
-use zpl_nums::Op;
-use zpl_parse::parse;
-use zpl_tree::{Decl, DimText, Expr, ExprForm, Form, Inner, Program, Stmt};
 
-/// The first statement in the body of the last declaration.
-fn first_statement<'a>(program: &Program<'a>) -> Option<&'a Stmt<'a>> {
-    match program.decls.last()? {
-        Decl::Procedure(procedure) => match procedure.body.form {
-            Form::Block(body) => body.first(),
-            _ => None,
-        },
-        _ => None,
-    }
-}
-
-/// The value of an assignment.
-fn assigned<'a>(stmt: &Stmt<'a>) -> Option<&'a Expr<'a>> {
-    match stmt.form {
-        Form::Assign(_, _, value) => Some(value),
-        _ => None,
-    }
-}
-
-/// The operator between two operands, and then that of the left and of the right one.
-type Grouping = (Op, Option<Op>, Option<Op>);
-
-/// How a value is grouped, where an operator stands between two operands.
-fn grouping(value: &Expr<'_>) -> Option<Grouping> {
-    match value.form {
-        ExprForm::Pair(op, left, right) => Some((op, operator_of(left), operator_of(right))),
-        _ => None,
-    }
-}
-
-fn operator_of(value: &Expr<'_>) -> Option<Op> {
-    match value.form {
-        ExprForm::Pair(op, ..) => Some(op),
-        _ => None,
-    }
-}
-
-/// How the value that a body begins with is grouped.
-fn groups(rt: &impl Abort, alloc: Global, body: &str, wanted: Grouping) -> Result<(), Fail> {
-    let text = with_body(alloc, body)?;
-    let tokens = tokens_of(rt, alloc, text.as_bytes())?;
-    let arena = Bump::new(alloc);
-    let found = match parse(alloc, &arena, &tokens, text.as_bytes()) {
-        Ok(program) => first_statement(program)
-            .and_then(assigned)
-            .and_then(grouping),
-        Err(_) => None,
-    };
-    assert_eq!(rt; found, Some(wanted), "{body}");
-    Ok(())
-}
-
-#[test]
-fn operators_group_by_their_levels(rt: HostRuntime) -> Result<(), Fail> {
-    for (body, wanted) in [
-        ("x := a - b - c;", (Op::Sub, Some(Op::Sub), None)),
-        ("x := a / b % c;", (Op::Rem, Some(Op::Div), None)),
-        ("x := a - b * c;", (Op::Sub, None, Some(Op::Mul))),
-        ("x := -a * b + c;", (Op::Add, Some(Op::Mul), None)),
-        ("x := a < b & c | d;", (Op::Or, Some(Op::And), None)),
-        ("x := a | b & c < d;", (Op::Or, None, Some(Op::And))),
-        ("x := +<<A * B;", (Op::Mul, None, None)),
-    ] {
-        groups(&rt, rt.alloc(), body, wanted)?;
-    }
-    Ok(())
-}
-
-/// A dimension of a region, with the offsets that it has.
-#[derive(Clone, Copy, Debug, PartialEq, Eq)]
-enum Dimension {
-    Blank(u32),
-    Star(u32),
-    One(u32),
-    Span(u32, u32),
-}
-
-fn dimension_of(dim: &DimText<'_>) -> Dimension {
-    match dim {
-        DimText::Blank(at) => Dimension::Blank(*at),
-        DimText::Star(at) => Dimension::Star(*at),
-        DimText::One(index) => Dimension::One(index.at),
-        DimText::Span(low, high) => Dimension::Span(low.at, high.at),
-    }
-}
-
-/// What stands in a bracket: a region expression, or so many dimensions, with the first and the
-/// last.
-#[derive(Clone, Copy, Debug, PartialEq, Eq)]
-enum Inside {
-    Region,
-    Dimensions(usize, Dimension, Dimension),
-}
-
-/// What stands in a statement's first prefix, or nothing where it has no prefix.
-fn first_prefix(stmt: &Stmt<'_>) -> Option<Inside> {
-    match stmt.prefixes.first()?.region {
-        Inner::Rexpr(_) => Some(Inside::Region),
-        Inner::Dims(dims) => {
-            let first = dimension_of(dims.first()?);
-            let last = dimension_of(dims.last()?);
-            Some(Inside::Dimensions(dims.len(), first, last))
-        }
-    }
-}
-
-/// What stands in the bracket that a body begins with.
-fn bracket(rt: &impl Abort, alloc: Global, body: &str, wanted: Inside) -> Result<(), Fail> {
-    let text = with_body(alloc, body)?;
-    let tokens = tokens_of(rt, alloc, text.as_bytes())?;
-    let arena = Bump::new(alloc);
-    let found = match parse(alloc, &arena, &tokens, text.as_bytes()) {
-        Ok(program) => first_statement(program).and_then(first_prefix),
-        Err(_) => None,
-    };
-    assert_eq!(rt; found, Some(wanted), "{body}");
-    Ok(())
-}
+/// Statements, and their trees: operators group by their levels, and a bracket has a region or
+/// dimensions.
+const STATEMENTS: [(&str, &str); 18] = [
+    (
+        "x := a - b - c;",
+        "(Assign@32 x@32 None (Pair@37 Sub (Pair@37 Sub (Named@37 a@37) (Named@41 b@41)) \
+         (Named@45 c@45)))",
+    ),
+    (
+        "x := a / b % c;",
+        "(Assign@32 x@32 None (Pair@37 Rem (Pair@37 Div (Named@37 a@37) (Named@41 b@41)) \
+         (Named@45 c@45)))",
+    ),
+    (
+        "x := a - b * c;",
+        "(Assign@32 x@32 None (Pair@37 Sub (Named@37 a@37) (Pair@41 Mul (Named@41 b@41) (Named@45 \
+         c@45))))",
+    ),
+    (
+        "x := -a * b + c;",
+        "(Assign@32 x@32 None (Pair@37 Add (Pair@37 Mul (Neg@37 (Named@38 a@38)) (Named@42 b@42)) \
+         (Named@46 c@46)))",
+    ),
+    (
+        "x := a < b & c | d;",
+        "(Assign@32 x@32 None (Pair@37 Or (Pair@37 And (Pair@37 Lt (Named@37 a@37) (Named@41 \
+         b@41)) (Named@45 c@45)) (Named@49 d@49)))",
+    ),
+    (
+        "x := a | b & c < d;",
+        "(Assign@32 x@32 None (Pair@37 Or (Named@37 a@37) (Pair@41 And (Named@41 b@41) (Pair@45 \
+         Lt (Named@45 c@45) (Named@49 d@49)))))",
+    ),
+    (
+        "x := +<<A * B;",
+        "(Assign@32 x@32 None (Pair@37 Mul (Reduce@37 Sum None (Named@40 A@40)) (Named@44 B@44)))",
+    ),
+    (
+        "[R] x := 1;",
+        "(Prefix@32 (Rexpr R@33) None) (Assign@36 x@36 None (Number@41 1))",
+    ),
+    (
+        "[\"] x := 1;",
+        "(Prefix@32 (Rexpr (Ditto@33)) None) (Assign@36 x@36 None (Number@41 1))",
+    ),
+    (
+        "[d of R with m] x := 1;",
+        "(Prefix@32 (Rexpr (Of d@33) R@38) With m@45) (Assign@48 x@48 None (Number@53 1))",
+    ),
+    (
+        "[k + 1] x := 1;",
+        "(Prefix@32 (Dims (One (Pair@33 Add (Named@33 k@33) (Number@37 1)))) None) (Assign@40 \
+         x@40 None (Number@45 1))",
+    ),
+    (
+        "[ ] x := 1;",
+        "(Prefix@32 (Dims (Blank@34)) None) (Assign@36 x@36 None (Number@41 1))",
+    ),
+    (
+        "[*] x := 1;",
+        "(Prefix@32 (Dims (Star@33)) None) (Assign@36 x@36 None (Number@41 1))",
+    ),
+    (
+        "[* with m] x := 1;",
+        "(Prefix@32 (Dims (Star@33)) With m@40) (Assign@43 x@43 None (Number@48 1))",
+    ),
+    (
+        "[* without m] x := 1;",
+        "(Prefix@32 (Dims (Star@33)) Without m@43) (Assign@46 x@46 None (Number@51 1))",
+    ),
+    (
+        "[*<<[*] A] x := 1;",
+        "(Prefix@32 (Dims (One (Reduce@33 Prod (Dims (Star@37)) (Named@40 A@40)))) None) \
+         (Assign@43 x@43 None (Number@48 1))",
+    ),
+    (
+        "[ , k] x := 1;",
+        "(Prefix@32 (Dims (Blank@34) (One (Named@36 k@36))) None) (Assign@39 x@39 None (Number@44 \
+         1))",
+    ),
+    (
+        "[*, 1..2 with m] x := 1;",
+        "(Prefix@32 (Dims (Star@33) (Span (Number@36 1) (Number@39 2))) With m@46) (Assign@49 \
+         x@49 None (Number@54 1))",
+    ),
+];
 
 #[test]
-fn regions_in_brackets(rt: HostRuntime) -> Result<(), Fail> {
-    for body in ["[R] x := 1;", "[\"] x := 1;", "[d of R with m] x := 1;"] {
-        bracket(&rt, rt.alloc(), body, Inside::Region)?;
+fn groups_have_their_trees(rt: HostRuntime) -> Result<(), Fail> {
+    for (body, statement) in STATEMENTS {
+        let text = with_body(rt.alloc(), body)?;
+        let mut wanted = String::new(rt.alloc());
+        wanted.push_str("(Program p@8 (Procedure p@21 None (Block@26 ")?;
+        wanted.push_str(statement)?;
+        wanted.push_str(")))")?;
+        expect_tree(&rt, rt.alloc(), text.as_str(), wanted.as_str())?;
     }
     Ok(())
-}
-
-#[test]
-fn single_dimensions(rt: HostRuntime) -> Result<(), Fail> {
-    for (body, dimension) in [
-        ("[k + 1] x := 1;", Dimension::One(33)),
-        ("[ ] x := 1;", Dimension::Blank(34)),
-        ("[*] x := 1;", Dimension::Star(33)),
-        ("[* with m] x := 1;", Dimension::Star(33)),
-        ("[* without m] x := 1;", Dimension::Star(33)),
-        ("[*<<[*] A] x := 1;", Dimension::One(33)),
-    ] {
-        let wanted = Inside::Dimensions(1, dimension, dimension);
-        bracket(&rt, rt.alloc(), body, wanted)?;
-    }
-    Ok(())
-}
-
-#[test]
-fn two_dimensions(rt: HostRuntime) -> Result<(), Fail> {
-    let alloc = rt.alloc();
-    let wanted = Inside::Dimensions(2, Dimension::Blank(34), Dimension::One(36));
-    bracket(&rt, alloc, "[ , k] x := 1;", wanted)?;
-    let wanted = Inside::Dimensions(2, Dimension::Star(33), Dimension::Span(36, 39));
-    bracket(&rt, alloc, "[*, 1..2 with m] x := 1;", wanted)
 }

@@ -7,7 +7,7 @@ use bumpalo::Bump;
 use std::alloc::Global;
 use std::process::Abort;
 use std::test::Fail;
-use zpl_parse::{ParseFault, parse};
+use zpl_parse::parse;
 use zpl_text::{Token, lex};
 use zpl_tree::print_tree;
 
@@ -17,26 +17,30 @@ pub fn tokens_of(rt: &impl Abort, alloc: Global, text: &[u8]) -> Result<Vec<Toke
 {
     let mut tokens = Vec::new(alloc);
     assert!(rt; text.len() <= 1000000);
-    assert_eq!(rt; lex(alloc, text, &mut tokens), Ok(()), "{text:?}");
+    assert_eq!(rt; lex(alloc, text, &mut tokens), Ok(()));
     Ok(tokens)
 }
 
-/// What is printed of the tree of a text, or why it has none.
-pub fn printed(
-    rt: &impl Abort,
-    alloc: Global,
-    text: &[u8],
-) -> Result<Result<Vec<u8>, ParseFault>, Fail> {
+/// What is printed of the tree of a text, or its fault.
+pub fn told_of(rt: &impl Abort, alloc: Global, text: &[u8]) -> Result<Vec<u8>, Fail> {
     let tokens = tokens_of(rt, alloc, text)?;
     let arena = Bump::new(alloc);
+    let mut told = Vec::new(alloc);
     match parse(alloc, &arena, &tokens, text) {
-        Ok(program) => {
-            let mut printed = Vec::new(alloc);
-            print_tree(alloc, program, &mut printed)?;
-            Ok(Ok(printed))
+        Ok(program) => print_tree(alloc, program, &mut told)?,
+        Err(fault) => {
+            let shown = format!(in alloc; "{fault:?}")?;
+            told.extend_from_slice(shown.as_bytes())?;
         }
-        Err(fault) => Ok(Err(fault)),
     }
+    Ok(told)
+}
+
+/// Compares what is told of a whole text.
+pub fn expect(rt: &impl Abort, alloc: Global, text: &str, wanted: &str) -> Result<(), Fail> {
+    let told = told_of(rt, alloc, text.as_bytes())?;
+    assert!(rt; told.as_slice() == wanted.as_bytes(), "{text}");
+    Ok(())
 }
 
 /// A program whose one procedure has these statements. They begin at byte 32.
@@ -48,37 +52,28 @@ pub fn with_body(alloc: Global, body: &str) -> Result<String, Fail> {
     Ok(text)
 }
 
-/// Why the text of a body is refused, or nothing where it isn't.
-pub fn fault_of(rt: &impl Abort, alloc: Global, body: &str) -> Result<Option<ParseFault>, Fail> {
+/// Compares what is told of the text with this body.
+pub fn expect_body(rt: &impl Abort, alloc: Global, body: &str, wanted: &str) -> Result<(), Fail> {
     let text = with_body(alloc, body)?;
-    Ok(printed(rt, alloc, text.as_bytes())?.err())
+    expect(rt, alloc, text.as_str(), wanted)
 }
 
 /// A body that has a tree.
 pub fn accepted(rt: &impl Abort, alloc: Global, body: &str) -> Result<(), Fail> {
-    let fault = fault_of(rt, alloc, body)?;
-    assert_eq!(rt; fault, None, "{body}");
+    let text = with_body(alloc, body)?;
+    let told = told_of(rt, alloc, text.as_bytes())?;
+    assert!(rt; told.starts_with(b"program p ;"), "{body}");
     Ok(())
 }
 
-/// The place of a fault of syntax in a whole text.
-pub fn refused_at(rt: &impl Abort, alloc: Global, text: &str, at: u32) -> Result<(), Fail> {
-    let fault = printed(rt, alloc, text.as_bytes())?.err();
-    assert_eq!(rt; fault, Some(ParseFault::Syntax { at }), "{text}");
-    Ok(())
-}
-
-/// The tree of a text, written out.
-pub fn tree_of(rt: &impl Abort, alloc: Global, text: &str) -> Result<String, Fail> {
+/// Compares the tree of a text, written out.
+pub fn expect_tree(rt: &impl Abort, alloc: Global, text: &str, wanted: &str) -> Result<(), Fail> {
     let tokens = tokens_of(rt, alloc, text.as_bytes())?;
     let arena = Bump::new(alloc);
+    let program = parse(alloc, &arena, &tokens, text.as_bytes())?;
+    assert!(rt; program.source == text.as_bytes());
     let mut shown = String::new(alloc);
-    match parse(alloc, &arena, &tokens, text.as_bytes()) {
-        Ok(program) => {
-            assert_eq!(rt; program.source, text.as_bytes());
-            show_program(&mut shown, program)?;
-        }
-        Err(fault) => assert!(rt; false, "{fault:?}"),
-    }
-    Ok(shown)
+    show_program(&mut shown, program)?;
+    assert!(rt; shown.as_str() == wanted, "{shown}");
+    Ok(())
 }

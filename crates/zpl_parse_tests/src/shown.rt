@@ -1,11 +1,33 @@
 //! A tree written out: each node in brackets, with its form, its offset and its parts.
 use std::alloc::AllocError;
+use std::fmt::Debug;
 use std::str::from_utf8;
 use zpl_nums::Border;
 use zpl_tree::{
     Arm, Base, Decl, Define, DimText, Dir, DirDef, Expr, ExprForm, ForHead, Form, Inner, Item,
     Mask, Name, Param, Post, Pre, Prefix, Procedure, Program, RegionBase, RegionDef, Stmt, VarDef,
 };
+
+/// Appends a word and a place.
+fn show_place(text: &mut String, word: &str, at: u32) -> Result<(), AllocError> {
+    write!(text, "{word}@{at}")
+}
+
+/// Opens a node.
+fn open(text: &mut String, word: &str, at: u32) -> Result<(), AllocError> {
+    text.push_str(" (")?;
+    show_place(text, word, at)
+}
+
+/// Appends a node without parts.
+fn show_bare(text: &mut String, word: &str, at: u32) -> Result<(), AllocError> {
+    open(text, word, at)?;
+    text.push(')')
+}
+
+fn show_value(text: &mut String, value: &impl Debug) -> Result<(), AllocError> {
+    write!(text, " {value:?}")
+}
 
 /// Appends the tree of a program.
 pub fn show_program(text: &mut String, program: &Program<'_>) -> Result<(), AllocError> {
@@ -134,9 +156,7 @@ fn show_stmts(text: &mut String, stmts: &[Stmt<'_>]) -> Result<(), AllocError> {
 #[cycle(show_statement)]
 fn show_stmt(text: &mut String, stmt: &Stmt<'_>) -> Result<(), AllocError> {
     show_prefixes(text, stmt.prefixes)?;
-    let word = form_word(&stmt.form);
-    let at = stmt.at;
-    write!(text, " ({word}@{at}")?;
+    open(text, form_word(&stmt.form), stmt.at)?;
     show_form(text, &stmt.form)?;
     text.push(')')
 }
@@ -163,7 +183,7 @@ fn show_form(text: &mut String, form: &Form<'_>) -> Result<(), AllocError> {
     match form {
         Form::Assign(name, op, value) => {
             show_name(text, name)?;
-            write!(text, " {op:?}")?;
+            show_value(text, op)?;
             show_expr(text, value)
         }
         Form::Call(name, actuals) => {
@@ -185,7 +205,7 @@ fn show_form(text: &mut String, form: &Form<'_>) -> Result<(), AllocError> {
         }
         Form::Repeat(body, until, test) => {
             show_stmts(text, body)?;
-            write!(text, " Until@{until}")?;
+            show_place(text, " Until", *until)?;
             show_expr(text, test)
         }
         Form::For(head, body) => {
@@ -208,8 +228,7 @@ fn show_arms(text: &mut String, arms: &[Arm<'_>]) -> Result<(), AllocError> {
 
 #[cycle(show_statement)]
 fn show_arm(text: &mut String, arm: &Arm<'_>) -> Result<(), AllocError> {
-    let at = arm.at;
-    write!(text, " (Arm@{at}")?;
+    open(text, "Arm", arm.at)?;
     show_expr(text, arm.test)?;
     show_stmts(text, arm.body)?;
     text.push(')')
@@ -228,8 +247,7 @@ fn show_head(text: &mut String, head: &ForHead<'_>) -> Result<(), AllocError> {
 
 fn show_prefixes(text: &mut String, prefixes: &[Prefix<'_>]) -> Result<(), AllocError> {
     for prefix in prefixes {
-        let at = prefix.at;
-        write!(text, " (Prefix@{at}")?;
+        open(text, "Prefix", prefix.at)?;
         show_inner(text, &prefix.region)?;
         show_mask(text, &prefix.mask)?;
         text.push(')')?;
@@ -249,8 +267,9 @@ fn show_items(text: &mut String, items: &[Item<'_>]) -> Result<(), AllocError> {
     for item in items {
         match item {
             Item::Str(bytes) => {
-                let inside = from_utf8(bytes).unwrap_or("?");
-                write!(text, " \"{inside}\"")?
+                text.push_str(" \"")?;
+                text.push_str(from_utf8(bytes).unwrap_or("?"))?;
+                text.push('"')?;
             }
             Item::Value(value) => show_expr(text, value)?,
         }
@@ -268,9 +287,7 @@ fn show_exprs(text: &mut String, exprs: &[Expr<'_>]) -> Result<(), AllocError> {
 
 #[cycle(show_expression)]
 fn show_expr(text: &mut String, expr: &Expr<'_>) -> Result<(), AllocError> {
-    let word = expr_word(&expr.form);
-    let at = expr.at;
-    write!(text, " ({word}@{at}")?;
+    open(text, expr_word(&expr.form), expr.at)?;
     show_expr_form(text, &expr.form)?;
     text.push(')')
 }
@@ -299,9 +316,9 @@ fn expr_word(form: &ExprForm<'_>) -> &'static str {
 #[cycle(show_expression)]
 fn show_expr_form(text: &mut String, form: &ExprForm<'_>) -> Result<(), AllocError> {
     match form {
-        ExprForm::Number(value) => write!(text, " {value}"),
-        ExprForm::Truth(value) => write!(text, " {value}"),
-        ExprForm::Coord(dimension) => write!(text, " {dimension}"),
+        ExprForm::Number(value) => show_value(text, value),
+        ExprForm::Truth(value) => show_value(text, value),
+        ExprForm::Coord(dimension) => show_value(text, dimension),
         ExprForm::Named(name) => show_name(text, name),
         ExprForm::Shifted(name, shift) => {
             show_name(text, name)?;
@@ -324,17 +341,18 @@ fn show_expr_form(text: &mut String, form: &ExprForm<'_>) -> Result<(), AllocErr
         ExprForm::Not(operand) => show_expr(text, operand),
         ExprForm::Abs(inside) => show_expr(text, inside),
         ExprForm::Pair(op, left, right) => {
-            write!(text, " {op:?}")?;
+            show_value(text, op)?;
             show_expr(text, left)?;
             show_expr(text, right)
         }
         ExprForm::Reduce(fold, over, operand) => {
-            write!(text, " {fold:?}")?;
+            show_value(text, fold)?;
             show_shape(text, over)?;
             show_expr(text, operand)
         }
         ExprForm::Scan(fold, along, operand) => {
-            write!(text, " {fold:?} {along:?}")?;
+            show_value(text, fold)?;
+            show_value(text, along)?;
             show_expr(text, operand)
         }
         ExprForm::Flood(source, operand) => {
@@ -381,7 +399,7 @@ fn show_pres(text: &mut String, pres: &[Pre<'_>]) -> Result<(), AllocError> {
 fn show_region(text: &mut String, base: &RegionBase<'_>) -> Result<(), AllocError> {
     match base {
         RegionBase::Named(name) => show_name(text, name),
-        RegionBase::Ditto(at) => write!(text, " (Ditto@{at})"),
+        RegionBase::Ditto(at) => show_bare(text, "Ditto", *at),
     }
 }
 
@@ -418,8 +436,8 @@ fn show_dims(text: &mut String, dims: &[DimText<'_>]) -> Result<(), AllocError> 
 #[cycle(show_expression)]
 fn show_dim(text: &mut String, dim: &DimText<'_>) -> Result<(), AllocError> {
     match dim {
-        DimText::Blank(at) => write!(text, " (Blank@{at})"),
-        DimText::Star(at) => write!(text, " (Star@{at})"),
+        DimText::Blank(at) => show_bare(text, "Blank", *at),
+        DimText::Star(at) => show_bare(text, "Star", *at),
         DimText::One(index) => {
             text.push_str(" (One")?;
             show_expr(text, index)?;
@@ -442,7 +460,6 @@ fn show_names(text: &mut String, names: &[Name<'_>]) -> Result<(), AllocError> {
 }
 
 fn show_name(text: &mut String, name: &Name<'_>) -> Result<(), AllocError> {
-    let letters = from_utf8(name.text).unwrap_or("?");
-    let at = name.at;
-    write!(text, " {letters}@{at}")
+    text.push(' ')?;
+    show_place(text, from_utf8(name.text).unwrap_or("?"), name.at)
 }

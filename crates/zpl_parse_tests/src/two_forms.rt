@@ -1,6 +1,6 @@
 //! Reads that wrap round and remaps.
 use super::printed::prints;
-use super::reading::{refused_at, tree_of, with_body};
+use super::reading::{expect_body, expect_tree};
 use std::test::Fail;
 
 /// A program that shifts an array round its region, and reads it from its end to its beginning.
@@ -29,29 +29,27 @@ const PRINTED: &str = "program t ;\n\
 #[test]
 fn both_are_read_and_printed(rt: HostRuntime) -> Result<(), Fail> {
     let alloc = rt.alloc();
-    let shown = tree_of(&rt, alloc, TEXT)?;
-    assert_eq!(rt; shown.as_str(), TREE);
+    expect_tree(&rt, alloc, TEXT, TREE)?;
     prints(&rt, alloc, TEXT, PRINTED)
 }
 
 /// Bodies where a caret or a hash can't stand, or where what it wants is missing.
-const MISTAKES: [(&str, u32); 8] = [
-    ("x := ^A;", 37),
-    ("x := A@^;", 40),
-    ("x := A@d@^e;", 40),
-    ("x := f()@^e;", 40),
-    ("x := A# B;", 40),
-    ("x := A#[];", 40),
-    ("x := A#[1]#[2];", 42),
-    ("[^] x := 1;", 33),
+const MISTAKES: [(&str, &str); 8] = [
+    ("x := ^A;", "Syntax { at: 37 }"),
+    ("x := A@^;", "Syntax { at: 40 }"),
+    ("x := A@d@^e;", "Syntax { at: 40 }"),
+    ("x := f()@^e;", "Syntax { at: 40 }"),
+    ("x := A# B;", "Syntax { at: 40 }"),
+    ("x := A#[];", "Syntax { at: 40 }"),
+    ("x := A#[1]#[2];", "Syntax { at: 42 }"),
+    ("[^] x := 1;", "Syntax { at: 33 }"),
 ];
 
 #[test]
 fn nothing_else_takes_a_caret_or_a_hash(rt: HostRuntime) -> Result<(), Fail> {
     let alloc = rt.alloc();
-    for (body, at) in MISTAKES {
-        let text = with_body(alloc, body)?;
-        refused_at(&rt, alloc, text.as_str(), at)?;
+    for (body, fault) in MISTAKES {
+        expect_body(&rt, alloc, body, fault)?;
     }
     Ok(())
 }

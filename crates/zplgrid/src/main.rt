@@ -2,6 +2,8 @@
 //! simulates the grid.
 #![tactic(auto)]
 
+use call_answers::{Answer, told};
+use std::io::ErrorKind;
 use std::process::ExitCode;
 use std::rt::Env;
 use std::{env, io};
@@ -18,14 +20,18 @@ fn command_line(rt: &(impl Env + AllocGlobal)) -> io::Result<Vec<String>> {
 }
 
 fn main(rt: HostRuntime) -> io::Result<ExitCode> {
-    // Words that aren't text are no command.
+    let alloc = rt.alloc();
+    let mut errs = StdSink::new(rt.stderr());
     let words = match command_line(&rt) {
-        Err(error) if error.kind() == io::ErrorKind::InvalidData => Vec::new(rt.alloc()),
+        // Words that aren't text are no command.
+        Err(error) if error.kind() == ErrorKind::InvalidData => Vec::new(alloc),
+        Err(error) if error.kind() == ErrorKind::OutOfMemory => {
+            let answer = told(alloc, Answer::NoMemory, &mut errs);
+            return Ok(ExitCode::from(answer.status()));
+        }
         words => words?,
     };
     let mut out = StdSink::new(rt.stdout());
-    let mut errs = StdSink::new(rt.stderr());
-    let alloc = rt.alloc();
     let mut files = DiskFiles::new(rt);
     let ran = zplgrid(alloc, words.as_slice(), &mut files, &mut out, &mut errs);
     Ok(ExitCode::from(ran.status))

@@ -1,5 +1,4 @@
-//! Tests of the call that the program makes, and of the printed form of each statement and
-//! expression.
+//! Tests of the call that the program makes.
 #![tactic(auto)]
 
 #[cfg(test)]
@@ -8,8 +7,6 @@ mod calls;
 mod execs;
 #[cfg(test)]
 mod faults;
-#[cfg(test)]
-mod forms;
 #[cfg(test)]
 mod lists;
 #[cfg(test)]

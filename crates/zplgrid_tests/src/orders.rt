@@ -1,67 +1,59 @@
 //! Runs of programs under orders of turns.
-use super::rows::{Case, expect_under_order};
+use super::rows::{USAGE, Wanted, expect};
 use std::test::Fail;
 
 /// A program that takes 46 turns.
-const SUM: &str = "program sum; var i, s : integer; procedure sum(); begin i := 1; \
+const SUM: &[u8] = b"program sum; var i, s : integer; procedure sum(); begin i := 1; \
     while i <= 10 do s := s + i; i := i + 1; end; writeln(\"sum \", s); end;";
 
-const USAGE: &[u8] = b"usage: zplgrid run|mean|list|exec|gen WORD [words]\n";
-
-const CASES: [Case; 12] = [
+/// An order, the words, and what comes of them.
+const CASES: [(&str, &[&str], Wanted<'static>); 12] = [
     (
-        &["report"],
-        b"",
-        0,
-        b"sum 55\n",
-        b"turns 46 sends 0 words 0\n",
-        46,
+        "",
+        &["run", "a", "report"],
+        (0, "sum 55\n", "turns 46 sends 0 words 0\n", 46),
     ),
     (
-        &["links=1", "report", "order=o"],
-        b"0x50",
-        0,
-        b"sum 55\n",
-        b"turns 46 sends 0 words 0\n",
-        46,
+        "0x50",
+        &["run", "a", "links=1", "report", "order=o"],
+        (0, "sum 55\n", "turns 46 sends 0 words 0\n", 46),
     ),
     (
-        &["order=o", "turns=40", "report"],
-        b"0x3 0",
-        8,
-        b"sum 55",
-        b"turn limit\nturns 44 sends 0 words 0\n",
-        44,
+        "0x3 0",
+        &["run", "a", "order=o", "turns=40", "report"],
+        (8, "sum 55", "turn limit\nturns 44 sends 0 words 0\n", 44),
     ),
-    (&["order=o", "turns=42"], b"0x3 0", 0, b"sum 55\n", b"", 46),
     (
-        &["order=o"],
-        b"0x3 1",
-        6,
-        b"",
-        b"order refused, byte 4\n",
-        0,
+        "0x3 0",
+        &["run", "a", "order=o", "turns=42"],
+        (0, "sum 55\n", "", 46),
     ),
-    (&["report", "order=p"], b"", 2, b"", b"cannot read p\n", 0),
     (
-        &["order=o", "s:=1"],
-        b"1",
-        5,
-        b"",
-        b"settings refused: UnknownConfig\n",
-        0,
+        "0x3 1",
+        &["run", "a", "order=o"],
+        (6, "", "order refused, byte 4\n", 0),
     ),
-    (&["turns=0"], b"", 8, b"", b"turn limit\n", 0),
-    (&["links=0"], b"", 1, b"", USAGE, 0),
-    (&["report", "report"], b"", 1, b"", USAGE, 0),
-    (&["order=o", "order=o"], b"", 1, b"", USAGE, 0),
-    (&["reports"], b"", 1, b"", USAGE, 0),
+    (
+        "",
+        &["run", "a", "report", "order=p"],
+        (2, "", "cannot read p\n", 0),
+    ),
+    (
+        "1",
+        &["run", "a", "order=o", "s:=1"],
+        (5, "", "settings refused: UnknownConfig\n", 0),
+    ),
+    ("", &["run", "a", "turns=0"], (8, "", "turn limit\n", 0)),
+    ("", &["run", "a", "links=0"], (1, "", USAGE, 0)),
+    ("", &["run", "a", "report", "report"], (1, "", USAGE, 0)),
+    ("", &["run", "a", "order=o", "order=o"], (1, "", USAGE, 0)),
+    ("", &["run", "a", "reports"], (1, "", USAGE, 0)),
 ];
 
 #[test]
 fn runs_under_orders(rt: HostRuntime) -> Result<(), Fail> {
-    for case in &CASES {
-        expect_under_order(&rt, rt.alloc(), "run", SUM.as_bytes(), case)?;
+    for (order, words, wanted) in CASES {
+        expect(&rt, rt.alloc(), words, SUM, order, wanted)?;
     }
     Ok(())
 }

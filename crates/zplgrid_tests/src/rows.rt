@@ -1,19 +1,51 @@
-//! A call over one text, and what has to come of it.
+//! Calls of the program with files and sinks in memory, and what has to come of them.
 use std::alloc::{AllocError, Global};
 use std::process::Abort;
 use top_call::zplgrid;
 use zpl_io::{MemFiles, MemSink};
 
-/// Its status, what each sink took, and the turns.
+/// A command without its words is told how it is used.
+pub const USAGE: &str = "usage: zplgrid run|mean|list|exec|gen WORD [words]\n";
+
+/// A number that no call of a file or a sink has.
+pub const NEVER: u64 = 1_000_000;
+
+/// The words of a call, the texts of the files `a` and `o`, and the numbers of a fetch, a put of
+/// out and a put of errs that fail.
 #[derive(Clone, Copy)]
-pub struct Wanted<'a> {
-    pub status: u8,
-    pub out: &'a [u8],
-    pub errs: &'a [u8],
-    pub turns: u64,
+pub struct Call<'a> {
+    pub words: &'a [&'a str],
+    pub text: &'a [u8],
+    pub order: &'a str,
+    pub fails: [u64; 3],
 }
 
-pub fn command_line(alloc: Global, words: &[&str]) -> Result<Vec<String>, AllocError> {
+/// The status, what out and errs took, and the turns.
+pub type Wanted<'a> = (u8, &'a str, &'a str, u64);
+
+/// The words, the text, and what has to come of it.
+pub type Row = (&'static [&'static str], &'static str, Wanted<'static>);
+
+/// What came of a call.
+#[derive(Drop)]
+pub struct Answer {
+    pub status: u8,
+    pub out: Vec<u8>,
+    pub errs: Vec<u8>,
+    pub turns: u64,
+    pub has_code: bool,
+}
+
+impl Answer {
+    pub fn is(&self, wanted: Wanted<'_>) -> bool {
+        let (status, out, errs, turns) = wanted;
+        let is_told = self.out.as_slice() == out.as_bytes()
+            && self.errs.as_slice() == errs.as_bytes();
+        is_told && self.status == status && self.turns == turns
+    }
+}
+
+fn command_line(alloc: Global, words: &[&str]) -> Result<Vec<String>, AllocError> {
     let mut strings = Vec::new(alloc);
     for word in words {
         strings.push(word.to_string(alloc)?)?;
@@ -21,106 +53,80 @@ pub fn command_line(alloc: Global, words: &[&str]) -> Result<Vec<String>, AllocE
     Ok(strings)
 }
 
-/// Calls the program with a text as `a.zpl`, compares what comes of it, and tells whether code was
-/// made.
-fn compare(
-    rt: &impl Abort,
-    alloc: Global,
-    words: &[&str],
-    text: &[u8],
-    wanted: Wanted<'_>,
-) -> Result<bool, AllocError> {
+/// Calls the program.
+pub fn answer(alloc: Global, call: Call<'_>) -> Result<Answer, AllocError> {
     let mut files = MemFiles::new(alloc);
-    files.add(alloc, "a.zpl", text)?;
+    files.add(alloc, "a", call.text)?;
+    files.add(alloc, "o", call.order.as_bytes())?;
     let mut out = MemSink::new(alloc, 400)?;
     let mut errs = MemSink::new(alloc, 100)?;
-    let words = command_line(alloc, words)?;
+    let [fetch, put, told] = call.fails;
+    files.fail_at(alloc, fetch)?;
+    out.fail_at(alloc, put)?;
+    errs.fail_at(alloc, told)?;
+    let words = command_line(alloc, call.words)?;
     let ran = zplgrid(alloc, words.as_slice(), &mut files, &mut out, &mut errs);
-    assert_eq!(rt; ran.status, wanted.status);
-    assert_eq!(rt; out.taken(), wanted.out);
-    assert_eq!(rt; errs.taken(), wanted.errs);
-    assert_eq!(rt; ran.turns, wanted.turns);
-    Ok(ran.code.is_some())
+    Ok(Answer {
+        status: ran.status,
+        out: Vec::from_slice(alloc, out.taken())?,
+        errs: Vec::from_slice(alloc, errs.taken())?,
+        turns: ran.turns,
+        has_code: ran.code.is_some(),
+    })
 }
 
-/// Calls the program where a run is made, or none.
+/// Calls with these words, this text and this order, where nothing fails.
 pub fn expect(
     rt: &impl Abort,
     alloc: Global,
     words: &[&str],
     text: &[u8],
+    order: &str,
     wanted: Wanted<'_>,
 ) -> Result<(), AllocError> {
-    let has_code = compare(rt, alloc, words, text, wanted)?;
-    assert_eq!(rt; has_code, wanted.status == 0 || wanted.status == 8);
-    Ok(())
-}
-
-/// Calls the program where a meaning is put, or none.
-pub fn expect_meaning(
-    rt: &impl Abort,
-    alloc: Global,
-    words: &[&str],
-    text: &[u8],
-    wanted: Wanted<'_>,
-) -> Result<(), AllocError> {
-    let has_code = compare(rt, alloc, words, text, wanted)?;
-    assert!(rt; !has_code);
-    Ok(())
-}
-
-/// Calls the program where nothing is run.
-pub fn expect_no_run(
-    rt: &impl Abort,
-    alloc: Global,
-    words: &[&str],
-    text: &[u8],
-    status: u8,
-    errs: &[u8],
-) -> Result<(), AllocError> {
-    let wanted = Wanted {
-        status,
-        out: b"",
-        errs,
-        turns: 0,
+    let fails = [NEVER, NEVER, NEVER];
+    let call = Call {
+        words,
+        text,
+        order,
+        fails,
     };
-    expect(rt, alloc, words, text, wanted)
+    assert!(rt; answer(alloc, call)?.is(wanted), "{words:?}");
+    Ok(())
 }
 
-/// Words behind a file, the order `o`, and what comes of it: the status, what out and errs took, and
-/// the turns.
-pub type Case = (
-    &'static [&'static str],
-    &'static [u8],
-    u8,
-    &'static [u8],
-    &'static [u8],
-    u64,
-);
-
-/// Does what a command does with a text and an order, with words behind the file, and compares what
-/// comes of it.
-pub fn expect_under_order(
-    rt: &impl Abort,
-    alloc: Global,
-    command: &str,
-    text: &[u8],
-    case: &Case,
-) -> Result<(), AllocError> {
-    let (more, order, status, taken, told, turns) = *case;
-    let mut files = MemFiles::new(alloc);
-    files.add(alloc, "a.file", text)?;
-    files.add(alloc, "o", order)?;
-    let mut out = MemSink::new(alloc, 100)?;
-    let mut errs = MemSink::new(alloc, 100)?;
-    let mut words = command_line(alloc, &[command, "a.file"])?;
-    for word in more {
-        words.push(word.to_string(alloc)?)?;
+/// Calls of `run`, `list` and `mean`: the first two have code with the statuses 0 and 8.
+pub fn expect_rows(rt: &impl Abort, alloc: Global, rows: &[Row]) -> Result<(), AllocError> {
+    for (words, text, wanted) in rows {
+        let call = Call {
+            words,
+            text: text.as_bytes(),
+            order: "",
+            fails: [NEVER, NEVER, NEVER],
+        };
+        let found = answer(alloc, call)?;
+        let is_ended = found.status == 0 || found.status == 8;
+        let has_code = is_ended && words.first() != Some(&"mean");
+        assert!(rt;
+            found.is(*wanted) && found.has_code == has_code,
+            "{words:?}"
+        );
     }
-    let ran = zplgrid(alloc, words.as_slice(), &mut files, &mut out, &mut errs);
-    assert_eq!(rt; ran.status, status);
-    assert_eq!(rt; out.taken(), taken);
-    assert_eq!(rt; errs.taken(), told);
-    assert_eq!(rt; ran.turns, turns);
+    Ok(())
+}
+
+/// A call where something fails.
+pub type Failing = ([u64; 3], Row);
+
+pub fn expect_failing(rt: &impl Abort, alloc: Global, rows: &[Failing]) -> Result<(), AllocError> {
+    for (fails, (words, text, wanted)) in rows {
+        let call = Call {
+            words,
+            text: text.as_bytes(),
+            order: "",
+            fails: *fails,
+        };
+        assert!(rt; answer(alloc, call)?.is(*wanted), "{words:?} {fails:?}");
+    }
     Ok(())
 }

@@ -1,8 +1,6 @@
 //! Words that set configs.
-use super::rows::expect_no_run;
+use super::rows::{Row, USAGE, expect_rows};
 use std::test::Fail;
-
-const USAGE: &str = "usage: zplgrid run|mean|list|exec|gen WORD [words]\n";
 
 const NOT_BUILT: &str = "refused: NotBuilt, line 1, byte 0\n";
 
@@ -25,80 +23,126 @@ const DEFAULT: &str = "program t; config var n : integer = 1 / 0; procedure t();
 const JUDGED: &str = "program t; config var n : integer = 1; procedure u(); begin end;";
 
 /// Words that are no setting, so that there is no command.
-const NO_SETTINGS: [&str; 8] = [
-    "if:=1",
-    "Index2:=1",
-    "1n:=1",
-    ":=1",
-    "n",
-    "n=1",
-    "n:1",
-    "n :=1",
+const NO_SETTINGS: [Row; 16] = [
+    (&["run", "a", "if:=1"], "", (1, "", USAGE, 0)),
+    (&["list", "a", "if:=1"], "", (1, "", USAGE, 0)),
+    (&["run", "a", "Index2:=1"], "", (1, "", USAGE, 0)),
+    (&["list", "a", "Index2:=1"], "", (1, "", USAGE, 0)),
+    (&["run", "a", "1n:=1"], "", (1, "", USAGE, 0)),
+    (&["list", "a", "1n:=1"], "", (1, "", USAGE, 0)),
+    (&["run", "a", ":=1"], "", (1, "", USAGE, 0)),
+    (&["list", "a", ":=1"], "", (1, "", USAGE, 0)),
+    (&["run", "a", "n"], "", (1, "", USAGE, 0)),
+    (&["list", "a", "n"], "", (1, "", USAGE, 0)),
+    (&["run", "a", "n=1"], "", (1, "", USAGE, 0)),
+    (&["list", "a", "n=1"], "", (1, "", USAGE, 0)),
+    (&["run", "a", "n:1"], "", (1, "", USAGE, 0)),
+    (&["list", "a", "n:1"], "", (1, "", USAGE, 0)),
+    (&["run", "a", "n :=1"], "", (1, "", USAGE, 0)),
+    (&["list", "a", "n :=1"], "", (1, "", USAGE, 0)),
 ];
 
-/// Texts with one word more, the status, and what is told.
-const ONE_WORD: [(&str, &str, u8, &str); 16] = [
-    (SMALL, "x:=1", 5, UNKNOWN),
-    (SMALL, "report:=1", 5, UNKNOWN),
-    (SMALL, "turns:=1", 5, UNKNOWN),
-    (SMALL, "_0:=", 5, UNKNOWN),
-    (CONFIGS, "n:=5", 4, NOT_BUILT),
-    (CONFIGS, "n:=-00", 5, "settings refused: BadConstant\n"),
-    (CONFIGS, "b:=false", 4, NOT_BUILT),
-    (CONFIGS, "N:=5", 5, UNKNOWN),
-    (CONFIGS, "c:=5", 5, UNKNOWN),
-    (CONFIGS, "n:=", 5, TYPE),
-    (CONFIGS, "n:=1:=2", 5, TYPE),
-    (CONFIGS, "b:=1", 5, TYPE),
-    (CONFIGS, "n:=32768", 5, "settings refused: DirectionLimit\n"),
-    (DEFAULT, "n:=2", 4, NOT_BUILT),
-    (JUDGED, "n:=x", 4, "refused: NoEntry, line 1, byte 8\n"),
-    ("program t", "n:=x", 4, "refused: Syntax, line 1, byte 9\n"),
+/// One word more.
+const ONE_WORD: [Row; 32] = [
+    (&["run", "a", "x:=1"], SMALL, (5, "", UNKNOWN, 0)),
+    (&["list", "a", "x:=1"], SMALL, (5, "", UNKNOWN, 0)),
+    (&["run", "a", "report:=1"], SMALL, (5, "", UNKNOWN, 0)),
+    (&["list", "a", "report:=1"], SMALL, (5, "", UNKNOWN, 0)),
+    (&["run", "a", "turns:=1"], SMALL, (5, "", UNKNOWN, 0)),
+    (&["list", "a", "turns:=1"], SMALL, (5, "", UNKNOWN, 0)),
+    (&["run", "a", "_0:="], SMALL, (5, "", UNKNOWN, 0)),
+    (&["list", "a", "_0:="], SMALL, (5, "", UNKNOWN, 0)),
+    (&["run", "a", "n:=5"], CONFIGS, (4, "", NOT_BUILT, 0)),
+    (&["list", "a", "n:=5"], CONFIGS, (4, "", NOT_BUILT, 0)),
+    (
+        &["run", "a", "n:=-00"],
+        CONFIGS,
+        (5, "", "settings refused: BadConstant\n", 0),
+    ),
+    (
+        &["list", "a", "n:=-00"],
+        CONFIGS,
+        (5, "", "settings refused: BadConstant\n", 0),
+    ),
+    (&["run", "a", "b:=false"], CONFIGS, (4, "", NOT_BUILT, 0)),
+    (&["list", "a", "b:=false"], CONFIGS, (4, "", NOT_BUILT, 0)),
+    (&["run", "a", "N:=5"], CONFIGS, (5, "", UNKNOWN, 0)),
+    (&["list", "a", "N:=5"], CONFIGS, (5, "", UNKNOWN, 0)),
+    (&["run", "a", "c:=5"], CONFIGS, (5, "", UNKNOWN, 0)),
+    (&["list", "a", "c:=5"], CONFIGS, (5, "", UNKNOWN, 0)),
+    (&["run", "a", "n:="], CONFIGS, (5, "", TYPE, 0)),
+    (&["list", "a", "n:="], CONFIGS, (5, "", TYPE, 0)),
+    (&["run", "a", "n:=1:=2"], CONFIGS, (5, "", TYPE, 0)),
+    (&["list", "a", "n:=1:=2"], CONFIGS, (5, "", TYPE, 0)),
+    (&["run", "a", "b:=1"], CONFIGS, (5, "", TYPE, 0)),
+    (&["list", "a", "b:=1"], CONFIGS, (5, "", TYPE, 0)),
+    (
+        &["run", "a", "n:=32768"],
+        CONFIGS,
+        (5, "", "settings refused: DirectionLimit\n", 0),
+    ),
+    (
+        &["list", "a", "n:=32768"],
+        CONFIGS,
+        (5, "", "settings refused: DirectionLimit\n", 0),
+    ),
+    (&["run", "a", "n:=2"], DEFAULT, (4, "", NOT_BUILT, 0)),
+    (&["list", "a", "n:=2"], DEFAULT, (4, "", NOT_BUILT, 0)),
+    (
+        &["run", "a", "n:=x"],
+        JUDGED,
+        (4, "", "refused: NoEntry, line 1, byte 8\n", 0),
+    ),
+    (
+        &["list", "a", "n:=x"],
+        JUDGED,
+        (4, "", "refused: NoEntry, line 1, byte 8\n", 0),
+    ),
+    (
+        &["run", "a", "n:=x"],
+        "program t",
+        (4, "", "refused: Syntax, line 1, byte 9\n", 0),
+    ),
+    (
+        &["list", "a", "n:=x"],
+        "program t",
+        (4, "", "refused: Syntax, line 1, byte 9\n", 0),
+    ),
+];
+
+const SEVERAL: [Row; 6] = [
+    (
+        &["run", "a", "n:=5", "n:=6"],
+        CONFIGS,
+        (5, "", "settings refused: TwiceSet\n", 0),
+    ),
+    (
+        &["run", "a", "n:=5", "turns=7", "b:=false"],
+        CONFIGS,
+        (4, "", NOT_BUILT, 0),
+    ),
+    (
+        &["run", "a", "turns=7", "turns=7", "n:=5"],
+        CONFIGS,
+        (1, "", USAGE, 0),
+    ),
+    (
+        &["list", "a", "n:=5", "turns=7"],
+        CONFIGS,
+        (1, "", USAGE, 0),
+    ),
+    (
+        &["list", "a", "b:=false", "n:=5"],
+        CONFIGS,
+        (4, "", NOT_BUILT, 0),
+    ),
+    (&["run", "n:=5"], CONFIGS, (2, "", "cannot read n:=5\n", 0)),
 ];
 
 #[test]
-fn one_word_more(rt: HostRuntime) -> Result<(), Fail> {
-    for word in NO_SETTINGS {
-        let errs = USAGE.as_bytes();
-        expect_no_run(&rt, rt.alloc(), &["run", "a.zpl", word], b"", 1, errs)?;
-        expect_no_run(&rt, rt.alloc(), &["list", "a.zpl", word], b"", 1, errs)?;
-    }
-    for (text, word, status, errs) in ONE_WORD {
-        let (text, errs) = (text.as_bytes(), errs.as_bytes());
-        expect_no_run(&rt, rt.alloc(), &["run", "a.zpl", word], text, status, errs)?;
-        expect_no_run(
-            &rt,
-            rt.alloc(),
-            &["list", "a.zpl", word],
-            text,
-            status,
-            errs,
-        )?;
-    }
-    Ok(())
-}
-
-#[test]
-fn several_words(rt: HostRuntime) -> Result<(), Fail> {
-    let cases: [(&[&str], u8, &str); 6] = [
-        (
-            &["run", "a.zpl", "n:=5", "n:=6"],
-            5,
-            "settings refused: TwiceSet\n",
-        ),
-        (
-            &["run", "a.zpl", "n:=5", "turns=7", "b:=false"],
-            4,
-            NOT_BUILT,
-        ),
-        (&["run", "a.zpl", "turns=7", "turns=7", "n:=5"], 1, USAGE),
-        (&["list", "a.zpl", "n:=5", "turns=7"], 1, USAGE),
-        (&["list", "a.zpl", "b:=false", "n:=5"], 4, NOT_BUILT),
-        (&["run", "n:=5"], 2, "cannot read n:=5\n"),
-    ];
-    for (words, status, errs) in cases {
-        let (text, errs) = (CONFIGS.as_bytes(), errs.as_bytes());
-        expect_no_run(&rt, rt.alloc(), words, text, status, errs)?;
-    }
+fn settings(rt: HostRuntime) -> Result<(), Fail> {
+    expect_rows(&rt, rt.alloc(), &NO_SETTINGS)?;
+    expect_rows(&rt, rt.alloc(), &ONE_WORD)?;
+    expect_rows(&rt, rt.alloc(), &SEVERAL)?;
     Ok(())
 }
