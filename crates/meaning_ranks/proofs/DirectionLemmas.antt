@@ -26,7 +26,6 @@ use Rattle.zpl_meaning.specs.Proper.{IsArrayRank}
 use Rattle.zpl_meaning.proofs.ProperLemmas.{array_rank_is}
 use Rattle.zpl_meaning.proofs.NamesLemmas.{routine_sound}
 use Rattle.meaning_ranks.proofs.RankLemmas.{KnowsDirections}
-use Rattle.zpl_meaning.proofs.VisitLemmas.{or_good}
 
 -- a direction has at least one component
 abbrev IsAimed : Kind → Type 0
@@ -165,6 +164,10 @@ good_in (first ∷ rest) text k le h =
         (cond b (Some first) (find (λ entry. bytes_eq entry.name.text text) rest)))
     by true later = good_from first.kind k.0 le.0 h.0
     by false later = later
+
+or_good : (one other : Option Kind) → OptGood one → OptGood other → OptGood (option_or one other)
+or_good None other h k = k
+or_good (Some kind) other h k = h
 
 direction_is : (found : Option Kind) → OptGood found → is_direction found ≡ true
     → IsArrayRank (direction_rank found)
