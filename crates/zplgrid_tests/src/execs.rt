@@ -120,11 +120,11 @@ const THREE: &str = "zplnode 1\ngrid 3\nscalars 1\nslots\ncells 0\ntext 6869\nex
 const CUT_ORDERS: [(&str, Wanted<'static>); 8] = [
     ("", (0, "hi21", "", 12)),
     ("0", (0, "hi21", "", 13)),
-    ("0 ", (6, "", "order refused, byte 2\n", 0)),
+    ("0 ", (0, "hi21", "", 13)),
     ("0 1", (0, "hi21", "", 14)),
-    ("0 1x", (6, "", "order refused, byte 4\n", 0)),
+    ("0 1x", (6, "", "order refused, byte 2\n", 0)),
     ("0 1x3", (0, "hi21", "", 16)),
-    ("0 1x3 ", (6, "", "order refused, byte 6\n", 0)),
+    ("0 1x3 ", (0, "hi21", "", 16)),
     ("0 1x3 2", (0, "hi21", "", 14)),
 ];
 
