@@ -130,7 +130,7 @@ module _ (call : Call) (ex : Execution) (file : List ℕ) (asked : Asked) where
     code = code;
     listing = is;
     holds = let found = bad_order_file call code asked ex.turns asked.order _ _ c h in
-    record { text = found.0; order_text = found.1; at = found.2.0; bad = found.2.1 };
+        record { text = found.0; order_text = found.1; at = found.2.0; bad = found.2.1 };
   }
 
   module _ (m : ℕ) (settled : IsSettled call m)
