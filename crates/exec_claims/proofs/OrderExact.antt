@@ -1,20 +1,19 @@
 -- When a text is too long, and when an item of the order is wrong.
-use Rattle.std.proofs.Common.{◌≡◌, ◌≢◌, ◌↔◌, ◌⊎◌, ℕ, List, [], Option, Some, None, Ok, Err}
-use Rattle.std.proofs.Common.{refl, sym, ap, ◌∙◌, subst, inl, inr, arith}
+use Rattle.std.proofs.Common.{◌≡◌, ◌≢◌, ◌↔◌, ◌⊎◌, ℕ, Bool, List, [], Option, Some, None, Err}
+use Rattle.std.proofs.Common.{refl, sym, ◌∙◌, subst, inl, inr, arith}
 use Rattle.node_form.specs.declared.tables.Tables.{Tables}
 use Rattle.listing_lines.specs.Listing.{IsBadLine}
 use Rattle.node_text.specs.Listing.{IsBadTable, IsListing}
 use Rattle.call_claims.specs.Call.{Call}
 use Rattle.call_claims.specs.Decided.{IsSettled}
 use Rattle.call_claims.specs.Execution.{Execution}
-use Rattle.call_claims.specs.declared.status.TheConstants.{USAGE, UNREADABLE, TOO_LONG}
-use Rattle.call_claims.specs.declared.status.TheConstants.{NO_MEMORY}
+use Rattle.call_claims.specs.declared.status.TheConstants.{UNREADABLE, TOO_LONG}
 use Rattle.exec_words.specs.Asked.{Asked}
 use Rattle.exec_words.proofs.OneLemmas.{exec_is_one}
 use Rattle.grid_runs.specs.Run.{Run}
 use Rattle.grid_meaning.specs.Grid.{processors}
 use Rattle.grid_order.specs.Reading.{reading}
-use Rattle.exec_claims.specs.Cause.{RunCause, OrderCause, OrderFileCause, ListingCause}
+use Rattle.exec_claims.specs.Cause.{RunCause, OrderCause, OrderFileCause}
 use Rattle.exec_claims.specs.Cause.{ListingFileCause, Cause, Source, IsTooLong, run_of}
 use Rattle.exec_claims.specs.Cause.RunCause.{done, trap, turn_limit, stuck, idle}
 use Rattle.exec_claims.specs.Cause.OrderCause.{bad_item, ran}
@@ -23,7 +22,7 @@ use Rattle.exec_claims.specs.Cause.ListingCause.{bad_line, bad_table, listed}
 use Rattle.exec_claims.specs.Cause.Cause.{usage, no_memory, exec}
 use Rattle.exec_claims.specs.Decided.{IsOneOrder, IsOrderText, HasListing, HasLongOrder}
 use Rattle.exec_claims.specs.Decided.{ExecsTooLong, HasBadOrder, ExecsBadOrder}
-use Rattle.exec_claims.specs.declared.status.TheConstants.{ORDER_REFUSED, LISTING_REFUSED}
+use Rattle.exec_claims.specs.declared.status.TheConstants.{ORDER_REFUSED}
 use Rattle.exec_claims.proofs.OneCause.{not_long, read_one, same_text, text_short, texts_same}
 
 -- ---- a run has neither status

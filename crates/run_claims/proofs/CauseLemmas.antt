@@ -1,5 +1,5 @@
 -- A status of `run` with its cause comes just where that cause is.
-use Rattle.std.proofs.Common.{◌≡◌, ◌≢◌, ℕ, Bool, List, [], Option, Some, None, Err, refl, sym, ◌∙◌, subst, inl, inr, arith}
+use Rattle.std.proofs.Common.{◌≡◌, ◌≢◌, ℕ, Bool, List, [], Option, Some, None, Err, refl, sym, subst, inl, inr, arith}
 use Rattle.node_form.specs.declared.tables.Tables.{Tables}
 use Rattle.zpl_binding.specs.Settings.{Setting}
 use Rattle.grid_meaning.specs.Grid.{processors}
@@ -21,7 +21,7 @@ use Rattle.exec_claims.specs.Cause.{OrderCause, OrderFileCause, RunCause, run_of
 use Rattle.exec_claims.specs.Cause.RunCause.{done, trap, turn_limit, stuck, idle}
 use Rattle.exec_claims.specs.Cause.OrderCause.{bad_item, ran}
 use Rattle.exec_claims.specs.Cause.TextCause.{unreadable as order_unreadable, too_long as order_long, work as of_order}
-use Rattle.exec_claims.specs.Decided.{HasBadOrder, HasLongOrder, IsDoneAt, IsOneOrder, IsOrderText}
+use Rattle.exec_claims.specs.Decided.{HasBadOrder, HasLongOrder, IsDoneAt, IsOneOrder}
 use Rattle.exec_claims.specs.Decided.{IsTrapAt}
 use Rattle.exec_claims.specs.declared.status.TheConstants.{ORDER_REFUSED, STUCK}
 use Rattle.exec_claims.proofs.Exact.{order_file_cause, order_file_run, run_done, run_limit}

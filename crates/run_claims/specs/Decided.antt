@@ -5,7 +5,7 @@
 --   IsUnder           it was run under the order that the words ask for
 --   IsTooFew          so few turns that no bound on those of the code is within them
 --   IsExact           each status comes just where its own cause is
-use Rattle.std.specs.Prelude.{◌≡◌, ◌≢◌, ◌⊎◌, ◌↔◌, ℕ, ◌<◌, List, Ok}
+use Rattle.std.specs.Prelude.{◌≡◌, ◌≢◌, ◌⊎◌, ◌↔◌, ℕ, ◌<◌, List, Some, Ok}
 use Rattle.zpl_nums.specs.declared.ends.End.TheVariants.{More}
 use Rattle.node_form.specs.declared.tables.Tables.{Tables}
 use Rattle.zpl_binding.specs.Settings.{Setting}
