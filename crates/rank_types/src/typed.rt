@@ -17,6 +17,5 @@ pub struct Typed<'a> {
     /// Its global names with their kinds, in the order of the text.
     pub globals: Symbols<'a>,
     pub ghost faultless: { IsFaultless (syntax_of program.now) } by { Prim.hlevel props },
-    pub ghost named: { globals ≡ symbols_of (syntax_of program.now) } by
-        { Coded-set globals-code _ _ },
+    pub ghost named: { globals ≡ symbols_of (syntax_of program.now) } by { Coded-set globals-code _ _ },
 }
