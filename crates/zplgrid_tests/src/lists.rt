@@ -1,5 +1,5 @@
 //! Listings of the code that is made of texts.
-use super::rows::{Call, NEVER, Row, USAGE, answer, expect, expect_rows};
+use super::rows::{Call, NEVER, Row, USAGE, answer_to, expect, expect_rows};
 use std::test::Fail;
 
 const NOTHING: &str = "program t; procedure t(); begin end;";
@@ -86,7 +86,7 @@ fn a_put_that_fails(rt: HostRuntime) -> Result<(), Fail> {
         order: "",
         fails: [NEVER, 0, NEVER],
     };
-    let found = answer(rt.alloc(), call)?;
+    let found = answer_to(rt.alloc(), call)?;
     assert!(rt; found.is((9, "", "", 0)) && found.has_code);
     Ok(())
 }

@@ -1,5 +1,7 @@
 //! Meanings of programs: what is printed, what is told, and the status.
-use super::rows::{Call, Failing, NEVER, Row, USAGE, answer, expect, expect_failing, expect_rows};
+use super::rows::{
+    Call, Failing, NEVER, Row, USAGE, answer_to, expect, expect_failing, expect_rows,
+};
 use std::test::Fail;
 
 /// Heat in a plate, with its south edge at 1000.
@@ -302,7 +304,7 @@ fn fronts_of_a_program(rt: HostRuntime) -> Result<(), Fail> {
             order: "",
             fails: [NEVER, NEVER, NEVER],
         };
-        let found = answer(rt.alloc(), call)?;
+        let found = answer_to(rt.alloc(), call)?;
         let is_refused = found.errs.starts_with(b"refused: ");
         assert!(rt; found.status == 4 && found.out.is_empty() && is_refused);
     }

@@ -54,7 +54,7 @@ fn command_line(alloc: Global, words: &[&str]) -> Result<Vec<String>, AllocError
 }
 
 /// Calls the program.
-pub fn answer(alloc: Global, call: Call<'_>) -> Result<Answer, AllocError> {
+pub fn answer_to(alloc: Global, call: Call<'_>) -> Result<Answer, AllocError> {
     let mut files = MemFiles::new(alloc);
     files.add(alloc, "a", call.text)?;
     files.add(alloc, "o", call.order.as_bytes())?;
@@ -91,7 +91,7 @@ pub fn expect(
         order,
         fails,
     };
-    assert!(rt; answer(alloc, call)?.is(wanted), "{words:?}");
+    assert!(rt; answer_to(alloc, call)?.is(wanted), "{words:?}");
     Ok(())
 }
 
@@ -104,7 +104,7 @@ pub fn expect_rows(rt: &impl Abort, alloc: Global, rows: &[Row]) -> Result<(), A
             order: "",
             fails: [NEVER, NEVER, NEVER],
         };
-        let found = answer(alloc, call)?;
+        let found = answer_to(alloc, call)?;
         let is_ended = found.status == 0 || found.status == 8;
         let has_code = is_ended && words.first() != Some(&"mean");
         assert!(rt;
@@ -126,7 +126,7 @@ pub fn expect_failing(rt: &impl Abort, alloc: Global, rows: &[Failing]) -> Resul
             order: "",
             fails: *fails,
         };
-        assert!(rt; answer(alloc, call)?.is(*wanted), "{words:?} {fails:?}");
+        assert!(rt; answer_to(alloc, call)?.is(*wanted), "{words:?} {fails:?}");
     }
     Ok(())
 }
