@@ -68,7 +68,8 @@ fn draw_line(draws: &mut Draws, form: &str, text: &mut Vec<u8>) -> Result<(), Al
     let mut mark = b' ';
     for byte in form.as_bytes() {
         if mark == b'?' || mark == b'!' {
-            let drawn = draws.below(u32::from(byte.wrapping_sub(b'0'))) as u8;
+            let most = u32::from(byte.wrapping_sub(b'0'));
+            let drawn = (draws.below(most) % 10) as u8;
             let least = if mark == b'!' { b'1' } else { b'0' };
             text.push(least.wrapping_add(drawn))?;
             mark = b' ';
