@@ -11,9 +11,9 @@ struct Draws {
 
 impl Draws {
     /// The next number, below the most.
-    fn below(&mut self, most: u32) -> u32 {
+    fn below(&mut self, most: u64) -> u64 {
         self.state = self.state.wrapping_mul(1_103_515_245).wrapping_add(12_345) % 2_147_483_648;
-        ((self.state / 65_536) % u64::from(most.max(1))) as u32
+        (self.state / 65_536) % most.max(1)
     }
 }
 
@@ -68,7 +68,7 @@ fn draw_line(draws: &mut Draws, form: &str, text: &mut Vec<u8>) -> Result<(), Al
     let mut mark = b' ';
     for byte in form.as_bytes() {
         if mark == b'?' || mark == b'!' {
-            let most = u32::from(byte.wrapping_sub(b'0'));
+            let most = u64::from(byte.wrapping_sub(b'0'));
             let drawn = (draws.below(most) % 10) as u8;
             let least = if mark == b'!' { b'1' } else { b'0' };
             text.push(least.wrapping_add(drawn))?;
@@ -92,7 +92,7 @@ fn draw_lines(
     text: &mut Vec<u8>,
 ) -> Result<(), AllocError> {
     for _ in 0..many {
-        let at = draws.below(forms.len() as u32);
+        let at = draws.below(forms.len() as u64);
         if let Some(form) = forms.get(at as usize) {
             draw_line(draws, form, text)?;
         }
