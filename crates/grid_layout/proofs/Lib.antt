@@ -7,7 +7,7 @@ pub mod HeldLemmas
 pub mod ThreeLemmas
 pub mod SizeLemmas
 pub mod HullLemmas
-pub mod BoxLemmas
+pub mod SideLemmas
 pub mod DimLemmas
 mod Examples
 pub mod OwnLemmas

@@ -7,7 +7,8 @@ use Rattle.grid_layout.specs.declared.boxes.ArrayBox.{ArrayBox}
 use Rattle.grid_layout.specs.declared.own.OwnBlocks.{OwnBlocks}
 use Rattle.grid_layout.specs.Grid.{processors_of}
 use Rattle.grid_layout.specs.Layout.{blocks_of}
-use Rattle.grid_layout.specs.Own.{IsKept, first_own, kept_at, own_blocks, own_of}
+use Rattle.grid_layout.specs.Own.{IsKept, first_own, kept_at, own_blocks}
+use Rattle.grid_layout.specs.Sides.{sides_of}
 use Rattle.grid_layout.specs.Words.{numbers_from}
 use Rattle.grid_layout.proofs.SizeLemmas.{numbers_more}
 
@@ -34,7 +35,7 @@ own_at blocks n p below = let e : 0 + p ≡ p = omega arith in among 0 n p below
     among k (suc n) (suc p) there = let e : suc k + p ≡ k + suc p = omega arith in among (suc k) n p (omega (arith, there)) ∙ ap (λ m. Some (own_blocks blocks m)) e
 
 -- that of a rank
-kept_own : (blocks : Blocks) (rank p : ℕ) → 1 ≤ rank → rank ≤ 3 → kept_at (own_blocks blocks p) rank ≡ own_of blocks rank p
+kept_own : (blocks : Blocks) (rank p : ℕ) → 1 ≤ rank → rank ≤ 3 → kept_at (own_blocks blocks p) rank ≡ sides_of blocks rank p
 kept_own blocks zero p above below = absurd (omega (arith, above))
 kept_own blocks (suc zero) p above below = refl
 kept_own blocks (suc (suc zero)) p above below = refl
@@ -51,9 +52,9 @@ kept_there blocks boxes kept p is below =
 -- is that of the arrays
 pub kept_is : (blocks : Blocks) (boxes : List ArrayBox) (kept : List OwnBlocks) (rank p : ℕ) (d : OwnBlocks) → IsKept blocks boxes kept
     → p < processors_of blocks.grid → 1 ≤ rank → rank ≤ 3
-    → kept_at (get_or kept p d) rank ≡ own_of (blocks_of blocks.grid boxes) rank p
+    → kept_at (get_or kept p d) rank ≡ sides_of (blocks_of blocks.grid boxes) rank p
 kept_is blocks boxes kept rank p d is below low high =
     let found : slice_get kept p ≡ Some (own_blocks blocks p) =
     ap (λ own. slice_get own p) is.own ∙ own_at blocks (processors_of blocks.grid) p below in
     ap (λ own. kept_at own rank) (get_or_from_slice_get kept p (own_blocks blocks p) d found)
-    ∙ (kept_own blocks rank p low high ∙ ap (λ (b : Blocks). own_of b rank p) is.layout.are)
+    ∙ (kept_own blocks rank p low high ∙ ap (λ (b : Blocks). sides_of b rank p) is.layout.are)

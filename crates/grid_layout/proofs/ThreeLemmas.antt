@@ -6,7 +6,7 @@ use Rattle.zpl_region.specs.declared.dims.Dim.{Dim}
 use Rattle.grid_layout.specs.declared.axes.Axis.{Axis}
 use Rattle.grid_layout.specs.Block.{block_of}
 use Rattle.grid_layout.specs.Grid.{product, processor_at}
-use Rattle.grid_layout.specs.Layout.{each_bound, each_held, held_dim, owning_blocks}
+use Rattle.grid_layout.specs.Layout.{each_held, held_dim, owning_blocks}
 use Rattle.grid_layout.specs.Piece.{each_needed, each_owned, needed_dim, owned_dim}
 use Rattle.grid_layout.proofs.BlockLemmas.{div_below_by}
 
@@ -100,19 +100,6 @@ owner_told axes ns t e a b c l k m =
   where
     sums : (a b c j n a' b' c' : ℕ) → a ≡ a' → b ≡ b' → c ≡ c' → (a * j + b) * n + c ≡ a' * (j * (n * 1)) + (b' * (n * 1) + (c' * 1 + 0))
     sums a b c j n a' b' c' p q r = rw (p, q, r) (omega arith)
-
--- ---- bounds of blocks
-pub bounds_told : (bound : Axis → ℕ → ℕ → ℤ) (axes : List Axis) (ns cs : List ℕ) (e : Axis) (x y z : ℤ) → length axes ≡ 3 → length ns ≡ 3 → length cs ≡ 3
-    → x ≡ bound (get_or axes 0 e) (get_or ns 0 0) (get_or cs 0 0) → y ≡ bound (get_or axes 1 e) (get_or ns 1 0) (get_or cs 1 0) → z ≡ bound (get_or axes 2 e) (get_or ns 2 0) (get_or cs 2 0)
-    → x ∷ y ∷ z ∷ [] ≡ each_bound bound axes ns cs
-bounds_told bound axes ns cs e x y z l k m =
-    by_three (λ axes. x ≡ bound (get_or axes 0 e) (get_or ns 0 0) (get_or cs 0 0) → y ≡ bound (get_or axes 1 e) (get_or ns 1 0) (get_or cs 1 0) → z ≡ bound (get_or axes 2 e) (get_or ns 2 0) (get_or cs 2 0)
-    → x ∷ y ∷ z ∷ [] ≡ each_bound bound axes ns cs) axes l
-    (λ i j n. by_three (λ ns. x ≡ bound i (get_or ns 0 0) (get_or cs 0 0) → y ≡ bound j (get_or ns 1 0) (get_or cs 1 0) → z ≡ bound n (get_or ns 2 0) (get_or cs 2 0)
-    → x ∷ y ∷ z ∷ [] ≡ each_bound bound (i ∷ j ∷ n ∷ []) ns cs) ns k
-    (λ f g h. by_three (λ cs. x ≡ bound i f (get_or cs 0 0) → y ≡ bound j g (get_or cs 1 0) → z ≡ bound n h (get_or cs 2 0)
-    → x ∷ y ∷ z ∷ [] ≡ each_bound bound (i ∷ j ∷ n ∷ []) (f ∷ g ∷ h ∷ []) cs) cs m
-    (λ a b c p q r. three_same x y z (bound i f a) (bound j g b) (bound n h c) p q r)))
 
 -- ---- one list for each argument
 abbrev pub three : {X : Type 0} → List X → X → List X

@@ -3,4 +3,5 @@ pub mod Grid
 pub mod Layout
 pub mod Own
 pub mod Piece
+pub mod Sides
 pub mod Words

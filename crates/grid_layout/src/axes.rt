@@ -1,15 +1,12 @@
 //! The blocks of one dimension.
 ghost use Rattle.std.specs.Prelude.{◌≡◌, ◌≤◌, ◌<◌, ◌↔◌, IsTrue};
-ghost use Rattle.zpl_region.specs.Dim.{HasBounds, IsDim, IsUpTo};
+ghost use Rattle.zpl_region.specs.Dim.{IsUpTo};
 ghost use Rattle.grid_layout.specs.Block.{block_first, block_last, block_of, block_start};
 ghost use Rattle.grid_layout.specs.Block.{is_block_empty};
-ghost use Rattle.grid_layout.specs.Layout.{HasWideBounds, IsAxis, IsFringe, IsHull, axis_over};
-ghost use Rattle.grid_layout.specs.Layout.{held_dim};
-ghost use Rattle.grid_layout.specs.Piece.{needed_dim, owned_dim};
-ghost use Rattle.zpl_region.specs.Hull.{IsBoxed};
+ghost use Rattle.grid_layout.specs.Layout.{IsAxis, IsHull, axis_over};
+ghost use Rattle.grid_layout.specs.Sides.{IsSide, side_of};
 
-use crate::dims::{all_from, part, place};
-use zpl_region::Dim;
+use crate::sides::Side;
 
 /// The greatest size of a coordinate; a block without end has it as its bound.
 const FURTHEST: i64 = 1 << 40;
@@ -110,53 +107,19 @@ impl Axis {
         Axis { low, extent }
     }
 
-    /// The part of a storage's dimension that block `c` of so many holds.
-    pub(crate) fn held(self, count: u32, c: u32, low: i64, high: i64, dim: Dim) -> Dim
+    /// Block `c` of so many.
+    pub(crate) fn side(self, count: u32, c: u32) -> Side
         requires axis { IsAxis self }
         requires few { count ≤ 64 }
         requires block { c < count }
-        requires down { IsFringe low }
-        requires up { IsFringe high }
-        requires dim { HasBounds dim }
-        ensures held { result ≡ held_dim self count c low high dim }
-        ensures boxed { IsBoxed result }
-        ensures bounds { HasWideBounds result }
+        ensures side { result ≡ side_of self count c }
+        ensures bounds { IsSide result }
     {
-        let Dim::Range { lo, hi, .. } = dim else {
-            return dim;
-        };
-        if self.is_block_empty(count, c) {
-            return all_from(1, 0);
-        }
-        let first = self.block_first(count, c) - low;
-        let last = self.block_last(count, c) + high;
-        all_from(lo.max(first), hi.min(last))
-    }
-
-    /// What block `k` of so many needs of a held box: its part of the indices, moved by `d`.
-    pub(crate) fn needed(self, count: u32, k: u32, held: Dim, d: i64, dim: Dim) -> Dim
-        requires axis { IsAxis self }
-        requires few { count ≤ 64 }
-        requires block { k < count }
-        requires held { HasBounds held }
-        requires dim { IsDim dim }
-        ensures { result ≡ needed_dim self count k held d dim }
-    {
-        let own = part(dim, self.block_first(count, k), self.block_last(count, k));
-        place(held, d, own)
-    }
-
-    /// The part of a dimension in block `c` of so many, for a receiver in block `k`.
-    pub(crate) fn owned(self, count: u32, c: u32, k: u32, dim: Dim) -> Dim
-        requires axis { IsAxis self }
-        requires few { count ≤ 64 }
-        requires block { c < count }
-        ensures { result ≡ owned_dim self count c k dim }
-    {
-        match dim {
-            Dim::Range { .. } => part(dim, self.block_first(count, c), self.block_last(count, c)),
-            Dim::Flood if c == k => Dim::Flood,
-            Dim::Flood => all_from(1, 0),
+        Side {
+            block: c,
+            first: self.block_first(count, c),
+            last: self.block_last(count, c),
+            is_empty: self.is_block_empty(count, c),
         }
     }
 }

@@ -1,19 +1,21 @@
 //! The blocks into which the dimensions of each rank are cut.
 ghost use Rattle.std.specs.Prelude.{◌≡◌, ◌<◌, ◌≤◌, ◌-◌, ◌^◌, All, length, min, sum_by};
-ghost use Rattle.zpl_region.specs.Dim.{HasAlign, HasBounds, IsDim, IsUpTo};
-ghost use Rattle.zpl_region.specs.Region.{IsRegion, components, moved};
+ghost use Rattle.zpl_region.specs.Dim.{HasBounds, IsUpTo};
+ghost use Rattle.zpl_region.specs.Region.{IsRegion};
 ghost use Rattle.grid_layout.specs.Grid.{processors_of};
 ghost use Rattle.zpl_region.specs.Hull.{IsBoxed};
 ghost use Rattle.grid_layout.specs.Layout.{HasWideBounds, AreAxes, AreBlocks, IsArrayBox, IsHull};
 ghost use Rattle.grid_layout.specs.Layout.{around, axes_at, axes_of, blocks_of, held_of, hull_in};
 ghost use Rattle.grid_layout.specs.Layout.{widened, own_first, own_last, owner_of};
-ghost use Rattle.grid_layout.specs.Piece.{needed_in, owned_part};
+ghost use Rattle.grid_layout.specs.Piece.{owned_part};
+ghost use Rattle.grid_layout.specs.Sides.{IsSide, sides_of};
 ghost use Rattle.grid_layout.specs.Words.{box_words};
 
 use crate::axes::Axis;
 use crate::boxes::ArrayBox;
-use crate::dims::{components, or_emptied, tuples};
+use crate::dims::tuples;
 use crate::grids::{Grid, blocks_at};
+use crate::sides::{Side, firsts, held_by, lasts, owned_by};
 use zpl_region::{Dim, Region, Vec3};
 
 /// The blocks of a grid, for arrays that are laid out over it.
@@ -137,6 +139,22 @@ impl Blocks {
         (a * n + b) * k + c
     }
 
+    /// The blocks of a processor in the dimensions of a rank.
+    pub(crate) fn sides(&self, rank: u8, p: u32) -> [Side; 3]
+        requires blocks { AreBlocks self.now }
+        requires above { 1 ≤ rank }
+        requires below { rank ≤ 3 }
+        requires processor { p < processors_of self.now.grid }
+        ensures sides { result ≡ sides_of self.now rank p }
+        ensures bounds { All IsSide result }
+    {
+        let [planes, rows, columns] = self.axes_at(rank);
+        let cuts = self.grid.cuts(rank);
+        let [m, n, k] = cuts;
+        let [a, b, c] = blocks_at(&cuts, p);
+        [planes.side(m, a), rows.side(n, b), columns.side(k, c)]
+    }
+
     /// The first and the last tuple of a processor's own block; -2^40 and 2^40 where it is without
     /// end. A block that is empty in a dimension begins one behind its end there.
     pub fn own_block(&self, rank: u8, p: u32) -> (Vec3, Vec3)
@@ -149,22 +167,8 @@ impl Blocks {
         ensures first_bounds { All (IsUpTo 41) result.0 }
         ensures last_bounds { All (IsUpTo 41) result.1 }
     {
-        let [planes, rows, columns] = self.axes_at(rank);
-        let cuts = self.grid.cuts(rank);
-        let [m, n, k] = cuts;
-        let [a, b, c] = blocks_at(&cuts, p);
-        (
-            [
-                planes.block_first(m, a),
-                rows.block_first(n, b),
-                columns.block_first(k, c),
-            ],
-            [
-                planes.block_last(m, a),
-                rows.block_last(n, b),
-                columns.block_last(k, c),
-            ],
-        )
+        let sides = self.sides(rank, p);
+        (firsts(&sides), lasts(&sides))
     }
 
     /// The box of an array that a processor holds: its own block, widened by the fringe, within the
@@ -178,51 +182,8 @@ impl Blocks {
         ensures bounds { All HasWideBounds result.dims }
         ensures region { IsRegion result }
     {
-        let rank = array.shape.rank;
-        let [planes, rows, columns] = self.axes_at(rank);
-        let cuts = self.grid.cuts(rank);
-        let [m, n, k] = cuts;
-        let [a, b, c] = blocks_at(&cuts, p);
-        let [down_planes, down_rows, down_columns] = array.low;
-        let [up_planes, up_rows, up_columns] = array.high;
-        let [x, y, z] = array.shape.dims;
-        let dims = [
-            planes.held(m, a, down_planes, up_planes, x),
-            rows.held(n, b, down_rows, up_rows, y),
-            columns.held(k, c, down_columns, up_columns, z),
-        ];
-        or_emptied(rank, &dims)
-    }
-
-    /// The places of a held box that its processor needs for a region: the part of the region in
-    /// its own block, moved by the shift, whose components past the rank count as 0.
-    pub fn needed(&self, held: &Region, to: u32, region: &Region, shift: Vec3) -> Region
-        requires blocks { AreBlocks self.now }
-        requires held { IsRegion held.now }
-        requires receiver { to < processors_of self.now.grid }
-        requires region { IsRegion region.now }
-        ensures needed { result ≡ needed_in self.now held.now to region.now shift }
-        ensures bounds { All HasBounds result.dims }
-        ensures region { held.now.rank ≡ region.now.rank
-            → All HasAlign (moved shift region.now).dims
-            → IsRegion result }
-    {
-        let rank = region.rank;
-        let [planes, rows, columns] = self.axes_at(rank);
-        let cuts = self.grid.cuts(rank);
-        let [m, n, k] = cuts;
-        let [a, b, c] = blocks_at(&cuts, to);
-        let [h, i, j] = held.dims;
-        let [u, v, w] = components(rank, &shift);
-        let [x, y, z] = region.dims;
-        Region {
-            rank,
-            dims: [
-                planes.needed(m, a, h, u, x),
-                rows.needed(n, b, i, v, y),
-                columns.needed(k, c, j, w, z),
-            ],
-        }
+        let sides = self.sides(array.shape.rank, p);
+        held_by(&sides, array)
     }
 
     /// The part of a region that processor `from` owns, for a receiver. In a flood dimension it is
@@ -236,21 +197,9 @@ impl Blocks {
         ensures owned { result ≡ owned_part self.now from to region.now }
         ensures region { IsRegion region.now → IsRegion result }
     {
-        let rank = region.rank;
-        let [planes, rows, columns] = self.axes_at(rank);
-        let cuts = self.grid.cuts(rank);
-        let [m, n, k] = cuts;
-        let [a, b, c] = blocks_at(&cuts, from);
-        let [u, v, w] = blocks_at(&cuts, to);
-        let [x, y, z] = region.dims;
-        Region {
-            rank,
-            dims: [
-                planes.owned(m, a, u, x),
-                rows.owned(n, b, v, y),
-                columns.owned(k, c, w, z),
-            ],
-        }
+        let sides = self.sides(region.rank, from);
+        let others = self.sides(region.rank, to);
+        owned_by(&sides, &others, region)
     }
 
     /// How many words the held boxes of an array have on all processors, or 2^128 - 1 where they

@@ -5,7 +5,8 @@ ghost use Rattle.grid_layout.specs.declared.layouts.LayoutFault.TheVariants.{NoM
 ghost use Rattle.grid_layout.specs.Grid.{processors_of};
 ghost use Rattle.grid_layout.specs.Layout.{AreBlocks, IsArrayBox, box_at, held_box_of, laid_out};
 ghost use Rattle.grid_layout.specs.Layout.{own_first, own_last, owner_of};
-ghost use Rattle.grid_layout.specs.Piece.{needed_of, piece_of};
+ghost use Rattle.grid_layout.specs.Piece.{needed_of, owned_part, piece_of};
+ghost use Rattle.grid_layout.specs.Sides.{IsSide, sides_of};
 ghost use Rattle.grid_layout.specs.Words.{processors, words_of};
 ghost use Rattle.zpl_region.specs.Dim.{HasAlign, HasBounds, IsUpTo};
 ghost use Rattle.zpl_region.specs.Hull.{IsBoxed};
@@ -15,6 +16,7 @@ use crate::blocks::Blocks;
 use crate::boxes::ArrayBox;
 use crate::grids::Grid;
 use crate::own::{OwnBlocks, all_own};
+use crate::sides::{Side, firsts, held_by, lasts, needed_by, owned_by};
 use std::alloc::Global;
 use std::marker::Model;
 use zpl_region::{Region, Vec3};
@@ -91,6 +93,18 @@ impl Layout {
         self.blocks.grid
     }
 
+    /// A stored array, where it stands.
+    fn stored(&self, array: u32) -> &ArrayBox
+        requires { array < length self.now.boxes }
+        ensures same { result.now ≡ box_at self.now array }
+        ensures sound { IsArrayBox result.now }
+        ensures boxes { All IsArrayBox self.now.boxes }
+    {
+        let _blocks = &self.blocks;
+        let _own = &self.own;
+        &self.boxes[array as usize]
+    }
+
     /// A stored array.
     pub fn array_box(&self, array: u32) -> ArrayBox
         requires { array < length self.now.boxes }
@@ -98,9 +112,7 @@ impl Layout {
         ensures sound { IsArrayBox result }
         ensures boxes { All IsArrayBox self.now.boxes }
     {
-        let _blocks = &self.blocks;
-        let _own = &self.own;
-        self.boxes[array as usize]
+        *self.stored(array)
     }
 
     /// The processor that owns a tuple. Each tuple has one, also one that no storage has.
@@ -111,6 +123,20 @@ impl Layout {
         ensures processor { result < processors_of self.now.grid }
     {
         self.blocks().owner(rank, x)
+    }
+
+    /// The blocks of a processor in the dimensions of a rank.
+    fn sides(&self, rank: u8, p: u32) -> &[Side; 3]
+        requires above { 1 ≤ rank }
+        requires below { rank ≤ 3 }
+        requires processor { p < processors_of self.now.grid }
+        ensures sides { result.now ≡ sides_of (laid_out self.now) rank p }
+        ensures bounds { All IsSide result.now }
+        ensures blocks { AreBlocks (laid_out self.now) }
+    {
+        let _blocks = &self.blocks;
+        let _boxes = &self.boxes;
+        self.own[p as usize].of_rank(rank)
     }
 
     /// The first and the last tuple of a processor's own block; -2^40 and 2^40 where it is without
@@ -124,9 +150,8 @@ impl Layout {
         ensures first_bounds { All (IsUpTo 41) result.0 }
         ensures last_bounds { All (IsUpTo 41) result.1 }
     {
-        let _blocks = &self.blocks;
-        let _boxes = &self.boxes;
-        self.own[p as usize].of_rank(rank)
+        let sides = self.sides(rank, p);
+        (firsts(sides), lasts(sides))
     }
 
     /// The box of an array that a processor holds: its own block, widened by the fringe, within the
@@ -138,7 +163,8 @@ impl Layout {
         ensures boxed { All IsBoxed result.dims }
         ensures region { IsRegion result }
     {
-        self.blocks().held(&self.boxes[array as usize], p)
+        let stored = self.stored(array);
+        held_by(self.sides(stored.shape.rank, p), stored)
     }
 
     /// The places of an array that a processor needs for a region: the part of the region in its
@@ -156,7 +182,22 @@ impl Layout {
             → All HasAlign (moved shift region.now).dims → IsRegion result }
     {
         let held = self.held_box(array, to);
-        self.blocks().needed(&held, to, region, shift)
+        needed_by(self.sides(region.rank, to), &held, region, shift)
+    }
+
+    /// The part of a region that processor `from` owns, for a receiver. In a flood dimension it is
+    /// the part of the processors with the receiver's block.
+    pub fn owned(&self, from: u32, to: u32, region: &Region) -> Region
+        requires above { 1 ≤ region.now.rank }
+        requires below { region.now.rank ≤ 3 }
+        requires owner { from < processors_of self.now.grid }
+        requires receiver { to < processors_of self.now.grid }
+        ensures owned { result ≡ owned_part (laid_out self.now) from to region.now }
+        ensures region { IsRegion region.now → IsRegion result }
+    {
+        let sides = self.sides(region.rank, from);
+        let others = self.sides(region.rank, to);
+        owned_by(sides, others, region)
     }
 
     /// The places of an array that `to` needs and `from` owns. In a flood dimension those with the
@@ -171,6 +212,6 @@ impl Layout {
             → All HasAlign (moved shift region.now).dims → IsRegion result }
     {
         let needed = self.needed(array, to, region, shift);
-        self.blocks().owned(from, to, &needed)
+        self.owned(from, to, &needed)
     }
 }

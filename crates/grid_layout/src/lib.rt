@@ -12,6 +12,7 @@ mod grids;
 mod laws;
 mod layouts;
 mod own;
+mod sides;
 
 pub use axes::Axis;
 pub use blocks::Blocks;

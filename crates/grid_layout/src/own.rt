@@ -2,36 +2,37 @@
 ghost use Rattle.std.specs.Prelude.{◌≡◌, ◌<◌, ◌≤◌, All, IfOk};
 ghost use Rattle.grid_layout.specs.Grid.{processors_of};
 ghost use Rattle.grid_layout.specs.Layout.{AreBlocks};
-ghost use Rattle.grid_layout.specs.Own.{HasBlocks, IsBlock, first_own, kept_at, own_blocks};
+ghost use Rattle.grid_layout.specs.Own.{HasBlocks, first_own, kept_at, own_blocks};
+ghost use Rattle.grid_layout.specs.Sides.{IsSide};
 
 use crate::blocks::Blocks;
+use crate::sides::Side;
 use std::alloc::{AllocError, Global};
-use zpl_region::Vec3;
 
-/// The first and the last tuple of a processor's own block of each rank.
+/// A processor's blocks in the dimensions of each rank.
 #[derive(Clone, Copy)]
 pub(crate) struct OwnBlocks {
     /// Of rank 1.
-    pub(crate) lines: (Vec3, Vec3),
+    pub(crate) lines: [Side; 3],
     /// Of rank 2.
-    pub(crate) planes: (Vec3, Vec3),
+    pub(crate) planes: [Side; 3],
     /// Of rank 3.
-    pub(crate) spaces: (Vec3, Vec3),
+    pub(crate) spaces: [Side; 3],
 }
 
 impl OwnBlocks {
-    /// The first and the last tuple of the own block of a rank.
-    pub(crate) fn of_rank(&self, rank: u8) -> (Vec3, Vec3)
+    /// The blocks in the dimensions of a rank.
+    pub(crate) fn of_rank(&self, rank: u8) -> &[Side; 3]
         requires bounds { HasBlocks self.now }
         requires above { 1 ≤ rank }
         requires below { rank ≤ 3 }
-        ensures own { result ≡ kept_at self.now rank }
-        ensures bounds { IsBlock result }
+        ensures own { result.now ≡ kept_at self.now rank }
+        ensures bounds { All IsSide result.now }
     {
         match rank {
-            1 => self.lines,
-            2 => self.planes,
-            _ => self.spaces,
+            1 => &self.lines,
+            2 => &self.planes,
+            _ => &self.spaces,
         }
     }
 }
@@ -44,9 +45,9 @@ fn own_blocks(blocks: &Blocks, p: u32) -> OwnBlocks
     ensures bounds { HasBlocks result }
 {
     OwnBlocks {
-        lines: blocks.own_block(1, p),
-        planes: blocks.own_block(2, p),
-        spaces: blocks.own_block(3, p),
+        lines: blocks.sides(1, p),
+        planes: blocks.sides(2, p),
+        spaces: blocks.sides(3, p),
     }
 }
 

@@ -1,42 +1,19 @@
-use Rattle.std.proofs.Common.{◌<◌, ◌∙◌, ap, arith, length, subst, sym}
-use Rattle.grid_layout.specs.Grid.{processors_of}
-use Rattle.grid_layout.specs.Layout.{Arrangement, laid_out, own_first, own_last}
-use Rattle.grid_layout.specs.Own.{HasBlocks, kept_at}
-use Rattle.grid_layout.proofs.OwnLemmas.{kept_is, kept_there}
+use Rattle.std.proofs.Common.{◌∙◌, ap, map}
+use Rattle.grid_layout.specs.Grid.{blocks_at, cuts}
+use Rattle.grid_layout.specs.Layout.{axes_at, laid_out}
+use Rattle.grid_layout.proofs.SideLemmas.{firsts_of, lasts_of}
 use Rattle.grid_layout.proofs.layouts.Layout.own_block.Goals as goal
-
-pub index-requires : goal.index-requires
-index-requires c =
-    let there : c.args.p < length c.self.inside.own.items =
-    kept_there c.self.inside.blocks c.self.inside.boxes.items c.self.inside.own.items c.args.p c.self.invariant
-    (subst (λ (a : Arrangement). c.args.p < processors_of a.grid) (sym c.self.view_is) c.requires.processor) in
-    omega (arith, there)
-
-pub of_rank-requires-clause-bounds : goal.of_rank-requires-clause-bounds
-of_rank-requires-clause-bounds c =
-    subst HasBlocks (sym c.index.ensures)
-    (c.self.invariant.bounds c.args.p c.index.result.now
-    (kept_there c.self.inside.blocks c.self.inside.boxes.items c.self.inside.own.items c.args.p c.self.invariant
-    (subst (λ (a : Arrangement). c.args.p < processors_of a.grid) (sym c.self.view_is) c.requires.processor)))
 
 pub returns-clause-first : goal.returns-clause-first
 returns-clause-first c =
-    let there : c.args.p < processors_of c.self.inside.blocks.grid =
-    subst (λ (a : Arrangement). c.args.p < processors_of a.grid) (sym c.self.view_is) c.requires.processor in
-    ap (λ own. own.0)
-    (c.of_rank.ensures.own
-    ∙ (ap (λ own. kept_at own c.args.rank) c.index.ensures
-    ∙ kept_is c.self.inside.blocks c.self.inside.boxes.items c.self.inside.own.items c.args.rank c.args.p c.index.result.now
-    c.self.invariant there c.requires.above c.requires.below))
-    ∙ ap (λ (a : Arrangement). own_first (laid_out a) c.args.rank c.args.p) c.self.view_is
+    let blocks = laid_out c.args.self.now in
+    let ns = cuts blocks.grid c.args.rank in
+    c.firsts.ensures.first
+    ∙ (ap (map (λ side. side.first)) c.sides-sides.ensures.sides ∙ firsts_of (axes_at blocks c.args.rank) ns (blocks_at ns c.args.p))
 
 pub returns-clause-last : goal.returns-clause-last
 returns-clause-last c =
-    let there : c.args.p < processors_of c.self.inside.blocks.grid =
-    subst (λ (a : Arrangement). c.args.p < processors_of a.grid) (sym c.self.view_is) c.requires.processor in
-    ap (λ own. own.1)
-    (c.of_rank.ensures.own
-    ∙ (ap (λ own. kept_at own c.args.rank) c.index.ensures
-    ∙ kept_is c.self.inside.blocks c.self.inside.boxes.items c.self.inside.own.items c.args.rank c.args.p c.index.result.now
-    c.self.invariant there c.requires.above c.requires.below))
-    ∙ ap (λ (a : Arrangement). own_last (laid_out a) c.args.rank c.args.p) c.self.view_is
+    let blocks = laid_out c.args.self.now in
+    let ns = cuts blocks.grid c.args.rank in
+    c.lasts.ensures.last
+    ∙ (ap (map (λ side. side.last)) c.sides-sides.ensures.sides ∙ lasts_of (axes_at blocks c.args.rank) ns (blocks_at ns c.args.p))
