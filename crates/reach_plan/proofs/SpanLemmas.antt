@@ -5,6 +5,8 @@ use Rattle.std.specs.Int.{int_max, int_min}
 use Rattle.std.proofs.lemmas.Nat.{le-div}
 use Rattle.std.proofs.Math.Nat.{mul-le-mul_right, div-mul-le_self}
 use Rattle.std.proofs.lemmas.Bool.{cases_lt}
+use Rattle.std.proofs.lemmas.Bool.Decides.{Decides-int_eq}
+use Rattle.std.specs.Ordering.{int_eq}
 use Rattle.std.proofs.lemmas.Int.{clamps, ints}
 use Rattle.zpl_region.specs.declared.dims.Dim.{Dim}
 use Rattle.zpl_region.specs.declared.dims.Dim.TheVariants.{Range, Flood}
@@ -19,7 +21,7 @@ use Rattle.grid_layout.proofs.PartLemmas.{eq_from_test}
 use Rattle.grid_layout.proofs.ThreeLemmas.{rebuilt, three, three_same}
 use Rattle.reach_plan.specs.declared.reaches.Span.{Span}
 use Rattle.reach_plan.specs.Reach.{LiesIn}
-use Rattle.reach_plan.specs.Span.{dim_span, each_span}
+use Rattle.reach_plan.specs.Span.{dim_span, each_span, moved_span}
 
 -- ---- blocks by where they begin and end
 starts_rise : (axis : Axis) (n c j : ℕ) → 1 ≤ n → c ≤ j → block_start axis n c ≤ℤ block_start axis n j
@@ -49,6 +51,24 @@ ended_above axis n c x below last = elim (cases_lt c (block_of axis n x)) [
       let rise : block_start axis n (suc c) ≤ℤ block_start axis n (block_of axis n x) = starts_rise axis n (suc c) (block_of axis n x) (omega (arith, below)) less in
       absurd (omega (arith, ints, is, begun, rise, last))
   | inr more ↦ more
+]
+
+-- a block doesn't reach into a later one
+apart : (axis : Axis) (n c k : ℕ) → c < k → k < n → block_first axis n k ≤ℤ block_last axis n c → ⊥
+apart axis n c zero less below meets = absurd (omega (arith, less))
+apart axis n c (suc k) less below meets =
+    let is : block_last axis n c ≡ block_start axis n (suc c) -ℤ pos 1 = last_of_more axis n c (omega (arith, less, below)) in
+    let rise : block_start axis n (suc c) ≤ℤ block_start axis n (suc k) = starts_rise axis n (suc c) (suc k) (omega (arith, below)) less in
+    omega (arith, ints, is, rise, meets)
+
+same_block : (axis : Axis) (n c k : ℕ) → c < n → k < n → block_first axis n c ≤ℤ block_last axis n k
+    → block_first axis n k ≤ℤ block_last axis n c → c ≡ k
+same_block axis n c k one other low high = elim (cases_lt c k) [
+  | inl less ↦ absurd (apart axis n c k less other high)
+  | inr more ↦ elim (cases_lt k c) [
+    | inl less ↦ absurd (apart axis n k c less one low)
+    | inr same ↦ omega (arith, more, same)
+  ]
 ]
 
 -- ---- dimensions between bounds
@@ -128,38 +148,71 @@ piece_meets axis n c k held d from to step align some =
     (range_part (block_first axis n k) (block_last axis n k) from to step align) (under_block (block_first axis n k) (block_last axis n k) from to step align)) some
 
 -- ---- owners for a block, and blocks that need places of one
+is_zero : (d : ℤ) → int_eq d (pos 0) ≡ true → d ≡ pos 0
+is_zero d e = (Decides-int_eq d (pos 0)).0 e
+
 pub owner_lies : (axis : Axis) (n c k : ℕ) (held : Dim) (d : ℤ) (dim : Dim) → c < n → k < n
     → 0 < length (coordinates (owned_dim axis n c k (needed_dim axis n k held d dim))) → LiesIn (dim_span axis n k d dim) c
 owner_lies axis n c k held d Flood owner receiver some = (omega arith, omega (arith, owner))
-owner_lies axis n c k held d (Range from to step align) owner receiver some = elim (piece_meets axis n c k held d from to step align some) [
-  | inl same ↦ (omega (arith, same), omega (arith, same))
-  | inr meet ↦
-      let low = ended_above axis n c (block_first axis n k +ℤ d) owner meet.1 in
-      let high = begun_below axis n c (block_last axis n k +ℤ d) owner meet.0 in (omega (arith, low), omega (arith, high))
-]
+owner_lies axis n c k held d (Range from to step align) owner receiver some = by (int_eq d (pos 0)) refl
+  where
+    by : (t : Bool) → int_eq d (pos 0) ≡ t → LiesIn (cond t (record { low = k; high = k }) (moved_span axis n k d)) c
+    by true e = elim (piece_meets axis n c k held d from to step align some) [
+      | inl same ↦ (omega (arith, same), omega (arith, same))
+      | inr meet ↦
+          let stays : d ≡ pos 0 = is_zero d e in
+          let first = meet.0 in
+          let last = meet.1 in
+          let same : c ≡ k = same_block axis n c k owner receiver (omega (arith, ints, first, stays)) (omega (arith, ints, last, stays)) in
+          (omega (arith, same), omega (arith, same))
+    ]
+    by false e = elim (piece_meets axis n c k held d from to step align some) [
+      | inl same ↦ (omega (arith, same), omega (arith, same))
+      | inr meet ↦
+          let low = ended_above axis n c (block_first axis n k +ℤ d) owner meet.1 in
+          let high = begun_below axis n c (block_last axis n k +ℤ d) owner meet.0 in (omega (arith, low), omega (arith, high))
+    ]
 
 pub needer_lies : (axis : Axis) (n c k : ℕ) (held : Dim) (d e : ℤ) (dim : Dim) → c < n → k < n → e ≡ neg_ℤ d
     → 0 < length (coordinates (owned_dim axis n c k (needed_dim axis n k held d dim))) → LiesIn (dim_span axis n c e dim) k
 needer_lies axis n c k held d e Flood owner receiver back some = (omega arith, omega (arith, receiver))
-needer_lies axis n c k held d e (Range from to step align) owner receiver back some = elim (piece_meets axis n c k held d from to step align some) [
-  | inl same ↦ (omega (arith, same), omega (arith, same))
-  | inr meet ↦
-      let first = meet.0 in
-      let last = meet.1 in
-      let low = ended_above axis n k (block_first axis n c +ℤ e) receiver (omega (arith, ints, first, back)) in
-      let high = begun_below axis n k (block_last axis n c +ℤ e) receiver (omega (arith, ints, last, back)) in (omega (arith, low), omega (arith, high))
-]
+needer_lies axis n c k held d e (Range from to step align) owner receiver back some = by (int_eq e (pos 0)) refl
+  where
+    by : (t : Bool) → int_eq e (pos 0) ≡ t → LiesIn (cond t (record { low = c; high = c }) (moved_span axis n c e)) k
+    by true f = elim (piece_meets axis n c k held d from to step align some) [
+      | inl same ↦ (omega (arith, same), omega (arith, same))
+      | inr meet ↦
+          let stays : e ≡ pos 0 = is_zero e f in
+          let first = meet.0 in
+          let last = meet.1 in
+          let same : c ≡ k = same_block axis n c k owner receiver (omega (arith, ints, first, back, stays)) (omega (arith, ints, last, back, stays)) in
+          (omega (arith, same), omega (arith, same))
+    ]
+    by false f = elim (piece_meets axis n c k held d from to step align some) [
+      | inl same ↦ (omega (arith, same), omega (arith, same))
+      | inr meet ↦
+          let first = meet.0 in
+          let last = meet.1 in
+          let low = ended_above axis n k (block_first axis n c +ℤ e) receiver (omega (arith, ints, first, back)) in
+          let high = begun_below axis n k (block_last axis n c +ℤ e) receiver (omega (arith, ints, last, back)) in (omega (arith, low), omega (arith, high))
+    ]
 
 -- ---- what the code answers
 abbrev pub span_of : ℕ → ℕ → Span
 span_of low high = record { low = low; high = high }
 
-pub span_told : (axis : Axis) (n c : ℕ) (d : ℤ) (dim : Dim) (low high : ℕ) → (dim ≡ Flood → ⊥)
+pub span_stays : (axis : Axis) (n c : ℕ) (d : ℤ) (dim : Dim) → (dim ≡ Flood → ⊥) → int_eq d (pos 0) ≡ true → span_of c c ≡ dim_span axis n c d dim
+span_stays axis n c d Flood other stays = absurd (other refl)
+span_stays axis n c d (Range from to step align) other stays = sym (ap (λ t. cond t (span_of c c) (moved_span axis n c d)) stays)
+
+pub span_told : (axis : Axis) (n c : ℕ) (d : ℤ) (dim : Dim) (low high : ℕ) → (dim ≡ Flood → ⊥) → int_eq d (pos 0) ≡ false
     → low ≡ min (block_of axis n (block_first axis n c +ℤ d)) c → high ≡ max (block_of axis n (block_last axis n c +ℤ d)) c
     → span_of low high ≡ dim_span axis n c d dim
-span_told axis n c d Flood low high other p q = absurd (other refl)
-span_told axis n c d (Range from to step align) low high other p q =
-    ap (λ l. span_of l high) p ∙ ap (λ h. span_of (min (block_of axis n (block_first axis n c +ℤ d)) c) h) q
+span_told axis n c d Flood low high other moves p q = absurd (other refl)
+span_told axis n c d (Range from to step align) low high other moves p q =
+    ap (λ l. span_of l high) p
+    ∙ (ap (λ h. span_of (min (block_of axis n (block_first axis n c +ℤ d)) c) h) q
+    ∙ sym (ap (λ t. cond t (span_of c c) (moved_span axis n c d)) moves))
 
 pub spans_told : (axes : List Axis) (ns cs : List ℕ) (v : List ℤ) (dims : List Dim) (e : Axis) (f : Dim) (x y z : Span)
     → length axes ≡ 3 → length ns ≡ 3 → length cs ≡ 3 → length v ≡ 3 → length dims ≡ 3

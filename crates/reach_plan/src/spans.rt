@@ -28,7 +28,8 @@ pub(crate) fn axes_at(blocks: &Blocks, rank: u8) -> [Axis; 3]
     }
 }
 
-/// The blocks that block c of so many meets when it is moved by `d`, and block c itself.
+/// The blocks that block c of so many meets when it is moved by `d`, and block c itself: that alone
+/// where it stays.
 fn span(axis: Axis, n: u32, c: u32, d: i64, dim: Dim) -> Span
     requires axis { IsAxis axis }
     requires few { n ≤ 64 }
@@ -42,6 +43,9 @@ fn span(axis: Axis, n: u32, c: u32, d: i64, dim: Dim) -> Span
             low: 0,
             high: n - 1,
         };
+    }
+    if d == 0 {
+        return Span { low: c, high: c };
     }
     let low = axis.block_of(n, axis.block_first(n, c) + d);
     let high = axis.block_of(n, axis.block_last(n, c) + d);
