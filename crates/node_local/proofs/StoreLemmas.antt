@@ -1,5 +1,5 @@
 -- Where tuples stand in a store: arithmetic on the bounds of its box.
-use Rattle.std.proofs.Common.{◌≡◌, ℕ, ◌+◌, ◌*◌, ◌/◌, ◌<◌, ◌≤◌, Bool, true, false, cond, ◌&&◌, List, [], ◌∷◌, All, length, map, replicate, get_or, ℤ, pos, negsuc, ◌+ℤ◌, ◌-ℤ◌, ◌*ℤ◌, ◌≤ℤ◌, unsigned_abs, refl, sym, ◌∙◌, ap, subst, arith}
+use Rattle.std.proofs.Common.{◌≡◌, ℕ, ◌+◌, ◌*◌, ◌/◌, ◌<◌, ◌≤◌, Bool, true, false, cond, ◌&&◌, List, [], ◌∷◌, All, drop, length, map, replicate, get_or, ℤ, pos, negsuc, ◌+ℤ◌, ◌-ℤ◌, ◌*ℤ◌, ◌≤ℤ◌, unsigned_abs, refl, sym, ◌∙◌, ap, subst, arith}
 use Rattle.std.specs.Prelude.{Option, Some, None}
 use Rattle.std.specs.Int.RustNames.{int_le}
 use Rattle.std.proofs.lemmas.Int.{ints, clamps}
@@ -9,11 +9,11 @@ use Rattle.std.proofs.lemmas.List.Elements.{recursion_from_All}
 use Rattle.zpl_region.specs.declared.dims.Dim.{Dim}
 use Rattle.zpl_region.specs.declared.dims.Dim.TheVariants.{Range, Flood}
 use Rattle.zpl_region.specs.Dim.{HasStep, IsDim, IsUpTo, is_multiple}
-use Rattle.std.specs.Int.{saturate_signed}
+use Rattle.std.specs.Int.{int_wrap, saturate_signed}
 use mir.Syntax.{w64}
 use mir.Val.{to_z, of_z}
 use Rattle.std.specs.Prelude.{FitsSigned}
-use Rattle.std.proofs.lemmas.Int.{to_z-of_z}
+use Rattle.std.proofs.lemmas.Int.{to_z-of_z, int_wrap_fits, int_wrap-add_left}
 use Rattle.grid_layout.specs.Layout.{HasWideBounds}
 use Rattle.zpl_region.specs.Ends.{coordinate_count, first_of, tuple_count}
 use Rattle.zpl_region.specs.Hull.{IsBoxed, all_from}
@@ -30,7 +30,7 @@ use Rattle.std.proofs.lemmas.Option.{slice_get_within, slice_get-get_or, get_or_
 use Rattle.std.proofs.lemmas.List.{get_or-set_same, set-set, set-get_or}
 use Rattle.node_local.specs.Undo.{with_place}
 use Rattle.zpl_region.specs.Region.{members}
-use Rattle.node_local.specs.Store.{place_in}
+use Rattle.node_local.specs.Store.{StandsFor, place_in}
 use Rattle.grid_meaning.specs.Place.{held_value, moved_by, where_held}
 use Rattle.node_form.specs.Value.{unmoved}
 use Rattle.node_local.specs.Reading.{boxed_value, is_flat, is_flat_coordinate}
@@ -133,38 +133,56 @@ kept_small : (z m : ℤ) → m ≡ saturate_signed w64 z → IsUpTo 41 z → m �
 kept_small (pos n) m e h = omega (arith, ints)
 kept_small (negsuc n) m e h = omega (arith, ints)
 
-same_small : (z : ℤ) → IsUpTo 41 z → saturate_signed w64 z ≡ z
-same_small z small = kept_small z (saturate_signed w64 z) refl small
-
 -- and one that is small afterwards was so before
 was_small : (z m : ℤ) → m ≡ saturate_signed w64 z → IsUpTo 41 m → m ≡ z
 was_small (pos n) m e h = omega (arith, ints)
 was_small (negsuc n) m e h = omega (arith, ints)
 
-small_same : (z : ℤ) → IsUpTo 41 (saturate_signed w64 z) → saturate_signed w64 z ≡ z
-small_same z small = was_small z (saturate_signed w64 z) refl small
+pub stands_saturated : (z m : ℤ) → m ≡ saturate_signed w64 z → StandsFor m z
+stands_saturated z m is = record { kept = kept_small z m is; told = was_small z m is }
+
+-- ---- what wraps
+-- two numbers that are the same up to multiples of 2^64 are the same where both fit, moved alike
+same_moved : (z c : ℤ) → FitsSigned w64 (int_wrap w64 z +ℤ c) → FitsSigned w64 (z +ℤ c) → int_wrap w64 z ≡ z
+same_moved z c f g =
+    let same : int_wrap w64 z +ℤ c ≡ z +ℤ c =
+    sym (int_wrap_fits w64 (int_wrap w64 z +ℤ c) f) ∙ (int_wrap-add_left w64 z c ∙ int_wrap_fits w64 (z +ℤ c) g) in
+    omega (arith, ints, same)
+
+-- a sum with a short number is small if it is so wrapped
+was_short : (x shift : ℤ) → FitsSigned w64 x → IsUpTo 29 shift → IsUpTo 41 (int_wrap w64 (x +ℤ shift))
+    → int_wrap w64 (x +ℤ shift) ≡ x +ℤ shift
+was_short (pos n) shift fits short small =
+    same_moved (pos n +ℤ shift) (negsuc 4611686018427387903) (omega (arith, ints, small)) (omega (arith, ints, fits, short))
+was_short (negsuc n) shift fits short small =
+    same_moved (negsuc n +ℤ shift) (pos 4611686018427387904) (omega (arith, ints, small)) (omega (arith, ints, fits, short))
+
+pub stands_wrapped : (x shift m : ℤ) → FitsSigned w64 x → IsUpTo 29 shift → m ≡ int_wrap w64 (x +ℤ shift)
+    → StandsFor m (x +ℤ shift)
+stands_wrapped x shift m fits short is = record {
+  kept = λ small. is ∙ int_wrap_fits w64 (x +ℤ shift) (omega (arith, ints, small));
+  told = λ small. is ∙ was_short x shift fits short (subst (IsUpTo 41) is small);
+}
 
 false_between : (lo hi x : ℤ) → (int_le lo x && int_le x hi) ≡ false → (lo ≤ℤ x) × (x ≤ℤ hi) → ⊥
 false_between lo hi x e inside =
     let both : true ≡ false = sym (between-true lo hi x inside.0 inside.1) ∙ e in cc
 
--- ---- a coordinate past the ends of its type has no place, and so has none at the end
-pub dim_place-saturated : (d : Dim) (z : ℤ) → IsBoxed d → HasWideBounds d
-    → dim_place d (saturate_signed w64 z) ≡ dim_place d z
-dim_place-saturated (Range lo hi step align) z boxed wide =
-    by_bounds (int_le lo z && int_le z hi) refl
+-- ---- what stands for a coordinate has its place
+pub dim_place-stands : (d : Dim) (m z : ℤ) → IsBoxed d → HasWideBounds d → StandsFor m z → dim_place d m ≡ dim_place d z
+dim_place-stands (Range lo hi step align) m z boxed wide stands = by_bounds (int_le lo z && int_le z hi) refl
   where
     by_bounds : (b : Bool) → (int_le lo z && int_le z hi) ≡ b
-        → dim_place (Range lo hi step align) (saturate_signed w64 z) ≡ dim_place (Range lo hi step align) z
+        → dim_place (Range lo hi step align) m ≡ dim_place (Range lo hi step align) z
     by_bounds true e =
         let inside = true-between lo hi z e in
-        let small : IsUpTo 41 z = (omega (arith, ints), omega (arith, ints)) in
-        ap (dim_place (Range lo hi step align)) (same_small z small)
+        ap (dim_place (Range lo hi step align)) (stands.kept (omega (arith, ints), omega (arith, ints)))
     by_bounds false e =
-        dim_place-outside (Range lo hi step align) lo hi step align (saturate_signed w64 z) refl
-        (λ within. let same = small_same z (omega (arith, ints), omega (arith, ints)) in false_between lo hi z e (subst (λ y. (lo ≤ℤ y) × (y ≤ℤ hi)) same within))
+        dim_place-outside (Range lo hi step align) lo hi step align m refl
+        (λ within. let same = stands.told (omega (arith, ints), omega (arith, ints)) in
+        false_between lo hi z e (subst (λ y. (lo ≤ℤ y) × (y ≤ℤ hi)) same within))
         ∙ sym (dim_place-outside (Range lo hi step align) lo hi step align z refl (false_between lo hi z e))
-dim_place-saturated Flood z boxed wide = refl
+dim_place-stands Flood m z boxed wide stands = refl
 
 -- ---- places are below the number of values
 cell_below : (p q a m : ℕ) → p < a → q < m → p * m + q < a * m
@@ -253,6 +271,27 @@ all_within (a ∷ b ∷ c ∷ []) e p q s m n many h k l f g =
     places_within a b c p q s m n (tuple_count (a ∷ b ∷ c ∷ [])) h k l f g refl
 all_within (a ∷ b ∷ c ∷ d ∷ dims) e p q s m n many h k l f g = absurd (omega arith)
 
+-- the numbers of coordinates of the second and the third dimension
+pub counts_told : (dims : List Dim) (e : Dim) (m n : ℕ) → length dims ≡ 3
+    → map coordinate_count (drop 1 dims) ≡ m ∷ n ∷ []
+    → (m ≡ coordinate_count (get_or dims 1 e)) × (n ≡ coordinate_count (get_or dims 2 e))
+counts_told [] e m n many told = absurd (omega arith)
+counts_told (a ∷ []) e m n many told = absurd (omega arith)
+counts_told (a ∷ b ∷ []) e m n many told = absurd (omega arith)
+counts_told (a ∷ b ∷ c ∷ []) e m n many told =
+    let counts : (coordinate_count b ≡ m) × (coordinate_count c ≡ n) = (cc, cc) in
+    (sym counts.0, sym counts.1)
+counts_told (a ∷ b ∷ c ∷ d ∷ dims) e m n many told = absurd (omega arith)
+
+pub counts_of : (dims : List Dim) (e : Dim) (m n : ℕ) → length dims ≡ 3 → m ≡ coordinate_count (get_or dims 1 e)
+    → n ≡ coordinate_count (get_or dims 2 e) → map coordinate_count (drop 1 dims) ≡ m ∷ n ∷ []
+counts_of [] e m n many f g = absurd (omega arith)
+counts_of (a ∷ []) e m n many f g = absurd (omega arith)
+counts_of (a ∷ b ∷ []) e m n many f g = absurd (omega arith)
+counts_of (a ∷ b ∷ c ∷ []) e m n many f g =
+    ap (λ k. k ∷ coordinate_count c ∷ []) (sym f) ∙ ap (λ k. m ∷ k ∷ []) (sym g)
+counts_of (a ∷ b ∷ c ∷ d ∷ dims) e m n many f g = absurd (omega arith)
+
 -- ---- tuples of three
 pub three_of : (t : List ℤ) → length t ≡ 3 → t ≡ get_or t 0 (pos 0) ∷ get_or t 1 (pos 0) ∷ get_or t 2 (pos 0) ∷ []
 three_of [] many = absurd (omega arith)
@@ -305,33 +344,29 @@ none_more a b c d dims x y z =
     ∙ (ap (λ h. has b y && h) (has-first c z (d ∷ dims) [] ∙ and-none (has c z)) ∙ and-none (has b y)))
     ∙ and-none (has a x)))
 
-saturated_place : (dims : List Dim) (x y z : ℤ) → All IsBoxed dims → All HasWideBounds dims
-    → whole_place dims (saturate_signed w64 x) (saturate_signed w64 y) (saturate_signed w64 z) ≡ whole_place dims x y z
-saturated_place [] x y z boxed wide = refl
-saturated_place (a ∷ []) x y z boxed wide =
-    none_one a (saturate_signed w64 x) (saturate_signed w64 y) (saturate_signed w64 z) ∙ sym (none_one a x y z)
-saturated_place (a ∷ b ∷ []) x y z boxed wide =
-    none_two a b (saturate_signed w64 x) (saturate_signed w64 y) (saturate_signed w64 z) ∙ sym (none_two a b x y z)
-saturated_place (a ∷ b ∷ c ∷ d ∷ dims) x y z boxed wide =
-    none_more a b c d dims (saturate_signed w64 x) (saturate_signed w64 y) (saturate_signed w64 z)
-    ∙ sym (none_more a b c d dims x y z)
-saturated_place (a ∷ b ∷ c ∷ []) x y z boxed wide =
+place_stands : (dims : List Dim) (l m n x y z : ℤ) → All IsBoxed dims → All HasWideBounds dims
+    → StandsFor l x → StandsFor m y → StandsFor n z → whole_place dims l m n ≡ whole_place dims x y z
+place_stands [] l m n x y z boxed wide p q s = refl
+place_stands (a ∷ []) l m n x y z boxed wide p q s = none_one a l m n ∙ sym (none_one a x y z)
+place_stands (a ∷ b ∷ []) l m n x y z boxed wide p q s = none_two a b l m n ∙ sym (none_two a b x y z)
+place_stands (a ∷ b ∷ c ∷ d ∷ dims) l m n x y z boxed wide p q s =
+    none_more a b c d dims l m n ∙ sym (none_more a b c d dims x y z)
+place_stands (a ∷ b ∷ c ∷ []) l m n x y z boxed wide p q s =
     let boxes = recursion_from_All IsBoxed (a ∷ b ∷ c ∷ []) boxed in
     let wides = recursion_from_All HasWideBounds (a ∷ b ∷ c ∷ []) wide in
-    place_three-joined a b c (saturate_signed w64 x) (saturate_signed w64 y) (saturate_signed w64 z)
-    ∙ (ap (λ k. joined_places k (dim_place b (saturate_signed w64 y)) (dim_place c (saturate_signed w64 z)) (coordinate_count b) (coordinate_count c)) (dim_place-saturated a x boxes.0 wides.0)
-    ∙ (ap (λ k. joined_places (dim_place a x) k (dim_place c (saturate_signed w64 z)) (coordinate_count b) (coordinate_count c)) (dim_place-saturated b y boxes.1.0 wides.1.0)
-    ∙ (ap (λ k. joined_places (dim_place a x) (dim_place b y) k (coordinate_count b) (coordinate_count c)) (dim_place-saturated c z boxes.1.1.0 wides.1.1.0)
+    place_three-joined a b c l m n
+    ∙ (ap (λ k. joined_places k (dim_place b m) (dim_place c n) (coordinate_count b) (coordinate_count c)) (dim_place-stands a l x boxes.0 wides.0 p)
+    ∙ (ap (λ k. joined_places (dim_place a x) k (dim_place c n) (coordinate_count b) (coordinate_count c)) (dim_place-stands b m y boxes.1.0 wides.1.0 q)
+    ∙ (ap (λ k. joined_places (dim_place a x) (dim_place b y) k (coordinate_count b) (coordinate_count c)) (dim_place-stands c n z boxes.1.1.0 wides.1.1.0 s)
     ∙ sym (place_three-joined a b c x y z))))
 
--- the value at a moved tuple, whose components stop at the ends of their type
-pub held-saturated : {r : Option ℤ} (a : Array) (x y z : ℤ) (t : List ℤ) → All IsBoxed a.storage.dims
-    → All HasWideBounds a.storage.dims → t ≡ x ∷ y ∷ z ∷ []
-    → r ≡ held_value (saturate_signed w64 x ∷ saturate_signed w64 y ∷ saturate_signed w64 z ∷ []) a
-    → r ≡ held_value t a
-held-saturated a x y z t boxed wide is told =
-    told ∙ (held_by_place a (saturate_signed w64 x ∷ saturate_signed w64 y ∷ saturate_signed w64 z ∷ [])
-    ∙ (ap (option_map (λ k. get_or a.values k (pos 0))) (saturated_place a.storage.dims x y z boxed wide)
+-- the value at a moved tuple, from what stands for its components
+pub held_stands : {r : Option ℤ} (a : Array) (l m n x y z : ℤ) (t : List ℤ) → All IsBoxed a.storage.dims
+    → All HasWideBounds a.storage.dims → StandsFor l x → StandsFor m y → StandsFor n z
+    → t ≡ x ∷ y ∷ z ∷ [] → r ≡ held_value (l ∷ m ∷ n ∷ []) a → r ≡ held_value t a
+held_stands a l m n x y z t boxed wide p q s is told =
+    told ∙ (held_by_place a (l ∷ m ∷ n ∷ [])
+    ∙ (ap (option_map (λ k. get_or a.values k (pos 0))) (place_stands a.storage.dims l m n x y z boxed wide p q s)
     ∙ (sym (held_by_place a (x ∷ y ∷ z ∷ [])) ∙ ap (λ u. held_value u a) (sym is))))
 
 -- a tuple of three moved by a vector of three

@@ -1,12 +1,11 @@
 -- What the code for expressions reads, and what it answers.
-use Rattle.std.specs.Prelude.{ℕ, ◌-◌, ℤ, List, [], ◌∷◌, drop, slice_get, Option, None, Result, Ok, Err}
+use Rattle.std.specs.Prelude.{ℕ, ℤ, List, [], ◌∷◌, drop, Result, Ok, Err}
 use Rattle.zpl_nums.specs.declared.operators.UnaryOp.{UnaryOp}
 use Rattle.zpl_nums.specs.UnaryOp.{applied_unary}
 use Rattle.node_form.specs.declared.words.ExprOp.{ExprOp}
-use Rattle.node_form.specs.declared.words.ExprOp.TheVariants.{Scalar, Here, Shifted, Cell, Coord}
 use Rattle.zpl_arrays.specs.Array.{Array}
 use Rattle.node_form.specs.Group.{Point, operands_at}
-use Rattle.node_form.specs.Value.{Computed, Gives, Divides, Lacks, Operands, unmoved, value_of}
+use Rattle.node_form.specs.Value.{Computed, Gives, Divides, Lacks, Operands, value_of}
 use Rattle.grid_meaning.specs.Local.{Local}
 use Rattle.grid_meaning.specs.Loop.{access_at, point_of}
 use Rattle.node_local.specs.declared.memories.Memory.{Memory}
@@ -37,15 +36,6 @@ computed_by (Err none) = not_given none
 abbrev pub stack_from : List ℤ → Result ℕ NoValue → Computed (List ℤ)
 stack_from stack (Ok top) = Gives (drop top stack)
 stack_from stack (Err none) = not_given none
-
--- what a word reads that isn't on the stack
-abbrev pub read_by : Operands → ExprOp → Option ℤ
-read_by operands (Scalar scalar) = slice_get operands.scalars scalar
-read_by operands (Here array) = operands.element array unmoved
-read_by operands (Shifted array shift) = operands.element array shift
-read_by operands (Cell cell) = slice_get operands.cells cell
-read_by operands (Coord dimension) = slice_get operands.index (dimension - 1)
-read_by operands word = None
 
 -- an operator's value in the place of its operand
 abbrev pub with_unary : UnaryOp → List ℤ → Computed (List ℤ)

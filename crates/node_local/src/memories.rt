@@ -1,5 +1,5 @@
 //! What expressions read and members write: scalars, cells and stores.
-ghost use Rattle.std.specs.Prelude.{◌≡◌, IfSome, IfNone};
+ghost use Rattle.std.specs.Prelude.{◌≡◌, IfSome, IfNone, slice_get};
 ghost use Rattle.std.specs.Option.{option_map};
 ghost use Rattle.grid_meaning.specs.Place.{moved_by, value_at, with_value};
 
@@ -19,6 +19,20 @@ impl Memory {
     ghost use Rattle.node_local.specs.Computing.{point_in};
     ghost use Rattle.node_local.specs.Undo.{taken_back};
     ghost use Rattle.node_local.specs.declared.changes.Change.TheVariants as Change;
+
+    /// The value of a scalar, if there is one of that number.
+    pub(crate) fn scalar(&self, scalar: u32) -> Option<i64>
+        ensures { result ≡ slice_get self.now.scalars.items scalar }
+    {
+        self.scalars.as_slice().get(scalar as usize).copied()
+    }
+
+    /// The value of a cell, if there is one of that number.
+    pub(crate) fn cell(&self, cell: u32) -> Option<i64>
+        ensures { result ≡ slice_get self.now.cells.items cell }
+    {
+        self.cells.as_slice().get(cell as usize).copied()
+    }
 
     /// The value of an array at a tuple, where its place is held.
     pub(crate) fn value_at(&self, array: u32, index: &Vec3) -> Option<i64>

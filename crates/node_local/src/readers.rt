@@ -55,7 +55,7 @@ impl Local {
     pub fn scalar(&self, i: u32) -> Option<i64>
         ensures { result ≡ slice_get self.now.local.scalars i }
     {
-        self.memory.scalars.as_slice().get(i as usize).copied()
+        self.memory.scalar(i)
     }
 
     /// The region of a slot; none exactly where there is no such slot.
@@ -76,7 +76,7 @@ impl Local {
     pub fn cell(&self, i: u32) -> Option<i64>
         ensures { result ≡ slice_get self.now.local.cells i }
     {
-        self.memory.cells.as_slice().get(i as usize).copied()
+        self.memory.cell(i)
     }
 
     /// The box of an array that the processor holds; none exactly where there is no such array. It

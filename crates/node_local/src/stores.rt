@@ -1,6 +1,7 @@
 //! The places of an array that a processor holds, with their values in one vector.
-ghost use Rattle.std.specs.Prelude.{◌≡◌, ◌<◌, ◌*◌, ◌+◌, ◌^◌, length, All, IfOk, IfSome, IsTrue};
-ghost use Rattle.std.specs.Prelude.{[], ◌∷◌, pos, replicate, slice_get, slice_set, true};
+ghost use Rattle.std.specs.Prelude.{◌≡◌, ◌<◌, ◌*◌, ◌+◌, ◌+ℤ◌, ◌^◌, length, All, IfOk, IfSome};
+ghost use Rattle.std.specs.Prelude.{[], ◌∷◌, drop, map, pos, replicate, slice_get, slice_set, true};
+ghost use Rattle.std.specs.Prelude.{IsTrue};
 ghost use Rattle.zpl_region.specs.Ends.{coordinate_count, tuple_count};
 ghost use Rattle.zpl_region.specs.Hull.{IsBoxed};
 ghost use Rattle.zpl_arrays.specs.Array.{each_has_place, place_along, place_among};
@@ -8,7 +9,7 @@ ghost use Rattle.grid_layout.specs.Layout.{HasWideBounds};
 ghost use Rattle.grid_meaning.specs.Place.{moved_by, where_held, held_value};
 ghost use Rattle.grid_meaning.specs.Room.{zeros_at};
 ghost use Rattle.node_local.specs.Reading.{boxed_value, is_flat, is_flat_coordinate};
-ghost use Rattle.node_local.specs.Store.{IsFlat, place_in};
+ghost use Rattle.node_local.specs.Store.{IsFlat, StandsFor, place_in};
 
 use grid_layout::size;
 use std::alloc::{AllocError, Global};
@@ -18,12 +19,18 @@ use zpl_region::{Dim, Region, Vec3};
 /// The greatest bound that a box may have, and the least one with the sign turned.
 const FARTHEST: i64 = 1 << 41;
 
+/// By as much, with either sign, a coordinate is moved without a test of the sum.
+const SHORT: i64 = 1 << 29;
+
 /// The places of an array that a processor holds, and their values in row-major order.
 ///
-/// The places are a box: the value of a tuple is found by arithmetic on its bounds.
+/// The places are a box: the value of a tuple is found by arithmetic on its bounds. How many
+/// coordinates its second and third dimension have is found beforehand.
 #[derive(Debug, Drop)]
 pub(crate) struct FlatStore {
     shape: Region,
+    rows: usize,
+    columns: usize,
     values: Vec<i64>,
 }
 
@@ -36,7 +43,7 @@ impl Model for FlatStore {
 
     ghost use Rattle.node_local.specs.Store.{IsFlat};
 
-    ghost invariant = { λ store. IsFlat store.shape store.values.items };
+    ghost invariant = { λ store. IsFlat store.shape store.rows store.columns store.values.items };
 }
 
 /// How many tuples a box has.
@@ -82,13 +89,14 @@ fn is_box(dims: &[Dim; 3]) -> bool
 
 /// The place of a coordinate among those of a dimension of a box; `None` where it has none. All
 /// coordinates have the one place of a flood dimension.
-fn place_along(dim: Dim, x: i64) -> Option<usize>
-    requires boxed { IsBoxed dim }
-    requires bounds { HasWideBounds dim }
-    ensures place { result ≡ where_held (each_has_place (dim ∷ []) (x ∷ [])) (place_along dim x) }
-    ensures below { IfSome result (λ place. place < coordinate_count dim) }
+fn place_along(dim: &Dim, x: i64) -> Option<usize>
+    requires boxed { IsBoxed dim.now }
+    requires bounds { HasWideBounds dim.now }
+    ensures place { result
+        ≡ where_held (each_has_place (dim.now ∷ []) (x ∷ [])) (place_along dim.now x) }
+    ensures below { IfSome result (λ place. place < coordinate_count dim.now) }
 {
-    match dim {
+    match *dim {
         Dim::Range { lo, hi, .. } => {
             if lo <= x && x <= hi {
                 Some(x.abs_diff(lo) as usize)
@@ -100,20 +108,40 @@ fn place_along(dim: Dim, x: i64) -> Option<usize>
     }
 }
 
-/// The place of a tuple in the row-major order of a box; `None` where it has none.
-fn place_among(dims: &[Dim; 3], x: i64, y: i64, z: i64) -> Option<usize>
+/// The place of a tuple in the row-major order of a box, with so many coordinates in its second and
+/// third dimension; `None` where it has none.
+fn place_among(
+    dims: &[Dim; 3],
+    rows: usize,
+    columns: usize,
+    x: i64,
+    y: i64,
+    z: i64,
+) -> Option<usize>
     requires boxed { All IsBoxed dims.now }
     requires bounds { All HasWideBounds dims.now }
     requires few { tuple_count dims.now < 2 ^ 64 }
+    requires counted { map coordinate_count (drop 1 dims.now) ≡ rows ∷ columns ∷ [] }
     ensures place { result ≡ where_held (each_has_place dims.now (x ∷ y ∷ z ∷ []))
         (place_among dims.now (x ∷ y ∷ z ∷ [])) }
     ensures below { IfSome result (λ place. place < tuple_count dims.now) }
 {
-    let [planes, rows, columns] = *dims;
-    let plane = place_along(planes, x)?;
-    let row = place_along(rows, y)?;
-    let column = place_along(columns, z)?;
-    Some((plane * size(rows) as usize + row) * size(columns) as usize + column)
+    let plane = place_along(&dims[0], x)?;
+    let row = place_along(&dims[1], y)?;
+    let column = place_along(&dims[2], z)?;
+    Some((plane * rows + row) * columns + column)
+}
+
+/// A coordinate moved by a number, as far as boxes tell: where their bounds don't reach, another
+/// number may stand for the sum that they don't reach either.
+fn moved(x: i64, shift: i64) -> i64
+    ensures { StandsFor result (x +ℤ shift) }
+{
+    if -SHORT <= shift && shift <= SHORT {
+        x.wrapping_add(shift)
+    } else {
+        x.saturating_add(shift)
+    }
 }
 
 /// Whether the coordinate is 0 where the dimension is flood.
@@ -157,6 +185,22 @@ pub(crate) fn put_back(values: &mut [i64], place: usize, value: i64)
 }
 
 impl FlatStore {
+    /// The store of a box, with these values in row-major order.
+    fn of_box(shape: Region, values: Vec<i64>) -> FlatStore
+        requires boxed { All IsBoxed shape.dims }
+        requires bounds { All HasWideBounds shape.dims }
+        requires filled { length values.items ≡ tuple_count shape.dims }
+        ensures { result ≡ record { storage = shape; values = values.items } }
+    {
+        let [_, rows, columns] = shape.dims;
+        FlatStore {
+            shape,
+            rows: size(rows) as usize,
+            columns: size(columns) as usize,
+            values,
+        }
+    }
+
     /// A store with 0 at each of these places.
     pub(crate) fn zeros(alloc: Global, shape: Region) -> Result<FlatStore, AllocError>
         requires boxed { All IsBoxed shape.dims }
@@ -166,10 +210,8 @@ impl FlatStore {
         let Ok(many) = usize::try_from(tuples(&shape.dims)) else {
             return Err(AllocError);
         };
-        Ok(FlatStore {
-            shape,
-            values: vec![in alloc; 0; many]?,
-        })
+        let values = vec![in alloc; 0; many]?;
+        Ok(FlatStore::of_box(shape, values))
     }
 
     /// The store of these places, with these values in row-major order; `None` where the places are
@@ -179,7 +221,7 @@ impl FlatStore {
             store ≡ record { storage = shape; values = values.items }) }
     {
         if is_box(&shape.dims) && tuples(&shape.dims) == values.len() as u128 {
-            Some(FlatStore { shape, values })
+            Some(FlatStore::of_box(shape, values))
         } else {
             None
         }
@@ -199,7 +241,7 @@ impl FlatStore {
     {
         let _values = &self.values;
         let [x, y, z] = *index;
-        place_among(&self.shape.dims, x, y, z)
+        place_among(&self.shape.dims, self.rows, self.columns, x, y, z)
     }
 
     /// The value at a tuple; `None` where it has no place.
@@ -214,23 +256,19 @@ impl FlatStore {
     fn value_of(&self, x: i64, y: i64, z: i64) -> Option<i64>
         ensures { result ≡ held_value (x ∷ y ∷ z ∷ []) self.now }
     {
-        let place = place_among(&self.shape.dims, x, y, z)?;
+        let place = place_among(&self.shape.dims, self.rows, self.columns, x, y, z)?;
         Some(self.values[place])
     }
 
     /// The value at a tuple moved by a vector; `None` where it has no place. A coordinate past the
-    /// ends of its type has no place, and the end of the type has none either.
+    /// bounds that a box may have is in no range.
     pub(crate) fn value_beside(&self, index: &Vec3, shift: Vec3) -> Option<i64>
         ensures { result ≡ held_value (moved_by shift index.now) self.now }
     {
         let [x, y, z] = *index;
         let [a, b, c] = shift;
         let _shape = &self.shape;
-        self.value_of(
-            x.saturating_add(a),
-            y.saturating_add(b),
-            z.saturating_add(c),
-        )
+        self.value_of(moved(x, a), moved(y, b), moved(z, c))
     }
 
     /// The value at a tuple of the box; `None` where the tuple isn't one.

@@ -1,7 +1,7 @@
 //! The value of an expression at an index, on a stack that is made beforehand.
-ghost use Rattle.std.specs.Prelude.{◌≡◌, ◌+◌, ◌≤◌, ◌∷◌, length, drop, IfOk};
-ghost use Rattle.node_form.specs.Value.{stepped, value_of};
-ghost use Rattle.node_local.specs.Computing.{computed_by, operands_in, read_by, stack_from};
+ghost use Rattle.std.specs.Prelude.{◌≡◌, ◌+◌, ◌-◌, ◌≤◌, ◌∷◌, length, drop, slice_get, IfOk};
+ghost use Rattle.node_form.specs.Value.{pushed, read, stepped, value_of};
+ghost use Rattle.node_local.specs.Computing.{computed_by, operands_in, stack_from};
 ghost use Rattle.node_local.specs.Computing.{with_unary};
 
 use crate::memories::Memory;
@@ -32,7 +32,7 @@ pub(crate) fn evaluate(
     let count = stack.len();
     let mut top = count;
     for word in words {
-        top = step(*word, memory, index, stack, top)?;
+        top = step(word, memory, index, stack, top)?;
     }
     if top + 1 == count {
         Ok(stack[top])
@@ -44,7 +44,7 @@ pub(crate) fn evaluate(
 /// What a word makes of the stack: its values stand from `top` on, the last one pushed in front.
 /// Answers where the top is then.
 fn step(
-    word: ExprOp,
+    word: &ExprOp,
     memory: &Memory,
     index: &Vec3,
     stack: &mut [i64],
@@ -52,21 +52,20 @@ fn step(
 ) -> Result<usize, NoValue>
     requires room { 1 ≤ top }
     requires inside { top ≤ length stack.old }
-    ensures stack { stepped (operands_in memory.now index.now) word (drop top stack.old)
+    ensures stack { stepped (operands_in memory.now index.now) word.now (drop top stack.old)
         ≡ stack_from stack.new result }
     ensures inside { IfOk result (λ after. after ≤ length stack.old) }
     ensures room { IfOk result (λ after. top ≤ after + 1) }
 {
-    match word {
+    match *word {
         ExprOp::Const(value) => Ok(push(stack, top, value)),
-        ExprOp::Scalar(_)
-        | ExprOp::Here(_)
-        | ExprOp::Shifted(..)
-        | ExprOp::Cell(_)
-        | ExprOp::Coord(_) => match read(word, memory, index) {
-            Some(value) => Ok(push(stack, top, value)),
-            None => Err(NoValue::Lacks),
-        },
+        ExprOp::Scalar(scalar) => found(stack, top, memory.scalar(scalar)),
+        ExprOp::Here(array) => found(stack, top, memory.value_at(array, index)),
+        ExprOp::Shifted(array, shift) => {
+            found(stack, top, memory.value_beside(array, index, shift))
+        }
+        ExprOp::Cell(cell) => found(stack, top, memory.cell(cell)),
+        ExprOp::Coord(dimension) => found(stack, top, coordinate(index, dimension)),
         ExprOp::Pair(op) => {
             if stack.len() - top < 2 {
                 return Err(NoValue::Lacks);
@@ -82,18 +81,11 @@ fn step(
     }
 }
 
-/// What a word reads that isn't on the stack; `None` where it isn't there.
-fn read(word: ExprOp, memory: &Memory, index: &Vec3) -> Option<i64>
-    ensures { read_by (operands_in memory.now index.now) word ≡ result }
+/// A coordinate of an index, counted from 1; `None` where it has no such one.
+fn coordinate(index: &Vec3, dimension: u8) -> Option<i64>
+    ensures { result ≡ slice_get index.now (dimension - 1) }
 {
-    match word {
-        ExprOp::Scalar(scalar) => memory.scalars.as_slice().get(scalar as usize).copied(),
-        ExprOp::Here(array) => memory.value_at(array, index),
-        ExprOp::Shifted(array, shift) => memory.value_beside(array, index, shift),
-        ExprOp::Cell(cell) => memory.cells.as_slice().get(cell as usize).copied(),
-        ExprOp::Coord(dimension) => index.get(usize::from(dimension).saturating_sub(1)).copied(),
-        _ => None,
-    }
+    index.get(usize::from(dimension).saturating_sub(1)).copied()
 }
 
 /// The stack with a value on top.
@@ -106,6 +98,20 @@ fn push(stack: &mut [i64], top: usize, value: i64) -> usize
     let after = top - 1;
     stack[after] = value;
     after
+}
+
+/// The stack with a value on top, if it is there.
+fn found(stack: &mut [i64], top: usize, value: Option<i64>) -> Result<usize, NoValue>
+    requires room { 1 ≤ top }
+    requires inside { top ≤ length stack.old }
+    ensures stack { pushed (drop top stack.old) (read value) ≡ stack_from stack.new result }
+    ensures inside { IfOk result (λ after. after ≤ length stack.old) }
+    ensures room { IfOk result (λ after. top ≤ after + 1) }
+{
+    match value {
+        Some(value) => Ok(push(stack, top, value)),
+        None => Err(NoValue::Lacks),
+    }
 }
 
 /// The stack with the value of an operator in the place of its operand.

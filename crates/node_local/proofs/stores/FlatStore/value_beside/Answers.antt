@@ -1,20 +1,21 @@
-use Rattle.std.proofs.Common.{◌≡◌, ℤ, ◌+ℤ◌, pos, All, get_or, subst, ap, ◌∙◌, arith, rules}
+use Rattle.std.proofs.Common.{◌≡◌, ℤ, ◌+ℤ◌, pos, All, get_or, subst, sym, arith, rules}
 use Rattle.std.proofs.lemmas.Int.{ints, to_z-of_z}
 use Rattle.std.specs.Prelude.{FitsSigned}
-use Rattle.std.specs.Int.{saturate_signed}
 use mir.Syntax.{w64}
 use mir.Val.{to_z, of_z}
 use Rattle.zpl_arrays.specs.Array.{Array}
 use Rattle.zpl_region.specs.Hull.{IsBoxed}
 use Rattle.grid_layout.specs.Layout.{HasWideBounds}
 use Rattle.grid_meaning.specs.Place.{moved_by}
-use Rattle.node_local.proofs.StoreLemmas.{held-saturated, held_three, moved_three}
+use Rattle.node_local.specs.Store.{StandsFor}
+use Rattle.node_local.proofs.StoreLemmas.{held_stands, moved_three}
 use Rattle.node_local.proofs.stores.FlatStore.value_beside.Goals as goal
 
-saturated : (r x y i s : ℤ) → FitsSigned w64 r → r ≡ saturate_signed w64 (x +ℤ y) → x ≡ i → y ≡ s
-    → to_z w64 (of_z w64 r) ≡ saturate_signed w64 (i +ℤ s)
-saturated r x y i s fits told e f =
-    to_z-of_z w64 r fits ∙ (told ∙ (ap (λ u. saturate_signed w64 (u +ℤ y)) e ∙ ap (λ u. saturate_signed w64 (i +ℤ u)) f))
+stands : (r x y i s : ℤ) → FitsSigned w64 r → StandsFor r (x +ℤ y) → x ≡ i → y ≡ s
+    → StandsFor (to_z w64 (of_z w64 r)) (i +ℤ s)
+stands r x y i s fits told e f =
+    subst (λ m. StandsFor m (i +ℤ s)) (sym (to_z-of_z w64 r fits))
+    (subst (λ u. StandsFor r (u +ℤ s)) e (subst (λ u. StandsFor r (x +ℤ u)) f told))
 
 pub returns : goal.returns
 returns c =
@@ -24,17 +25,17 @@ returns c =
     let u : to_z w64 (of_z w64 (get_or c.args.shift 0 (pos 0))) ≡ get_or c.args.shift 0 (pos 0) = omega (arith, ints) in
     let v : to_z w64 (of_z w64 (get_or c.args.shift 1 (pos 0))) ≡ get_or c.args.shift 1 (pos 0) = omega (arith, ints) in
     let w : to_z w64 (of_z w64 (get_or c.args.shift 2 (pos 0))) ≡ get_or c.args.shift 2 (pos 0) = omega (arith, ints) in
-    let first : FitsSigned w64 c.saturating_add.result = search rules in
-    let second : FitsSigned w64 c.saturating_add-2.result = search rules in
-    let third : FitsSigned w64 c.saturating_add-3.result = search rules in
+    let first : FitsSigned w64 c.moved.result = search rules in
+    let second : FitsSigned w64 c.moved-2.result = search rules in
+    let third : FitsSigned w64 c.moved-3.result = search rules in
     let index = c.args.index.now in
     let shift = c.args.shift in
-    held-saturated c.args.self.now (get_or index 0 (pos 0) +ℤ get_or shift 0 (pos 0)) (get_or index 1 (pos 0) +ℤ get_or shift 1 (pos 0))
+    held_stands c.args.self.now _ _ _ (get_or index 0 (pos 0) +ℤ get_or shift 0 (pos 0)) (get_or index 1 (pos 0) +ℤ get_or shift 1 (pos 0))
     (get_or index 2 (pos 0) +ℤ get_or shift 2 (pos 0)) (moved_by shift index)
     (subst (λ (a : Array). All IsBoxed a.storage.dims) c.self.view_is c.self.invariant.boxed)
     (subst (λ (a : Array). All HasWideBounds a.storage.dims) c.self.view_is c.self.invariant.bounds)
+    (stands c.moved.result _ _ _ _ first c.moved.ensures i u)
+    (stands c.moved-2.result _ _ _ _ second c.moved-2.ensures j v)
+    (stands c.moved-3.result _ _ _ _ third c.moved-3.ensures k w)
     (moved_three shift index (omega arith) (omega arith))
-    (held_three c.args.self.now c.value_of.ensures
-    (saturated c.saturating_add.result _ _ _ _ first c.saturating_add.ensures i u)
-    (saturated c.saturating_add-2.result _ _ _ _ second c.saturating_add-2.ensures j v)
-    (saturated c.saturating_add-3.result _ _ _ _ third c.saturating_add-3.ensures k w))
+    c.value_of.ensures

@@ -5,18 +5,15 @@ use Rattle.zpl_region.proofs.EndLemmas.{length-tuple_count}
 use Rattle.node_local.proofs.StoreLemmas.{boxed_steps, zeros_of}
 use Rattle.node_local.proofs.stores.FlatStore.zeros.Goals as goal
 
-pub invariant_of-result : goal.invariant_of-result
-invariant_of-result c =
-    record {
-      boxed = c.requires.boxed;
-      bounds = c.requires.bounds;
-      filled = ap length (c.in_ok-vec.ensures.items_if_clones_equal (λ y e. e)) ∙ (length-replicate _ _ ∙ search rules);
-    }
+pub of_box-requires-clause-filled : goal.of_box-requires-clause-filled
+of_box-requires-clause-filled c =
+    ap length (c.in_ok-values.ensures.items_if_clones_equal (λ y e. e)) ∙ (length-replicate _ _ ∙ search rules)
 
 pub returns : goal.returns
 returns c =
     let many = length-tuple_count c.args.shape.dims (boxed_steps c.args.shape.dims c.requires.boxed) in
     let same : c.in-Ok.many ≡ tuple_count c.args.shape.dims = search rules in
-    ap (λ values. record { storage = c.args.shape; values = values })
-    (c.in_ok-vec.ensures.items_if_clones_equal (λ y e. e) ∙ ap (λ n. replicate n (pos 0)) (same ∙ sym many))
-    ∙ sym (zeros_of c.args.shape)
+    c.of_box.ensures
+    ∙ (ap (λ values. record { storage = c.args.shape; values = values })
+    (c.in_ok-values.ensures.items_if_clones_equal (λ y e. e) ∙ ap (λ n. replicate n (pos 0)) (same ∙ sym many))
+    ∙ sym (zeros_of c.args.shape))
