@@ -9,20 +9,17 @@ use Rattle.grid_links.specs.Machine.{Moves, Waiting, Over, Stuck}
 use Rattle.node_form.specs.declared.tables.Tables.{Tables}
 use Rattle.grid_meaning.specs.Grid.{EndsAs, Grid, IsIdle, IsOver, Rests, first_ending}
 use Rattle.grid_meaning.specs.Local.{Local, processors}
-use Rattle.grid_meaning.specs.Turn.{Turn}
+use Rattle.grid_meaning.proofs.GridLemmas.{over_at}
 use Rattle.node_local.specs.Workplace.{Workplace}
 use Rattle.node_turn.specs.Turned.{is_resting}
 use Rattle.grid_sim.specs.declared.counts.Counts.{Counts}
 use Rattle.grid_sim.specs.declared.processors.Processors.{Processors}
 use Rattle.grid_sim.specs.Inside.{simulation_in}
 use Rattle.grid_sim.specs.Marks.{IsFirstUnmarked}
-use Rattle.grid_sim.specs.Processors.{AreProcessors, has_ended, state_of, turn_of}
-use Rattle.grid_runs.specs.Run.{IsFirstRunning}
-
--- a mark, whatever stands for one that isn't there
-get_or_any : {X : Type 0} (xs : List X) (i : ℕ) (d e : X) → i < length xs → get_or xs i d ≡ get_or xs i e
-get_or_any xs i d e inside =
-    let both : Some (get_or xs i d) ≡ Some (get_or xs i e) = sym (slice_get-get_or xs i d inside) ∙ slice_get-get_or xs i e inside in cc
+use Rattle.grid_sim.specs.Processors.{AreProcessors, AreWatched, has_ended, is_at_rest, state_of, turn_of}
+use Rattle.grid_runs.specs.Run.{IsFirstRunning, IsStopped}
+use Rattle.grid_sim.proofs.RestLemmas.{rests_true, true_rests}
+use Rattle.grid_sim.proofs.TellLemmas.{get_or_any}
 
 -- ---- the ending of a processor
 abbrev pub ending_at : List Local → ℕ → Option End
@@ -46,21 +43,21 @@ module _ (code : Tables) (team : Processors) (are : AreProcessors code team) whe
   locals = map state_of team.locals.items
 
   many : length (map state_of team.locals.items) ≡ processors code
-  many = length-map team.locals.items state_of ∙ are.states.many
+  many = length-map team.locals.items state_of ∙ are.marks.states.many
 
   pub over_marks : All (λ mark. mark ≡ true) team.ended ↔ All (λ (local : Local). IsSome local.ended) (map state_of team.locals.items)
   over_marks = (
     λ all p d inside.
         let below : p < processors code = subst (λ n. p < n) many inside in
-        let mark : get_or team.ended p false ≡ true = all p false (subst (λ n. p < n) (sym are.marked.ended.many) below) in
+        let mark : get_or team.ended p false ≡ true = all p false (subst (λ n. p < n) (sym are.marks.ended.many) below) in
         ap is_some (sym (ending-get_or (map state_of team.locals.items) p d inside))
-        ∙ (sym (has_ended-map team.locals.items p) ∙ (sym (are.marked.ended.each p below tt) ∙ mark)),
+        ∙ (sym (has_ended-map team.locals.items p) ∙ (sym (are.marks.ended.each p below tt) ∙ mark)),
     λ all p d inside.
-        let below : p < processors code = subst (λ n. p < n) are.marked.ended.many inside in
+        let below : p < processors code = subst (λ n. p < n) are.marks.ended.many inside in
         let ended : is_some (ending_at (map state_of team.locals.items) p) ≡ true =
         ended_by (map state_of team.locals.items) p all (subst (λ n. p < n) (sym many) below) in
         get_or_any team.ended p d false inside
-        ∙ (are.marked.ended.each p below tt ∙ (has_ended-map team.locals.items p ∙ ended)),
+        ∙ (are.marks.ended.each p below tt ∙ (has_ended-map team.locals.items p ∙ ended)),
   )
     where
       ended_by : (ls : List Local) (p : ℕ) → All (λ (local : Local). IsSome local.ended) ls → p < length ls → is_some (ending_at ls p) ≡ true
@@ -69,41 +66,48 @@ module _ (code : Tables) (team : Processors) (are : AreProcessors code team) whe
 
   pub first_is : (p : ℕ) (grid : Grid) → grid.world.locals ≡ map state_of team.locals.items → IsFirstUnmarked team.ended p → IsFirstRunning grid p
   first_is p grid same first =
-      let below : p < processors code = subst (λ n. p < n) are.marked.ended.many first.there in
+      let below : p < processors code = subst (λ n. p < n) are.marks.ended.many first.there in
       subst (λ ls. IsFirstRunning (with_locals grid ls) p) (sym same) (record {
         there = subst (λ n. p < n) (sym many) below;
-        running = not_both _ (sym (has_ended-map team.locals.items p) ∙ (sym (are.marked.ended.each p below tt) ∙ first.unmarked));
+        running = not_both _ (sym (has_ended-map team.locals.items p) ∙ (sym (are.marks.ended.each p below tt) ∙ first.unmarked));
         before = λ q less.
             let under : q < processors code = omega arith in
-            sym (has_ended-map team.locals.items q) ∙ (sym (are.marked.ended.each q under tt) ∙ first.before q less);
+            sym (has_ended-map team.locals.items q) ∙ (sym (are.marks.ended.each q under tt) ∙ first.before q less);
       })
     where
       not_both : (mark : Bool) → mark ≡ false → mark ≡ true → ⊥
       not_both mark off on = let both : false ≡ true = sym off ∙ on in cc
 
 -- ---- rest
-rests_true : (turn : Turn) → is_resting turn ≡ true → (turn ≡ Waiting) ⊎ (turn ≡ Over)
-rests_true (Moves move) is = cc
-rests_true Waiting is = inl refl
-rests_true Over is = inr refl
-rests_true (Stuck kind) is = cc
-
-true_rests : (turn : Turn) → (turn ≡ Waiting) ⊎ (turn ≡ Over) → is_resting turn ≡ true
-true_rests turn (inl is) = ap is_resting is
-true_rests turn (inr is) = ap is_resting is
-
 pub rest_marks : (code : Tables) (team : Processors) (counts : Counts) → AreProcessors code team
     → All (λ mark. mark ≡ true) team.resting
     ↔ ((p : ℕ) → p < processors code → Rests code team.links.capacity (simulation_in code team counts).grid p)
 rest_marks code team counts are = (
   λ all p below.
-      let mark : get_or team.resting p false ≡ true = all p false (subst (λ n. p < n) (sym are.marked.resting.many) below) in
-      rests_true (turn_of code team p) (sym (are.marked.resting.each p below tt) ∙ mark),
-  λ rest p d inside.
-      let below : p < processors code = subst (λ n. p < n) are.marked.resting.many inside in
-      get_or_any team.resting p d false inside
-      ∙ (are.marked.resting.each p below tt ∙ true_rests (turn_of code team p) (rest p below)),
+      let mark : get_or team.resting p false ≡ true = all p false (subst (λ n. p < n) (sym are.marks.resting.many) below) in
+      rests_true (turn_of code team p) (are.marks.resting.each p below tt mark),
+  λ rest. by are.watched rest,
 )
+  where
+    by : AreWatched code team
+        → ((p : ℕ) → p < processors code → Rests code team.links.capacity (simulation_in code team counts).grid p)
+        → All (λ mark. mark ≡ true) team.resting
+    by (inl all) rest = all
+    by (inr watched) rest =
+        let rests : is_at_rest code team team.awake ≡ true = true_rests (turn_of code team team.awake) (rest team.awake watched.there) in
+        let both : true ≡ false = sym rests ∙ watched.awake in cc
+
+-- where all have ended all rest
+over_rests : (code : Tables) (team : Processors) (counts : Counts) → IsOver (simulation_in code team counts).grid → (p : ℕ) → p < processors code
+    → Rests code team.links.capacity (simulation_in code team counts).grid p
+over_rests code team counts over p below =
+    inr (over_at code team.links.capacity (simulation_in code team counts).grid p (map state_of team.locals.items) p over)
+
+-- where it is over or idle all are marked
+pub stopped_marks : (code : Tables) (team : Processors) (counts : Counts) → AreProcessors code team
+    → IsStopped code team.links.capacity (simulation_in code team counts).grid → All (λ mark. mark ≡ true) team.resting
+stopped_marks code team counts are (inl over) = (rest_marks code team counts are).1 (over_rests code team counts over)
+stopped_marks code team counts are (inr idle) = (rest_marks code team counts are).1 idle.resting
 
 -- ---- how the grid ends
 pub told_over : (ls : List Local) → 1 ≤ length ls → All (λ (local : Local). IsSome local.ended) ls → IsSome (ending_at ls 0)

@@ -1,14 +1,18 @@
 -- Processors before their first turn.
-use Rattle.std.proofs.Common.{◌≡◌, ◌⊎◌, inl, inr, ℕ, zero, suc, ◌+◌, List, [], ◌∷◌, ◌++◌, length, map, Some, refl, sym, ◌∙◌, ap, subst, arith, add-zero, add-one}
-use Rattle.std.specs.Prelude.{slice_get}
+use Rattle.std.proofs.Common.{◌≡◌, ◌⊎◌, inl, inr, ℕ, zero, suc, ◌+◌, Bool, true, false, List, [], ◌∷◌, ◌++◌, length, map, get_or, replicate, Option, Some, None, refl, sym, ◌∙◌, ap, subst, arith, add-zero, add-one}
+use Rattle.std.specs.Prelude.{is_some, slice_get}
+use Rattle.std.specs.Option.{option_and_then, option_map}
 use Rattle.std.specs.List.{range_with_len}
-use Rattle.std.proofs.lemmas.List.{map-append, length-map}
+use Rattle.std.proofs.lemmas.List.{map-append, length-map, length-replicate}
+use Rattle.std.proofs.lemmas.Option.{slice_get-map}
 use Rattle.std.proofs.lemmas.List.FromFn.{length-range_with_len}
 use Rattle.node_form.specs.declared.tables.Tables.{Tables}
-use Rattle.grid_meaning.specs.Local.{processors, start_local, start_locals}
+use Rattle.grid_meaning.specs.Local.{Local, processor_numbers, processors, start_local, start_locals}
 use Rattle.grid_meaning.proofs.GridLemmas.{length-start_locals}
 use Rattle.node_local.specs.Workplace.{IsReady, Workplace}
-use Rattle.grid_sim.specs.Processors.{AllReady, state_of}
+use Rattle.grid_sim.specs.declared.processors.Processors.{Processors}
+use Rattle.grid_sim.specs.Processors.{AllReady, HaveMarks, HaveStates, has_ended, state_of}
+use Rattle.grid_sim.proofs.ReadLemmas.{ending_at, has_ended-map}
 
 range-push : (a n : ℕ) → range_with_len a (suc n) ≡ range_with_len a n ++ (a + n) ∷ []
 range-push a zero = ap (λ k. k ∷ []) (sym (add-zero a))
@@ -52,3 +56,36 @@ ready_more code workplaces w p ready start here q v found = by (push_found workp
 
 pub start_many : (code : Tables) (workplaces : List Workplace) → map state_of workplaces ≡ start_locals code → length workplaces ≡ processors code
 start_many code workplaces start = sym (length-map workplaces state_of) ∙ (ap length start ∙ length-start_locals code)
+
+-- none has ended, and none is marked
+pub none_ended : (code : Tables) (workplaces : List Workplace) (p : ℕ) → map state_of workplaces ≡ start_locals code → has_ended workplaces p ≡ false
+none_ended code workplaces p start =
+    has_ended-map workplaces p
+    ∙ (ap (λ ls. is_some (ending_at ls p)) start
+    ∙ (ap (λ o. is_some (option_and_then (λ (local : Local). local.ended) o)) (slice_get-map (start_local code) (processor_numbers code) p)
+    ∙ by (slice_get (processor_numbers code) p)))
+  where
+    by : (n : Option ℕ) → is_some (option_and_then (λ (local : Local). local.ended) (option_map (start_local code) n)) ≡ false
+    by None = refl
+    by (Some n) = refl
+
+none_marked : (count p : ℕ) → get_or (replicate count false) p false ≡ false
+none_marked zero p = refl
+none_marked (suc count) zero = refl
+none_marked (suc count) (suc p) = none_marked count p
+
+pub start_marks : (code : Tables) (team : Processors) (count : ℕ) → HaveStates code team → map state_of team.locals.items ≡ start_locals code
+    → count ≡ processors code → team.ended ≡ replicate count false → team.resting ≡ replicate count false → HaveMarks code team
+start_marks code team count states start many ended resting = record {
+  states = states;
+  ended = record {
+    many = ap length ended ∙ (length-replicate count false ∙ many);
+    each = λ p below known.
+        ap (λ marks. get_or marks p false) ended ∙ (none_marked count p ∙ sym (none_ended code team.locals.items p start));
+  };
+  resting = record {
+    many = ap length resting ∙ (length-replicate count false ∙ many);
+    each = λ p below known mark.
+        let none : false ≡ true = sym (ap (λ marks. get_or marks p false) resting ∙ none_marked count p) ∙ mark in cc;
+  };
+}

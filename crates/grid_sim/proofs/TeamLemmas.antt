@@ -1,9 +1,10 @@
 -- What a move makes of the processors: their world, and the marks that stay right.
-use Rattle.std.proofs.Common.{◌≡◌, ◌≢◌, ℕ, ◌<◌, Bool, true, false, ◌==◌, List, length, map, set, get_or, Option, Some, None, refl, sym, ◌∙◌, ap, subst, eqb-true, length-set}
-use Rattle.std.specs.Prelude.{is_some, slice_get}
+use Rattle.std.proofs.Common.{◌≡◌, ◌≢◌, ◌⊎◌, inl, inr, ℕ, ◌+◌, ◌<◌, ◌≤◌, Bool, true, false, ◌==◌, List, length, map, set, get_or, Option, Some, None, refl, sym, ◌∙◌, ap, subst, arith, eqb-true, length-set}
+use Rattle.std.specs.Prelude.{All, is_some, slice_get}
 use Rattle.std.specs.Option.{IfSome, IsSomeAnd, option_and_then, option_map}
 use Rattle.std.proofs.lemmas.Bool.{eqb-false}
-use Rattle.std.proofs.lemmas.List.{map-set, get_or-set_same}
+use Rattle.std.proofs.lemmas.List.{map-set, get_or-set_other, get_or-set_same, set-get_or}
+use Rattle.std.proofs.lemmas.List.Elements.{All-set}
 use Rattle.std.proofs.lemmas.Option.{slice_get-get_or, slice_get-map}
 use Rattle.grid_links.specs.declared.messages.Message.{Message}
 use Rattle.grid_links.specs.Machine as machine
@@ -22,9 +23,9 @@ use Rattle.node_turn.specs.declared.steps.Traffic.{Traffic}
 use Rattle.node_turn.specs.declared.steps.Traffic.TheVariants as traffic
 use Rattle.grid_sim.specs.declared.processors.Processors.{Processors}
 use Rattle.grid_sim.specs.Marks.{TellsWhere}
-use Rattle.grid_sim.specs.Processors.{AreMarkedWhere, AreProcessors, AreSame, Anywhere, HaveMoved, HaveStates, IsAmong, IsOther, has_ended, is_at_rest, looked, partner, state_of, turn_of, world_of}
-use Rattle.grid_sim.proofs.RestLemmas.{IsOtherThan, next_turn-other, slice_get-set_other}
-use Rattle.grid_sim.proofs.TellLemmas.{tells_set, tells_same, tells_fewer}
+use Rattle.grid_sim.specs.Processors.{AreProcessors, AreSame, AreUnsettled, AreWatched, Anywhere, HaveMarks, HaveMoved, HaveStates, IsAmong, IsAwake, has_ended, is_at_rest, looked_as, partner, state_of, turn_of, unmarked, world_of}
+use Rattle.grid_sim.proofs.RestLemmas.{IsOtherThan, next_turn-awake, next_turn-other, slice_get-set_other}
+use Rattle.grid_sim.proofs.TellLemmas.{length-unmarked, mark_set, marks_all, tells_fewer, tells_same, tells_set, unmarked_left}
 
 -- ---- one processor
 pub item_there : {X : Type 0} (xs : List X) (i : ℕ) (x : X) → x ≡ get_or xs i x → i < length xs → slice_get xs i ≡ Some x
@@ -72,6 +73,16 @@ traffic_sent count (traffic.Sent to words) move q is other = by move.sent is.1
 traffic_sent count (traffic.Took from) move q is other =
     subst (λ s. IfSome s (λ message. IsOtherThan count q message.0)) (sym is.1) tt
 
+-- a message goes to a processor
+traffic_to : (count : ℕ) (done : Traffic) (move : Move Local Message) → IsTraffic count done move → IfSome move.sent (λ message. message.0 < count)
+traffic_to count traffic.Quiet move is = subst (λ s. IfSome s (λ message. message.0 < count)) (sym is.0) tt
+traffic_to count (traffic.Sent to words) move is = by move.sent is.1
+  where
+    by : (sent : Option (ℕ × Message)) → IsSomeAnd sent (λ s. (s.0 ≡ to) × (length s.1.words ≡ words)) → IfSome sent (λ message. message.0 < count)
+    by None h = absurd h
+    by (Some message) h = subst (λ n. n < count) (sym h.0) is.0
+traffic_to count (traffic.Took from) move is = subst (λ s. IfSome s (λ message. message.0 < count)) (sym is.1) tt
+
 traffic_taken : (count : ℕ) (done : Traffic) (move : Move Local Message) (q : ℕ) → IsTraffic count done move → partner done ≢ Some q
     → IfSome move.taken (IsOtherThan count q)
 traffic_taken count traffic.Quiet move q is other = subst (λ s. IfSome s (IsOtherThan count q)) (sym is.1) tt
@@ -89,6 +100,7 @@ pub record HaveChanged (code : Tables) (old new : Processors) (p : ℕ) (workpla
   pub links : new.links ≡ links_behind p move old.links
   pub ended : new.ended ≡ old.ended
   pub resting : new.resting ≡ old.resting
+  pub awake : new.awake ≡ old.awake
 
 module _ (code : Tables) (old new : Processors) (p : ℕ) (workplace : Workplace) (move : Move Local Message)
     (states : HaveStates code old) (changed : HaveChanged code old new p workplace move) where
@@ -137,88 +149,232 @@ module _ (code : Tables) (old new : Processors) (p : ℕ) (workplace : Workplace
       (sym (slice_get-set_other old.locals.items p q workplace apart)
       ∙ ap (λ ws. slice_get ws q) (sym changed.locals))
 
-  turn_other : (done : Traffic) → IsTraffic (processors code) done move → (q : ℕ) → q < processors code → IsOther p done q
-      → turn_of code old q ≡ turn_of code new q
-  turn_other done told q below other =
+  turn_new : (q : ℕ) → turn_of code new q
+      ≡ run.next_turn (system_over code old.links.capacity)
+      (run.after_turn {K = StuckKind} (length (start_locals code)) p (Moves move) (world_of old)) q
+  turn_new q =
       let system = system_over code old.links.capacity in
       let n : processors code ≡ length (start_locals code) = sym (length-start_locals code) in
-      let stays : run.next_turn system (run.after_turn {K = StuckKind} (length (start_locals code)) p (Moves move) (world_of old)) q ≡ run.next_turn system (world_of old) q =
-      next_turn-other system (world_of old) p q move (subst (λ k. p < k) n changed.here) (subst (λ k. q < k) n below) other.0
-      (subst (λ k. IfSome move.sent (λ message. IsOtherThan k q message.0)) n (traffic_sent (processors code) done move q told other.1))
-      (subst (λ k. IfSome move.taken (IsOtherThan k q)) n (traffic_taken (processors code) done move q told other.1)) in
-      sym stays
-      ∙ (ap (λ k. run.next_turn system (run.after_turn {K = StuckKind} k p (Moves move) (world_of old)) q) (sym n)
-      ∙ (ap (λ world. run.next_turn system world q) (sym world_moved)
-      ∙ ap (λ c. run.next_turn (system_over code c) (world_of new) q) (sym capacity_same)))
+      ap (λ c. run.next_turn (system_over code c) (world_of new) q) capacity_same
+      ∙ (ap (λ world. run.next_turn system world q) world_moved
+      ∙ ap (λ k. run.next_turn system (run.after_turn {K = StuckKind} k p (Moves move) (world_of old)) q) n)
 
-  pub changed_marked : (done : Traffic) → IsTraffic (processors code) done move → AreMarkedWhere Anywhere code old
-      → AreMarkedWhere (IsOther p done) code new
-  changed_marked done told marked =
-      let ended = tells_fewer Anywhere (IsOther p done) (has_ended old.locals.items) (processors code) old.ended marked.ended (λ q below other. tt) in
-      let resting = tells_fewer Anywhere (IsOther p done) (is_at_rest code old) (processors code) old.resting marked.resting (λ q below other. tt) in
+  turn_other : (done : Traffic) → IsTraffic (processors code) done move → (q : ℕ) → q < processors code → q ≢ p → partner done ≢ Some q
+      → turn_of code old q ≡ turn_of code new q
+  turn_other done told q below apart other =
+      let n : processors code ≡ length (start_locals code) = sym (length-start_locals code) in
+      sym (turn_new q
+      ∙ next_turn-other (system_over code old.links.capacity) (world_of old) p q move (subst (λ k. p < k) n changed.here)
+      (subst (λ k. q < k) n below) apart
+      (subst (λ k. IfSome move.sent (λ message. IsOtherThan k q message.0)) n (traffic_sent (processors code) done move q told other))
+      (subst (λ k. IfSome move.taken (IsOtherThan k q)) n (traffic_taken (processors code) done move q told other)))
+
+  awake_other : (done : Traffic) → IsTraffic (processors code) done move → (q : ℕ) → q < processors code → q ≢ p
+      → is_at_rest code old q ≡ false → is_at_rest code new q ≡ false
+  awake_other done told q below apart awake =
+      let n : processors code ≡ length (start_locals code) = sym (length-start_locals code) in
+      ap is_resting (turn_new q)
+      ∙ next_turn-awake (system_over code old.links.capacity) (world_of old) p q move (subst (λ k. p < k) n changed.here)
+      (subst (λ k. q < k) n below) apart
+      (subst (λ k. IfSome move.sent (λ message. message.0 < k)) n (traffic_to (processors code) done move told)) awake
+
+  -- p isn't marked as resting, as it moved
+  not_marked : AreProcessors code old → get_or old.resting p false ≡ true → ⊥
+  not_marked are mark =
+      let both : true ≡ false = sym (are.marks.resting.each p changed.here tt mark) ∙ ap is_resting changed.turn in cc
+
+  awake_still : (done : Traffic) → IsTraffic (processors code) done move → AreProcessors code old → old.awake ≢ p → AreWatched code old
+      → IsAwake code new old.awake
+  awake_still done told are apart (inl all) =
+      absurd (not_marked are (all p false (subst (λ n. p < n) (sym are.marks.resting.many) changed.here)))
+  awake_still done told are apart (inr watched) = record {
+    there = watched.there;
+    awake = awake_other done told old.awake watched.there apart watched.awake;
+  }
+
+  pub changed_unsettled : (done : Traffic) → IsTraffic (processors code) done move → AreProcessors code old → AreUnsettled code new p done
+  changed_unsettled done told are =
+      let Other : ℕ → Type 0 = λ q. q ≢ p in
+      let known = tells_fewer Anywhere Other (has_ended old.locals.items) (processors code) old.ended are.marks.ended (λ q below apart. tt) in
       record {
-        ended = subst (TellsWhere (IsOther p done) (has_ended new.locals.items) (processors code)) (sym changed.ended)
-            (tells_same (IsOther p done) (has_ended old.locals.items) (has_ended new.locals.items) (processors code) old.ended ended
-            (λ q below other. ended_other q other.0));
-        resting = subst (TellsWhere (IsOther p done) (is_at_rest code new) (processors code)) (sym changed.resting)
-            (tells_same (IsOther p done) (is_at_rest code old) (is_at_rest code new) (processors code) old.resting resting
-            (λ q below other. ap is_resting (turn_other done told q below other)));
+        states = changed_states;
+        ended = subst (TellsWhere Other (has_ended new.locals.items) (processors code)) (sym changed.ended)
+            (tells_same Other (has_ended old.locals.items) (has_ended new.locals.items) (processors code) old.ended known
+            (λ q below apart. ended_other q apart));
+        resting = record {
+          many = ap length changed.resting ∙ are.marks.resting.many;
+          each = λ q below other mark.
+              let was : get_or old.resting q false ≡ true = sym (ap (λ marks. get_or marks q false) changed.resting) ∙ mark in
+              let apart : q ≢ p = λ same. not_marked are (subst (λ r. get_or old.resting r false ≡ true) same was) in
+              sym (ap is_resting (turn_other done told q below apart other)) ∙ are.marks.resting.each q below tt was;
+        };
+        awake = λ apart.
+            subst (IsAwake code new) (sym changed.awake)
+            (awake_still done told are (λ same. apart (changed.awake ∙ same)) are.watched);
       }
 
 -- ---- looks
--- a look at one more of the processors of which not all was known
-pub looked_at : (Before After : ℕ → Type 0) (code : Tables) (team : Processors) (p : ℕ) → AreMarkedWhere Before code team → p < processors code
-    → ((q : ℕ) → q < processors code → After q → q ≢ p → Before q)
-    → AreMarkedWhere After code (looked code team p)
-looked_at Before After code team p marked here others = record {
-  ended = tells_set Before After (has_ended team.locals.items) (processors code) team.ended p marked.ended here others;
-  resting = tells_set Before After (is_at_rest code team) (processors code) team.resting p marked.resting here others;
+-- one that rests is marked
+pub marked_states : (code : Tables) (team : Processors) (p : ℕ) → HaveMarks code team → is_at_rest code team p ≡ true
+    → HaveMarks code (looked_as true team p)
+marked_states code team p marks rests = record {
+  states = record { many = marks.states.many; ready = marks.states.ready; links = marks.states.links };
+  ended = record { many = marks.ended.many; each = marks.ended.each };
+  resting = record {
+    many = length-set team.resting p true ∙ marks.resting.many;
+    each = λ q below known mark. by q below mark (q == p) refl;
+  };
+}
+  where
+    by : (q : ℕ) → q < processors code → get_or (set team.resting p true) q false ≡ true → (same : Bool) → (q == p) ≡ same
+        → is_at_rest code team q ≡ true
+    by q below mark true is = subst (λ r. is_at_rest code team r ≡ true) (sym (eqb-true q p is)) rests
+    by q below mark false is =
+        marks.resting.each q below tt (sym (get_or-set_other team.resting p q true false (eqb-false q p is)) ∙ mark)
+
+pub marked_processors : (code : Tables) (team : Processors) (p : ℕ) → AreProcessors code team → is_at_rest code team p ≡ true
+    → AreProcessors code (looked_as true team p)
+marked_processors code team p are rests = record {
+  marks = marked_states code team p are.marks rests;
+  watched = by are.watched;
+}
+  where
+    by : AreWatched code team → AreWatched code (looked_as true team p)
+    by (inl all) = inl (All-set (λ mark. mark ≡ true) team.resting p true refl all)
+    by (inr watched) = inr (record { there = watched.there; awake = watched.awake })
+
+-- one that doesn't is kept
+pub awake_processors : (code : Tables) (team : Processors) (p : ℕ) → HaveMarks code team → p < processors code → is_at_rest code team p ≡ false
+    → AreProcessors code (looked_as false team p)
+awake_processors code team p marks here awake = record {
+  marks = record {
+    states = record { many = marks.states.many; ready = marks.states.ready; links = marks.states.links };
+    ended = record { many = marks.ended.many; each = marks.ended.each };
+    resting = record { many = marks.resting.many; each = marks.resting.each };
+  };
+  watched = inr (record { there = here; awake = awake });
 }
 
-pub looked_states : (code : Tables) (team : Processors) (p : ℕ) → HaveStates code team → HaveStates code (looked code team p)
-looked_states code team p states =
-    record { many = states.many; ready = states.ready; links = states.links }
+-- one that is marked is as if it were looked at
+pub marked_before : (team : Processors) (p : ℕ) → get_or team.resting p false ≡ true → team ≡ looked_as true team p
+marked_before team p mark =
+    let same : set team.resting p true ≡ team.resting =
+    ap (set team.resting p) (sym mark) ∙ set-get_or team.resting p false in
+    ap (λ marks. record team { resting = marks }) (sym same)
 
--- all but the partner
-abbrev pub IsNoPartner : Traffic → ℕ → Type 0
-IsNoPartner done q = partner done ≢ Some q
+-- what a look changes, by its answer
+pub looked_locals : (rests : Bool) (team : Processors) (p : ℕ) → (looked_as rests team p).locals ≡ team.locals
+looked_locals true team p = refl
+looked_locals false team p = refl
 
-pub looked_first : (code : Tables) (team : Processors) (p : ℕ) (done : Traffic) → AreMarkedWhere (IsOther p done) code team → p < processors code
-    → AreMarkedWhere (IsNoPartner done) code (looked code team p)
-looked_first code team p done marked here =
-    looked_at (IsOther p done) (IsNoPartner done) code team p marked here (λ q below known apart. (apart, known))
+pub looked_links : (rests : Bool) (team : Processors) (p : ℕ) → (looked_as rests team p).links ≡ team.links
+looked_links true team p = refl
+looked_links false team p = refl
 
-pub looked_second : (code : Tables) (team : Processors) (p : ℕ) (done : Traffic) → partner done ≡ Some p → AreMarkedWhere (IsNoPartner done) code team
-    → p < processors code → AreMarkedWhere Anywhere code (looked code team p)
-looked_second code team p done is marked here =
-    looked_at (IsNoPartner done) Anywhere code team p marked here
-    (λ q below known apart same. apart (let both : Some q ≡ Some p = sym same ∙ is in cc))
+pub look_awake : (code : Tables) (team new : Processors) (p : ℕ) (rests : Bool) → HaveMarks code team → p < processors code
+    → rests ≡ is_at_rest code team p → new ≡ looked_as rests team p → rests ≡ false → AreProcessors code new
+look_awake code team new p rests marks here told is off =
+    subst (AreProcessors code) (sym (is ∙ ap (λ b. looked_as b team p) off))
+    (awake_processors code team p marks here (sym told ∙ off))
 
-pub nothing_left : (code : Tables) (team : Processors) (done : Traffic) → partner done ≡ None → AreMarkedWhere (IsNoPartner done) code team
-    → AreMarkedWhere Anywhere code team
-nothing_left code team done is marked =
-    let none : (q : ℕ) → q < processors code → Anywhere q → IsNoPartner done q = λ q below known same. (let both : None ≡ Some q = sym is ∙ same in cc) in
-    record {
-      ended = tells_fewer (IsNoPartner done) Anywhere (has_ended team.locals.items) (processors code) team.ended marked.ended none;
-      resting = tells_fewer (IsNoPartner done) Anywhere (is_at_rest code team) (processors code) team.resting marked.resting none;
-    }
+pub look_rests : (code : Tables) (team new : Processors) (p : ℕ) (rests : Bool) → HaveMarks code team
+    → rests ≡ is_at_rest code team p → new ≡ looked_as rests team p → rests ≡ true → HaveMarks code new
+look_rests code team new p rests marks told is on =
+    subst (HaveMarks code) (sym (is ∙ ap (λ b. looked_as b team p) on)) (marked_states code team p marks (sym told ∙ on))
+
+-- ---- a search for one that doesn't rest, from the last one down
+-- what is so behind k looks
+pub record HaveSought (code : Tables) (team : Processors) (k : ℕ) : Type 0 where
+  pub marks : HaveMarks code team
+  pub marked : (q : ℕ) → q < processors code → processors code ≤ q + k → get_or team.resting q false ≡ true
+
+pub sought_none : (code : Tables) (team : Processors) → HaveMarks code team → HaveSought code team 0
+sought_none code team marks = record { marks = marks; marked = λ q below past. absurd (omega arith) }
+
+pub sought_more : (code : Tables) (team : Processors) (k p : ℕ) → HaveSought code team k → p < processors code → p + k + 1 ≡ processors code
+    → is_at_rest code team p ≡ true → HaveSought code (looked_as true team p) (k + 1)
+sought_more code team k p sought here at rests = record {
+  marks = marked_states code team p sought.marks rests;
+  marked = λ q below past.
+      mark_set team.resting p (subst (λ n. p < n) (sym sought.marks.resting.many) here) q
+      (λ apart. sought.marked q below (omega arith));
+}
+
+pub look_more : (code : Tables) (team new : Processors) (k p : ℕ) (rests : Bool) → HaveSought code team k → p < processors code
+    → p + k + 1 ≡ processors code → rests ≡ is_at_rest code team p → new ≡ looked_as rests team p → rests ≡ true → HaveSought code new (k + 1)
+look_more code team new k p rests sought here at told is on =
+    subst (λ (t : Processors). HaveSought code t (k + 1)) (sym (is ∙ ap (λ b. looked_as b team p) on))
+    (sought_more code team k p sought here at (sym told ∙ on))
+
+pub sought_all : (code : Tables) (team : Processors) (k : ℕ) → HaveSought code team k → processors code ≤ k → AreProcessors code team
+sought_all code team k sought past = record {
+  marks = sought.marks;
+  watched = inl (marks_all team.resting (processors code) sought.marks.resting.many (λ q below. sought.marked q below (omega arith)));
+}
+
+-- ---- behind a move
+pub settled_marks : (code : Tables) (team : Processors) (p : ℕ) (done : Traffic) → AreUnsettled code team p done → p < processors code
+    → IsAmong (processors code) done
+    → HaveMarks code (record team {
+      ended = set team.ended p (has_ended team.locals.items p);
+      resting = unmarked done team.resting;
+    })
+settled_marks code team p done is here among = record {
+  states = record { many = is.states.many; ready = is.states.ready; links = is.states.links };
+  ended = tells_set (λ q. q ≢ p) Anywhere (has_ended team.locals.items) (processors code) team.ended p is.ended here
+      (λ q below known apart. apart);
+  resting = record {
+    many = length-unmarked done team.resting ∙ is.resting.many;
+    each = λ q below known mark.
+        let left = unmarked_left done team.resting q (subst (λ n. IsAmong n done) (sym is.resting.many) among) mark in
+        is.resting.each q below left.0 left.1;
+  };
+}
+
+pub settled_awake : (code : Tables) (team : Processors) (p : ℕ) (done : Traffic) → AreUnsettled code team p done → p < processors code
+    → IsAmong (processors code) done → team.awake ≢ p
+    → AreProcessors code (record team {
+      ended = set team.ended p (has_ended team.locals.items p);
+      resting = unmarked done team.resting;
+    })
+settled_awake code team p done is here among apart = record {
+  marks = settled_marks code team p done is here among;
+  watched = inr (record { there = (is.awake apart).there; awake = (is.awake apart).awake });
+}
 
 -- ---- the same processors
-abbrev rests_at : Tables → List Workplace → Network → ℕ → Turn
-rests_at code ws links q = run.next_turn (system_over code links.capacity) (record { locals = map state_of ws; links = links.links }) q
+pub turn_same : (code : Tables) (old new : Processors) (q : ℕ) → AreSame old new → turn_of code new q ≡ turn_of code old q
+turn_same code old new q same =
+    ap (λ ws. run.next_turn (system_over code new.links.capacity) (record { locals = map state_of ws; links = new.links.links }) q) same.locals
+    ∙ ap (λ (n : Network). run.next_turn (system_over code n.capacity) (record { locals = map state_of old.locals.items; links = n.links }) q) same.links
 
-pub same_processors : (code : Tables) (old new : Processors) → AreSame old new → AreProcessors code old → AreProcessors code new
-same_processors code old new same are = record {
-  states = record {
-    many = ap length same.locals ∙ are.states.many;
-    ready = λ q w found. are.states.ready q w (sym (ap (λ ws. slice_get ws q) same.locals) ∙ found);
-    links = ap (λ (n : Network). n.count) same.links ∙ are.states.links;
+pub same_processors : (code : Tables) (old new : Processors) → AreSame old new → new.ended ≡ old.ended → new.resting ≡ old.resting
+    → new.awake ≡ old.awake → AreProcessors code old → AreProcessors code new
+same_processors code old new same ended resting awake are = record {
+  marks = record {
+    states = record {
+      many = ap length same.locals ∙ are.marks.states.many;
+      ready = λ q w found. are.marks.states.ready q w (sym (ap (λ ws. slice_get ws q) same.locals) ∙ found);
+      links = ap (λ (n : Network). n.count) same.links ∙ are.marks.states.links;
+    };
+    ended = record {
+      many = ap length ended ∙ are.marks.ended.many;
+      each = λ q below known.
+          ap (λ marks. get_or marks q false) ended
+          ∙ (are.marks.ended.each q below known ∙ ap (λ ws. has_ended ws q) (sym same.locals));
+    };
+    resting = record {
+      many = ap length resting ∙ are.marks.resting.many;
+      each = λ q below known mark.
+          ap is_resting (turn_same code old new q same)
+          ∙ are.marks.resting.each q below known (sym (ap (λ marks. get_or marks q false) resting) ∙ mark);
+    };
   };
-  marked = record {
-    ended = subst (λ ws. TellsWhere Anywhere (has_ended ws) (processors code) new.ended) (sym same.locals)
-        (subst (TellsWhere Anywhere (has_ended old.locals.items) (processors code)) (sym same.ended) are.marked.ended);
-    resting = subst (λ ws. TellsWhere Anywhere (λ q. is_resting (rests_at code ws new.links q)) (processors code) new.resting) (sym same.locals)
-        (subst (λ ls. TellsWhere Anywhere (λ q. is_resting (rests_at code old.locals.items ls q)) (processors code) new.resting) (sym same.links)
-        (subst (TellsWhere Anywhere (is_at_rest code old) (processors code)) (sym same.resting) are.marked.resting));
-  };
+  watched = by are.watched;
 }
+  where
+    by : AreWatched code old → AreWatched code new
+    by (inl all) = inl (subst (All (λ mark. mark ≡ true)) (sym resting) all)
+    by (inr watched) =
+        inr (subst (IsAwake code new) (sym awake)
+        (record { there = watched.there; awake = ap is_resting (turn_same code old new old.awake same) ∙ watched.awake }))

@@ -1,9 +1,10 @@
 -- Turns of processors in memory.
-use Rattle.std.proofs.Common.{◌≡◌, ℕ, zero, suc, ◌<◌, Bool, List, [], ◌++◌, map, set, get_or, Option, Some, None, refl, sym, ◌∙◌, ap, subst, append-nil}
+use Rattle.std.proofs.Common.{◌≡◌, ◌⊎◌, inl, inr, ℕ, zero, suc, ◌<◌, ◌≤◌, Bool, true, false, List, [], ◌++◌, length, map, set, get_or, Option, Some, None, refl, sym, ◌∙◌, ap, subst, append-nil, arith}
 use Rattle.std.specs.Prelude.{Result, Ok, Err, OnErr, is_some, slice_get}
 use Rattle.std.specs.Option.{option_and_then}
 use Rattle.std.specs.Vec.{with_item}
 use Rattle.std.proofs.lemmas.List.{set-get_or}
+use Rattle.std.proofs.lemmas.Option.{slice_get_cases}
 use Rattle.zpl_io.specs.Sink.{Takes}
 use Rattle.grid_links.specs.declared.messages.Message.{Message}
 use Rattle.grid_links.specs.Machine.{Move, Waiting, Over, Stuck}
@@ -24,49 +25,61 @@ use Rattle.grid_sim.specs.declared.counts.Counts.{Counts}
 use Rattle.grid_sim.specs.declared.processors.Processors.{Processors}
 use Rattle.grid_sim.specs.Counting.{with_traffic}
 use Rattle.grid_sim.specs.Inside.{simulation_in}
-use Rattle.grid_sim.specs.Processors.{AreMarkedWhere, AreProcessors, AreSame, HaveMoved, HaveMovedOn, HavePrinted, HaveStates, HaveTurned, IsOther, PrintsNext, has_ended, is_at_rest, looked, partner, state_of, turn_of}
+use Rattle.grid_sim.specs.Processors.{AreLeft, AreProcessors, AreSame, HaveMoved, HaveMovedOn, HavePrinted, HaveStates, HaveTurned, PrintsNext, has_ended, is_at_rest, rested, state_of, turn_of, unmarked}
 use Rattle.grid_sim.specs.Simulation.{IsGiven, IsTold, Simulation, printed_next, turn_given}
 use Rattle.grid_sim.specs.Simulation as sim
 use Rattle.grid_sim.specs.Telling.{told_of}
 use Rattle.grid_sim.proofs.GivenLemmas.{moved_is, same_simulation, told_moved}
-use Rattle.grid_sim.proofs.TeamLemmas.{HaveChanged, changed_moved, looked_first, looked_second, looked_states, nothing_left, rest_is, turn_is}
+use Rattle.grid_sim.proofs.RestLemmas.{rest_turn, turn_at_rest}
+use Rattle.grid_sim.proofs.TeamLemmas.{HaveChanged, changed_moved, changed_unsettled, marked_processors, same_processors, traffic_among, turn_is, turn_same}
 
 -- ---- answers
 pub on_err : {V E : Type 0} {P : Type 0} (answer : Result V E) → P → OnErr answer P
 on_err (Ok value) fact = tt
 on_err (Err fault) fact = fact
 
--- ---- looks
-pub look_made : (code : Tables) (team : Processors) (p : ℕ) (w : Workplace) (ended resting : List Bool) (has rests : Bool)
-    → slice_get team.locals.items p ≡ Some w → team.links.count ≡ processors code
-    → ended ≡ set team.ended p has → has ≡ is_some w.local.ended
-    → resting ≡ set team.resting p rests → rests ≡ is_resting (turn_over code p w.local team.links)
-    → ◌≡◌ {A = Processors} (record team { ended = ended; resting = resting }) (looked code team p)
-look_made code team p w ended resting has rests there count e h r t =
-    let has_is : has ≡ has_ended team.locals.items p = h ∙ ended_is (slice_get team.locals.items p) there in
-    let rests_is : rests ≡ is_at_rest code team p = rest_is code team p w rests there count t in
-    rw (e, has_is, r, rests_is) refl
+-- ---- a processor at rest
+-- whether a processor has ended, by its state
+pub ended_is : (workplaces : List Workplace) (p : ℕ) (w : Workplace) → slice_get workplaces p ≡ Some w → is_some w.local.ended ≡ has_ended workplaces p
+ended_is workplaces p w there = ap (λ o. is_some (option_and_then (λ (v : Workplace). v.local.ended) o)) (sym there)
+
+pub rested_turn : (code : Tables) (team : Processors) (p : ℕ) → AreProcessors code team → p < processors code
+    → get_or team.resting p false ≡ true → HaveTurned code team team p (rested (get_or team.ended p false))
+rested_turn code team p are here mark = by (slice_get_cases team.locals.items p).1
   where
-    ended_is : (o : Option Workplace) → o ≡ Some w → is_some w.local.ended ≡ is_some (option_and_then (λ (v : Workplace). v.local.ended) o)
-    ended_is o same = ap (λ q. is_some (option_and_then (λ (v : Workplace). v.local.ended) q)) (sym same)
+    same : AreSame team team
+    same = record { locals = refl; links = refl }
 
-pub settled_quiet : (code : Tables) (old new : Processors) (p : ℕ) (done : Traffic) → partner done ≡ None → HaveStates code old
-    → AreMarkedWhere (IsOther p done) code old → p < processors code → new ≡ looked code old p → AreProcessors code new
-settled_quiet code old new p done none states marked here is =
-    subst (AreProcessors code) (sym is) (record {
-      states = looked_states code old p states;
-      marked = nothing_left code (looked code old p) done none (looked_first code old p done marked here);
-    })
+    told : (ended : Bool) → turn_of code team p ≡ turn_at_rest ended → HaveTurned code team team p (rested ended)
+    told true is = (is, same)
+    told false is = (is, same)
 
-pub settled_both : (code : Tables) (old mid new : Processors) (p other : ℕ) (done : Traffic) → partner done ≡ Some other → HaveStates code old
-    → AreMarkedWhere (IsOther p done) code old → p < processors code → other < processors code
-    → mid ≡ looked code old p → new ≡ looked code mid other → AreProcessors code new
-settled_both code old mid new p other done some states marked here there first second =
-    let new_is : new ≡ looked code (looked code old p) other = second ∙ ap (λ team. looked code team other) first in
-    subst (AreProcessors code) (sym new_is) (record {
-      states = looked_states code (looked code old p) other (looked_states code old p states);
-      marked = looked_second code (looked code old p) other done some (looked_first code old p done marked here) there;
-    })
+    by : ((w : Workplace) × (p < length team.locals.items) × (slice_get team.locals.items p ≡ Some w) × (get_or team.locals.items p w ≡ w))
+        ⊎ ((length team.locals.items ≤ p) × (slice_get team.locals.items p ≡ None)) → HaveTurned code team team p (rested (get_or team.ended p false))
+    by (inl (w, inside, there, item)) =
+        let turn = turn_is code team p w there are.marks.states.links in
+        let rests = are.marks.resting.each p here tt mark in
+        let ended : is_some w.local.ended ≡ get_or team.ended p false =
+        ended_is team.locals.items p w there ∙ sym (are.marks.ended.each p here tt) in
+        told (get_or team.ended p false)
+        (turn ∙ (rest_turn code p w.local team.links here (ap is_resting (sym turn) ∙ rests) ∙ ap turn_at_rest ended))
+    by (inr (past, none)) = absurd (omega (arith, are.marks.states.many))
+
+-- ---- marks behind a turn
+-- the marks behind a move, as they are made
+pub settled_is : (team new : Processors) (p : ℕ) (done : Traffic) (w : Workplace) (ended : List Bool) (has : Bool)
+    → slice_get team.locals.items p ≡ Some w → has ≡ is_some w.local.ended → ended ≡ set team.ended p has
+    → new ≡ record team { ended = ended; resting = unmarked done team.resting }
+    → new ≡ record team { ended = set team.ended p (has_ended team.locals.items p); resting = unmarked done team.resting }
+settled_is team new p done w ended has there told marked is =
+    is
+    ∙ ap (λ marks. record team { ended = marks; resting = unmarked done team.resting })
+    (marked ∙ ap (set team.ended p) (told ∙ ended_is team.locals.items p w there))
+
+pub rests_marked : (code : Tables) (team : Processors) (p : ℕ) (resting : List Bool) → AreProcessors code team → is_at_rest code team p ≡ true
+    → resting ≡ set team.resting p true → AreProcessors code (record team { resting = resting })
+rests_marked code team p resting are rests is =
+    subst (λ marks. AreProcessors code (record team { resting = marks })) (sym is) (marked_processors code team p are rests)
 
 -- ---- moves
 -- with another state of a processor, and other links
@@ -76,6 +89,7 @@ with_state team p workplace links = record {
   links = links;
   ended = team.ended;
   resting = team.resting;
+  awake = team.awake;
 }
 
 pub same_item : {X : Type 0} (xs : List X) (i : ℕ) (x y : X) → x ≡ get_or xs i x → y ≡ x → set xs i y ≡ xs
@@ -83,7 +97,7 @@ same_item xs i x y is same = ap (set xs i) (same ∙ is) ∙ set-get_or xs i x
 
 module _ (code : Tables) (old new : Processors) (p : ℕ) (w after : Workplace) (states : HaveStates code old) (here : p < processors code)
     (there : slice_get old.locals.items p ≡ Some w) (locals : new.locals.items ≡ set old.locals.items p after)
-    (ended : new.ended ≡ old.ended) (resting : new.resting ≡ old.resting) where
+    (ended : new.ended ≡ old.ended) (resting : new.resting ≡ old.resting) (awake : new.awake ≡ old.awake) where
   pub made_changed : (done : Traffic) (m : IsMade code p (turn_over code p w.local old.links) done w after old.links new.links)
       → HaveChanged code old new p after m.move
   made_changed done m = record {
@@ -95,6 +109,7 @@ module _ (code : Tables) (old new : Processors) (p : ℕ) (w after : Workplace) 
     links = m.links;
     ended = ended;
     resting = resting;
+    awake = awake;
   }
 
   pub made_moved : (done : Traffic) → IsMade code p (turn_over code p w.local old.links) done w after old.links new.links
@@ -118,6 +133,7 @@ module _ (code : Tables) (old new : Processors) (p : ℕ) (w after : Workplace) 
     links = links;
     ended = ended;
     resting = resting;
+    awake = awake;
   }
 
   -- no move was made
@@ -125,8 +141,6 @@ module _ (code : Tables) (old new : Processors) (p : ℕ) (w after : Workplace) 
   answered_same turn answer item a = record {
     locals = locals ∙ same_item old.locals.items p w after item a.state;
     links = a.links;
-    ended = ended;
-    resting = resting;
   }
 
   turn_was : turn_of code old p ≡ turn_over code p w.local old.links
@@ -155,22 +169,42 @@ module _ (code : Tables) (old new : Processors) (p : ℕ) (w after : Workplace) 
   turned_on step.Over item h = (turn_was ∙ h.turn_is, answered_same (turn_over code p w.local old.links) Over item h)
   turned_on (step.Stuck kind) item h = stuck_as (kind_told kind) item h
 
--- a turn that made no move leaves the processors as they were
-pub turned_same : (code : Tables) (old new : Processors) (p : ℕ) (answer : Step) → ((done : Traffic) → answer ≡ step.Moved done → ⊥)
-    → HaveTurned code old new p answer → AreSame old new
-turned_same code old new p (step.Moved done) other h = absurd (other done refl)
-turned_same code old new p (step.Prints bytes) other h = h.1
-turned_same code old new p step.Waiting other h = h.1
-turned_same code old new p step.Over other h = h.1
-turned_same code old new p (step.Stuck kind) other h = h.1
+  -- what is left behind it
+  same_left : AreSame old new → AreProcessors code old → AreProcessors code new
+  same_left same are = same_processors code old new same ended resting awake are
+
+  rests_left : (answer : Turn) → is_resting answer ≡ true → w ≡ get_or old.locals.items p w
+      → IsAnswered (turn_over code p w.local old.links) answer w after old.links new.links
+      → AreProcessors code old → AreProcessors code new × (is_at_rest code new p ≡ true)
+  rests_left answer rests item h are =
+      let same = answered_same (turn_over code p w.local old.links) answer item h in (
+        same_left same are,
+        ap is_resting (turn_same code old new p same ∙ (turn_was ∙ h.turn_is)) ∙ rests,
+      )
+
+  stuck_left : (told : Option Kind) → w ≡ get_or old.locals.items p w
+      → IsStuckAs told (turn_over code p w.local old.links) w after old.links new.links
+      → AreProcessors code old → AreProcessors code new
+  stuck_left None item h are = absurd h
+  stuck_left (Some kind) item h are =
+      same_left (answered_same (turn_over code p w.local old.links) (Stuck kind) item h) are
+
+  pub turn_left : (answer : Step) → w ≡ get_or old.locals.items p w
+      → IsTurn code p w after old.links new.links (turn_over code p w.local old.links) answer
+      → AreProcessors code old → AreLeft code new p answer
+  turn_left (step.Moved done) item h are =
+      (changed_unsettled code old new p after h.move states (made_changed done h) done h.told are, traffic_among (processors code) done h.move h.told)
+  turn_left (step.Prints bytes) item h are =
+      same_left (answered_same (turn_over code p w.local old.links) (printing w.local bytes) item h.1) are
+  turn_left step.Waiting item h are = rests_left Waiting refl item h are
+  turn_left step.Over item h are = rests_left Over refl item h are
+  turn_left (step.Stuck kind) item h are = stuck_left (kind_told kind) item h are
 
 pub kept_same : (old : Processors) (p : ℕ) (w after : Workplace) (links : Network) → w ≡ get_or old.locals.items p w → after ≡ w → links ≡ old.links
     → AreSame old (with_state old p after links)
 kept_same old p w after links item same kept = record {
   locals = same_item old.locals.items p w after item same;
   links = kept;
-  ended = refl;
-  resting = refl;
 }
 
 -- the same move, whatever the marks are
@@ -188,6 +222,18 @@ moved_marks code old mid new p done locals links m = record {
   told = m.told;
 }
 
+same_on : (old mid new : Processors) → AreSame old mid → new.locals.items ≡ mid.locals.items → new.links ≡ mid.links → AreSame old new
+same_on old mid new same locals links = record { locals = locals ∙ same.locals; links = links ∙ same.links }
+
+-- and the same answer
+pub turned_marks : (code : Tables) (old mid new : Processors) (p : ℕ) (answer : Step) → new.locals.items ≡ mid.locals.items → new.links ≡ mid.links
+    → HaveTurned code old mid p answer → HaveTurned code old new p answer
+turned_marks code old mid new p (step.Moved done) locals links h = moved_marks code old mid new p done locals links h
+turned_marks code old mid new p (step.Prints bytes) locals links h = (h.0, same_on old mid new h.1 locals links)
+turned_marks code old mid new p step.Waiting locals links h = (h.0, same_on old mid new h.1 locals links)
+turned_marks code old mid new p step.Over locals links h = (h.0, same_on old mid new h.1 locals links)
+turned_marks code old mid new p (step.Stuck kind) locals links h = (h.0, same_on old mid new h.1 locals links)
+
 -- ---- prints
 -- the move that prints, made of the state that stands at its place
 pub print_changed : (code : Tables) (old : Processors) (p : ℕ) (w after : Workplace) (bytes : List ℕ) → HaveStates code old → p < processors code
@@ -197,7 +243,7 @@ print_changed code old p w after bytes states here there next made ready =
     let both : Some next.workplace ≡ Some w = sym next.there ∙ there in
     let same : next.workplace ≡ w = cc in
     let turn : turn_of code old p ≡ printing w.local bytes = next.turn ∙ ap (λ (v : Workplace). printing v.local bytes) same in
-    printed_changed code old (with_state old p after old.links) p w after states here there refl refl refl bytes turn made ready refl
+    printed_changed code old (with_state old p after old.links) p w after states here there refl refl refl refl bytes turn made ready refl
 
 pub print_next : (code : Tables) (old : Processors) (p : ℕ) (w : Workplace) (bytes : List ℕ) → slice_get old.locals.items p ≡ Some w
     → PrintsNext code old p bytes → IsPrinting code p bytes w.local

@@ -1,13 +1,15 @@
--- The processors in memory: their states, what is on their links, and which of them have ended and
--- rest.
+-- The processors in memory: their states, what is on their links, which of them have ended, and which
+-- are known to rest.
 --
 --   world_of       the world that they stand for
 --   turn_of        the next turn of a processor
 --   has_ended, is_at_rest   what the marks tell
 --   HaveStates     the states are those of the code's processors, and may be
---   AreMarkedWhere, AreProcessors   and the marks are right, at some or at all
+--   HaveMarks      and the marks are right
+--   AreProcessors  and it is known of one that it doesn't rest, if not all are marked
+--   AreUnsettled, AreLeft   what is so behind a move, and behind a turn
 --   HaveTurned     what a turn made of them, by its answer
-use Rattle.std.specs.Prelude.{◌≡◌, ◌≢◌, ℕ, ◌<◌, Bool, List, [], length, map, Option, Some, None, is_some, slice_get, slice_set, ⊤}
+use Rattle.std.specs.Prelude.{◌≡◌, ◌≢◌, ◌⊎◌, ℕ, ◌<◌, All, Bool, true, false, List, [], length, map, Option, Some, None, is_some, slice_get, slice_index_or, slice_set, ⊤}
 use Rattle.std.specs.Option.{IfSome, option_and_then}
 use Rattle.grid_links.specs.declared.messages.Message.{Message}
 use Rattle.grid_links.specs.Machine.{Move, Moves, Waiting, Over}
@@ -57,16 +59,37 @@ pub record HaveStates (code : Tables) (team : Processors) : Type 0 where
   pub ready : AllReady code team.locals.items
   pub links : team.links.count ≡ processors code
 
-pub record AreMarkedWhere (Known : ℕ → Type 0) (code : Tables) (team : Processors) : Type 0 where
-  pub ended : TellsWhere Known (has_ended team.locals.items) (processors code) team.ended
-  pub resting : TellsWhere Known (is_at_rest code team) (processors code) team.resting
-
 abbrev pub Anywhere : ℕ → Type 0
 Anywhere p = ⊤
 
-pub record AreProcessors (code : Tables) (team : Processors) : Type 0 where
+-- of those that are known, the ones that are marked rest
+pub record RestWhere (Known : ℕ → Type 0) (code : Tables) (team : Processors) : Type 0 where
+  pub many : length team.resting ≡ processors code
+  pub each : (p : ℕ) → p < processors code → Known p → slice_index_or team.resting p false ≡ true
+      → is_at_rest code team p ≡ true
+
+pub record HaveMarks (code : Tables) (team : Processors) : Type 0 where
   pub states : HaveStates code team
-  pub marked : AreMarkedWhere Anywhere code team
+  pub ended : TellsWhere Anywhere (has_ended team.locals.items) (processors code) team.ended
+  pub resting : RestWhere Anywhere code team
+
+-- a processor that doesn't rest
+pub record IsAwake (code : Tables) (team : Processors) (p : ℕ) : Type 0 where
+  pub there : p < processors code
+  pub awake : is_at_rest code team p ≡ false
+
+-- all are marked, or it is known of one that it doesn't rest
+abbrev pub AreWatched : Tables → Processors → Type 0
+AreWatched code team = All (λ mark. mark ≡ true) team.resting ⊎ IsAwake code team team.awake
+
+pub record AreProcessors (code : Tables) (team : Processors) : Type 0 where
+  pub marks : HaveMarks code team
+  pub watched : AreWatched code team
+
+-- after a look at a processor, by whether it rests
+abbrev pub looked_as : Bool → Processors → ℕ → Processors
+looked_as true team p = record team { resting = slice_set team.resting p true }
+looked_as false team p = record team { awake = p }
 
 -- ---- turns
 -- at the other end of a message that was sent or taken
@@ -79,22 +102,38 @@ partner (traffic.Took from) = Some from
 abbrev pub IsAmong : ℕ → Traffic → Type 0
 IsAmong count traffic = IfSome (partner traffic) (λ other. other < count)
 
--- what a move may have changed: marks of others than the processor and its partner are still right
-abbrev pub IsOther : ℕ → Traffic → ℕ → Type 0
-IsOther p traffic q = (q ≢ p) × (partner traffic ≢ Some q)
+-- the marks of rest without that of the partner
+abbrev pub unmarked : Traffic → List Bool → List Bool
+unmarked traffic.Quiet marks = marks
+unmarked (traffic.Sent to words) marks = slice_set marks to false
+unmarked (traffic.Took from) marks = slice_set marks from false
 
--- after a look at a processor
-abbrev pub looked : Tables → Processors → ℕ → Processors
-looked code team p = record team {
-  ended = slice_set team.ended p (has_ended team.locals.items p);
-  resting = slice_set team.resting p (is_at_rest code team p);
-}
+-- After a move of p: whether it has ended isn't marked yet, its partner may rest no more, and it may
+-- rest where it is the one that didn't.
+pub record AreUnsettled (code : Tables) (team : Processors) (p : ℕ) (traffic : Traffic) : Type 0 where
+  pub states : HaveStates code team
+  pub ended : TellsWhere (λ q. q ≢ p) (has_ended team.locals.items) (processors code) team.ended
+  pub resting : RestWhere (λ q. partner traffic ≢ Some q) code team
+  pub awake : team.awake ≢ p → IsAwake code team team.awake
 
+-- after a turn of p, by what it came to
+abbrev pub AreLeft : Tables → Processors → ℕ → Step → Type 0
+AreLeft code team p (step.Moved traffic) =
+    AreUnsettled code team p traffic × IsAmong (processors code) traffic
+AreLeft code team p (step.Prints bytes) = AreProcessors code team
+AreLeft code team p step.Waiting = AreProcessors code team × (is_at_rest code team p ≡ true)
+AreLeft code team p step.Over = AreProcessors code team × (is_at_rest code team p ≡ true)
+AreLeft code team p (step.Stuck kind) = AreProcessors code team
+
+-- the answer of a processor that rests, by whether it has ended
+abbrev pub rested : Bool → Step
+rested true = step.Over
+rested false = step.Waiting
+
+-- the same states, and the same messages on links
 pub record AreSame (old new : Processors) : Type 0 where
   pub locals : new.locals.items ≡ old.locals.items
   pub links : new.links ≡ old.links
-  pub ended : new.ended ≡ old.ended
-  pub resting : new.resting ≡ old.resting
 
 -- a move was made
 pub record HaveMoved (code : Tables) (old new : Processors) (p : ℕ) (move : Move Local Message)

@@ -3,6 +3,7 @@
 
 mod counts;
 mod faults;
+mod looks;
 mod marks;
 mod processors;
 mod readers;

@@ -1,6 +1,6 @@
 //! Marks of processors.
 ghost use Rattle.std.specs.Prelude.{◌≡◌, ◌<◌, ◌↔◌, All, IfOk, IfSome, IsNone, IsTrue, false, true};
-ghost use Rattle.std.specs.Prelude.{length, replicate, slice_set};
+ghost use Rattle.std.specs.Prelude.{length, replicate, slice_index_or, slice_set};
 ghost use Rattle.grid_sim.specs.Marks.{IsFirstUnmarked};
 
 use std::alloc::{AllocError, Global};
@@ -45,13 +45,23 @@ impl Marks {
         ensures { self.new ≡ slice_set self.old p mark }
     {
         let p = p as usize;
-        if !self.marks[p] {
-            self.unmarked -= 1;
-        }
-        if !mark {
-            self.unmarked += 1;
+        if self.marks[p] == mark {
+            return;
         }
         self.marks[p] = mark;
+        if mark {
+            self.unmarked -= 1;
+        } else {
+            self.unmarked += 1;
+        }
+    }
+
+    /// Whether a processor is marked.
+    pub(crate) fn has(&self, p: u32) -> bool
+        requires { p < length self.now }
+        ensures { result ≡ slice_index_or self.now p false }
+    {
+        self.marks[p as usize]
     }
 
     /// Whether all are marked.

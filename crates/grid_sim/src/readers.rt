@@ -5,7 +5,7 @@ ghost use Rattle.grid_links.specs.Network.{Network};
 ghost use Rattle.grid_meaning.specs.Grid.{EndsAs, IsIdle, IsOver};
 ghost use Rattle.grid_meaning.specs.Local.{processors};
 ghost use Rattle.node_local.specs.Workplace.{IsReady};
-ghost use Rattle.grid_runs.specs.Run.{IsFirstRunning};
+ghost use Rattle.grid_runs.specs.Run.{IsFirstRunning, IsStopped};
 ghost use Rattle.grid_sim.specs.Simulation.{counts_of, links_of};
 
 use crate::counts::Counts;
@@ -28,6 +28,14 @@ impl Sim {
         ensures { IsTrue result ↔ IsIdle self.now.code self.now.capacity self.now.grid }
     {
         self.team.resting.all() && !self.team.ended.all()
+    }
+
+    /// Whether it is neither over nor idle, if that shows at a glance: a processor isn't marked as
+    /// resting.
+    pub(crate) fn is_going(&self) -> bool
+        ensures { IsTrue result → IsStopped self.now.code self.now.capacity self.now.grid → ⊥ }
+    {
+        !self.team.resting.all()
     }
 
     /// How processor 0 ended, where all have.

@@ -60,6 +60,9 @@ impl Sim {
     fn stop(&self) -> Option<Result<End, SimFault>>
         ensures { IsStop self.now.code self.now.capacity self.now.grid result }
     {
+        if self.is_going() {
+            return None;
+        }
         if let Some(ending) = self.ending() {
             return Some(Ok(ending));
         }

@@ -58,10 +58,9 @@ impl Processors {
             links,
             ended,
             resting,
+            awake: 0,
         };
-        for p in 0..count {
-            team.look(code, layout, p);
-        }
+        team.seek(code, layout);
         Ok(team)
     }
 }

@@ -1,19 +1,33 @@
-use Rattle.std.proofs.Common.{◌<◌, ap, sym, ◌∙◌, subst, length}
-use Rattle.std.specs.Prelude.{is_some}
-use Rattle.grid_sim.proofs.TeamLemmas.{item_there}
-use Rattle.grid_sim.proofs.TurnLemmas.{look_made}
+use Rattle.std.proofs.Common.{◌≡◌, ◌<◌, true, false, ap, sym, subst, ◌∙◌, length, get_or}
+use Rattle.grid_sim.specs.Processors.{is_at_rest, looked_as}
+use Rattle.grid_sim.proofs.TeamLemmas.{item_there, marked_before, rest_is}
 use Rattle.grid_sim.proofs.processors.Processors.look.Goals as goal
 
-pub rests-at_rest-requires-clause-ready : goal.rests-at_rest-requires-clause-ready
-rests-at_rest-requires-clause-ready c =
-    let items = c.args.self.now.locals.items in
-    let inside : c.args.p < length items = subst (λ n. c.args.p < n) (sym c.requires.states.many) c.requires.processor in
-    c.requires.states.ready c.args.p c.index-local.result.now (item_there items c.args.p c.index-local.result.now c.index-local.ensures inside)
+pub returns-then-has-clause-rest : goal.returns-then-has-clause-rest
+returns-then-has-clause-rest c =
+    sym (c.requires.marks.resting.each c.args.p c.requires.processor tt (sym c.has.ensures ∙ c.if-has.true))
 
-pub returns : goal.returns
-returns c =
+pub returns-then-has-clause-looked : goal.returns-then-has-clause-looked
+returns-then-has-clause-looked c = marked_before c.args.self.now c.args.p (sym c.has.ensures ∙ c.if-has.true)
+
+pub rests-requires-clause-ready : goal.rests-requires-clause-ready
+rests-requires-clause-ready c =
     let items = c.args.self.now.locals.items in
-    let inside : c.args.p < length items = subst (λ n. c.args.p < n) (sym c.requires.states.many) c.requires.processor in
-    look_made c.args.code.now c.args.self.now c.args.p c.index-local.result.now c.set.new.self c.set-2.new.self c.is_some-ended.result
-    c.rests-at_rest.result (item_there items c.args.p c.index-local.result.now c.index-local.ensures inside) c.requires.states.links
-    c.set.ensures (c.is_some-ended.ensures ∙ ap is_some c.ending.ensures) c.set-2.ensures c.rests-at_rest.ensures
+    let inside : c.args.p < length items = subst (λ n. c.args.p < n) (sym c.requires.marks.states.many) c.requires.processor in
+    c.requires.marks.states.ready c.args.p c.index.result.now (item_there items c.args.p c.index.result.now c.index.ensures inside)
+
+pub returns-then-not-rests-clause-rest : goal.returns-then-not-rests-clause-rest
+returns-then-not-rests-clause-rest c =
+    let items = c.args.self.now.locals.items in
+    let inside : c.args.p < length items = subst (λ n. c.args.p < n) (sym c.requires.marks.states.many) c.requires.processor in
+    let there = item_there items c.args.p c.index.result.now c.index.ensures inside in
+    sym c.if-not-rests.true
+    ∙ rest_is c.args.code.now c.args.self.now c.args.p c.index.result.now c.rests.result there c.requires.marks.states.links c.rests.ensures
+
+pub returns-clause-rest : goal.returns-clause-rest
+returns-clause-rest c =
+    let items = c.args.self.now.locals.items in
+    let inside : c.args.p < length items = subst (λ n. c.args.p < n) (sym c.requires.marks.states.many) c.requires.processor in
+    let there = item_there items c.args.p c.index.result.now c.index.ensures inside in
+    sym c.if-not-rests.false
+    ∙ rest_is c.args.code.now c.args.self.now c.args.p c.index.result.now c.rests.result there c.requires.marks.states.links c.rests.ensures

@@ -1,51 +1,42 @@
 use Rattle.std.proofs.Common.{◌<◌, sym, subst, length, refl}
 use Rattle.node_turn.specs.declared.steps.Traffic.TheVariants.{Quiet}
-use Rattle.grid_sim.proofs.TeamLemmas.{changed_marked, changed_states, item_there}
+use Rattle.grid_sim.proofs.TeamLemmas.{changed_unsettled, item_there}
 use Rattle.grid_sim.proofs.TurnLemmas.{print_changed, print_moved, print_next, with_state}
 use Rattle.grid_sim.proofs.processors.Processors.print.Goals as goal
 
 pub printed-requires-clause-ready : goal.printed-requires-clause-ready
 printed-requires-clause-ready c =
     let items = c.args.self.now.locals.items in
-    let inside : c.args.p < length items = subst (λ n. c.args.p < n) (sym c.requires.processors.states.many) c.requires.processor in
-    c.requires.processors.states.ready c.args.p c.index_mut.result.now
+    let inside : c.args.p < length items = subst (λ n. c.args.p < n) (sym c.requires.processors.marks.states.many) c.requires.processor in
+    c.requires.processors.marks.states.ready c.args.p c.index_mut.result.now
     (item_there items c.args.p c.index_mut.result.now c.index_mut.ensures.value inside)
 
 pub printed-requires-clause-prints : goal.printed-requires-clause-prints
 printed-requires-clause-prints c =
     let items = c.args.self.now.locals.items in
-    let inside : c.args.p < length items = subst (λ n. c.args.p < n) (sym c.requires.processors.states.many) c.requires.processor in
+    let inside : c.args.p < length items = subst (λ n. c.args.p < n) (sym c.requires.processors.marks.states.many) c.requires.processor in
     let there = item_there items c.args.p c.index_mut.result.now c.index_mut.ensures.value inside in (
       c.requires.prints.0,
       print_next c.args.code.now c.args.self.now c.args.p c.index_mut.result.now c.requires.prints.0 there c.requires.prints.1,
     )
 
-pub settle-requires-clause-states : goal.settle-requires-clause-states
-settle-requires-clause-states c =
-    let items = c.args.self.now.locals.items in
-    let inside : c.args.p < length items = subst (λ n. c.args.p < n) (sym c.requires.processors.states.many) c.requires.processor in
+pub settle-requires-clause-moved : goal.settle-requires-clause-moved
+settle-requires-clause-moved c =
+    let old = c.args.self.now in
+    let items = old.locals.items in
+    let states = c.requires.processors.marks.states in
+    let inside : c.args.p < length items = subst (λ n. c.args.p < n) (sym states.many) c.requires.processor in
     let there = item_there items c.args.p c.index_mut.result.now c.index_mut.ensures.value inside in
-    changed_states c.args.code.now c.args.self.now (with_state c.args.self.now c.args.p c.printed.new.local c.args.self.now.links) c.args.p
-    c.printed.new.local _ c.requires.processors.states
-    (print_changed c.args.code.now c.args.self.now c.args.p c.index_mut.result.now c.printed.new.local c.requires.prints.0
-    c.requires.processors.states c.requires.processor there c.requires.prints.1 c.printed.ensures.made c.printed.ensures.ready)
-
-pub settle-requires-clause-marked : goal.settle-requires-clause-marked
-settle-requires-clause-marked c =
-    let items = c.args.self.now.locals.items in
-    let inside : c.args.p < length items = subst (λ n. c.args.p < n) (sym c.requires.processors.states.many) c.requires.processor in
-    let there = item_there items c.args.p c.index_mut.result.now c.index_mut.ensures.value inside in
-    changed_marked c.args.code.now c.args.self.now (with_state c.args.self.now c.args.p c.printed.new.local c.args.self.now.links) c.args.p
-    c.printed.new.local _ c.requires.processors.states
-    (print_changed c.args.code.now c.args.self.now c.args.p c.index_mut.result.now c.printed.new.local c.requires.prints.0
-    c.requires.processors.states c.requires.processor there c.requires.prints.1 c.printed.ensures.made c.printed.ensures.ready)
-    Quiet (refl, refl) c.requires.processors.marked
+    changed_unsettled c.args.code.now old (with_state old c.args.p c.printed.new.local old.links) c.args.p c.printed.new.local _ states
+    (print_changed c.args.code.now old c.args.p c.index_mut.result.now c.printed.new.local c.requires.prints.0 states c.requires.processor there
+    c.requires.prints.1 c.printed.ensures.made c.printed.ensures.ready)
+    Quiet (refl, refl) c.requires.processors
 
 pub returns-clause-moved : goal.returns-clause-moved
 returns-clause-moved c bytes next =
     let items = c.args.self.now.locals.items in
-    let inside : c.args.p < length items = subst (λ n. c.args.p < n) (sym c.requires.processors.states.many) c.requires.processor in
+    let inside : c.args.p < length items = subst (λ n. c.args.p < n) (sym c.requires.processors.marks.states.many) c.requires.processor in
     let there = item_there items c.args.p c.index_mut.result.now c.index_mut.ensures.value inside in
     print_moved c.args.code.now c.args.self.now c.settle.new.self c.args.p c.index_mut.result.now c.printed.new.local bytes
-    c.requires.processors.states c.requires.processor there next c.printed.ensures.made c.printed.ensures.ready
+    c.requires.processors.marks.states c.requires.processor there next c.printed.ensures.made c.printed.ensures.ready
     c.settle.ensures.locals c.settle.ensures.links

@@ -34,7 +34,7 @@ index-requires c =
     let n : c.count-count.result ≡ processors c.self.inside.code =
     c.count-count.ensures.count
     ∙ (ap processors_of (c.grid.ensures ∙ ap (λ (a : Arrangement). a.grid) c.self.invariant.layout) ∙ sym (processors_alike c.self.inside.code.grid)) in
-    let some : 0 < length team.locals.items = omega (arith, c.self.invariant.team.states.many, n, c.count-count.ensures.some) in
+    let some : 0 < length team.locals.items = omega (arith, c.self.invariant.team.marks.states.many, n, c.count-count.ensures.some) in
     subst (λ k. 0 < k) (sym team.locals.ok.0) some
 
 pub returns-clause-ends : goal.returns-clause-ends
@@ -43,7 +43,7 @@ returns-clause-ends c ending =
     let n : c.count-count.result ≡ processors c.self.inside.code =
     c.count-count.ensures.count
     ∙ (ap processors_of (c.grid.ensures ∙ ap (λ (a : Arrangement). a.grid) c.self.invariant.layout) ∙ sym (processors_alike c.self.inside.code.grid)) in
-    let some : 0 < length team.locals.items = omega (arith, c.self.invariant.team.states.many, n, c.count-count.ensures.some) in
+    let some : 0 < length team.locals.items = omega (arith, c.self.invariant.team.marks.states.many, n, c.count-count.ensures.some) in
     let there = item_there team.locals.items 0 c.index.result.now c.index.ensures some in
     let over = (over_marks c.self.inside.code team c.self.invariant.team).0 (c.all.ensures.0 c.if-not-all.false) in
     subst (λ (s : Simulation). (c.ending.result ≡ Some ending) ↔ EndsAs s.grid ending) c.self.view_is
@@ -56,7 +56,7 @@ returns-clause-told c is_over =
     let n : c.count-count.result ≡ processors c.self.inside.code =
     c.count-count.ensures.count
     ∙ (ap processors_of (c.grid.ensures ∙ ap (λ (a : Arrangement). a.grid) c.self.invariant.layout) ∙ sym (processors_alike c.self.inside.code.grid)) in
-    let some : 0 < length team.locals.items = omega (arith, c.self.invariant.team.states.many, n, c.count-count.ensures.some) in
+    let some : 0 < length team.locals.items = omega (arith, c.self.invariant.team.marks.states.many, n, c.count-count.ensures.some) in
     let there = item_there team.locals.items 0 c.index.result.now c.index.ensures some in
     let over = (over_marks c.self.inside.code team c.self.invariant.team).0 (c.all.ensures.0 c.if-not-all.false) in
     let some_local : 1 ≤ length (map state_of team.locals.items) = omega (arith, length-map team.locals.items state_of, some) in

@@ -17,7 +17,7 @@ returns-in_err-first_unmarked-clause-none c none =
 pub overflow_cast-result : goal.overflow_cast-result
 overflow_cast-result c =
     let first = c.in_ok-first_unmarked.ensures.some in
-    let many = c.self.invariant.team.marked.ended.many in
+    let many = c.self.invariant.team.marks.ended.many in
     let n : c.count-count.result ≡ processors c.self.inside.code =
     c.count-count.ensures.count
     ∙ (ap processors_of (c.grid.ensures ∙ ap (λ (a : Arrangement). a.grid) c.self.invariant.layout) ∙ sym (processors_alike c.self.inside.code.grid)) in

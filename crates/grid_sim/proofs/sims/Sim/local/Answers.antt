@@ -9,6 +9,6 @@ pub returns-clause-ready : goal.returns-clause-ready
 returns-clause-ready c =
     let items = c.self.inside.team.locals.items in
     let here : c.args.p < processors c.self.inside.code = subst (λ (s : Simulation). c.args.p < processors s.code) (sym c.self.view_is) c.requires in
-    let inside : c.args.p < length items = subst (λ n. c.args.p < n) (sym c.self.invariant.team.states.many) here in
+    let inside : c.args.p < length items = subst (λ n. c.args.p < n) (sym c.self.invariant.team.marks.states.many) here in
     subst (λ (s : Simulation). IsReady s.code c.args.p c.index.result.now) c.self.view_is
-    (c.self.invariant.team.states.ready c.args.p c.index.result.now (item_there items c.args.p c.index.result.now c.index.ensures inside))
+    (c.self.invariant.team.marks.states.ready c.args.p c.index.result.now (item_there items c.args.p c.index.result.now c.index.ensures inside))
