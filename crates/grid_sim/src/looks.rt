@@ -82,13 +82,7 @@ impl Processors {
     }
 
     /// Brings the marks up to a move of p.
-    pub(crate) fn settle(
-        &mut self,
-        code: &NodeProgram,
-        layout: &Layout,
-        p: u32,
-        traffic: Traffic,
-    )
+    pub(crate) fn settle(&mut self, code: &NodeProgram, layout: &Layout, p: u32, traffic: Traffic)
         requires layout { layout.now ≡ arrangement_of code.now }
         requires processor { p < processors code.now }
         requires partner { IsAmong (processors code.now) traffic }

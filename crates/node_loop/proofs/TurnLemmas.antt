@@ -1,8 +1,10 @@
 -- What is known of a state that a turn begins with.
-use Rattle.std.proofs.Common.{◌≡◌, ℕ, zero, suc, ◌<◌, ◌≤◌, ◌^◌, List, [], ◌∷◌, length, sym, ap, ◌∙◌, subst, arith}
-use Rattle.std.specs.Prelude.{All, Some, slice_get}
+use Rattle.std.proofs.Common.{◌≡◌, ℕ, zero, suc, ◌<◌, ◌≤◌, ◌^◌, List, [], ◌∷◌, length, refl, sym, ap, ◌∙◌, subst, arith}
+use Rattle.std.specs.Borrow.{Bor}
+use Rattle.std.specs.Prelude.{All, Option, Some, None, slice_get}
 use Rattle.std.specs.List.{AllZip}
-use Rattle.std.proofs.lemmas.Option.{get_or_from_slice_get, slice_get_within}
+use Rattle.std.specs.Slice.{IsItemAt}
+use Rattle.std.proofs.lemmas.Option.{get_or_from_slice_get, slice_get_read, slice_get_within}
 use Rattle.zpl_region.specs.declared.regions.Region.{Region}
 use Rattle.zpl_region.specs.Region.{members}
 use Rattle.zpl_region.proofs.LawLemmas.{length-met}
@@ -22,6 +24,14 @@ all_at P xs i x all found = subst P (get_or_from_slice_get xs i x x found) (all 
 pub group_room : (code : Tables) (p : ℕ) (w : Workplace) (i : ℕ) (all : List _) → IsReady code p w
     → slice_get code.groups i ≡ Some all → length all ≤ w.room
 group_room code p w i all ready found = all_at (λ members. length members ≤ w.room) code.groups i all ready.room.groups found
+
+-- a region that is looked up is the one there
+pub looked_up : (r : Option (Bor Region)) (regions : List Region) (i : ℕ) (found : Bor Region) → IsItemAt regions i r
+    → r ≡ Some found → slice_get regions i ≡ Some found.now
+looked_up None regions i found told is = cc
+looked_up (Some region) regions i found told is =
+    let same : region ≡ found = cc in
+    slice_get_read regions (length regions) i region.now refl told.3.0 told.1 ∙ ap (λ (x : Bor Region). Some x.now) same
 
 slot_of : (ranks : List ℕ) (regions : List Region) (i : ℕ) (region : Region) → AllZip IsSlot ranks regions
     → slice_get regions i ≡ Some region → IsSlot region.rank region

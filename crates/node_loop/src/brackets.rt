@@ -19,10 +19,10 @@ pub(crate) enum Bracket {
 }
 
 /// How the member stands.
-pub(crate) fn bracket_of(member: Member) -> Bracket
-    ensures { result ≡ bracket_of member }
+pub(crate) fn bracket_of(member: &Member) -> Bracket
+    ensures { result ≡ bracket_of member.now }
 {
-    match member {
+    match *member {
         Member::Put { .. } | Member::Cell { .. } | Member::Acc { .. } => Bracket::Plain,
         Member::OpenIf { .. } | Member::OpenWhile { .. } | Member::OpenRepeat { .. } => {
             Bracket::Opens
@@ -34,9 +34,9 @@ pub(crate) fn bracket_of(member: Member) -> Bracket
 
 /// On the way back from a member to the one that encloses it, with so many openings to be passed:
 /// how many there are in front of this member; `None` where it is the one.
-fn back_over(member: Member, depth: usize) -> Option<usize>
+fn back_over(member: &Member, depth: usize) -> Option<usize>
     requires { depth + 1 < 2 ^ 64 }
-    ensures { result ≡ back_over (bracket_of member) depth }
+    ensures { result ≡ back_over (bracket_of member.now) depth }
 {
     match bracket_of(member) {
         Bracket::Plain | Bracket::Otherwise => Some(depth),
@@ -54,7 +54,7 @@ pub(crate) fn innermost(members: &[Member], number: usize) -> u64
     let mut rest = number;
     while rest > 0 {
         rest -= 1;
-        match back_over(members[rest], depth) {
+        match back_over(&members[rest], depth) {
             Some(next) => depth = next,
             None => return rest as u64,
         }
@@ -72,7 +72,7 @@ pub(crate) fn outermost(members: &[Member], number: usize) -> u64
     let mut rest = number;
     while rest > 0 {
         rest -= 1;
-        match back_over(members[rest], depth) {
+        match back_over(&members[rest], depth) {
             Some(next) => depth = next,
             None => outer = rest,
         }

@@ -35,15 +35,15 @@ pub fn loop_turn(
     ensures stuck { StaysWhereStuck result local.old local.new }
 {
     let tables = code.tables();
-    let Some(region) = local.slot(slot) else {
+    let Some(region) = local.slots().get(slot as usize) else {
         return LocalTurn::Undefined;
     };
     let Some(members) = tables.groups.get(u64::from(group)) else {
         return LocalTurn::Undefined;
     };
-    let own = own_tuples(code, layout, &region, p);
-    match nth(&own, local.index()) {
-        Some(index) => turn_at(local, tables, &index, members.as_slice()),
+    let own = own_tuples(code, layout, region, p);
+    match &nth(&own, local.index()) {
+        Some(index) => turn_at(local, tables, index, members.as_slice()),
         None => {
             local.go_on();
             LocalTurn::Moves

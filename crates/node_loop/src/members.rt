@@ -191,13 +191,13 @@ fn until(local: &mut Local, code: &Tables, index: &Vec3, expr: u32) -> Result<Ne
 }
 
 /// Runs a member.
-fn run(local: &mut Local, code: &Tables, index: &Vec3, member: Member) -> Result<Next, NoValue>
+fn run(local: &mut Local, code: &Tables, index: &Vec3, member: &Member) -> Result<Next, NoValue>
     requires room { HasRoom code.now local.old }
     requires log { length local.old.log < local.old.room }
     ensures { IsStep (run_member code.now (access_at index.now) (point_of local.old.local)
-        member) 0 local.old local.new result }
+        member.now) 0 local.old local.new result }
 {
-    match member {
+    match *member {
         Member::Put {
             array,
             expr,
@@ -232,14 +232,14 @@ pub(crate) fn step(
     local: &mut Local,
     code: &Tables,
     index: &Vec3,
-    member: Member,
+    member: &Member,
     mode: Mode,
 ) -> Result<Next, NoValue>
     requires room { HasRoom code.now local.old }
     requires log { length local.old.log < local.old.room }
     requires depth { depth_in mode + 1 < 2 ^ 64 }
     ensures { IsStep (member_step code.now (access_at index.now) (mode_of mode)
-        (point_of local.old.local) member) (depth_in mode + 1) local.old local.new result }
+        (point_of local.old.local) member.now) (depth_in mode + 1) local.old local.new result }
 {
     match mode {
         Mode::Runs => run(local, code, index, member),

@@ -15,9 +15,9 @@ pub(crate) enum Mode {
 }
 
 /// The mode behind a skipped member.
-pub(crate) fn skipped(depth: usize, to_else: bool, member: Member) -> Mode
+pub(crate) fn skipped(depth: usize, to_else: bool, member: &Member) -> Mode
     requires { depth + 1 < 2 ^ 64 }
-    ensures mode { skipped depth to_else member ≡ mode_of result }
+    ensures mode { skipped depth to_else member.now ≡ mode_of result }
     ensures deep { depth_in result ≤ depth + 1 }
 {
     match bracket_of(member) {

@@ -63,7 +63,7 @@ fn run_members(
 {
     let mut mode = Mode::Runs;
     for i in first..members.len() {
-        match step(local, code, index, members[i], mode) {
+        match step(local, code, index, &members[i], mode) {
             Ok(Next::On(next)) => mode = next,
             Ok(Next::Back) => return Ran::Again(innermost(members, i)),
             Err(NoValue::Divides) => return Ran::Divided(outermost(members, i)),
