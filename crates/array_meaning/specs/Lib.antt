@@ -1,2 +1,3 @@
+pub use Rattle.array_statements.specs.declared.faults.MeanFault
 pub mod Means
 pub mod Opened

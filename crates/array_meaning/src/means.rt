@@ -15,14 +15,13 @@ ghost use Rattle.array_statements.specs.declared.faults.MeanFault.TheVariants.{S
 
 use array_frames::{Head, Opening, opening_of};
 use array_places::{Currents, Setup, Things};
-use array_statements::{MeanFault, Run, call};
+use array_statements::{Buffers, MeanFault, Run, call};
 use array_store::Store;
 use bound_tables::{faultless_programs_are_fit, known_of};
 use bumpalo::Bump;
 use meaning_ranks::ranks_agree;
 use rank_types::Typed;
 use routine_walks::Text;
-use scalar_steps::Buffers;
 use std::alloc::Global;
 use text_routines::text_of;
 use zpl_bind::{Bound, Known};

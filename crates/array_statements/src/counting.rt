@@ -1,10 +1,10 @@
 //! How a `for` counts.
 ghost use Rattle.std.specs.Prelude.{◌≡◌, ◌≤ℤ◌, pos};
 ghost use Rattle.zpl_meaning.specs.Outcome.{is_past};
-ghost use Rattle.scalar_steps.specs.Start.{start_in};
+ghost use Rattle.array_steps.specs.Start.{start_in};
 ghost use Rattle.array_statements.specs.Counting.{IsNext};
 
-use scalar_steps::Start;
+use array_steps::Start;
 
 /// Whether a value lies behind the last one.
 pub fn is_past(start: &Start, value: i64) -> bool

@@ -12,6 +12,7 @@ mod runs;
 mod simple;
 mod statements;
 
+pub use array_steps::Buffers;
 pub use faults::MeanFault;
 pub use runs::Run;
 pub use statements::{call, exec};

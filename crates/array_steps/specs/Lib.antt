@@ -1,3 +1,4 @@
+pub use Rattle.scalar_steps.specs.Start
 pub mod Steps
 pub mod Fit
 pub mod Checked

@@ -10,3 +10,4 @@ mod prints;
 pub use assigns::assign_to;
 pub use borders::border_thing;
 pub use prints::print_text;
+pub use scalar_steps::{Buffers, Start, actuals_in, answer_value, head_value, test_value};

@@ -4,8 +4,8 @@ use Rattle.std.proofs.Common.{Result, Ok, Err, refl, sym, ◌∙◌, ap, subst, 
 use Rattle.zpl_io.specs.Sink.{Takes}
 use Rattle.zpl_nums.specs.declared.ends.End.{End}
 use Rattle.zpl_nums.specs.declared.ends.End.TheVariants as ending
-use Rattle.node_turn.specs.declared.steps.StuckKind.{StuckKind}
-use Rattle.node_turn.specs.declared.steps.StuckKind.TheVariants as kind
+use Rattle.grid_sim.specs.StuckKind.{StuckKind}
+use Rattle.grid_sim.specs.StuckKind.TheVariants as kind
 use Rattle.grid_meaning.specs.Action.{WrongTag, WrongLength, Unheld}
 use Rattle.grid_runs.specs.Run.{Run, grid_at, IsCutOff}
 use Rattle.grid_sim.specs.Run.{EndsRun, IsRun, IsStuckOrIdle, TakesRun}
@@ -13,7 +13,7 @@ use Rattle.grid_sim.specs.Simulation.{Simulation, counts_of}
 use Rattle.grid_sim.specs.declared.counts.Counts.{Counts}
 use Rattle.grid_sim.specs.declared.faults.SimFault.{SimFault}
 use Rattle.grid_sim.specs.declared.faults.SimFault.TheVariants as fault
-use Rattle.node_turn.specs.Turned.{kind_told}
+use Rattle.grid_sim.specs.Turned.{kind_told}
 use Rattle.call_claims.specs.Decided.{IsDecided}
 use Rattle.exec_claims.specs.Cause.{RunCause, report_at}
 use Rattle.exec_claims.specs.Cause.RunCause.{done, trap, turn_limit, stuck, idle}

@@ -11,8 +11,8 @@ use Rattle.zpl_nums.specs.declared.ends.End.TheVariants as ending
 use Rattle.grid_sim.specs.declared.counts.Counts.{Counts}
 use Rattle.grid_sim.specs.declared.faults.SimFault.{SimFault}
 use Rattle.grid_sim.specs.declared.faults.SimFault.TheVariants as fault
-use Rattle.node_turn.specs.declared.steps.StuckKind.{StuckKind}
-use Rattle.node_turn.specs.declared.steps.StuckKind.TheVariants as kind
+use Rattle.grid_sim.specs.StuckKind.{StuckKind}
+use Rattle.grid_sim.specs.StuckKind.TheVariants as kind
 use Rattle.call_claims.specs.Texts.{unreadable_text, too_long_text, trap_text}
 use Rattle.call_claims.specs.Texts.{turn_limit_text, no_memory_text}
 use Rattle.call_claims.specs.declared.status.TheConstants.{DONE, UNREADABLE, TOO_LONG}

@@ -1,3 +1,5 @@
+pub use Rattle.node_turn.specs.Turned
+pub use Rattle.node_turn.specs.declared.steps.StuckKind
 pub mod Counting
 pub mod Inside
 pub mod Marks

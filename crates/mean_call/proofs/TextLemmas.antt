@@ -11,8 +11,8 @@ use Rattle.zpl_tree.specs.Syntax.{Program}
 use Rattle.zpl_binding.specs.Settings.{Setting}
 use Rattle.zpl_binding.specs.Bound.{IsAcceptedWith}
 use Rattle.zpl_meaning.specs.Program.{mean_of}
-use Rattle.array_statements.specs.declared.faults.MeanFault.{MeanFault}
-use Rattle.array_statements.specs.declared.faults.MeanFault.TheVariants as fault
+use Rattle.array_meaning.specs.MeanFault.{MeanFault}
+use Rattle.array_meaning.specs.MeanFault.TheVariants as fault
 use Rattle.array_meaning.specs.Means.{Means}
 use Rattle.call_answers.specs.Answers.{answer_of}
 use Rattle.call_answers.specs.declared.answers.Answer.TheVariants as answers

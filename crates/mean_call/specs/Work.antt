@@ -6,8 +6,8 @@ use Rattle.zpl_io.specs.Sink.{Takes, TakesFront}
 use Rattle.zpl_binding.specs.Outcome.{BindFault}
 use Rattle.zpl_binding.specs.Settings.{Setting}
 use Rattle.zpl_bind.specs.Fault.{fault_name}
-use Rattle.array_statements.specs.declared.faults.MeanFault.{MeanFault}
-use Rattle.array_statements.specs.declared.faults.MeanFault.TheVariants as fault
+use Rattle.array_meaning.specs.MeanFault.{MeanFault}
+use Rattle.array_meaning.specs.MeanFault.TheVariants as fault
 use Rattle.array_meaning.specs.Means.{HasMeant}
 use Rattle.call_claims.specs.Call.{Call}
 use Rattle.call_claims.specs.Decided.{IsDecided}

@@ -18,7 +18,7 @@ use Rattle.array_places.specs.Things.{thing_in}
 use Rattle.array_places.specs.View.{currents_of, place_of, setup_of}
 use Rattle.array_frames.specs.Handed.{handed_of}
 use Rattle.array_frames.specs.Variables.{framed}
-use Rattle.scalar_steps.specs.Start.{start_in}
+use Rattle.array_steps.specs.Start.{start_in}
 use Rattle.array_statements.specs.Arms.{Comes}
 use Rattle.array_statements.specs.Choices.{context_at}
 use Rattle.array_statements.specs.Running.{IsRunning, IsHere, context_of}

@@ -5,7 +5,7 @@ use Rattle.zpl_tree.specs.View.{expr_of, stmts_of}
 use Rattle.zpl_tree.specs.declared.statements.Stmt.{size-Stmt}
 use Rattle.zpl_meaning.specs.Outcome.{repeat_turns, while_turns}
 use Rattle.zpl_meaning.specs.Statement.{exec_all, test_of}
-use Rattle.scalar_steps.specs.Start.{start_in}
+use Rattle.array_steps.specs.Start.{start_in}
 use Rattle.array_statements.specs.Running.{context_of}
 use Rattle.array_statements.proofs.DepthLemmas.{room_for}
 use Rattle.array_statements.proofs.LoopLemmas.{set_in, turns_from}
