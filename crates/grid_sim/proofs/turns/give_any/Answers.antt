@@ -4,7 +4,7 @@ use Rattle.grid_sim.specs.Inside.{simulation_in}
 use Rattle.grid_sim.specs.Processors.{AreSame, HaveMovedOn, HaveTurned, PrintsNext}
 use Rattle.grid_sim.specs.Simulation.{IsTold, turn_in}
 use Rattle.grid_sim.proofs.TurnLemmas.{given_printed, given_silent, prints_same, told_on, told_printed}
-use Rattle.grid_sim.proofs.turns.give.Goals as goal
+use Rattle.grid_sim.proofs.turns.give_any.Goals as goal
 
 pub returns-in-Moved-clause-made : goal.returns-in-Moved-clause-made
 returns-in-Moved-clause-made g c =
