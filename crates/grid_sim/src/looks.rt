@@ -20,6 +20,7 @@ use node_turn::{Step, Traffic, rests};
 
 impl Processors {
     /// Whether a processor rests. Then it is marked; and else it becomes the one that doesn't.
+    #[inline(always)]
     fn look(&mut self, code: &NodeProgram, layout: &Layout, p: u32) -> bool
         requires layout { layout.now ≡ arrangement_of code.now }
         requires processor { p < processors code.now }
@@ -40,6 +41,7 @@ impl Processors {
 
     /// Looks for a processor that doesn't rest, from the last one down. Where there is none, all
     /// are marked.
+    #[inline(never)]
     pub(crate) fn seek(&mut self, code: &NodeProgram, layout: &Layout)
         requires layout { layout.now ≡ arrangement_of code.now }
         requires marks { HaveMarks code.now self.old }
@@ -56,6 +58,7 @@ impl Processors {
     }
 
     /// The same, and p is looked at first.
+    #[inline(always)]
     fn seek_from(&mut self, code: &NodeProgram, layout: &Layout, p: u32)
         requires layout { layout.now ≡ arrangement_of code.now }
         requires processor { p < processors code.now }
@@ -70,6 +73,7 @@ impl Processors {
     }
 
     /// Takes the mark of rest off the processor at the other end of a message.
+    #[inline(always)]
     fn unmark(&mut self, traffic: Traffic)
         requires { IsAmong (length self.old.resting) traffic }
         ensures { self.new ≡ record self.old { resting = unmarked traffic self.old.resting } }
@@ -82,6 +86,7 @@ impl Processors {
     }
 
     /// Brings the marks up to a move of p.
+    #[inline(always)]
     pub(crate) fn settle(&mut self, code: &NodeProgram, layout: &Layout, p: u32, traffic: Traffic)
         requires layout { layout.now ≡ arrangement_of code.now }
         requires processor { p < processors code.now }

@@ -40,6 +40,7 @@ impl Marks {
     }
 
     /// Marks a processor, or takes its mark away.
+    #[inline(always)]
     pub(crate) fn set(&mut self, p: u32, mark: bool)
         requires { p < length self.old }
         ensures { self.new ≡ slice_set self.old p mark }
@@ -57,6 +58,7 @@ impl Marks {
     }
 
     /// Whether a processor is marked.
+    #[inline(always)]
     pub(crate) fn has(&self, p: u32) -> bool
         requires { p < length self.now }
         ensures { result ≡ slice_index_or self.now p false }

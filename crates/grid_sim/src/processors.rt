@@ -1,21 +1,23 @@
 //! The processors of a grid, and which of them have ended and rest.
-ghost use Rattle.std.specs.Prelude.{◌≡◌, ◌<◌, ℕ, IfOk, List, OnErr, false, length, slice_index_or};
+ghost use Rattle.std.specs.Prelude.{◌≡◌, ◌<◌, ℕ, IfOk, List, OnErr, IsTrue, false, length, slice_index_or};
 ghost use Rattle.grid_meaning.specs.Local.{processors};
 ghost use Rattle.grid_meaning.specs.Stored.{arrangement_of};
 ghost use Rattle.grid_sim.specs.Processors.{
   AreProcessors,
   AreSame,
+  HaveMovedOn,
   HavePrinted,
   HaveTurned,
   PrintsNext,
   rested,
 };
+ghost use Rattle.node_turn.specs.declared.steps.Traffic.TheVariants.{Quiet};
 
 use crate::marks::Marks;
 use grid_layout::Layout;
 use grid_links::Links;
 use node_form::NodeProgram;
-use node_turn::{Local, Step, Traffic, printed, turn_of};
+use node_turn::{Local, Step, Traffic, moves_alone, printed, turn_of};
 use std::alloc::{AllocError, Global};
 
 /// The processors of a program between their turns.
@@ -68,6 +70,27 @@ impl Processors {
         let step = turn_of(alloc, code, layout, p, local, &mut self.links)?;
         self.note(code, layout, p, &step);
         Ok(step)
+    }
+
+    /// Makes the next move of processor p, where it is a loop's or needs scalars and slots alone;
+    /// answers whether it did.
+    #[inline(always)]
+    pub(crate) fn move_alone(&mut self, code: &NodeProgram, layout: &Layout, p: u32) -> bool
+        requires layout { layout.now ≡ arrangement_of code.now }
+        requires processor { p < processors code.now }
+        requires processors { AreProcessors code.now self.old }
+        ensures moved { IsTrue result → HaveMovedOn code.now self.old self.new p Quiet }
+        ensures processors { AreProcessors code.now self.new }
+        ensures same { (result ≡ false) → AreSame self.old self.new }
+    {
+        if self.resting.has(p) {
+            return false;
+        }
+        if !moves_alone(code, layout, p, &mut self.locals[p as usize]) {
+            return false;
+        }
+        self.settle(code, layout, p, Traffic::Quiet);
+        true
     }
 
     /// Makes the turn of processor p that prints.

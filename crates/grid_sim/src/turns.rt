@@ -85,7 +85,38 @@ impl Sim {
 }
 
 /// Gives processor p its next turn.
+#[inline(always)]
 fn give<O: Sink>(
+    alloc: Global,
+    code: &NodeProgram,
+    layout: &Layout,
+    team: &mut Processors,
+    counts: &mut Counts,
+    p: u32,
+    out: &mut O,
+) -> Result<Told, SimFault>
+    requires layout { layout.now ≡ arrangement_of code.now }
+    requires processor { p < processors code.now }
+    requires processors { AreProcessors code.now team.old }
+    requires counts { AreCounts counts.old }
+    requires turns { counts.old.turns < 2 ^ 63 }
+    ensures processors { AreProcessors code.now team.new }
+    ensures counts { AreCounts counts.new }
+    ensures made { IsMade (simulation_in code.now team.old counts.old)
+        (simulation_in code.now team.new counts.new) p (O.tells out.old) (O.tells out.new) result }
+    ensures same_sink { result ≢ Err SimFault.SinkFailed → OnErr result (out.new ≡ out.old) }
+    ensures faults { CountsFaults (result ≡ Err SimFault.SinkFailed)
+        (O.faults out.old) (O.faults out.new) }
+{
+    if team.move_alone(code, layout, p) {
+        return Ok(counted(counts, Traffic::Quiet));
+    }
+    give_any(alloc, code, layout, team, counts, p, out)
+}
+
+/// The same, whatever the turn is.
+#[inline(never)]
+fn give_any<O: Sink>(
     alloc: Global,
     code: &NodeProgram,
     layout: &Layout,

@@ -2,6 +2,7 @@
 #![tactic(auto)]
 
 mod answers;
+mod moves;
 mod own;
 mod prints;
 mod resting;
@@ -10,6 +11,7 @@ mod steps;
 mod together;
 mod turns;
 
+pub use moves::moves_alone;
 pub use node_local::{Kept, KeptWords, Local, Slots, Standing, Store, Stores};
 pub use prints::printed;
 pub use resting::rests;

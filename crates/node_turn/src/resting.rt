@@ -66,6 +66,7 @@ fn receiver_rests(
 }
 
 /// Whether a processor waits at a row in which processors work together.
+#[inline(never)]
 fn rests_together(
     code: &NodeProgram,
     layout: &Layout,
@@ -90,6 +91,7 @@ fn rests_together(
 
 /// Whether the next turn of processor p changes nothing, and it isn't stuck: it waits, or it has
 /// ended. It takes no memory.
+#[inline(always)]
 pub fn rests(code: &NodeProgram, layout: &Layout, p: u32, local: &Local, links: &Links) -> bool
     requires layout { layout.now ≡ arrangement_of code.now }
     requires processor { p < processors code.now }

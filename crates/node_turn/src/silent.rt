@@ -22,18 +22,21 @@ use zpl_region::Dim;
 
 // ---- arrays of three
 
+#[inline(always)]
 fn see_dims(dims: &[Dim; 3])
     ensures { length dims.now ≡ 3 }
 {
     let [_planes, _rows, _columns] = *dims;
 }
 
+#[inline(always)]
 fn see_parts(parts: &[DimRow; 3])
     ensures { length parts.now ≡ 3 }
 {
     let [_planes, _rows, _columns] = *parts;
 }
 
+#[inline(always)]
 fn see_array(dims: &[ArrayDim; 3])
     ensures { length dims.now ≡ 3 }
 {
@@ -41,6 +44,7 @@ fn see_array(dims: &[ArrayDim; 3])
 }
 
 /// Sees that what a row names has three dimensions, as its type says.
+#[inline(always)]
 pub(crate) fn see_three(code: &NodeProgram, row: &Instr)
     ensures { HasThree code.now row.now }
 {

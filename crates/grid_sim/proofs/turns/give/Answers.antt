@@ -1,36 +1,26 @@
 use Rattle.std.proofs.Common.{sym, subst}
-use Rattle.zpl_io.specs.Sink.{Takes}
+use Rattle.node_turn.specs.declared.steps.Traffic.TheVariants.{Quiet}
 use Rattle.grid_sim.specs.Inside.{simulation_in}
-use Rattle.grid_sim.specs.Processors.{AreSame, HaveMovedOn, HaveTurned, PrintsNext}
-use Rattle.grid_sim.specs.Simulation.{IsTold, turn_in}
-use Rattle.grid_sim.proofs.TurnLemmas.{given_printed, given_silent, prints_same, told_on, told_printed}
+use Rattle.grid_sim.specs.Simulation.{IsMade, IsTold, Simulation, turn_in}
+use Rattle.grid_sim.proofs.GivenLemmas.{same_simulation}
+use Rattle.grid_sim.proofs.TurnLemmas.{given_silent, told_on}
 use Rattle.grid_sim.proofs.turns.give.Goals as goal
 
-pub returns-in-Moved-clause-made : goal.returns-in-Moved-clause-made
-returns-in-Moved-clause-made g c =
+pub returns-then-move_alone-clause-made : goal.returns-then-move_alone-clause-made
+returns-then-move_alone-clause-made g c =
     let code = c.args.code.now in
     let old = c.args.team.now in
-    let done = c.in-Moved.traffic in
-    let m : HaveMovedOn code old c.turn.new.self c.args.p done =
-    subst (HaveTurned code old c.turn.new.self c.args.p) c.in-Moved.is c.in_ok-traffic.ensures.turned in (
-      given_silent code old c.turn.new.self c.args.counts.now c.counted.new.counts c.args.p done _ m c.counted.ensures.counted,
+    let moved = c.move_alone.ensures.moved c.if-move_alone.true in (
+      given_silent code old c.move_alone.new.self c.args.counts.now c.counted.new.counts c.args.p Quiet _ moved c.counted.ensures.counted,
       subst (IsTold (turn_in (simulation_in code old c.args.counts.now) c.args.p)) (sym c.counted.ensures.told)
-          (told_on code old c.turn.new.self c.args.counts.now c.args.p done m),
+          (told_on code old c.move_alone.new.self c.args.counts.now c.args.p Quiet moved),
     )
 
-pub returns-in_ok-put_piece-in-Prints-clause-made : goal.returns-in_ok-put_piece-in-Prints-clause-made
-returns-in_ok-put_piece-in-Prints-clause-made g c =
+pub returns-clause-made : goal.returns-clause-made
+returns-clause-made g c =
     let code = c.args.code.now in
-    let old = c.args.team.now in
-    let mid = c.turn.new.self in
-    let bytes = c.in-Prints.bytes in
-    let next : PrintsNext code old c.args.p bytes × AreSame old mid =
-    subst (HaveTurned code old mid c.args.p) c.in-Prints.is c.in_ok-traffic.ensures.turned in
-    let printed = c.print.ensures.moved bytes (prints_same code old mid c.args.p bytes next.1 next.0) in
-    let takes = subst (λ piece. Takes (g.O.Sink.tells c.args.out.now) piece (g.O.Sink.tells c.put_piece.new.sink)) c.as_slice.ensures
-    c.in_ok-put_piece-in-Prints.ensures.ok in (
-      given_printed code old mid c.print.new.self c.args.counts.now c.counted-in-Prints.new.counts c.args.p bytes _ _ next.1 next.0 printed
-          c.counted-in-Prints.ensures.counted takes,
-      subst (IsTold (turn_in (simulation_in code old c.args.counts.now) c.args.p)) (sym c.counted-in-Prints.ensures.told)
-          (told_printed code old mid c.print.new.self c.args.counts.now c.args.p bytes next.1 printed),
-    )
+    let counts = c.args.counts.now in
+    subst (λ (before : Simulation). IsMade before (simulation_in code c.give_any.new.team c.give_any.new.counts) c.args.p
+    (g.O.Sink.tells c.args.out.now) (g.O.Sink.tells c.give_any.new.out) c.give_any.result)
+    (same_simulation code c.args.team.now c.move_alone.new.self counts (c.move_alone.ensures.same c.if-move_alone.false))
+    c.give_any.ensures.made
