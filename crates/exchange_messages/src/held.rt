@@ -12,6 +12,7 @@ use grid_layout::Layout;
 use node_form::{Item, NodeProgram};
 use node_local::Local;
 use node_stages::item_piece;
+use region_places::{least, next_after};
 use zpl_region::Region;
 
 /// Whether an array's places at the tuples of a region are all held.
@@ -19,12 +20,12 @@ pub(crate) fn are_held(local: &Local, array: u32, places: &Region) -> bool
     requires { IsRegion places.now }
     ensures { result ≡ are_held local.now.local.stores array (members places.now) }
 {
-    let mut next = places.least();
+    let mut next = least(places);
     while let Some(x) = next {
         let Some(_value) = local.value_at(array, &x) else {
             return false;
         };
-        next = places.next_after(x);
+        next = next_after(places, &x);
     }
     true
 }

@@ -15,6 +15,7 @@ use grid_layout::Layout;
 use node_form::{Item, NodeProgram};
 use node_local::Local;
 use node_stages::item_piece;
+use region_places::{least, next_after};
 use zpl_region::Region;
 
 /// Puts words at the tuples of a region, one after another, until there are no more of either.
@@ -28,7 +29,7 @@ fn write_values(local: &mut Local, array: u32, places: &Region, words: &[i64]) -
       local = record local.old.local { stores = local.new.local.stores };
     } }
 {
-    let mut next = places.least();
+    let mut next = least(places);
     for (i, word) in words.iter().enumerate() {
         let Some(x) = next else {
             return Some(i);
@@ -36,7 +37,7 @@ fn write_values(local: &mut Local, array: u32, places: &Region, words: &[i64]) -
         if !local.set_value(array, &x, *word) {
             return None;
         }
-        next = places.next_after(x);
+        next = next_after(places, &x);
     }
     Some(words.len())
 }

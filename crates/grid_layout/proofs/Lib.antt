@@ -8,6 +8,7 @@ pub mod ThreeLemmas
 pub mod SizeLemmas
 pub mod HullLemmas
 pub mod SideLemmas
+pub mod PlaceLemmas
 pub mod DimLemmas
 mod Examples
 pub mod OwnLemmas

@@ -39,7 +39,7 @@ has_each (axis ∷ axes) (n ∷ ns) (c ∷ cs) (k ∷ ks) (dim ∷ dims) (x ∷ 
 has_each _ _ _ _ _ _ = true
 
 -- ---- the part of a dimension that a block has
-empty_range : (lo hi step align : ℤ) → hi <ℤ lo → [] ≡ coordinates (Range lo hi step align)
+pub empty_range : (lo hi step align : ℤ) → hi <ℤ lo → [] ≡ coordinates (Range lo hi step align)
 empty_range lo hi step align below = ap (λ e. filter (λ x. is_multiple step (x -ℤ align)) (progression lo 1 e)) (extent_none lo hi below)
 
 pub coordinates-part : (lo hi from to step align : ℤ) → coordinates (part lo hi (Range from to step align)) ≡ coordinates (dim_met lo hi (Range from to step align))

@@ -1,13 +1,13 @@
 -- The blocks of a processor, one in each dimension: what it holds, needs and owns, by where they
 -- begin and end.
-use Rattle.std.specs.Prelude.{ℕ, ◌==◌, ℤ, pos, ◌+ℤ◌, ◌-ℤ◌, if◌then◌else◌, List, [], ◌∷◌}
+use Rattle.std.specs.Prelude.{◌≡◌, ℕ, ◌==◌, Bool, false, ℤ, pos, ◌+ℤ◌, ◌-ℤ◌, int_lt, if◌then◌else◌, List, [], ◌∷◌}
 use Rattle.std.specs.Int.{int_max, int_min}
 use Rattle.zpl_region.specs.declared.dims.Dim.{Dim}
 use Rattle.zpl_region.specs.declared.dims.Dim.TheVariants.{Range, Flood}
 use Rattle.zpl_region.specs.declared.regions.Region.{Region}
 use Rattle.zpl_region.specs.Dim.{IsUpTo}
 use Rattle.zpl_region.specs.Hull.{all_from}
-use Rattle.zpl_region.specs.Region.{components}
+use Rattle.zpl_region.specs.Region.{IsRegion, components, members}
 use Rattle.grid_layout.specs.declared.axes.Axis.{Axis}
 use Rattle.grid_layout.specs.declared.blocks.Blocks.{Blocks}
 use Rattle.grid_layout.specs.declared.boxes.ArrayBox.{ArrayBox}
@@ -83,3 +83,17 @@ each_side_owned _ _ _ = []
 
 abbrev pub owned_between : List Side → List Side → Region → Region
 owned_between from to region = record { rank = region.rank; dims = each_side_owned from to region.dims }
+
+-- ---- all at once: what another one owns of what is needed, where the held range isn't emptied for another one's sake
+abbrev pub side_place : Side → Side → ℤ → ℤ → Dim → ℤ → Dim → Dim
+side_place from to low high stored d dim = side_owned from to (side_needed to (side_held to low high stored) d dim)
+
+-- a range whose bounds are the wrong way round
+abbrev pub is_bare : Dim → Bool
+is_bare (Range lo hi step align) = int_lt hi lo
+is_bare Flood = false
+
+-- the tuples of a region, as those of another one, which calls take where they take that
+pub record ArePlaces (region found : Region) : Type 0 where
+  pub same : members found ≡ members region
+  pub sound : IsRegion region → IsRegion found

@@ -1,11 +1,12 @@
 //! One dimension of a held box or of a piece.
-ghost use Rattle.std.specs.Prelude.{◌≡◌, ◌==◌, ◌^◌, ◌+◌, ◌≤◌, All};
-ghost use Rattle.zpl_region.specs.Dim.{HasBounds, IsDim, IsUpTo, dim_moved};
+ghost use Rattle.std.specs.Prelude.{◌≡◌, ◌==◌, ◌^◌, ◌+◌, ◌≤◌, All, length, map, nat_lt};
+ghost use Rattle.zpl_region.specs.Dim.{HasBounds, IsDim, IsUpTo, coordinates, dim_moved};
 ghost use Rattle.zpl_region.specs.Ends.{coordinate_count, tuple_count};
-ghost use Rattle.zpl_region.specs.Region.{components};
+ghost use Rattle.zpl_region.specs.Region.{components, tuples};
 ghost use Rattle.zpl_region.specs.Hull.{IsBoxed, all_from, dim_emptied};
 ghost use Rattle.grid_layout.specs.Layout.{HasWideBounds, or_emptied};
-ghost use Rattle.grid_layout.specs.Piece.{part, place_dim};
+ghost use Rattle.grid_layout.specs.Piece.{part, place_dim, range_or_nothing};
+ghost use Rattle.grid_layout.specs.Sides.{is_bare};
 
 use zpl_region::{Dim, Region, Vec3};
 
@@ -18,7 +19,22 @@ const PADDING: Dim = Dim::Range {
 };
 
 /// A shift by more than this moves each range of a region away from each held box.
-const FARTHEST_SHIFT: i64 = 1 << 41;
+pub(crate) const FARTHEST_SHIFT: i64 = 1 << 41;
+
+/// No tuples: a range with its bounds the wrong way round.
+pub(crate) const NOWHERE: Region = Region {
+    rank: 1,
+    dims: [
+        Dim::Range {
+            lo: 1,
+            hi: 0,
+            step: 1,
+            align: 1,
+        },
+        PADDING,
+        PADDING,
+    ],
+};
 
 /// The integers from `lo` to `hi`.
 pub(crate) fn all_from(lo: i64, hi: i64) -> Dim
@@ -104,7 +120,13 @@ pub fn part(dim: Dim, lo: i64, hi: i64) -> Dim
     else {
         return dim;
     };
-    let (lo, hi) = (from.max(lo), to.min(hi));
+    range_or_nothing(from.max(lo), to.min(hi), step, align)
+}
+
+/// The range with these bounds: `1..0` where they are the wrong way round.
+pub(crate) fn range_or_nothing(lo: i64, hi: i64, step: i64, align: i64) -> Dim
+    ensures { result ≡ range_or_nothing lo hi step align }
+{
     if lo > hi {
         return all_from(1, 0);
     }
@@ -114,6 +136,47 @@ pub fn part(dim: Dim, lo: i64, hi: i64) -> Dim
         step,
         align,
     }
+}
+
+/// Whether a range has its bounds the wrong way round.
+pub(crate) fn is_bare(dim: &Dim) -> bool
+    ensures { result ≡ is_bare dim.now }
+{
+    match *dim {
+        Dim::Range { lo, hi, .. } => lo > hi,
+        Dim::Flood => false,
+    }
+}
+
+/// Whether a dimension has some coordinate.
+fn has_some(dim: &Dim) -> bool
+    requires { IsDim dim.now }
+    ensures { result ≡ nat_lt 0 (coordinate_count dim.now) }
+{
+    match *dim {
+        Dim::Range {
+            lo,
+            hi,
+            step: 1,
+            ..
+        } => lo <= hi,
+        _ => !is_empty(*dim),
+    }
+}
+
+/// Whether there is some tuple with a coordinate of each of these dimensions.
+pub(crate) fn has_tuples(dims: &[Dim; 3]) -> bool
+    requires { All IsDim dims.now }
+    ensures { result ≡ nat_lt 0 (length (tuples (map coordinates dims.now))) }
+{
+    let [planes, rows, columns] = dims;
+    if !has_some(planes) {
+        return false;
+    }
+    if !has_some(rows) {
+        return false;
+    }
+    has_some(columns)
 }
 
 /// Whether a dimension has no coordinate.

@@ -1,6 +1,6 @@
 //! Layouts: the blocks of a grid with the arrays that are laid out over it.
 ghost use Rattle.std.specs.Prelude.{◌≡◌, ◌<◌, ◌≤◌, ◌≢◌, All, IfErr, IfOk, IsPermutation, flat_map};
-ghost use Rattle.std.specs.Prelude.{length};
+ghost use Rattle.std.specs.Prelude.{length, nat_lt};
 ghost use Rattle.grid_layout.specs.declared.layouts.LayoutFault.TheVariants.{NoMemory};
 ghost use Rattle.grid_layout.specs.Grid.{processors_of};
 ghost use Rattle.grid_layout.specs.Layout.{AreBlocks, IsArrayBox, box_at, held_box_of, laid_out};
@@ -14,9 +14,10 @@ ghost use Rattle.zpl_region.specs.Region.{IsRegion, members, moved};
 
 use crate::blocks::Blocks;
 use crate::boxes::ArrayBox;
+use crate::dims::has_tuples;
 use crate::grids::Grid;
 use crate::own::{OwnBlocks, all_own};
-use crate::sides::{Side, firsts, held_by, lasts, needed_by, owned_by};
+use crate::sides::{Side, firsts, held_by, lasts, needed_by, owned_by, places_by};
 use std::alloc::Global;
 use std::marker::Model;
 use zpl_region::{Region, Vec3};
@@ -213,5 +214,38 @@ impl Layout {
     {
         let needed = self.needed(array, to, region, shift);
         self.owned(from, to, &needed)
+    }
+    /// The same places as a region that is found dimension by dimension: its tuples are those of
+    /// `piece`. Where some dimension has none it is a region without tuples, of any rank.
+    pub fn places(&self, array: u32, from: u32, to: u32, region: &Region, shift: &Vec3) -> Region
+        requires array { array < length self.now.boxes }
+        requires owner { from < processors_of self.now.grid }
+        requires receiver { to < processors_of self.now.grid }
+        requires region { IsRegion region.now }
+        requires ranks { (box_at self.now array).shape.rank ≡ region.now.rank }
+        requires aligned { All HasAlign (moved shift.now region.now).dims }
+        ensures places { members result
+            ≡ members (piece_of self.now array from to region.now shift.now) }
+        ensures region { IsRegion result }
+    {
+        let stored = self.stored(array);
+        let mine = self.sides(region.rank, from);
+        let others = self.sides(region.rank, to);
+        places_by(mine, others, stored, region.rank, &region.dims, shift)
+    }
+
+    /// Whether `from` owns some place of an array that `to` needs.
+    pub fn has_places(&self, array: u32, from: u32, to: u32, region: &Region, shift: &Vec3) -> bool
+        requires array { array < length self.now.boxes }
+        requires owner { from < processors_of self.now.grid }
+        requires receiver { to < processors_of self.now.grid }
+        requires region { IsRegion region.now }
+        requires ranks { (box_at self.now array).shape.rank ≡ region.now.rank }
+        requires aligned { All HasAlign (moved shift.now region.now).dims }
+        ensures { result ≡ nat_lt 0
+            (length (members (piece_of self.now array from to region.now shift.now))) }
+    {
+        let places = self.places(array, from, to, region, shift);
+        has_tuples(&places.dims)
     }
 }

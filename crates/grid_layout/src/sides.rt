@@ -1,10 +1,11 @@
 //! The blocks of a processor, one in each dimension: where each begins and ends.
-ghost use Rattle.std.specs.Prelude.{◌≡◌, All, length, map};
+ghost use Rattle.std.specs.Prelude.{◌≡◌, ◌≤ℤ◌, ◌^◌, All, length, map, neg_ℤ, pos};
 ghost use Rattle.zpl_region.specs.Dim.{HasBounds, IsDim, IsUpTo};
-ghost use Rattle.zpl_region.specs.Hull.{IsBoxed};
+ghost use Rattle.zpl_region.specs.Hull.{IsBoxed, all_from};
 ghost use Rattle.zpl_region.specs.Region.{IsRegion};
 ghost use Rattle.grid_layout.specs.Layout.{HasThree, HasWideBounds, IsArrayBox, IsFringe};
 ghost use Rattle.grid_layout.specs.Sides.{
+  ArePlaces,
   IsSide,
   held_between,
   needed_between,
@@ -12,10 +13,14 @@ ghost use Rattle.grid_layout.specs.Sides.{
   side_held,
   side_needed,
   side_owned,
+  side_place,
 };
 
 use crate::boxes::ArrayBox;
-use crate::dims::{all_from, components, or_emptied, part, place};
+use crate::dims::{
+    FARTHEST_SHIFT, NOWHERE, all_from, components, is_bare, or_emptied, part, place,
+    range_or_nothing,
+};
 use zpl_region::{Dim, Region, Vec3};
 
 /// A block of one dimension.
@@ -73,6 +78,69 @@ impl Side {
             Dim::Flood => all_from(1, 0),
         }
     }
+}
+
+/// The coordinates from `lo` to `hi`, which the block `to` holds, that it needs for a dimension of
+/// indices and a shift by `d`, and that the block `from` owns: all bounds are met at once.
+fn place_within(from: &Side, to: &Side, lo: i64, hi: i64, d: i64, dim: &Dim) -> Dim
+    requires mine { IsSide from.now }
+    requires other { IsSide to.now }
+    requires low { neg_ℤ (pos (2 ^ 40)) ≤ℤ lo }
+    requires high { hi ≤ℤ pos (2 ^ 40) }
+    requires dim { IsDim dim.now }
+    ensures { result ≡ side_owned from.now to.now
+        (side_needed to.now (all_from lo hi) d dim.now) }
+{
+    let Dim::Range {
+        lo: begin,
+        hi: end,
+        step,
+        align,
+    } = *dim
+    else {
+        return range_or_nothing(lo.max(0).max(from.first), hi.min(0).min(from.last), 1, 0);
+    };
+    if d < -FARTHEST_SHIFT || d > FARTHEST_SHIFT {
+        return all_from(1, 0);
+    }
+    let first = begin.max(to.first) + d;
+    let last = end.min(to.last) + d;
+    range_or_nothing(
+        first.max(lo).max(from.first),
+        last.min(hi).min(from.last),
+        step,
+        align + d,
+    )
+}
+
+/// The coordinates of an array's dimension that the block `to` needs for a dimension of indices
+/// and a shift by `d`, and that the block `from` owns.
+fn place_between(
+    from: &Side,
+    to: &Side,
+    low: i64,
+    high: i64,
+    stored: &Dim,
+    d: i64,
+    dim: &Dim,
+) -> Dim
+    requires mine { IsSide from.now }
+    requires other { IsSide to.now }
+    requires down { IsFringe low }
+    requires up { IsFringe high }
+    requires stored { HasBounds stored.now }
+    requires dim { IsDim dim.now }
+    ensures { result ≡ side_place from.now to.now low high stored.now d dim.now }
+{
+    let Dim::Range { lo, hi, .. } = *stored else {
+        return from.owned(*to, to.needed(Dim::Flood, d, *dim));
+    };
+    if to.is_empty {
+        return all_from(1, 0);
+    }
+    let first = to.first - low;
+    let last = to.last + high;
+    place_within(from, to, lo.max(first), hi.min(last), d, dim)
 }
 
 /// The first coordinates.
@@ -155,5 +223,52 @@ pub(crate) fn owned_by(from: &[Side; 3], to: &[Side; 3], region: &Region) -> Reg
     Region {
         rank: region.rank,
         dims: [a.owned(u, x), b.owned(v, y), c.owned(w, z)],
+    }
+}
+
+/// The places of an array that a processor with the blocks `to` needs for a region with these
+/// dimensions, and that one with the blocks `from` owns; `NOWHERE` where a range has its bounds the
+/// wrong way round.
+pub(crate) fn places_by(
+    from: &[Side; 3],
+    to: &[Side; 3],
+    array: &ArrayBox,
+    rank: u8,
+    dims: &[Dim; 3],
+    shift: &Vec3,
+) -> Region
+    requires mine { All IsSide from.now }
+    requires others { All IsSide to.now }
+    requires array { IsArrayBox array.now }
+    requires region { IsRegion (record { rank = rank; dims = dims.now }) }
+    ensures places { ArePlaces (owned_between from.now to.now (needed_between to.now
+        (held_between to.now array.now) (record { rank = rank; dims = dims.now }) shift.now))
+        result }
+    ensures three { HasThree array.now }
+    ensures dims { length dims.now ≡ 3 }
+    ensures shift { length shift.now ≡ 3 }
+{
+    let [a, b, c] = from;
+    let [i, j, k] = to;
+    let [down_planes, down_rows, down_columns] = array.low;
+    let [up_planes, up_rows, up_columns] = array.high;
+    let [s, t, r] = &array.shape.dims;
+    let [u, v, w] = components(rank, shift);
+    let [x, y, z] = dims;
+    let planes = place_between(a, i, down_planes, up_planes, s, u, x);
+    if is_bare(&planes) {
+        return NOWHERE;
+    }
+    let rows = place_between(b, j, down_rows, up_rows, t, v, y);
+    if is_bare(&rows) {
+        return NOWHERE;
+    }
+    let columns = place_between(c, k, down_columns, up_columns, r, w, z);
+    if is_bare(&columns) {
+        return NOWHERE;
+    }
+    Region {
+        rank,
+        dims: [planes, rows, columns],
     }
 }

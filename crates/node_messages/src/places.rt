@@ -5,6 +5,7 @@ ghost use Rattle.grid_meaning.specs.Place.{values_at};
 ghost use Rattle.node_messages.specs.Reading.{IsRead};
 
 use node_local::Local;
+use region_places::{least, next_after};
 use std::alloc::AllocError;
 use zpl_region::Region;
 
@@ -20,13 +21,13 @@ pub fn push_values(
     ensures { IfOk result (IsRead (values_at local.now.local.stores array (members places.now))
         into.old.items into.new.items) }
 {
-    let mut next = places.least();
+    let mut next = least(places);
     while let Some(x) = next {
         let Some(value) = local.value_at(array, &x) else {
             return Ok(false);
         };
         into.push(value)?;
-        next = places.next_after(x);
+        next = next_after(places, &x);
     }
     Ok(true)
 }

@@ -1,12 +1,12 @@
 -- The part of a region that a processor owns for itself has the tuples of the region within its own block, in their order.
-use Rattle.std.proofs.Common.{◌≡◌, ℕ, zero, suc, ◌+◌, ◌-◌, ◌<◌, ◌≤◌, ◌==◌, ◌^◌, Bool, true, false, cond, get_or, List, [], ◌∷◌, length, map, drop, replicate, refl, sym, ap, ◌∙◌, subst, ℤ, pos, neg_ℤ, ◌≤ℤ◌, arith, eq-eqb}
+use Rattle.std.proofs.Common.{◌≡◌, ℕ, zero, suc, ◌-◌, ◌<◌, ◌≤◌, ◌==◌, Bool, true, false, cond, get_or, List, [], ◌∷◌, length, map, drop, replicate, refl, sym, ap, ◌∙◌, subst, ℤ, pos, arith, eq-eqb}
 use Rattle.std.specs.Int.{int_max, int_min}
 use Rattle.std.specs.Prelude.{◌+ℤ◌, ◌-ℤ◌, filter, int_le}
 use Rattle.std.proofs.lemmas.Int.{int_max_is, ints}
 use Rattle.zpl_region.specs.declared.dims.Dim.{Dim}
 use Rattle.zpl_region.specs.declared.dims.Dim.TheVariants.{Range, Flood}
 use Rattle.zpl_region.specs.declared.regions.Region.{Region}
-use Rattle.zpl_region.specs.Dim.{coordinates, dim_met, extent, integers, is_multiple}
+use Rattle.zpl_region.specs.Dim.{coordinates, dim_met, extent, is_multiple}
 use Rattle.zpl_region.specs.Progression.{progression}
 use Rattle.zpl_region.specs.Region.{IsPadded, components, each_met, members, outside_of, padding, tuples}
 use Rattle.grid_layout.specs.declared.axes.Axis.{Axis}

@@ -1,15 +1,14 @@
 -- Items of an exchange: their slots, their arrays, and their pieces.
-use Rattle.std.proofs.Common.{◌≡◌, ℕ, zero, suc, ◌+◌, ◌-◌, ◌<◌, ◌≤◌, ◌^◌, Bool, true, false, cond, get_or, List, [], ◌∷◌, ◌++◌, length, map, take, drop, drop-cons, ◌⊎◌, inl, inr, refl, sym, ap, ◌∙◌, subst, ℤ, pos, neg_ℤ, ◌+ℤ◌, ◌≤ℤ◌, arith}
-use Rattle.std.specs.Prelude.{Option, Some, None, All, filter, slice_get, sum_by}
+use Rattle.std.proofs.Common.{◌≡◌, ℕ, zero, suc, ◌+◌, ◌<◌, ◌≤◌, Bool, true, false, cond, get_or, List, [], ◌∷◌, length, map, take, drop, drop-cons, ◌⊎◌, inl, inr, refl, sym, ap, ◌∙◌, subst, ℤ, pos, arith}
+use Rattle.std.specs.Prelude.{Option, Some, None, All, slice_get, sum_by}
 use Rattle.std.proofs.lemmas.Bool.{cases_lt}
 use Rattle.std.proofs.lemmas.List.{drop_all}
 use Rattle.std.proofs.lemmas.List.Sums.{sum_by-cons}
 use Rattle.std.specs.List.{AllZip}
 use Rattle.std.specs.Option.{IsSomeAnd}
 use Rattle.std.proofs.lemmas.Int.{ints}
-use Rattle.std.proofs.lemmas.List.{length-map}
 use Rattle.std.proofs.lemmas.List.Elements.{All-nil, All-cons, All-head, All-tail}
-use Rattle.std.proofs.lemmas.Option.{slice_get_within, slice_get-get_or, get_or_from_slice_get}
+use Rattle.std.proofs.lemmas.Option.{slice_get_within, get_or_from_slice_get}
 use Rattle.zpl_region.specs.declared.dims.Dim.{Dim}
 use Rattle.zpl_region.specs.declared.dims.Dim.TheVariants.{Range, Flood}
 use Rattle.zpl_region.specs.declared.regions.Region.{Region}
@@ -158,6 +157,33 @@ places_are code a slots from to item number found region alike numbered there sa
     ∙ (ap (λ b. members (piece_of b number from to region item.shift)) alike
     ∙ (ap (λ n. members (piece_of (arrangement_of code) n from to region item.shift)) numbered
     ∙ sym (ap (places_in code from to item) there)))
+
+-- ---- what a layout asks of an item, for the region in its slot, and what it is asked for
+pub record IsAsked (code : Tables) (a : Arrangement) (slots : List Region) (item : Item) (number : ℕ) (region : Region) : Type 0 where
+  pub array : number < length a.boxes
+  pub sound : IsRegion region
+  pub ranks : (box_at a number).shape.rank ≡ region.rank
+  pub aligned : All HasAlign (moved item.shift region).dims
+  pub same : (from to : ℕ) → members (piece_of a number from to region item.shift) ≡ places_of code (at_slots slots) from to item
+
+pub asked : (code : Tables) (a : Arrangement) (slots : List Region) (item : Item) (number : ℕ) (d : Region)
+    → a ≡ arrangement_of code → AllZip IsSlot code.slots slots → FitsItem code item → number ≡ box_number code item.array
+    → IsAsked code a slots item number (get_or slots item.slot d)
+asked code a slots item number d alike all fits numbered =
+    let there = slot_there code.slots slots item.slot fits.rank all fits.slot in
+    let region_is : get_or slots item.slot d ≡ there.0 = get_or_from_slice_get slots item.slot there.0 d there.1 in
+    let box = box_there code item fits in
+    let ranked : (box_at a number).shape.rank ≡ there.0.rank =
+    ap (λ n. (box_at a n).shape.rank) numbered
+    ∙ (ap (λ b. (box_at b (box_number code item.array)).shape.rank) alike ∙ (box.ranked ∙ sym there.2.ranked)) in
+    subst (IsAsked code a slots item number) (sym region_is)
+    (record {
+      array = subst (λ n. n < length a.boxes) (sym numbered) (subst (λ (b : Arrangement). box_number code item.array < length b.boxes) (sym alike) box.below);
+      sound = IsRegion-slot fits.rank there.0 there.2;
+      ranks = ranked;
+      aligned = aligned_slot fits.rank there.0 item.shift there.2 fits.shift.0;
+      same = λ from to. places_are code a slots from to item number there.0 there.0 alike numbered there.1 refl;
+    })
 
 pub some_places : {A : Type 0} (xs ys : List A) → xs ≡ ys → 0 < length ys → 0 < length xs
 some_places xs ys same some = subst (λ list. 0 < length list) (sym same) some

@@ -1,6 +1,6 @@
 -- Stages with partners whose numbers follow one another.
-use Rattle.std.proofs.Common.{◌≡◌, ℕ, zero, suc, ◌+◌, ◌-◌, ◌<◌, ◌≤◌, List, [], ◌∷◌, ◌++◌, length, map, refl, ap, ◌∙◌, arith}
-use Rattle.std.specs.Prelude.{Option, Some, None, slice_get}
+use Rattle.std.proofs.Common.{◌≡◌, ℕ, zero, suc, ◌+◌, ◌<◌, ◌≤◌, List, [], ◌∷◌, ◌++◌, length, map, ap, ◌∙◌, arith}
+use Rattle.std.specs.Prelude.{Some, slice_get}
 use Rattle.std.specs.List.{range_with_len}
 
 module _ {A : Type 0} (f : ℕ → A) (rest : List A) where

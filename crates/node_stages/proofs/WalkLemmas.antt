@@ -1,5 +1,5 @@
 -- A walk over some processors, which passes over none that it looks for.
-use Rattle.std.proofs.Common.{◌≡◌, ℕ, zero, suc, ◌+◌, ◌-◌, ◌<◌, ◌≤◌, ◌==◌, ◌&&◌, ◌⊎◌, inl, inr, not, Bool, true, false, cond, min, nat_lt, List, [], ◌∷◌, length, refl, sym, ap, ◌∙◌, subst, arith}
+use Rattle.std.proofs.Common.{◌≡◌, ℕ, zero, suc, ◌+◌, ◌-◌, ◌<◌, ◌≤◌, ◌==◌, ◌&&◌, inl, inr, not, Bool, true, false, cond, min, nat_lt, List, [], ◌∷◌, length, refl, sym, ap, ◌∙◌, arith}
 use Rattle.std.specs.Prelude.{Some, filter, slice_get}
 use Rattle.std.specs.List.{range_with_len}
 use Rattle.std.proofs.lemmas.Bool.{cases_lt}
@@ -7,7 +7,6 @@ use Rattle.std.proofs.lemmas.Bool.Decides.{nat_tests}
 use Rattle.node_form.specs.declared.tables.Tables.{Tables}
 use Rattle.grid_meaning.specs.Collective.{others_where}
 use Rattle.grid_meaning.specs.Local.{processors}
-use Rattle.node_stages.specs.declared.partners.Place.{Place}
 use Rattle.node_stages.specs.declared.partners.Place.TheVariants.{There, Behind}
 use Rattle.node_stages.specs.Place.{IsNth}
 use Rattle.node_stages.proofs.PartnerLemmas.{filter-last, found_at, range-more}

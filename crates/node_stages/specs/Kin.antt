@@ -1,5 +1,5 @@
 -- The kin of a processor in memory: its children have successive numbers.
-use Rattle.std.specs.Prelude.{ℕ, ◌+◌, ◌≤◌, List, [], ◌∷◌, ◌++◌, map}
+use Rattle.std.specs.Prelude.{◌+◌, ◌≤◌, List, [], ◌∷◌, ◌++◌, map}
 use Rattle.std.specs.List.{range_with_len}
 use Rattle.grid_meaning.specs.Collective as meaning
 use Rattle.node_stages.specs.declared.kin.Kin.TheInside.{Inside}

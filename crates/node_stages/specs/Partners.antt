@@ -2,7 +2,7 @@
 --
 --   flagged            the processors whose flags are set, of so many
 --   exchanging         a message to each of some, one from each of others, and the last turn
-use Rattle.std.specs.Prelude.{◌≡◌, ℕ, Bool, false, List, [], ◌∷◌, ◌++◌, filter, map, slice_index_or}
+use Rattle.std.specs.Prelude.{ℕ, Bool, false, List, [], ◌∷◌, ◌++◌, filter, map, slice_index_or}
 use Rattle.std.specs.List.{range_with_len}
 use Rattle.grid_meaning.specs.Collective.{Stage, Sends, TakesFrom, Last}
 

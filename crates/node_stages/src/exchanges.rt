@@ -21,6 +21,10 @@ use node_form::{Item, NodeProgram};
 use reach_plan::{Reach, needers_of, owners_for};
 use zpl_region::Region;
 
+/// On a grid of no more processors a walk over all of them is quicker than finding out which ones
+/// can have words for each other.
+const FEW: u32 = 8;
+
 /// The places of an item that one processor owns and another needs, where these regions are in the
 /// receiver's slots.
 pub fn item_piece(
@@ -40,8 +44,30 @@ pub fn item_piece(
     ensures region { IsRegion result }
 {
     let number = box_number(code, item.array);
-    let region = slots[item.slot as usize];
-    layout.piece(number, from, to, &region, item.shift)
+    let region = &slots[item.slot as usize];
+    layout.places(number, from, to, region, &item.shift)
+}
+
+/// Whether one processor owns some place of an item that another needs.
+fn has_piece(
+    code: &NodeProgram,
+    layout: &Layout,
+    slots: &[Region],
+    item: &Item,
+    from: u32,
+    to: u32,
+) -> bool
+    requires layout { layout.now ≡ arrangement_of code.now }
+    requires slots { AllZip IsSlot code.now.slots slots.now }
+    requires item { FitsItem code.now item.now }
+    requires owner { from < processors code.now }
+    requires receiver { to < processors code.now }
+    ensures { result
+        ≡ nat_lt 0 (length (places_of code.now (at_slots slots.now) from to item.now)) }
+{
+    let number = box_number(code, item.array);
+    let region = &slots[item.slot as usize];
+    layout.has_places(number, from, to, region, &item.shift)
 }
 
 /// Whether one processor has words for another, item by item.
@@ -61,8 +87,7 @@ fn has_words(
     ensures { result ≡ nat_lt 0 (word_count code.now (at_slots slots.now) items.now from to) }
 {
     for item in items {
-        let piece = item_piece(code, layout, slots, item, from, to);
-        if !piece.is_empty() {
+        if has_piece(code, layout, slots, item, from, to) {
             return true;
         }
     }
@@ -87,8 +112,8 @@ fn item_receivers(
         → LiesInReach result q }
 {
     let number = box_number(code, item.array);
-    let region = slots[item.slot as usize];
-    needers_of(layout, number, p, &region, &item.shift)
+    let region = &slots[item.slot as usize];
+    needers_of(layout, number, p, region, &item.shift)
 }
 
 /// Blocks that have all processors that own places of an item that p needs.
@@ -103,8 +128,8 @@ fn item_senders(code: &NodeProgram, layout: &Layout, slots: &[Region], item: &It
         → LiesInReach result q }
 {
     let number = box_number(code, item.array);
-    let region = slots[item.slot as usize];
-    owners_for(layout, number, p, &region, &item.shift)
+    let region = &slots[item.slot as usize];
+    owners_for(layout, number, p, region, &item.shift)
 }
 
 /// Blocks that have all processors for whom p has words.
@@ -117,7 +142,9 @@ fn receivers(code: &NodeProgram, layout: &Layout, slots: &[Region], items: &[Ite
     ensures all { (q : ℕ) → q < processors code.now
         → 0 < word_count code.now (at_slots slots.now) items.now p q → LiesInReach result q }
 {
-    let _count = layout.grid().count();
+    if layout.grid().count() <= FEW {
+        return Reach::everywhere();
+    }
     let mut reach = Reach::nowhere();
     for item in items {
         let more = item_receivers(code, layout, slots, item, p);
@@ -136,7 +163,9 @@ fn senders(code: &NodeProgram, layout: &Layout, slots: &[Region], items: &[Item]
     ensures all { (q : ℕ) → q < processors code.now
         → 0 < word_count code.now (at_slots slots.now) items.now q p → LiesInReach result q }
 {
-    let _count = layout.grid().count();
+    if layout.grid().count() <= FEW {
+        return Reach::everywhere();
+    }
     let mut reach = Reach::nowhere();
     for item in items {
         let more = item_senders(code, layout, slots, item, p);

@@ -1,5 +1,5 @@
 -- Lemmas on places of tuples.
-use Rattle.std.proofs.Common.{◌≡◌, ℕ, zero, suc, ◌+◌, ◌*◌, ◌/◌, ◌^◌, ◌<◌, ◌≤◌, Option, Some, None, List, [], ◌∷◌, All, length, get_or, ℤ, pos, ◌≤ℤ◌, ◌-ℤ◌, ◌+ℤ◌, unsigned_abs, refl, sym, ◌∙◌, ap, subst, arith, rules}
+use Rattle.std.proofs.Common.{◌≡◌, ℕ, zero, suc, ◌+◌, ◌*◌, ◌/◌, ◌^◌, ◌<◌, ◌≤◌, Option, Some, None, List, [], ◌∷◌, All, length, get_or, ℤ, pos, ◌≤ℤ◌, ◌-ℤ◌, ◌+ℤ◌, unsigned_abs, refl, sym, ◌∙◌, ap, subst, arith, rules, ◌-◌, ◌<ℤ◌}
 use Rattle.std.specs.List.{AllZip}
 use Rattle.std.proofs.lemmas.Int.{ints, clamps}
 use Rattle.std.proofs.lemmas.List.Elements.{All-from_recursion}
@@ -14,7 +14,7 @@ use Rattle.zpl_region.specs.Ends.{coordinate_count, first_of, least_member, tupl
 use Rattle.zpl_region.specs.Region.{IsRegion, members, padding}
 use Rattle.zpl_region.proofs.DimLemmas.{Among-coordinates, pos-extent}
 use Rattle.zpl_region.proofs.ProgressionLemmas.{length-progression}
-use Rattle.zpl_region.proofs.EndLemmas.{length-coordinates, length-tuple_count, some_coordinate}
+use Rattle.zpl_region.proofs.EndLemmas.{length-coordinates, length-tuple_count, rem_euclid-above, some_coordinate}
 use Rattle.zpl_region.proofs.HullLemmas.{has_steps}
 use Rattle.zpl_region.proofs.HullCode.{least_some}
 use Rattle.zpl_arrays.specs.Array.{place_along, place_among}
@@ -144,3 +144,24 @@ pub places_of : (dims : List Dim) (x : List ℤ) (e : Dim) (p q s m n : ℕ) →
 places_of dims x e p q s m n l k h z f g i j o =
     let last = place_below (get_or dims 2 e) (get_or x 2 (pos 0)) (h 2 e (omega arith)) (coordinate_at dims x 2 e z (omega arith)) in
     are_places dims x e p q s m n l k h z f g i j o (omega (arith, last, i, o))
+
+-- ---- a range of step 1
+count_of_ones : (lo hi align : ℤ) → coordinate_count (Range lo hi (pos 1) align) ≡ extent lo hi
+count_of_ones lo hi align =
+    let r = rem_euclid-above (align -ℤ lo) 1 (omega arith) in
+    let first : first_of (Range lo hi (pos 1) align) ≡ lo = omega (arith, ints, r) in
+    let whole : (extent (first_of (Range lo hi (pos 1) align)) hi + (1 - 1)) / 1 ≡ extent (first_of (Range lo hi (pos 1) align)) hi = omega arith in
+    whole ∙ ap (λ f. extent f hi) first
+
+size_of_ones : (n : ℕ) (dim : Dim) (lo hi step align : ℤ) → dim ≡ Range lo hi step align → step ≡ pos 1 → n ≡ extent lo hi → n ≡ coordinate_count dim
+size_of_ones n dim lo hi step align is one e =
+    subst (λ d. n ≡ coordinate_count d) (sym is)
+    (subst (λ s. n ≡ coordinate_count (Range lo hi s align)) (sym one) (e ∙ sym (count_of_ones lo hi align)))
+
+pub no_ones : (dim : Dim) (lo hi step align : ℤ) → dim ≡ Range lo hi step align → step ≡ pos 1 → hi <ℤ lo → 0 ≡ coordinate_count dim
+no_ones dim lo hi step align is one below =
+    size_of_ones 0 dim lo hi step align is one (let wide = pos-extent lo hi in omega (arith, ints, clamps, wide, below))
+
+pub some_ones : (n : ℕ) (dim : Dim) (lo hi step align : ℤ) → dim ≡ Range lo hi step align → step ≡ pos 1 → lo ≤ℤ hi → pos n ≡ hi -ℤ lo → n + 1 ≡ coordinate_count dim
+some_ones n dim lo hi step align is one le wide =
+    size_of_ones (n + 1) dim lo hi step align is one (let e = pos-extent lo hi in omega (arith, ints, clamps, e, le, wide))

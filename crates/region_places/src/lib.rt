@@ -2,5 +2,7 @@
 #![tactic(auto)]
 
 mod places;
+mod walks;
 
 pub use places::{place, size};
+pub use walks::{least, next_after};

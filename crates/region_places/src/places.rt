@@ -15,8 +15,8 @@ const PADDING: Dim = Dim::Range {
     align: 0,
 };
 
-/// How many coordinates a dimension has. The one position of a flood dimension counts.
-pub fn size(dim: Dim) -> u64
+/// How many coordinates a dimension has, whatever its step.
+fn counted(dim: Dim) -> u64
     requires { IsDim dim }
     ensures size { result ≡ coordinate_count dim }
     ensures few { result ≤ 2 ^ 41 + 1 }
@@ -26,6 +26,24 @@ pub fn size(dim: Dim) -> u64
         dims: [dim, PADDING, PADDING],
     }
     .count()
+}
+
+/// How many coordinates a dimension has. The one position of a flood dimension counts.
+pub fn size(dim: Dim) -> u64
+    requires { IsDim dim }
+    ensures size { result ≡ coordinate_count dim }
+    ensures few { result ≤ 2 ^ 41 + 1 }
+{
+    let Dim::Range { lo, hi, step, .. } = dim else {
+        return 1;
+    };
+    if step != 1 {
+        return counted(dim);
+    }
+    if hi < lo {
+        return 0;
+    }
+    hi.abs_diff(lo) + 1
 }
 
 /// The place of a coordinate among those of its dimension.

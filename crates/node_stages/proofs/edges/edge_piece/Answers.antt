@@ -1,12 +1,10 @@
-use Rattle.std.proofs.Common.{rules, ◌≡◌, ◌<◌, ◌==◌, sym, ap, ◌∙◌, subst}
+use Rattle.std.proofs.Common.{rules, ◌<◌, ◌==◌, sym, ap, ◌∙◌, subst}
 use Rattle.std.specs.Prelude.{filter}
 use Rattle.zpl_region.specs.Region.{members, outside_of}
 use Rattle.zpl_arrays.specs.Border.{border_source}
-use Rattle.grid_layout.specs.Grid.{processors_of}
 use Rattle.grid_layout.specs.Layout.{AreBlocks, laid_out}
 use Rattle.move_plan.specs.BorderPiece.{border_piece_in}
 use Rattle.grid_meaning.specs.Owner.{owner_for}
-use Rattle.grid_meaning.specs.Local.{processors}
 use Rattle.grid_meaning.specs.Stored.{arrangement_of}
 use Rattle.grid_meaning.proofs.WorldLemmas.{processors_alike}
 use Rattle.node_stages.proofs.OwnLemmas as own

@@ -8,7 +8,6 @@ use Rattle.grid_layout.specs.Layout.{AreBlocks, laid_out}
 use Rattle.move_plan.specs.BorderPiece.{border_piece_in}
 use Rattle.grid_meaning.specs.Delivery.{border_targets}
 use Rattle.grid_meaning.specs.Owner.{owner_for}
-use Rattle.grid_meaning.specs.Local.{processors}
 use Rattle.grid_meaning.specs.Stored.{arrangement_of}
 use Rattle.grid_meaning.proofs.WorldLemmas.{processors_alike}
 use Rattle.node_stages.proofs.OwnLemmas as own

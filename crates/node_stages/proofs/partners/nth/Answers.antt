@@ -1,4 +1,4 @@
-use Rattle.std.proofs.Common.{◌≡◌, ◌+◌, false, length, arith}
+use Rattle.std.proofs.Common.{◌≡◌, length, arith}
 use Rattle.node_stages.specs.Partners.{flagged}
 use Rattle.node_stages.proofs.PartnerLemmas.{flagged-at, flagged-set, flagged-clear}
 use Rattle.node_stages.proofs.partners.nth.Goals as goal
