@@ -43,7 +43,8 @@ fn loop_moves(
     requires layout { layout.now ≡ arrangement_of code.now }
     requires at { IsAtRow code.now p local.old (Instr.Loop slot group) }
     ensures moves { IsTrue result →
-        MovesOn (act_at code.now p local.old.local (Some (Instr.Loop slot group))) local.old local.new }
+        MovesOn (act_at code.now p local.old.local (Some (Instr.Loop slot group))) local.old
+        local.new }
     ensures same { (result ≡ false) → local.new ≡ local.old }
 {
     let _rows = code.tables().code.len();
