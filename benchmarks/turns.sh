@@ -103,6 +103,10 @@ END
 
 jacobi 8 1 >"$place/jacobi8.lst"
 row 'Jacobi, 8 by 8' "$place/jacobi8.lst"
+# the same two hundred times over: the array and the count of sweeps begin anew each time
+sed -e 's/^scalars 2$/scalars 3/' -e 's/^expr s0$/&\nexpr s2 n1 +\nexpr n199 s2 </' -e 's/^fix 0 .*$/&\nloop 0 0\nset 1 0 1/' \
+    -e 's/^unless 7 9 20$/unless 7 11 20\nset 2 10 21\nunless 11 0 22/' "$place/jacobi8.lst" >"$place/often.lst"
+row 'Jacobi, 8 by 8, two hundred times over' "$place/often.lst"
 jacobi 64 2 >"$place/jacobi64.lst"
 row 'Jacobi, 64 by 64' "$place/jacobi64.lst"
 jacobi 256 20 >"$place/jacobi256.lst"
