@@ -108,6 +108,7 @@ pub(crate) fn or_emptied(rank: u8, dims: &[Dim; 3]) -> Region
 
 /// The coordinates of a dimension from `lo` to `hi`: `1..0` where the bounds are the wrong way
 /// round. A flood dimension stays flood.
+#[inline(always)]
 pub fn part(dim: Dim, lo: i64, hi: i64) -> Dim
     ensures { result ≡ part lo hi dim }
 {
@@ -124,6 +125,7 @@ pub fn part(dim: Dim, lo: i64, hi: i64) -> Dim
 }
 
 /// The range with these bounds: `1..0` where they are the wrong way round.
+#[inline(always)]
 pub(crate) fn range_or_nothing(lo: i64, hi: i64, step: i64, align: i64) -> Dim
     ensures { result ≡ range_or_nothing lo hi step align }
 {
@@ -139,6 +141,7 @@ pub(crate) fn range_or_nothing(lo: i64, hi: i64, step: i64, align: i64) -> Dim
 }
 
 /// Whether a range has its bounds the wrong way round.
+#[inline(always)]
 pub(crate) fn is_bare(dim: &Dim) -> bool
     ensures { result ≡ is_bare dim.now }
 {
@@ -149,6 +152,7 @@ pub(crate) fn is_bare(dim: &Dim) -> bool
 }
 
 /// Whether a dimension has some coordinate.
+#[inline(always)]
 fn has_some(dim: &Dim) -> bool
     requires { IsDim dim.now }
     ensures { result ≡ nat_lt 0 (coordinate_count dim.now) }
@@ -165,6 +169,7 @@ fn has_some(dim: &Dim) -> bool
 }
 
 /// Whether there is some tuple with a coordinate of each of these dimensions.
+#[inline(always)]
 pub(crate) fn has_tuples(dims: &[Dim; 3]) -> bool
     requires { All IsDim dims.now }
     ensures { result ≡ nat_lt 0 (length (tuples (map coordinates dims.now))) }
@@ -237,6 +242,7 @@ pub(crate) fn place(held: Dim, d: i64, dim: Dim) -> Dim
 }
 
 /// The components of a vector up to the rank, and 0 past it.
+#[inline(always)]
 pub fn components(rank: u8, v: &Vec3) -> Vec3
     requires above { 1 ≤ rank }
     requires below { rank ≤ 3 }

@@ -95,6 +95,7 @@ impl Layout {
     }
 
     /// A stored array, where it stands.
+    #[inline(always)]
     fn stored(&self, array: u32) -> &ArrayBox
         requires { array < length self.now.boxes }
         ensures same { result.now ≡ box_at self.now array }
@@ -127,6 +128,7 @@ impl Layout {
     }
 
     /// The blocks of a processor in the dimensions of a rank.
+    #[inline(always)]
     fn sides(&self, rank: u8, p: u32) -> &[Side; 3]
         requires above { 1 ≤ rank }
         requires below { rank ≤ 3 }
@@ -142,6 +144,7 @@ impl Layout {
 
     /// The first and the last tuple of a processor's own block; -2^40 and 2^40 where it is without
     /// end. A block that is empty in a dimension begins one behind its end there.
+    #[inline(always)]
     pub fn own_block(&self, rank: u8, p: u32) -> (Vec3, Vec3)
         requires above { 1 ≤ rank }
         requires below { rank ≤ 3 }
@@ -215,8 +218,10 @@ impl Layout {
         let needed = self.needed(array, to, region, shift);
         self.owned(from, to, &needed)
     }
+
     /// The same places as a region that is found dimension by dimension: its tuples are those of
     /// `piece`. Where some dimension has none it is a region without tuples, of any rank.
+    #[inline(always)]
     pub fn places(&self, array: u32, from: u32, to: u32, region: &Region, shift: &Vec3) -> Region
         requires array { array < length self.now.boxes }
         requires owner { from < processors_of self.now.grid }
@@ -235,6 +240,7 @@ impl Layout {
     }
 
     /// Whether `from` owns some place of an array that `to` needs.
+    #[inline(always)]
     pub fn has_places(&self, array: u32, from: u32, to: u32, region: &Region, shift: &Vec3) -> bool
         requires array { array < length self.now.boxes }
         requires owner { from < processors_of self.now.grid }

@@ -22,6 +22,7 @@ pub(crate) struct OwnBlocks {
 
 impl OwnBlocks {
     /// The blocks in the dimensions of a rank.
+    #[inline(always)]
     pub(crate) fn of_rank(&self, rank: u8) -> &[Side; 3]
         requires bounds { HasBlocks self.now }
         requires above { 1 ≤ rank }

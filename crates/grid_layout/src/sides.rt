@@ -82,6 +82,7 @@ impl Side {
 
 /// The coordinates from `lo` to `hi`, which the block `to` holds, that it needs for a dimension of
 /// indices and a shift by `d`, and that the block `from` owns: all bounds are met at once.
+#[inline(always)]
 fn place_within(from: &Side, to: &Side, lo: i64, hi: i64, d: i64, dim: &Dim) -> Dim
     requires mine { IsSide from.now }
     requires other { IsSide to.now }
@@ -115,6 +116,7 @@ fn place_within(from: &Side, to: &Side, lo: i64, hi: i64, d: i64, dim: &Dim) -> 
 
 /// The coordinates of an array's dimension that the block `to` needs for a dimension of indices
 /// and a shift by `d`, and that the block `from` owns.
+#[inline(always)]
 fn place_between(
     from: &Side,
     to: &Side,
@@ -144,6 +146,7 @@ fn place_between(
 }
 
 /// The first coordinates.
+#[inline(always)]
 pub(crate) fn firsts(sides: &[Side; 3]) -> Vec3
     requires { All IsSide sides.now }
     ensures first { result ≡ map (λ side. side.first) sides.now }
@@ -154,6 +157,7 @@ pub(crate) fn firsts(sides: &[Side; 3]) -> Vec3
 }
 
 /// The last coordinates.
+#[inline(always)]
 pub(crate) fn lasts(sides: &[Side; 3]) -> Vec3
     requires { All IsSide sides.now }
     ensures last { result ≡ map (λ side. side.last) sides.now }
@@ -229,6 +233,7 @@ pub(crate) fn owned_by(from: &[Side; 3], to: &[Side; 3], region: &Region) -> Reg
 /// The places of an array that a processor with the blocks `to` needs for a region with these
 /// dimensions, and that one with the blocks `from` owns; `NOWHERE` where a range has its bounds the
 /// wrong way round.
+#[inline(always)]
 pub(crate) fn places_by(
     from: &[Side; 3],
     to: &[Side; 3],

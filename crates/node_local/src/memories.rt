@@ -35,6 +35,7 @@ impl Memory {
     }
 
     /// The value of an array at a tuple, where its place is held.
+    #[inline(always)]
     pub(crate) fn value_at(&self, array: u32, index: &Vec3) -> Option<i64>
         ensures { result ≡ value_at self.now.stores.items array index.now }
     {

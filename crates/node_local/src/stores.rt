@@ -89,6 +89,7 @@ fn is_box(dims: &[Dim; 3]) -> bool
 
 /// The place of a coordinate among those of a dimension of a box; `None` where it has none. All
 /// coordinates have the one place of a flood dimension.
+#[inline(always)]
 fn place_along(dim: &Dim, x: i64) -> Option<usize>
     requires boxed { IsBoxed dim.now }
     requires bounds { HasWideBounds dim.now }
@@ -110,6 +111,7 @@ fn place_along(dim: &Dim, x: i64) -> Option<usize>
 
 /// The place of a tuple in the row-major order of a box, with so many coordinates in its second and
 /// third dimension; `None` where it has none.
+#[inline(always)]
 fn place_among(
     dims: &[Dim; 3],
     rows: usize,
@@ -235,6 +237,7 @@ impl FlatStore {
     }
 
     /// Where the value of a tuple stands; `None` where it has no place.
+    #[inline(always)]
     pub(crate) fn place(&self, index: &Vec3) -> Option<usize>
         ensures place { result ≡ place_in self.now.storage index.now }
         ensures below { IfSome result (λ place. place < length self.now.values) }
@@ -245,6 +248,7 @@ impl FlatStore {
     }
 
     /// The value at a tuple; `None` where it has no place.
+    #[inline(always)]
     pub(crate) fn value_at(&self, index: &Vec3) -> Option<i64>
         ensures { result ≡ held_value index.now self.now }
     {

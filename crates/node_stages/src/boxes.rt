@@ -5,6 +5,7 @@ ghost use Rattle.grid_meaning.specs.Stored.{box_number};
 use node_form::NodeProgram;
 
 /// The number of a stored array among the stored arrays of a program, which a layout has alone.
+#[inline(always)]
 pub fn box_number(code: &NodeProgram, array: u32) -> u32
     ensures { result ≡ box_number code.now array }
 {

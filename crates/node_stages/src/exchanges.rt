@@ -27,6 +27,7 @@ const FEW: u32 = 8;
 
 /// The places of an item that one processor owns and another needs, where these regions are in the
 /// receiver's slots.
+#[inline(always)]
 pub fn item_piece(
     code: &NodeProgram,
     layout: &Layout,
@@ -49,6 +50,7 @@ pub fn item_piece(
 }
 
 /// Whether one processor owns some place of an item that another needs.
+#[inline(always)]
 fn has_piece(
     code: &NodeProgram,
     layout: &Layout,

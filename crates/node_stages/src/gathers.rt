@@ -17,6 +17,7 @@ use node_form::NodeProgram;
 use zpl_region::Region;
 
 /// The tuples of a region within a processor's own block.
+#[inline(always)]
 pub fn own_tuples(code: &NodeProgram, layout: &Layout, region: &Region, q: u32) -> Region
     requires layout { layout.now ≡ arrangement_of code.now }
     requires slot { IsSlot region.now.rank region.now }

@@ -109,6 +109,7 @@ impl Reach {
     /// A number from `at` on before which no processor from `at` on has blocks among these. After
     /// four steps at most it is one that has, or 64: out of a row, out of a plane, and to these
     /// blocks.
+    #[inline(always)]
     pub fn first_from(&self, at: u32) -> u32
         requires reach { IsReach self.now }
         requires at { at ≤ 64 }
