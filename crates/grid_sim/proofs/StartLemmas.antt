@@ -11,7 +11,8 @@ use Rattle.grid_meaning.specs.Local.{Local, processor_numbers, processors, start
 use Rattle.grid_meaning.proofs.GridLemmas.{length-start_locals}
 use Rattle.node_local.specs.Workplace.{IsReady, Workplace}
 use Rattle.grid_sim.specs.declared.processors.Processors.{Processors}
-use Rattle.grid_sim.specs.Processors.{AllReady, HaveMarks, HaveStates, has_ended, state_of}
+use Rattle.row_turn.specs.Known.{Knows}
+use Rattle.grid_sim.specs.Processors.{AllKnow, AllReady, HaveMarks, HaveStates, has_ended, state_of}
 use Rattle.grid_sim.proofs.ReadLemmas.{ending_at, has_ended-map}
 
 range-push : (a n : ℕ) → range_with_len a (suc n) ≡ range_with_len a n ++ (a + n) ∷ []
@@ -73,6 +74,21 @@ none_marked : (count p : ℕ) → get_or (replicate count false) p false ≡ fal
 none_marked zero p = refl
 none_marked (suc count) zero = refl
 none_marked (suc count) (suc p) = none_marked count p
+
+-- of none the partners are known
+get_none : (count p : ℕ) → get_or (replicate count None) p None ≡ None {A = List ℕ}
+get_none zero p = refl
+get_none (suc count) zero = refl
+get_none (suc count) (suc p) = get_none count p
+
+pub none_many : (code : Tables) (count : ℕ) (partners : List (Option (List ℕ))) → partners ≡ replicate count None → count ≡ processors code
+    → length partners ≡ processors code
+none_many code count partners is many = ap length is ∙ (length-replicate count None ∙ many)
+
+pub none_known : (code : Tables) (workplaces : List Workplace) (partners : List (Option (List ℕ))) (count : ℕ) → partners ≡ replicate count None
+    → AllKnow code workplaces partners
+none_known code workplaces partners count is = λ p w found.
+    subst (Knows code p w.local) (sym (ap (λ list. get_or list p None) is ∙ get_none count p)) (record { right = tt })
 
 pub start_marks : (code : Tables) (team : Processors) (count : ℕ) → HaveStates code team → map state_of team.locals.items ≡ start_locals code
     → count ≡ processors code → team.ended ≡ replicate count false → team.resting ≡ replicate count false → HaveMarks code team

@@ -5,7 +5,7 @@ use Rattle.std.specs.Option.{IfSome, IsSomeAnd, option_and_then, option_map}
 use Rattle.std.proofs.lemmas.Bool.{eqb-false}
 use Rattle.std.proofs.lemmas.List.{map-set, get_or-set_other, get_or-set_same, set-get_or}
 use Rattle.std.proofs.lemmas.List.Elements.{All-set}
-use Rattle.std.proofs.lemmas.Option.{slice_get-get_or, slice_get-map}
+use Rattle.std.proofs.lemmas.Option.{get_or_from_slice_get, slice_get-get_or, slice_get-map}
 use Rattle.grid_links.specs.declared.messages.Message.{Message}
 use Rattle.grid_links.specs.Machine as machine
 use Rattle.grid_links.specs.Machine.{Move, Moves}
@@ -18,12 +18,13 @@ use Rattle.grid_meaning.specs.Local.{Local, processors, start_locals}
 use Rattle.grid_meaning.specs.Turn.{Turn, processes}
 use Rattle.grid_meaning.proofs.GridLemmas.{length-start_locals}
 use Rattle.node_local.specs.Workplace.{IsReady, Workplace}
+use Rattle.row_turn.specs.Known.{Knows}
 use Rattle.node_turn.specs.Turned.{IsTraffic, is_resting, links_behind, turn_over}
 use Rattle.node_turn.specs.declared.steps.Traffic.{Traffic}
 use Rattle.node_turn.specs.declared.steps.Traffic.TheVariants as traffic
 use Rattle.grid_sim.specs.declared.processors.Processors.{Processors}
 use Rattle.grid_sim.specs.Marks.{TellsWhere}
-use Rattle.grid_sim.specs.Processors.{AreProcessors, AreSame, AreUnsettled, AreWatched, Anywhere, HaveMarks, HaveMoved, HaveStates, IsAmong, IsAwake, has_ended, is_at_rest, looked_as, partner, state_of, turn_of, unmarked, world_of}
+use Rattle.grid_sim.specs.Processors.{AllKnow, AreProcessors, AreSame, AreUnsettled, AreWatched, Anywhere, HaveMarks, HaveMoved, HaveStates, IsAmong, IsAwake, has_ended, is_at_rest, looked_as, partner, state_of, turn_of, unmarked, world_of}
 use Rattle.grid_sim.proofs.RestLemmas.{IsOtherThan, next_turn-awake, next_turn-other, slice_get-set_other}
 use Rattle.grid_sim.proofs.TellLemmas.{length-unmarked, mark_set, marks_all, tells_fewer, tells_same, tells_set, unmarked_left}
 
@@ -90,6 +91,42 @@ traffic_taken count (traffic.Sent to words) move q is other = subst (λ s. IfSom
 traffic_taken count (traffic.Took from) move q is other =
     subst (λ s. IfSome s (IsOtherThan count q)) (sym is.2) (is.0, λ same. other (ap Some same))
 
+-- ---- what is known of partners
+-- that of one, where it stands
+pub known_there : (partners : List (Option (List ℕ))) (p : ℕ) (x : Option (List ℕ)) → x ≡ get_or partners p x → p < length partners → get_or partners p None ≡ x
+known_there partners p x is inside = get_or_from_slice_get partners p x None (item_there partners p x is inside)
+
+pub known_at : (code : Tables) (team : Processors) (p : ℕ) (w : Workplace) (x : Option (List ℕ)) → HaveStates code team
+    → slice_get team.locals.items p ≡ Some w → x ≡ get_or team.partners.items p x → p < processors code → Knows code p w.local x
+known_at code team p w x states there is here =
+    subst (Knows code p w.local) (known_there team.partners.items p x is (subst (λ n. p < n) (sym states.partners) here))
+    (states.known p w there)
+
+-- another state of one, with what is known of that
+pub know_set : (code : Tables) (workplaces : List Workplace) (partners : List (Option (List ℕ))) (p : ℕ) (after : Workplace) (x : Option (List ℕ))
+    → p < length workplaces → p < length partners → AllKnow code workplaces partners → Knows code p after.local x
+    → AllKnow code (set workplaces p after) (set partners p x)
+know_set code workplaces partners p after x inside known_inside all knows = λ q w found. by q w found (q == p) refl
+  where
+    by : (q : ℕ) (w : Workplace) → slice_get (set workplaces p after) q ≡ Some w → (same : Bool) → (q == p) ≡ same
+        → Knows code q w.local (get_or (set partners p x) q None)
+    by q w found true is =
+        let at : q ≡ p = eqb-true q p is in
+        let here : slice_get (set workplaces p after) p ≡ Some w = subst (λ r. slice_get (set workplaces p after) r ≡ Some w) at found in
+        let both : Some after ≡ Some w = sym (slice_get-set_same workplaces p after inside) ∙ here in
+        let same : after ≡ w = cc in
+        subst (λ r. Knows code r w.local (get_or (set partners p x) r None)) (sym at)
+        (subst (Knows code p w.local) (sym (get_or-set_same partners p x None known_inside))
+        (subst (λ (v : Workplace). Knows code p v.local x) same knows))
+    by q w found false is =
+        let apart : q ≢ p = eqb-false q p is in
+        subst (Knows code q w.local) (sym (get_or-set_other partners p q x None apart))
+        (all q w (sym (slice_get-set_other workplaces p q after apart) ∙ found))
+
+-- the same states
+pub know_same : (code : Tables) (old new : List Workplace) (partners : List (Option (List ℕ))) → new ≡ old → AllKnow code old partners → AllKnow code new partners
+know_same code old new partners same all = λ q w found. all q w (sym (ap (λ ws. slice_get ws q) same) ∙ found)
+
 -- ---- a move was made, and the marks are as they were
 pub record HaveChanged (code : Tables) (old new : Processors) (p : ℕ) (workplace : Workplace) (move : Move Local Message) : Type 0 where
   pub here : p < processors code
@@ -101,6 +138,8 @@ pub record HaveChanged (code : Tables) (old new : Processors) (p : ℕ) (workpla
   pub ended : new.ended ≡ old.ended
   pub resting : new.resting ≡ old.resting
   pub awake : new.awake ≡ old.awake
+  pub partners : length new.partners.items ≡ processors code
+  pub known : AllKnow code new.locals.items new.partners.items
 
 module _ (code : Tables) (old new : Processors) (p : ℕ) (workplace : Workplace) (move : Move Local Message)
     (states : HaveStates code old) (changed : HaveChanged code old new p workplace move) where
@@ -140,6 +179,8 @@ module _ (code : Tables) (old new : Processors) (p : ℕ) (workplace : Workplace
     many = ap length changed.locals ∙ (length-set old.locals.items p workplace ∙ states.many);
     ready = λ q other found. ready_by q other (sym (ap (λ ws. slice_get ws q) changed.locals) ∙ found) (q == p) refl;
     links = ap (λ (n : Network). n.count) changed.links ∙ states.links;
+    partners = changed.partners;
+    known = changed.known;
   }
 
   -- ---- the others
@@ -218,7 +259,7 @@ module _ (code : Tables) (old new : Processors) (p : ℕ) (workplace : Workplace
 pub marked_states : (code : Tables) (team : Processors) (p : ℕ) → HaveMarks code team → is_at_rest code team p ≡ true
     → HaveMarks code (looked_as true team p)
 marked_states code team p marks rests = record {
-  states = record { many = marks.states.many; ready = marks.states.ready; links = marks.states.links };
+  states = record { many = marks.states.many; ready = marks.states.ready; links = marks.states.links; partners = marks.states.partners; known = marks.states.known };
   ended = record { many = marks.ended.many; each = marks.ended.each };
   resting = record {
     many = length-set team.resting p true ∙ marks.resting.many;
@@ -248,7 +289,7 @@ pub awake_processors : (code : Tables) (team : Processors) (p : ℕ) → HaveMar
     → AreProcessors code (looked_as false team p)
 awake_processors code team p marks here awake = record {
   marks = record {
-    states = record { many = marks.states.many; ready = marks.states.ready; links = marks.states.links };
+    states = record { many = marks.states.many; ready = marks.states.ready; links = marks.states.links; partners = marks.states.partners; known = marks.states.known };
     ended = record { many = marks.ended.many; each = marks.ended.each };
     resting = record { many = marks.resting.many; each = marks.resting.each };
   };
@@ -320,7 +361,7 @@ pub settled_marks : (code : Tables) (team : Processors) (p : ℕ) (done : Traffi
       resting = unmarked done team.resting;
     })
 settled_marks code team p done is here among = record {
-  states = record { many = is.states.many; ready = is.states.ready; links = is.states.links };
+  states = record { many = is.states.many; ready = is.states.ready; links = is.states.links; partners = is.states.partners; known = is.states.known };
   ended = tells_set (λ q. q ≢ p) Anywhere (has_ended team.locals.items) (processors code) team.ended p is.ended here
       (λ q below known apart. apart);
   resting = record {
@@ -349,25 +390,28 @@ turn_same code old new q same =
     ∙ ap (λ (n : Network). run.next_turn (system_over code n.capacity) (record { locals = map state_of old.locals.items; links = n.links }) q) same.links
 
 pub same_processors : (code : Tables) (old new : Processors) → AreSame old new → new.ended ≡ old.ended → new.resting ≡ old.resting
-    → new.awake ≡ old.awake → AreProcessors code old → AreProcessors code new
-same_processors code old new same ended resting awake are = record {
+    → new.awake ≡ old.awake → length new.partners.items ≡ processors code → AllKnow code new.locals.items new.partners.items
+    → AreProcessors code old → AreProcessors code new
+same_processors code old new same ended resting awake partners known are = record {
   marks = record {
     states = record {
       many = ap length same.locals ∙ are.marks.states.many;
       ready = λ q w found. are.marks.states.ready q w (sym (ap (λ ws. slice_get ws q) same.locals) ∙ found);
       links = ap (λ (n : Network). n.count) same.links ∙ are.marks.states.links;
+      partners = partners;
+      known = known;
     };
     ended = record {
       many = ap length ended ∙ are.marks.ended.many;
-      each = λ q below known.
+      each = λ q below told.
           ap (λ marks. get_or marks q false) ended
-          ∙ (are.marks.ended.each q below known ∙ ap (λ ws. has_ended ws q) (sym same.locals));
+          ∙ (are.marks.ended.each q below told ∙ ap (λ ws. has_ended ws q) (sym same.locals));
     };
     resting = record {
       many = ap length resting ∙ are.marks.resting.many;
-      each = λ q below known mark.
+      each = λ q below told mark.
           ap is_resting (turn_same code old new q same)
-          ∙ are.marks.resting.each q below known (sym (ap (λ marks. get_or marks q false) resting) ∙ mark);
+          ∙ are.marks.resting.each q below told (sym (ap (λ marks. get_or marks q false) resting) ∙ mark);
     };
   };
   watched = by are.watched;

@@ -1,5 +1,5 @@
 -- Turns of processors in memory.
-use Rattle.std.proofs.Common.{◌≡◌, ◌⊎◌, inl, inr, ℕ, zero, suc, ◌<◌, ◌≤◌, Bool, true, false, List, [], ◌++◌, length, map, set, get_or, Option, Some, None, refl, sym, ◌∙◌, ap, subst, append-nil, arith}
+use Rattle.std.proofs.Common.{◌≡◌, ◌⊎◌, inl, inr, ℕ, zero, suc, ◌<◌, ◌≤◌, Bool, true, false, List, [], ◌++◌, length, map, set, get_or, Option, Some, None, refl, sym, ◌∙◌, ap, subst, append-nil, arith, length-set}
 use Rattle.std.specs.Prelude.{Result, Ok, Err, OnErr, is_some, slice_get}
 use Rattle.std.specs.Option.{option_and_then}
 use Rattle.std.specs.Vec.{with_item}
@@ -16,6 +16,7 @@ use Rattle.grid_meaning.specs.Grid.{printed_by, shown_in, system_over}
 use Rattle.grid_meaning.specs.Local.{Local, processors}
 use Rattle.grid_meaning.specs.Turn.{Turn}
 use Rattle.node_local.specs.Workplace.{IsReady, Workplace}
+use Rattle.row_turn.specs.Known.{Knows}
 use Rattle.node_turn.specs.Turned.{IsAnswered, IsMade, IsPrinting, IsStuckAs, IsTurn, is_resting, kind_told, printing, turn_over}
 use Rattle.node_turn.specs.declared.steps.Step.{Step}
 use Rattle.node_turn.specs.declared.steps.Step.TheVariants as step
@@ -25,13 +26,13 @@ use Rattle.grid_sim.specs.declared.counts.Counts.{Counts}
 use Rattle.grid_sim.specs.declared.processors.Processors.{Processors}
 use Rattle.grid_sim.specs.Counting.{with_traffic}
 use Rattle.grid_sim.specs.Inside.{simulation_in}
-use Rattle.grid_sim.specs.Processors.{AreLeft, AreProcessors, AreSame, HaveMoved, HaveMovedOn, HavePrinted, HaveStates, HaveTurned, PrintsNext, has_ended, is_at_rest, rested, state_of, turn_of, unmarked}
+use Rattle.grid_sim.specs.Processors.{AllKnow, AreLeft, AreProcessors, AreSame, HaveMoved, HaveMovedOn, HavePrinted, HaveStates, HaveTurned, PrintsNext, has_ended, is_at_rest, rested, state_of, turn_of, unmarked}
 use Rattle.grid_sim.specs.Simulation.{IsGiven, IsTold, Simulation, printed_next, turn_given}
 use Rattle.grid_sim.specs.Simulation as sim
 use Rattle.grid_sim.specs.Telling.{told_of}
 use Rattle.grid_sim.proofs.GivenLemmas.{moved_is, same_simulation, told_moved}
 use Rattle.grid_sim.proofs.RestLemmas.{rest_turn, turn_at_rest}
-use Rattle.grid_sim.proofs.TeamLemmas.{HaveChanged, changed_moved, changed_unsettled, marked_processors, same_processors, traffic_among, turn_is, turn_same}
+use Rattle.grid_sim.proofs.TeamLemmas.{HaveChanged, changed_moved, changed_unsettled, know_same, know_set, marked_processors, same_processors, traffic_among, turn_is, turn_same}
 
 -- ---- answers
 pub on_err : {V E : Type 0} {P : Type 0} (answer : Result V E) → P → OnErr answer P
@@ -90,6 +91,18 @@ with_state team p workplace links = record {
   ended = team.ended;
   resting = team.resting;
   awake = team.awake;
+  partners = team.partners;
+}
+
+-- and with what is known of its partners
+abbrev pub with_known : Processors → ℕ → Workplace → Network → Option (List ℕ) → Processors
+with_known team p workplace links known = record {
+  locals = with_item team.locals p workplace;
+  links = links;
+  ended = team.ended;
+  resting = team.resting;
+  awake = team.awake;
+  partners = with_item team.partners p known;
 }
 
 pub same_item : {X : Type 0} (xs : List X) (i : ℕ) (x y : X) → x ≡ get_or xs i x → y ≡ x → set xs i y ≡ xs
@@ -97,7 +110,8 @@ same_item xs i x y is same = ap (set xs i) (same ∙ is) ∙ set-get_or xs i x
 
 module _ (code : Tables) (old new : Processors) (p : ℕ) (w after : Workplace) (states : HaveStates code old) (here : p < processors code)
     (there : slice_get old.locals.items p ≡ Some w) (locals : new.locals.items ≡ set old.locals.items p after)
-    (ended : new.ended ≡ old.ended) (resting : new.resting ≡ old.resting) (awake : new.awake ≡ old.awake) where
+    (ended : new.ended ≡ old.ended) (resting : new.resting ≡ old.resting) (awake : new.awake ≡ old.awake)
+    (partners : length new.partners.items ≡ processors code) (known : AllKnow code new.locals.items new.partners.items) where
   pub made_changed : (done : Traffic) (m : IsMade code p (turn_over code p w.local old.links) done w after old.links new.links)
       → HaveChanged code old new p after m.move
   made_changed done m = record {
@@ -110,6 +124,8 @@ module _ (code : Tables) (old new : Processors) (p : ℕ) (w after : Workplace) 
     ended = ended;
     resting = resting;
     awake = awake;
+    partners = partners;
+    known = known;
   }
 
   pub made_moved : (done : Traffic) → IsMade code p (turn_over code p w.local old.links) done w after old.links new.links
@@ -134,6 +150,8 @@ module _ (code : Tables) (old new : Processors) (p : ℕ) (w after : Workplace) 
     ended = ended;
     resting = resting;
     awake = awake;
+    partners = partners;
+    known = known;
   }
 
   -- no move was made
@@ -171,7 +189,7 @@ module _ (code : Tables) (old new : Processors) (p : ℕ) (w after : Workplace) 
 
   -- what is left behind it
   same_left : AreSame old new → AreProcessors code old → AreProcessors code new
-  same_left same are = same_processors code old new same ended resting awake are
+  same_left same are = same_processors code old new same ended resting awake partners known are
 
   rests_left : (answer : Turn) → is_resting answer ≡ true → w ≡ get_or old.locals.items p w
       → IsAnswered (turn_over code p w.local old.links) answer w after old.links new.links
@@ -207,6 +225,13 @@ kept_same old p w after links item same kept = record {
   links = kept;
 }
 
+pub kept_known : (old : Processors) (p : ℕ) (w after : Workplace) (links : Network) (x : Option (List ℕ)) → w ≡ get_or old.locals.items p w → after ≡ w
+    → links ≡ old.links → AreSame old (with_known old p after links x)
+kept_known old p w after links x item same kept = record {
+  locals = same_item old.locals.items p w after item same;
+  links = kept;
+}
+
 -- the same move, whatever the marks are
 pub moved_marks : (code : Tables) (old mid new : Processors) (p : ℕ) (done : Traffic) → new.locals.items ≡ mid.locals.items → new.links ≡ mid.links
     → HaveMovedOn code old mid p done → HaveMovedOn code old new p done
@@ -234,16 +259,45 @@ turned_marks code old mid new p step.Waiting locals links h = (h.0, same_on old 
 turned_marks code old mid new p step.Over locals links h = (h.0, same_on old mid new h.1 locals links)
 turned_marks code old mid new p (step.Stuck kind) locals links h = (h.0, same_on old mid new h.1 locals links)
 
+-- ---- a move behind which nothing is known of the processor's partners
+abbrev pub forgetting : Processors → ℕ → Workplace → Processors
+forgetting team p workplace = with_known team p workplace team.links None
+
+pub partners_many : (code : Tables) (old : Processors) (p : ℕ) (x : Option (List ℕ)) → HaveStates code old
+    → length (set old.partners.items p x) ≡ processors code
+partners_many code old p x states = length-set old.partners.items p x ∙ states.partners
+
+pub partners_known : (code : Tables) (old : Processors) (p : ℕ) (after : Workplace) (x : Option (List ℕ)) → HaveStates code old → p < processors code
+    → Knows code p after.local x → AllKnow code (set old.locals.items p after) (set old.partners.items p x)
+partners_known code old p after x states here knows =
+    know_set code old.locals.items old.partners.items p after x (subst (λ n. p < n) (sym states.many) here)
+    (subst (λ n. p < n) (sym states.partners) here) states.known knows
+
+-- and where the state is as it was
+pub known_kept : (code : Tables) (old : Processors) (p : ℕ) (w after : Workplace) → w ≡ get_or old.locals.items p w → after ≡ w → HaveStates code old
+    → AllKnow code (set old.locals.items p after) old.partners.items
+known_kept code old p w after item same states =
+    know_same code old.locals.items (set old.locals.items p after) old.partners.items (same_item old.locals.items p w after item same) states.known
+
+pub forgotten_many : (code : Tables) (old : Processors) (p : ℕ) (after : Workplace) → HaveStates code old
+    → length (set old.partners.items p None) ≡ processors code
+forgotten_many code old p after states = partners_many code old p None states
+
+pub forgotten : (code : Tables) (old : Processors) (p : ℕ) (after : Workplace) → HaveStates code old → p < processors code
+    → AllKnow code (set old.locals.items p after) (set old.partners.items p None)
+forgotten code old p after states here = partners_known code old p after None states here (record { right = tt })
+
 -- ---- prints
 -- the move that prints, made of the state that stands at its place
 pub print_changed : (code : Tables) (old : Processors) (p : ℕ) (w after : Workplace) (bytes : List ℕ) → HaveStates code old → p < processors code
     → slice_get old.locals.items p ≡ Some w → PrintsNext code old p bytes → after ≡ record w { local = goes_on w.local } → IsReady code p after
-    → HaveChanged code old (with_state old p after old.links) p after (record { next = goes_on w.local; sent = None; taken = None; shown = bytes })
+    → HaveChanged code old (forgetting old p after) p after (record { next = goes_on w.local; sent = None; taken = None; shown = bytes })
 print_changed code old p w after bytes states here there next made ready =
     let both : Some next.workplace ≡ Some w = sym next.there ∙ there in
     let same : next.workplace ≡ w = cc in
     let turn : turn_of code old p ≡ printing w.local bytes = next.turn ∙ ap (λ (v : Workplace). printing v.local bytes) same in
-    printed_changed code old (with_state old p after old.links) p w after states here there refl refl refl refl bytes turn made ready refl
+    printed_changed code old (forgetting old p after) p w after states here there refl refl refl refl
+    (forgotten_many code old p after states) (forgotten code old p after states here) bytes turn made ready refl
 
 pub print_next : (code : Tables) (old : Processors) (p : ℕ) (w : Workplace) (bytes : List ℕ) → slice_get old.locals.items p ≡ Some w
     → PrintsNext code old p bytes → IsPrinting code p bytes w.local
@@ -256,7 +310,7 @@ pub print_moved : (code : Tables) (old new : Processors) (p : ℕ) (w after : Wo
     → slice_get old.locals.items p ≡ Some w → PrintsNext code old p bytes → after ≡ record w { local = goes_on w.local } → IsReady code p after
     → new.locals ≡ with_item old.locals p after → new.links ≡ old.links → HavePrinted code old new p bytes
 print_moved code old new p w after bytes states here there next made ready locals links =
-    let mid = with_state old p after old.links in
+    let mid = forgetting old p after in
     let move : Move Local Message = record { next = goes_on w.local; sent = None; taken = None; shown = bytes } in
     let moved : HaveMoved code old mid p move =
     changed_moved code old mid p after move states (print_changed code old p w after bytes states here there next made ready) in

@@ -4,7 +4,8 @@
 --   world_of       the world that they stand for
 --   turn_of        the next turn of a processor
 --   has_ended, is_at_rest   what the marks tell
---   HaveStates     the states are those of the code's processors, and may be
+--   AllKnow        what is known of each one's partners in an exchange is right
+--   HaveStates     the states are those of the code's processors, and may be, and that is so
 --   HaveMarks      and the marks are right
 --   AreProcessors  and it is known of one that it doesn't rest, if not all are marked
 --   AreUnsettled, AreLeft   what is so behind a move, and behind a turn
@@ -22,6 +23,7 @@ use Rattle.grid_meaning.specs.Local.{Local, processors}
 use Rattle.grid_meaning.specs.Turn.{Turn}
 use Rattle.node_local.specs.Workplace.{IsReady, Workplace}
 use Rattle.node_turn.specs.Turned.{IsTraffic, is_resting, printing, IsPrinting}
+use Rattle.row_turn.specs.Known.{Knows}
 use Rattle.node_turn.specs.declared.steps.Step.{Step}
 use Rattle.node_turn.specs.declared.steps.Step.TheVariants as step
 use Rattle.node_turn.specs.declared.steps.Traffic.{Traffic}
@@ -54,10 +56,17 @@ AllReady code workplaces =
     (p : ℕ) (workplace : Workplace) → slice_get workplaces p ≡ Some workplace
     → IsReady code p workplace
 
+abbrev pub AllKnow : Tables → List Workplace → List (Option (List ℕ)) → Type 0
+AllKnow code workplaces partners =
+    (p : ℕ) (workplace : Workplace) → slice_get workplaces p ≡ Some workplace
+    → Knows code p workplace.local (slice_index_or partners p None)
+
 pub record HaveStates (code : Tables) (team : Processors) : Type 0 where
   pub many : length team.locals.items ≡ processors code
   pub ready : AllReady code team.locals.items
   pub links : team.links.count ≡ processors code
+  pub partners : length team.partners.items ≡ processors code
+  pub known : AllKnow code team.locals.items team.partners.items
 
 abbrev pub Anywhere : ℕ → Type 0
 Anywhere p = ⊤

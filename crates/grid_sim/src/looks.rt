@@ -31,7 +31,8 @@ impl Processors {
         if self.resting.has(p) {
             return true;
         }
-        if !rests(code, layout, p, &self.locals[p as usize], &self.links) {
+        let known = &self.partners[p as usize];
+        if !rests(code, layout, p, &self.locals[p as usize], &self.links, known) {
             self.awake = p;
             return false;
         }

@@ -17,7 +17,7 @@ use crate::marks::Marks;
 use grid_layout::Layout;
 use grid_links::Links;
 use node_form::NodeProgram;
-use node_turn::{Local, Step, Traffic, moves_alone, printed, turn_of};
+use node_turn::{Local, Partners, Step, Traffic, moves_alone, printed, turn_of};
 use std::alloc::{AllocError, Global};
 
 /// The processors of a program between their turns.
@@ -26,6 +26,9 @@ use std::alloc::{AllocError, Global};
 /// processor that rests goes on doing so until a message for it is sent or one from it is taken, and
 /// one that doesn't goes on so until its next turn. So one is kept that doesn't rest, unless all
 /// are marked, and another one is sought only when it has moved.
+///
+/// Of a processor that is in an exchange it is known with whom it exchanges words there, once it has
+/// had a turn in it.
 #[derive(Drop)]
 pub(crate) struct Processors {
     pub(crate) locals: Vec<Local>,
@@ -33,6 +36,7 @@ pub(crate) struct Processors {
     pub(crate) ended: Marks,
     pub(crate) resting: Marks,
     pub(crate) awake: u32,
+    pub(crate) partners: Vec<Partners>,
 }
 
 impl Processors {
@@ -67,7 +71,8 @@ impl Processors {
             return Ok(self.rested(p));
         }
         let local = &mut self.locals[p as usize];
-        let step = turn_of(alloc, code, layout, p, local, &mut self.links)?;
+        let known = &mut self.partners[p as usize];
+        let step = turn_of(alloc, code, layout, p, local, &mut self.links, known)?;
         self.note(code, layout, p, &step);
         Ok(step)
     }
@@ -89,6 +94,7 @@ impl Processors {
         if !moves_alone(code, layout, p, &mut self.locals[p as usize]) {
             return false;
         }
+        self.partners[p as usize].forget();
         self.settle(code, layout, p, Traffic::Quiet);
         true
     }
@@ -104,6 +110,7 @@ impl Processors {
         ensures processors { AreProcessors code.now self.new }
     {
         printed(code, layout, p, &mut self.locals[p as usize]);
+        self.partners[p as usize].forget();
         self.settle(code, layout, p, Traffic::Quiet);
     }
 }

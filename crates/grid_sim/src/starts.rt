@@ -1,5 +1,5 @@
 //! Processors before their first turn.
-ghost use Rattle.std.specs.Prelude.{◌≡◌, IfOk, map};
+ghost use Rattle.std.specs.Prelude.{◌≡◌, IfOk, None, map, replicate};
 ghost use Rattle.grid_links.specs.Network.{empty_network};
 ghost use Rattle.grid_links.specs.Run.{start_world};
 ghost use Rattle.grid_meaning.specs.Grid.{system_over};
@@ -12,7 +12,7 @@ use crate::processors::Processors;
 use grid_layout::Layout;
 use grid_links::Links;
 use node_form::NodeProgram;
-use node_turn::Local;
+use node_turn::{Local, Partners};
 use std::alloc::{AllocError, Global};
 
 /// The states of all processors before their first turn.
@@ -34,6 +34,17 @@ fn start_locals(
     Ok(locals)
 }
 
+/// Of none of so many processors the partners are known.
+fn none_known(alloc: Global, count: u32) -> Result<Vec<Partners>, AllocError>
+    ensures { IfOk result (λ partners. partners.items ≡ replicate count None) }
+{
+    let mut partners = Vec::new(alloc);
+    for _p in 0..count {
+        partners.push(Partners::unknown())?;
+    }
+    Ok(partners)
+}
+
 impl Processors {
     /// All processors before their first turn, over links with no message on them.
     pub(crate) fn start(
@@ -53,12 +64,14 @@ impl Processors {
         let locals = start_locals(alloc, code, layout, count)?;
         let ended = Marks::none(alloc, count)?;
         let resting = Marks::none(alloc, count)?;
+        let partners = none_known(alloc, count)?;
         let mut team = Processors {
             locals,
             links,
             ended,
             resting,
             awake: 0,
+            partners,
         };
         team.seek(code, layout);
         Ok(team)

@@ -1,8 +1,10 @@
 -- A walk over some processors, which passes over none that it looks for.
-use Rattle.std.proofs.Common.{◌≡◌, ℕ, zero, suc, ◌+◌, ◌-◌, ◌<◌, ◌≤◌, ◌==◌, ◌&&◌, inl, inr, not, Bool, true, false, cond, min, nat_lt, List, [], ◌∷◌, length, refl, sym, ap, ◌∙◌, arith}
+use Rattle.std.proofs.Common.{◌≡◌, ℕ, zero, suc, ◌+◌, ◌-◌, ◌<◌, ◌≤◌, ◌==◌, ◌&&◌, inl, inr, not, Bool, true, false, cond, min, nat_lt, List, [], ◌∷◌, ◌++◌, length, refl, sym, ap, ◌∙◌, arith}
 use Rattle.std.specs.Prelude.{Some, filter, slice_get}
 use Rattle.std.specs.List.{range_with_len}
 use Rattle.std.proofs.lemmas.Bool.{cases_lt}
+use Rattle.std.proofs.lemmas.List.{append-nil}
+use Rattle.std.proofs.lemmas.List.Elements.{filter-append}
 use Rattle.std.proofs.lemmas.Bool.Decides.{nat_tests}
 use Rattle.node_form.specs.declared.tables.Tables.{Tables}
 use Rattle.grid_meaning.specs.Collective.{others_where}
@@ -17,6 +19,33 @@ passing test n = filter test (range_with_len 0 n)
 
 abbrev pub many : (ℕ → Bool) → ℕ → ℕ
 many test n = length (passing test n)
+
+-- ---- the list itself, one number after another
+passing-more : (test : ℕ → Bool) (n : ℕ) → passing test (suc n) ≡ passing test n ++ cond (test n) (n ∷ []) []
+passing-more test n =
+    let same : 0 + n ≡ n = omega arith in
+    ap (filter test) (range-more 0 n)
+    ∙ (filter-append test (range_with_len 0 n) ((0 + n) ∷ []) ∙ ap (λ k. passing test n ++ filter test (k ∷ [])) same)
+
+passing-one : (test : ℕ → Bool) (n : ℕ) → test n ≡ true → passing test (n + 1) ≡ passing test n ++ n ∷ []
+passing-one test n is =
+    let next : n + 1 ≡ suc n = omega arith in
+    ap (passing test) next ∙ (passing-more test n ∙ ap (λ b. passing test n ++ cond b (n ∷ []) []) is)
+
+passing-same : (test : ℕ → Bool) (n : ℕ) → test n ≡ false → passing test (n + 1) ≡ passing test n
+passing-same test n is =
+    let next : n + 1 ≡ suc n = omega arith in
+    ap (passing test) next ∙ (passing-more test n ∙ (ap (λ b. passing test n ++ cond b (n ∷ []) []) is ∙ append-nil (passing test n)))
+
+passing-none : (test : ℕ → Bool) (m n : ℕ) → m ≤ n → ((k : ℕ) → m ≤ k → k < n → test k ≡ false) → passing test n ≡ passing test m
+passing-none test m zero le fails = let same : m ≡ 0 = omega arith in ap (passing test) (sym same)
+passing-none test m (suc n) le fails = elim (cases_lt m (suc n)) [
+  | inl below ↦
+      let next : n + 1 ≡ suc n = omega arith in
+      ap (passing test) (sym next) ∙ (passing-same test n (fails n (omega arith) (omega arith))
+      ∙ passing-none test m n (omega arith) (λ k above within. fails k above (omega arith)))
+  | inr above ↦ let same : suc n ≡ m = omega arith in ap (passing test) same
+]
 
 many-more : (test : ℕ → Bool) (n : ℕ) → many test (suc n) ≡ many test n + cond (test n) 1 0
 many-more test n =
@@ -141,3 +170,54 @@ fails_without p q words has is none = ap (λ b. not (q == p) && b) (sym is ∙ n
     and_false : (b : Bool) → (b && false) ≡ false
     and_false true = refl
     and_false false = refl
+
+-- ---- a walk that lists who passes: the list holds those before q
+abbrev pub Listed : (ℕ → Bool) → ℕ → ℕ → List ℕ → Type 0
+Listed test count q list = list ≡ passing test (min q count)
+
+pub listed_on : (test : ℕ → Bool) (count at next : ℕ) (list : List ℕ) → at ≤ next → ((k : ℕ) → at ≤ k → k < next → k < count → test k ≡ false)
+    → Listed test count at list → Listed test count next list
+listed_on test count at next list le fails was =
+    was ∙ sym (passing-none test (min at count) (min next count) (omega arith) (λ k above below. fails k (omega arith) (omega arith) (omega arith)))
+
+pub listed_from : (test : ℕ → Bool) (count next : ℕ) → ((k : ℕ) → 0 ≤ k → k < next → k < count → test k ≡ false) → Listed test count next []
+listed_from test count next fails =
+    listed_on test count 0 next [] (omega arith) fails (let none : min 0 count ≡ 0 = omega arith in ap (passing test) (sym none))
+
+-- one that passes, and one that doesn't
+pub listed_more : (test : ℕ → Bool) (count q : ℕ) (list : List ℕ) → q < count → test q ≡ true → Listed test count q list → Listed test count (q + 1) (list ++ q ∷ [])
+listed_more test count q list below is was =
+    let here : min q count ≡ q = omega arith in
+    let there : q + 1 ≡ min (q + 1) count = omega arith in
+    ap (λ l. l ++ q ∷ []) (was ∙ ap (passing test) here) ∙ (sym (passing-one test q is) ∙ ap (passing test) there)
+
+pub listed_by : (test : ℕ → Bool) (count q : ℕ) (list : List ℕ) → q < count → test q ≡ false → Listed test count q list → Listed test count (q + 1) list
+listed_by test count q list below is was =
+    let here : min q count ≡ q = omega arith in
+    let there : q + 1 ≡ min (q + 1) count = omega arith in
+    was ∙ (ap (passing test) here ∙ (sym (passing-same test q is) ∙ ap (passing test) there))
+
+-- they are no more than the numbers before q
+passing_few : (test : ℕ → Bool) (n : ℕ) → length (passing test n) ≤ n
+passing_few test zero = omega arith
+passing_few test (suc n) =
+    let before = passing_few test n in
+    let step = many-more test n in
+    let one : cond (test n) 1 0 ≤ 1 = by (test n) in
+    omega (arith, before, step, one)
+  where
+    by : (b : Bool) → cond b 1 0 ≤ 1
+    by true = omega arith
+    by false = omega arith
+
+pub listed_few : (test : ℕ → Bool) (count q : ℕ) (list : List ℕ) → q < count → count ≤ 64 → Listed test count q list → length list < 64
+listed_few test count q list below most was =
+    let same = ap length was in
+    let few = passing_few test (min q count) in
+    omega (arith, same, few)
+
+pub listed_all : (code : Tables) (p : ℕ) (words : ℕ → ℕ) (count q : ℕ) (list : List ℕ) → count ≡ processors code → count ≤ q
+    → Listed (is_partner p words) count q list → list ≡ others_where code p words
+listed_all code p words count q list same past was =
+    let all : min q count ≡ processors code = omega arith in
+    was ∙ (ap (passing (is_partner p words)) all ∙ sym (partners_are code p words))

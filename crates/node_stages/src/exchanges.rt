@@ -1,29 +1,25 @@
 //! The stages of exchanges.
-ghost use Rattle.std.specs.Prelude.{◌≡◌, ◌<◌, ℕ, length, nat_lt, slice_get, All, Some};
+ghost use Rattle.std.specs.Prelude.{◌≡◌, ◌<◌, ℕ, length, nat_lt, slice_get, All, IfSome, Some};
 ghost use Rattle.std.specs.List.{AllZip};
 ghost use Rattle.zpl_region.specs.Region.{IsRegion, members};
 ghost use Rattle.node_form.specs.Fits.{FitsItem};
-ghost use Rattle.grid_meaning.specs.Collective.{others_where};
 ghost use Rattle.grid_meaning.specs.Exchange.{finished, places_of, started, word_count};
 ghost use Rattle.grid_meaning.specs.Local.{processors};
 ghost use Rattle.grid_meaning.specs.State.{IsSlot};
 ghost use Rattle.grid_meaning.specs.Stored.{arrangement_of};
-ghost use Rattle.node_stages.specs.Place.{IsNth};
+ghost use Rattle.node_stages.specs.Partners.{receivers_from, sending, senders_to, taking};
 ghost use Rattle.reach_plan.specs.Reach.{IsReach, LiesInReach};
 ghost use Rattle.node_stages.specs.Slots.{at_slots};
 ghost use Rattle.node_stages.specs.Stage.{staged};
 
 use crate::boxes::box_number;
+use crate::found::{Found, Partners};
 use crate::partners::Place;
 use crate::stages::Stage;
 use grid_layout::Layout;
 use node_form::{Item, NodeProgram};
 use reach_plan::{Reach, needers_of, owners_for};
 use zpl_region::Region;
-
-/// On a grid of no more processors a walk over all of them is quicker than finding out which ones
-/// can have words for each other.
-const FEW: u32 = 8;
 
 /// The places of an item that one processor owns and another needs, where these regions are in the
 /// receiver's slots.
@@ -144,9 +140,7 @@ fn receivers(code: &NodeProgram, layout: &Layout, slots: &[Region], items: &[Ite
     ensures all { (q : ℕ) → q < processors code.now
         → 0 < word_count code.now (at_slots slots.now) items.now p q → LiesInReach result q }
 {
-    if layout.grid().count() <= FEW {
-        return Reach::everywhere();
-    }
+    let _count = layout.grid().count();
     let mut reach = Reach::nowhere();
     for item in items {
         let more = item_receivers(code, layout, slots, item, p);
@@ -165,9 +159,7 @@ fn senders(code: &NodeProgram, layout: &Layout, slots: &[Region], items: &[Item]
     ensures all { (q : ℕ) → q < processors code.now
         → 0 < word_count code.now (at_slots slots.now) items.now q p → LiesInReach result q }
 {
-    if layout.grid().count() <= FEW {
-        return Reach::everywhere();
-    }
+    let _count = layout.grid().count();
     let mut reach = Reach::nowhere();
     for item in items {
         let more = item_senders(code, layout, slots, item, p);
@@ -176,73 +168,102 @@ fn senders(code: &NodeProgram, layout: &Layout, slots: &[Region], items: &[Item]
     reach
 }
 
-/// The processor at a place among the others for whom p has words. Only those are looked at whose
-/// blocks can need p's.
-fn nth_receiver(
+/// The others for whom p has words. Only those are looked at whose blocks can need p's.
+fn find_receivers(
     code: &NodeProgram,
     layout: &Layout,
     slots: &[Region],
     items: &[Item],
     p: u32,
-    place: u64,
-) -> Place
+) -> Found
     requires layout { layout.now ≡ arrangement_of code.now }
     requires slots { AllZip IsSlot code.now.slots slots.now }
     requires items { All (FitsItem code.now) items.now }
     requires processor { p < processors code.now }
-    ensures { IsNth (others_where code.now p (word_count code.now (at_slots slots.now) items.now p))
-        place result }
+    ensures { result ≡ receivers_from code.now slots.now items.now p }
 {
     let count = layout.grid().count();
     let reach = receivers(code, layout, slots, items, p);
-    let mut left = place;
+    let mut found = Found::none();
     let mut q = reach.first_from(0);
     while q < count {
         if q != p && has_words(code, layout, slots, items, p, q) {
-            if left == 0 {
-                return Place::There(q);
-            }
-            left -= 1;
+            found.add(q);
         }
         q = reach.first_from(q + 1);
     }
-    Place::Behind(left)
+    found
 }
 
-/// The processor at a place among the others who have words for p. Only those are looked at whose
-/// blocks can have them.
-fn nth_sender(
+/// The others who have words for p. Only those are looked at whose blocks can have them.
+fn find_senders(
     code: &NodeProgram,
     layout: &Layout,
     slots: &[Region],
     items: &[Item],
     p: u32,
-    place: u64,
-) -> Place
+) -> Found
     requires layout { layout.now ≡ arrangement_of code.now }
     requires slots { AllZip IsSlot code.now.slots slots.now }
     requires items { All (FitsItem code.now) items.now }
     requires processor { p < processors code.now }
-    ensures { IsNth (others_where code.now p
-        (λ q. word_count code.now (at_slots slots.now) items.now q p)) place result }
+    ensures { result ≡ senders_to code.now slots.now items.now p }
 {
     let count = layout.grid().count();
     let reach = senders(code, layout, slots, items, p);
-    let mut left = place;
+    let mut found = Found::none();
     let mut q = reach.first_from(0);
     while q < count {
         if q != p && has_words(code, layout, slots, items, q, p) {
-            if left == 0 {
-                return Place::There(q);
-            }
-            left -= 1;
+            found.add(q);
         }
         q = reach.first_from(q + 1);
     }
-    Place::Behind(left)
+    found
 }
 
-/// What processor p does in `start`, with these items, when it has made so many turns there.
+/// The stage at a place of a row that sends a message to each of these.
+fn sending_stage(partners: &Found, place: u64) -> Stage
+    requires { place < length (sending partners.now) }
+    ensures { slice_get (sending partners.now) place ≡ Some (staged result) }
+{
+    match partners.nth(place) {
+        Place::There(q) => Stage::Sends(q),
+        Place::Behind(_) => Stage::Last,
+    }
+}
+
+/// The stage at a place of a row that takes a message from each of these.
+fn awaiting_stage(partners: &Found, place: u64) -> Stage
+    requires { place < length (taking partners.now) }
+    ensures { slice_get (taking partners.now) place ≡ Some (staged result) }
+{
+    match partners.nth(place) {
+        Place::There(q) => Stage::TakesFrom(q),
+        Place::Behind(_) => Stage::Last,
+    }
+}
+
+/// Learns for whom p has words in `start`, with these items.
+pub fn learn_receivers(
+    code: &NodeProgram,
+    layout: &Layout,
+    slots: &[Region],
+    items: &[Item],
+    p: u32,
+    known: &mut Partners,
+)
+    requires layout { layout.now ≡ arrangement_of code.now }
+    requires slots { AllZip IsSlot code.now.slots slots.now }
+    requires items { All (FitsItem code.now) items.now }
+    requires processor { p < processors code.now }
+    ensures { known.new ≡ Some (receivers_from code.now slots.now items.now p) }
+{
+    known.learn(find_receivers(code, layout, slots, items, p));
+}
+
+/// What processor p does in `start`, with these items, when it has made so many turns there. Its
+/// receivers are found where they aren't known.
 pub fn start_stage(
     code: &NodeProgram,
     layout: &Layout,
@@ -250,6 +271,7 @@ pub fn start_stage(
     items: &[Item],
     p: u32,
     made: u64,
+    known: &Partners,
 ) -> Stage
     requires layout { layout.now ≡ arrangement_of code.now }
     requires slots { AllZip IsSlot code.now.slots slots.now }
@@ -257,16 +279,37 @@ pub fn start_stage(
     requires processor { p < processors code.now }
     requires made { made
         < length ((started code.now p 0 items.now).stages (at_slots slots.now)) }
+    requires known { IfSome known.now (λ list. list
+        ≡ receivers_from code.now slots.now items.now p) }
     ensures { slice_get ((started code.now p 0 items.now).stages (at_slots slots.now)) made
         ≡ Some (staged result) }
 {
-    match nth_receiver(code, layout, slots, items, p, made) {
-        Place::There(q) => Stage::Sends(q),
-        Place::Behind(_) => Stage::Last,
+    match known.list() {
+        Some(receivers) => sending_stage(receivers, made),
+        None => sending_stage(&find_receivers(code, layout, slots, items, p), made),
     }
 }
 
-/// What processor p does in `finish`, with these items, when it has made so many turns there.
+/// Learns who have words for p in `finish`, with these items.
+pub fn learn_senders(
+    code: &NodeProgram,
+    layout: &Layout,
+    slots: &[Region],
+    items: &[Item],
+    p: u32,
+    known: &mut Partners,
+)
+    requires layout { layout.now ≡ arrangement_of code.now }
+    requires slots { AllZip IsSlot code.now.slots slots.now }
+    requires items { All (FitsItem code.now) items.now }
+    requires processor { p < processors code.now }
+    ensures { known.new ≡ Some (senders_to code.now slots.now items.now p) }
+{
+    known.learn(find_senders(code, layout, slots, items, p));
+}
+
+/// What processor p does in `finish`, with these items, when it has made so many turns there. Its
+/// senders are found where they aren't known.
 pub fn finish_stage(
     code: &NodeProgram,
     layout: &Layout,
@@ -274,6 +317,7 @@ pub fn finish_stage(
     items: &[Item],
     p: u32,
     made: u64,
+    known: &Partners,
 ) -> Stage
     requires layout { layout.now ≡ arrangement_of code.now }
     requires slots { AllZip IsSlot code.now.slots slots.now }
@@ -281,11 +325,13 @@ pub fn finish_stage(
     requires processor { p < processors code.now }
     requires made { made
         < length ((finished code.now p 0 items.now).stages (at_slots slots.now)) }
+    requires known { IfSome known.now (λ list. list
+        ≡ senders_to code.now slots.now items.now p) }
     ensures { slice_get ((finished code.now p 0 items.now).stages (at_slots slots.now)) made
         ≡ Some (staged result) }
 {
-    match nth_sender(code, layout, slots, items, p, made) {
-        Place::There(q) => Stage::TakesFrom(q),
-        Place::Behind(_) => Stage::Last,
+    match known.list() {
+        Some(senders) => awaiting_stage(senders, made),
+        None => awaiting_stage(&find_senders(code, layout, slots, items, p), made),
     }
 }

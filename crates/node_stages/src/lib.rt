@@ -2,12 +2,14 @@
 //! next turn of such a row, by the turns that it has made in it.
 //!
 //! Nothing here takes memory, and no list of stages is made: a stage is found by one walk over
-//! processors, in exchanges and borders over those whose blocks can meet.
+//! processors, in exchanges and borders over those whose blocks can meet. In an exchange the
+//! walk can be made beforehand, and its partners kept.
 #![tactic(auto)]
 
 mod boxes;
 mod edges;
 mod exchanges;
+mod found;
 mod gathers;
 mod kin;
 mod partners;
@@ -15,7 +17,8 @@ mod stages;
 
 pub use boxes::box_number;
 pub use edges::{edge_piece, edge_stage};
-pub use exchanges::{finish_stage, item_piece, start_stage};
+pub use exchanges::{finish_stage, item_piece, learn_receivers, learn_senders, start_stage};
+pub use found::Partners;
 pub use gathers::{gather_stage, own_tuples};
 pub use kin::Kin;
 pub use partners::{MOST, Place, nth, taking_stage};

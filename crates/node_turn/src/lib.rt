@@ -13,6 +13,7 @@ mod turns;
 
 pub use moves::moves_alone;
 pub use node_local::{Kept, KeptWords, Local, Slots, Standing, Store, Stores};
+pub use node_stages::Partners;
 pub use prints::printed;
 pub use resting::rests;
 pub use steps::{Step, StuckKind, Traffic};

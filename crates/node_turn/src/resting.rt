@@ -5,6 +5,7 @@ ghost use Rattle.grid_meaning.specs.Local.{processors};
 ghost use Rattle.grid_meaning.specs.Stored.{arrangement_of};
 ghost use Rattle.node_local.specs.Workplace.{IsReady};
 ghost use Rattle.node_turn.specs.Turned.{is_resting, turn_over};
+ghost use Rattle.row_turn.specs.Known.{Knows};
 ghost use Rattle.row_turn.specs.Placed.{IsAtRow};
 ghost use Rattle.row_turn.specs.Together.{IsTogether, OfRow};
 
@@ -12,7 +13,7 @@ use grid_layout::Layout;
 use grid_links::Links;
 use node_form::{Instr, NodeProgram, rows_fit};
 use node_local::Local;
-use node_stages::Stage;
+use node_stages::{Partners, Stage};
 use row_turn::{has_words, is_together, row_stage};
 
 /// Whether a processor waits that has a message to send: the link is full, and the message's words
@@ -74,14 +75,16 @@ fn rests_together(
     local: &Local,
     links: &Links,
     row: &Instr,
+    known: &Partners,
 ) -> bool
     requires layout { layout.now ≡ arrangement_of code.now }
     requires links { links.now.count ≡ processors code.now }
     requires together { IsTogether row.now }
     requires at { IsAtRow code.now p local.now row.now }
+    requires known { Knows code.now p local.now.local known.now }
     ensures { result ≡ is_resting (turn_over code.now p local.now.local links.now) }
 {
-    match row_stage(code, layout, p, local, row) {
+    match row_stage(code, layout, p, local, row, known) {
         Stage::Alone => false,
         Stage::Sends(to) => sender_rests(code, layout, p, local, links, row, to),
         Stage::TakesFrom(from) => receiver_rests(code, p, local, links, row, from),
@@ -92,11 +95,19 @@ fn rests_together(
 /// Whether the next turn of processor p changes nothing, and it isn't stuck: it waits, or it has
 /// ended. It takes no memory.
 #[inline(always)]
-pub fn rests(code: &NodeProgram, layout: &Layout, p: u32, local: &Local, links: &Links) -> bool
+pub fn rests(
+    code: &NodeProgram,
+    layout: &Layout,
+    p: u32,
+    local: &Local,
+    links: &Links,
+    known: &Partners,
+) -> bool
     requires layout { layout.now ≡ arrangement_of code.now }
     requires processor { p < processors code.now }
     requires ready { IsReady code.now p local.now }
     requires links { links.now.count ≡ processors code.now }
+    requires known { Knows code.now p local.now.local known.now }
     ensures { result ≡ is_resting (turn_over code.now p local.now.local links.now) }
 {
     if local.ending().is_some() {
@@ -107,7 +118,7 @@ pub fn rests(code: &NodeProgram, layout: &Layout, p: u32, local: &Local, links: 
         return false;
     };
     if is_together(row) {
-        rests_together(code, layout, p, local, links, row)
+        rests_together(code, layout, p, local, links, row, known)
     } else {
         false
     }

@@ -4,7 +4,8 @@ ghost use Rattle.grid_meaning.specs.Collective.{Sends, TakesFrom, stage_of};
 ghost use Rattle.grid_meaning.specs.Local.{processors};
 ghost use Rattle.grid_meaning.specs.Stored.{arrangement_of};
 ghost use Rattle.node_turn.specs.Turned.{IsTurn, turn_over};
-ghost use Rattle.row_turn.specs.Placed.{IsAtRow};
+ghost use Rattle.row_turn.specs.Known.{Knows};
+ghost use Rattle.row_turn.specs.Placed.{IsAtRow, StaysAtRow};
 ghost use Rattle.row_turn.specs.Together.{IsTogether, OfRow};
 
 use crate::silent::{alone_step, last_step, see_three};
@@ -14,8 +15,8 @@ use grid_links::Links;
 use grid_meaning::states_are_kept;
 use node_form::{Instr, NodeProgram};
 use node_local::Local;
-use node_stages::Stage;
-use row_turn::{Receipt, message_for, row_stage, take_message};
+use node_stages::{Partners, Stage};
+use row_turn::{Receipt, learn_partners, message_for, row_stage, take_message};
 use std::alloc::{AllocError, Global};
 
 /// The turn of a processor that sends a message: it waits where the link is full, and is stuck where
@@ -40,6 +41,7 @@ fn send_step(
     requires few { local.old.local.made + 1 < 2 ^ 64 }
     ensures turn { IfOk result (IsTurn code.now p local.old local.new links.old links.new
         (turn_over code.now p local.old.local links.old)) }
+    ensures row { StaysAtRow local.old local.new }
     ensures kept { OnErr result (local.new ≡ local.old) }
     ensures links_kept { OnErr result (links.new ≡ links.old) }
 {
@@ -82,6 +84,7 @@ fn take_step(
     requires few { local.old.local.made + 1 < 2 ^ 64 }
     ensures turn { IfOk result (IsTurn code.now p local.old local.new links.old links.new
         (turn_over code.now p local.old.local links.old)) }
+    ensures row { StaysAtRow local.old local.new }
     ensures kept { OnErr result (local.new ≡ local.old) }
     ensures links_kept { OnErr result (links.new ≡ links.old) }
 {
@@ -102,7 +105,7 @@ fn take_step(
 }
 
 /// The turn of a processor at a row in which processors work together. For want of memory nothing
-/// changes.
+/// changes but what is known of its partners.
 pub(crate) fn together_turn(
     alloc: Global,
     code: &NodeProgram,
@@ -111,20 +114,32 @@ pub(crate) fn together_turn(
     local: &mut Local,
     links: &mut Links,
     row: &Instr,
+    known: &mut Partners,
 ) -> Result<Step, AllocError>
     requires layout { layout.now ≡ arrangement_of code.now }
     requires links { links.old.count ≡ processors code.now }
     requires together { IsTogether row.now }
     requires at { IsAtRow code.now p local.old row.now }
+    requires known { Knows code.now p local.old.local known.old }
     ensures turn { IfOk result (IsTurn code.now p local.old local.new links.old links.new
         (turn_over code.now p local.old.local links.old)) }
+    ensures known { Knows code.now p local.new.local known.new }
     ensures kept { OnErr result (local.new ≡ local.old) }
     ensures links_kept { OnErr result (links.new ≡ links.old) }
 {
-    match row_stage(code, layout, p, local, row) {
-        Stage::Alone => alone_step(alloc, code, layout, p, local, row),
+    if !known.are_known() {
+        learn_partners(code, layout, p, local, row, known);
+    }
+    match row_stage(code, layout, p, local, row, known) {
+        Stage::Alone => {
+            known.forget();
+            alone_step(alloc, code, layout, p, local, row)
+        }
         Stage::Sends(to) => send_step(alloc, code, layout, p, local, links, row, to),
         Stage::TakesFrom(from) => take_step(alloc, code, layout, p, local, links, row, from),
-        Stage::Last => last_step(alloc, code, layout, p, local, row),
+        Stage::Last => {
+            known.forget();
+            last_step(alloc, code, layout, p, local, row)
+        }
     }
 }

@@ -4,6 +4,7 @@ ghost use Rattle.grid_meaning.specs.Local.{processors};
 ghost use Rattle.grid_meaning.specs.Stored.{arrangement_of};
 ghost use Rattle.node_local.specs.Workplace.{IsReady};
 ghost use Rattle.node_turn.specs.Turned.{IsTurn, turn_over};
+ghost use Rattle.row_turn.specs.Known.{Knows};
 
 use crate::silent::{end_step, own_step};
 use crate::steps::Step;
@@ -12,11 +13,13 @@ use grid_layout::Layout;
 use grid_links::Links;
 use node_form::{NodeProgram, rows_fit};
 use node_local::Local;
+use node_stages::Partners;
 use row_turn::is_together;
 use std::alloc::{AllocError, Global};
 
 /// Gives processor p a turn. A move is made, unless it prints: then its bytes are answered, and
-/// [`printed`](crate::printed) makes it. For want of memory nothing changes.
+/// [`printed`](crate::printed) makes it. What is known of the processor's partners in an exchange is
+/// used, and kept up with the turn. For want of memory nothing changes but that.
 pub fn turn_of(
     alloc: Global,
     code: &NodeProgram,
@@ -24,13 +27,16 @@ pub fn turn_of(
     p: u32,
     local: &mut Local,
     links: &mut Links,
+    known: &mut Partners,
 ) -> Result<Step, AllocError>
     requires layout { layout.now ≡ arrangement_of code.now }
     requires processor { p < processors code.now }
     requires ready { IsReady code.now p local.old }
     requires links { links.old.count ≡ processors code.now }
+    requires known { Knows code.now p local.old.local known.old }
     ensures turn { IfOk result (IsTurn code.now p local.old local.new links.old links.new
         (turn_over code.now p local.old.local links.old)) }
+    ensures known { Knows code.now p local.new.local known.new }
     ensures kept { OnErr result (local.new ≡ local.old) }
     ensures links_kept { OnErr result (links.new ≡ links.old) }
 {
@@ -39,11 +45,13 @@ pub fn turn_of(
     }
     rows_fit();
     let Some(row) = code.tables().code.get(local.at()) else {
+        known.forget();
         return Ok(end_step(code, p, local));
     };
     if is_together(row) {
-        together_turn(alloc, code, layout, p, local, links, row)
+        together_turn(alloc, code, layout, p, local, links, row, known)
     } else {
+        known.forget();
         own_step(alloc, code, layout, p, local, row)
     }
 }

@@ -12,7 +12,7 @@ use grid_links::Links;
 use listing_runs::listed_code_has_room;
 use node_form::NodeProgram;
 use node_text::read_listing;
-use node_turn::{Local, Step, StuckKind, Traffic, printed, turn_of};
+use node_turn::{Local, Partners, Step, StuckKind, Traffic, printed, turn_of};
 use std::alloc::{AllocError, Global};
 use std::process::Abort;
 use std::test::Fail;
@@ -57,7 +57,9 @@ fn give(
     ensures ready { IsReady code.now player.new.number player.new.local }
     ensures links { links.new.count ≡ links.old.count }
 {
-    match turn_of(alloc, code, layout, player.number, &mut player.local, links)? {
+    let mut known = Partners::unknown();
+    let local = &mut player.local;
+    match turn_of(alloc, code, layout, player.number, local, links, &mut known)? {
         Step::Prints(bytes) => {
             printed(code, layout, player.number, &mut player.local);
             Ok(Step::Prints(bytes))

@@ -98,14 +98,6 @@ impl Reach {
         }
     }
 
-    /// All blocks.
-    pub fn everywhere() -> Reach
-        ensures sound { IsReach result }
-        ensures all { (q : ℕ) → q < 64 → LiesInReach result q }
-    {
-        all_of(&Reach::nowhere())
-    }
-
     /// A number from `at` on before which no processor from `at` on has blocks among these. After
     /// four steps at most it is one that has, or 64: out of a row, out of a plane, and to these
     /// blocks.

@@ -1,9 +1,10 @@
 mod BoundLemmas
 mod HeldLemmas
 mod MoreLemmas
-pub mod RecordLemmas
 mod RemapLemmas
 mod RowLemmas
 mod ScanLemmas
 mod StageLemmas
+pub mod KnownLemmas
+pub mod RecordLemmas
 pub mod StandLemmas

@@ -1,3 +1,4 @@
+pub mod Known
 pub mod Own
 pub mod Placed
 pub mod Together

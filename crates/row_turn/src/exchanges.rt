@@ -9,6 +9,7 @@ ghost use Rattle.grid_meaning.specs.State.{IsSlot};
 ghost use Rattle.grid_meaning.specs.Stored.{arrangement_of};
 ghost use Rattle.node_form.specs.Fits.{FitsItem};
 ghost use Rattle.node_stages.specs.Stage.{staged};
+ghost use Rattle.row_turn.specs.Known.{Knows, partners_of};
 ghost use Rattle.row_turn.specs.Placed.{IsAtRow};
 ghost use Rattle.row_turn.specs.Together.{OfRow};
 
@@ -18,7 +19,9 @@ use grid_layout::Layout;
 use grid_links::Words;
 use node_form::{Instr, Item, NodeProgram, rows_fit};
 use node_local::Local;
-use node_stages::{Stage, finish_stage, item_piece, start_stage};
+use node_stages::{
+    Partners, Stage, finish_stage, item_piece, learn_receivers, learn_senders, start_stage,
+};
 use std::alloc::{AllocError, Global};
 
 /// The items of an exchange.
@@ -42,14 +45,16 @@ pub(crate) fn stage_in_start(
     p: u32,
     local: &Local,
     exchange: u32,
+    known: &Partners,
 ) -> Stage
     requires layout { layout.now ≡ arrangement_of code.now }
     requires at { IsAtRow code.now p local.now (Instr.Start exchange) }
+    requires known { Knows code.now p local.now.local known.now }
     ensures { OfRow code.now p (Instr.Start exchange) (λ row.
         stage_of row local.now.local ≡ Some (staged result)) }
 {
     let items = items_of(code, exchange);
-    start_stage(code, layout, local.slots(), items, p, local.made())
+    start_stage(code, layout, local.slots(), items, p, local.made(), known)
 }
 
 /// What a processor does in its next turn of `finish`.
@@ -59,14 +64,50 @@ pub(crate) fn stage_in_finish(
     p: u32,
     local: &Local,
     exchange: u32,
+    known: &Partners,
 ) -> Stage
     requires layout { layout.now ≡ arrangement_of code.now }
     requires at { IsAtRow code.now p local.now (Instr.Finish exchange) }
+    requires known { Knows code.now p local.now.local known.now }
     ensures { OfRow code.now p (Instr.Finish exchange) (λ row.
         stage_of row local.now.local ≡ Some (staged result)) }
 {
     let items = items_of(code, exchange);
-    finish_stage(code, layout, local.slots(), items, p, local.made())
+    finish_stage(code, layout, local.slots(), items, p, local.made(), known)
+}
+
+/// Learns for whom processor p has words in `start`.
+pub(crate) fn learn_in_start(
+    code: &NodeProgram,
+    layout: &Layout,
+    p: u32,
+    local: &Local,
+    exchange: u32,
+    known: &mut Partners,
+)
+    requires layout { layout.now ≡ arrangement_of code.now }
+    requires at { IsAtRow code.now p local.now (Instr.Start exchange) }
+    ensures { partners_of code.now p local.now.local ≡ known.new }
+{
+    let items = items_of(code, exchange);
+    learn_receivers(code, layout, local.slots(), items, p, known);
+}
+
+/// Learns who have words for processor p in `finish`.
+pub(crate) fn learn_in_finish(
+    code: &NodeProgram,
+    layout: &Layout,
+    p: u32,
+    local: &Local,
+    exchange: u32,
+    known: &mut Partners,
+)
+    requires layout { layout.now ≡ arrangement_of code.now }
+    requires at { IsAtRow code.now p local.now (Instr.Finish exchange) }
+    ensures { partners_of code.now p local.now.local ≡ known.new }
+{
+    let items = items_of(code, exchange);
+    learn_senders(code, layout, local.slots(), items, p, known);
 }
 
 /// The words that `start` sends to a processor; none where a place of theirs isn't held.

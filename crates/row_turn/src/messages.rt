@@ -10,7 +10,7 @@ ghost use Rattle.grid_meaning.specs.Turn.{fed_by};
 ghost use Rattle.node_form.specs.declared.tables.Tables.{Tables as Code};
 ghost use Rattle.node_messages.specs.Agreement.{agreement_row};
 ghost use Rattle.row_turn.specs.Own.{StaysSo, fed_of, message_of};
-ghost use Rattle.row_turn.specs.Placed.{IsAtRow};
+ghost use Rattle.row_turn.specs.Placed.{IsAtRow, StaysAtRow};
 ghost use Rattle.row_turn.specs.Together.{IsTogether, OfRow, kin_over};
 
 use crate::agreements::{kin_of, see_flag};
@@ -337,6 +337,7 @@ pub fn take_message(
         fed_by together local.old.local from message.now ≡ fed_of receipt local.new.local)) }
     ensures state { local.new ≡ record local.old { local = local.new.local } }
     ensures stays { IfOk result (λ receipt. StaysSo receipt local.old local.new) }
+    ensures row { StaysAtRow local.old local.new }
     ensures err { OnErr result (local.new ≡ local.old) }
 {
     if !has_tag(local, row, message.tag) {

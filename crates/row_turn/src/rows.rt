@@ -4,12 +4,13 @@ ghost use Rattle.grid_meaning.specs.Collective.{stage_of};
 ghost use Rattle.grid_meaning.specs.Local.{processors};
 ghost use Rattle.grid_meaning.specs.Stored.{arrangement_of};
 ghost use Rattle.node_stages.specs.Stage.{staged};
+ghost use Rattle.row_turn.specs.Known.{Knows};
 ghost use Rattle.row_turn.specs.Placed.{IsAtRow};
 ghost use Rattle.row_turn.specs.Together.{IsAlone, IsTogether, NamesOne, OfRow};
 
 use crate::agreements::kin_of;
 use crate::edges::stage_in_edge;
-use crate::exchanges::{stage_in_finish, stage_in_start};
+use crate::exchanges::{learn_in_finish, learn_in_start, stage_in_finish, stage_in_start};
 use crate::floods::stage_in_flood;
 use crate::gathers::stage_in_gather;
 use crate::parts::stage_in_part;
@@ -18,7 +19,7 @@ use crate::scans::stage_in_scan;
 use grid_layout::Layout;
 use node_form::{Instr, NodeProgram};
 use node_local::Local;
-use node_stages::Stage;
+use node_stages::{Partners, Stage};
 
 /// Whether processors work together in a row.
 pub fn is_together(row: &Instr) -> bool
@@ -43,16 +44,24 @@ pub fn is_together(row: &Instr) -> bool
 }
 
 /// The stage of a row.
-fn stage_of_row(code: &NodeProgram, layout: &Layout, p: u32, local: &Local, row: &Instr) -> Stage
+fn stage_of_row(
+    code: &NodeProgram,
+    layout: &Layout,
+    p: u32,
+    local: &Local,
+    row: &Instr,
+    known: &Partners,
+) -> Stage
     requires layout { layout.now ≡ arrangement_of code.now }
     requires together { IsTogether row.now }
     requires at { IsAtRow code.now p local.now row.now }
+    requires known { Knows code.now p local.now.local known.now }
     ensures { OfRow code.now p row.now (λ together.
         stage_of together local.now.local ≡ Some (staged result)) }
 {
     match *row {
-        Instr::Start { exchange } => stage_in_start(code, layout, p, local, exchange),
-        Instr::Finish { exchange } => stage_in_finish(code, layout, p, local, exchange),
+        Instr::Start { exchange } => stage_in_start(code, layout, p, local, exchange, known),
+        Instr::Finish { exchange } => stage_in_finish(code, layout, p, local, exchange, known),
         Instr::Edge {
             kind,
             array,
@@ -85,16 +94,47 @@ fn stage_of_row(code: &NodeProgram, layout: &Layout, p: u32, local: &Local, row:
     }
 }
 
-/// What processor p does in its next turn of a row in which processors work together.
-pub fn row_stage(code: &NodeProgram, layout: &Layout, p: u32, local: &Local, row: &Instr) -> Stage
+/// What processor p does in its next turn of a row in which processors work together. Its
+/// partners in an exchange are found where they aren't known.
+pub fn row_stage(
+    code: &NodeProgram,
+    layout: &Layout,
+    p: u32,
+    local: &Local,
+    row: &Instr,
+    known: &Partners,
+) -> Stage
     requires layout { layout.now ≡ arrangement_of code.now }
     requires together { IsTogether row.now }
     requires at { IsAtRow code.now p local.now row.now }
+    requires known { Knows code.now p local.now.local known.now }
     ensures stage { OfRow code.now p row.now (λ together.
         stage_of together local.now.local ≡ Some (staged result)) }
     ensures named { NamesOne (processors code.now) (staged result) }
     ensures few { local.now.local.made < 2 ^ 32 }
 {
     let _count = layout.grid().count();
-    stage_of_row(code, layout, p, local, row)
+    stage_of_row(code, layout, p, local, row, known)
+}
+
+/// Learns with whom processor p exchanges words in the row that it is at, where the row is an
+/// exchange.
+pub fn learn_partners(
+    code: &NodeProgram,
+    layout: &Layout,
+    p: u32,
+    local: &Local,
+    row: &Instr,
+    known: &mut Partners,
+)
+    requires layout { layout.now ≡ arrangement_of code.now }
+    requires at { IsAtRow code.now p local.now row.now }
+    requires known { Knows code.now p local.now.local known.old }
+    ensures { Knows code.now p local.now.local known.new }
+{
+    match *row {
+        Instr::Start { exchange } => learn_in_start(code, layout, p, local, exchange, known),
+        Instr::Finish { exchange } => learn_in_finish(code, layout, p, local, exchange, known),
+        _ => (),
+    }
 }

@@ -10,9 +10,9 @@ pub loop-item-preserved : goal.loop-item-preserved
 loop-item-preserved c = record {
   sound = c.with-reach.ensures.sound;
   all = λ q below some.
-      let count : c.count.result ≡ processors c.args.code.now =
-      c.count.ensures.count ∙ (ap processors_of c.grid.ensures ∙ grid_count c.args.code.now c.args.layout.now c.requires.layout) in
-      let most = c.count.ensures.few in
+      let count : c.count-count.result ≡ processors c.args.code.now =
+      c.count-count.ensures.count ∙ (ap processors_of c.grid.ensures ∙ grid_count c.args.code.now c.args.layout.now c.requires.layout) in
+      let most = c.count-count.ensures.few in
       let few : q < 64 = omega (arith, count, most, below) in
       elim (c.loop-item.invariant.all q below some) [
         | inl lies ↦ inl (c.with-reach.ensures.mine q few lies)
@@ -29,10 +29,3 @@ returns-clause-all c = λ q below some. elim (c.loop-item.invariant.all q below 
   | inl lies ↦ lies
   | inr rest ↦ absurd (omega (arith, none_left (λ item. length (places_of c.args.code.now (at_slots c.args.slots.now) q c.args.p item)) c.args.items.now c.loop-item.item-index (omega arith) rest))
 ]
-
-pub returns-then-count-le-FEW-clause-all : goal.returns-then-count-le-FEW-clause-all
-returns-then-count-le-FEW-clause-all c = λ q below some.
-    let count : c.count.result ≡ processors c.args.code.now =
-    c.count.ensures.count ∙ (ap processors_of c.grid.ensures ∙ grid_count c.args.code.now c.args.layout.now c.requires.layout) in
-    let most = c.count.ensures.few in
-    c.everywhere.ensures.all q (omega (arith, count, most, below))

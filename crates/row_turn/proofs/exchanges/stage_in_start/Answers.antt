@@ -1,13 +1,16 @@
-use Rattle.std.proofs.Common.{sym, subst}
+use Rattle.std.proofs.Common.{ℕ, sym, subst}
 use Rattle.std.specs.Prelude.{List}
+use Rattle.std.specs.Option.{IfSome}
 use Rattle.std.specs.List.{AllZip}
 use Rattle.zpl_region.specs.declared.regions.Region.{Region}
 use Rattle.grid_meaning.specs.Collective.{Collective, stage_of}
 use Rattle.grid_meaning.specs.Exchange.{started}
 use Rattle.grid_meaning.specs.State.{IsSlot}
+use Rattle.node_stages.specs.Partners.{receivers_from}
 use Rattle.node_stages.specs.Stage.{staged}
 use Rattle.std.specs.Prelude.{◌≡◌, Some}
 use Rattle.row_turn.proofs.StageLemmas.{made_by, made_in_start, of_start, stage_by, starting_stages}
+use Rattle.row_turn.proofs.KnownLemmas.{in_start, told}
 use Rattle.row_turn.proofs.exchanges.stage_in_start.Goals as goal
 
 pub items_of-items-requires : goal.items_of-items-requires
@@ -31,3 +34,10 @@ returns c =
     (stage_by (started c.args.code.now c.args.p c.args.exchange c.items_of-items.result.now) c.args.local.now.local _ c.made.result _
     (starting_stages c.args.code.now c.args.p c.args.exchange c.items_of-items.result.now c.args.local.now.local c.slots.result.now c.slots.ensures)
     c.made.ensures c.start_stage.ensures)
+
+pub start_stage-requires-clause-known : goal.start_stage-requires-clause-known
+start_stage-requires-clause-known c =
+    subst (λ (slots : List Region). IfSome c.args.known.now (λ (list : List ℕ). list ≡ receivers_from c.args.code.now slots c.items_of-items.result.now c.args.p)) (sym c.slots.ensures)
+    (told c.args.code.now c.args.p c.args.local.now.local c.args.known.now _
+    (in_start c.args.code.now c.args.p c.args.local.now.local c.args.exchange c.items_of-items.result.now c.requires.at.here c.items_of-items.ensures.there)
+    c.requires.known)

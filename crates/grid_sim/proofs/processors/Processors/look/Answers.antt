@@ -1,6 +1,6 @@
 use Rattle.std.proofs.Common.{◌≡◌, ◌<◌, true, false, ap, sym, subst, ◌∙◌, length, get_or}
 use Rattle.grid_sim.specs.Processors.{is_at_rest, looked_as}
-use Rattle.grid_sim.proofs.TeamLemmas.{item_there, marked_before, rest_is}
+use Rattle.grid_sim.proofs.TeamLemmas.{item_there, known_at, marked_before, rest_is}
 use Rattle.grid_sim.proofs.processors.Processors.look.Goals as goal
 
 pub returns-then-has-clause-rest : goal.returns-then-has-clause-rest
@@ -15,6 +15,14 @@ rests-requires-clause-ready c =
     let items = c.args.self.now.locals.items in
     let inside : c.args.p < length items = subst (λ n. c.args.p < n) (sym c.requires.marks.states.many) c.requires.processor in
     c.requires.marks.states.ready c.args.p c.index.result.now (item_there items c.args.p c.index.result.now c.index.ensures inside)
+
+pub rests-requires-clause-known : goal.rests-requires-clause-known
+rests-requires-clause-known c =
+    let items = c.args.self.now.locals.items in
+    let states = c.requires.marks.states in
+    let inside : c.args.p < length items = subst (λ n. c.args.p < n) (sym states.many) c.requires.processor in
+    known_at c.args.code.now c.args.self.now c.args.p c.index.result.now c.index-known.result.now states
+    (item_there items c.args.p c.index.result.now c.index.ensures inside) c.index-known.ensures c.requires.processor
 
 pub returns-then-not-rests-clause-rest : goal.returns-then-not-rests-clause-rest
 returns-then-not-rests-clause-rest c =

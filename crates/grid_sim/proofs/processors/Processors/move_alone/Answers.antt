@@ -3,7 +3,7 @@ use Rattle.node_turn.specs.declared.steps.Step.TheVariants as step
 use Rattle.node_turn.specs.declared.steps.Traffic.TheVariants.{Quiet}
 use Rattle.grid_sim.specs.declared.processors.Processors.{Processors as Team}
 use Rattle.grid_sim.proofs.TeamLemmas.{item_there, same_processors}
-use Rattle.grid_sim.proofs.TurnLemmas.{kept_same, turn_left, turned_marks, turned_on, with_state}
+use Rattle.grid_sim.proofs.TurnLemmas.{forgetting, forgotten, forgotten_many, kept_same, known_kept, turn_left, turned_marks, turned_on, with_state}
 use Rattle.grid_sim.proofs.processors.Processors.move_alone.Goals as goal
 
 pub has-requires : goal.has-requires
@@ -21,7 +21,9 @@ returns-then-not-moves_alone-clause-processors c =
     let old = c.args.self.now in
     same_processors c.args.code.now old (with_state old c.args.p c.moves_alone.new.local old.links)
     (kept_same old c.args.p c.index_mut.result.now c.moves_alone.new.local old.links c.index_mut.ensures.value
-    (c.moves_alone.ensures.same c.if-not-moves_alone.true) refl) refl refl refl c.requires.processors
+    (c.moves_alone.ensures.same c.if-not-moves_alone.true) refl) refl refl refl c.requires.processors.marks.states.partners
+    (known_kept c.args.code.now old c.args.p c.index_mut.result.now c.moves_alone.new.local c.index_mut.ensures.value
+    (c.moves_alone.ensures.same c.if-not-moves_alone.true) c.requires.processors.marks.states) c.requires.processors
 
 pub returns-then-not-moves_alone-clause-same : goal.returns-then-not-moves_alone-clause-same
 returns-then-not-moves_alone-clause-same c = λ none.
@@ -32,18 +34,19 @@ returns-then-not-moves_alone-clause-same c = λ none.
 pub settle-requires-clause-moved : goal.settle-requires-clause-moved
 settle-requires-clause-moved c =
     let old = c.args.self.now in
-    let mid : Team = with_state old c.args.p c.moves_alone.new.local old.links in
+    let mid : Team = forgetting old c.args.p c.moves_alone.new.local in
     let w = c.index_mut.result.now in
     let states = c.requires.processors.marks.states in
     let inside : c.args.p < length old.locals.items = subst (λ n. c.args.p < n) (sym states.many) c.requires.processor in
     let there = item_there old.locals.items c.args.p w c.index_mut.ensures.value inside in
     (turn_left c.args.code.now old mid c.args.p w c.moves_alone.new.local states c.requires.processor there refl refl refl refl
+    (forgotten_many c.args.code.now old c.args.p c.moves_alone.new.local states) (forgotten c.args.code.now old c.args.p c.moves_alone.new.local states c.requires.processor)
     (step.Moved Quiet) c.index_mut.ensures.value (c.moves_alone.ensures.made c.if-not-moves_alone.false old.links) c.requires.processors).0
 
 pub returns-clause-moved : goal.returns-clause-moved
 returns-clause-moved c = λ made.
     let old = c.args.self.now in
-    let mid : Team = with_state old c.args.p c.moves_alone.new.local old.links in
+    let mid : Team = forgetting old c.args.p c.moves_alone.new.local in
     let w = c.index_mut.result.now in
     let states = c.requires.processors.marks.states in
     let inside : c.args.p < length old.locals.items = subst (λ n. c.args.p < n) (sym states.many) c.requires.processor in
@@ -51,4 +54,5 @@ returns-clause-moved c = λ made.
     turned_marks c.args.code.now old mid c.settle.new.self c.args.p (step.Moved Quiet) (ap (λ l. l.items) c.settle.ensures.locals)
     c.settle.ensures.links
     (turned_on c.args.code.now old mid c.args.p w c.moves_alone.new.local states c.requires.processor there refl refl refl refl
+    (forgotten_many c.args.code.now old c.args.p c.moves_alone.new.local states) (forgotten c.args.code.now old c.args.p c.moves_alone.new.local states c.requires.processor)
     (step.Moved Quiet) c.index_mut.ensures.value (c.moves_alone.ensures.made c.if-not-moves_alone.false old.links))
