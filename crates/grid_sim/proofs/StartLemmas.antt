@@ -76,10 +76,10 @@ none_marked (suc count) zero = refl
 none_marked (suc count) (suc p) = none_marked count p
 
 -- of none the partners are known
-get_none : (count p : ℕ) → get_or (replicate count None) p None ≡ None {A = List ℕ}
-get_none zero p = refl
-get_none (suc count) zero = refl
-get_none (suc count) (suc p) = get_none count p
+get_none : (count p : ℕ) (x : Option (List ℕ)) → get_or (replicate count x) p x ≡ x
+get_none zero p x = refl
+get_none (suc count) zero x = refl
+get_none (suc count) (suc p) x = get_none count p x
 
 pub none_many : (code : Tables) (count : ℕ) (partners : List (Option (List ℕ))) → partners ≡ replicate count None → count ≡ processors code
     → length partners ≡ processors code
@@ -88,7 +88,7 @@ none_many code count partners is many = ap length is ∙ (length-replicate count
 pub none_known : (code : Tables) (workplaces : List Workplace) (partners : List (Option (List ℕ))) (count : ℕ) → partners ≡ replicate count None
     → AllKnow code workplaces partners
 none_known code workplaces partners count is = λ p w found.
-    subst (Knows code p w.local) (sym (ap (λ list. get_or list p None) is ∙ get_none count p)) (record { right = tt })
+    subst (Knows code p w.local) (sym (ap (λ list. get_or list p None) is ∙ get_none count p None)) (record { right = tt })
 
 pub start_marks : (code : Tables) (team : Processors) (count : ℕ) → HaveStates code team → map state_of team.locals.items ≡ start_locals code
     → count ≡ processors code → team.ended ≡ replicate count false → team.resting ≡ replicate count false → HaveMarks code team

@@ -259,10 +259,7 @@ turned_marks code old mid new p step.Waiting locals links h = (h.0, same_on old 
 turned_marks code old mid new p step.Over locals links h = (h.0, same_on old mid new h.1 locals links)
 turned_marks code old mid new p (step.Stuck kind) locals links h = (h.0, same_on old mid new h.1 locals links)
 
--- ---- a move behind which nothing is known of the processor's partners
-abbrev pub forgetting : Processors → ℕ → Workplace → Processors
-forgetting team p workplace = with_known team p workplace team.links None
-
+-- ---- what is known of partners behind a turn
 pub partners_many : (code : Tables) (old : Processors) (p : ℕ) (x : Option (List ℕ)) → HaveStates code old
     → length (set old.partners.items p x) ≡ processors code
 partners_many code old p x states = length-set old.partners.items p x ∙ states.partners
@@ -279,25 +276,24 @@ pub known_kept : (code : Tables) (old : Processors) (p : ℕ) (w after : Workpla
 known_kept code old p w after item same states =
     know_same code old.locals.items (set old.locals.items p after) old.partners.items (same_item old.locals.items p w after item same) states.known
 
-pub forgotten_many : (code : Tables) (old : Processors) (p : ℕ) (after : Workplace) → HaveStates code old
-    → length (set old.partners.items p None) ≡ processors code
-forgotten_many code old p after states = partners_many code old p None states
-
-pub forgotten : (code : Tables) (old : Processors) (p : ℕ) (after : Workplace) → HaveStates code old → p < processors code
-    → AllKnow code (set old.locals.items p after) (set old.partners.items p None)
-forgotten code old p after states here = partners_known code old p after None states here (record { right = tt })
+-- nothing is known of them
+pub forgotten : (code : Tables) (old : Processors) (p : ℕ) (after : Workplace) (x : Option (List ℕ)) → HaveStates code old → p < processors code → x ≡ None
+    → AllKnow code (set old.locals.items p after) (set old.partners.items p x)
+forgotten code old p after x states here none =
+    partners_known code old p after x states here (subst (Knows code p after.local) (sym none) (record { right = tt }))
 
 -- ---- prints
 -- the move that prints, made of the state that stands at its place
-pub print_changed : (code : Tables) (old : Processors) (p : ℕ) (w after : Workplace) (bytes : List ℕ) → HaveStates code old → p < processors code
+pub print_changed : (code : Tables) (old : Processors) (p : ℕ) (w after : Workplace) (bytes : List ℕ) (x : Option (List ℕ)) → x ≡ None → HaveStates code old
+    → p < processors code
     → slice_get old.locals.items p ≡ Some w → PrintsNext code old p bytes → after ≡ record w { local = goes_on w.local } → IsReady code p after
-    → HaveChanged code old (forgetting old p after) p after (record { next = goes_on w.local; sent = None; taken = None; shown = bytes })
-print_changed code old p w after bytes states here there next made ready =
+    → HaveChanged code old (with_known old p after old.links x) p after (record { next = goes_on w.local; sent = None; taken = None; shown = bytes })
+print_changed code old p w after bytes x none states here there next made ready =
     let both : Some next.workplace ≡ Some w = sym next.there ∙ there in
     let same : next.workplace ≡ w = cc in
     let turn : turn_of code old p ≡ printing w.local bytes = next.turn ∙ ap (λ (v : Workplace). printing v.local bytes) same in
-    printed_changed code old (forgetting old p after) p w after states here there refl refl refl refl
-    (forgotten_many code old p after states) (forgotten code old p after states here) bytes turn made ready refl
+    printed_changed code old (with_known old p after old.links x) p w after states here there refl refl refl refl
+    (partners_many code old p x states) (forgotten code old p after x states here none) bytes turn made ready refl
 
 pub print_next : (code : Tables) (old : Processors) (p : ℕ) (w : Workplace) (bytes : List ℕ) → slice_get old.locals.items p ≡ Some w
     → PrintsNext code old p bytes → IsPrinting code p bytes w.local
@@ -310,10 +306,10 @@ pub print_moved : (code : Tables) (old new : Processors) (p : ℕ) (w after : Wo
     → slice_get old.locals.items p ≡ Some w → PrintsNext code old p bytes → after ≡ record w { local = goes_on w.local } → IsReady code p after
     → new.locals ≡ with_item old.locals p after → new.links ≡ old.links → HavePrinted code old new p bytes
 print_moved code old new p w after bytes states here there next made ready locals links =
-    let mid = forgetting old p after in
+    let mid = with_known old p after old.links None in
     let move : Move Local Message = record { next = goes_on w.local; sent = None; taken = None; shown = bytes } in
     let moved : HaveMoved code old mid p move =
-    changed_moved code old mid p after move states (print_changed code old p w after bytes states here there next made ready) in
+    changed_moved code old mid p after move states (print_changed code old p w after bytes None refl states here there next made ready) in
     record {
       move = move;
       moved = record {

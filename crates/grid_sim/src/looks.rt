@@ -32,7 +32,14 @@ impl Processors {
             return true;
         }
         let known = &self.partners[p as usize];
-        if !rests(code, layout, p, &self.locals[p as usize], &self.links, known) {
+        if !rests(
+            code,
+            layout,
+            p,
+            &self.locals[p as usize],
+            &self.links,
+            known,
+        ) {
             self.awake = p;
             return false;
         }

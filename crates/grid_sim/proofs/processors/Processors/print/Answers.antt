@@ -1,7 +1,7 @@
 use Rattle.std.proofs.Common.{◌<◌, sym, subst, length, refl}
 use Rattle.node_turn.specs.declared.steps.Traffic.TheVariants.{Quiet}
 use Rattle.grid_sim.proofs.TeamLemmas.{changed_unsettled, item_there}
-use Rattle.grid_sim.proofs.TurnLemmas.{forgetting, print_changed, print_moved, print_next}
+use Rattle.grid_sim.proofs.TurnLemmas.{print_changed, print_moved, print_next, with_known}
 use Rattle.grid_sim.proofs.processors.Processors.print.Goals as goal
 
 pub printed-requires-clause-ready : goal.printed-requires-clause-ready
@@ -27,8 +27,8 @@ settle-requires-clause-moved c =
     let states = c.requires.processors.marks.states in
     let inside : c.args.p < length items = subst (λ n. c.args.p < n) (sym states.many) c.requires.processor in
     let there = item_there items c.args.p c.index_mut.result.now c.index_mut.ensures.value inside in
-    changed_unsettled c.args.code.now old (forgetting old c.args.p c.printed.new.local) c.args.p c.printed.new.local _ states
-    (print_changed c.args.code.now old c.args.p c.index_mut.result.now c.printed.new.local c.requires.prints.0 states c.requires.processor there
+    changed_unsettled c.args.code.now old (with_known old c.args.p c.printed.new.local old.links c.forget.new.self) c.args.p c.printed.new.local _ states
+    (print_changed c.args.code.now old c.args.p c.index_mut.result.now c.printed.new.local c.requires.prints.0 c.forget.new.self c.forget.ensures states c.requires.processor there
     c.requires.prints.1 c.printed.ensures.made c.printed.ensures.ready)
     Quiet (refl, refl) c.requires.processors
 
