@@ -56,7 +56,7 @@ fn expect(
         Ok(_heights) => Ok(()),
         Err(fault) => Err(fault),
     };
-    assert_eq!(rt; result, wanted);
+    assert!(rt; result == wanted);
     Ok(())
 }
 

@@ -106,7 +106,7 @@ fn compare_pair(rt: &impl Abort, layout: &Layout, region: &Region, shift: Vec3, 
         let x = index(region.rank, shift, y);
         let needed = has_tuple(region, x) && lies(&own, x) && has_tuple(&held, y);
         let want = needed && lies(&other, y);
-        assert_eq!(rt; has_tuple(&piece, y), want, "{y:?} of {from} for {to}");
+        assert!(rt; has_tuple(&piece, y) == want);
     }
 }
 
@@ -302,7 +302,7 @@ fn compare_flood_pair(
         let needed = row && some_columns && has(held.dims[0], y);
         let want = needed && same_columns && other.0[0] <= y && y <= other.1[0];
         let found = has(piece.dims[0], y) && has(piece.dims[1], 0);
-        assert_eq!(rt; found, want, "row {y} of {from} for {to}");
+        assert!(rt; found == want);
     }
 }
 

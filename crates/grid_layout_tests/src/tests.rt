@@ -18,14 +18,10 @@ fn count_of(factors: &[u32]) -> u32
 
 #[test]
 fn grids_of_a_table(rt: HostRuntime) {
-    assert_eq!(rt; count_of(&[1]), 1);
-    assert_eq!(rt; count_of(&[2, 3]), 6);
-    assert_eq!(rt; count_of(&[8, 8]), 64);
-    assert_eq!(rt; count_of(&[2, 2, 2]), 8);
-    assert_eq!(rt; count_of(&[65]), 0);
-    assert_eq!(rt; count_of(&[8, 9]), 0);
-    assert_eq!(rt; count_of(&[2, 0, 2]), 0);
-    assert_eq!(rt; count_of(&[4_294_967_295, 4_294_967_295, 4_294_967_295]), 0);
+    assert!(rt; count_of(&[1]) == 1 && count_of(&[2, 3]) == 6);
+    assert!(rt; count_of(&[8, 8]) == 64 && count_of(&[2, 2, 2]) == 8);
+    assert!(rt; count_of(&[65]) == 0 && count_of(&[8, 9]) == 0 && count_of(&[2, 0, 2]) == 0);
+    assert!(rt; count_of(&[4_294_967_295, 4_294_967_295, 4_294_967_295]) == 0);
 }
 
 /// A square of 2048 by 2048 places, with a fringe of one position all round.
@@ -89,13 +85,10 @@ fn words_past_64_bits(rt: HostRuntime) {
     let one = vast();
     let words: u128 = 2_199_023_255_553 * 2_199_023_255_553 * 2_199_023_255_553;
     let single = Grid::new(&[1]).expect(&rt, "a grid of one processor");
-    assert_eq!(rt; Blocks::new(single, &[one]).words(&one), words);
-    assert_eq!(rt;
-        Blocks::new(single, &[one]).words_of(&[one, one, one]),
-        3 * words
-    );
+    assert!(rt; Blocks::new(single, &[one]).words(&one) == words);
+    assert!(rt; Blocks::new(single, &[one]).words_of(&[one, one, one]) == 3 * words);
     let many = Grid::new(&[4, 4, 4]).expect(&rt, "a grid of 64 processors");
-    assert_eq!(rt; Blocks::new(many, &[one]).words(&one), words);
+    assert!(rt; Blocks::new(many, &[one]).words(&one) == words);
     assert!(rt;
         matches!(
             Layout::new(rt.alloc(), many, &[one]),

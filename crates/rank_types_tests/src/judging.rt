@@ -39,7 +39,7 @@ fn tokens_of(rt: &impl Abort, alloc: Global, text: &[u8]) -> Result<Vec<Token>, 
 {
     let mut tokens = Vec::new(alloc);
     assert!(rt; text.len() <= 1000000);
-    assert_eq!(rt; lex(alloc, text, &mut tokens), Ok(()), "{text:?}");
+    assert!(rt; lex(alloc, text, &mut tokens).is_ok());
     Ok(tokens)
 }
 
@@ -59,8 +59,8 @@ pub fn answer(rt: &impl Abort, alloc: Global, text: &str) -> Result<(&'static st
 /// Compares what the checker answers to a text with the name of a fault and its place.
 pub fn expect(rt: &impl Abort, alloc: Global, text: &str, name: &str, at: u32) -> Result<(), Fail> {
     let (said, place) = answer(rt, alloc, text)?;
-    assert_eq!(rt; said, name, "{text}");
-    assert_eq!(rt; place, at, "{text}");
+    assert!(rt; said == name);
+    assert!(rt; place == at);
     Ok(())
 }
 

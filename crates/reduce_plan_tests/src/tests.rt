@@ -134,17 +134,9 @@ fn compare(
         folds.push(77)?;
         partials(alloc, fold, target, target, block, &values, &mut folds)?;
         let want = counted(alloc, fold, collapsed, target, block)?;
-        assert_eq!(rt;
-            folds.len(),
-            want.len().wrapping_add(1),
-            "{fold:?} {collapsed:?}"
-        );
+        assert!(rt; folds.len() == want.len().wrapping_add(1));
         for (i, value) in want.iter().enumerate() {
-            assert_eq!(rt;
-                folds.get(i.wrapping_add(1)),
-                Some(value),
-                "{fold:?} {collapsed:?} at {i}"
-            );
+            assert!(rt; folds.get(i.wrapping_add(1)) == Some(value));
         }
     }
     Ok(())
@@ -214,12 +206,12 @@ fn trees_of_one_to_sixty_four(rt: HostRuntime) {
             for child in children(p, count) {
                 if let Some(child) = child {
                     assert!(rt; child < count, "{child} below {p} of {count}");
-                    assert_eq!(rt; parent(child), Some(p), "above {child} of {count}");
+                    assert!(rt; parent(child) == Some(p));
                     below = below.wrapping_add(1);
                 }
             }
         }
-        assert_eq!(rt; below.wrapping_add(1), count, "processors in the tree");
+        assert!(rt; below.wrapping_add(1) == count);
     }
-    assert_eq!(rt; parent(0), None);
+    assert!(rt; parent(0) == None);
 }

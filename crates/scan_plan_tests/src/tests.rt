@@ -124,11 +124,11 @@ fn compare(
             &values,
             &mut scanned,
         )?;
-        assert_eq!(rt; scanned.len(), values.len(), "on {p} along {along}");
+        assert!(rt; scanned.len() == values.len());
         for (i, value) in scanned.iter().enumerate() {
             let x = part.nth(i as u64).unwrap_or([0, 0, 0]);
             let want = counted(fold, along, region, &x);
-            assert_eq!(rt; *value, want, "{fold:?} along {along} on {p} at {i}");
+            assert!(rt; *value == want);
         }
     }
     Ok(())

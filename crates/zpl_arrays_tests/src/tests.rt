@@ -56,11 +56,7 @@ fn reads_around(rt: &impl Abort, lo: i8, hi: i8)
         for d in -7..=7_i8 {
             let place = i64::from(x);
             let found = around_coordinate(line(from, to), i64::from(d), place);
-            assert_eq!(rt;
-                found,
-                around(from, to, place, d),
-                "{lo}..{hi}, {x} and {d}"
-            );
+            assert!(rt; found == around(from, to, place, d));
         }
     }
 }
@@ -81,7 +77,7 @@ fn flood(rt: &impl Abort, dim: Dim, want: i64)
 {
     let source = Region::new(1, [dim, PADDING, PADDING]).expect(rt, "a small region");
     assert!(rt; source.rank == 1);
-    assert_eq!(rt; flood_coordinate(&source, 1, 7), want, "{dim:?}");
+    assert!(rt; flood_coordinate(&source, 1, 7) == want);
 }
 
 #[test]
@@ -99,7 +95,7 @@ fn scans(rt: &impl Abort, fold: Fold) {
     scan_line(fold, 2, &values, &mut scan);
     for i in 0..6_usize {
         let so_far = join(fold, 2, fold_of(fold, &values[..=i]));
-        assert_eq!(rt; scan[i], so_far, "{fold:?} at {i}");
+        assert!(rt; scan[i] == so_far);
     }
 }
 
@@ -114,9 +110,9 @@ fn folds_and_scans_of_a_line(rt: HostRuntime) {
         (Fold::All, 0, 1),
         (Fold::Any, 1, 0),
     ] {
-        assert_eq!(rt; fold_of(fold, &values), want, "{fold:?}");
-        assert_eq!(rt; fold_of(fold, &[None, None]), over_none, "{fold:?} of none");
-        assert_eq!(rt; fold_of(fold, &[]), over_none, "{fold:?} of nothing");
+        assert!(rt; fold_of(fold, &values) == want);
+        assert!(rt; fold_of(fold, &[None, None]) == over_none);
+        assert!(rt; fold_of(fold, &[]) == over_none);
         scans(&rt, fold);
     }
 }
@@ -162,6 +158,6 @@ fn partial_sums_of_a_plane(rt: HostRuntime) {
         (&single, [2, 0, 0], 102),
         (&whole, [2, 3, 0], 23),
     ] {
-        assert_eq!(rt; part(target, &whole, x), want, "{target:?} at {x:?}");
+        assert!(rt; part(target, &whole, x) == want);
     }
 }

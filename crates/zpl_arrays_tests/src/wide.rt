@@ -157,12 +157,8 @@ fn conformity(rt: &impl Abort, rank: u8, target: u32, source: u32)
         spreads &= alike || count(from) == 1;
     }
     let (to, from) = (region(rt, rank, target), region(rt, rank, source));
-    assert_eq!(rt;
-        reduction_conforms(&to, &from),
-        reduces,
-        "{to:?} of {from:?}"
-    );
-    assert_eq!(rt; flood_conforms(&to, &from), spreads, "{to:?} from {from:?}");
+    assert!(rt; reduction_conforms(&to, &from) == reduces);
+    assert!(rt; flood_conforms(&to, &from) == spreads);
 }
 
 #[test]
@@ -196,7 +192,7 @@ fn flood_source(rt: &impl Abort, number: u32, x: i64) {
         }
     }
     let found = flood_coordinate(&source, 1, x);
-    assert_eq!(rt; found, wanted, "{source:?} at {x}");
+    assert!(rt; found == wanted);
 }
 
 #[test]
@@ -213,11 +209,7 @@ fn border_source(rt: &impl Abort, kind: Border, dim: Dim, d: i64, x: i64, wanted
     requires { IsDim dim }
 {
     assert!(rt; -20 <= x && x <= 20);
-    assert_eq!(rt;
-        border_coordinate(kind, dim, d, x),
-        wanted,
-        "{dim:?} by {d} at {x}"
-    );
+    assert!(rt; border_coordinate(kind, dim, d, x) == wanted);
 }
 
 /// Compares the sources of the positions beside one dimension with a walk along the bounds.
@@ -254,7 +246,7 @@ fn borders(rt: &impl Abort, rank: u8, number: u32, d: &Vec3)
         conforms &= along == 0 || unit_step && along.unsigned_abs() <= count(wide);
     }
     let whole = region(rt, rank, number);
-    assert_eq!(rt; border_conforms(d, &whole), conforms, "{whole:?} by {d:?}");
+    assert!(rt; border_conforms(d, &whole) == conforms);
     for place in 0..rank {
         if conforms {
             border_sources(rt, dim(number, place), d[usize::from(place)]);
@@ -308,11 +300,7 @@ fn reference(rt: &impl Abort, rank: u8, number: u32, storage: u32, d: &Vec3)
         }
     }
     let (from, to) = (region(rt, rank, number), region(rt, rank, storage));
-    assert_eq!(rt;
-        is_reference(d, &from, &to),
-        inside,
-        "{from:?} by {d:?} in {to:?}"
-    );
+    assert!(rt; is_reference(d, &from, &to) == inside);
 }
 
 #[test]
@@ -380,7 +368,7 @@ fn partial(rt: &impl Abort, rank: u8, target: u32, source: u32, x: &Vec3)
             }
         }
     }
-    assert_eq!(rt; found, wanted, "{to:?} at {x:?}");
+    assert!(rt; found == wanted);
 }
 
 #[test]
@@ -477,11 +465,7 @@ fn line_scan(
         let x = vector(rank, 10, -3, i);
         if has_tuple(rank, number, &x) {
             let wanted = plain_scan(rank, number, along, fold, &x);
-            assert_eq!(rt;
-                *found,
-                wanted,
-                "{fold:?} of {number} at {x:?}, along {along:?}"
-            );
+            assert!(rt; *found == wanted);
         }
         i = i.wrapping_add(stride);
     }

@@ -17,7 +17,7 @@ fn tokens_of(rt: &impl Abort, alloc: Global, text: &[u8]) -> Result<Vec<Token>, 
 {
     let mut tokens = Vec::new(alloc);
     assert!(rt; text.len() <= 1000000);
-    assert_eq!(rt; lex(alloc, text, &mut tokens), Ok(()), "{text:?}");
+    assert!(rt; lex(alloc, text, &mut tokens).is_ok());
     Ok(tokens)
 }
 
@@ -112,7 +112,7 @@ fn show_dim(into: &mut String, dim: Dim) -> Result<(), AllocError> {
 pub fn each_gives(rt: &impl Abort, alloc: Global, rows: &[(&str, &str)]) -> Result<(), Fail> {
     for (decls, expected) in rows {
         let shown = answer(rt, alloc, decls, &[])?;
-        assert_eq!(rt; shown.as_str(), *expected, "{decls}");
+        assert!(rt; shown.as_str() == *expected);
     }
     Ok(())
 }

@@ -27,7 +27,7 @@ fn texts_are_values_of_a_type(rt: HostRuntime) -> Result<(), Fail> {
     let alloc = rt.alloc();
     for (word, expected) in TEXTS {
         let shown = answer(&rt, alloc, DECLS, &[word])?;
-        assert_eq!(rt; shown.as_str(), expected, "{word}");
+        assert!(rt; shown.as_str() == expected);
     }
     Ok(())
 }
@@ -36,9 +36,9 @@ fn texts_are_values_of_a_type(rt: HostRuntime) -> Result<(), Fail> {
 fn two_settings_of_one_name_are_refused(rt: HostRuntime) -> Result<(), Fail> {
     let alloc = rt.alloc();
     let shown = answer(&rt, alloc, DECLS, &["n:=5", "n:=6"])?;
-    assert_eq!(rt; shown.as_str(), "TwiceSet");
+    assert!(rt; shown.as_str() == "TwiceSet");
     let both = answer(&rt, alloc, DECLS, &["n:=5", "b:=false"])?;
-    assert_eq!(rt; both.as_str(), "5 0 | 1..5 ; | | ");
+    assert!(rt; both.as_str() == "5 0 | 1..5 ; | | ");
     Ok(())
 }
 
@@ -48,8 +48,8 @@ fn defaults_are_computed_unless_set(rt: HostRuntime) -> Result<(), Fail> {
     let alloc = rt.alloc();
     let decls = "config var n : integer = 1 / 0; m : integer = n + 1;";
     let unset = answer(&rt, alloc, decls, &[])?;
-    assert_eq!(rt; unset.as_str(), "BadConstant");
+    assert!(rt; unset.as_str() == "BadConstant");
     let set = answer(&rt, alloc, decls, &["n:=4"])?;
-    assert_eq!(rt; set.as_str(), "4 5 | | | ");
+    assert!(rt; set.as_str() == "4 5 | | | ");
     Ok(())
 }

@@ -64,6 +64,11 @@ fn has(dim: Dim, x: i64) -> bool {
     }
 }
 
+/// Whether both are the same tuple, or both are none.
+fn same(one: Option<Vec3>, other: Option<Vec3>) -> bool {
+    one == other
+}
+
 /// Compares a region with the tuples that a plain search from -4 to 9 finds.
 fn walk(rt: &impl Abort, rank: u8, a: Dim, b: Dim, c: Dim) {
     let region = region(rt, rank, a, b, c);
@@ -76,25 +81,20 @@ fn walk(rt: &impl Abort, rank: u8, a: Dim, b: Dim, c: Dim) {
             }
             for z in -4..=9 {
                 let here = has(c, z);
-                assert_eq!(rt; region.contains([x, y, z]), here);
+                assert!(rt; region.contains([x, y, z]) == here);
                 if here {
-                    assert_eq!(rt; region.nth(seen), Some([x, y, z]));
-                    assert_eq!(rt; region.next_after(last), Some([x, y, z]));
+                    assert!(rt; same(region.nth(seen), Some([x, y, z])));
+                    assert!(rt; same(region.next_after(last), Some([x, y, z])));
                     seen = seen.saturating_add(1);
                     last = [x, y, z];
                 }
             }
         }
     }
-    assert_eq!(rt; region.count(), seen, "{a:?} {b:?} {c:?}");
-    assert_eq!(rt; region.nth(seen), None);
-    assert_eq!(rt; region.next_after(last), None);
-    assert_eq!(rt; region.is_empty(), seen == 0);
-    assert_eq!(rt; region.least(), region.nth(0));
-    assert_eq!(rt;
-        region.greatest(),
-        if seen == 0 { None } else { Some(last) }
-    );
+    let greatest = if seen == 0 { None } else { Some(last) };
+    assert!(rt; region.count() == seen && region.is_empty() == (seen == 0));
+    assert!(rt; region.nth(seen).is_none() && region.next_after(last).is_none());
+    assert!(rt; same(region.least(), region.nth(0)) && same(region.greatest(), greatest));
 }
 
 /// Moves a line by each distance up to 7, and looks for each number that it had.
@@ -104,8 +104,8 @@ fn moves(rt: &impl Abort, dim: Dim) {
         let moved = line.at([d, 0, 0]).expect(rt, "a small region");
         for x in -4..=9 {
             let to = d.wrapping_add(x);
-            let found = moved.next_after([to.wrapping_sub(1), 0, 0]) == Some([to, 0, 0]);
-            assert_eq!(rt; found, has(dim, x), "{x} of {dim:?}, moved by {d}");
+            let found = same(moved.next_after([to.wrapping_sub(1), 0, 0]), Some([to, 0, 0]));
+            assert!(rt; found == has(dim, x));
         }
     }
 }
@@ -165,7 +165,7 @@ fn forms(rt: &impl Abort, dim: (i64, i64, i64, i64), d: i64, wanted: &[(i64, i64
         (region.by(v), strided),
     ] {
         let dims = [range(want), Dim::Flood, PADDING];
-        assert_eq!(rt; given, Ok(Region { rank: 2, dims }), "{dim:?} and {d}");
+        assert!(rt; given == Ok(Region { rank: 2, dims }));
     }
 }
 
@@ -259,7 +259,7 @@ fn limit_at_each_number(rt: HostRuntime) {
     ] {
         assert!(rt; step >= 1);
         let made = Region::new(1, [range((lo, hi, step, align)), PADDING, PADDING]);
-        assert_eq!(rt; made.is_ok(), fits, "{lo}..{hi} by {step} from {align}");
+        assert!(rt; made.is_ok() == fits);
     }
     for (a, b, c, fits) in [
         (128, 128, 256, true),
@@ -275,7 +275,7 @@ fn limit_at_each_number(rt: HostRuntime) {
                 range((1, c, 1, 1)),
             ],
         );
-        assert_eq!(rt; made.is_ok(), fits, "{a} by {b} by {c}");
+        assert!(rt; made.is_ok() == fits);
     }
 }
 
@@ -296,24 +296,20 @@ fn forms_past_the_limit(rt: HostRuntime) {
     }
 }
 
-/// The line from -4 to 9 with a step of 3 that has 7, moved by `d`.
-fn shifted(d: i64) -> Region
-    requires low { neg_ℤ (pos 7) ≤ℤ d }
-    requires high { d ≤ℤ pos 7 }
-    ensures { IsRegion result }
-{
-    let dim = Dim::Range {
-        lo: -4,
-        hi: 9,
-        step: 3,
-        align: 7,
-    };
-    Region {
-        rank: 1,
-        dims: [dim, PADDING, PADDING],
-    }
-    .shift([d, 0, 0])
-}
+/// The line from -4 to 9 with a step of 3 that has 7.
+const LINE: Region = Region {
+    rank: 1,
+    dims: [
+        Dim::Range {
+            lo: -4,
+            hi: 9,
+            step: 3,
+            align: 7,
+        },
+        PADDING,
+        PADDING,
+    ],
+};
 
 /// The part of a line from `d` to `d + 4`.
 fn part(line: &Region, d: i64) -> Region
@@ -334,27 +330,25 @@ fn moves_and_parts_of_a_line(rt: HostRuntime) {
     assert!(rt; line.rank == 1);
     for k in 0..15_u8 {
         let d = i64::from(k) - 7;
-        let moved = shifted(d);
+        let moved = line.at([d, 0, 0]).expect(&rt, "a small region");
         let part = part(&line, d);
         let mut inside: u64 = 0;
         for j in 0..14_u8 {
             let x = i64::from(j) - 4;
             let here = has(dim, x);
-            assert_eq!(rt;
-                moved.next_after([x + d - 1, 0, 0]) == Some([x + d, 0, 0]),
-                here,
-                "{x} moved by {d}"
-            );
+            let found = same(moved.next_after([x + d - 1, 0, 0]), Some([x + d, 0, 0]));
+            assert!(rt; found == here);
             if here && d <= x && x <= d + 4 {
-                assert_eq!(rt; part.nth(inside), Some([x, 0, 0]));
+                assert!(rt; same(part.nth(inside), Some([x, 0, 0])));
                 inside = inside.saturating_add(1);
             }
         }
-        assert_eq!(rt; part.count(), inside, "from {d} on");
-        assert_eq!(rt; line.within([d, 1, 1], [d + 11, 0, 0]), -4 <= d && d <= -2);
+        assert!(rt; part.count() == inside);
+        assert!(rt; line.within([d, 1, 1], [d + 11, 0, 0]) == (-4 <= d && d <= -2));
         assert!(rt; moved.rank == 1);
-        assert_eq!(rt; line.same_dim(&moved, 1), d == 0);
+        assert!(rt; line.same_dim(&moved, 1) == (d == 0));
     }
+    assert!(rt; line.at([5, 0, 0]) == Ok(LINE.shift([5, 0, 0])));
 }
 
 #[test]
@@ -375,8 +369,7 @@ fn ranges_that_are_one_set(rt: HostRuntime) {
         let a = region(&rt, 1, range(one), PADDING, PADDING);
         let b = region(&rt, 1, range(other), PADDING, PADDING);
         assert!(rt; a.rank == 1 && b.rank == 1);
-        assert_eq!(rt; a.same_dim(&b, 1), same, "{one:?} and {other:?}");
-        assert_eq!(rt; b.same_dim(&a, 1), same, "{other:?} and {one:?}");
+        assert!(rt; a.same_dim(&b, 1) == same && b.same_dim(&a, 1) == same);
     }
     let flood = region(&rt, 1, Dim::Flood, PADDING, PADDING);
     let zero = region(&rt, 1, PADDING, PADDING, PADDING);
@@ -408,18 +401,12 @@ fn hulls_of_planes(rt: HostRuntime) {
     ] {
         let plane = region(&rt, 2, range(a), range(b), PADDING);
         let hull = plane.hull();
-        assert_eq!(rt;
-            hull,
-            Region {
-                rank: 2,
-                dims: [first, second, PADDING]
-            },
-            "{a:?} {b:?}"
-        );
+        let dims = [first, second, PADDING];
+        assert!(rt; hull == Region { rank: 2, dims });
     }
     let rows = region(&rt, 2, Dim::Flood, range((2, 9, 5, 9)), PADDING);
     let dims = [Dim::Flood, range((4, 9, 1, 4)), PADDING];
-    assert_eq!(rt; rows.hull(), Region { rank: 2, dims });
+    assert!(rt; rows.hull() == Region { rank: 2, dims });
 }
 
 #[test]
@@ -433,6 +420,6 @@ fn single_coordinates(rt: HostRuntime) {
     ] {
         let line = region(&rt, 1, dim, PADDING, PADDING);
         assert!(rt; line.rank == 1);
-        assert_eq!(rt; line.single(1), want, "{dim:?}");
+        assert!(rt; line.single(1) == want);
     }
 }

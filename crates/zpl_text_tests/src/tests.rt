@@ -25,16 +25,16 @@ fn expect(rt: &impl Abort, alloc: Global, row: Row) -> Result<(), Fail> {
     let mut into = Vec::new(alloc);
     into.push(before)?;
     assert!(rt; text.len() <= 1000);
-    assert_eq!(rt; lex(alloc, text, &mut into), answer, "{text:?}");
-    assert_eq!(rt; into.len(), tokens.len() + 1, "{text:?}");
-    assert_eq!(rt; into[0], before);
+    assert!(rt; lex(alloc, text, &mut into) == answer);
+    assert!(rt; into.len() == tokens.len() + 1);
+    assert!(rt; into[0] == before);
     for (found, (kind, from, to)) in into[1..].iter().zip(tokens) {
         let token = Token {
             kind: *kind,
             from: *from,
             to: *to,
         };
-        assert_eq!(rt; *found, token, "{text:?}");
+        assert!(rt; *found == token);
     }
     Ok(())
 }
@@ -403,8 +403,8 @@ fn faults_tell_their_names_and_places(rt: HostRuntime) {
         (FloatText(12), "FloatText", 12),
         (NoMemory, "NoMemory", 0),
     ] {
-        assert_eq!(rt; fault.name(), name);
-        assert_eq!(rt; fault.at(), at);
+        assert!(rt; fault.name() == name);
+        assert!(rt; fault.at() == at);
     }
 }
 
@@ -423,8 +423,8 @@ fn lines(rt: HostRuntime) {
         (1, 1),
         (4, 3),
     ] {
-        assert_eq!(rt; lines.line_at(at), Some(line), "byte {at}");
-        assert_eq!(rt; line_at(text, at), line, "byte {at}");
+        assert!(rt; lines.line_at(at) == Some(line));
+        assert!(rt; line_at(text, at) == line);
     }
 }
 
@@ -432,8 +432,8 @@ fn lines(rt: HostRuntime) {
 fn many_lines(rt: HostRuntime) -> Result<(), Fail> {
     let text = vec![in rt.alloc(); b'\n'; 70_000]?;
     let mut lines = Lines::of(text.as_slice());
-    assert_eq!(rt; lines.line_at(69_999), Some(70_000));
-    assert_eq!(rt; lines.line_at(4_294_967_295), Some(70_001));
+    assert!(rt; lines.line_at(69_999) == Some(70_000));
+    assert!(rt; lines.line_at(4_294_967_295) == Some(70_001));
     Ok(())
 }
 
@@ -448,11 +448,7 @@ fn strings_stand_for_bytes(rt: HostRuntime) -> Result<(), Fail> {
         (b"a\\", b"a"),
     ];
     for (string, text) in rows {
-        assert_eq!(rt;
-            unescape(rt.alloc(), string)?.as_slice(),
-            text,
-            "{string:?}"
-        );
+        assert!(rt; unescape(rt.alloc(), string)?.as_slice() == text);
     }
     Ok(())
 }

@@ -345,136 +345,55 @@ fn printed(alloc: Global, program: &Program<'_>) -> Result<Vec<u8>, AllocError> 
     Ok(text)
 }
 
-#[test]
-fn prints_a_sum(rt: HostRuntime) -> Result<(), Fail> {
-    let text = printed(rt.alloc(), &SUM)?;
-    let expected =
-        "program t ;\nvar x : integer ;\nprocedure t ( ) ;\nbegin x := 1 + - 2 ;\nend ;\n";
-    assert_eq!(rt; text.as_slice(), expected.as_bytes());
-    Ok(())
-}
+/// Programs, and how they are printed.
+const PRINTED: [(&Program<'static>, &str); 6] = [
+    (
+        &SUM,
+        "program t ;\nvar x : integer ;\nprocedure t ( ) ;\nbegin x := 1 + - 2 ;\nend ;\n",
+    ),
+    (
+        &OPERATORS,
+        "program t ;\nprocedure t ( ) ;\nbegin write ( \
+         x + 1 , x - 1 , x * 1 , x / 1 , x % 1 , \
+         x = 1 , x != 1 , x < 1 , x <= 1 , x > 1 , x >= 1 , \
+         x & 1 , x | 1 , max ( x , 1 ) , min ( x , 1 ) ) ;\nend ;\n",
+    ),
+    (
+        &EXPRESSIONS,
+        "program t ;\nprocedure t ( ) ;\nbegin writeln ( \"a\\n\" , \
+         9223372036854775807 , true , false , Index1 , Index2 , Index3 , \
+         A @ d , A @ [ 1 , x ] , A @ ^ d , A @ ^ [ 1 , x ] , A # [ x ] , A # [ 1 , x ] , \
+         p ( ) , p ( 1 , x ) , ( x ) , ! x , abs ( x ) , \
+         + << x , * << [ R ] x , & << x , max || x , min || [ 2 ] x , | || x , \
+         >> [ 1 .. x , * , , x ] x ) ;\nend ;\n",
+    ),
+    (
+        &SIMPLE,
+        "program t ;\nprocedure t ( ) ;\nbegin x += 1 ;\nx -= 1 ;\nx *= 1 ;\nx /= 1 ;\n\
+         x %= 1 ;\nx &= 1 ;\nx |= 1 ;\np ( ) ;\np ( 1 , x ) ;\nwrap A , B ;\nreflect A ;\n\
+         write ( ) ;\nreturn x ;\nend ;\n",
+    ),
+    (
+        &COMPOUND,
+        "program t ;\nprocedure t ( ) ;\nbegin [ R ] [ R with M ] [ without M ] begin p ( ) ;\n\
+         end ;\nif x then end ;\nif x then elsif 1 then p ( ) ;\np ( ) ;\nelse p ( ) ;\nend ;\n\
+         while x do p ( ) ;\nend ;\nrepeat p ( ) ;\nuntil x ;\nfor x := 1 to x do p ( ) ;\nend ;\n\
+         for x := x downto 1 by x do end ;\nend ;\n",
+    ),
+    (
+        &DECLARATIONS,
+        "program t ;\nconfig var n : integer = 1 ;\nconstant c : boolean = x ;\ne : real = 1 ;\n\
+         region R = [ 1 .. x ] by [ 1 ] ;\nS = [ d of d in \" at d ] ;\ndirection d = [ 1 , x ] ;\n\
+         var A , B : [ R ] integer ;\nx : boolean ;\nprocedure p ( var A , B : [ R ] integer ;\n\
+         x : boolean ) : integer ;\nvar y : integer ;\nz : [ R ] boolean ;\nbegin end ;\n",
+    ),
+];
 
 #[test]
-fn prints_each_operator(rt: HostRuntime) -> Result<(), Fail> {
-    let text = printed(rt.alloc(), &OPERATORS)?;
-    let parts = [
-        "program t ;\nprocedure t ( ) ;\nbegin write ( ",
-        "x + 1 , x - 1 , x * 1 , x / 1 , x % 1 , ",
-        "x = 1 , x != 1 , x < 1 , x <= 1 , x > 1 , x >= 1 , ",
-        "x & 1 , x | 1 , max ( x , 1 ) , min ( x , 1 ) ) ;\nend ;\n",
-    ];
-    let mut expected = String::new(rt.alloc());
-    for part in parts {
-        expected.push_str(part)?;
+fn programs_are_printed(rt: HostRuntime) -> Result<(), Fail> {
+    for (program, expected) in PRINTED {
+        let text = printed(rt.alloc(), program)?;
+        assert!(rt; text.as_slice() == expected.as_bytes());
     }
-    assert_eq!(rt; text.as_slice(), expected.as_bytes());
-    Ok(())
-}
-
-#[test]
-fn prints_each_expression(rt: HostRuntime) -> Result<(), Fail> {
-    let text = printed(rt.alloc(), &EXPRESSIONS)?;
-    let parts = [
-        "program t ;\nprocedure t ( ) ;\nbegin writeln ( \"a\\n\" , ",
-        "9223372036854775807 , true , false , Index1 , Index2 , Index3 , ",
-        "A @ d , A @ [ 1 , x ] , A @ ^ d , A @ ^ [ 1 , x ] , A # [ x ] , A # [ 1 , x ] , ",
-        "p ( ) , p ( 1 , x ) , ( x ) , ! x , abs ( x ) , ",
-        "+ << x , * << [ R ] x , & << x , max || x , min || [ 2 ] x , | || x , ",
-        ">> [ 1 .. x , * , , x ] x ) ;\nend ;\n",
-    ];
-    let mut expected = String::new(rt.alloc());
-    for part in parts {
-        expected.push_str(part)?;
-    }
-    assert_eq!(rt; text.as_slice(), expected.as_bytes());
-    Ok(())
-}
-
-#[test]
-fn prints_each_simple_statement(rt: HostRuntime) -> Result<(), Fail> {
-    let text = printed(rt.alloc(), &SIMPLE)?;
-    let lines = [
-        "program t ;",
-        "procedure t ( ) ;",
-        "begin x += 1 ;",
-        "x -= 1 ;",
-        "x *= 1 ;",
-        "x /= 1 ;",
-        "x %= 1 ;",
-        "x &= 1 ;",
-        "x |= 1 ;",
-        "p ( ) ;",
-        "p ( 1 , x ) ;",
-        "wrap A , B ;",
-        "reflect A ;",
-        "write ( ) ;",
-        "return x ;",
-        "end ;",
-    ];
-    let mut expected = String::new(rt.alloc());
-    for line in lines {
-        expected.push_str(line)?;
-        expected.push('\n')?;
-    }
-    assert_eq!(rt; text.as_slice(), expected.as_bytes());
-    Ok(())
-}
-
-#[test]
-fn prints_each_compound_statement(rt: HostRuntime) -> Result<(), Fail> {
-    let text = printed(rt.alloc(), &COMPOUND)?;
-    let lines = [
-        "program t ;",
-        "procedure t ( ) ;",
-        "begin [ R ] [ R with M ] [ without M ] begin p ( ) ;",
-        "end ;",
-        "if x then end ;",
-        "if x then elsif 1 then p ( ) ;",
-        "p ( ) ;",
-        "else p ( ) ;",
-        "end ;",
-        "while x do p ( ) ;",
-        "end ;",
-        "repeat p ( ) ;",
-        "until x ;",
-        "for x := 1 to x do p ( ) ;",
-        "end ;",
-        "for x := x downto 1 by x do end ;",
-        "end ;",
-    ];
-    let mut expected = String::new(rt.alloc());
-    for line in lines {
-        expected.push_str(line)?;
-        expected.push('\n')?;
-    }
-    assert_eq!(rt; text.as_slice(), expected.as_bytes());
-    Ok(())
-}
-
-#[test]
-fn prints_each_declaration(rt: HostRuntime) -> Result<(), Fail> {
-    let text = printed(rt.alloc(), &DECLARATIONS)?;
-    let lines = [
-        "program t ;",
-        "config var n : integer = 1 ;",
-        "constant c : boolean = x ;",
-        "e : real = 1 ;",
-        "region R = [ 1 .. x ] by [ 1 ] ;",
-        "S = [ d of d in \" at d ] ;",
-        "direction d = [ 1 , x ] ;",
-        "var A , B : [ R ] integer ;",
-        "x : boolean ;",
-        "procedure p ( var A , B : [ R ] integer ;",
-        "x : boolean ) : integer ;",
-        "var y : integer ;",
-        "z : [ R ] boolean ;",
-        "begin end ;",
-    ];
-    let mut expected = String::new(rt.alloc());
-    for line in lines {
-        expected.push_str(line)?;
-        expected.push('\n')?;
-    }
-    assert_eq!(rt; text.as_slice(), expected.as_bytes());
     Ok(())
 }
