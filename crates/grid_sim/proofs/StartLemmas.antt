@@ -11,6 +11,7 @@ use Rattle.grid_meaning.specs.Local.{Local, processor_numbers, processors, start
 use Rattle.grid_meaning.proofs.GridLemmas.{length-start_locals}
 use Rattle.node_local.specs.Workplace.{IsReady, Workplace}
 use Rattle.grid_sim.specs.declared.processors.Processors.{Processors}
+use Rattle.node_stages.specs.Known.{Known as Partners, nothing_known}
 use Rattle.row_turn.specs.Known.{Knows}
 use Rattle.grid_sim.specs.Processors.{AllKnow, AllReady, HaveMarks, HaveStates, has_ended, state_of}
 use Rattle.grid_sim.proofs.ReadLemmas.{ending_at, has_ended-map}
@@ -76,19 +77,19 @@ none_marked (suc count) zero = refl
 none_marked (suc count) (suc p) = none_marked count p
 
 -- of none the partners are known
-get_none : (count p : ℕ) (x : Option (List ℕ)) → get_or (replicate count x) p x ≡ x
+get_none : (count p : ℕ) (x : Partners) → get_or (replicate count x) p x ≡ x
 get_none zero p x = refl
 get_none (suc count) zero x = refl
 get_none (suc count) (suc p) x = get_none count p x
 
-pub none_many : (code : Tables) (count : ℕ) (partners : List (Option (List ℕ))) → partners ≡ replicate count None → count ≡ processors code
+pub none_many : (code : Tables) (count : ℕ) (partners : List Partners) → partners ≡ replicate count nothing_known → count ≡ processors code
     → length partners ≡ processors code
-none_many code count partners is many = ap length is ∙ (length-replicate count None ∙ many)
+none_many code count partners is many = ap length is ∙ (length-replicate count nothing_known ∙ many)
 
-pub none_known : (code : Tables) (workplaces : List Workplace) (partners : List (Option (List ℕ))) (count : ℕ) → partners ≡ replicate count None
+pub none_known : (code : Tables) (workplaces : List Workplace) (partners : List Partners) (count : ℕ) → partners ≡ replicate count nothing_known
     → AllKnow code workplaces partners
 none_known code workplaces partners count is = λ p w found.
-    subst (Knows code p w.local) (sym (ap (λ list. get_or list p None) is ∙ get_none count p None)) (record { right = tt })
+    subst (Knows code p w.local) (sym (ap (λ list. get_or list p nothing_known) is ∙ get_none count p nothing_known)) (record { right = tt; routes = record { started = tt; finished = tt } })
 
 pub start_marks : (code : Tables) (team : Processors) (count : ℕ) → HaveStates code team → map state_of team.locals.items ≡ start_locals code
     → count ≡ processors code → team.ended ≡ replicate count false → team.resting ≡ replicate count false → HaveMarks code team

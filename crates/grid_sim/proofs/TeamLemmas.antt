@@ -18,6 +18,7 @@ use Rattle.grid_meaning.specs.Local.{Local, processors, start_locals}
 use Rattle.grid_meaning.specs.Turn.{Turn, processes}
 use Rattle.grid_meaning.proofs.GridLemmas.{length-start_locals}
 use Rattle.node_local.specs.Workplace.{IsReady, Workplace}
+use Rattle.node_stages.specs.Known.{Known as Partners, nothing_known}
 use Rattle.row_turn.specs.Known.{Knows}
 use Rattle.node_turn.specs.Turned.{IsTraffic, is_resting, links_behind, turn_over}
 use Rattle.node_turn.specs.declared.steps.Traffic.{Traffic}
@@ -93,38 +94,38 @@ traffic_taken count (traffic.Took from) move q is other =
 
 -- ---- what is known of partners
 -- that of one, where it stands
-pub known_there : (partners : List (Option (List ℕ))) (p : ℕ) (x : Option (List ℕ)) → x ≡ get_or partners p x → p < length partners → get_or partners p None ≡ x
-known_there partners p x is inside = get_or_from_slice_get partners p x None (item_there partners p x is inside)
+pub known_there : (partners : List Partners) (p : ℕ) (x : Partners) → x ≡ get_or partners p x → p < length partners → get_or partners p nothing_known ≡ x
+known_there partners p x is inside = get_or_from_slice_get partners p x nothing_known (item_there partners p x is inside)
 
-pub known_at : (code : Tables) (team : Processors) (p : ℕ) (w : Workplace) (x : Option (List ℕ)) → HaveStates code team
+pub known_at : (code : Tables) (team : Processors) (p : ℕ) (w : Workplace) (x : Partners) → HaveStates code team
     → slice_get team.locals.items p ≡ Some w → x ≡ get_or team.partners.items p x → p < processors code → Knows code p w.local x
 known_at code team p w x states there is here =
     subst (Knows code p w.local) (known_there team.partners.items p x is (subst (λ n. p < n) (sym states.partners) here))
     (states.known p w there)
 
 -- another state of one, with what is known of that
-pub know_set : (code : Tables) (workplaces : List Workplace) (partners : List (Option (List ℕ))) (p : ℕ) (after : Workplace) (x : Option (List ℕ))
+pub know_set : (code : Tables) (workplaces : List Workplace) (partners : List Partners) (p : ℕ) (after : Workplace) (x : Partners)
     → p < length workplaces → p < length partners → AllKnow code workplaces partners → Knows code p after.local x
     → AllKnow code (set workplaces p after) (set partners p x)
 know_set code workplaces partners p after x inside known_inside all knows = λ q w found. by q w found (q == p) refl
   where
     by : (q : ℕ) (w : Workplace) → slice_get (set workplaces p after) q ≡ Some w → (same : Bool) → (q == p) ≡ same
-        → Knows code q w.local (get_or (set partners p x) q None)
+        → Knows code q w.local (get_or (set partners p x) q nothing_known)
     by q w found true is =
         let at : q ≡ p = eqb-true q p is in
         let here : slice_get (set workplaces p after) p ≡ Some w = subst (λ r. slice_get (set workplaces p after) r ≡ Some w) at found in
         let both : Some after ≡ Some w = sym (slice_get-set_same workplaces p after inside) ∙ here in
         let same : after ≡ w = cc in
-        subst (λ r. Knows code r w.local (get_or (set partners p x) r None)) (sym at)
-        (subst (Knows code p w.local) (sym (get_or-set_same partners p x None known_inside))
+        subst (λ r. Knows code r w.local (get_or (set partners p x) r nothing_known)) (sym at)
+        (subst (Knows code p w.local) (sym (get_or-set_same partners p x nothing_known known_inside))
         (subst (λ (v : Workplace). Knows code p v.local x) same knows))
     by q w found false is =
         let apart : q ≢ p = eqb-false q p is in
-        subst (Knows code q w.local) (sym (get_or-set_other partners p q x None apart))
+        subst (Knows code q w.local) (sym (get_or-set_other partners p q x nothing_known apart))
         (all q w (sym (slice_get-set_other workplaces p q after apart) ∙ found))
 
 -- the same states
-pub know_same : (code : Tables) (old new : List Workplace) (partners : List (Option (List ℕ))) → new ≡ old → AllKnow code old partners → AllKnow code new partners
+pub know_same : (code : Tables) (old new : List Workplace) (partners : List Partners) → new ≡ old → AllKnow code old partners → AllKnow code new partners
 know_same code old new partners same all = λ q w found. all q w (sym (ap (λ ws. slice_get ws q) same) ∙ found)
 
 -- ---- a move was made, and the marks are as they were

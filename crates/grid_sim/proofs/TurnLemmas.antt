@@ -16,6 +16,7 @@ use Rattle.grid_meaning.specs.Grid.{printed_by, shown_in, system_over}
 use Rattle.grid_meaning.specs.Local.{Local, processors}
 use Rattle.grid_meaning.specs.Turn.{Turn}
 use Rattle.node_local.specs.Workplace.{IsReady, Workplace}
+use Rattle.node_stages.specs.Known.{Known as Partners, nothing_known}
 use Rattle.row_turn.specs.Known.{Knows}
 use Rattle.node_turn.specs.Turned.{IsAnswered, IsMade, IsPrinting, IsStuckAs, IsTurn, is_resting, kind_told, printing, turn_over}
 use Rattle.node_turn.specs.declared.steps.Step.{Step}
@@ -32,7 +33,7 @@ use Rattle.grid_sim.specs.Simulation as sim
 use Rattle.grid_sim.specs.Telling.{told_of}
 use Rattle.grid_sim.proofs.GivenLemmas.{moved_is, same_simulation, told_moved}
 use Rattle.grid_sim.proofs.RestLemmas.{rest_turn, turn_at_rest}
-use Rattle.grid_sim.proofs.TeamLemmas.{HaveChanged, changed_moved, changed_unsettled, know_same, know_set, marked_processors, same_processors, traffic_among, turn_is, turn_same}
+use Rattle.grid_sim.proofs.TeamLemmas.{HaveChanged, changed_moved, changed_unsettled, know_same, know_set, known_at, marked_processors, same_processors, traffic_among, turn_is, turn_same}
 
 -- ---- answers
 pub on_err : {V E : Type 0} {P : Type 0} (answer : Result V E) → P → OnErr answer P
@@ -95,7 +96,7 @@ with_state team p workplace links = record {
 }
 
 -- and with what is known of its partners
-abbrev pub with_known : Processors → ℕ → Workplace → Network → Option (List ℕ) → Processors
+abbrev pub with_known : Processors → ℕ → Workplace → Network → Partners → Processors
 with_known team p workplace links known = record {
   locals = with_item team.locals p workplace;
   links = links;
@@ -225,7 +226,7 @@ kept_same old p w after links item same kept = record {
   links = kept;
 }
 
-pub kept_known : (old : Processors) (p : ℕ) (w after : Workplace) (links : Network) (x : Option (List ℕ)) → w ≡ get_or old.locals.items p w → after ≡ w
+pub kept_known : (old : Processors) (p : ℕ) (w after : Workplace) (links : Network) (x : Partners) → w ≡ get_or old.locals.items p w → after ≡ w
     → links ≡ old.links → AreSame old (with_known old p after links x)
 kept_known old p w after links x item same kept = record {
   locals = same_item old.locals.items p w after item same;
@@ -260,11 +261,11 @@ turned_marks code old mid new p step.Over locals links h = (h.0, same_on old mid
 turned_marks code old mid new p (step.Stuck kind) locals links h = (h.0, same_on old mid new h.1 locals links)
 
 -- ---- what is known of partners behind a turn
-pub partners_many : (code : Tables) (old : Processors) (p : ℕ) (x : Option (List ℕ)) → HaveStates code old
+pub partners_many : (code : Tables) (old : Processors) (p : ℕ) (x : Partners) → HaveStates code old
     → length (set old.partners.items p x) ≡ processors code
 partners_many code old p x states = length-set old.partners.items p x ∙ states.partners
 
-pub partners_known : (code : Tables) (old : Processors) (p : ℕ) (after : Workplace) (x : Option (List ℕ)) → HaveStates code old → p < processors code
+pub partners_known : (code : Tables) (old : Processors) (p : ℕ) (after : Workplace) (x : Partners) → HaveStates code old → p < processors code
     → Knows code p after.local x → AllKnow code (set old.locals.items p after) (set old.partners.items p x)
 partners_known code old p after x states here knows =
     know_set code old.locals.items old.partners.items p after x (subst (λ n. p < n) (sym states.many) here)
@@ -276,24 +277,27 @@ pub known_kept : (code : Tables) (old : Processors) (p : ℕ) (w after : Workpla
 known_kept code old p w after item same states =
     know_same code old.locals.items (set old.locals.items p after) old.partners.items (same_item old.locals.items p w after item same) states.known
 
--- nothing is known of them
-pub forgotten : (code : Tables) (old : Processors) (p : ℕ) (after : Workplace) (x : Option (List ℕ)) → HaveStates code old → p < processors code → x ≡ None
+-- those in the row are known no more
+pub forgotten : (code : Tables) (old : Processors) (p : ℕ) (w after : Workplace) (before x : Partners) → HaveStates code old → p < processors code
+    → slice_get old.locals.items p ≡ Some w → before ≡ get_or old.partners.items p before
+    → ((q : ℕ) (one two : Local) → Knows code q one before → Knows code q two x)
     → AllKnow code (set old.locals.items p after) (set old.partners.items p x)
-forgotten code old p after x states here none =
-    partners_known code old p after x states here (subst (Knows code p after.local) (sym none) (record { right = tt }))
+forgotten code old p w after before x states here there is forget =
+    partners_known code old p after x states here (forget p w.local after.local (known_at code old p w before states there is here))
 
 -- ---- prints
 -- the move that prints, made of the state that stands at its place
-pub print_changed : (code : Tables) (old : Processors) (p : ℕ) (w after : Workplace) (bytes : List ℕ) (x : Option (List ℕ)) → x ≡ None → HaveStates code old
-    → p < processors code
+pub print_changed : (code : Tables) (old : Processors) (p : ℕ) (w after : Workplace) (bytes : List ℕ) (before x : Partners) → HaveStates code old
+    → p < processors code → before ≡ get_or old.partners.items p before
+    → ((q : ℕ) (one two : Local) → Knows code q one before → Knows code q two x)
     → slice_get old.locals.items p ≡ Some w → PrintsNext code old p bytes → after ≡ record w { local = goes_on w.local } → IsReady code p after
     → HaveChanged code old (with_known old p after old.links x) p after (record { next = goes_on w.local; sent = None; taken = None; shown = bytes })
-print_changed code old p w after bytes x none states here there next made ready =
+print_changed code old p w after bytes before x states here is forget there next made ready =
     let both : Some next.workplace ≡ Some w = sym next.there ∙ there in
     let same : next.workplace ≡ w = cc in
     let turn : turn_of code old p ≡ printing w.local bytes = next.turn ∙ ap (λ (v : Workplace). printing v.local bytes) same in
     printed_changed code old (with_known old p after old.links x) p w after states here there refl refl refl refl
-    (partners_many code old p x states) (forgotten code old p after x states here none) bytes turn made ready refl
+    (partners_many code old p x states) (forgotten code old p w after before x states here there is forget) bytes turn made ready refl
 
 pub print_next : (code : Tables) (old : Processors) (p : ℕ) (w : Workplace) (bytes : List ℕ) → slice_get old.locals.items p ≡ Some w
     → PrintsNext code old p bytes → IsPrinting code p bytes w.local
@@ -302,14 +306,15 @@ print_next code old p w bytes there next =
     let same : next.workplace ≡ w = cc in
     subst (λ (v : Workplace). IsPrinting code p bytes v.local) same next.prints
 
-pub print_moved : (code : Tables) (old new : Processors) (p : ℕ) (w after : Workplace) (bytes : List ℕ) → HaveStates code old → p < processors code
+pub print_moved : (code : Tables) (old new : Processors) (p : ℕ) (w after : Workplace) (bytes : List ℕ) (before x : Partners) → HaveStates code old → p < processors code
+    → before ≡ get_or old.partners.items p before → ((q : ℕ) (one two : Local) → Knows code q one before → Knows code q two x)
     → slice_get old.locals.items p ≡ Some w → PrintsNext code old p bytes → after ≡ record w { local = goes_on w.local } → IsReady code p after
     → new.locals ≡ with_item old.locals p after → new.links ≡ old.links → HavePrinted code old new p bytes
-print_moved code old new p w after bytes states here there next made ready locals links =
-    let mid = with_known old p after old.links None in
+print_moved code old new p w after bytes before x states here is forget there next made ready locals links =
+    let mid = with_known old p after old.links x in
     let move : Move Local Message = record { next = goes_on w.local; sent = None; taken = None; shown = bytes } in
     let moved : HaveMoved code old mid p move =
-    changed_moved code old mid p after move states (print_changed code old p w after bytes None refl states here there next made ready) in
+    changed_moved code old mid p after move states (print_changed code old p w after bytes before x states here is forget there next made ready) in
     record {
       move = move;
       moved = record {

@@ -23,6 +23,7 @@ use Rattle.grid_meaning.specs.Local.{Local, processors}
 use Rattle.grid_meaning.specs.Turn.{Turn}
 use Rattle.node_local.specs.Workplace.{IsReady, Workplace}
 use Rattle.node_turn.specs.Turned.{IsTraffic, is_resting, printing, IsPrinting}
+use Rattle.node_stages.specs.Known.{Known as Partners, nothing_known}
 use Rattle.row_turn.specs.Known.{Knows}
 use Rattle.node_turn.specs.declared.steps.Step.{Step}
 use Rattle.node_turn.specs.declared.steps.Step.TheVariants as step
@@ -56,10 +57,10 @@ AllReady code workplaces =
     (p : ℕ) (workplace : Workplace) → slice_get workplaces p ≡ Some workplace
     → IsReady code p workplace
 
-abbrev pub AllKnow : Tables → List Workplace → List (Option (List ℕ)) → Type 0
+abbrev pub AllKnow : Tables → List Workplace → List Partners → Type 0
 AllKnow code workplaces partners =
     (p : ℕ) (workplace : Workplace) → slice_get workplaces p ≡ Some workplace
-    → Knows code p workplace.local (slice_index_or partners p None)
+    → Knows code p workplace.local (slice_index_or partners p nothing_known)
 
 pub record HaveStates (code : Tables) (team : Processors) : Type 0 where
   pub many : length team.locals.items ≡ processors code

@@ -17,7 +17,7 @@ use crate::marks::Marks;
 use grid_layout::Layout;
 use grid_links::Links;
 use node_form::NodeProgram;
-use node_turn::{Local, Partners, Step, Traffic, moves_alone, printed, turn_of};
+use node_turn::{Local, Partners, Step, Traffic, leave_partners, moves_alone, printed, turn_of};
 use std::alloc::{AllocError, Global};
 
 /// The processors of a program between their turns.
@@ -27,8 +27,8 @@ use std::alloc::{AllocError, Global};
 /// one that doesn't goes on so until its next turn. So one is kept that doesn't rest, unless all
 /// are marked, and another one is sought only when it has moved.
 ///
-/// Of a processor that is in an exchange it is known with whom it exchanges words there, once it has
-/// had a turn in it.
+/// Of a processor that is in an exchange it is known with whom it exchanges words there, once it
+/// has had a turn in it, and the routes that were found last.
 #[derive(Drop)]
 pub(crate) struct Processors {
     pub(crate) locals: Vec<Local>,
@@ -94,7 +94,7 @@ impl Processors {
         if !moves_alone(code, layout, p, &mut self.locals[p as usize]) {
             return false;
         }
-        self.partners[p as usize].forget();
+        leave_partners(&mut self.partners[p as usize]);
         self.settle(code, layout, p, Traffic::Quiet);
         true
     }
@@ -110,7 +110,7 @@ impl Processors {
         ensures processors { AreProcessors code.now self.new }
     {
         printed(code, layout, p, &mut self.locals[p as usize]);
-        self.partners[p as usize].forget();
+        leave_partners(&mut self.partners[p as usize]);
         self.settle(code, layout, p, Traffic::Quiet);
     }
 }

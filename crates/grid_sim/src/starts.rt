@@ -1,10 +1,11 @@
 //! Processors before their first turn.
-ghost use Rattle.std.specs.Prelude.{◌≡◌, IfOk, None, map, replicate};
+ghost use Rattle.std.specs.Prelude.{◌≡◌, IfOk, map, replicate};
 ghost use Rattle.grid_links.specs.Network.{empty_network};
 ghost use Rattle.grid_links.specs.Run.{start_world};
 ghost use Rattle.grid_meaning.specs.Grid.{system_over};
 ghost use Rattle.grid_meaning.specs.Local.{processors, start_locals};
 ghost use Rattle.grid_meaning.specs.Stored.{arrangement_of};
+ghost use Rattle.node_stages.specs.Known.{nothing_known};
 ghost use Rattle.grid_sim.specs.Processors.{AllReady, AreProcessors, state_of, world_of};
 
 use crate::marks::Marks;
@@ -36,7 +37,7 @@ fn start_locals(
 
 /// Of none of so many processors the partners are known.
 fn none_known(alloc: Global, count: u32) -> Result<Vec<Partners>, AllocError>
-    ensures { IfOk result (λ partners. partners.items ≡ replicate count None) }
+    ensures { IfOk result (λ partners. partners.items ≡ replicate count nothing_known) }
 {
     let mut partners = Vec::new(alloc);
     for _p in 0..count {

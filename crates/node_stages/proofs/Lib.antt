@@ -1,5 +1,6 @@
 pub mod OwnLemmas
 pub mod PartnerLemmas
 pub mod PieceLemmas
+pub mod RouteLemmas
 pub mod StageLemmas
 pub mod WalkLemmas

@@ -1,4 +1,5 @@
 pub mod Kin
+pub mod Known
 pub mod Partners
 pub mod Place
 pub mod Slots

@@ -7,13 +7,15 @@ ghost use Rattle.grid_meaning.specs.Exchange.{finished, places_of, started, word
 ghost use Rattle.grid_meaning.specs.Local.{processors};
 ghost use Rattle.grid_meaning.specs.State.{IsSlot};
 ghost use Rattle.grid_meaning.specs.Stored.{arrangement_of};
+ghost use Rattle.node_stages.specs.Known.{AreRoutes};
 ghost use Rattle.node_stages.specs.Partners.{receivers_from, sending, senders_to, taking};
 ghost use Rattle.reach_plan.specs.Reach.{IsReach, LiesInReach};
 ghost use Rattle.node_stages.specs.Slots.{at_slots};
 ghost use Rattle.node_stages.specs.Stage.{staged};
 
 use crate::boxes::box_number;
-use crate::found::{Found, Partners};
+use crate::found::Found;
+use crate::known::{Partners, Route};
 use crate::partners::Place;
 use crate::stages::Stage;
 use grid_layout::Layout;
@@ -244,22 +246,56 @@ fn awaiting_stage(partners: &Found, place: u64) -> Stage
     }
 }
 
-/// Learns for whom p has words in `start`, with these items.
+/// The others for whom p has words in `start` of an exchange; where they had to be found, the
+/// route is kept.
+fn receivers_for(
+    code: &NodeProgram,
+    layout: &Layout,
+    slots: &[Region],
+    exchange: u32,
+    items: &[Item],
+    p: u32,
+    known: &mut Partners,
+) -> Found
+    requires layout { layout.now ≡ arrangement_of code.now }
+    requires slots { AllZip IsSlot code.now.slots slots.now }
+    requires there { slice_get code.now.exchanges exchange ≡ Some items.now }
+    requires items { All (FitsItem code.now) items.now }
+    requires processor { p < processors code.now }
+    requires routes { AreRoutes code.now p known.old }
+    ensures found { result ≡ receivers_from code.now slots.now items.now p }
+    ensures routes { AreRoutes code.now p known.new }
+{
+    if let Some(found) = known.started(exchange, slots) {
+        return found;
+    }
+    let found = find_receivers(code, layout, slots, items, p);
+    known.keep_started(Route::of(exchange, slots, items, &found));
+    found
+}
+
+/// Learns for whom p has words in `start` of an exchange, with these items: by the route
+/// that was found last, where it is the exchange's.
 pub fn learn_receivers(
     code: &NodeProgram,
     layout: &Layout,
     slots: &[Region],
+    exchange: u32,
     items: &[Item],
     p: u32,
     known: &mut Partners,
 )
     requires layout { layout.now ≡ arrangement_of code.now }
     requires slots { AllZip IsSlot code.now.slots slots.now }
+    requires there { slice_get code.now.exchanges exchange ≡ Some items.now }
     requires items { All (FitsItem code.now) items.now }
     requires processor { p < processors code.now }
-    ensures { known.new ≡ Some (receivers_from code.now slots.now items.now p) }
+    requires routes { AreRoutes code.now p known.old }
+    ensures here { known.new.here ≡ Some (receivers_from code.now slots.now items.now p) }
+    ensures routes { AreRoutes code.now p known.new }
 {
-    known.learn(find_receivers(code, layout, slots, items, p));
+    let found = receivers_for(code, layout, slots, exchange, items, p, known);
+    known.learn(found);
 }
 
 /// What processor p does in `start`, with these items, when it has made so many turns there. Its
@@ -279,7 +315,7 @@ pub fn start_stage(
     requires processor { p < processors code.now }
     requires made { made
         < length ((started code.now p 0 items.now).stages (at_slots slots.now)) }
-    requires known { IfSome known.now (λ list. list
+    requires known { IfSome known.now.here (λ list. list
         ≡ receivers_from code.now slots.now items.now p) }
     ensures { slice_get ((started code.now p 0 items.now).stages (at_slots slots.now)) made
         ≡ Some (staged result) }
@@ -290,22 +326,56 @@ pub fn start_stage(
     }
 }
 
-/// Learns who have words for p in `finish`, with these items.
+/// The others who have words for p in `finish` of an exchange; where they had to be found, the
+/// route is kept.
+fn senders_for(
+    code: &NodeProgram,
+    layout: &Layout,
+    slots: &[Region],
+    exchange: u32,
+    items: &[Item],
+    p: u32,
+    known: &mut Partners,
+) -> Found
+    requires layout { layout.now ≡ arrangement_of code.now }
+    requires slots { AllZip IsSlot code.now.slots slots.now }
+    requires there { slice_get code.now.exchanges exchange ≡ Some items.now }
+    requires items { All (FitsItem code.now) items.now }
+    requires processor { p < processors code.now }
+    requires routes { AreRoutes code.now p known.old }
+    ensures found { result ≡ senders_to code.now slots.now items.now p }
+    ensures routes { AreRoutes code.now p known.new }
+{
+    if let Some(found) = known.finished(exchange, slots) {
+        return found;
+    }
+    let found = find_senders(code, layout, slots, items, p);
+    known.keep_finished(Route::of(exchange, slots, items, &found));
+    found
+}
+
+/// Learns who have words for p in `finish` of an exchange, with these items: by the route
+/// that was found last, where it is the exchange's.
 pub fn learn_senders(
     code: &NodeProgram,
     layout: &Layout,
     slots: &[Region],
+    exchange: u32,
     items: &[Item],
     p: u32,
     known: &mut Partners,
 )
     requires layout { layout.now ≡ arrangement_of code.now }
     requires slots { AllZip IsSlot code.now.slots slots.now }
+    requires there { slice_get code.now.exchanges exchange ≡ Some items.now }
     requires items { All (FitsItem code.now) items.now }
     requires processor { p < processors code.now }
-    ensures { known.new ≡ Some (senders_to code.now slots.now items.now p) }
+    requires routes { AreRoutes code.now p known.old }
+    ensures here { known.new.here ≡ Some (senders_to code.now slots.now items.now p) }
+    ensures routes { AreRoutes code.now p known.new }
 {
-    known.learn(find_senders(code, layout, slots, items, p));
+    let found = senders_for(code, layout, slots, exchange, items, p, known);
+    known.learn(found);
 }
 
 /// What processor p does in `finish`, with these items, when it has made so many turns there. Its
@@ -325,7 +395,7 @@ pub fn finish_stage(
     requires processor { p < processors code.now }
     requires made { made
         < length ((finished code.now p 0 items.now).stages (at_slots slots.now)) }
-    requires known { IfSome known.now (λ list. list
+    requires known { IfSome known.now.here (λ list. list
         ≡ senders_to code.now slots.now items.now p) }
     ensures { slice_get ((finished code.now p 0 items.now).stages (at_slots slots.now)) made
         ≡ Some (staged result) }

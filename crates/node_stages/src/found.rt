@@ -1,7 +1,5 @@
-//! Processors that were found, in ascending order, and whether they are known.
-ghost use Rattle.std.specs.Prelude.{◌≡◌, ◌<◌, ◌++◌, [], ◌∷◌, length, is_some};
-ghost use Rattle.std.specs.Prelude.{None, Some};
-ghost use Rattle.std.specs.Option.{option_map};
+//! Processors that were found, in ascending order.
+ghost use Rattle.std.specs.Prelude.{◌≡◌, ◌<◌, ◌++◌, [], ◌∷◌, length};
 ghost use Rattle.node_stages.specs.Place.{IsNth};
 
 use crate::partners::{MOST, Place};
@@ -35,6 +33,16 @@ impl Found {
         }
     }
 
+    /// The same ones once more.
+    pub(crate) fn copied(&self) -> Found
+        ensures { result ≡ self.now }
+    {
+        Found {
+            numbers: self.numbers,
+            many: self.many,
+        }
+    }
+
     /// One more, behind the others.
     pub(crate) fn add(&mut self, q: u32)
         requires room { length self.old < 64 }
@@ -54,69 +62,6 @@ impl Found {
             Place::There(u32::from(self.numbers[place as usize]))
         } else {
             Place::Behind(place - many)
-        }
-    }
-}
-
-/// The others with whom a processor exchanges words in a row, in ascending order, where they are
-/// known: contracts see the list of them, if it is.
-#[derive(Drop)]
-pub struct Partners {
-    found: Found,
-    are_known: bool,
-}
-
-impl Model for Partners {
-    ghost use Rattle.std.specs.Prelude.{ℕ, List, Option, Some, None, if◌then◌else◌};
-
-    ghost Value = { Option (List ℕ) };
-
-    ghost view = { λ a. if a.are_known then Some a.found else None };
-}
-
-impl Partners {
-    /// Not known yet.
-    pub fn unknown() -> Partners
-        ensures { result ≡ None }
-    {
-        Partners {
-            found: Found::none(),
-            are_known: false,
-        }
-    }
-
-    /// Whether they are known.
-    #[inline(always)]
-    pub fn are_known(&self) -> bool
-        ensures { result ≡ is_some self.now }
-    {
-        self.are_known
-    }
-
-    /// They aren't known from now on.
-    #[inline(always)]
-    pub fn forget(&mut self)
-        ensures { self.new ≡ None }
-    {
-        self.are_known = false;
-    }
-
-    /// They are these.
-    pub(crate) fn learn(&mut self, found: Found)
-        ensures { self.new ≡ Some found }
-    {
-        self.found = found;
-        self.are_known = true;
-    }
-
-    /// The list of them, if they are known.
-    pub(crate) fn list(&self) -> Option<&Found>
-        ensures { option_map (λ found. found.now) result ≡ self.now }
-    {
-        if self.are_known {
-            Some(&self.found)
-        } else {
-            None
         }
     }
 }

@@ -3,7 +3,7 @@
 //!
 //! Nothing here takes memory, and no list of stages is made: a stage is found by one walk over
 //! processors, in exchanges and borders over those whose blocks can meet. In an exchange the
-//! walk can be made beforehand, and its partners kept.
+//! walk can be made beforehand, and what it found kept for later visits.
 #![tactic(auto)]
 
 mod boxes;
@@ -12,14 +12,15 @@ mod exchanges;
 mod found;
 mod gathers;
 mod kin;
+mod known;
 mod partners;
 mod stages;
 
 pub use boxes::box_number;
 pub use edges::{edge_piece, edge_stage};
 pub use exchanges::{finish_stage, item_piece, learn_receivers, learn_senders, start_stage};
-pub use found::Partners;
 pub use gathers::{gather_stage, own_tuples};
 pub use kin::Kin;
+pub use known::Partners;
 pub use partners::{MOST, Place, nth, taking_stage};
 pub use stages::Stage;

@@ -16,5 +16,6 @@ pub use node_local::{Kept, KeptWords, Local, Slots, Standing, Store, Stores};
 pub use node_stages::Partners;
 pub use prints::printed;
 pub use resting::rests;
+pub use row_turn::leave_partners;
 pub use steps::{Step, StuckKind, Traffic};
 pub use turns::turn_of;

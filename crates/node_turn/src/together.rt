@@ -16,7 +16,9 @@ use grid_meaning::states_are_kept;
 use node_form::{Instr, NodeProgram};
 use node_local::Local;
 use node_stages::{Partners, Stage};
-use row_turn::{Receipt, learn_partners, message_for, row_stage, take_message};
+use row_turn::{
+    Receipt, learn_partners, leave_partners, message_for, row_stage, take_message,
+};
 use std::alloc::{AllocError, Global};
 
 /// The turn of a processor that sends a message: it waits where the link is full, and is stuck where
@@ -132,13 +134,13 @@ pub(crate) fn together_turn(
     }
     match row_stage(code, layout, p, local, row, known) {
         Stage::Alone => {
-            known.forget();
+            leave_partners(known);
             alone_step(alloc, code, layout, p, local, row)
         }
         Stage::Sends(to) => send_step(alloc, code, layout, p, local, links, row, to),
         Stage::TakesFrom(from) => take_step(alloc, code, layout, p, local, links, row, from),
         Stage::Last => {
-            known.forget();
+            leave_partners(known);
             last_step(alloc, code, layout, p, local, row)
         }
     }

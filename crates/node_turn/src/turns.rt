@@ -14,12 +14,12 @@ use grid_links::Links;
 use node_form::{NodeProgram, rows_fit};
 use node_local::Local;
 use node_stages::Partners;
-use row_turn::is_together;
+use row_turn::{is_together, leave_partners};
 use std::alloc::{AllocError, Global};
 
 /// Gives processor p a turn. A move is made, unless it prints: then its bytes are answered, and
-/// [`printed`](crate::printed) makes it. What is known of the processor's partners in an exchange is
-/// used, and kept up with the turn. For want of memory nothing changes but that.
+/// [`printed`](crate::printed) makes it. What is known of the processor's partners in exchanges
+/// is used, and kept up with the turn. For want of memory nothing changes but that.
 pub fn turn_of(
     alloc: Global,
     code: &NodeProgram,
@@ -45,13 +45,13 @@ pub fn turn_of(
     }
     rows_fit();
     let Some(row) = code.tables().code.get(local.at()) else {
-        known.forget();
+        leave_partners(known);
         return Ok(end_step(code, p, local));
     };
     if is_together(row) {
         together_turn(alloc, code, layout, p, local, links, row, known)
     } else {
-        known.forget();
+        leave_partners(known);
         own_step(alloc, code, layout, p, local, row)
     }
 }

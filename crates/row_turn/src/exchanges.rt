@@ -8,6 +8,7 @@ ghost use Rattle.grid_meaning.specs.Local.{processors};
 ghost use Rattle.grid_meaning.specs.State.{IsSlot};
 ghost use Rattle.grid_meaning.specs.Stored.{arrangement_of};
 ghost use Rattle.node_form.specs.Fits.{FitsItem};
+ghost use Rattle.node_stages.specs.Known.{AreRoutes};
 ghost use Rattle.node_stages.specs.Stage.{staged};
 ghost use Rattle.row_turn.specs.Known.{Knows, partners_of};
 ghost use Rattle.row_turn.specs.Placed.{IsAtRow};
@@ -87,10 +88,12 @@ pub(crate) fn learn_in_start(
 )
     requires layout { layout.now ≡ arrangement_of code.now }
     requires at { IsAtRow code.now p local.now (Instr.Start exchange) }
-    ensures { partners_of code.now p local.now.local ≡ known.new }
+    requires routes { AreRoutes code.now p known.old }
+    ensures here { partners_of code.now p local.now.local ≡ known.new.here }
+    ensures routes { AreRoutes code.now p known.new }
 {
     let items = items_of(code, exchange);
-    learn_receivers(code, layout, local.slots(), items, p, known);
+    learn_receivers(code, layout, local.slots(), exchange, items, p, known);
 }
 
 /// Learns who have words for processor p in `finish`.
@@ -104,10 +107,12 @@ pub(crate) fn learn_in_finish(
 )
     requires layout { layout.now ≡ arrangement_of code.now }
     requires at { IsAtRow code.now p local.now (Instr.Finish exchange) }
-    ensures { partners_of code.now p local.now.local ≡ known.new }
+    requires routes { AreRoutes code.now p known.old }
+    ensures here { partners_of code.now p local.now.local ≡ known.new.here }
+    ensures routes { AreRoutes code.now p known.new }
 {
     let items = items_of(code, exchange);
-    learn_senders(code, layout, local.slots(), items, p, known);
+    learn_senders(code, layout, local.slots(), exchange, items, p, known);
 }
 
 /// The words that `start` sends to a processor; none where a place of theirs isn't held.

@@ -1,10 +1,11 @@
 //! The stages of rows.
-ghost use Rattle.std.specs.Prelude.{◌≡◌, ◌<◌, ◌^◌, Some, false, true};
+ghost use Rattle.std.specs.Prelude.{◌≡◌, ◌<◌, ◌^◌, ℕ, None, Some, false, true};
 ghost use Rattle.grid_meaning.specs.Collective.{stage_of};
-ghost use Rattle.grid_meaning.specs.Local.{processors};
+ghost use Rattle.grid_meaning.specs.Local.{Local as State, processors};
 ghost use Rattle.grid_meaning.specs.Stored.{arrangement_of};
+ghost use Rattle.node_form.specs.declared.tables.Tables.{Tables as Code};
 ghost use Rattle.node_stages.specs.Stage.{staged};
-ghost use Rattle.row_turn.specs.Known.{Knows};
+ghost use Rattle.row_turn.specs.Known.{Knows, partners_of};
 ghost use Rattle.row_turn.specs.Placed.{IsAtRow};
 ghost use Rattle.row_turn.specs.Together.{IsAlone, IsTogether, NamesOne, OfRow};
 
@@ -118,7 +119,8 @@ pub fn row_stage(
 }
 
 /// Learns with whom processor p exchanges words in the row that it is at, where the row is an
-/// exchange.
+/// exchange: by the route that was found last, where that is the exchange's. In no other row is
+/// anything known.
 pub fn learn_partners(
     code: &NodeProgram,
     layout: &Layout,
@@ -130,11 +132,23 @@ pub fn learn_partners(
     requires layout { layout.now ≡ arrangement_of code.now }
     requires at { IsAtRow code.now p local.now row.now }
     requires known { Knows code.now p local.now.local known.old }
-    ensures { Knows code.now p local.now.local known.new }
+    ensures learned { partners_of code.now p local.now.local ≡ known.new.here }
+    ensures known { Knows code.now p local.now.local known.new }
 {
     match *row {
         Instr::Start { exchange } => learn_in_start(code, layout, p, local, exchange, known),
         Instr::Finish { exchange } => learn_in_finish(code, layout, p, local, exchange, known),
         _ => (),
     }
+}
+
+/// Forgets with whom a processor exchanges words in the row that it was at. The routes stay: they
+/// are right in whatever state it is.
+#[inline(always)]
+pub fn leave_partners(known: &mut Partners)
+    ensures forgotten { known.new ≡ record known.old { here = None } }
+    ensures known { (code : Code) (p : ℕ) (before after : State) → Knows code p before known.old
+        → Knows code p after known.new }
+{
+    known.forget();
 }

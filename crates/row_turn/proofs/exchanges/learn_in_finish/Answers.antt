@@ -14,7 +14,7 @@ pub learn_senders-requires-clause-slots : goal.learn_senders-requires-clause-slo
 learn_senders-requires-clause-slots c =
     subst (AllZip IsSlot c.args.code.now.slots) (sym c.slots.ensures) c.requires.at.ready.state.parts.slots
 
-pub returns : goal.returns
-returns c =
+pub returns-clause-here : goal.returns-clause-here
+returns-clause-here c =
     in_finish c.args.code.now c.args.p c.args.local.now.local c.args.exchange c.items_of-items.result.now c.requires.at.here c.items_of-items.ensures.there
-    ∙ sym (c.learn_senders.ensures ∙ ap (λ (slots : List Region). Some (senders_to c.args.code.now slots c.items_of-items.result.now c.args.p)) c.slots.ensures)
+    ∙ sym (c.learn_senders.ensures.here ∙ ap (λ (slots : List Region). Some (senders_to c.args.code.now slots c.items_of-items.result.now c.args.p)) c.slots.ensures)

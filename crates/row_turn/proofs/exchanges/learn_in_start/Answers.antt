@@ -14,7 +14,7 @@ pub learn_receivers-requires-clause-slots : goal.learn_receivers-requires-clause
 learn_receivers-requires-clause-slots c =
     subst (AllZip IsSlot c.args.code.now.slots) (sym c.slots.ensures) c.requires.at.ready.state.parts.slots
 
-pub returns : goal.returns
-returns c =
+pub returns-clause-here : goal.returns-clause-here
+returns-clause-here c =
     in_start c.args.code.now c.args.p c.args.local.now.local c.args.exchange c.items_of-items.result.now c.requires.at.here c.items_of-items.ensures.there
-    ∙ sym (c.learn_receivers.ensures ∙ ap (λ (slots : List Region). Some (receivers_from c.args.code.now slots c.items_of-items.result.now c.args.p)) c.slots.ensures)
+    ∙ sym (c.learn_receivers.ensures.here ∙ ap (λ (slots : List Region). Some (receivers_from c.args.code.now slots c.items_of-items.result.now c.args.p)) c.slots.ensures)

@@ -37,7 +37,7 @@ returns c =
 
 pub finish_stage-requires-clause-known : goal.finish_stage-requires-clause-known
 finish_stage-requires-clause-known c =
-    subst (λ (slots : List Region). IfSome c.args.known.now (λ (list : List ℕ). list ≡ senders_to c.args.code.now slots c.items_of-items.result.now c.args.p)) (sym c.slots.ensures)
+    subst (λ (slots : List Region). IfSome c.args.known.now.here (λ (list : List ℕ). list ≡ senders_to c.args.code.now slots c.items_of-items.result.now c.args.p)) (sym c.slots.ensures)
     (told c.args.code.now c.args.p c.args.local.now.local c.args.known.now _
     (in_finish c.args.code.now c.args.p c.args.local.now.local c.args.exchange c.items_of-items.result.now c.requires.at.here c.items_of-items.ensures.there)
     c.requires.known)

@@ -34,20 +34,21 @@ returns-then-not-moves_alone-clause-same c = λ none.
 pub settle-requires-clause-moved : goal.settle-requires-clause-moved
 settle-requires-clause-moved c =
     let old = c.args.self.now in
-    let mid : Team = with_known old c.args.p c.moves_alone.new.local old.links c.forget.new.self in
+    let mid : Team = with_known old c.args.p c.moves_alone.new.local old.links c.leave_partners.new.known in
     let w = c.index_mut.result.now in
     let states = c.requires.processors.marks.states in
     let inside : c.args.p < length old.locals.items = subst (λ n. c.args.p < n) (sym states.many) c.requires.processor in
     let there = item_there old.locals.items c.args.p w c.index_mut.ensures.value inside in
     (turn_left c.args.code.now old mid c.args.p w c.moves_alone.new.local states c.requires.processor there refl refl refl refl
-    (partners_many c.args.code.now old c.args.p c.forget.new.self states)
-    (forgotten c.args.code.now old c.args.p c.moves_alone.new.local c.forget.new.self states c.requires.processor c.forget.ensures)
+    (partners_many c.args.code.now old c.args.p c.leave_partners.new.known states)
+    (forgotten c.args.code.now old c.args.p w c.moves_alone.new.local c.index_mut-2.result.now c.leave_partners.new.known states c.requires.processor there
+    c.index_mut-2.ensures.value (c.leave_partners.ensures.known c.args.code.now))
     (step.Moved Quiet) c.index_mut.ensures.value (c.moves_alone.ensures.made c.if-not-moves_alone.false old.links) c.requires.processors).0
 
 pub returns-clause-moved : goal.returns-clause-moved
 returns-clause-moved c = λ made.
     let old = c.args.self.now in
-    let mid : Team = with_known old c.args.p c.moves_alone.new.local old.links c.forget.new.self in
+    let mid : Team = with_known old c.args.p c.moves_alone.new.local old.links c.leave_partners.new.known in
     let w = c.index_mut.result.now in
     let states = c.requires.processors.marks.states in
     let inside : c.args.p < length old.locals.items = subst (λ n. c.args.p < n) (sym states.many) c.requires.processor in
@@ -55,6 +56,7 @@ returns-clause-moved c = λ made.
     turned_marks c.args.code.now old mid c.settle.new.self c.args.p (step.Moved Quiet) (ap (λ l. l.items) c.settle.ensures.locals)
     c.settle.ensures.links
     (turned_on c.args.code.now old mid c.args.p w c.moves_alone.new.local states c.requires.processor there refl refl refl refl
-    (partners_many c.args.code.now old c.args.p c.forget.new.self states)
-    (forgotten c.args.code.now old c.args.p c.moves_alone.new.local c.forget.new.self states c.requires.processor c.forget.ensures)
+    (partners_many c.args.code.now old c.args.p c.leave_partners.new.known states)
+    (forgotten c.args.code.now old c.args.p w c.moves_alone.new.local c.index_mut-2.result.now c.leave_partners.new.known states c.requires.processor there
+    c.index_mut-2.ensures.value (c.leave_partners.ensures.known c.args.code.now))
     (step.Moved Quiet) c.index_mut.ensures.value (c.moves_alone.ensures.made c.if-not-moves_alone.false old.links))
