@@ -298,12 +298,13 @@ pub fn learn_receivers(
     known.learn(found);
 }
 
-/// What processor p does in `start`, with these items, when it has made so many turns there. Its
-/// receivers are found where they aren't known.
+/// What processor p does in `start` of an exchange, with these items, when it has made so many turns
+/// there. Where its receivers aren't known, and no route has them, they are found.
 pub fn start_stage(
     code: &NodeProgram,
     layout: &Layout,
     slots: &[Region],
+    exchange: u32,
     items: &[Item],
     p: u32,
     made: u64,
@@ -311,18 +312,23 @@ pub fn start_stage(
 ) -> Stage
     requires layout { layout.now ≡ arrangement_of code.now }
     requires slots { AllZip IsSlot code.now.slots slots.now }
+    requires there { slice_get code.now.exchanges exchange ≡ Some items.now }
     requires items { All (FitsItem code.now) items.now }
     requires processor { p < processors code.now }
     requires made { made
         < length ((started code.now p 0 items.now).stages (at_slots slots.now)) }
     requires known { IfSome known.now.here (λ list. list
         ≡ receivers_from code.now slots.now items.now p) }
+    requires routes { AreRoutes code.now p known.now }
     ensures { slice_get ((started code.now p 0 items.now).stages (at_slots slots.now)) made
         ≡ Some (staged result) }
 {
     match known.list() {
         Some(receivers) => sending_stage(receivers, made),
-        None => sending_stage(&find_receivers(code, layout, slots, items, p), made),
+        None => match known.started(exchange, slots) {
+            Some(receivers) => sending_stage(&receivers, made),
+            None => sending_stage(&find_receivers(code, layout, slots, items, p), made),
+        },
     }
 }
 
@@ -378,12 +384,13 @@ pub fn learn_senders(
     known.learn(found);
 }
 
-/// What processor p does in `finish`, with these items, when it has made so many turns there. Its
-/// senders are found where they aren't known.
+/// What processor p does in `finish` of an exchange, with these items, when it has made so many
+/// turns there. Where its senders aren't known, and no route has them, they are found.
 pub fn finish_stage(
     code: &NodeProgram,
     layout: &Layout,
     slots: &[Region],
+    exchange: u32,
     items: &[Item],
     p: u32,
     made: u64,
@@ -391,17 +398,22 @@ pub fn finish_stage(
 ) -> Stage
     requires layout { layout.now ≡ arrangement_of code.now }
     requires slots { AllZip IsSlot code.now.slots slots.now }
+    requires there { slice_get code.now.exchanges exchange ≡ Some items.now }
     requires items { All (FitsItem code.now) items.now }
     requires processor { p < processors code.now }
     requires made { made
         < length ((finished code.now p 0 items.now).stages (at_slots slots.now)) }
     requires known { IfSome known.now.here (λ list. list
         ≡ senders_to code.now slots.now items.now p) }
+    requires routes { AreRoutes code.now p known.now }
     ensures { slice_get ((finished code.now p 0 items.now).stages (at_slots slots.now)) made
         ≡ Some (staged result) }
 {
     match known.list() {
         Some(senders) => awaiting_stage(senders, made),
-        None => awaiting_stage(&find_senders(code, layout, slots, items, p), made),
+        None => match known.finished(exchange, slots) {
+            Some(senders) => awaiting_stage(&senders, made),
+            None => awaiting_stage(&find_senders(code, layout, slots, items, p), made),
+        },
     }
 }
