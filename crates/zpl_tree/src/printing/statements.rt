@@ -292,15 +292,22 @@ fn print_item(text: &mut Vec<u8>, item: &Item<'_>) -> Result<(), AllocError>
 fn put_assign(text: &mut Vec<u8>, op: Option<Op>) -> Result<(), AllocError>
     ensures { OnOk result (Gains text.old.items text.new.items (assign_words op)) }
 {
+    put_symbol(text, assign_symbol(op))
+}
+
+// The symbol between a variable and the value that it gets.
+fn assign_symbol(op: Option<Op>) -> Sym
+    ensures { assign_words op ≡ symbol result }
+{
     match op {
-        Some(Op::Add) => put_symbol(text, Sym::AddAssign),
-        Some(Op::Sub) => put_symbol(text, Sym::SubAssign),
-        Some(Op::Mul) => put_symbol(text, Sym::MulAssign),
-        Some(Op::Div) => put_symbol(text, Sym::DivAssign),
-        Some(Op::Rem) => put_symbol(text, Sym::RemAssign),
-        Some(Op::And) => put_symbol(text, Sym::AndAssign),
-        Some(Op::Or) => put_symbol(text, Sym::OrAssign),
-        _ => put_symbol(text, Sym::Assign),
+        Some(Op::Add) => Sym::AddAssign,
+        Some(Op::Sub) => Sym::SubAssign,
+        Some(Op::Mul) => Sym::MulAssign,
+        Some(Op::Div) => Sym::DivAssign,
+        Some(Op::Rem) => Sym::RemAssign,
+        Some(Op::And) => Sym::AndAssign,
+        Some(Op::Or) => Sym::OrAssign,
+        _ => Sym::Assign,
     }
 }
 
