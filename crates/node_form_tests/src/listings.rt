@@ -1,22 +1,13 @@
 //! Programs that fit, and members nested very deep.
-use crate::reading::program_of;
+use crate::reading::tables_of;
 use node_form::{GroupRow, Member, NodeProgram};
 use std::alloc::{AllocError, Global};
-use std::fmt::Write;
+use std::process::Abort;
 use std::test::Fail;
 
 /// Sets a scalar to 20, and prints a text and the scalar plus 1.
 const GREETS: &str = "zplnode 1\ngrid 2\nscalars 1\nslots\ncells 0\narray 1..4:1,1\ntext 6869\n\
     expr n20\nexpr s0 n1 +\ncode\nset 0 0 1\nprint 0\nnumber 1\nend\n";
-
-/// Its tables.
-const GREETS_SHOWN: &str = "Tables { grid: [2, 0, 0], scalars: 1, cells: 0, slots: Rows { rows: \
-    [] }, arrays: Rows { rows: [ArrayRow { rank: 1, stored: true, dims: [Range { lo: 1, hi: 4, \
-    low: 1, high: 1 }, Range { lo: 0, hi: 0, low: 0, high: 0 }, Range { lo: 0, hi: 0, low: 0, \
-    high: 0 }] }] }, texts: Rows { rows: [Row { items: [104, 105] }] }, exprs: Rows { rows: [Row \
-    { items: [Const(20)] }, Row { items: [Scalar(0), Const(1), Pair(Add)] }] }, groups: Rows { \
-    rows: [] }, exchanges: Rows { rows: [] }, code: Rows { rows: [Set { scalar: 0, expr: 0, \
-    line: 1 }, Print { text: 0 }, Number { expr: 1 }, End] } }";
 
 /// Prints an array over a region that depends on a scalar.
 const GATHERS: &str = "zplnode 1\ngrid 2\nscalars 1\nslots 1 1\ncells 0\narray 1..4:1,1\nexpr n1\n\
@@ -39,20 +30,17 @@ const OTHERS: [&str; 4] = [
 #[test]
 fn listings_fit(rt: HostRuntime) -> Result<(), Fail> {
     for listing in [GREETS, GATHERS, OTHERS[0], OTHERS[1], OTHERS[2], OTHERS[3]] {
-        let program = program_of(&rt, rt.alloc(), listing)?;
-        assert!(rt; program.into_tables().fits_tables(), "{listing}");
+        let tables = tables_of(&rt, rt.alloc(), listing)?;
+        assert!(rt; tables.fits_tables());
     }
     Ok(())
 }
 
 #[test]
 fn a_program_keeps_its_tables(rt: HostRuntime) -> Result<(), Fail> {
-    let tables = program_of(&rt, rt.alloc(), GREETS)?.into_tables();
+    let tables = tables_of(&rt, rt.alloc(), GREETS)?;
     assert!(rt; tables.fits_tables());
     let program = NodeProgram::of(tables);
-    let mut shown = String::new(rt.alloc());
-    write!(shown, "{:?}", program.tables())?;
-    assert!(rt; shown.as_str() == GREETS_SHOWN, "{shown}");
     let code = &program.tables().code;
     assert!(rt; code.len() == 4 && code.get(3).is_some() && code.get(4).is_none());
     Ok(())
@@ -74,16 +62,24 @@ fn nest(alloc: Global, depth: usize) -> Result<Vec<Member>, AllocError> {
     Ok(members)
 }
 
+/// Whether a program fits with a group of these members behind its others.
+fn fits_with(
+    rt: &impl Abort,
+    alloc: Global,
+    listing: &str,
+    members: Vec<Member>,
+) -> Result<bool, Fail> {
+    let mut tables = tables_of(rt, alloc, listing)?;
+    tables.groups.push(alloc, GroupRow::of(members))?;
+    Ok(tables.fits_tables())
+}
+
 #[test]
 fn ten_thousand_members_nest(rt: HostRuntime) -> Result<(), Fail> {
-    let mut deep = program_of(&rt, rt.alloc(), GATHERS)?.into_tables();
     let members = nest(rt.alloc(), 10_000)?;
-    deep.groups.push(rt.alloc(), GroupRow::of(members))?;
-    assert!(rt; deep.fits_tables());
-    let mut open = program_of(&rt, rt.alloc(), GATHERS)?.into_tables();
-    let mut members = nest(rt.alloc(), 100)?;
-    let _ = members.pop();
-    open.groups.push(rt.alloc(), GroupRow::of(members))?;
-    assert!(rt; !open.fits_tables());
+    assert!(rt; fits_with(&rt, rt.alloc(), GATHERS, members)?);
+    let mut open = nest(rt.alloc(), 100)?;
+    let _ = open.pop();
+    assert!(rt; !fits_with(&rt, rt.alloc(), GATHERS, open)?);
     Ok(())
 }

@@ -1,5 +1,5 @@
 //! For each rule of tables, rows at its edge that fit a program, and rows that break it.
-use crate::reading::program_of;
+use crate::reading::tables_of;
 use node_form::{
     ArrayDim, ArrayRow, DimRow, ExchangeRow, ExprOp, ExprRow, Grid3, GroupRow, Instr, Item, Member,
     RegionForm, SameKind, Tables,
@@ -46,12 +46,17 @@ fn add(alloc: Global, tables: &mut Tables, row: Added<'_>) -> Result<(), AllocEr
     }
 }
 
+/// Whether the program fits with this row behind its others.
+fn fits_with(rt: &impl Abort, alloc: Global, row: Added<'_>) -> Result<bool, Fail> {
+    let mut tables = tables_of(rt, alloc, BASE)?;
+    add(alloc, &mut tables, row)?;
+    Ok(tables.fits_tables())
+}
+
 /// Each of these rows fits behind the others of the program, or none does.
 fn expect(rt: &impl Abort, alloc: Global, rows: &[Added<'_>], fit: bool) -> Result<(), Fail> {
     for (number, row) in rows.iter().enumerate() {
-        let mut tables = program_of(rt, alloc, BASE)?.into_tables();
-        add(alloc, &mut tables, *row)?;
-        assert!(rt; tables.fits_tables() == fit, "row {number}");
+        assert!(rt; fits_with(rt, alloc, *row)? == fit, "row {number}");
     }
     Ok(())
 }
@@ -67,18 +72,28 @@ const GRIDS: [(Grid3, bool); 7] = [
     ([65_536, 65_536, 0], false),
 ];
 
-#[test]
-fn grids_and_slots(rt: HostRuntime) -> Result<(), Fail> {
-    let mut tables = program_of(&rt, rt.alloc(), BASE)?.into_tables();
+fn expect_grids(rt: &impl Abort, tables: &mut Tables) {
     for (grid, fit) in GRIDS {
         tables.grid = grid;
-        assert!(rt; tables.fits_tables() == fit, "{grid:?}");
+        assert!(rt; tables.fits_tables() == fit);
     }
-    tables.grid = [2, 0, 0];
-    tables.slots.push(rt.alloc(), 3)?;
-    assert!(rt; tables.fits_tables());
-    tables.slots.push(rt.alloc(), 4)?;
-    assert!(rt; !tables.fits_tables());
+}
+
+/// Slots of these ranks fit behind the others, or one of them is too many.
+fn fits_slots(rt: &impl Abort, alloc: Global, ranks: &[u8]) -> Result<bool, Fail> {
+    let mut tables = tables_of(rt, alloc, BASE)?;
+    for rank in ranks {
+        tables.slots.push(alloc, *rank)?;
+    }
+    Ok(tables.fits_tables())
+}
+
+#[test]
+fn grids_and_slots(rt: HostRuntime) -> Result<(), Fail> {
+    let mut tables = tables_of(&rt, rt.alloc(), BASE)?;
+    expect_grids(&rt, &mut tables);
+    assert!(rt; fits_slots(&rt, rt.alloc(), &[3])?);
+    assert!(rt; !fits_slots(&rt, rt.alloc(), &[3, 4])?);
     Ok(())
 }
 

@@ -1,6 +1,7 @@
 //! What rows do with things.
 use crate::reading::program_of;
-use node_form::{Thing, Touch};
+use node_form::{NodeProgram, Thing, Touch};
+use std::process::Abort;
 use std::test::Fail;
 
 /// A loop that puts array 1 and folds into scalar 1 where array 2 isn't 0; an exchange of array 0;
@@ -33,12 +34,16 @@ const TOUCHES: [(u32, Thing, Touch); 19] = [
     (7, Thing::Slot(0), Touch::No),
 ];
 
+fn expect_touches(rt: &impl Abort, program: &NodeProgram) {
+    for (at, thing, touch) in TOUCHES {
+        assert!(rt; program.touches(at, thing) == touch);
+        assert!(rt; program.tables().touches(at, thing) == touch);
+    }
+}
+
 #[test]
 fn rows_touch_things(rt: HostRuntime) -> Result<(), Fail> {
     let program = program_of(&rt, rt.alloc(), PROGRAM)?;
-    for (at, thing, touch) in TOUCHES {
-        assert!(rt; program.touches(at, thing) == touch, "{at} {thing:?}");
-        assert!(rt; program.tables().touches(at, thing) == touch);
-    }
+    expect_touches(&rt, &program);
     Ok(())
 }
