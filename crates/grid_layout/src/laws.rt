@@ -90,5 +90,6 @@ pub fn pieces_partition_needs()
         → to < processors_of layout.grid → 1 ≤ r.rank → r.rank ≤ 3 → length r.dims ≡ 3
         → length shift ≡ 3
         → IsPermutation (members (needed_of layout array to r shift))
-        (flat_map (λ from. members (piece_of layout array from to r shift)) (processors layout.grid)) }
+        (flat_map (λ from. members (piece_of layout array from to r shift))
+        (processors layout.grid)) }
 {}

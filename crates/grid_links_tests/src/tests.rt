@@ -244,7 +244,10 @@ fn every_order(rt: &impl Abort, alloc: Global, game: &Game, capacity: u32) -> Re
         assert!(rt; players.begins(&whole), "order {order}");
         players.rounds(alloc, game.moves)?;
         let ends_alike = players.moves == whole.moves;
-        assert!(rt; players.is_over() && ends_alike && players.is_empty(), "order {order}");
+        assert!(rt;
+            players.is_over() && ends_alike && players.is_empty(),
+            "order {order}"
+        );
     }
     Ok(())
 }

@@ -1,5 +1,6 @@
 //! The processors of a grid, and which of them have ended and rest.
-ghost use Rattle.std.specs.Prelude.{◌≡◌, ◌<◌, ℕ, IfOk, List, OnErr, IsTrue, false, length, slice_index_or};
+ghost use Rattle.std.specs.Prelude.{◌≡◌, ◌<◌, ℕ, IfOk, List};
+ghost use Rattle.std.specs.Prelude.{OnErr, IsTrue, false, length, slice_index_or};
 ghost use Rattle.grid_meaning.specs.Local.{processors};
 ghost use Rattle.grid_meaning.specs.Stored.{arrangement_of};
 ghost use Rattle.grid_sim.specs.Processors.{
@@ -23,9 +24,9 @@ use std::alloc::{AllocError, Global};
 /// The processors of a program between their turns.
 ///
 /// The marks tell which have ended, and which are known to rest: their next turn changes nothing. A
-/// processor that rests goes on doing so until a message for it is sent or one from it is taken, and
-/// one that doesn't goes on so until its next turn. So one is kept that doesn't rest, unless all
-/// are marked, and another one is sought only when it has moved.
+/// processor that rests goes on doing so until a message for it is sent or one from it is taken,
+/// and one that doesn't goes on so until its next turn. So one is kept that doesn't rest, unless
+/// all are marked, and another one is sought only when it has moved.
 ///
 /// Of a processor that is in an exchange it is known with whom it exchanges words there, once it
 /// has had a turn in it, and the routes that were found last.

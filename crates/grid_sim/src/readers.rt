@@ -1,5 +1,6 @@
 //! What a simulation tells.
-ghost use Rattle.std.specs.Prelude.{◌≡◌, ◌<◌, ◌≤◌, ◌↔◌, [], IfSome, IsNone, IsSome, IsTrue, Some, slice_get};
+ghost use Rattle.std.specs.Prelude.{◌≡◌, ◌<◌, ◌≤◌, ◌↔◌, []};
+ghost use Rattle.std.specs.Prelude.{IfSome, IsNone, IsSome, IsTrue, Some, slice_get};
 ghost use Rattle.zpl_nums.specs.declared.ends.End.{End as Ending};
 ghost use Rattle.grid_links.specs.Network.{Network};
 ghost use Rattle.grid_meaning.specs.Grid.{EndsAs, IsIdle, IsOver};

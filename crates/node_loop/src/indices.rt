@@ -1,6 +1,7 @@
 //! The tuples of a region by their places, found with few divisions where coordinates follow one
 //! another.
-ghost use Rattle.std.specs.Prelude.{◌≡◌, ◌+◌, ◌/◌, ◌%◌, ◌<◌, ◌≤◌, ◌^◌, [], ◌∷◌, IfSome, length, map, slice_get};
+ghost use Rattle.std.specs.Prelude.{◌≡◌, ◌+◌, ◌/◌, ◌%◌, ◌<◌, ◌≤◌};
+ghost use Rattle.std.specs.Prelude.{◌^◌, [], ◌∷◌, IfSome, length, map, slice_get};
 ghost use Rattle.zpl_region.specs.declared.regions.Region.{Region as Tuples};
 ghost use Rattle.zpl_region.specs.Dim.{IsDim, coordinates};
 ghost use Rattle.zpl_region.specs.Progression.{terms};

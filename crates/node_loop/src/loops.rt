@@ -13,9 +13,9 @@ use node_form::NodeProgram;
 use node_local::Local;
 use node_stages::own_tuples;
 
-/// One turn of `loop` on processor p: what the members of a group do at one index of its own part of
-/// the slot's region. Behind the last index the row is left. Where the processor is stuck it stays
-/// as it was.
+/// One turn of `loop` on processor p: what the members of a group do at one index of its own part
+/// of the slot's region. Behind the last index the row is left. Where the processor is stuck it
+/// stays as it was.
 pub fn loop_turn(
     local: &mut Local,
     code: &NodeProgram,

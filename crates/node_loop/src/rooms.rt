@@ -1,5 +1,6 @@
 //! Turns of `room` and `clear`.
-ghost use Rattle.std.specs.Prelude.{◌≡◌, ◌<◌, ◌≤◌, ◌+◌, ◌^◌, All, IfErr, IfOk, IsNone, false, slice_get};
+ghost use Rattle.std.specs.Prelude.{◌≡◌, ◌<◌, ◌≤◌, ◌+◌, ◌^◌};
+ghost use Rattle.std.specs.Prelude.{All, IfErr, IfOk, IsNone, false, slice_get};
 ghost use Rattle.zpl_region.specs.Ends.{has_none};
 ghost use Rattle.zpl_region.specs.Hull.{IsBoxed};
 ghost use Rattle.zpl_region.specs.Region.{IsRegion};

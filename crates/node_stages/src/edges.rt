@@ -237,8 +237,8 @@ fn later_edge_stage(
     }
 }
 
-/// What processor p does in `wrap` or `reflect`, with this region in the row's slot, when it has made
-/// so many turns there.
+/// What processor p does in `wrap` or `reflect`, with this region in the row's slot, when it has
+/// made so many turns there.
 pub fn edge_stage(
     code: &NodeProgram,
     layout: &Layout,

@@ -274,8 +274,8 @@ fn receivers_for(
     found
 }
 
-/// Learns for whom p has words in `start` of an exchange, with these items: by the route
-/// that was found last, where it is the exchange's.
+/// Learns for whom p has words in `start` of an exchange, with these items: by the route that was
+/// found last, where it is the exchange's.
 pub fn learn_receivers(
     code: &NodeProgram,
     layout: &Layout,
@@ -298,8 +298,8 @@ pub fn learn_receivers(
     known.learn(found);
 }
 
-/// What processor p does in `start` of an exchange, with these items, when it has made so many turns
-/// there. Where its receivers aren't known, and no route has them, they are found.
+/// What processor p does in `start` of an exchange, with these items, when it has made so many
+/// turns there. Where its receivers aren't known, and no route has them, they are found.
 pub fn start_stage(
     code: &NodeProgram,
     layout: &Layout,
@@ -360,8 +360,8 @@ fn senders_for(
     found
 }
 
-/// Learns who have words for p in `finish` of an exchange, with these items: by the route
-/// that was found last, where it is the exchange's.
+/// Learns who have words for p in `finish` of an exchange, with these items: by the route that was
+/// found last, where it is the exchange's.
 pub fn learn_senders(
     code: &NodeProgram,
     layout: &Layout,

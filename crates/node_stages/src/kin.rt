@@ -52,7 +52,8 @@ impl Kin {
         }
     }
 
-    /// The processors, `count` of them, are a tree in which the children of p are 2p + 1 and 2p + 2.
+    /// The processors, `count` of them, are a tree in which the children of p are 2p + 1 and
+    /// 2p + 2.
     pub fn tree(count: u32, p: u32) -> Kin
         requires { p < count }
         ensures { (code : Code) → processors code ≡ count → result ≡ tree code p }

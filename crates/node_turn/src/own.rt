@@ -49,7 +49,8 @@ fn own_room(
     requires layout { layout.now ≡ arrangement_of code.now }
     requires at { IsAtRow code.now p local.old (Instr.Room array slot) }
     ensures own { IfOk result (λ turn. IsOwn p
-        (act_at code.now p local.old.local (Some (Instr.Room array slot))) local.old local.new turn) }
+        (act_at code.now p local.old.local (Some (Instr.Room array slot)))
+        local.old local.new turn) }
     ensures err { OnErr result (local.new ≡ local.old) }
 {
     let _rows = code.tables().code.len();

@@ -11,8 +11,8 @@ use grid_meaning::states_are_kept;
 use node_form::NodeProgram;
 use node_local::Local;
 
-/// Makes the move of processor p that [`turn_of`](crate::turn_of) answered with bytes to be printed.
-/// It takes no memory.
+/// Makes the move of processor p that [`turn_of`](crate::turn_of) answered with bytes to be
+/// printed. It takes no memory.
 pub fn printed(code: &NodeProgram, _layout: &Layout, p: u32, local: &mut Local)
     requires layout { _layout.now ≡ arrangement_of code.now }
     requires ready { IsReady code.now p local.old }

@@ -16,13 +16,11 @@ use grid_meaning::states_are_kept;
 use node_form::{Instr, NodeProgram};
 use node_local::Local;
 use node_stages::{Partners, Stage};
-use row_turn::{
-    Receipt, learn_partners, leave_partners, message_for, row_stage, take_message,
-};
+use row_turn::{Receipt, learn_partners, leave_partners, message_for, row_stage, take_message};
 use std::alloc::{AllocError, Global};
 
-/// The turn of a processor that sends a message: it waits where the link is full, and is stuck where
-/// a place isn't held that the words need. For want of memory nothing changes.
+/// The turn of a processor that sends a message: it waits where the link is full, and is stuck
+/// where a place isn't held that the words need. For want of memory nothing changes.
 fn send_step(
     alloc: Global,
     code: &NodeProgram,
@@ -64,8 +62,8 @@ fn send_step(
     Ok(Step::Moved(Traffic::Sent { to, words }))
 }
 
-/// The turn of a processor that takes a message: it waits where there is none, and is stuck with one
-/// that it can't take, which stays on its link. For want of memory nothing changes.
+/// The turn of a processor that takes a message: it waits where there is none, and is stuck with
+/// one that it can't take, which stays on its link. For want of memory nothing changes.
 fn take_step(
     alloc: Global,
     code: &NodeProgram,

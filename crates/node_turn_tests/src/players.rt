@@ -328,8 +328,8 @@ fn trace(
     Ok(text)
 }
 
-/// Compares what comes of these turns with what is to come, over links of a capacity or of none: for
-/// processors as they are, and for processors that are restored behind each turn.
+/// Compares what comes of these turns with what is to come, over links of a capacity or of none:
+/// for processors as they are, and for processors that are restored behind each turn.
 fn expect_over(
     rt: &impl Abort,
     alloc: Global,

@@ -41,6 +41,7 @@ fn ones_around(dim: &Dim, x: i64) -> Option<(i64, i64)>
 }
 
 /// The first tuple in row-major order, or `None` where there is none.
+#[inline(always)]
 pub fn least(region: &Region) -> Option<Vec3>
     requires { IsRegion region.now }
     ensures { result ≡ least_member region.now }
@@ -70,6 +71,7 @@ pub fn least(region: &Region) -> Option<Vec3>
 
 /// The first tuple that stands after `x` in row-major order, or `None` where none does. The vector
 /// `x` may be no tuple of the region.
+#[inline(always)]
 pub fn next_after(region: &Region, x: &Vec3) -> Option<Vec3>
     requires { IsRegion region.now }
     ensures { result ≡ find (is_before x.now) (members region.now) }

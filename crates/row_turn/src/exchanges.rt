@@ -55,7 +55,16 @@ pub(crate) fn stage_in_start(
         stage_of row local.now.local ≡ Some (staged result)) }
 {
     let items = items_of(code, exchange);
-    start_stage(code, layout, local.slots(), exchange, items, p, local.made(), known)
+    start_stage(
+        code,
+        layout,
+        local.slots(),
+        exchange,
+        items,
+        p,
+        local.made(),
+        known,
+    )
 }
 
 /// What a processor does in its next turn of `finish`.
@@ -74,7 +83,16 @@ pub(crate) fn stage_in_finish(
         stage_of row local.now.local ≡ Some (staged result)) }
 {
     let items = items_of(code, exchange);
-    finish_stage(code, layout, local.slots(), exchange, items, p, local.made(), known)
+    finish_stage(
+        code,
+        layout,
+        local.slots(),
+        exchange,
+        items,
+        p,
+        local.made(),
+        known,
+    )
 }
 
 /// Learns for whom processor p has words in `start`.

@@ -104,7 +104,10 @@ fn moves(rt: &impl Abort, dim: Dim) {
         let moved = line.at([d, 0, 0]).expect(rt, "a small region");
         for x in -4..=9 {
             let to = d.wrapping_add(x);
-            let found = same(moved.next_after([to.wrapping_sub(1), 0, 0]), Some([to, 0, 0]));
+            let found = same(
+                moved.next_after([to.wrapping_sub(1), 0, 0]),
+                Some([to, 0, 0]),
+            );
             assert!(rt; found == has(dim, x));
         }
     }
