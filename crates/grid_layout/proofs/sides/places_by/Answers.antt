@@ -69,3 +69,55 @@ returns-clause-places c =
     c.place_between-planes.result c.place_between-rows.result c.place_between-columns.result c.is_bare.result c.is_bare-2.result c.is_bare-3.result
     (rw (l0, h0, v0) at c.place_between-planes.ensures) (rw (l1, h1, v1) at c.place_between-rows.ensures) (rw (l2, h2, v2) at c.place_between-columns.ensures)
     c.is_bare.ensures c.is_bare-2.ensures c.is_bare-3.ensures c.if-is_bare.false c.if-is_bare-2.false c.if-is_bare-3.false
+
+pub place_between-planes-requires-clause-mine : goal.place_between-planes-requires-clause-mine
+place_between-planes-requires-clause-mine c = c.requires.mine 0 _ (omega arith)
+
+pub place_between-planes-requires-clause-other : goal.place_between-planes-requires-clause-other
+place_between-planes-requires-clause-other c = c.requires.others 0 _ (omega arith)
+
+pub place_between-planes-requires-clause-down : goal.place_between-planes-requires-clause-down
+place_between-planes-requires-clause-down c =
+    let same : to_z w64 (of_z w64 (get_or c.args.array.now.low 0 (pos 0))) ≡ get_or c.args.array.now.low 0 (pos 0) = omega (arith, ints) in
+    rw same (c.requires.array.low 0 (pos 0) (omega arith))
+
+pub place_between-planes-requires-clause-up : goal.place_between-planes-requires-clause-up
+place_between-planes-requires-clause-up c =
+    let same : to_z w64 (of_z w64 (get_or c.args.array.now.high 0 (pos 0))) ≡ get_or c.args.array.now.high 0 (pos 0) = omega (arith, ints) in
+    rw same (c.requires.array.high 0 (pos 0) (omega arith))
+
+pub place_between-rows-requires-clause-mine : goal.place_between-rows-requires-clause-mine
+place_between-rows-requires-clause-mine c = c.requires.mine 1 _ (omega arith)
+
+pub place_between-rows-requires-clause-other : goal.place_between-rows-requires-clause-other
+place_between-rows-requires-clause-other c = c.requires.others 1 _ (omega arith)
+
+pub place_between-rows-requires-clause-down : goal.place_between-rows-requires-clause-down
+place_between-rows-requires-clause-down c =
+    let same : to_z w64 (of_z w64 (get_or c.args.array.now.low 1 (pos 0))) ≡ get_or c.args.array.now.low 1 (pos 0) = omega (arith, ints) in
+    rw same (c.requires.array.low 1 (pos 0) (omega arith))
+
+pub place_between-rows-requires-clause-up : goal.place_between-rows-requires-clause-up
+place_between-rows-requires-clause-up c =
+    let same : to_z w64 (of_z w64 (get_or c.args.array.now.high 1 (pos 0))) ≡ get_or c.args.array.now.high 1 (pos 0) = omega (arith, ints) in
+    rw same (c.requires.array.high 1 (pos 0) (omega arith))
+
+pub place_between-columns-requires-clause-mine : goal.place_between-columns-requires-clause-mine
+place_between-columns-requires-clause-mine c = c.requires.mine 2 _ (omega arith)
+
+pub place_between-columns-requires-clause-other : goal.place_between-columns-requires-clause-other
+place_between-columns-requires-clause-other c = c.requires.others 2 _ (omega arith)
+
+pub place_between-columns-requires-clause-up : goal.place_between-columns-requires-clause-up
+place_between-columns-requires-clause-up c =
+    let same : to_z w64 (of_z w64 (get_or c.args.array.now.high 2 (pos 0))) ≡ get_or c.args.array.now.high 2 (pos 0) = omega (arith, ints) in
+    rw same (c.requires.array.high 2 (pos 0) (omega arith))
+
+pub place_between-planes-requires-clause-stored : goal.place_between-planes-requires-clause-stored
+place_between-planes-requires-clause-stored c = (c.requires.array.region.dims 0 _ (omega arith)).1
+
+pub place_between-rows-requires-clause-stored : goal.place_between-rows-requires-clause-stored
+place_between-rows-requires-clause-stored c = (c.requires.array.region.dims 1 _ (omega arith)).1
+
+pub place_between-columns-requires-clause-stored : goal.place_between-columns-requires-clause-stored
+place_between-columns-requires-clause-stored c = (c.requires.array.region.dims 2 _ (omega arith)).1
