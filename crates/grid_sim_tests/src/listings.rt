@@ -18,6 +18,12 @@ pub const EXCHANGES: &[u8] = b"zplnode 1\ngrid 2\nscalars 0\nslots 1\ncells 0\na
     exchange\nitem 0 0 1\nitem 0 0 -1\nexchange\nitem 0 0 1\nitem 0 0 -1\ncode\nfix 0 2..3:1:1\n\
     start 0\nstart 1\nfinish 0\nfinish 1\nend\n";
 
+/// Three times over one exchange with a region for which processor 0 needs a place of processor 1,
+/// and with one for which it needs none.
+pub const VISITS: &[u8] = b"zplnode 1\ngrid 2\nscalars 1\nslots 1\ncells 0\narray 1..4:1,1\n\
+    expr s0 n1 +\nexpr s0 n3 <\nexchange\nitem 0 0 1\ncode\nfix 0 2..3:1:1\nstart 0\nfinish 0\n\
+    fix 0 3..3:1:1\nstart 0\nfinish 0\nset 0 0 1\nunless 1 9 1\njump 0\nend\n";
+
 /// A loop reads beside the array's places.
 pub const READS_OUTSIDE: &[u8] = b"zplnode 1\ngrid 1\nscalars 0\nslots 1\ncells 0\n\
     array 1..2:0,0\nexpr a0@1\ngroup\nput 0 0 - 1\ncode\nfix 0 1..2:1:1\nloop 0 0\nend\n";

@@ -1,7 +1,7 @@
 //! How runs end, what they count and print.
 use crate::grids::{expect, grid_of};
 use crate::listings::{
-    DIVIDES, EXCHANGES, OTHER_REGION, OTHER_ROW, PRINTS, READS_OUTSIDE, SUMS, WAITS,
+    DIVIDES, EXCHANGES, OTHER_REGION, OTHER_ROW, PRINTS, READS_OUTSIDE, SUMS, VISITS, WAITS,
 };
 use std::test::Fail;
 
@@ -19,7 +19,7 @@ type Case = (
     &'static str,
 );
 
-const CASES: [Case; 27] = [
+const CASES: [Case; 28] = [
     // Runs end under the empty order.
     (PRINTS, None, b"", 1000, NEVER, "Ok(Done) 8 0 0 hi21"),
     (
@@ -56,6 +56,8 @@ const CASES: [Case; 27] = [
         "Err(Stuck(0, Length)) 10 1 2 ",
     ),
     (EXCHANGES, None, b"", 1000, NEVER, "Ok(Done) 20 4 4 "),
+    // Whom an exchange is with goes by the region that is in its slot at the time.
+    (VISITS, None, b"", 1000, NEVER, "Ok(Done) 60 3 3 "),
     // Over links for one message both processors wait for room; those for two have enough.
     (
         EXCHANGES,
