@@ -1,15 +1,15 @@
-//! Grids of listings, and what comes of their runs as text.
+//! Grids of listings, and what comes of their runs.
 ghost use Rattle.std.specs.Prelude.{◌≡◌, IfOk};
 
 use grid_order::read_order;
-use grid_sim::Sim;
+use grid_sim::{Counts, Sim, SimFault};
 use listing_runs::{listed_code_has_room, read_orders_can_be_given};
 use node_text::read_listing;
-use std::alloc::{AllocError, Global};
-use std::fmt::Write;
+use std::alloc::Global;
 use std::process::Abort;
 use std::test::Fail;
 use zpl_io::MemSink;
+use zpl_nums::End;
 
 /// The grid of a listing, over links of a capacity or of none.
 pub fn grid_of(
@@ -36,7 +36,11 @@ pub fn grid_of(
     }
 }
 
-/// Runs a grid that has had no turn under an order and so many turns behind it.
+/// How a run ends.
+pub type Answer = Result<End, SimFault>;
+
+/// Runs a grid that has had no turn under an order and so many turns behind it: how the run ends,
+/// and what it counts.
 fn run(
     rt: &impl Abort,
     alloc: Global,
@@ -44,7 +48,7 @@ fn run(
     order: &[u8],
     limit: u64,
     out: &mut MemSink,
-) -> Result<String, Fail>
+) -> Result<(Answer, Counts), Fail>
     requires { sim.grid.turns ≡ 0 }
 {
     assert!(rt; order.len() < 1000);
@@ -52,22 +56,7 @@ fn run(
     read_orders_can_be_given();
     let mut order = read_order(alloc, order, sim.processors())?;
     let answer = sim.run(alloc, &mut order, limit, out);
-    let counts = sim.counts();
-    let mut text = String::new(alloc);
-    write!(
-        text,
-        "{answer:?} {} {} {} ",
-        counts.turns, counts.sends, counts.words
-    )?;
-    Ok(text)
-}
-
-/// Appends bytes, which are ASCII.
-fn push_bytes(bytes: &[u8], text: &mut String) -> Result<(), AllocError> {
-    for byte in bytes {
-        text.push(char::from(*byte))?;
-    }
-    Ok(())
+    Ok((answer, sim.counts()))
 }
 
 /// Runs a listing, and compares how the run ends, its turns, messages and their words, and what it
@@ -79,14 +68,16 @@ pub fn expect(
     order: &[u8],
     limit: u64,
     failing: u64,
-    told: &str,
+    want: (Answer, [u64; 3], &[u8]),
 ) -> Result<(), Fail>
     requires { sim.grid.turns ≡ 0 }
 {
     let mut out = MemSink::new(alloc, 100)?;
     out.fail_at(alloc, failing)?;
-    let mut text = run(rt, alloc, sim, order, limit, &mut out)?;
-    push_bytes(out.taken(), &mut text)?;
-    assert!(rt; text.as_str() == told, "{text}");
+    let (answer, counts) = run(rt, alloc, sim, order, limit, &mut out)?;
+    let [turns, sends, words] = want.1;
+    assert!(rt; answer == want.0);
+    assert!(rt; counts.turns == turns && counts.sends == sends);
+    assert!(rt; counts.words == u128::from(words) && out.taken() == want.2);
     Ok(())
 }

@@ -114,7 +114,7 @@ fn drawn_listing(alloc: Global, seed: u64) -> Result<Vec<u8>, AllocError> {
 fn drawn_listings(rt: HostRuntime) -> Result<(), Fail> {
     for seed in 0..40 {
         let text = drawn_listing(rt.alloc(), seed)?;
-        assert!(rt; is_kept(rt.alloc(), &text)?, "{seed}");
+        assert!(rt; is_kept(rt.alloc(), &text)?);
     }
     Ok(())
 }

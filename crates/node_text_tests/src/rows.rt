@@ -16,6 +16,19 @@ const HI_SHOWN: &str =
     }, groups: Rows { rows: [] }, exchanges: Rows { rows: [] }, code: Rows { rows: [Set { \
     scalar: 0, expr: 0, line: 1 }, Print { text: 0 }, Number { expr: 1 }, End] } } }";
 
+/// The same with an array.
+const GREETS: &str = "zplnode 1\ngrid 2\nscalars 1\nslots\ncells 0\narray 1..4:1,1\ntext 6869\n\
+    expr n20\nexpr s0 n1 +\ncode\nset 0 0 1\nprint 0\nnumber 1\nend\n";
+
+const GREETS_SHOWN: &str =
+    "NodeProgram { tables: Tables { grid: [2, 0, 0], scalars: 1, cells: 0, slots: Rows { rows: \
+    [] }, arrays: Rows { rows: [ArrayRow { rank: 1, stored: true, dims: [Range { lo: 1, hi: 4, \
+    low: 1, high: 1 }, Range { lo: 0, hi: 0, low: 0, high: 0 }, Range { lo: 0, hi: 0, low: 0, \
+    high: 0 }] }] }, texts: Rows { rows: [Row { items: [104, 105] }] }, exprs: Rows { rows: [Row \
+    { items: [Const(20)] }, Row { items: [Scalar(0), Const(1), Pair(Add)] }] }, groups: Rows { \
+    rows: [] }, exchanges: Rows { rows: [] }, code: Rows { rows: [Set { scalar: 0, expr: 0, \
+    line: 1 }, Print { text: 0 }, Number { expr: 1 }, End] } } }";
+
 const WAITS: &str =
     "zplnode 1\ngrid 2\nscalars 1\nslots 1\ncells 0\nexpr n1\nexpr s0\ngroup\nacc 0 sum 0 - 1\n\
     code\nfix 0 1..1:1:1\nloop 0 0\nunless 1 4 1\nfold 0 sum\nend\n";
@@ -87,7 +100,7 @@ fn expect(rt: &impl Abort, alloc: Global, listing: &str, shown: &str) -> Result<
     let program = read_listing(alloc, text)?;
     let mut found = String::new(alloc);
     write!(found, "{program:?}")?;
-    assert!(rt; found.as_str() == shown, "{found}");
+    assert!(rt; found.as_str() == shown);
     let lines = read_lines(alloc, text)?;
     assert!(rt; lines.len() == text.iter().filter(|byte| **byte == b'\n').count());
     Ok(())
@@ -95,7 +108,12 @@ fn expect(rt: &impl Abort, alloc: Global, listing: &str, shown: &str) -> Result<
 
 #[test]
 fn each_kind_of_row(rt: HostRuntime) -> Result<(), Fail> {
-    for (listing, shown) in [(HI, HI_SHOWN), (WAITS, WAITS_SHOWN), (ROWS, ROWS_SHOWN)] {
+    for (listing, shown) in [
+        (HI, HI_SHOWN),
+        (GREETS, GREETS_SHOWN),
+        (WAITS, WAITS_SHOWN),
+        (ROWS, ROWS_SHOWN),
+    ] {
         expect(&rt, rt.alloc(), listing, shown)?;
         holds(&rt, is_kept(rt.alloc(), listing.as_bytes())?, listing);
     }
