@@ -1,6 +1,6 @@
 //! Programs that fit, and members nested very deep.
 use crate::reading::tables_of;
-use node_form::{GroupRow, Member, NodeProgram};
+use node_form::{GroupRow, Member, NodeProgram, Tables};
 use std::alloc::{AllocError, Global};
 use std::process::Abort;
 use std::test::Fail;
@@ -36,13 +36,22 @@ fn listings_fit(rt: HostRuntime) -> Result<(), Fail> {
     Ok(())
 }
 
+/// The tables of `GREETS`, which has no slots, groups and exchanges.
+fn expect_greets(rt: &impl Abort, tables: &Tables) {
+    assert!(rt; tables.grid == [2, 0, 0] && tables.scalars == 1 && tables.cells == 0);
+    assert!(rt; tables.slots.len() == 0 && tables.groups.len() == 0);
+    assert!(rt; tables.arrays.len() == 1 && tables.texts.len() == 1 && tables.exprs.len() == 2);
+    assert!(rt; tables.exchanges.len() == 0);
+    let code = &tables.code;
+    assert!(rt; code.len() == 4 && code.get(3).is_some() && code.get(4).is_none());
+}
+
 #[test]
 fn a_program_keeps_its_tables(rt: HostRuntime) -> Result<(), Fail> {
     let tables = tables_of(&rt, rt.alloc(), GREETS)?;
     assert!(rt; tables.fits_tables());
     let program = NodeProgram::of(tables);
-    let code = &program.tables().code;
-    assert!(rt; code.len() == 4 && code.get(3).is_some() && code.get(4).is_none());
+    expect_greets(&rt, program.tables());
     Ok(())
 }
 
