@@ -96,9 +96,6 @@ pub finished_kept : (code : Tables) (p : ℕ) (old new : Known) (route : Option 
     → IfSome route (IsRoute code (λ slots items. senders_to code slots items p)) → AreRoutes code p new
 finished_kept code p old new route is are right = subst (AreRoutes code p) (sym is) (record { started = are.started; finished = right })
 
-pub here_kept : (code : Tables) (p : ℕ) (old new : Known) (here : Option (List ℕ)) → new ≡ record old { here = here } → AreRoutes code p old → AreRoutes code p new
-here_kept code p old new here is are = subst (AreRoutes code p) (sym is) (record { started = are.started; finished = are.finished })
-
 pub on_some : {A : Type 0} (P Q : A → Type 0) (found : Option A) → ((a : A) → P a → Q a) → IfSome found P → IfSome found Q
 on_some P Q None step h = tt
 on_some P Q (Some a) step h = step a h

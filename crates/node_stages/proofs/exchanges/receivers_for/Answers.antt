@@ -1,5 +1,5 @@
-use Rattle.node_stages.proofs.RouteLemmas.{on_some, started_kept, started_route, recalled_list}
-use Rattle.node_stages.specs.Known.{IsRoute, IsRouteFor, Route}
+use Rattle.node_stages.proofs.RouteLemmas.{on_some, started_kept, started_route}
+use Rattle.node_stages.specs.Known.{IsRoute, IsRouteFor}
 use Rattle.node_stages.specs.Partners.{receivers_from}
 use Rattle.node_stages.proofs.exchanges.receivers_for.Goals as goal
 

@@ -1,5 +1,5 @@
-use Rattle.node_stages.proofs.RouteLemmas.{on_some, finished_kept, finished_route, recalled_list}
-use Rattle.node_stages.specs.Known.{IsRoute, IsRouteFor, Route}
+use Rattle.node_stages.proofs.RouteLemmas.{on_some, finished_kept, finished_route}
+use Rattle.node_stages.specs.Known.{IsRoute, IsRouteFor}
 use Rattle.node_stages.specs.Partners.{senders_to}
 use Rattle.node_stages.proofs.exchanges.senders_for.Goals as goal
 
