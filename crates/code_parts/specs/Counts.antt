@@ -1,5 +1,5 @@
 -- The size of code, and rows that are counted.
-use Rattle.std.specs.Prelude.{◌≡◌, ℕ, ◌+◌, Bool, true, false, List, length, sum_by, filter, All}
+use Rattle.std.specs.Prelude.{◌≡◌, ℕ, ◌+◌, Bool, true, false, length, sum_by, count_by, All}
 use Rattle.node_form.specs.declared.instructions.Instr.{Instr}
 use Rattle.node_form.specs.declared.instructions.Instr.TheVariants as instr
 use Rattle.node_form.specs.declared.tables.Tables.{Tables}
@@ -14,7 +14,7 @@ code_size code =
 
 -- how many rows pass a test
 abbrev pub count_of : (Instr → Bool) → Tables → ℕ
-count_of test code = length (filter test code.code)
+count_of test code = count_by test code.code
 
 -- rows that statements are made of: all but checks of places, exchanges, votes and traps
 abbrev pub is_counted : Instr → Bool

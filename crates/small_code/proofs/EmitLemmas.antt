@@ -22,7 +22,7 @@ use Rattle.node_form.specs.declared.words.ExprOp.{ExprOp}
 use Rattle.node_form.specs.declared.instructions.Instr.{Instr}
 use Rattle.node_form.specs.declared.instructions.Instr.TheVariants as instr
 use Rattle.node_form.specs.Expression.{words_of}
-use Rattle.zpl_claims.specs.Tidy.{code_size}
+use Rattle.code_parts.specs.Counts.{code_size}
 use Rattle.zpl_claims.specs.Small.{IsSum, IsTest, IsItem}
 use Rattle.small_code.specs.Draft.{Extends, newline}
 use Rattle.small_code.specs.Emits.{AreFine, AreFineItems, IsFine, Emits, EmitsAll, EmitsAssignment}
