@@ -1,7 +1,7 @@
 -- Exchanges that bring nothing new are left out, and neighbours are one exchange.
-use Rattle.std.specs.Prelude.{◌≡◌, ℕ, Bool, true, false, not, List, [], ◌∷◌, ◌++◌, All, Contains}
+use Rattle.std.specs.Prelude.{◌≡◌, ℕ, Bool, true, false, not, List, [], ◌∷◌, ◌++◌, Contains}
 use Rattle.std.specs.Prelude.{filter}
-use Rattle.std.specs.List.{list_any}
+use Rattle.std.specs.List.{AllByRecursion, list_any}
 use Rattle.node_form.specs.declared.arrays.Item.{Item}
 use Rattle.node_form.specs.declared.instructions.Instr.{Instr}
 use Rattle.node_form.specs.declared.instructions.Instr.TheVariants as instr
@@ -27,7 +27,7 @@ pub record HasRepeat (tables : Tables) (rows : List Instr) : Type 0 where
   pub place : rows ≡ before ++ instr.Start one ∷ (between ++ instr.Start other ∷ after)
   pub first : Contains (items_of tables one) item
   pub again : Contains (items_of tables other) item
-  pub kept : All (λ row. stales tables item row ≡ false) between
+  pub kept : AllByRecursion (λ row. stales tables item row ≡ false) between
 
 abbrev pub HasNoRepeats : Tables → Type 0
 HasNoRepeats tables = (rows : List Instr) → IsStretch tables.code rows → ¬ HasRepeat tables rows
@@ -63,7 +63,7 @@ pub record HasNeighbours (rows : List Instr) : Type 0 where
   pub between : List Instr
   pub after : List Instr
   pub place : rows ≡ before ++ instr.Finish one ∷ (between ++ instr.Finish other ∷ after)
-  pub near : All (λ row. is_exchange_row row ≡ true) between
+  pub near : AllByRecursion (λ row. is_exchange_row row ≡ true) between
 
 abbrev pub IsMerged : Tables → Type 0
 IsMerged tables = (rows : List Instr) → IsStretch tables.code rows → ¬ HasNeighbours rows

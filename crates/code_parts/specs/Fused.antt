@@ -1,6 +1,7 @@
 -- Loops that stand one behind the other are one loop, where their groups can be joined.
 use Rattle.std.specs.Prelude.{◌≡◌, ◌⊎◌, ℕ, ◌==◌, Bool, true, false, not, ◌&&◌, ◌||◌, Option, Some}
-use Rattle.std.specs.Prelude.{None, List, [], ◌∷◌, ◌++◌, All}
+use Rattle.std.specs.Prelude.{None, List, [], ◌∷◌, ◌++◌}
+use Rattle.std.specs.List.{AllByRecursion}
 use Rattle.node_form.specs.declared.instructions.Instr.{Instr}
 use Rattle.node_form.specs.declared.instructions.Instr.TheVariants as instr
 use Rattle.node_form.specs.declared.tables.Tables.{Tables}
@@ -37,7 +38,7 @@ pub record HasJoinable (tables : Tables) (rows : List Instr) : Type 0 where
   pub between : List Instr
   pub after : List Instr
   pub place : rows ≡ before ++ instr.Loop slot one ∷ (between ++ instr.Loop slot other ∷ after)
-  pub near : All (λ row. is_between_loops row ≡ true) between
+  pub near : AllByRecursion (λ row. is_between_loops row ≡ true) between
   pub joinable : are_joinable tables one other ≡ true
 
 -- no stretch has two such loops

@@ -1,7 +1,8 @@
 -- Stretches of code, and a walk over the code that forgets all where a stretch ends.
-use Rattle.std.specs.Prelude.{◌≡◌, ◌⊎◌, ℕ, ◌+◌, ◌<◌, ◌==◌, Bool, true, false, ◌&&◌, if◌then◌else◌}
-use Rattle.std.specs.Prelude.{List, [], ◌∷◌, ◌++◌, All, length, fold}
-use Rattle.std.specs.List.{list_any}
+use Rattle.std.specs.Prelude.{◌≡◌, ◌⊎◌, ℕ, ◌+◌, ◌<◌, ◌==◌, Bool, true, false, ◌&&◌, ◌||◌}
+use Rattle.std.specs.Prelude.{if◌then◌else◌}
+use Rattle.std.specs.Prelude.{List, [], ◌∷◌, ◌++◌, length, fold}
+use Rattle.std.specs.List.{AllByRecursion, list_any}
 use Rattle.node_form.specs.declared.instructions.Instr.{Instr}
 use Rattle.node_form.specs.declared.instructions.Instr.TheVariants as instr
 
@@ -36,14 +37,14 @@ pub record IsStretch (code rows : List Instr) : Type 0 where
   pub front : List Instr
   pub back : List Instr
   pub place : code ≡ front ++ (rows ++ back)
-  pub straight : All (λ row. ends_stretch row ≡ false) rows
+  pub straight : AllByRecursion (λ row. ends_stretch row ≡ false) rows
   pub inside : (k : ℕ) → 0 < k → k < length rows → is_goal code (length front + k) ≡ false
   pub begins : EndsAny front ⊎ (is_goal code (length front) ≡ true)
 
 -- ---- a walk
 -- What is known in front of a row: nothing at a goal and behind a row that ends a stretch, and else
--- what the rows before it in its stretch tell, one after another. Each row stands a test by what is
--- known.
+-- what the rows before it in its stretch tell, one after another. Each row of a stretch stands a
+-- test by what is known.
 module _ {F : Type 0} (nothing : F) (learn : F → Instr → F) (is_right : F → Instr → Bool)
     (code : List Instr) where
   abbrev pub known_at : ℕ → F → F
@@ -55,7 +56,7 @@ module _ {F : Type 0} (nothing : F) (learn : F → Instr → F) (is_right : F �
   abbrev pub right_from : ℕ → F → List Instr → Bool
   right_from at facts [] = true
   right_from at facts (row ∷ rows) =
-      is_right (known_at at facts) row
+      (ends_stretch row || is_right (known_at at facts) row)
       && right_from (at + 1) (known_behind (known_at at facts) row) rows
 
   abbrev pub is_right_throughout : Bool

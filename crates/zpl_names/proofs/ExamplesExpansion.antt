@@ -15,7 +15,7 @@ use Rattle.zpl_names.proofs.Trees.{name}
 -- [R] begin a := c@e; end;
 -- procedure t();
 -- [R] begin u(A, B); A := B@e + 1; v(A, B); v(A, A); [R] A := 1; A := A@e; begin x := +<<A; end; end;
-abbrev calls : Program
+abbrev pub calls : Program
 calls = record {
   name = (name (codes "t") 8);
   decls = ((Regions ((record {
