@@ -1,5 +1,6 @@
 -- The definitions, computed on small listings.
-use Rattle.std.proofs.Common.{◌≡◌, ℕ, true, false, List, [], ◌∷◌, ℤ, pos, refl, Some, None}
+use Rattle.std.proofs.Common.{◌≡◌, ◌≢◌, ◌⊎◌, inl, ℕ, zero, suc, ◌<◌, true, false, List, [], ◌∷◌}
+use Rattle.std.proofs.Common.{ℤ, pos, refl, Some, None, Contains, get_or, arith}
 use Rattle.zpl_nums.specs.declared.operators.Op.TheVariants as op
 use Rattle.zpl_region.specs.declared.dims.Dim.TheVariants as dim
 use Rattle.zpl_region.specs.declared.regions.Region.{Region}
@@ -14,11 +15,15 @@ use Rattle.node_form.specs.declared.members.Member.{Member}
 use Rattle.node_form.specs.declared.members.Member.TheVariants as member
 use Rattle.node_form.specs.declared.tables.Tables.{Tables}
 use Rattle.node_form.specs.declared.words.ExprOp.TheVariants as word
+use Rattle.node_form.specs.declared.touches.Thing.TheVariants.{Array}
+use Rattle.node_form.specs.Touch.{IsNamed}
+use Rattle.code_parts.specs.Contracted.{CanBeCell, is_aside}
 use Rattle.code_parts.specs.Counts.{code_size, count_of, is_counted, is_loop, is_vote}
 use Rattle.code_parts.specs.Early.{is_early}
 use Rattle.code_parts.specs.Exchanged.{has_no_repeats, is_merged}
 use Rattle.code_parts.specs.Fused.{are_joinable, is_fused}
 use Rattle.code_parts.specs.Needs.{is_decided}
+use Rattle.code_parts.specs.Uses.{named_arrays}
 
 -- ---- tables: arrays over 1..4 that are read one place to the east, groups that put them, and
 -- exchanges of them
@@ -159,6 +164,42 @@ full = refl
 
 roomy : is_early (Some 2) (with_code one_behind_the_other) ≡ false
 roomy = refl
+
+-- ---- cells
+-- group 0 puts array 0 and reads it in the next member
+abbrev alone : Tables
+alone = record (with_code (instr.Loop 0 0 ∷ [])) {
+  groups = (member.Put 0 0 None 1 ∷ member.Put 1 1 None 2 ∷ []) ∷ [];
+}
+
+cell : CanBeCell alone 0 0
+cell = record {
+  no_row = λ k d inside. row k d inside;
+  no_other = λ other apart named. absurd (outside other apart named);
+  unshifted = λ read. absurd (omega (arith, read.1));
+  before = [];
+  expr = 0;
+  line = 1;
+  after = member.Put 1 1 None 2 ∷ [];
+  place = refl;
+  first = λ k d inside. absurd (omega (arith, inside));
+  outermost = refl;
+  unread = λ read. absurd (omega (arith, read.1));
+}
+  where
+    row : (k : ℕ) (d : Instr) → k < 1
+        → (is_aside (get_or (instr.Loop 0 0 ∷ []) k d) ≡ true)
+        ⊎ (IsNamed alone (get_or (instr.Loop 0 0 ∷ []) k d) (Array 0) → ⊥)
+    row zero d inside = inl refl
+    row (suc k) d inside = absurd (omega (arith, inside))
+
+    outside : (other : ℕ) → other ≢ 0 → ¬ Contains (named_arrays alone other) 0
+    outside zero apart named = apart refl
+    outside (suc other) apart named = absurd (omega (arith, named.1))
+
+-- an array that is read with a shift stays one
+shifted : ¬ CanBeCell (with_code (instr.Loop 0 2 ∷ [])) 0 2
+shifted can = can.unshifted (0, omega arith, refl)
 
 -- ---- checks of places
 abbrev need : Instr

@@ -1,8 +1,7 @@
 -- The walk for repeated exchanges says what is said of stretches.
-use Rattle.std.proofs.Common.{◌≡◌, ◌⊎◌, inl, inr, ◌↔◌, ℕ, zero, suc, ◌+◌, ◌<◌, ◌==◌, Bool, true}
-use Rattle.std.proofs.Common.{false, cond, not, refl, sym, ap, ◌∙◌, subst, arith, List, [], ◌∷◌, ◌++◌}
-use Rattle.std.proofs.Common.{length, true≢false, append_assoc, Contains}
-use Rattle.std.specs.Prelude.{◌&&◌, ◌||◌, ℤ, filter, fold, slice_index_or}
+use Rattle.std.proofs.Common.{◌≡◌, ◌⊎◌, inl, inr, ◌↔◌, ℕ, ◌==◌, Bool, true, false, not, refl, sym, ap}
+use Rattle.std.proofs.Common.{◌∙◌, subst, List, [], ◌∷◌, ◌++◌, true≢false, append_assoc}
+use Rattle.std.specs.Prelude.{◌&&◌, fold}
 use Rattle.std.specs.List.{AllByRecursion, list_any}
 use Rattle.std.specs.Bool.{Decides}
 use Rattle.std.specs.Cmp.Lexicographic.{pointwise}
@@ -18,29 +17,10 @@ use Rattle.code_parts.specs.Exchanged.{HasNoRepeats, HasRepeat, fresh_behind, ha
 use Rattle.code_parts.specs.Exchanged.{is_among, stales, starts_new}
 use Rattle.code_parts.specs.Stretch.{IsRightInStretches, IsStretch}
 use Rattle.code_parts.specs.Uses.{is_item, items_of}
+use Rattle.code_parts.proofs.ListLemmas.{In, Passes, contained, filtered, in_append, in_back, in_front}
+use Rattle.code_parts.proofs.ListLemmas.{in_list, one_passes, some_passes, unfiltered}
 use Rattle.code_parts.proofs.WalkLemmas.{both_left, both_right, in_stretches, stretch_front}
 use Rattle.code_parts.proofs.WalkLemmas.{throughout}
-
--- ---- elements, one after another
-abbrev In : {X : Type 0} → List X → X → Type 0
-In [] x = ⊥
-In (y ∷ ys) x = (y ≡ x) ⊎ In ys x
-
-in_list : {X : Type 0} (ys : List X) (x : X) → Contains ys x → In ys x
-in_list [] x c = absurd (omega (arith, c.1))
-in_list (y ∷ ys) x c = at (in_list ys x) c.0 c.1 c.2
-  where
-    at : (Contains ys x → In ys x) → (k : ℕ) → k < length (y ∷ ys)
-        → slice_index_or (y ∷ ys) k x ≡ x → In (y ∷ ys) x
-    at later zero below is = inl is
-    at later (suc k) below is = inr (later (k, (omega (arith, below)), is))
-
-contained : {X : Type 0} (ys : List X) (x : X) → In ys x → Contains ys x
-contained [] x h = absurd h
-contained (y ∷ ys) x (inl is) = (0, omega arith, is)
-contained (y ∷ ys) x (inr h) =
-    let c = contained ys x h in
-    (suc c.0, omega (arith, c.1), c.2)
 
 -- ---- equal items
 same_parts : (one other : Item) → one.array ≡ other.array → one.slot ≡ other.slot
@@ -73,78 +53,6 @@ is_item-Decides one other = (same, itself)
         ∙ ap (λ b. b && pointwise int_eq one.shift other.shift)
         ((Decides-eqb one.slot other.slot).1 (ap (λ (item : Item). item.slot) is))
         ∙ shifts.1 (ap (λ (item : Item). item.shift) is)
-
--- ---- tests of lists
-some_passes : {X : Type 0} (test : X → Bool) (xs : List X) (x : X) → In xs x → test x ≡ true
-    → list_any test xs ≡ true
-some_passes test [] x h passes = absurd h
-some_passes test (y ∷ xs) x (inl is) passes =
-    ap (λ b. b || list_any test xs) (ap test is ∙ passes)
-some_passes test (y ∷ xs) x (inr h) passes =
-    later (test y) (list_any test xs) (some_passes test xs x h passes)
-  where
-    later : (a b : Bool) → b ≡ true → (a || b) ≡ true
-    later true b is = refl
-    later false b is = is
-
-record Passes {X : Type 0} (test : X → Bool) (xs : List X) : Type 0 where
-  x : X
-  there : In xs x
-  passes : test x ≡ true
-
-one_passes : {X : Type 0} (test : X → Bool) (xs : List X) → list_any test xs ≡ true
-    → Passes test xs
-one_passes test [] any = absurd (true≢false (sym any))
-one_passes test (y ∷ xs) any = by (one_passes test xs) (test y) refl any
-  where
-    by : (list_any test xs ≡ true → Passes test xs) → (b : Bool) → test y ≡ b
-        → (b || list_any test xs) ≡ true → Passes test (y ∷ xs)
-    by later true is any = record { x = y; there = inl refl; passes = is }
-    by later false is any =
-        let p = later any in
-        record { x = p.x; there = inr p.there; passes = p.passes }
-
-filtered : {X : Type 0} (test : X → Bool) (xs : List X) (x : X) → In xs x → test x ≡ true
-    → In (filter test xs) x
-filtered test [] x h passes = absurd h
-filtered test (y ∷ xs) x (inl is) passes =
-    subst (λ b. In (cond b (y ∷ filter test xs) (filter test xs)) x)
-    (sym (ap test is ∙ passes)) (inl is)
-filtered test (y ∷ xs) x (inr h) passes = by (filtered test xs x h passes) (test y)
-  where
-    by : In (filter test xs) x → (b : Bool)
-        → In (cond b (y ∷ filter test xs) (filter test xs)) x
-    by rest true = inr rest
-    by rest false = rest
-
-unfiltered : {X : Type 0} (test : X → Bool) (xs : List X) (x : X) → In (filter test xs) x
-    → In xs x × (test x ≡ true)
-unfiltered test [] x h = absurd h
-unfiltered test (y ∷ xs) x h = by (unfiltered test xs x) (test y) refl h
-  where
-    by : (In (filter test xs) x → In xs x × (test x ≡ true)) → (b : Bool) → test y ≡ b
-        → In (cond b (y ∷ filter test xs) (filter test xs)) x → In (y ∷ xs) x × (test x ≡ true)
-    by later true passes (inl is) = (inl is, ap test (sym is) ∙ passes)
-    by later true passes (inr h) = let rest = later h in (inr rest.0, rest.1)
-    by later false passes h = let rest = later h in (inr rest.0, rest.1)
-
-in_append : {X : Type 0} (xs ys : List X) (x : X) → In (xs ++ ys) x → In xs x ⊎ In ys x
-in_append [] ys x h = inr h
-in_append (z ∷ xs) ys x (inl is) = inl (inl is)
-in_append (z ∷ xs) ys x (inr h) = from (in_append xs ys x h)
-  where
-    from : In xs x ⊎ In ys x → In (z ∷ xs) x ⊎ In ys x
-    from (inl h) = inl (inr h)
-    from (inr h) = inr h
-
-in_front : {X : Type 0} (xs ys : List X) (x : X) → In xs x → In (xs ++ ys) x
-in_front [] ys x h = absurd h
-in_front (z ∷ xs) ys x (inl is) = inl is
-in_front (z ∷ xs) ys x (inr h) = inr (in_front xs ys x h)
-
-in_back : {X : Type 0} (xs ys : List X) (x : X) → In ys x → In (xs ++ ys) x
-in_back [] ys x h = h
-in_back (z ∷ xs) ys x h = inr (in_back xs ys x h)
 
 not_false : (b : Bool) → not b ≡ true → b ≡ false
 not_false true denied = sym denied
