@@ -1,13 +1,13 @@
 -- The walk for early starts says what is said of stretches.
 use Rattle.std.proofs.Common.{◌≡◌, ◌↔◌, ℕ, Bool, true, false, not, refl, sym, ap, ◌∙◌, subst}
-use Rattle.std.proofs.Common.{List, [], ◌∷◌, ◌++◌, Option, Some, None, true≢false, append_assoc}
-use Rattle.std.proofs.Common.{length, append-nil}
+use Rattle.std.proofs.Common.{List, [], ◌∷◌, ◌++◌, Option, Some, true≢false, append_assoc}
+use Rattle.std.proofs.Common.{length}
 use Rattle.std.specs.Prelude.{fold}
 use Rattle.std.proofs.lemmas.List.Sums.{fold-append}
 use Rattle.node_form.specs.declared.instructions.Instr.{Instr}
 use Rattle.node_form.specs.declared.instructions.Instr.TheVariants as instr
 use Rattle.node_form.specs.declared.tables.Tables.{Tables}
-use Rattle.code_parts.specs.Early.{HasLateStart, IsEarly, Passed, crosses_last, is_early, is_in_time}
+use Rattle.code_parts.specs.Early.{IsEarly, Passed, is_early, is_in_time}
 use Rattle.code_parts.specs.Early.{may_cross, none_passed, open_after, open_behind, passed_by}
 use Rattle.code_parts.specs.Stretch.{IsRightInStretches, IsStretch}
 use Rattle.code_parts.proofs.WalkLemmas.{in_stretches, stretch_front, throughout}

@@ -9,10 +9,10 @@ use Rattle.std.proofs.lemmas.List.Sums.{fold-append}
 use Rattle.node_form.specs.declared.instructions.Instr.{Instr}
 use Rattle.node_form.specs.declared.instructions.Instr.TheVariants as instr
 use Rattle.node_form.specs.declared.tables.Tables.{Tables}
-use Rattle.code_parts.specs.Fused.{HasJoinable, IsFused, are_joinable, begins_anew, is_between_loops}
+use Rattle.code_parts.specs.Fused.{IsFused, are_joinable, begins_anew, is_between_loops}
 use Rattle.code_parts.specs.Fused.{is_fused, joins_last, last_loop}
 use Rattle.code_parts.specs.Stretch.{IsRightInStretches, IsStretch}
-use Rattle.code_parts.proofs.WalkLemmas.{both_left, both_right, in_stretches, stretch_front}
+use Rattle.code_parts.proofs.WalkLemmas.{in_stretches, stretch_front}
 use Rattle.code_parts.proofs.WalkLemmas.{throughout}
 
 abbrev IsNear : Instr → Type 0

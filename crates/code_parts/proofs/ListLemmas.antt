@@ -1,5 +1,5 @@
 -- Elements of lists, one after another.
-use Rattle.std.proofs.Common.{◌≡◌, ◌⊎◌, inl, inr, ◌↔◌, ℕ, zero, suc, ◌+◌, ◌<◌, Bool, true, false}
+use Rattle.std.proofs.Common.{◌≡◌, ◌⊎◌, inl, inr, ℕ, zero, suc, ◌<◌, Bool, true, false}
 use Rattle.std.proofs.Common.{cond, refl, sym, ap, ◌∙◌, subst, arith, List, [], ◌∷◌, ◌++◌, length}
 use Rattle.std.proofs.Common.{true≢false, Contains}
 use Rattle.std.specs.Prelude.{◌||◌, filter, flat_map, map, slice_index_or, Any}

@@ -13,7 +13,7 @@ use Rattle.node_form.specs.declared.arrays.Item.{Item}
 use Rattle.node_form.specs.declared.instructions.Instr.{Instr}
 use Rattle.node_form.specs.declared.instructions.Instr.TheVariants as instr
 use Rattle.node_form.specs.declared.tables.Tables.{Tables}
-use Rattle.code_parts.specs.Exchanged.{HasNoRepeats, HasRepeat, fresh_behind, has_no_repeats}
+use Rattle.code_parts.specs.Exchanged.{HasNoRepeats, fresh_behind, has_no_repeats}
 use Rattle.code_parts.specs.Exchanged.{is_among, stales, starts_new}
 use Rattle.code_parts.specs.Stretch.{IsRightInStretches, IsStretch}
 use Rattle.code_parts.specs.Uses.{is_item, items_of}

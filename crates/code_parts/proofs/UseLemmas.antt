@@ -1,7 +1,7 @@
 -- What is listed as written by a row is what it writes.
-use Rattle.std.proofs.Common.{◌≡◌, ◌⊎◌, inl, inr, ◌↔◌, ℕ, refl, sym, ap, ◌∙◌, subst, List, [], ◌∷◌}
+use Rattle.std.proofs.Common.{◌≡◌, inl, inr, ◌↔◌, ℕ, sym, ap, subst, List, [], ◌∷◌}
 use Rattle.std.proofs.Common.{Option, Some, None, Contains}
-use Rattle.std.specs.Prelude.{Any, flat_map, map, slice_get}
+use Rattle.std.specs.Prelude.{Any, flat_map, slice_get}
 use Rattle.std.specs.Option.{IsSomeAnd}
 use Rattle.node_form.specs.declared.arrays.Item.{Item}
 use Rattle.node_form.specs.declared.instructions.Instr.{Instr}
@@ -9,8 +9,7 @@ use Rattle.node_form.specs.declared.instructions.Instr.TheVariants as instr
 use Rattle.node_form.specs.declared.members.Member.{Member}
 use Rattle.node_form.specs.declared.members.Member.TheVariants as member
 use Rattle.node_form.specs.declared.tables.Tables.{Tables}
-use Rattle.node_form.specs.declared.touches.Thing.{Thing}
-use Rattle.node_form.specs.declared.touches.Thing.TheVariants.{Scalar, Slot, Array}
+use Rattle.node_form.specs.declared.touches.Thing.TheVariants.{Slot, Array}
 use Rattle.node_form.specs.Touch.{IsWritten, IsWrittenByMember}
 use Rattle.code_parts.specs.Uses.{arrays_of_items, put_by, rows_or_none, written_arrays}
 use Rattle.code_parts.specs.Uses.{written_slots}

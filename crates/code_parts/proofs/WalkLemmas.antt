@@ -1,7 +1,7 @@
 -- A walk says of code what its test says of stretches.
 use Rattle.std.proofs.Common.{◌≡◌, ◌⊎◌, inl, inr, ℕ, zero, suc, ◌+◌, ◌<◌, Bool, true, false, refl}
-use Rattle.std.proofs.Common.{sym, ap, ap₂, ◌∙◌, subst, arith, List, [], ◌∷◌, ◌++◌, length}
-use Rattle.std.proofs.Common.{length-append, append_assoc, append-nil, true≢false}
+use Rattle.std.proofs.Common.{sym, ap, ◌∙◌, subst, arith, List, [], ◌∷◌, ◌++◌, length}
+use Rattle.std.proofs.Common.{length-append, append_assoc, true≢false}
 use Rattle.std.specs.Prelude.{◌&&◌, ◌||◌, if◌then◌else◌, fold}
 use Rattle.std.specs.List.{AllByRecursion}
 use Rattle.std.proofs.lemmas.List.Sums.{fold-append}
@@ -53,11 +53,6 @@ pub every_front : {X : Type 0} (P : X → Type 0) (xs ys : List X) → AllByRecu
     → AllByRecursion P xs
 every_front P [] ys all = tt
 every_front P (x ∷ xs) ys all = (all.0, every_front P xs ys all.1)
-
-pub every_back : {X : Type 0} (P : X → Type 0) (xs ys : List X) → AllByRecursion P (xs ++ ys)
-    → AllByRecursion P ys
-every_back P [] ys all = all
-every_back P (x ∷ xs) ys all = every_back P xs ys all.1
 
 -- a front of a stretch is one
 pub stretch_front : (code rows more : List Instr) → IsStretch code (rows ++ more)

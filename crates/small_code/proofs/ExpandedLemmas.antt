@@ -1,28 +1,28 @@
 -- What is counted of a program with one procedure and no arrays, its calls expanded.
-use Rattle.std.proofs.Common.{◌≡◌, ℕ, zero, suc, ◌+◌, ◌≤◌, Bool, true, false, cond, List, []}
+use Rattle.std.proofs.Common.{◌≡◌, ℕ, zero, suc, ◌≤◌, Bool, true, false, cond, List, []}
 use Rattle.std.proofs.Common.{◌∷◌, ◌++◌, Some, None, refl, sym, ap, ap₂, ◌∙◌, subst, arith}
 use Rattle.std.proofs.Common.{true≢false}
 use Rattle.std.specs.Prelude.{find, length, map, Option, not, ◌&&◌, if◌then◌else◌}
 use Rattle.std.specs.List.{flat_map}
 use Rattle.std.specs.Str.{bytes_eq}
 use Rattle.std.proofs.lemmas.Grind.{flat_map-append}
-use Rattle.zpl_tree.specs.Syntax.{Name, Expr, Number, Truth, Coord, Named, Shifted, Around, Remap}
+use Rattle.zpl_tree.specs.Syntax.{Name, Number, Truth, Coord, Named, Shifted, Around, Remap}
 use Rattle.zpl_tree.specs.Syntax.{Call, Paren, Neg, Not, Abs, Pair, Reduce, Scan, Flood}
-use Rattle.zpl_tree.specs.Syntax.{Form, Assign, Invoke, Block, If, While, Repeat, For}
-use Rattle.zpl_tree.specs.Syntax.{Border, Write, Return, Program, Prefix}
+use Rattle.zpl_tree.specs.Syntax.{Assign, Invoke, Block, If, While, Repeat, For}
+use Rattle.zpl_tree.specs.Syntax.{Border, Write, Return, Program}
 use Rattle.zpl_tree.specs.Spelling.{form_words}
 use Rattle.zpl_names.specs.Scope.{is_array, kind_of}
 use Rattle.zpl_names.specs.Declared.{Routine, routine_named, routines_of, entry_of, scope_of}
 use Rattle.zpl_names.specs.Ranks.{is_above_zero}
 use Rattle.zpl_names.specs.Reached.{longest_chain}
-use Rattle.zpl_names.specs.Sites.{Reach, Site, AtWhole, AtExpr, AtCall, AtNamed, AtDir, AtRegion}
+use Rattle.zpl_names.specs.Sites.{Site, AtWhole, AtExpr, AtCall, AtNamed, AtDir, AtRegion}
 use Rattle.zpl_names.specs.Sites.{AtMask, AtStmt, AtBase, AtPosts, AtProcedure, CallSite}
 use Rattle.zpl_names.specs.Shapes.{unknown_shapes}
 use Rattle.zpl_names.specs.Sites.{calls_under}
-use Rattle.zpl_names.specs.Expansion.{ExpandedArray, Instance, expanded, expanded_from, expanded_of}
+use Rattle.zpl_names.specs.Expansion.{Instance, expanded, expanded_from, expanded_of}
 use Rattle.zpl_names.specs.Expansion.{instances_from, instances_of, called_instance, of_routine}
 use Rattle.zpl_names.specs.Expansion.{array_named, is_plain_target, plain_tokens, plain_tokens_at}
-use Rattle.zpl_names.specs.Expansion.{entry_instance, instance_sites, made_by, copies_at}
+use Rattle.zpl_names.specs.Expansion.{entry_instance, instance_sites, copies_at}
 use Rattle.zpl_names.specs.Expansion.{expanded_copies, shifted_read, local_arrays, copy_of}
 use Rattle.zpl_names.specs.Expansion.{formal_names, actual_arrays}
 

@@ -1,7 +1,7 @@
 -- The arrays that code of a program stores: those of the program with every call expanded, and then
 -- the copies from which reads that wrap round are made. Each has a storage, and a fringe: how far it
 -- is read below and above an index.
-use Rattle.std.specs.Prelude.{ℕ, ◌<◌, Bool, ℤ, pos, neg_ℤ, if◌then◌else◌, List, [], ◌∷◌, ◌++◌}
+use Rattle.std.specs.Prelude.{ℕ, ◌<◌, ℤ, pos, neg_ℤ, List, [], ◌∷◌, ◌++◌}
 use Rattle.std.specs.Prelude.{filter, fold, map}
 use Rattle.std.specs.Int.{int_max}
 use Rattle.zpl_region.specs.declared.dims.Dim.{Dim}

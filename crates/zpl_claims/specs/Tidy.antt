@@ -1,7 +1,7 @@
 -- Code that is tidy: laid out as the grid and the program's arrays ask for it, of a size that the
 -- source bounds, with no more instructions than its statements need; and free of what the
 -- optimisations that were asked for leave out.
-use Rattle.std.specs.Prelude.{◌≡◌, ℕ, true, ◌+◌, ◌*◌, ◌≤◌}
+use Rattle.std.specs.Prelude.{◌≡◌, true, ◌+◌, ◌*◌, ◌≤◌}
 use Rattle.zpl_names.specs.Expansion.{source_size, other_size, plain_assignments}
 use Rattle.node_form.specs.declared.tables.Tables.{Tables}
 use Rattle.grid_meaning.specs.Stored.{arrangement_of}
@@ -12,7 +12,6 @@ use Rattle.code_parts.specs.Early.{IsEarly}
 use Rattle.code_parts.specs.Exchanged.{HasNoRepeats, IsMerged}
 use Rattle.code_parts.specs.Fused.{IsFused}
 use Rattle.code_parts.specs.Needs.{IsUndecided}
-use Rattle.zpl_claims.specs.Build.{Options}
 use Rattle.zpl_claims.specs.Origin.{Origin}
 
 -- The grid is the one that is asked for, and the stored arrays are the program's, in their order,
