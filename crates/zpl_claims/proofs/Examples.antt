@@ -1,6 +1,6 @@
--- The boxes of a program's arrays, computed; and code that isn't tidy.
-use Rattle.std.proofs.Common.{◌≡◌, ◌≤◌, ◌+◌, ◌*◌, List, [], ◌∷◌, length, ℤ, pos, None, refl}
-use Rattle.std.proofs.Common.{sym, ap, ◌∙◌, subst, arith}
+-- The boxes of a program's arrays, computed; links that code is for; and code that isn't tidy.
+use Rattle.std.proofs.Common.{◌≡◌, ◌≤◌, ◌+◌, ◌*◌, ℕ, true, List, [], ◌∷◌, length, ℤ, pos, Option}
+use Rattle.std.proofs.Common.{Some, None, refl, sym, ap, ◌∙◌, subst, arith, true≢false}
 use Rattle.std.specs.Prelude.{map}
 use Rattle.zpl_region.specs.Region.{padding}
 use Rattle.zpl_region.specs.Hull.{all_from}
@@ -15,7 +15,7 @@ use Rattle.grid_meaning.specs.Stored.{box_of, stored}
 use Rattle.node_form.specs.declared.tables.Tables.{Tables}
 use Rattle.code_parts.specs.Counts.{code_size}
 use Rattle.zpl_claims.specs.Boxes.{boxes_of}
-use Rattle.zpl_claims.specs.Build.{plain_build}
+use Rattle.zpl_claims.specs.Build.{Build, IsBuiltFor, no_options, plain_build}
 use Rattle.zpl_claims.specs.Origin.{Origin, origin_of}
 use Rattle.zpl_claims.specs.Tidy.{IsTidy}
 
@@ -42,6 +42,28 @@ boxes_of_calls = refl
 -- on two processors the first has the indices up to 2 and holds one more where they are read above
 words_of_calls : words_of (record { grid = 2 ∷ 0 ∷ 0 ∷ []; boxes = boxes }) ≡ 25
 words_of_calls = refl
+
+-- ---- links
+abbrev early_build : Option ℕ → Build
+early_build links =
+    record (plain_build links []) { options = record no_options { early = true } }
+
+-- exchanges that start early want links that hold as many messages as the code was built for
+for_more : IsBuiltFor (early_build (Some 4)) (Some 5)
+for_more = (omega arith, λ asked. omega arith)
+
+for_any_number : IsBuiltFor (early_build (Some 4)) None
+for_any_number = (tt, λ asked. tt)
+
+not_for_fewer : ¬ IsBuiltFor (early_build (Some 4)) (Some 3)
+not_for_fewer built = absurd (omega (arith, built.1 refl))
+
+unbounded_alone : ¬ IsBuiltFor (early_build None) (Some 9)
+unbounded_alone built = built.1 refl
+
+-- other code is for all
+for_one : IsBuiltFor (plain_build (Some 4) []) (Some 1)
+for_one = (omega arith, λ asked. absurd (true≢false (sym asked)))
 
 -- ---- code of this program that isn't tidy
 abbrev origin : Origin
