@@ -1,5 +1,6 @@
 -- The walk for repeated exchanges says what is said of stretches.
-use Rattle.std.proofs.Common.{◌≡◌, ◌⊎◌, inl, inr, ◌↔◌, ℕ, ◌==◌, Bool, true, false, not, refl, sym, ap}
+use Rattle.std.proofs.Common.{◌≡◌, ◌⊎◌, inl, inr, ◌↔◌, ℕ, ◌==◌, Bool, true, false, not, refl, sym}
+use Rattle.std.proofs.Common.{ap}
 use Rattle.std.proofs.Common.{◌∙◌, subst, List, [], ◌∷◌, ◌++◌, true≢false, append_assoc}
 use Rattle.std.specs.Prelude.{◌&&◌, fold}
 use Rattle.std.specs.List.{AllByRecursion, list_any}
@@ -17,7 +18,8 @@ use Rattle.code_parts.specs.Exchanged.{HasNoRepeats, fresh_behind, has_no_repeat
 use Rattle.code_parts.specs.Exchanged.{is_among, stales, starts_new}
 use Rattle.code_parts.specs.Stretch.{IsRightInStretches, IsStretch}
 use Rattle.code_parts.specs.Uses.{is_item, items_of}
-use Rattle.code_parts.proofs.ListLemmas.{In, Passes, contained, filtered, in_append, in_back, in_front}
+use Rattle.code_parts.proofs.ListLemmas.{In, Passes, contained, filtered, in_append, in_back}
+use Rattle.code_parts.proofs.ListLemmas.{in_front}
 use Rattle.code_parts.proofs.ListLemmas.{in_list, one_passes, some_passes, unfiltered}
 use Rattle.code_parts.proofs.WalkLemmas.{both_left, both_right, in_stretches, stretch_front}
 use Rattle.code_parts.proofs.WalkLemmas.{throughout}

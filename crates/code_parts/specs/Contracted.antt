@@ -19,9 +19,9 @@ is_aside (instr.Clear array) = true
 is_aside (instr.Loop slot group) = true
 is_aside row = false
 
--- The group alone names the array, `need`, `clear` and `room` aside, and always without a shift. The
--- first member that names it puts it, without a mask and outside `if`, `while` and `repeat`, and the
--- expression of that doesn't name it.
+-- The group alone names the array, `need`, `clear` and `room` aside, and always without a shift.
+-- The first member that names it puts it, without a mask and outside `if`, `while` and `repeat`,
+-- and the expression of that doesn't name it.
 pub record CanBeCell (tables : Tables) (array group : ℕ) : Type 0 where
   pub no_row :
       All (λ row. (is_aside row ≡ true) ⊎ (IsNamed tables row (Array array) → ⊥)) tables.code

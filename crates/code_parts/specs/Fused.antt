@@ -28,8 +28,8 @@ is_between_loops (instr.Start exchange) = true
 is_between_loops (instr.Finish exchange) = true
 is_between_loops row = false
 
--- a loop, and later another one over the same slot, with votes and exchanges alone between them, and
--- with joinable groups
+-- a loop, and later another one over the same slot, with votes and exchanges alone between them,
+-- and with joinable groups
 pub record HasJoinable (tables : Tables) (rows : List Instr) : Type 0 where
   pub slot : ℕ
   pub one : ℕ

@@ -31,8 +31,8 @@ pub data EndsAny : List Instr → Type 0 where
   ended_by : (rows : List Instr) (last : Instr) → ends_stretch last ≡ true →
       EndsAny (rows ++ last ∷ [])
 
--- A stretch: rows of the code one after another, without a jump, a test, a trap and an end, of which
--- only the first may be a goal. Whatever could stand in it before its first row does.
+-- A stretch: rows of the code one after another, without a jump, a test, a trap and an end, of
+-- which only the first may be a goal. Whatever could stand in it before its first row does.
 pub record IsStretch (code rows : List Instr) : Type 0 where
   pub front : List Instr
   pub back : List Instr

@@ -1,6 +1,6 @@
 -- The arrays that code of a program stores: those of the program with every call expanded, and then
--- the copies from which reads that wrap round are made. Each has a storage, and a fringe: how far it
--- is read below and above an index.
+-- the copies from which reads that wrap round are made. Each has a storage, and a fringe: how far
+-- it is read below and above an index.
 use Rattle.std.specs.Prelude.{ℕ, ◌<◌, ℤ, pos, neg_ℤ, List, [], ◌∷◌, ◌++◌}
 use Rattle.std.specs.Prelude.{filter, fold, map}
 use Rattle.std.specs.Int.{int_max}

@@ -4,8 +4,8 @@ use Rattle.zpl_binding.specs.Settings.{Setting}
 use Rattle.grid_meaning.specs.Grid.{IsCapacity}
 
 -- The optimisations that are asked for: neighbouring loops are fused, arrays contracted to cells,
--- redundant exchanges left out, neighbouring ones merged, all started early; and agreements go along
--- a tree.
+-- redundant exchanges left out, neighbouring ones merged, all started early; and agreements go
+-- along a tree.
 pub record Options : Type 0 where
   pub fuse : Bool
   pub contract : Bool
@@ -14,8 +14,8 @@ pub record Options : Type 0 where
   pub early : Bool
   pub tree : Bool
 
--- The factors of the grid, 0 for each absent one; the optimisations; how many messages a link holds,
--- if that is bounded; and the settings of the program's configs.
+-- The factors of the grid, 0 for each absent one; the optimisations; how many messages a link
+-- holds, if that is bounded; and the settings of the program's configs.
 pub record Build : Type 0 where
   pub grid : List ℕ
   pub options : Options
@@ -51,9 +51,9 @@ HoldAsMany least None = ⊤
 HoldAsMany None (Some capacity) = ⊥
 HoldAsMany (Some least) (Some capacity) = least ≤ capacity
 
--- Code of a build is for these links: for those of every capacity, and those that hold any number of
--- messages; and where exchanges are started early, for links that hold as many as those that it was
--- built for.
+-- Code of a build is for these links: for those of every capacity, and those that hold any number
+-- of messages; and where exchanges are started early, for links that hold as many as those that it
+-- was built for.
 abbrev pub IsBuiltFor : Build → Option ℕ → Type 0
 IsBuiltFor build links =
     IsCapacity links × (build.options.early ≡ true → HoldAsMany build.links links)

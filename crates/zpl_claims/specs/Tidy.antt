@@ -17,8 +17,8 @@ use Rattle.zpl_claims.specs.Origin.{Origin}
 -- The grid is the one that is asked for, and the stored arrays are the program's, in their order,
 -- with their storages and fringes. The size is at most a multiple of the source with its calls
 -- expanded. Rows other than checks, exchanges, votes and traps are at most one for each plain
--- assignment, and so many for each token, parameter and local name that stands in none. There are no
--- more votes than loops. No check is left that always passes. And for each optimisation that is
+-- assignment, and so many for each token, parameter and local name that stands in none. There are
+-- no more votes than loops. No check is left that always passes. And for each optimisation that is
 -- asked for the code is free of what it leaves out.
 pub record IsTidy (origin : Origin) (code : Tables) : Type 0 where
   pub laid_out : arrangement_of code ≡

@@ -284,7 +284,6 @@ most_loops : shattered_loops loops ≡ 3
 unfolding longest_chain
 most_loops = refl
 
-
 -- ---- statements and nodes
 -- wrap A, B; is one statement
 one_statement :
