@@ -1,12 +1,12 @@
 -- Laid-out code does what the structured code does.
-use Rattle.std.proofs.Common.{◌≡◌, ℕ, zero, suc, ◌+◌, Bool, true, false, List, [], ◌∷◌, ◌++◌, length, map}
+use Rattle.std.proofs.Common.{◌≡◌, ℕ, zero, suc, ◌+◌, true, false, List, [], ◌∷◌, ◌++◌, length, map}
 use Rattle.std.proofs.Common.{drop, refl, sym, ap, ◌∙◌, subst, arith, append_assoc, append-nil, length-append}
 use Rattle.zpl_nums.specs.declared.ends.End.TheVariants.{Done}
-use Rattle.row_runs.specs.Run.{Ends, Result, Step, Goes, Stops, Effect, stopped, printed, stepped, went}
+use Rattle.row_runs.specs.Run.{Ends, Result, Step, Goes, Stops, stopped, printed, stepped, went}
 use Rattle.row_runs.specs.Run.{walked, runs}
 use Rattle.row_runs.specs.Code.{CodeRow, Straight, Jump, Unless, Decision, Says, Fails, code_act, decided}
 use Rattle.row_runs.specs.Structured.{Piece, Rows, Then, When, Choose, While, Repeat, Close, GoesOn, Over}
-use Rattle.row_runs.specs.Structured.{Wants, Course, goes_on, wants_more, and_then, jumping, behind, then_at}
+use Rattle.row_runs.specs.Structured.{Wants, Course, goes_on, wants_more, and_then, jumping, then_at}
 use Rattle.row_runs.specs.Structured.{then_do, by_step, choose, rows_do, tested, while_turns, repeat_turns}
 use Rattle.row_runs.specs.Structured.{doing, size, flattened, left_before, shown, shown_by, StandsAt}
 use Rattle.row_runs.specs.Laws.{Follow, FollowWhole}
@@ -136,7 +136,7 @@ module _ {R T S : Type 0} (step : R → S → Step S) (decide : T → S → Deci
       → k + length rows ≡ end → Follows k end state (rows_do step decide rows state)
   rows_follow rows k end state h e =
       let at : drop end code ≡ h.rest =
-        past code k end (map Straight rows) h.rest (ap (λ n. k + n) (straight_length T rows) ∙ e) h.here in
+      past code k end (map Straight rows) h.rest (ap (λ n. k + n) (straight_length T rows) ∙ e) h.here in
       let course = rows_do step decide rows state in
       record {
         by = λ left.
@@ -183,7 +183,7 @@ module _ {R T S : Type 0} (step : R → S → Step S) (decide : T → S → Deci
       let does : List (CodeRow R T) = map Straight head in
       let course = rows_do step decide head state in
       let at = has_back code k (k + length head) does (Unless test goal ∷ rest)
-        (ap (λ n. k + n) (straight_length T head)) h in
+      (ap (λ n. k + n) (straight_length T head)) h in
       then_follows k (k + length head) end state course.close course.state course.bytes course.jumps
       (λ after. choose (decide test after) one other after)
       (rows_follow head k (k + length head) state (has_front code k does (Unless test goal ∷ rest) h) refl)
@@ -268,7 +268,7 @@ module _ {R T S : Type 0} (step : R → S → Step S) (decide : T → S → Deci
       let middle = k + 1 + size one in
       let h1 = has_next code k (k + 1) (Unless test goal) (xs ++ Jump over ∷ ys) refl h in
       let h2 = has_back code (k + 1) middle xs (Jump over ∷ ys)
-        (ap (λ m. k + 1 + m) (flat_length (k + 1) one)) h1 in
+      (ap (λ m. k + 1 + m) (flat_length (k + 1) one)) h1 in
       let past_jump : middle + 1 ≡ goal = omega arith in
       let h3 = has_next code middle goal (Jump over) ys past_jump h2 in
       let e : goal + size other ≡ end = omega arith in
@@ -300,7 +300,7 @@ module _ {R T S : Type 0} (step : R → S → Step S) (decide : T → S → Deci
       let h1 = subst (λ m. StandsAt code k m) (sym (append_assoc does (Unless test end ∷ []) behind)) h0 in
       let h2 = has_front code k front behind h1 in
       let l : k + length front ≡ inner =
-        omega (arith, length-append does (Unless test end ∷ []), straight_length T head) in
+      omega (arith, length-append does (Unless test end ∷ []), straight_length T head) in
       let h3 = has_back code k inner front behind l h1 in
       let h4 = has_back code inner back xs (Jump k ∷ []) (ap (λ m. inner + m) (flat_length inner body)) h3 in
       let e : back + 1 ≡ end = omega arith in
@@ -331,7 +331,7 @@ module _ {R T S : Type 0} (step : R → S → Step S) (decide : T → S → Deci
       let course = doing step decide n piece state in
       let h = follows step decide code n piece 0 (record { rest = []; here = sym (append-nil code) }) state in
       let none : drop (0 + size piece) code ≡ [] =
-        past code 0 (0 + size piece) code [] (ap (λ m. 0 + m) (flat_length 0 piece)) (sym (append-nil code)) in
+      past code 0 (0 + size piece) code [] (ap (λ m. 0 + m) (flat_length 0 piece)) (sym (append-nil code)) in
       h.by left ∙ at_end code (0 + size piece) none course.close course.bytes course.state
     where
       at_end : (code : List (CodeRow R T)) (end : ℕ) → drop end code ≡ [] → (close : Close) (bytes : List ℕ)

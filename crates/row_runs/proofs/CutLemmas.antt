@@ -7,7 +7,7 @@ use Rattle.row_runs.specs.Run.{Effect, runs}
 use Rattle.row_runs.specs.Segments.{Keeps, Segment, olds, news, IsStart, Here, Behind, AreAlike, AllAlike}
 use Rattle.row_runs.specs.Straight.{Every, IsStraight, Tied, through}
 use Rattle.row_runs.specs.Cut.{Stretch, as_list, rows_of, all_rows, joined_to, cut_row, cut, relocated}
-use Rattle.row_runs.specs.Cut.{rewritten_by, segments_by, segments_of, moved_by, passed, LastAlike}
+use Rattle.row_runs.specs.Cut.{rewritten_by, segments_by, moved_by, passed}
 use Rattle.row_runs.specs.Cut.{IsRewritten}
 use Rattle.row_runs.specs.Laws.{PassesKeepRuns, GoalsAreStarts}
 use Rattle.row_runs.proofs.SegmentLemmas.{keeps_runs}
@@ -109,11 +109,11 @@ module _ {S T Old New : Type 0} (act : Old → S → Effect S) (bct : New → T 
       let a = length (rows_of stretch) in
       let b = length (rewritten_by rewrite retarget moved stretch).new in (
         stretch_alike moved IsGoal stretch at bt are.0
-        (let e : at + (a + 0) ≡ at + a = omega arith in let f : bt + (b + 0) ≡ bt + b = omega arith in
-        subst (λ n. IsGoal n (bt + b)) e (subst (λ n. IsGoal (at + (a + 0)) n) f (within (a + 0) (b + 0) (Behind Here)))),
+            (let e : at + (a + 0) ≡ at + a = omega arith in let f : bt + (b + 0) ≡ bt + b = omega arith in
+            subst (λ n. IsGoal n (bt + b)) e (subst (λ n. IsGoal (at + (a + 0)) n) f (within (a + 0) (b + 0) (Behind Here)))),
         all_alike moved IsGoal stretches (at + a) (bt + b) are.1
-        (λ g h start. let e : at + (a + g) ≡ at + a + g = omega arith in let f : bt + (b + h) ≡ bt + b + h = omega arith in
-        subst (λ n. IsGoal n (bt + b + h)) e (subst (λ n. IsGoal (at + (a + g)) n) f (within (a + g) (b + h) (Behind start)))),
+            (λ g h start. let e : at + (a + g) ≡ at + a + g = omega arith in let f : bt + (b + h) ≡ bt + b + h = omega arith in
+            subst (λ n. IsGoal n (bt + b + h)) e (subst (λ n. IsGoal (at + (a + g)) n) f (within (a + g) (b + h) (Behind start)))),
       )
 
   -- the pass keeps the runs from each start

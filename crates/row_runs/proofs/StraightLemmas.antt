@@ -1,14 +1,14 @@
 -- Straight rows: what a rewriting of them owes.
-use Rattle.std.proofs.Common.{◌≡◌, refl, sym, ◌∙◌, ap, subst, ℕ, zero, suc, ◌+◌, List, [], ◌∷◌, ◌++◌}
+use Rattle.std.proofs.Common.{◌≡◌, refl, sym, ◌∙◌, ap, subst, ℕ, ◌+◌, List, [], ◌∷◌, ◌++◌}
 use Rattle.std.proofs.Common.{length, append_assoc}
-use Rattle.row_runs.specs.Run.{Stop, Wrong, Result, Step, Goes, Stops, Effect, Does, Leaps, Passes}
-use Rattle.row_runs.specs.Run.{stopped, printed, stepped, went, walked}
+use Rattle.row_runs.specs.Run.{Result, Step, Goes, Stops, Effect, Does, Leaps, Passes}
+use Rattle.row_runs.specs.Run.{printed, stepped, went, walked}
 use Rattle.row_runs.specs.Straight.{Every, Flow, OnTo, Halts, flow_behind, flow_then, flow_of, flow_step}
 use Rattle.row_runs.specs.Straight.{through, flowed, IsStep, Stepping, IsStraight, Tied, TiedWrong}
 use Rattle.row_runs.specs.Straight.{TiedOn, TiedHalt, rewritten, IsRewriting}
 use Rattle.row_runs.specs.Segments.{Keeps, WasWrong, Same, Segment, AreAlike}
 use Rattle.row_runs.specs.Cut.{LastAlike, BothLeap, BothPass, BothStop, LastWrong}
-use Rattle.row_runs.specs.Laws.{FlowOn, RewrittenAreTied}
+use Rattle.row_runs.specs.Laws.{FlowOn}
 use Rattle.row_runs.proofs.RunLemmas.{walked_append}
 
 pub keeps_printed : (bytes : List ℕ) (old new : Result) → Keeps old new

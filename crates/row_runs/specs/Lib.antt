@@ -2,6 +2,7 @@ pub mod Run
 pub mod Growth
 pub mod Straight
 pub mod Segments
+pub mod Rows
 pub mod Cut
 pub mod Code
 pub mod Structured
