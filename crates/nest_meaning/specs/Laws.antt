@@ -7,6 +7,7 @@ use Rattle.node_form.specs.Group.{Access, Point, ran_from, units}
 use Rattle.nest_meaning.specs.Nested.{Ways, Told, Wants, nested, ways_of}
 use Rattle.nest_meaning.specs.Units.{units_of, units_told, told_of}
 use Rattle.nest_meaning.specs.Alike.{AreTold, AreNests, IsNestSame}
+use Rattle.nest_meaning.specs.Tree.{nest_of}
 use Rattle.nest_meaning.specs.Turns.{Come, firsts, loops_in}
 
 -- with more turns a loop that wanted more may come to something else, and all else stays
@@ -45,3 +46,11 @@ ComeToTheSame S =
     → Come tables access (members_of nest) (firsts nest 0) n (suc n ^ loops_in nest)
     (ran_from tables access (members_of nest) 0 p)
     (units_told (ways_of tables access) n 0 (units_of nest) p)
+
+-- A tree is read again from the members that it is spelled as, and what is read spells them.
+abbrev pub ReadsAgain : Type 0
+ReadsAgain = (nest : Nest) → nest_of (members_of nest) ≡ Some nest
+
+abbrev pub ReadsOnly : Type 0
+ReadsOnly =
+    (members : List Member) (nest : Nest) → nest_of members ≡ Some nest → members_of nest ≡ members
