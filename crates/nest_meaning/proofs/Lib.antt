@@ -5,3 +5,4 @@ pub mod Spelled
 pub mod TreeLemmas
 pub mod TurnLemmas
 pub mod ComeLemmas
+pub mod PartLemmas

@@ -54,3 +54,7 @@ ReadsAgain = (nest : Nest) → nest_of (members_of nest) ≡ Some nest
 abbrev pub ReadsOnly : Type 0
 ReadsOnly =
     (members : List Member) (nest : Nest) → nest_of members ≡ Some nest → members_of nest ≡ members
+
+-- the units of a tree are spelled as the units of its members
+abbrev pub UnitsAreSpelled : Type 0
+UnitsAreSpelled = (nest : Nest) → units (members_of nest) ≡ map members_of (units_of nest)
