@@ -6,3 +6,5 @@ pub mod CutLemmas
 pub mod PlaceLemmas
 pub mod CodeLemmas
 pub mod WantLemmas
+pub mod CounterLemmas
+mod Examples

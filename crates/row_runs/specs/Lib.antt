@@ -6,4 +6,5 @@ pub mod Rows
 pub mod Cut
 pub mod Code
 pub mod Structured
+pub mod Counter
 pub mod Laws

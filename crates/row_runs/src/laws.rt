@@ -3,6 +3,7 @@
 //! Each law is the contract of a function that does nothing: a call brings the law into a proof,
 //! for rows and states of any types, whatever the rows do. The statements stand in `specs/Laws`.
 ghost use Rattle.row_runs.specs.Code.{Decision};
+ghost use Rattle.row_runs.specs.Counter.{TellTheirEnd};
 ghost use Rattle.row_runs.specs.Growth.{AreFurther};
 ghost use Rattle.row_runs.specs.Laws.{FlowOn, Follow, FollowWhole, GoalsAreStarts, Grow};
 ghost use Rattle.row_runs.specs.Laws.{KeepRuns, KeepsThrough, PassesKeepRuns, RewrittenAreTied};
@@ -71,4 +72,11 @@ pub fn laid_out_code_does_the_same<Row, Test, State>()
 pub fn wanting_takes_jumps<Row, Test, State>()
     ensures { (step : Row → State → Step State) (decide : Test → State → Decision) →
         WantBehindTurns step decide }
+{}
+
+/// Whether the next value of a counter is behind the last one is told in integers that wrap: for a
+/// step of at least 1, upward exactly where the value that wraps is greater than the one before and
+/// not beyond the last, and likewise downward.
+pub fn counters_tell_their_end()
+    ensures { TellTheirEnd }
 {}
