@@ -6,17 +6,24 @@ use Rattle.zpl_nums.specs.Integer.{is_true}
 use Rattle.node_form.specs.Nest.{Nest, Nothing, Putting, Keeping, Joining, Choosing, ChoosingElse}
 use Rattle.node_form.specs.Nest.{Looping, Repeating}
 use Rattle.node_form.specs.Value.{Computed, Gives, Divides, Lacks}
-use Rattle.nest_meaning.specs.Nested.{Ways, Told, Fine, Zero, Wants, Lost, then_do, with_value, with_state}
-use Rattle.nest_meaning.specs.Nested.{masked, while_turns, until_done, repeat_turns, leaf_does, nested}
-use Rattle.nest_meaning.specs.Alike.{AreTold, BothFine, BothZero, BothWant, BothLost, AreBoth, Neither, Both}
-use Rattle.nest_meaning.specs.Alike.{Leaf, PutLeaf, KeepLeaf, JoinLeaf, leafed, way_of, AreValues, AreMasks}
-use Rattle.nest_meaning.specs.Alike.{NoMasks, Masks, AreLeaves, AreNests, BothNothing, Leaves, Ifs, Elses}
+use Rattle.nest_meaning.specs.Nested.{Ways, Told, Fine, Zero, Wants, Lost, then_do, with_value}
+use Rattle.nest_meaning.specs.Nested.{with_state}
+use Rattle.nest_meaning.specs.Nested.{masked, while_turns, until_done, repeat_turns, leaf_does}
+use Rattle.nest_meaning.specs.Nested.{nested}
+use Rattle.nest_meaning.specs.Alike.{AreTold, BothFine, BothZero, BothWant, BothLost, AreBoth}
+use Rattle.nest_meaning.specs.Alike.{Neither, Both}
+use Rattle.nest_meaning.specs.Alike.{Leaf, PutLeaf, KeepLeaf, JoinLeaf, leafed, way_of, AreValues}
+use Rattle.nest_meaning.specs.Alike.{AreMasks}
+use Rattle.nest_meaning.specs.Alike.{NoMasks, Masks, AreLeaves, AreNests, BothNothing, Leaves, Ifs}
+use Rattle.nest_meaning.specs.Alike.{Elses}
 use Rattle.nest_meaning.specs.Alike.{Whiles, Repeats, IsSame, IsNestSame}
 use Rattle.nest_meaning.specs.Laws.{DoAlike, DoesAlike}
 
 module _ {P Q : Type 0} (IsLike : P → Q → Type 0) where
-  value_told : (p : P) (q : Q) (x y : Computed ℤ) (f : ℤ → Told P) (g : ℤ → Told Q) → IsLike p q → x ≡ y
-      → ((v : ℤ) → AreTold IsLike (f v) (g v)) → AreTold IsLike (with_value p x f) (with_value q y g)
+  value_told : (p : P) (q : Q) (x y : Computed ℤ) (f : ℤ → Told P) (g : ℤ → Told Q) → IsLike p q
+      → x ≡ y
+      → ((v : ℤ) → AreTold IsLike (f v) (g v))
+      → AreTold IsLike (with_value p x f) (with_value q y g)
   value_told p q x y f g like e alike =
       subst (λ c. AreTold IsLike (with_value p x f) (with_value q c g)) e (by x)
     where
@@ -53,10 +60,12 @@ module _ {P Q : Type 0} (IsLike : P → Q → Type 0) where
         (λ v. if_told (is_true v) s (Fine p) t (Fine q) told (BothFine like))
 
     -- a choice by an expression, behind a mask
-    choice_told : (p : P) (q : Q) (mask nask : Option ℕ) (expr fxpr : ℕ) (s u : Told P) (t w : Told Q)
+    choice_told : (p : P) (q : Q) (mask nask : Option ℕ) (expr fxpr : ℕ) (s u : Told P)
+        (t w : Told Q)
         → IsLike p q → AreMasks IsLike a b mask nask → AreValues IsLike a b expr fxpr
         → AreTold IsLike s t → AreTold IsLike u w
-        → AreTold IsLike (masked a mask p (with_value p (a.value p expr) (λ v. if is_true v then s else u)))
+        → AreTold IsLike
+        (masked a mask p (with_value p (a.value p expr) (λ v. if is_true v then s else u)))
         (masked b nask q (with_value q (b.value q fxpr) (λ v. if is_true v then t else w)))
     choice_told p q mask nask expr fxpr s u t w like m e one other =
         masked_told p q mask nask _ _ like m
@@ -68,11 +77,13 @@ module _ {P Q : Type 0} (IsLike : P → Q → Type 0) where
         → ((p : P) (q : Q) → IsLike p q → AreTold IsLike (f p) (g q)) → (p : P) (q : Q) → IsLike p q
         → AreTold IsLike (while_turns a n mask expr f p) (while_turns b n nask fxpr g q)
     while_told zero mask nask expr fxpr f g m e body p q like =
-        choice_told p q mask nask expr fxpr Wants (Fine p) Wants (Fine q) like m e BothWant (BothFine like)
+        choice_told p q mask nask expr fxpr Wants (Fine p) Wants (Fine q) like m e BothWant
+        (BothFine like)
     while_told (suc n) mask nask expr fxpr f g m e body p q like =
         choice_told p q mask nask expr fxpr (then_do (while_turns a n mask expr f) (f p)) (Fine p)
         (then_do (while_turns b n nask fxpr g) (g q)) (Fine q) like m e
-        (then_told (f p) (g q) (while_turns a n mask expr f) (while_turns b n nask fxpr g) (body p q like)
+        (then_told (f p) (g q) (while_turns a n mask expr f) (while_turns b n nask fxpr g)
+        (body p q like)
         (while_told n mask nask expr fxpr f g m e body)) (BothFine like)
 
     repeat_told : (n : ℕ) (mask nask : Option ℕ) (expr fxpr : ℕ) (f : P → Told P) (g : Q → Told Q)
@@ -90,27 +101,34 @@ module _ {P Q : Type 0} (IsLike : P → Q → Type 0) where
         (repeat_turns b n nask fxpr g q) (BothFine like)
         (repeat_told n mask nask expr fxpr f g m e body p q like))))
 
-    leaf_told : (mask nask : Option ℕ) (expr fxpr : ℕ) (leaf meaf : Leaf) → AreMasks IsLike a b mask nask
-        → AreValues IsLike a b expr fxpr → AreLeaves IsLike a b leaf meaf → (p : P) (q : Q) → IsLike p q
-        → AreTold IsLike (leaf_does a expr mask (way_of a leaf) p) (leaf_does b fxpr nask (way_of b meaf) q)
+    leaf_told : (mask nask : Option ℕ) (expr fxpr : ℕ) (leaf meaf : Leaf)
+        → AreMasks IsLike a b mask nask
+        → AreValues IsLike a b expr fxpr → AreLeaves IsLike a b leaf meaf → (p : P) (q : Q)
+        → IsLike p q
+        → AreTold IsLike (leaf_does a expr mask (way_of a leaf) p)
+        (leaf_does b fxpr nask (way_of b meaf) q)
     leaf_told mask nask expr fxpr leaf meaf m e l p q like =
         masked_told p q mask nask _ _ like m
         (value_told p q (a.value p expr) (b.value q fxpr) _ _ like (e.same p q like)
         (λ v. state_told (way_of a leaf v p) (way_of b meaf v q) (l.steps v p q like)))
 
-    pub do_alike : (n : ℕ) (nest oest : Nest) → AreNests IsLike a b nest oest → (p : P) (q : Q) → IsLike p q
+    pub do_alike : (n : ℕ) (nest oest : Nest) → AreNests IsLike a b nest oest → (p : P) (q : Q)
+        → IsLike p q
         → AreTold IsLike (nested a n nest p) (nested b n oest q)
     do_alike n nest oest BothNothing p q like = BothFine like
     do_alike n nest oest
-        (Leaves {leaf = x} {meaf = y} {expr = e} {fxpr = f} {mask = k} {nask = l} line mine {after = c} {bfter = d}
+        (Leaves {leaf = x} {meaf = y} {expr = e} {fxpr = f} {mask = k} {nask = l} line mine
+        {after = c} {bfter = d}
         m s w r) p q like =
-        subst (λ t. AreTold IsLike t (nested b n (leafed y f l mine d) q)) (sym (leaf_is a n x e k line c p))
+        subst (λ t. AreTold IsLike t (nested b n (leafed y f l mine d) q))
+        (sym (leaf_is a n x e k line c p))
         (subst (λ t. AreTold IsLike (then_do (nested a n c) (leaf_does a e k (way_of a x) p)) t)
         (sym (leaf_is b n y f l mine d q))
         (then_told _ _ (nested a n c) (nested b n d) (leaf_told k l e f x y m s w p q like)
         (do_alike n c d r)))
       where
-        leaf_is : {P : Type 0} (ways : Ways P) (n : ℕ) (leaf : Leaf) (expr : ℕ) (mask : Option ℕ) (line : ℕ)
+        leaf_is : {P : Type 0} (ways : Ways P) (n : ℕ) (leaf : Leaf) (expr : ℕ) (mask : Option ℕ)
+            (line : ℕ)
             (after : Nest) (p : P)
             → nested ways n (leafed leaf expr mask line after) p
             ≡ then_do (nested ways n after) (leaf_does ways expr mask (way_of ways leaf) p)
@@ -118,25 +136,30 @@ module _ {P Q : Type 0} (IsLike : P → Q → Type 0) where
         leaf_is ways n (KeepLeaf cell) expr mask line after p = refl
         leaf_is ways n (JoinLeaf scalar fold) expr mask line after p = refl
     do_alike n nest oest
-        (Ifs {expr = e} {fxpr = f} {mask = k} {nask = l} {body = x} {cody = y} {after = c} {bfter = d} m s w r)
+        (Ifs {expr = e} {fxpr = f} {mask = k} {nask = l} {body = x} {cody = y} {after = c}
+        {bfter = d} m s w r)
         p q like =
         then_told _ _ (nested a n c) (nested b n d)
         (choice_told p q k l e f (nested a n x p) (Fine p) (nested b n y q) (Fine q) like m s
         (do_alike n x y w p q like) (BothFine like)) (do_alike n c d r)
     do_alike n nest oest
-        (Elses {expr = e} {fxpr = f} {mask = k} {nask = l} {body = x} {cody = y} {other = z} {pther = u}
+        (Elses {expr = e} {fxpr = f} {mask = k} {nask = l} {body = x} {cody = y} {other = z}
+        {pther = u}
         {after = c} {bfter = d} m s w o r) p q like =
         then_told _ _ (nested a n c) (nested b n d)
-        (choice_told p q k l e f (nested a n x p) (nested a n z p) (nested b n y q) (nested b n u q) like m s
+        (choice_told p q k l e f (nested a n x p) (nested a n z p) (nested b n y q)
+        (nested b n u q) like m s
         (do_alike n x y w p q like) (do_alike n z u o p q like)) (do_alike n c d r)
     do_alike n nest oest
-        (Whiles {expr = e} {fxpr = f} {mask = k} {nask = l} {body = x} {cody = y} {after = c} {bfter = d}
+        (Whiles {expr = e} {fxpr = f} {mask = k} {nask = l} {body = x} {cody = y} {after = c}
+        {bfter = d}
         m s w r) p q like =
         then_told _ _ (nested a n c) (nested b n d)
         (while_told n k l e f (nested a n x) (nested b n y) m s (do_alike n x y w) p q like)
         (do_alike n c d r)
     do_alike n nest oest
-        (Repeats {expr = e} {fxpr = f} {mask = k} {nask = l} {body = x} {cody = y} {after = c} {bfter = d}
+        (Repeats {expr = e} {fxpr = f} {mask = k} {nask = l} {body = x} {cody = y} {after = c}
+        {bfter = d}
         m s w r) p q like =
         then_told _ _ (nested a n c) (nested b n d)
         (repeat_told n k l e f (nested a n x) (nested b n y) m s (do_alike n x y w) p q like)

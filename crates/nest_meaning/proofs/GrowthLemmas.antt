@@ -5,7 +5,8 @@ use Rattle.zpl_nums.specs.Integer.{is_true}
 use Rattle.node_form.specs.Nest.{Nest, Nothing, Putting, Keeping, Joining, Choosing, ChoosingElse}
 use Rattle.node_form.specs.Nest.{Looping, Repeating}
 use Rattle.node_form.specs.Value.{Computed, Gives, Divides, Lacks}
-use Rattle.nest_meaning.specs.Nested.{Ways, Told, Fine, Zero, Wants, Lost, then_do, with_value, masked}
+use Rattle.nest_meaning.specs.Nested.{Ways, Told, Fine, Zero, Wants, Lost, then_do, with_value}
+use Rattle.nest_meaning.specs.Nested.{masked}
 use Rattle.nest_meaning.specs.Nested.{while_turns, until_done, repeat_turns, nested}
 use Rattle.nest_meaning.specs.Laws.{IsUpTo, TheSame, Beyond, Grow}
 
@@ -39,11 +40,13 @@ module _ {P : Type 0} (ways : Ways P) where
       → Most (masked ways mask p s) (masked ways mask p t)
   mask_most None p s t more = more
   mask_most (Some mask) p s t more =
-      value_most p (ways.value p mask) _ _ (λ v. if_most (is_true v) s t (Fine p) (Fine p) more TheSame)
+      value_most p (ways.value p mask) _ _
+      (λ v. if_most (is_true v) s t (Fine p) (Fine p) more TheSame)
 
   -- a choice by an expression, behind a mask
   choice_most : (mask : Option ℕ) (expr : ℕ) (p : P) (s t u w : Told P) → Most s t → Most u w
-      → Most (masked ways mask p (with_value p (ways.value p expr) (λ v. if is_true v then s else u)))
+      → Most (masked ways mask p
+      (with_value p (ways.value p expr) (λ v. if is_true v then s else u)))
       (masked ways mask p (with_value p (ways.value p expr) (λ v. if is_true v then t else w)))
   choice_most mask expr p s t u w one other =
       mask_most mask p _ _
@@ -58,7 +61,8 @@ module _ {P : Type 0} (ways : Ways P) where
   while_most (suc n) zero less mask expr f g body p = absurd (omega (arith, less))
   while_most (suc n) (suc m) less mask expr f g body p =
       choice_most mask expr p _ _ (Fine p) (Fine p)
-      (then_most (f p) (g p) (while_turns ways n mask expr f) (while_turns ways m mask expr g) (body p)
+      (then_most (f p) (g p) (while_turns ways n mask expr f) (while_turns ways m mask expr g)
+      (body p)
       (λ q. while_most n m (omega (arith, less)) mask expr f g body q)) TheSame
 
   repeat_most : (n m : ℕ) → n ≤ m → (mask : Option ℕ) (until : ℕ) (f g : P → Told P)
@@ -71,7 +75,8 @@ module _ {P : Type 0} (ways : Ways P) where
       mask_most mask p _ _
       (then_most (f p) (g p) (until_done ways (repeat_turns ways n mask until f) until)
       (until_done ways (repeat_turns ways m mask until g) until) (body p)
-      (λ q. value_most q (ways.value q until) _ _ (λ v. if_most (is_true v) (Fine q) (Fine q) _ _ TheSame
+      (λ q. value_most q (ways.value q until) _ _
+      (λ v. if_most (is_true v) (Fine q) (Fine q) _ _ TheSame
       (repeat_most n m (omega (arith, less)) mask until f g body q))))
 
   pub grow : Grow ways
@@ -88,13 +93,17 @@ module _ {P : Type 0} (ways : Ways P) where
       (grow n m less body p) TheSame) (grow n m less after)
   grow n m less (ChoosingElse expr mask line body otherwise after) p =
       then_most _ _ (nested ways n after) (nested ways m after)
-      (choice_most mask expr p (nested ways n body p) (nested ways m body p) (nested ways n otherwise p)
-      (nested ways m otherwise p) (grow n m less body p) (grow n m less otherwise p)) (grow n m less after)
+      (choice_most mask expr p (nested ways n body p) (nested ways m body p)
+      (nested ways n otherwise p)
+      (nested ways m otherwise p) (grow n m less body p) (grow n m less otherwise p))
+      (grow n m less after)
   grow n m less (Looping expr mask line body after) p =
       then_most _ _ (nested ways n after) (nested ways m after)
-      (while_most n m less mask expr (nested ways n body) (nested ways m body) (grow n m less body) p)
+      (while_most n m less mask expr (nested ways n body) (nested ways m body)
+      (grow n m less body) p)
       (grow n m less after)
   grow n m less (Repeating mask line body until after) p =
       then_most _ _ (nested ways n after) (nested ways m after)
-      (repeat_most n m less mask until (nested ways n body) (nested ways m body) (grow n m less body) p)
+      (repeat_most n m less mask until (nested ways n body) (nested ways m body)
+      (grow n m less body) p)
       (grow n m less after)

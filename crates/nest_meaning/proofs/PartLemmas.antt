@@ -1,9 +1,12 @@
 -- The units of a tree are spelled as the units of its members.
-use Rattle.std.proofs.Common.{◌≡◌, refl, sym, ◌∙◌, ap, subst, ℕ, zero, suc, ◌+◌, ◌-◌, List, [], ◌∷◌, ◌++◌}
+use Rattle.std.proofs.Common.{◌≡◌, refl, sym, ◌∙◌, ap, subst, ℕ, zero, suc, ◌+◌, ◌-◌, List, [], ◌∷◌}
+use Rattle.std.proofs.Common.{◌++◌}
 use Rattle.std.proofs.Common.{append_assoc, append-nil, arith, map}
 use Rattle.node_form.specs.declared.members.Member.{Member}
-use Rattle.node_form.specs.declared.members.Member.TheVariants.{Put, Cell, Acc, OpenIf, Otherwise, CloseIf}
-use Rattle.node_form.specs.declared.members.Member.TheVariants.{OpenWhile, CloseWhile, OpenRepeat, Until}
+use Rattle.node_form.specs.declared.members.Member.TheVariants.{Put, Cell, Acc, OpenIf, Otherwise}
+use Rattle.node_form.specs.declared.members.Member.TheVariants.{CloseIf}
+use Rattle.node_form.specs.declared.members.Member.TheVariants.{OpenWhile, CloseWhile, OpenRepeat}
+use Rattle.node_form.specs.declared.members.Member.TheVariants.{Until}
 use Rattle.node_form.specs.Nest.{Nest, Nothing, Putting, Keeping, Joining, Choosing, ChoosingElse}
 use Rattle.node_form.specs.Nest.{Looping, Repeating, members_of}
 use Rattle.node_form.specs.Group.{depth_behind, next_unit, units_from, units}
@@ -12,7 +15,8 @@ use Rattle.nest_meaning.specs.Laws.{UnitsAreSpelled}
 use Rattle.nest_meaning.proofs.Spelled.{spelled, spelled_is}
 
 -- members put to a unit one after another
-one_more : {X : Type 0} (unit : List X) (x : X) (xs : List X) → (unit ++ x ∷ []) ++ xs ≡ unit ++ x ∷ xs
+one_more : {X : Type 0} (unit : List X) (x : X) (xs : List X)
+    → (unit ++ x ∷ []) ++ xs ≡ unit ++ x ∷ xs
 one_more unit x xs = append_assoc unit (x ∷ []) xs
 
 enclosed : {X : Type 0} (unit : List X) (x : X) (xs : List X) (y : X) (ys : List X)
@@ -39,7 +43,8 @@ closed d unit member rest e =
 abbrev Inside : Nest → Type 0
 Inside nest =
     (d : ℕ) (unit rest : List Member)
-    → units_from (suc d) unit (spelled nest rest) ≡ units_from (suc d) (unit ++ members_of nest) rest
+    → units_from (suc d) unit (spelled nest rest)
+    ≡ units_from (suc d) (unit ++ members_of nest) rest
 
 -- what encloses a tree, and a tree behind it
 around : (d : ℕ) (unit rest : List Member) (opening closing : Member) (body after : Nest)
@@ -61,16 +66,19 @@ inside : (nest : Nest) → Inside nest
 inside Nothing d unit rest = ap (λ l. units_from (suc d) l rest) (sym (append-nil unit))
 inside (Putting array expr mask line after) d unit rest =
     inside after d (unit ++ Put array expr mask line ∷ []) rest
-    ∙ ap (λ l. units_from (suc d) l rest) (one_more unit (Put array expr mask line) (members_of after))
+    ∙ ap (λ l. units_from (suc d) l rest)
+    (one_more unit (Put array expr mask line) (members_of after))
 inside (Keeping cell expr mask line after) d unit rest =
     inside after d (unit ++ Cell cell expr mask line ∷ []) rest
-    ∙ ap (λ l. units_from (suc d) l rest) (one_more unit (Cell cell expr mask line) (members_of after))
+    ∙ ap (λ l. units_from (suc d) l rest)
+    (one_more unit (Cell cell expr mask line) (members_of after))
 inside (Joining scalar fold expr mask line after) d unit rest =
     inside after d (unit ++ Acc scalar fold expr mask line ∷ []) rest
     ∙ ap (λ l. units_from (suc d) l rest)
     (one_more unit (Acc scalar fold expr mask line) (members_of after))
 inside (Choosing expr mask line body after) d unit rest =
-    around d unit rest (OpenIf expr mask line) CloseIf body after refl refl (inside body) (inside after)
+    around d unit rest (OpenIf expr mask line) CloseIf body after refl refl (inside body)
+    (inside after)
 inside (ChoosingElse expr mask line body otherwise after) d unit rest =
     let opening = OpenIf expr mask line in
     let first = unit ++ opening ∷ [] in
@@ -118,7 +126,8 @@ by_units (Joining scalar fold expr mask line after) =
     ap (λ units. (Acc scalar fold expr mask line ∷ []) ∷ units) (by_units after)
 by_units (Choosing expr mask line body after) =
     unit_around (OpenIf expr mask line) CloseIf body after refl refl
-    ∙ ap (λ units. (OpenIf expr mask line ∷ (members_of body ++ CloseIf ∷ [])) ∷ units) (by_units after)
+    ∙ ap (λ units. (OpenIf expr mask line ∷ (members_of body ++ CloseIf ∷ [])) ∷ units)
+    (by_units after)
 by_units (ChoosingElse expr mask line body otherwise after) =
     let opening = OpenIf expr mask line in
     let rest = CloseIf ∷ spelled after [] in

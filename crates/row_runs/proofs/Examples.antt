@@ -1,13 +1,13 @@
 -- Runs of small programs over a number.
-use Rattle.std.proofs.Common.{◌≡◌, ℕ, zero, suc, ◌+◌, Bool, true, false, List, [], ◌∷◌, ◌++◌, refl}
+use Rattle.std.proofs.Common.{◌≡◌, ℕ, suc, Bool, true, false, List, [], ◌∷◌, refl}
 use Rattle.std.specs.Prelude.{nat_lt, ◌==◌, ◌||◌}
-use Rattle.zpl_nums.specs.declared.ends.End.{End}
 use Rattle.zpl_nums.specs.declared.ends.End.TheVariants.{Done, More}
 use Rattle.row_runs.specs.Run.{Stop, Ends, Wrong, Result, Step, Goes, Stops, runs}
-use Rattle.row_runs.specs.Straight.{Flow, OnTo, Halts, through, rewritten}
+use Rattle.row_runs.specs.Straight.{OnTo, Halts, through, rewritten}
 use Rattle.row_runs.specs.Cut.{cut, passed}
-use Rattle.row_runs.specs.Code.{CodeRow, Straight, Jump, Unless, Decision, Says, Fails, code_act}
-use Rattle.row_runs.specs.Structured.{Piece, Rows, Then, When, Choose, While, Repeat, Course, GoesOn}
+use Rattle.row_runs.specs.Code.{CodeRow, Straight, Jump, Unless, Decision, Says, code_act}
+use Rattle.row_runs.specs.Structured.{Piece, Rows, Then, When, Choose, While, Repeat}
+use Rattle.row_runs.specs.Structured.{GoesOn}
 use Rattle.row_runs.specs.Structured.{Over, Wants, counted, doing, flattened}
 
 -- begins at zero, adds one, says the number, is at the end, or may not stand there
@@ -81,10 +81,12 @@ say_until = Repeat (Rows (Say ∷ [])) (Add ∷ []) 2
 until_rows : flattened 0 say_until ≡ Jump 1 ∷ Straight Say ∷ Straight Add ∷ Unless 2 1 ∷ []
 until_rows = refl
 
-one_turn : doing step decide 1 say_until 0 ≡ record { close = GoesOn; state = 1; bytes = 0 ∷ []; jumps = 2 }
+one_turn : doing step decide 1 say_until 0
+    ≡ record { close = GoesOn; state = 1; bytes = 0 ∷ []; jumps = 2 }
 one_turn = refl
 
-no_turn : doing step decide 0 say_until 0 ≡ record { close = Wants; state = 0; bytes = []; jumps = 0 }
+no_turn : doing step decide 0 say_until 0
+    ≡ record { close = Wants; state = 0; bytes = []; jumps = 0 }
 no_turn = refl
 
 no_turn_in_code : shows (flattened 0 say_until) 1 0 ≡ result [] (Ends More)
@@ -104,7 +106,8 @@ chosen_rows = refl
 chosen_runs : shows (flattened 0 chosen) 3 0 ≡ result (1 ∷ []) (Ends Done)
 chosen_runs = refl
 
-chosen_does : doing step decide 0 chosen 4 ≡ record { close = GoesOn; state = 4; bytes = 4 ∷ []; jumps = 2 }
+chosen_does : doing step decide 0 chosen 4
+    ≡ record { close = GoesOn; state = 4; bytes = 4 ∷ []; jumps = 2 }
 chosen_does = refl
 
 stops_in_a_loop : doing step decide 9 (While [] 3 (Rows (Say ∷ Misplaced ∷ []))) 0

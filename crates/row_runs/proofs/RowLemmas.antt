@@ -18,16 +18,20 @@ module _ {S T Old New : Type 0} (act : Old → S → Effect S) (bct : New → T 
   effect_keeps : (leap : ℕ → S → Result) (meap : ℕ → T → Result) (at : ℕ) (s : S) (t : T)
       (e : Effect S) (f : Effect T) (rest : S → Result) (sest : T → Result)
       → ((goal : ℕ) (s : S) (t : T) → IsLike s t → Keeps (leap goal s) (meap goal t))
-      → ((s : S) (t : T) → IsLike s t → Keeps (rest s) (sest t)) → IsLike s t → AreEffects IsLike e f
+      → ((s : S) (t : T) → IsLike s t → Keeps (rest s) (sest t)) → IsLike s t
+      → AreEffects IsLike e f
       → Keeps (went leap at s e rest) (went meap at t f sest)
-  effect_keeps leap meap at s t e f rest sest leaps more like (BothGo {bytes = bytes} {s = p} {t = q} on) =
+  effect_keeps leap meap at s t e f rest sest leaps more like
+      (BothGo {bytes = bytes} {s = p} {t = q} on) =
       keeps_printed bytes (rest p) (sest q) (more p q on)
   effect_keeps leap meap at s t e f rest sest leaps more like BothStop = Same refl
-  effect_keeps leap meap at s t e f rest sest leaps more like (BothLeap {goal = goal}) = leaps goal s t like
+  effect_keeps leap meap at s t e f rest sest leaps more like (BothLeap {goal = goal}) =
+      leaps goal s t like
   effect_keeps leap meap at s t e f rest sest leaps more like BothPass = leaps (at + 1) s t like
   effect_keeps leap meap at s t e f rest sest leaps more like OldWrong = WasWrong refl
 
-  walk_keeps : (leap : ℕ → S → Result) (meap : ℕ → T → Result) (at : ℕ) (olds : List Old) (news : List New)
+  walk_keeps : (leap : ℕ → S → Result) (meap : ℕ → T → Result) (at : ℕ) (olds : List Old)
+      (news : List New)
       → AreLikeRows act bct IsLike olds news
       → ((goal : ℕ) (s : S) (t : T) → IsLike s t → Keeps (leap goal s) (meap goal t))
       → (s : S) (t : T) → IsLike s t
@@ -35,7 +39,8 @@ module _ {S T Old New : Type 0} (act : Old → S → Effect S) (bct : New → T 
       (walked bct meap (λ _. stopped (Ends Done)) at news t)
   walk_keeps leap meap at olds news NoRows leaps s t like = Same refl
   walk_keeps leap meap at olds news
-      (MoreRows {old = old} {new = new} {olds = others} {news = nothers} first more) leaps s t like =
+      (MoreRows {old = old} {new = new} {olds = others} {news = nothers} first more) leaps s t like
+      =
       effect_keeps leap meap at s t (act old s) (bct new t)
       (walked act leap (λ _. stopped (Ends Done)) (at + 1) others)
       (walked bct meap (λ _. stopped (Ends Done)) (at + 1) nothers) leaps

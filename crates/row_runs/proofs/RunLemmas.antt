@@ -1,5 +1,6 @@
 -- Rows one after another, and longer runs.
-use Rattle.std.proofs.Common.{◌≡◌, refl, sym, ◌∙◌, ap, arith, ℕ, zero, suc, ◌+◌, List, [], ◌∷◌, ◌++◌}
+use Rattle.std.proofs.Common.{◌≡◌, refl, sym, ◌∙◌, ap, arith, ℕ, zero, suc, ◌+◌, List, [], ◌∷◌}
+use Rattle.std.proofs.Common.{◌++◌}
 use Rattle.std.proofs.Common.{length, drop, append_assoc}
 use Rattle.zpl_nums.specs.declared.ends.End.TheVariants.{Done}
 use Rattle.row_runs.specs.Run.{Ends, Result, Step, Goes, Stops, Effect, Does, Leaps, Passes}
@@ -9,7 +10,8 @@ use Rattle.row_runs.specs.Growth.{WantedMore, AreFurther}
 use Rattle.row_runs.specs.Laws.{Grow}
 
 module _ {S Row : Type 0} (act : Row → S → Effect S) where
-  step_ap : (step : Step S) (f g : S → Result) → ((s : S) → f s ≡ g s) → stepped step f ≡ stepped step g
+  step_ap : (step : Step S) (f g : S → Result) → ((s : S) → f s ≡ g s)
+      → stepped step f ≡ stepped step g
   step_ap (Goes bytes next) f g same = ap (printed bytes) (same next)
   step_ap (Stops stop) f g same = refl
 
@@ -19,7 +21,8 @@ module _ {S Row : Type 0} (act : Row → S → Effect S) where
   went_ap leap at s (Leaps goal) f g same = refl
   went_ap leap at s Passes f g same = refl
 
-  pub walked_append : (leap : ℕ → S → Result) (rest : S → Result) (at : ℕ) (xs ys : List Row) (s : S)
+  pub walked_append : (leap : ℕ → S → Result) (rest : S → Result) (at : ℕ) (xs ys : List Row)
+      (s : S)
       → walked act leap rest at (xs ++ ys) s
       ≡ walked act leap (λ s. walked act leap rest (at + length xs) ys s) at xs s
   walked_append leap rest at [] ys s =
@@ -53,13 +56,15 @@ module _ {S Row : Type 0} (act : Row → S → Effect S) where
   grown_step (Stops stop) f g more = StaysSo refl
 
   module _ (bct : Row → S → Effect S) (further : AreFurther act bct) where
-    grown_went : (leap meap : ℕ → S → Result) (at : ℕ) (s : S) (e f : Effect S) (rest sest : S → Result)
+    grown_went : (leap meap : ℕ → S → Result) (at : ℕ) (s : S) (e f : Effect S)
+        (rest sest : S → Result)
         → ((goal : ℕ) (s : S) → GoesOnTo (leap goal s) (meap goal s))
         → ((s : S) → GoesOnTo (rest s) (sest s)) → IsFurther e f
         → GoesOnTo (went leap at s e rest) (went meap at s f sest)
     grown_went leap meap at s e f rest sest leaps more (SameEffect {effect = effect}) = by effect
       where
-        by : (effect : Effect S) → GoesOnTo (went leap at s effect rest) (went meap at s effect sest)
+        by : (effect : Effect S)
+            → GoesOnTo (went leap at s effect rest) (went meap at s effect sest)
         by (Does step) = grown_step step rest sest more
         by (Leaps goal) = leaps goal s
         by Passes = leaps (at + 1) s

@@ -5,7 +5,8 @@ use Rattle.row_runs.specs.Run.{Step, Goes, Stops}
 use Rattle.row_runs.specs.Code.{Decision, Says, Fails}
 use Rattle.row_runs.specs.Structured.{Rows, Then, When, Choose, While, Repeat, Close, GoesOn, Over}
 use Rattle.row_runs.specs.Structured.{Wants, Course, goes_on, and_then, jumping, behind, then_at}
-use Rattle.row_runs.specs.Structured.{then_do, by_step, choose, rows_do, tested, while_turns, repeat_turns}
+use Rattle.row_runs.specs.Structured.{then_do, by_step, choose, rows_do, tested, while_turns}
+use Rattle.row_runs.specs.Structured.{repeat_turns}
 use Rattle.row_runs.specs.Structured.{doing}
 use Rattle.row_runs.specs.Laws.{WantBehindTurns}
 
@@ -15,10 +16,12 @@ WantsBehind m course = course.close ≡ Wants → m ≤ course.jumps
 
 and_then_is : (i j : ℕ) → and_then i j ≡ i + j
 and_then_is zero j = omega arith
-and_then_is (suc i) j = let e : suc (i + j) ≡ suc i + j = omega arith in ap suc (and_then_is i j) ∙ e
+and_then_is (suc i) j = let e : suc (i + j) ≡ suc i + j =
+    omega arith in ap suc (and_then_is i j) ∙ e
 
 module _ {S : Type 0} where
-  jumping_behind : (m : ℕ) (course : Course S) → WantsBehind m course → WantsBehind (suc m) (jumping course)
+  jumping_behind : (m : ℕ) (course : Course S) → WantsBehind m course
+      → WantsBehind (suc m) (jumping course)
   jumping_behind m course h e = let l : m ≤ course.jumps = h e in omega (arith, l)
 
   less_behind : (m k : ℕ) (course : Course S) → m ≤ k → WantsBehind k course → WantsBehind m course
@@ -43,7 +46,8 @@ module _ {S : Type 0} where
       by Wants e wants = h wants
 
   choose_behind : (m : ℕ) (decision : Decision) (one other : S → Course S) (s : S)
-      → WantsBehind m (one s) → WantsBehind m (other s) → WantsBehind m (choose decision one other s)
+      → WantsBehind m (one s) → WantsBehind m (other s)
+      → WantsBehind m (choose decision one other s)
   choose_behind m (Says true) one other s h k e = h e
   choose_behind m (Says false) one other s h k e = k e
   choose_behind m (Fails stop) one other s h k e = cc
@@ -61,14 +65,16 @@ module _ {R T S : Type 0} (step : R → S → Step S) (decide : T → S → Deci
     where
       by : (does : Step S) → ((t : S) → WantsBehind m (rows_do step decide rows t))
           → WantsBehind m (by_step s does (rows_do step decide rows))
-      by (Goes bytes next) more e = after_behind m bytes 0 (rows_do step decide rows next) (more next) e
+      by (Goes bytes next) more e =
+          after_behind m bytes 0 (rows_do step decide rows next) (more next) e
       by (Stops stop) more e = cc
 
   tested_behind : (m : ℕ) (head : List R) (test : T) (one other : S → Course S) (s : S)
       → ((s : S) → WantsBehind m (one s)) → ((s : S) → WantsBehind m (other s))
       → WantsBehind m (tested step decide head test one other s)
   tested_behind m head test one other s h k =
-      then_behind m (rows_do step decide head s) (λ after. choose (decide test after) one other after)
+      then_behind m (rows_do step decide head s)
+      (λ after. choose (decide test after) one other after)
       (rows_behind m head s) (λ t. choose_behind m (decide test t) one other t (h t) (k t))
 
   while_behind : (n m : ℕ) → m ≤ n → (head : List R) (test : T) (body : S → Course S)
@@ -79,10 +85,12 @@ module _ {R T S : Type 0} (step : R → S → Step S) (decide : T → S → Deci
       tested_behind (suc m) head test
       (λ s. jumping (then_do (body s) (λ t. jumping (while_turns step decide m head test body t))))
       (λ s. jumping (goes_on s)) s
-      (λ s. jumping_behind m (then_do (body s) (λ t. jumping (while_turns step decide m head test body t)))
+      (λ s. jumping_behind m
+      (then_do (body s) (λ t. jumping (while_turns step decide m head test body t)))
       (then_behind m (body s) (λ t. jumping (while_turns step decide m head test body t))
       (less_behind m n (body s) (omega (arith, less)) (h s))
-      (λ t. less_behind m (suc m) (jumping (while_turns step decide m head test body t)) (omega arith)
+      (λ t. less_behind m (suc m) (jumping (while_turns step decide m head test body t))
+      (omega arith)
       (jumping_behind m (while_turns step decide m head test body t)
       (while_behind n m (omega (arith, less)) head test body h t)))))
       (out_behind (suc m)) wants
@@ -106,7 +114,8 @@ module _ {R T S : Type 0} (step : R → S → Step S) (decide : T → S → Deci
       then_behind n (doing step decide n first s) (doing step decide n rest)
       (want_behind_turns n first s) (λ t. want_behind_turns n rest t)
   want_behind_turns n (When test body) s =
-      choose_behind n (decide test s) (λ t. jumping (doing step decide n body t)) (λ t. jumping (goes_on t)) s
+      choose_behind n (decide test s) (λ t. jumping (doing step decide n body t))
+      (λ t. jumping (goes_on t)) s
       (less_behind n (suc n) (jumping (doing step decide n body s)) (omega arith)
       (jumping_behind n (doing step decide n body s) (want_behind_turns n body s)))
       (out_behind n s)

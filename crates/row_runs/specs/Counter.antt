@@ -7,7 +7,8 @@ abbrev pub goes_up : ℤ → ℤ → ℤ → Bool
 goes_up value by last = int_lt value (wrapped (value +ℤ by)) && int_le (wrapped (value +ℤ by)) last
 
 abbrev pub goes_down : ℤ → ℤ → ℤ → Bool
-goes_down value by last = int_lt (wrapped (value -ℤ by)) value && int_le last (wrapped (value -ℤ by))
+goes_down value by last =
+    int_lt (wrapped (value -ℤ by)) value && int_le last (wrapped (value -ℤ by))
 
 -- Exactly where the next value, which may be none of the integers, isn't behind the last one.
 pub record TellTheirEnd : Type 0 where

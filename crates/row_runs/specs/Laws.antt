@@ -4,7 +4,8 @@ use Rattle.std.specs.Prelude.{Bool, true, length}
 use Rattle.zpl_nums.specs.declared.ends.End.TheVariants.{Done}
 use Rattle.row_runs.specs.Run.{Ends, Result, Step, Effect, stopped, walked, runs}
 use Rattle.row_runs.specs.Growth.{GoesOnTo}
-use Rattle.row_runs.specs.Straight.{Every, IsStraight, Tied, IsRewriting, through, flowed, rewritten}
+use Rattle.row_runs.specs.Straight.{Every, IsStraight, Tied, IsRewriting, through, flowed}
+use Rattle.row_runs.specs.Straight.{rewritten}
 use Rattle.row_runs.specs.Segments.{Keeps, Segment, IsStart, AllAlike, olds, news}
 use Rattle.row_runs.specs.Rows.{AreLikeRows}
 use Rattle.row_runs.specs.Cut.{Stretch, IsRewritten, cut, passed, segments_of, moved_by}
