@@ -6,3 +6,4 @@ pub mod TreeLemmas
 pub mod TurnLemmas
 pub mod ComeLemmas
 pub mod PartLemmas
+mod Examples
