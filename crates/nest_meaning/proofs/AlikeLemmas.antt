@@ -1,12 +1,12 @@
 -- Two trees of members do alike.
-use Rattle.std.proofs.Common.{◌≡◌, refl, sym, ap, subst, ℕ, zero, suc, Bool, true, false, ℤ}
+use Rattle.std.proofs.Common.{◌≡◌, refl, sym, subst, ℕ, zero, suc, Bool, true, false, ℤ}
 use Rattle.std.specs.Prelude.{Option, Some, None, if◌then◌else◌}
 use Rattle.std.specs.Option.{IfSome}
 use Rattle.zpl_nums.specs.Integer.{is_true}
 use Rattle.node_form.specs.Nest.{Nest, Nothing, Putting, Keeping, Joining, Choosing, ChoosingElse}
 use Rattle.node_form.specs.Nest.{Looping, Repeating}
 use Rattle.node_form.specs.Value.{Computed, Gives, Divides, Lacks}
-use Rattle.nest_meaning.specs.Nested.{Ways, Told, Fine, Zero, Wants, Lost, then_do, with_value}
+use Rattle.nest_meaning.specs.Nested.{Ways, Told, Fine, Wants, then_do, with_value}
 use Rattle.nest_meaning.specs.Nested.{with_state}
 use Rattle.nest_meaning.specs.Nested.{masked, while_turns, until_done, repeat_turns, leaf_does}
 use Rattle.nest_meaning.specs.Nested.{nested}

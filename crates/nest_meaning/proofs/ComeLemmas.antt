@@ -1,17 +1,16 @@
 -- All units at one index, in turns.
-use Rattle.std.proofs.Common.{◌≡◌, refl, sym, ◌∙◌, ap, subst, ℕ, zero, suc, ◌+◌, ◌*◌, ◌<◌, ◌^◌}
+use Rattle.std.proofs.Common.{◌≡◌, refl, sym, ◌∙◌, ap, subst, ℕ, zero, suc, ◌+◌, ◌*◌, ◌<◌}
 use Rattle.std.proofs.Common.{List, []}
 use Rattle.std.proofs.Common.{◌∷◌, drop, append-nil, arith}
 use Rattle.std.specs.Prelude.{Some, slice_get}
 use Rattle.node_form.specs.declared.members.Member.{Member}
-use Rattle.node_form.specs.declared.members.Member.TheVariants.{CloseIf}
 use Rattle.node_form.specs.declared.tables.Tables.{Tables}
 use Rattle.node_form.specs.Nest.{Nest, Nothing, Putting, Keeping, Joining, Choosing, ChoosingElse}
 use Rattle.node_form.specs.Nest.{Looping, Repeating, members_of}
 use Rattle.node_form.specs.Group.{Access, Point, Runs, Ran, Through, Divided, ran, ran_from}
 use Rattle.nest_meaning.specs.Nested.{Ways, Told, Fine, then_do, ways_of}
 use Rattle.nest_meaning.specs.Units.{units_of, UnitsTold, unit_then, units_told}
-use Rattle.nest_meaning.specs.Turns.{past, firsts, loops_in, Leads, Stays, Come, ComeThrough}
+use Rattle.nest_meaning.specs.Turns.{past, firsts, Leads, Come, ComeThrough}
 use Rattle.nest_meaning.specs.Turns.{ComeDivided, ComeBack, ComeLost}
 use Rattle.nest_meaning.specs.Laws.{ComeToTheSame}
 use Rattle.nest_meaning.proofs.Spelled.{spelled, weight, positive, IsAt, drop_next, next_at}
@@ -70,7 +69,7 @@ module _ {S : Type 0} (tables : Tables) (access : Access S) (all : List Member)
       lead_owns j m v w (λ k l. fits j k less l) r (mid q) (next q) leads (more q)
   unit_owns m u v w positive fits r mid unit flag named told next (Ends k less leads) more =
       ComeDivided flag k
-          (let e : k + 0 < w = fits k 0 less positive in omega (arith, e)) named leads
+      (let e : k + 0 < w = fits k 0 less positive in omega (arith, e)) named leads
   unit_owns m u v w positive fits r mid unit flag named told next (Waits stays) more =
       ComeBack stays
   unit_owns m u v w positive fits r mid unit flag named told next Loses more = ComeLost

@@ -1,5 +1,5 @@
 -- Small groups over one number.
-use Rattle.std.proofs.Common.{◌≡◌, ℕ, List, [], ◌∷◌, ◌++◌, Option, Some, None, ℤ, pos, refl}
+use Rattle.std.proofs.Common.{◌≡◌, ℕ, List, [], ◌∷◌, Some, None, ℤ, pos, refl}
 use Rattle.std.specs.Int.{int_wrap}
 use Rattle.zpl_nums.specs.declared.operators.Op.TheVariants as op
 use Rattle.node_form.specs.declared.members.Member.{Member}
@@ -13,8 +13,8 @@ use Rattle.node_form.specs.Group.{Access, Point, Ran, Through, Again, Divided, r
 use Rattle.node_form.specs.Nest.{Nest, Nothing, Putting, Keeping, Choosing, ChoosingElse, Looping}
 use Rattle.node_form.specs.Nest.{Repeating}
 use Rattle.node_form.specs.Nest.{members_of}
-use Rattle.nest_meaning.specs.Nested.{Ways, Told, Fine, Zero, Wants, nested, ways_of}
-use Rattle.nest_meaning.specs.Units.{units_of, UnitsTold, UnitsDone, UnitsWant, units_told}
+use Rattle.nest_meaning.specs.Nested.{Told, Fine, Zero, Wants, nested, ways_of}
+use Rattle.nest_meaning.specs.Units.{units_of, UnitsDone, units_told}
 use Rattle.nest_meaning.specs.Tree.{nest_of}
 use Rattle.nest_meaning.specs.Turns.{firsts, loops_in}
 

@@ -1,5 +1,5 @@
 -- The units of a tree are spelled as the units of its members.
-use Rattle.std.proofs.Common.{◌≡◌, refl, sym, ◌∙◌, ap, subst, ℕ, zero, suc, ◌+◌, ◌-◌, List, [], ◌∷◌}
+use Rattle.std.proofs.Common.{◌≡◌, refl, sym, ◌∙◌, ap, ℕ, suc, ◌+◌, ◌-◌, List, [], ◌∷◌}
 use Rattle.std.proofs.Common.{◌++◌}
 use Rattle.std.proofs.Common.{append_assoc, append-nil, arith, map}
 use Rattle.node_form.specs.declared.members.Member.{Member}
@@ -9,7 +9,7 @@ use Rattle.node_form.specs.declared.members.Member.TheVariants.{OpenWhile, Close
 use Rattle.node_form.specs.declared.members.Member.TheVariants.{Until}
 use Rattle.node_form.specs.Nest.{Nest, Nothing, Putting, Keeping, Joining, Choosing, ChoosingElse}
 use Rattle.node_form.specs.Nest.{Looping, Repeating, members_of}
-use Rattle.node_form.specs.Group.{depth_behind, next_unit, units_from, units}
+use Rattle.node_form.specs.Group.{depth_behind, next_unit, units_from}
 use Rattle.nest_meaning.specs.Units.{units_of}
 use Rattle.nest_meaning.specs.Laws.{UnitsAreSpelled}
 use Rattle.nest_meaning.proofs.Spelled.{spelled, spelled_is}

@@ -1,10 +1,10 @@
 -- Members that a tree is spelled as, and where they stand.
-use Rattle.std.proofs.Common.{◌≡◌, refl, sym, ◌∙◌, ap, ap₂, subst, ℕ, zero, suc, ◌+◌, ◌*◌, ◌<◌, ◌≤◌}
+use Rattle.std.proofs.Common.{◌≡◌, refl, sym, ◌∙◌, ap, ap₂, ℕ, zero, suc, ◌+◌, ◌*◌, ◌<◌, ◌≤◌}
 use Rattle.std.proofs.Common.{◌^◌, List, []}
-use Rattle.std.proofs.Common.{◌∷◌, ◌++◌, drop, arith, append_assoc, append-nil}
+use Rattle.std.proofs.Common.{◌∷◌, ◌++◌, drop, arith, append_assoc}
 use Rattle.std.proofs.Math.Nat.{one-le-mul, pow-succ', pow-zero}
 use Rattle.std.proofs.lemmas.Nat.{pow-add}
-use Rattle.std.specs.Prelude.{take, slice_get, Option, Some, None}
+use Rattle.std.specs.Prelude.{take}
 use Rattle.node_form.specs.declared.members.Member.{Member}
 use Rattle.node_form.specs.declared.members.Member.TheVariants.{Put, Cell, Acc, OpenIf, Otherwise}
 use Rattle.node_form.specs.declared.members.Member.TheVariants.{CloseIf}
@@ -132,10 +132,10 @@ positive n (ChoosingElse expr mask line body otherwise after) =
     one-le-mul (one-le-mul (positive n body) (positive n otherwise)) (positive n after)
 positive n (Looping expr mask line body after) =
     one-le-mul (one-le-mul (let e : 1 ≤ suc n = omega arith in e) (positive n body))
-        (positive n after)
+    (positive n after)
 positive n (Repeating mask line body until after) =
     one-le-mul (one-le-mul (let e : 1 ≤ suc n = omega arith in e) (positive n body))
-        (positive n after)
+    (positive n after)
 
 -- ---- members, and numbers
 pub spelled_is : (nest : Nest) (rest : List Member) → spelled nest rest ≡ members_of nest ++ rest

@@ -1,5 +1,5 @@
 -- Members are read as the tree that they are spelled from.
-use Rattle.std.proofs.Common.{◌≡◌, refl, sym, ◌∙◌, ap, subst, List, [], ◌∷◌, ◌++◌, append-nil, ℕ}
+use Rattle.std.proofs.Common.{◌≡◌, refl, sym, ◌∙◌, ap, subst, List, [], ◌∷◌, append-nil, ℕ}
 use Rattle.std.specs.Prelude.{Option, Some, None, option_and_then}
 use Rattle.node_form.specs.declared.members.Member.{Member}
 use Rattle.node_form.specs.declared.members.Member.TheVariants.{Put, Cell, Acc, OpenIf, Otherwise}
@@ -12,7 +12,7 @@ use Rattle.nest_meaning.specs.Tree.{Closing, ClosesIf, ClosesElse, ClosesWhile, 
 use Rattle.nest_meaning.specs.Tree.{Reading}
 use Rattle.nest_meaning.specs.Tree.{reading, else_read, if_read, while_read, repeat_read}
 use Rattle.nest_meaning.specs.Tree.{member_read}
-use Rattle.nest_meaning.specs.Tree.{members_read, whole_tree, nest_of}
+use Rattle.nest_meaning.specs.Tree.{members_read, whole_tree}
 use Rattle.nest_meaning.specs.Laws.{ReadsAgain, ReadsOnly}
 use Rattle.nest_meaning.proofs.Spelled.{spelled, spelled_is}
 
@@ -77,7 +77,7 @@ tree_read (ChoosingElse expr mask line body otherwise after) rest tree closings 
     let behind =
     ap (option_and_then (member_read CloseIf)) (tree_read after rest tree closings e) in
     let other = tree_read otherwise (CloseIf ∷ spelled after rest) Nothing
-      (ClosesIf (followed after tree) ∷ closings) behind in
+    (ClosesIf (followed after tree) ∷ closings) behind in
     let middle = ap (option_and_then (member_read Otherwise)) other in
     ap (option_and_then (member_read (OpenIf expr mask line)))
     (tree_read body (Otherwise ∷ spelled otherwise (CloseIf ∷ spelled after rest)) Nothing

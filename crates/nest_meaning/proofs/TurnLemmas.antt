@@ -1,10 +1,10 @@
 -- What a tree of members does, in turns.
 use Rattle.std.proofs.Common.{◌≡◌, refl, sym, ◌∙◌, ap, subst, ℕ, zero, suc, ◌+◌, ◌-◌, ◌*◌, ◌<◌, ◌≤◌}
 use Rattle.std.proofs.Common.{Bool}
-use Rattle.std.proofs.Common.{true, false, List, [], ◌∷◌, drop, ℤ, arith}
+use Rattle.std.proofs.Common.{true, false, List, ◌∷◌, ℤ, arith}
 use Rattle.std.proofs.Math.Nat.{one-le-mul, le-mul_of_pos_right, mul_comm}
-use Rattle.std.specs.Prelude.{Option, Some, None, if◌then◌else◌, take, slice_get, slice_set}
-use Rattle.std.specs.Prelude.{unwrap_or, ⊤}
+use Rattle.std.specs.Prelude.{Option, Some, None, if◌then◌else◌, slice_get, slice_set}
+use Rattle.std.specs.Prelude.{unwrap_or}
 use Rattle.std.specs.Option.{option_map}
 use Rattle.zpl_nums.specs.Integer.{is_true}
 use Rattle.zpl_nums.specs.Fold.{joined}
@@ -120,9 +120,13 @@ module _ {S : Type 0} (tables : Tables) (access : Access S) (all : List Member) 
       → Stays tables access all i r
   stays_less zero k r less stays = tt
   stays_less (suc i) zero r less stays = absurd (omega (arith, less))
-  stays_less (suc i) (suc k) r less (back, next, is, rest) =
-      (back, next, is, stays_less i k (ran_from tables access all back next)
-      (omega (arith, less)) rest)
+  stays_less (suc i) (suc k) r less (back, next, is, rest) = (
+    back,
+    next,
+    is,
+    stays_less i k (ran_from tables access all back next)
+        (omega (arith, less)) rest,
+  )
 
   abbrev Told_by : ℕ → ℕ → Ran S → (Point S → Ran S) → ℕ → Told (Point S) → Type 0
   Told_by = Comes
@@ -399,9 +403,13 @@ module _ {S : Type 0} (tables : Tables) (access : Access S) (all : List Member) 
       back_comes m opening closing at opens_it told q comes =
           lead_comes 1 m (suc (m * body_wide)) (suc m) (suc (suc (m * body_wide))) (omega arith)
           (λ k less. omega (arith, less)) _
-          (run_on number Runs (opening ∷ spelled body (closing ∷ rest)) q) behind_loop flag told
-          (number, q, ap (λ k. let r : Ran S = Again k q in r) innermost, ap
-          (λ members. run_on number Runs members q) at.ahead) comes
+          (run_on number Runs (opening ∷ spelled body (closing ∷ rest)) q) behind_loop flag told (
+            number,
+            q,
+            ap (λ k. let r : Ran S = Again k q in r) innermost,
+            ap
+                (λ members. run_on number Runs members q) at.ahead,
+          ) comes
         where
           inside : IsAt all (number + 1) (spelled body (closing ∷ rest)) (number ∷ opens)
           inside = subst (IsAt all (number + 1) (spelled body (closing ∷ rest))) opens_it

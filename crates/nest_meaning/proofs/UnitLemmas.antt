@@ -1,9 +1,9 @@
 -- A tree does what its units do.
-use Rattle.std.proofs.Common.{◌≡◌, refl, sym, ap, ◌∙◌, ℕ, ◌+◌, List, [], ◌∷◌}
-use Rattle.node_form.specs.Nest.{Nest, Nothing, Putting, Keeping, Joining, Choosing, ChoosingElse}
+use Rattle.std.proofs.Common.{◌≡◌, refl, ℕ, ◌+◌}
+use Rattle.node_form.specs.Nest.{Nothing, Putting, Keeping, Joining, Choosing, ChoosingElse}
 use Rattle.node_form.specs.Nest.{Looping, Repeating}
 use Rattle.nest_meaning.specs.Nested.{Ways, Told, Fine, Zero, Wants, Lost, then_do, nested}
-use Rattle.nest_meaning.specs.Units.{units_of, UnitsTold, unit_then, units_told, told_of}
+use Rattle.nest_meaning.specs.Units.{UnitsTold, unit_then, told_of}
 use Rattle.nest_meaning.specs.Laws.{DoUnits}
 
 module _ {P : Type 0} (ways : Ways P) where

@@ -4,7 +4,7 @@ use Rattle.node_form.specs.declared.members.Member.{Member}
 use Rattle.node_form.specs.declared.tables.Tables.{Tables}
 use Rattle.node_form.specs.Nest.{Nest, members_of}
 use Rattle.node_form.specs.Group.{Access, Point, ran_from, units}
-use Rattle.nest_meaning.specs.Nested.{Ways, Told, Wants, nested, ways_of}
+use Rattle.nest_meaning.specs.Nested.{Ways, Wants, nested, ways_of}
 use Rattle.nest_meaning.specs.Units.{units_of, units_told, told_of}
 use Rattle.nest_meaning.specs.Alike.{AreTold, AreNests, IsNestSame}
 use Rattle.nest_meaning.specs.Tree.{nest_of}
