@@ -186,39 +186,37 @@ module _ {R T S : Type 0} (step : R → S → Step S) (decide : T → S → Deci
       by_test (Says false) left last = m.by left
       by_test (Fails stop) left last = refl
 
-  -- rows and then a test
-  tested_follows : (head : List R) (k goal end : ℕ) (test : T) (state : S)
-      (rest : List (CodeRow R T))
-      (one other : S → Course S) → StandsAt code k (map Straight head ++ Unless test goal ∷ rest)
-      → ((s : S) → Leads (k + length head + 1) end s (one s))
+  -- a head and then a test
+  tested_follows : (head : S → Course S) (k middle goal end : ℕ) (test : T) (state : S)
+      (rest : List (CodeRow R T)) (one other : S → Course S)
+      → ((s : S) → Follows k middle s (head s))
+      → StandsAt code middle (Unless test goal ∷ rest)
+      → ((s : S) → Leads (middle + 1) end s (one s))
       → ((s : S) → Leads goal end s (other s))
       → Follows k end state (tested step decide head test one other state)
-  tested_follows head k goal end test state rest one other h l m =
-      let does : List (CodeRow R T) = map Straight head in
-      let course = rows_do step decide head state in
-      let at = has_back code k (k + length head) does (Unless test goal ∷ rest)
-      (ap (λ n. k + n) (straight_length T head)) h in
-      then_follows k (k + length head) end state course.close course.state course.bytes course.jumps
-      (λ after. choose (decide test after) one other after)
-      (rows_follow head k (k + length head) state
-      (has_front code k does (Unless test goal ∷ rest) h) refl)
-      (λ s. unless_follows (k + length head) goal end test rest s one other at (l s) (m s))
+  tested_follows head k middle goal end test state rest one other f h l m =
+      let course = head state in
+      then_follows k middle end state course.close course.state course.bytes course.jumps
+      (λ after. choose (decide test after) one other after) (f state)
+      (λ s. unless_follows middle goal end test rest s one other h (l s) (m s))
 
-  while_follows : (n k end : ℕ) (head : List R) (test : T) (body : S → Course S) (inner back : ℕ)
-      → k + length head + 1 ≡ inner → back + 1 ≡ end
-      → StandsAt code k (map Straight head ++ Unless test end ∷ [])
+  while_follows : (n k middle end : ℕ) (head : S → Course S) (test : T) (body : S → Course S)
+      (inner back : ℕ) (rest : List (CodeRow R T)) → middle + 1 ≡ inner → back + 1 ≡ end
+      → ((s : S) → Follows k middle s (head s))
+      → StandsAt code middle (Unless test end ∷ rest)
       → StandsAt code back (Jump k ∷ [])
       → ((s : S) → Follows inner back s (body s))
       → (state : S) → Follows k end state (while_turns step decide n head test body state)
-  while_follows zero k end head test body inner back i e h j f state =
-      tested_follows head k end end test state [] wants_more (λ s. jumping (goes_on s)) h
-      (λ s. leads_wants (k + length head + 1) end s) (leads_out end)
-  while_follows (suc n) k end head test body inner back i e h j f state =
-      tested_follows head k end end test state [] (λ s. jumping (then_do (body s) (again n)))
-      (λ s. jumping (goes_on s)) h
+  while_follows zero k middle end head test body inner back rest i e g h j f state =
+      tested_follows head k middle end end test state rest wants_more (λ s. jumping (goes_on s)) g h
+      (λ s. leads_wants (middle + 1) end s) (leads_out end)
+  while_follows (suc n) k middle end head test body inner back rest i e g h j f state =
+      tested_follows head k middle end end test state rest
+      (λ s. jumping (then_do (body s) (again n)))
+      (λ s. jumping (goes_on s)) g h
       (λ s. subst (λ m. Leads m end s (jumping (then_do (body s) (again n)))) (sym i)
       (leads_jumping inner end s (then_do (body s) (again n))
-      (turn (λ t. while_follows n k end head test body inner back i e h j f t) s)))
+      (turn (λ t. while_follows n k middle end head test body inner back rest i e g h j f t) s)))
       (leads_out end)
     where
       again : ℕ → S → Course S
@@ -233,23 +231,24 @@ module _ {R T S : Type 0} (step : R → S → Step S) (decide : T → S → Deci
           (λ t. jump_follows back k end [] t (again n t) j
           (leads_jumping k end t (while_turns step decide n head test body t) (more t)))
 
-  repeat_leads : (n start mid end : ℕ) (body : S → Course S) (head : List R) (test : T)
-      → mid + length head + 1 ≡ end
-      → StandsAt code mid (map Straight head ++ Unless test start ∷ [])
+  repeat_leads : (n start mid middle end : ℕ) (body head : S → Course S) (test : T)
+      → middle + 1 ≡ end
+      → ((s : S) → Follows mid middle s (head s))
+      → StandsAt code middle (Unless test start ∷ [])
       → ((s : S) → Follows start mid s (body s))
       → (state : S) → Leads start end state (repeat_turns step decide n body head test state)
-  repeat_leads zero start mid end body head test e h f state = leads_wants start end state
-  repeat_leads (suc n) start mid end body head test e h f state =
+  repeat_leads zero start mid middle end body head test e g h f state = leads_wants start end state
+  repeat_leads (suc n) start mid middle end body head test e g h f state =
       let course = body state in
       let last : S → Course S = λ after. jumping (goes_on after) in
       let next = tested step decide head test last (repeat_turns step decide n body head test) in
       leads_jumping start end state (then_do course next)
       (then_follows start mid end state course.close course.state course.bytes course.jumps next
       (f state)
-      (λ s. tested_follows head mid start end test s [] last
-      (repeat_turns step decide n body head test) h
+      (λ s. tested_follows head mid middle start end test s [] last
+      (repeat_turns step decide n body head test) g h
       (λ t. subst (λ m. Leads m end t (last t)) (sym e) (leads_out end t))
-      (λ t. repeat_leads n start mid end body head test e h f t)))
+      (λ t. repeat_leads n start mid middle end body head test e g h f t)))
 
   -- ---- the theorem
   follows : (n : ℕ) (piece : Piece R T) (k : ℕ) → StandsAt code k (flattened k piece)
@@ -307,41 +306,47 @@ module _ {R T S : Type 0} (step : R → S → Step S) (decide : T → S → Deci
       (leads_jumping goal end state (o state)
       (ends_at goal (goal + size other) end state (o state) e (follows n other goal h3 state)))
   follows n (While head test body) k h state =
-      let does : List (CodeRow R T) = map Straight head in
-      let xs = flattened (k + length head + 1) body in
+      let hs = flattened k head in
+      let middle = k + size head in
+      let inner = middle + 1 in
+      let xs = flattened (k + size head + 1) body in
       let end = k + size (While head test body) in
-      let inner = k + length head + 1 in
-      let goal = k + length head + size body + 2 in
+      let goal = k + size head + size body + 2 in
       let g : goal ≡ end = omega arith in
       let back = inner + size body in
-      let front = does ++ Unless test end ∷ [] in
       let behind = xs ++ Jump k ∷ [] in
-      let h0 = subst (λ m. StandsAt code k (does ++ Unless test m ∷ behind)) g h in
-      let h1 = subst (λ m. StandsAt code k m)
-      (sym (append_assoc does (Unless test end ∷ []) behind)) h0 in
-      let h2 = has_front code k front behind h1 in
-      let l : k + length front ≡ inner =
-      omega (arith, length-append does (Unless test end ∷ []), straight_length T head) in
-      let h3 = has_back code k inner front behind l h1 in
+      let h0 = subst (λ m. StandsAt code k (hs ++ Unless test m ∷ behind)) g h in
+      let h1 = has_back code k middle hs (Unless test end ∷ behind)
+      (ap (λ m. k + m) (flat_length k head)) h0 in
+      let h3 = has_next code middle inner (Unless test end) behind refl h1 in
       let h4 = has_back code inner back xs (Jump k ∷ [])
       (ap (λ m. inner + m) (flat_length inner body)) h3 in
       let e : back + 1 ≡ end = omega arith in
-      while_follows n k end head test (doing step decide n body) inner back refl e h2 h4
+      while_follows n k middle end (doing step decide n head) test (doing step decide n body)
+      inner back behind refl e
+      (follows n head k (has_front code k hs (Unless test end ∷ behind) h0)) h1 h4
       (follows n body inner (has_front code inner xs (Jump k ∷ []) h3)) state
   follows n (Repeat body head test) k h state =
-      let does : List (CodeRow R T) = map Straight head in
       let xs = flattened (k + 1) body in
       let end = k + size (Repeat body head test) in
-      let mid = k + 1 + size body in
-      let tail = does ++ Unless test (k + 1) ∷ [] in
+      let mid = k + size body + 1 in
+      let m0 : k + 1 + size body ≡ mid = omega arith in
+      let middle = mid + size head in
+      let hs = flattened mid head in
+      let tail = hs ++ Unless test (k + 1) ∷ [] in
       let h1 = has_next code k (k + 1) (Jump (k + 1)) (xs ++ tail) refl h in
       let h2 = has_back code (k + 1) mid xs tail
-      (ap (λ m. k + 1 + m) (flat_length (k + 1) body)) h1 in
-      let e : mid + length head + 1 ≡ end = omega arith in
+      (ap (λ m. k + 1 + m) (flat_length (k + 1) body) ∙ m0) h1 in
+      let h3 = has_back code mid middle hs (Unless test (k + 1) ∷ [])
+      (ap (λ m. mid + m) (flat_length mid head)) h2 in
+      let e : middle + 1 ≡ end = omega arith in
       jump_follows k (k + 1) end (xs ++ tail) state
-      (repeat_turns step decide n (doing step decide n body) head test state) h
-      (repeat_leads n (k + 1) mid end (doing step decide n body) head test e h2
-      (follows n body (k + 1) (has_front code (k + 1) xs tail h1)) state)
+      (repeat_turns step decide n (doing step decide n body) (doing step decide n head) test state)
+      h
+      (repeat_leads n (k + 1) mid middle end (doing step decide n body) (doing step decide n head)
+      test e (follows n head mid (has_front code mid hs (Unless test (k + 1) ∷ []) h2)) h3
+      (λ s. ends_at (k + 1) (k + 1 + size body) mid s (doing step decide n body s) m0
+      (follows n body (k + 1) (has_front code (k + 1) xs tail h1) s)) state)
 
 module _ {R T S : Type 0} (step : R → S → Step S) (decide : T → S → Decision) where
   pub follow : Follow step decide

@@ -8,7 +8,7 @@ use Rattle.row_runs.specs.Cut.{cut, passed}
 use Rattle.row_runs.specs.Code.{CodeRow, Straight, Jump, Unless, Decision, Says, code_act}
 use Rattle.row_runs.specs.Structured.{Piece, Rows, Then, When, Choose, While, Repeat}
 use Rattle.row_runs.specs.Structured.{GoesOn}
-use Rattle.row_runs.specs.Structured.{Over, Wants, counted, doing, flattened}
+use Rattle.row_runs.specs.Structured.{Over, Wants, doing, flattened}
 
 -- begins at zero, adds one, says the number, is at the end, or may not stand there
 data Row : Type 0 where
@@ -40,7 +40,7 @@ result bytes stop = record { bytes = bytes; stop = stop }
 
 -- ---- a loop that says the numbers below three
 abbrev count_up : Piece Row ℕ
-count_up = While [] 3 (Rows (Say ∷ Add ∷ []))
+count_up = While (Rows []) 3 (Rows (Say ∷ Add ∷ []))
 
 abbrev count_rows : Code
 count_rows = Unless 3 4 ∷ Straight Say ∷ Straight Add ∷ Jump 0 ∷ []
@@ -76,7 +76,7 @@ wanted_in_vain = refl
 
 -- ---- a loop that tests behind its turns begins with a jump into its body
 abbrev say_until : Piece Row ℕ
-say_until = Repeat (Rows (Say ∷ [])) (Add ∷ []) 2
+say_until = Repeat (Rows (Say ∷ [])) (Rows (Add ∷ [])) 2
 
 until_rows : flattened 0 say_until ≡ Jump 1 ∷ Straight Say ∷ Straight Add ∷ Unless 2 1 ∷ []
 until_rows = refl
@@ -110,16 +110,17 @@ chosen_does : doing step decide 0 chosen 4
     ≡ record { close = GoesOn; state = 4; bytes = 4 ∷ []; jumps = 2 }
 chosen_does = refl
 
-stops_in_a_loop : doing step decide 9 (While [] 3 (Rows (Say ∷ Misplaced ∷ []))) 0
+stops_in_a_loop : doing step decide 9 (While (Rows []) 3 (Rows (Say ∷ Misplaced ∷ []))) 0
     ≡ record { close = Over Wrong; state = 0; bytes = 0 ∷ []; jumps = 1 }
 stops_in_a_loop = refl
 
-abbrev three_counted : Piece Row ℕ
-three_counted = counted (Say ∷ []) 3 (Rows []) (Add ∷ [])
+-- what is run before a test may have a choice of its own
+abbrev said_before : Piece Row ℕ
+said_before = While (When 1 (Rows (Say ∷ []))) 2 (Rows (Add ∷ []))
 
-counted_rows : flattened 0 three_counted
-    ≡ Straight Say ∷ Unless 3 4 ∷ Straight Add ∷ Jump 1 ∷ []
-counted_rows = refl
+said_before_rows : flattened 0 said_before
+    ≡ Unless 1 2 ∷ Straight Say ∷ Unless 2 5 ∷ Straight Add ∷ Jump 0 ∷ []
+said_before_rows = refl
 
 -- ---- a pass that leaves out a row that begins where nothing was added: goals move
 abbrev ends : CodeRow Row ℕ → Bool

@@ -60,22 +60,22 @@ flat_length {R} {T} k (Choose test one other) =
       flat_length (k + size one + 2) other,
     )
 flat_length {R} {T} k (While head test body) =
-    let h : List (CodeRow R T) = map Straight head in
-    let b : List (CodeRow R T) = flattened (k + length head + 1) body in
+    let h : List (CodeRow R T) = flattened k head in
+    let b : List (CodeRow R T) = flattened (k + size head + 1) body in
     omega (
       arith,
-      length-append h (Unless test (k + length head + size body + 2) ∷ (b ++ Jump k ∷ [])),
+      length-append h (Unless test (k + size head + size body + 2) ∷ (b ++ Jump k ∷ [])),
       length-append b (Jump k ∷ []),
-      straight_length T head,
-      flat_length (k + length head + 1) body,
+      flat_length k head,
+      flat_length (k + size head + 1) body,
     )
 flat_length {R} {T} k (Repeat body head test) =
-    let h : List (CodeRow R T) = map Straight head in
+    let h : List (CodeRow R T) = flattened (k + size body + 1) head in
     let b : List (CodeRow R T) = flattened (k + 1) body in
     omega (
       arith,
       length-append b (h ++ Unless test (k + 1) ∷ []),
       length-append h (Unless test (k + 1) ∷ []),
-      straight_length T head,
+      flat_length (k + size body + 1) head,
       flat_length (k + 1) body,
     )

@@ -69,22 +69,23 @@ module _ {R T S : Type 0} (step : R → S → Step S) (decide : T → S → Deci
           after_behind m bytes 0 (rows_do step decide rows next) (more next) e
       by (Stops stop) more e = cc
 
-  tested_behind : (m : ℕ) (head : List R) (test : T) (one other : S → Course S) (s : S)
+  tested_behind : (m : ℕ) (head : S → Course S) (test : T) (one other : S → Course S) (s : S)
+      → ((s : S) → WantsBehind m (head s))
       → ((s : S) → WantsBehind m (one s)) → ((s : S) → WantsBehind m (other s))
       → WantsBehind m (tested step decide head test one other s)
-  tested_behind m head test one other s h k =
-      then_behind m (rows_do step decide head s)
-      (λ after. choose (decide test after) one other after)
-      (rows_behind m head s) (λ t. choose_behind m (decide test t) one other t (h t) (k t))
+  tested_behind m head test one other s g h k =
+      then_behind m (head s) (λ after. choose (decide test after) one other after)
+      (g s) (λ t. choose_behind m (decide test t) one other t (h t) (k t))
 
-  while_behind : (n m : ℕ) → m ≤ n → (head : List R) (test : T) (body : S → Course S)
-      → ((s : S) → WantsBehind n (body s)) → (s : S)
+  while_behind : (n m : ℕ) → m ≤ n → (head : S → Course S) (test : T) (body : S → Course S)
+      → ((s : S) → WantsBehind n (head s)) → ((s : S) → WantsBehind n (body s)) → (s : S)
       → WantsBehind m (while_turns step decide m head test body s)
-  while_behind n zero less head test body h s e = omega arith
-  while_behind n (suc m) less head test body h s wants =
+  while_behind n zero less head test body g h s e = omega arith
+  while_behind n (suc m) less head test body g h s wants =
       tested_behind (suc m) head test
       (λ s. jumping (then_do (body s) (λ t. jumping (while_turns step decide m head test body t))))
       (λ s. jumping (goes_on s)) s
+      (λ s. less_behind (suc m) n (head s) less (g s))
       (λ s. jumping_behind m
       (then_do (body s) (λ t. jumping (while_turns step decide m head test body t)))
       (then_behind m (body s) (λ t. jumping (while_turns step decide m head test body t))
@@ -92,21 +93,22 @@ module _ {R T S : Type 0} (step : R → S → Step S) (decide : T → S → Deci
       (λ t. less_behind m (suc m) (jumping (while_turns step decide m head test body t))
       (omega arith)
       (jumping_behind m (while_turns step decide m head test body t)
-      (while_behind n m (omega (arith, less)) head test body h t)))))
+      (while_behind n m (omega (arith, less)) head test body g h t)))))
       (out_behind (suc m)) wants
 
-  repeat_behind : (n m : ℕ) → m ≤ n → (body : S → Course S) (head : List R) (test : T)
-      → ((s : S) → WantsBehind n (body s)) → (s : S)
+  repeat_behind : (n m : ℕ) → m ≤ n → (body head : S → Course S) (test : T)
+      → ((s : S) → WantsBehind n (head s)) → ((s : S) → WantsBehind n (body s)) → (s : S)
       → WantsBehind m (repeat_turns step decide m body head test s)
-  repeat_behind n zero less body head test h s e = omega arith
-  repeat_behind n (suc m) less body head test h s wants =
+  repeat_behind n zero less body head test g h s e = omega arith
+  repeat_behind n (suc m) less body head test g h s wants =
       let last : S → Course S = λ t. jumping (goes_on t) in
       let more = repeat_turns step decide m body head test in
       jumping_behind m (then_do (body s) (tested step decide head test last more))
       (then_behind m (body s) (tested step decide head test last more)
       (less_behind m n (body s) (omega (arith, less)) (h s))
-      (λ t. tested_behind m head test last more t (out_behind m)
-      (λ t. repeat_behind n m (omega (arith, less)) body head test h t))) wants
+      (λ t. tested_behind m head test last more t
+      (λ t. less_behind m n (head t) (omega (arith, less)) (g t)) (out_behind m)
+      (λ t. repeat_behind n m (omega (arith, less)) body head test g h t))) wants
 
   pub want_behind_turns : WantBehindTurns step decide
   want_behind_turns n (Rows rows) s = rows_behind n rows s
@@ -130,8 +132,8 @@ module _ {R T S : Type 0} (step : R → S → Step S) (decide : T → S → Deci
       (less_behind n (suc n) (jumping (doing step decide n other s)) (omega arith)
       (jumping_behind n (doing step decide n other s) (want_behind_turns n other s)))
   want_behind_turns n (While head test body) s =
-      while_behind n n (omega arith) head test (doing step decide n body)
-      (λ t. want_behind_turns n body t) s
+      while_behind n n (omega arith) (doing step decide n head) test (doing step decide n body)
+      (λ t. want_behind_turns n head t) (λ t. want_behind_turns n body t) s
   want_behind_turns n (Repeat body head test) s =
-      repeat_behind n n (omega arith) (doing step decide n body) head test
-      (λ t. want_behind_turns n body t) s
+      repeat_behind n n (omega arith) (doing step decide n body) (doing step decide n head) test
+      (λ t. want_behind_turns n head t) (λ t. want_behind_turns n body t) s

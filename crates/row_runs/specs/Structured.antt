@@ -5,18 +5,14 @@ use Rattle.zpl_nums.specs.declared.ends.End.TheVariants.{More}
 use Rattle.row_runs.specs.Run.{Stop, Ends, Result, Step, Goes, Stops, printed}
 use Rattle.row_runs.specs.Code.{CodeRow, Straight, Jump, Unless, Decision, Says, Fails}
 
--- The head of a loop is rows that are run before each test.
+-- The head of a loop is what is run before each test.
 pub data Piece (R T : Type 0) : Type 0 where
   Rows : (rows : List R) → Piece R T
   Then : (first rest : Piece R T) → Piece R T
   When : (test : T) (body : Piece R T) → Piece R T
   Choose : (test : T) (one other : Piece R T) → Piece R T
-  While : (head : List R) (test : T) (body : Piece R T) → Piece R T
-  Repeat : (body : Piece R T) (head : List R) (test : T) → Piece R T
-
--- A counted loop: rows that set the counter, and others that count behind each turn.
-abbrev pub counted : {R T : Type 0} → List R → T → Piece R T → List R → Piece R T
-counted first test body next = Then (Rows first) (While [] test (Then body (Rows next)))
+  While : (head : Piece R T) (test : T) (body : Piece R T) → Piece R T
+  Repeat : (body head : Piece R T) (test : T) → Piece R T
 
 -- ---- what it does
 
@@ -81,13 +77,13 @@ module _ {R T S : Type 0} (step : R → S → Step S) (decide : T → S → Deci
   rows_do [] state = goes_on state
   rows_do (row ∷ rows) state = by_step state (step row state) (rows_do rows)
 
-  abbrev pub tested : List R → T → (S → Course S) → (S → Course S) → S → Course S
+  abbrev pub tested : (S → Course S) → T → (S → Course S) → (S → Course S) → S → Course S
   tested head test one other state =
-      then_do (rows_do head state) (λ after. choose (decide test after) one other after)
+      then_do (head state) (λ after. choose (decide test after) one other after)
 
   -- A loop that tests before each turn, with at most so many turns. Each test is a jump, and so is
   -- the end of a turn.
-  abbrev pub while_turns : ℕ → List R → T → (S → Course S) → S → Course S
+  abbrev pub while_turns : ℕ → (S → Course S) → T → (S → Course S) → S → Course S
   while_turns zero head test body = tested head test wants_more (λ state. jumping (goes_on state))
   while_turns (suc n) head test body =
       tested head test
@@ -96,7 +92,7 @@ module _ {R T S : Type 0} (step : R → S → Step S) (decide : T → S → Deci
       (λ state. jumping (goes_on state))
 
   -- A loop that tests after each turn. A jump leads to each turn.
-  abbrev pub repeat_turns : ℕ → (S → Course S) → List R → T → S → Course S
+  abbrev pub repeat_turns : ℕ → (S → Course S) → (S → Course S) → T → S → Course S
   repeat_turns zero body head test = wants_more
   repeat_turns (suc n) body head test =
       λ state. jumping (then_do (body state)
@@ -114,8 +110,8 @@ module _ {R T S : Type 0} (step : R → S → Step S) (decide : T → S → Deci
       choose (decide test state)
       (λ inside. jumping (then_do (doing n one inside) (λ after. jumping (goes_on after))))
       (λ inside. jumping (doing n other inside)) state
-  doing n (While head test body) state = while_turns n head test (doing n body) state
-  doing n (Repeat body head test) state = repeat_turns n (doing n body) head test state
+  doing n (While head test body) state = while_turns n (doing n head) test (doing n body) state
+  doing n (Repeat body head test) state = repeat_turns n (doing n body) (doing n head) test state
 
 -- ---- how it is laid out
 
@@ -124,8 +120,8 @@ size (Rows rows) = length rows
 size (Then first rest) = size first + size rest
 size (When test body) = size body + 1
 size (Choose test one other) = size one + size other + 2
-size (While head test body) = length head + size body + 2
-size (Repeat body head test) = size body + length head + 2
+size (While head test body) = size head + size body + 2
+size (Repeat body head test) = size body + size head + 2
 
 -- its rows, where the first of them has this number
 abbrev pub flattened : {R T : Type 0} → ℕ → Piece R T → List (CodeRow R T)
@@ -136,10 +132,11 @@ flattened at (Choose test one other) =
     Unless test (at + size one + 2) ∷ (flattened (at + 1) one
     ++ (Jump (at + size one + size other + 2) ∷ flattened (at + size one + 2) other))
 flattened at (While head test body) =
-    map Straight head ++ (Unless test (at + length head + size body + 2)
-    ∷ (flattened (at + length head + 1) body ++ Jump at ∷ []))
+    flattened at head ++ (Unless test (at + size head + size body + 2)
+    ∷ (flattened (at + size head + 1) body ++ Jump at ∷ []))
 flattened at (Repeat body head test) =
-    Jump (at + 1) ∷ (flattened (at + 1) body ++ (map Straight head ++ Unless test (at + 1) ∷ []))
+    Jump (at + 1) ∷ (flattened (at + 1) body
+    ++ (flattened (at + size body + 1) head ++ Unless test (at + 1) ∷ []))
 
 -- ---- what a run of it shows
 
