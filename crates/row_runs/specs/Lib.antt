@@ -1,0 +1,10 @@
+pub mod Run
+pub mod Growth
+pub mod Straight
+pub mod Segments
+pub mod Rows
+pub mod Cut
+pub mod Code
+pub mod Structured
+pub mod Counter
+pub mod Laws

@@ -1,0 +1,11 @@
+pub mod Check
+pub mod Where
+pub mod Words
+pub mod Bracket
+pub mod Slate
+pub mod Reference
+pub mod Hoist
+pub mod Lowered
+pub mod Statement
+pub mod Program
+pub mod Tables
