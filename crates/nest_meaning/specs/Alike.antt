@@ -1,0 +1,92 @@
+-- Two trees that do alike, each by its own ways, from like states to like ones.
+use Rattle.std.specs.Prelude.{◌≡◌, ℕ, ℤ, Option, Some, None, ⊤}
+use Rattle.std.specs.Option.{IfSome}
+use Rattle.zpl_nums.specs.declared.folds.Fold.{Fold}
+use Rattle.node_form.specs.Nest.{Nest, Nothing, Putting, Keeping, Joining, Choosing, ChoosingElse}
+use Rattle.node_form.specs.Nest.{Looping, Repeating}
+use Rattle.nest_meaning.specs.Nested.{Ways, Told, Fine, Zero, Wants, Lost}
+
+pub data AreTold {P Q : Type 0} (IsLike : P → Q → Type 0) : Told P → Told Q → Type 0 where
+  BothFine : {p : P} {q : Q} → IsLike p q → AreTold IsLike (Fine p) (Fine q)
+  BothZero : {p : P} {q : Q} → IsLike p q → AreTold IsLike (Zero p) (Zero q)
+  BothWant : AreTold IsLike Wants Wants
+  BothLost : AreTold IsLike Lost Lost
+
+pub data AreBoth {P Q : Type 0} (IsLike : P → Q → Type 0) : Option P → Option Q → Type 0 where
+  Neither : AreBoth IsLike None None
+  Both : {p : P} {q : Q} → IsLike p q → AreBoth IsLike (Some p) (Some q)
+
+-- a member that holds no others
+pub data Leaf : Type 0 where
+  PutLeaf : (array : ℕ) → Leaf
+  KeepLeaf : (cell : ℕ) → Leaf
+  JoinLeaf : (scalar : ℕ) (fold : Fold) → Leaf
+
+abbrev pub leafed : Leaf → ℕ → Option ℕ → ℕ → Nest → Nest
+leafed (PutLeaf array) expr mask line after = Putting array expr mask line after
+leafed (KeepLeaf cell) expr mask line after = Keeping cell expr mask line after
+leafed (JoinLeaf scalar fold) expr mask line after = Joining scalar fold expr mask line after
+
+abbrev pub way_of : {P : Type 0} → Ways P → Leaf → ℤ → P → Option P
+way_of ways (PutLeaf array) = ways.put array
+way_of ways (KeepLeaf cell) = ways.keep cell
+way_of ways (JoinLeaf scalar fold) = ways.join scalar fold
+
+module _ {P Q : Type 0} (IsLike : P → Q → Type 0) (a : Ways P) (b : Ways Q) where
+  pub record AreValues (expr fxpr : ℕ) : Type 0 where
+    pub same : (p : P) (q : Q) → IsLike p q → a.value p expr ≡ b.value q fxpr
+
+  pub data AreMasks : Option ℕ → Option ℕ → Type 0 where
+    NoMasks : AreMasks None None
+    Masks : {expr fxpr : ℕ} → AreValues expr fxpr → AreMasks (Some expr) (Some fxpr)
+
+  pub record AreLeaves (leaf meaf : Leaf) : Type 0 where
+    pub steps : (v : ℤ) (p : P) (q : Q) → IsLike p q
+        → AreBoth IsLike (way_of a leaf v p) (way_of b meaf v q)
+
+  -- trees of the same shape; a leaf may be of another kind than its partner, as a cell that is kept
+  -- where an array was put
+  pub data AreNests : Nest → Nest → Type 0 where
+    BothNothing : AreNests Nothing Nothing
+    Leaves : {leaf meaf : Leaf} {expr fxpr : ℕ} {mask nask : Option ℕ} (line mine : ℕ)
+        {after bfter : Nest} → AreMasks mask nask → AreValues expr fxpr → AreLeaves leaf meaf
+        → AreNests after bfter
+        → AreNests (leafed leaf expr mask line after) (leafed meaf fxpr nask mine bfter)
+    Ifs : {expr fxpr line mine : ℕ} {mask nask : Option ℕ} {body cody after bfter : Nest}
+        → AreMasks mask nask → AreValues expr fxpr → AreNests body cody → AreNests after bfter
+        → AreNests (Choosing expr mask line body after) (Choosing fxpr nask mine cody bfter)
+    Elses : {expr fxpr line mine : ℕ} {mask nask : Option ℕ}
+        {body cody other pther after bfter : Nest} → AreMasks mask nask → AreValues expr fxpr
+        → AreNests body cody → AreNests other pther → AreNests after bfter
+        → AreNests (ChoosingElse expr mask line body other after)
+        (ChoosingElse fxpr nask mine cody pther bfter)
+    Whiles : {expr fxpr line mine : ℕ} {mask nask : Option ℕ} {body cody after bfter : Nest}
+        → AreMasks mask nask → AreValues expr fxpr → AreNests body cody → AreNests after bfter
+        → AreNests (Looping expr mask line body after) (Looping fxpr nask mine cody bfter)
+    Repeats : {expr fxpr line mine : ℕ} {mask nask : Option ℕ} {body cody after bfter : Nest}
+        → AreMasks mask nask → AreValues expr fxpr → AreNests body cody → AreNests after bfter
+        → AreNests (Repeating mask line body expr after) (Repeating nask mine cody fxpr bfter)
+
+  -- ---- one tree by two ways: what is read and written in it is alike
+  abbrev pub IsSame : ℕ → Type 0
+  IsSame expr = AreValues expr expr
+
+  abbrev pub IsLeafSame : Option ℕ → ℕ → Leaf → Type 0
+  IsLeafSame mask expr leaf = IfSome mask IsSame × IsSame expr × AreLeaves leaf leaf
+
+  abbrev pub IsNestSame : Nest → Type 0
+  IsNestSame Nothing = ⊤
+  IsNestSame (Putting array expr mask line after) =
+      IsLeafSame mask expr (PutLeaf array) × IsNestSame after
+  IsNestSame (Keeping cell expr mask line after) =
+      IsLeafSame mask expr (KeepLeaf cell) × IsNestSame after
+  IsNestSame (Joining scalar fold expr mask line after) =
+      IsLeafSame mask expr (JoinLeaf scalar fold) × IsNestSame after
+  IsNestSame (Choosing expr mask line body after) =
+      IfSome mask IsSame × IsSame expr × IsNestSame body × IsNestSame after
+  IsNestSame (ChoosingElse expr mask line body otherwise after) =
+      IfSome mask IsSame × IsSame expr × IsNestSame body × IsNestSame otherwise × IsNestSame after
+  IsNestSame (Looping expr mask line body after) =
+      IfSome mask IsSame × IsSame expr × IsNestSame body × IsNestSame after
+  IsNestSame (Repeating mask line body until after) =
+      IfSome mask IsSame × IsSame until × IsNestSame body × IsNestSame after

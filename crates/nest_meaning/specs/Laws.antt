@@ -1,0 +1,47 @@
+-- The laws of trees of members.
+use Rattle.std.specs.Prelude.{◌≡◌, ℕ, suc, ◌^◌, ◌≤◌, Some, List, map}
+use Rattle.node_form.specs.declared.members.Member.{Member}
+use Rattle.node_form.specs.declared.tables.Tables.{Tables}
+use Rattle.node_form.specs.Nest.{Nest, members_of}
+use Rattle.node_form.specs.Group.{Access, Point, ran_from, units}
+use Rattle.nest_meaning.specs.Nested.{Ways, Told, Wants, nested, ways_of}
+use Rattle.nest_meaning.specs.Units.{units_of, units_told, told_of}
+use Rattle.nest_meaning.specs.Alike.{AreTold, AreNests, IsNestSame}
+use Rattle.nest_meaning.specs.Turns.{Come, firsts, loops_in}
+
+-- with more turns a loop that wanted more may come to something else, and all else stays
+pub data IsUpTo {X : Type 0} (wants : X) : X → X → Type 0 where
+  TheSame : {x : X} → IsUpTo wants x x
+  Beyond : {x : X} → IsUpTo wants wants x
+
+abbrev pub Grow : {P : Type 0} → Ways P → Type 0
+Grow {P = P} ways =
+    (less more : ℕ) → less ≤ more → (nest : Nest) (p : P)
+    → IsUpTo Wants (nested ways less nest p) (nested ways more nest p)
+
+-- two trees do alike; and one tree does by two ways
+module _ {P Q : Type 0} (IsLike : P → Q → Type 0) where
+  abbrev pub DoAlike : Type 0
+  DoAlike =
+      (a : Ways P) (b : Ways Q) (n : ℕ) (nest oest : Nest) → AreNests IsLike a b nest oest
+      → (p : P) (q : Q) → IsLike p q → AreTold IsLike (nested a n nest p) (nested b n oest q)
+
+  abbrev pub DoesAlike : Type 0
+  DoesAlike =
+      (a : Ways P) (b : Ways Q) (n : ℕ) (nest : Nest) → IsNestSame IsLike a b nest
+      → (p : P) (q : Q) → IsLike p q → AreTold IsLike (nested a n nest p) (nested b n nest q)
+
+-- a tree does what its units do, one after another
+abbrev pub DoUnits : {P : Type 0} → Ways P → Type 0
+DoUnits {P = P} ways =
+    (n number : ℕ) (nest : Nest) (p : P)
+    → nested ways n nest p ≡ told_of (units_told ways n number (units_of nest) p)
+
+-- Members that are run turn by turn come to what their tree does, with fewer than (n + 1) ^ g turns
+-- that go back, where the tree holds g loops; at least n, where it wants more.
+abbrev pub ComeToTheSame : Type 0 → Type 0
+ComeToTheSame S =
+    (tables : Tables) (access : Access S) (nest : Nest) (n : ℕ) (p : Point S)
+    → Come tables access (members_of nest) (firsts nest 0) n (suc n ^ loops_in nest)
+    (ran_from tables access (members_of nest) 0 p)
+    (units_told (ways_of tables access) n 0 (units_of nest) p)

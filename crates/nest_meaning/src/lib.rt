@@ -1,0 +1,7 @@
+//! Groups as trees.
+#![tactic(auto)]
+
+/// Nothing.
+pub fn nothing() -> u32 {
+    0
+}

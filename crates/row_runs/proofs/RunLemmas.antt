@@ -1,0 +1,78 @@
+-- Rows one after another, and longer runs.
+use Rattle.std.proofs.Common.{◌≡◌, refl, sym, ◌∙◌, ap, arith, ℕ, zero, suc, ◌+◌, ◌≤◌, List, [], ◌∷◌, ◌++◌}
+use Rattle.std.proofs.Common.{length, drop, append_assoc}
+use Rattle.zpl_lists.specs.Front.{IsFrontOf}
+use Rattle.zpl_nums.specs.declared.ends.End.TheVariants.{Done, More}
+use Rattle.row_runs.specs.Run.{Stop, Ends, Result, Step, Goes, Stops, Effect, Does, Leaps, Passes}
+use Rattle.row_runs.specs.Run.{stopped, printed, stepped, went, walked, runs}
+use Rattle.row_runs.specs.Growth.{GoesOnTo, StaysSo, WasCutOff}
+use Rattle.row_runs.specs.Laws.{Grow}
+
+module _ {S Row : Type 0} (act : Row → S → Effect S) where
+  step_ap : (step : Step S) (f g : S → Result) → ((s : S) → f s ≡ g s) → stepped step f ≡ stepped step g
+  step_ap (Goes bytes next) f g same = ap (printed bytes) (same next)
+  step_ap (Stops stop) f g same = refl
+
+  went_ap : (leap : ℕ → S → Result) (at : ℕ) (s : S) (e : Effect S) (f g : S → Result)
+      → ((s : S) → f s ≡ g s) → went leap at s e f ≡ went leap at s e g
+  went_ap leap at s (Does step) f g same = step_ap step f g same
+  went_ap leap at s (Leaps goal) f g same = refl
+  went_ap leap at s Passes f g same = refl
+
+  pub walked_append : (leap : ℕ → S → Result) (rest : S → Result) (at : ℕ) (xs ys : List Row) (s : S)
+      → walked act leap rest at (xs ++ ys) s
+      ≡ walked act leap (λ s. walked act leap rest (at + length xs) ys s) at xs s
+  walked_append leap rest at [] ys s =
+      let e : at ≡ at + 0 = omega arith in ap (λ n. walked act leap rest n ys s) e
+  walked_append leap rest at (x ∷ xs) ys s =
+      went_ap leap at s (act x s) (λ s. walked act leap rest (at + 1) (xs ++ ys) s)
+      (λ s. walked act leap (λ s. walked act leap rest (at + length (x ∷ xs)) ys s) (at + 1) xs s)
+      (λ s. walked_append leap rest (at + 1) xs ys s ∙ behind s)
+    where
+      behind : (s : S)
+          → walked act leap (λ s. walked act leap rest (at + 1 + length xs) ys s) (at + 1) xs s
+          ≡ walked act leap (λ s. walked act leap rest (at + length (x ∷ xs)) ys s) (at + 1) xs s
+      behind s =
+          let e : at + 1 + length xs ≡ at + length (x ∷ xs) = omega arith in
+          ap (λ n. walked act leap (λ s. walked act leap rest n ys s) (at + 1) xs s) e
+
+  -- ---- longer runs
+  grown_printed : (bytes : List ℕ) (a b : Result) → GoesOnTo a b
+      → GoesOnTo (printed bytes a) (printed bytes b)
+  grown_printed bytes a b (StaysSo same) = StaysSo (ap (printed bytes) same)
+  grown_printed bytes a b (WasCutOff more front) =
+      WasCutOff more (record {
+        rest = front.rest;
+        joins = ap (λ (all : List ℕ). bytes ++ all) front.joins
+            ∙ sym (append_assoc bytes a.bytes front.rest);
+      })
+
+  grown_step : (step : Step S) (f g : S → Result) → ((s : S) → GoesOnTo (f s) (g s))
+      → GoesOnTo (stepped step f) (stepped step g)
+  grown_step (Goes bytes next) f g more = grown_printed bytes (f next) (g next) (more next)
+  grown_step (Stops stop) f g more = StaysSo refl
+
+  grown_went : (leap meap : ℕ → S → Result) (at : ℕ) (s : S) (e : Effect S) (f g : S → Result)
+      → ((goal : ℕ) (s : S) → GoesOnTo (leap goal s) (meap goal s))
+      → ((s : S) → GoesOnTo (f s) (g s)) → GoesOnTo (went leap at s e f) (went meap at s e g)
+  grown_went leap meap at s (Does step) f g leaps more = grown_step step f g more
+  grown_went leap meap at s (Leaps goal) f g leaps more = leaps goal s
+  grown_went leap meap at s Passes f g leaps more = leaps (at + 1) s
+
+  grown_walk : (leap meap : ℕ → S → Result)
+      → ((goal : ℕ) (s : S) → GoesOnTo (leap goal s) (meap goal s))
+      → (at : ℕ) (rows : List Row) (s : S)
+      → GoesOnTo (walked act leap (λ _. stopped (Ends Done)) at rows s)
+      (walked act meap (λ _. stopped (Ends Done)) at rows s)
+  grown_walk leap meap leaps at [] s = StaysSo refl
+  grown_walk leap meap leaps at (row ∷ rows) s =
+      grown_went leap meap at s (act row s) (walked act leap (λ _. stopped (Ends Done)) (at + 1) rows)
+      (walked act meap (λ _. stopped (Ends Done)) (at + 1) rows) leaps
+      (grown_walk leap meap leaps (at + 1) rows)
+
+  pub grow : Grow act
+  grow code zero more fewer at s = WasCutOff refl (record { rest = (runs act code more at s).bytes; joins = refl })
+  grow code (suc less) zero fewer at s = absurd (omega (arith, fewer))
+  grow code (suc less) (suc more) fewer at s =
+      grown_walk (runs act code less) (runs act code more)
+      (λ goal s. grow code less more (omega (arith, fewer)) goal s) at (drop at code) s

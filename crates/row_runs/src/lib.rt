@@ -1,0 +1,7 @@
+//! Bounded runs of rows.
+#![tactic(auto)]
+
+/// Nothing.
+pub fn nothing() -> u32 {
+    0
+}
