@@ -67,8 +67,8 @@ folded whole scalar f =
     then Goes [] (record whole { awaited = slice_set whole.awaited scalar None })
     else Stops Wrong
 
--- ---- all rows; n is the most turns that each loop within a group may make
-module _ (tables : Tables) (n : ℕ) where
+-- ---- rows without expressions, group and text
+module _ (tables : Tables) where
   abbrev pub plain_does : Whole → Instr → Effect Whole
   plain_does whole (instr.Room array slot) =
       Does (found (slice_get tables.arrays array) (λ row.
@@ -92,6 +92,8 @@ module _ (tables : Tables) (n : ℕ) where
   plain_does whole (instr.Fold scalar f) = Does (folded whole scalar f)
   plain_does whole row = controlled whole (control_of tables (Plain row) whole)
 
+-- ---- all rows; n is the most turns that each loop within a group may make
+module _ (tables : Tables) (n : ℕ) where
   abbrev pub row_does : Row → Whole → Effect Whole
   row_does (Loop slot group) whole = Does (looped tables n group whole (slice_get whole.slots slot))
   row_does (Print text) whole = Does (Goes text whole)
@@ -100,7 +102,7 @@ module _ (tables : Tables) (n : ℕ) where
   row_does (Truth expr) whole =
       Does (value_printed whole truth_text (value_of (scalar_operands whole.scalars) expr))
   row_does (Unless expr goal line) whole = tested whole (control_of tables (Unless expr goal line) whole)
-  row_does (Plain row) whole = plain_does whole row
+  row_does (Plain row) whole = plain_does tables whole row
   row_does row whole = controlled whole (control_of tables row whole)
 
   -- A row may not name a scalar whose `fold` is still to come.

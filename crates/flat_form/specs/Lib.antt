@@ -5,3 +5,5 @@ pub mod Right
 pub mod Loop
 pub mod Moves
 pub mod Act
+pub mod Flat
+pub mod Laws
