@@ -1,2 +1,5 @@
 mod Examples
 pub mod GrowthLemmas
+pub mod WordLemmas
+pub mod AgreeLemmas
+pub mod NamedLemmas

@@ -7,3 +7,4 @@ pub mod Moves
 pub mod Act
 pub mod Flat
 pub mod Laws
+pub mod Touches
