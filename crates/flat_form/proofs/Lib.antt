@@ -3,3 +3,4 @@ pub mod GrowthLemmas
 pub mod WordLemmas
 pub mod AgreeLemmas
 pub mod NamedLemmas
+pub mod ControlLemmas
