@@ -4,3 +4,4 @@ pub mod WordLemmas
 pub mod AgreeLemmas
 pub mod NamedLemmas
 pub mod ControlLemmas
+pub mod LogLemmas
