@@ -5,3 +5,4 @@ pub mod AgreeLemmas
 pub mod NamedLemmas
 pub mod ControlLemmas
 pub mod LogLemmas
+pub mod LoopLemmas
