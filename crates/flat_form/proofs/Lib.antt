@@ -6,3 +6,4 @@ pub mod NamedLemmas
 pub mod ControlLemmas
 pub mod LogLemmas
 pub mod LoopLemmas
+pub mod TouchLemmas

@@ -50,6 +50,20 @@ moved_in whole array region value =
 abbrev pub reads_in : Tables → Whole → Region → ℕ → Bool
 reads_in tables whole region array = can_read tables whole region (record { array = array; shift = unmoved })
 
+-- the value of a scan at a tuple: in row-major order over all, or along a dimension
+abbrev pub scan_value : ℕ → Fold → Region → (List ℤ → Bool) → (List ℤ → ℤ) → List ℤ → ℤ
+scan_value zero operator region is_kept value t = scanned operator region is_kept value t
+scan_value (suc k) operator region is_kept value t = scanned_along (suc k) operator region is_kept value t
+
+-- a mask that isn't there keeps all
+abbrev pub kept_by : Option Array → List ℤ → Bool
+kept_by (Some mask) t = is_true (element mask t)
+kept_by None t = true
+
+-- the tuple that index arrays hold at a tuple
+abbrev pub wanted_at : List Array → List ℤ → List ℤ
+wanted_at parts t = padded (map (λ part. element part t) parts)
+
 module _ (tables : Tables) (whole : Whole) where
   -- ---- `wrap` and `reflect`: the tuples beside a region, from those in it
   abbrev pub edged : Border → ℕ → Region → List ℤ → Step Whole
@@ -76,18 +90,10 @@ module _ (tables : Tables) (whole : Whole) where
       (found (slice_get whole.stores from) (λ store.
       moved_in whole array target (partly_reduced operator target source (element store))))
 
-  -- ---- `scan`: in row-major order over all, or along a dimension. A mask that isn't there keeps all
-  abbrev pub scan_value : ℕ → Fold → Region → (List ℤ → Bool) → (List ℤ → ℤ) → List ℤ → ℤ
-  scan_value zero operator region is_kept value t = scanned operator region is_kept value t
-  scan_value (suc k) operator region is_kept value t = scanned_along (suc k) operator region is_kept value t
-
+  -- ---- `scan`: over the tuples that a mask keeps
   abbrev pub reads_mask : Region → Option ℕ → Bool
   reads_mask region (Some mask) = reads_in tables whole region mask
   reads_mask region None = true
-
-  abbrev pub kept_by : Option Array → List ℤ → Bool
-  kept_by (Some mask) t = is_true (element mask t)
-  kept_by None t = true
 
   abbrev pub scanned_in : ℕ → Region → Fold → ℕ → ℕ → Option ℕ → Step Whole
   scanned_in array region operator along from mask =
@@ -98,14 +104,12 @@ module _ (tables : Tables) (whole : Whole) where
       (scan_value along operator region (kept_by (option_and_then (λ mask. slice_get whole.stores mask) mask)) (element store))))
 
   -- ---- `remap`: each tuple from the tuple that the index arrays hold there; 0 where that is outside the storage
-  abbrev pub wanted_at : List ℕ → List ℤ → List ℤ
-  wanted_at parts t = padded (map (λ store. element store t) (filter_map (λ part. slice_get whole.stores part) parts))
-
   abbrev pub remapped : ℕ → Region → ℕ → List ℕ → Step Whole
   remapped array region from parts =
       provided (can_write tables whole region array && list_all (reads_in tables whole region) parts)
       (found (slice_get whole.stores from) (λ store.
-      moved_in whole array region (λ t. element store (wanted_at parts t))))
+      moved_in whole array region
+      (λ t. element store (wanted_at (filter_map (λ part. slice_get whole.stores part) parts) t))))
 
   -- ---- `gather`: the array is printed
   abbrev pub gathered : Bool → ℕ → Region → Step Whole
