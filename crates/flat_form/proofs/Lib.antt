@@ -7,3 +7,4 @@ pub mod ControlLemmas
 pub mod LogLemmas
 pub mod LoopLemmas
 pub mod TouchLemmas
+pub mod ChangeLemmas
