@@ -8,3 +8,4 @@ pub mod LogLemmas
 pub mod LoopLemmas
 pub mod TouchLemmas
 pub mod ChangeLemmas
+pub mod ReadLemmas
