@@ -1,0 +1,9 @@
+pub mod GrowthLemmas
+pub mod AlikeLemmas
+pub mod UnitLemmas
+pub mod Spelled
+pub mod TreeLemmas
+pub mod TurnLemmas
+pub mod ComeLemmas
+pub mod PartLemmas
+mod Examples

@@ -4,9 +4,10 @@ use Rattle.node_form.specs.declared.members.Member.{Member}
 use Rattle.node_form.specs.declared.tables.Tables.{Tables}
 use Rattle.node_form.specs.Nest.{Nest, members_of}
 use Rattle.node_form.specs.Group.{Access, Point, ran_from, units}
-use Rattle.nest_meaning.specs.Nested.{Ways, Told, Wants, nested, ways_of}
+use Rattle.nest_meaning.specs.Nested.{Ways, Wants, nested, ways_of}
 use Rattle.nest_meaning.specs.Units.{units_of, units_told, told_of}
 use Rattle.nest_meaning.specs.Alike.{AreTold, AreNests, IsNestSame}
+use Rattle.nest_meaning.specs.Tree.{nest_of}
 use Rattle.nest_meaning.specs.Turns.{Come, firsts, loops_in}
 
 -- with more turns a loop that wanted more may come to something else, and all else stays
@@ -45,3 +46,15 @@ ComeToTheSame S =
     → Come tables access (members_of nest) (firsts nest 0) n (suc n ^ loops_in nest)
     (ran_from tables access (members_of nest) 0 p)
     (units_told (ways_of tables access) n 0 (units_of nest) p)
+
+-- A tree is read again from the members that it is spelled as, and what is read spells them.
+abbrev pub ReadsAgain : Type 0
+ReadsAgain = (nest : Nest) → nest_of (members_of nest) ≡ Some nest
+
+abbrev pub ReadsOnly : Type 0
+ReadsOnly =
+    (members : List Member) (nest : Nest) → nest_of members ≡ Some nest → members_of nest ≡ members
+
+-- the units of a tree are spelled as the units of its members
+abbrev pub UnitsAreSpelled : Type 0
+UnitsAreSpelled = (nest : Nest) → units (members_of nest) ≡ map members_of (units_of nest)

@@ -1,7 +1,7 @@
 -- What a tree of members does at one index, up to n turns of each loop that is entered, over any
 -- states.
-use Rattle.std.specs.Prelude.{ℕ, zero, suc, ◌+◌, if◌then◌else◌, Bool, true, false, ℤ}
-use Rattle.std.specs.Prelude.{Option, Some, None, List, [], ◌∷◌, slice_get, slice_set}
+use Rattle.std.specs.Prelude.{ℕ, zero, suc, if◌then◌else◌, ℤ}
+use Rattle.std.specs.Prelude.{Option, Some, None, slice_get, slice_set}
 use Rattle.std.specs.Option.{option_map}
 use Rattle.zpl_nums.specs.declared.folds.Fold.{Fold}
 use Rattle.zpl_nums.specs.Integer.{is_true}

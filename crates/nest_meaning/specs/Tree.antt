@@ -70,4 +70,5 @@ whole_tree tree (closing ∷ closings) = None
 
 -- the tree that members are spelled from, if there is one
 abbrev pub nest_of : List Member → Option Nest
-nest_of members = option_and_then (λ read. whole_tree read.tree read.closings) (members_read members)
+nest_of members =
+    option_and_then (λ read. whole_tree read.tree read.closings) (members_read members)

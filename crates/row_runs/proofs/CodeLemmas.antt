@@ -1,16 +1,23 @@
 -- Laid-out code does what the structured code does.
-use Rattle.std.proofs.Common.{◌≡◌, ℕ, zero, suc, ◌+◌, Bool, true, false, List, [], ◌∷◌, ◌++◌, length, map}
-use Rattle.std.proofs.Common.{drop, refl, sym, ap, ◌∙◌, subst, arith, append_assoc, append-nil, length-append}
+use Rattle.std.proofs.Common.{◌≡◌, ℕ, zero, suc, ◌+◌, true, false, List, [], ◌∷◌, ◌++◌, length, map}
+use Rattle.std.proofs.Common.{drop, refl, sym, ap, ◌∙◌, subst, arith, append_assoc, append-nil}
+use Rattle.std.proofs.Common.{length-append}
 use Rattle.zpl_nums.specs.declared.ends.End.TheVariants.{Done}
-use Rattle.row_runs.specs.Run.{Ends, Result, Step, Goes, Stops, Effect, stopped, printed, stepped, went}
+use Rattle.row_runs.specs.Run.{Ends, Result, Step, Goes, Stops, stopped, printed, stepped, went}
 use Rattle.row_runs.specs.Run.{walked, runs}
-use Rattle.row_runs.specs.Code.{CodeRow, Straight, Jump, Unless, Decision, Says, Fails, code_act, decided}
-use Rattle.row_runs.specs.Structured.{Piece, Rows, Then, When, Choose, While, Repeat, Close, GoesOn, Over}
-use Rattle.row_runs.specs.Structured.{Wants, Course, goes_on, wants_more, and_then, jumping, behind, then_at}
-use Rattle.row_runs.specs.Structured.{then_do, by_step, choose, rows_do, tested, while_turns, repeat_turns}
-use Rattle.row_runs.specs.Structured.{doing, size, flattened, left_before, shown, shown_by, StandsAt}
+use Rattle.row_runs.specs.Code.{CodeRow, Straight, Jump, Unless, Decision, Says, Fails, code_act}
+use Rattle.row_runs.specs.Code.{decided}
+use Rattle.row_runs.specs.Structured.{Piece, Rows, Then, When, Choose, While, Repeat, Close, GoesOn}
+use Rattle.row_runs.specs.Structured.{Over}
+use Rattle.row_runs.specs.Structured.{Wants, Course, goes_on, wants_more, and_then, jumping}
+use Rattle.row_runs.specs.Structured.{then_at}
+use Rattle.row_runs.specs.Structured.{then_do, by_step, choose, rows_do, tested, while_turns}
+use Rattle.row_runs.specs.Structured.{repeat_turns}
+use Rattle.row_runs.specs.Structured.{doing, size, flattened, left_before, shown, shown_by}
+use Rattle.row_runs.specs.Structured.{StandsAt}
 use Rattle.row_runs.specs.Laws.{Follow, FollowWhole}
-use Rattle.row_runs.proofs.PlaceLemmas.{has_front, past, has_back, has_next, straight_length, flat_length}
+use Rattle.row_runs.proofs.PlaceLemmas.{has_front, past, has_back, has_next, straight_length}
+use Rattle.row_runs.proofs.PlaceLemmas.{flat_length}
 
 -- ---- jumps
 
@@ -106,7 +113,8 @@ module _ {R T S : Type 0} (step : R → S → Step S) (decide : T → S → Deci
   then_follows k to end state Wants after bytes jumps next h f = record { by = h.by }
 
   -- ---- straight rows
-  step_follows : (k end : ℕ) (state : S) (rest : List (CodeRow R T)) (does : Step S) (next : S → Course S)
+  step_follows : (k end : ℕ) (state : S) (rest : List (CodeRow R T)) (does : Step S)
+      (next : S → Course S)
       → ((left : ℕ) (s : S)
       → walk_on (left_before (next s).close (next s).jumps left) (k + 1) rest s
       ≡ shown_by (next s) (λ t. go left end t))
@@ -129,14 +137,16 @@ module _ {R T S : Type 0} (step : R → S → Step S) (decide : T → S → Deci
       let same : k ≡ end = omega (arith, e) in
       ap (λ n. walk_on left n rest state) same ∙ ap (λ r. walk_on left end r state) (sym at)
   rows_walk (row ∷ rows) k end rest state at e left =
-      step_follows k end state (map Straight rows ++ rest) (step row state) (rows_do step decide rows)
+      step_follows k end state (map Straight rows ++ rest) (step row state)
+      (rows_do step decide rows)
       (λ b s. rows_walk rows (k + 1) end rest s at (omega (arith, e)) b) left
 
   rows_follow : (rows : List R) (k end : ℕ) (state : S) → StandsAt code k (map Straight rows)
       → k + length rows ≡ end → Follows k end state (rows_do step decide rows state)
   rows_follow rows k end state h e =
       let at : drop end code ≡ h.rest =
-        past code k end (map Straight rows) h.rest (ap (λ n. k + n) (straight_length T rows) ∙ e) h.here in
+      past code k end (map Straight rows) h.rest
+      (ap (λ n. k + n) (straight_length T rows) ∙ e) h.here in
       let course = rows_do step decide rows state in
       record {
         by = λ left.
@@ -146,14 +156,16 @@ module _ {R T S : Type 0} (step : R → S → Step S) (decide : T → S → Deci
 
   -- ---- jumps
   jump_follows : (k goal end : ℕ) (rest : List (CodeRow R T)) (state : S) (course : Course S)
-      → StandsAt code k (Jump goal ∷ rest) → Leads goal end state course → Follows k end state course
+      → StandsAt code k (Jump goal ∷ rest) → Leads goal end state course
+      → Follows k end state course
   jump_follows k goal end rest state course h l = record {
     by = λ left.
         ap (λ r. walk_on (left_before course.close course.jumps left) k r state) h.here ∙ l.by left;
   }
 
   -- a test, from which two ways lead to the end
-  unless_follows : (k goal end : ℕ) (test : T) (rest : List (CodeRow R T)) (state : S) (one other : S → Course S)
+  unless_follows : (k goal end : ℕ) (test : T) (rest : List (CodeRow R T)) (state : S)
+      (one other : S → Course S)
       → StandsAt code k (Unless test goal ∷ rest)
       → Leads (k + 1) end state (one state) → Leads goal end state (other state)
       → Follows k end state (choose (decide test state) one other state)
@@ -175,23 +187,27 @@ module _ {R T S : Type 0} (step : R → S → Step S) (decide : T → S → Deci
       by_test (Fails stop) left last = refl
 
   -- rows and then a test
-  tested_follows : (head : List R) (k goal end : ℕ) (test : T) (state : S) (rest : List (CodeRow R T))
+  tested_follows : (head : List R) (k goal end : ℕ) (test : T) (state : S)
+      (rest : List (CodeRow R T))
       (one other : S → Course S) → StandsAt code k (map Straight head ++ Unless test goal ∷ rest)
-      → ((s : S) → Leads (k + length head + 1) end s (one s)) → ((s : S) → Leads goal end s (other s))
+      → ((s : S) → Leads (k + length head + 1) end s (one s))
+      → ((s : S) → Leads goal end s (other s))
       → Follows k end state (tested step decide head test one other state)
   tested_follows head k goal end test state rest one other h l m =
       let does : List (CodeRow R T) = map Straight head in
       let course = rows_do step decide head state in
       let at = has_back code k (k + length head) does (Unless test goal ∷ rest)
-        (ap (λ n. k + n) (straight_length T head)) h in
+      (ap (λ n. k + n) (straight_length T head)) h in
       then_follows k (k + length head) end state course.close course.state course.bytes course.jumps
       (λ after. choose (decide test after) one other after)
-      (rows_follow head k (k + length head) state (has_front code k does (Unless test goal ∷ rest) h) refl)
+      (rows_follow head k (k + length head) state
+      (has_front code k does (Unless test goal ∷ rest) h) refl)
       (λ s. unless_follows (k + length head) goal end test rest s one other at (l s) (m s))
 
   while_follows : (n k end : ℕ) (head : List R) (test : T) (body : S → Course S) (inner back : ℕ)
       → k + length head + 1 ≡ inner → back + 1 ≡ end
-      → StandsAt code k (map Straight head ++ Unless test end ∷ []) → StandsAt code back (Jump k ∷ [])
+      → StandsAt code k (map Straight head ++ Unless test end ∷ [])
+      → StandsAt code back (Jump k ∷ [])
       → ((s : S) → Follows inner back s (body s))
       → (state : S) → Follows k end state (while_turns step decide n head test body state)
   while_follows zero k end head test body inner back i e h j f state =
@@ -212,12 +228,14 @@ module _ {R T S : Type 0} (step : R → S → Step S) (decide : T → S → Deci
           → Follows inner end s (then_do (body s) (again n))
       turn more s =
           let course = body s in
-          then_follows inner back end s course.close course.state course.bytes course.jumps (again n) (f s)
+          then_follows inner back end s course.close course.state course.bytes course.jumps
+          (again n) (f s)
           (λ t. jump_follows back k end [] t (again n t) j
           (leads_jumping k end t (while_turns step decide n head test body t) (more t)))
 
   repeat_leads : (n start mid end : ℕ) (body : S → Course S) (head : List R) (test : T)
-      → mid + length head + 1 ≡ end → StandsAt code mid (map Straight head ++ Unless test start ∷ [])
+      → mid + length head + 1 ≡ end
+      → StandsAt code mid (map Straight head ++ Unless test start ∷ [])
       → ((s : S) → Follows start mid s (body s))
       → (state : S) → Leads start end state (repeat_turns step decide n body head test state)
   repeat_leads zero start mid end body head test e h f state = leads_wants start end state
@@ -226,8 +244,10 @@ module _ {R T S : Type 0} (step : R → S → Step S) (decide : T → S → Deci
       let last : S → Course S = λ after. jumping (goes_on after) in
       let next = tested step decide head test last (repeat_turns step decide n body head test) in
       leads_jumping start end state (then_do course next)
-      (then_follows start mid end state course.close course.state course.bytes course.jumps next (f state)
-      (λ s. tested_follows head mid start end test s [] last (repeat_turns step decide n body head test) h
+      (then_follows start mid end state course.close course.state course.bytes course.jumps next
+      (f state)
+      (λ s. tested_follows head mid start end test s [] last
+      (repeat_turns step decide n body head test) h
       (λ t. subst (λ m. Leads m end t (last t)) (sym e) (leads_out end t))
       (λ t. repeat_leads n start mid end body head test e h f t)))
 
@@ -268,7 +288,7 @@ module _ {R T S : Type 0} (step : R → S → Step S) (decide : T → S → Deci
       let middle = k + 1 + size one in
       let h1 = has_next code k (k + 1) (Unless test goal) (xs ++ Jump over ∷ ys) refl h in
       let h2 = has_back code (k + 1) middle xs (Jump over ∷ ys)
-        (ap (λ m. k + 1 + m) (flat_length (k + 1) one)) h1 in
+      (ap (λ m. k + 1 + m) (flat_length (k + 1) one)) h1 in
       let past_jump : middle + 1 ≡ goal = omega arith in
       let h3 = has_next code middle goal (Jump over) ys past_jump h2 in
       let e : goal + size other ≡ end = omega arith in
@@ -297,12 +317,14 @@ module _ {R T S : Type 0} (step : R → S → Step S) (decide : T → S → Deci
       let front = does ++ Unless test end ∷ [] in
       let behind = xs ++ Jump k ∷ [] in
       let h0 = subst (λ m. StandsAt code k (does ++ Unless test m ∷ behind)) g h in
-      let h1 = subst (λ m. StandsAt code k m) (sym (append_assoc does (Unless test end ∷ []) behind)) h0 in
+      let h1 = subst (λ m. StandsAt code k m)
+      (sym (append_assoc does (Unless test end ∷ []) behind)) h0 in
       let h2 = has_front code k front behind h1 in
       let l : k + length front ≡ inner =
-        omega (arith, length-append does (Unless test end ∷ []), straight_length T head) in
+      omega (arith, length-append does (Unless test end ∷ []), straight_length T head) in
       let h3 = has_back code k inner front behind l h1 in
-      let h4 = has_back code inner back xs (Jump k ∷ []) (ap (λ m. inner + m) (flat_length inner body)) h3 in
+      let h4 = has_back code inner back xs (Jump k ∷ [])
+      (ap (λ m. inner + m) (flat_length inner body)) h3 in
       let e : back + 1 ≡ end = omega arith in
       while_follows n k end head test (doing step decide n body) inner back refl e h2 h4
       (follows n body inner (has_front code inner xs (Jump k ∷ []) h3)) state
@@ -313,7 +335,8 @@ module _ {R T S : Type 0} (step : R → S → Step S) (decide : T → S → Deci
       let mid = k + 1 + size body in
       let tail = does ++ Unless test (k + 1) ∷ [] in
       let h1 = has_next code k (k + 1) (Jump (k + 1)) (xs ++ tail) refl h in
-      let h2 = has_back code (k + 1) mid xs tail (ap (λ m. k + 1 + m) (flat_length (k + 1) body)) h1 in
+      let h2 = has_back code (k + 1) mid xs tail
+      (ap (λ m. k + 1 + m) (flat_length (k + 1) body)) h1 in
       let e : mid + length head + 1 ≡ end = omega arith in
       jump_follows k (k + 1) end (xs ++ tail) state
       (repeat_turns step decide n (doing step decide n body) head test state) h
@@ -322,19 +345,23 @@ module _ {R T S : Type 0} (step : R → S → Step S) (decide : T → S → Deci
 
 module _ {R T S : Type 0} (step : R → S → Step S) (decide : T → S → Decision) where
   pub follow : Follow step decide
-  follow code n piece at stands state left = (follows step decide code n piece at stands state).by left
+  follow code n piece at stands state left =
+      (follows step decide code n piece at stands state).by left
 
   -- a whole program
   pub follow_whole : FollowWhole step decide
   follow_whole n piece state left =
       let code = flattened 0 piece in
       let course = doing step decide n piece state in
-      let h = follows step decide code n piece 0 (record { rest = []; here = sym (append-nil code) }) state in
+      let h = follows step decide code n piece 0
+      (record { rest = []; here = sym (append-nil code) }) state in
       let none : drop (0 + size piece) code ≡ [] =
-        past code 0 (0 + size piece) code [] (ap (λ m. 0 + m) (flat_length 0 piece)) (sym (append-nil code)) in
+      past code 0 (0 + size piece) code [] (ap (λ m. 0 + m) (flat_length 0 piece))
+      (sym (append-nil code)) in
       h.by left ∙ at_end code (0 + size piece) none course.close course.bytes course.state
     where
-      at_end : (code : List (CodeRow R T)) (end : ℕ) → drop end code ≡ [] → (close : Close) (bytes : List ℕ)
+      at_end : (code : List (CodeRow R T)) (end : ℕ) → drop end code ≡ []
+          → (close : Close) (bytes : List ℕ)
           (after : S)
           → shown close bytes after (λ t. runs (code_act step decide) code (suc left) end t)
           ≡ shown close bytes after (λ t. stopped (Ends Done))

@@ -1,9 +1,11 @@
 -- Where rows stand in code.
-use Rattle.std.proofs.Common.{◌≡◌, ℕ, zero, suc, ◌+◌, List, [], ◌∷◌, ◌++◌, length, map, drop, sym, ap, ◌∙◌}
+use Rattle.std.proofs.Common.{◌≡◌, ℕ, zero, suc, ◌+◌, List, [], ◌∷◌, ◌++◌, length, map, drop, sym}
+use Rattle.std.proofs.Common.{ap, ◌∙◌}
 use Rattle.std.proofs.Common.{refl, subst, arith, append_assoc, length-append}
 use Rattle.std.proofs.Math.Seq.{drop-append_seam}
 use Rattle.row_runs.specs.Code.{CodeRow, Straight, Jump, Unless}
-use Rattle.row_runs.specs.Structured.{Piece, Rows, Then, When, Choose, While, Repeat, size, flattened}
+use Rattle.row_runs.specs.Structured.{Piece, Rows, Then, When, Choose, While, Repeat, size}
+use Rattle.row_runs.specs.Structured.{flattened}
 use Rattle.row_runs.specs.Structured.{StandsAt}
 
 drop_drop : {A : Type 0} (i k : ℕ) (xs : List A) → drop i (drop k xs) ≡ drop (k + i) xs
@@ -41,7 +43,8 @@ straight_length T [] = refl
 straight_length T (row ∷ rows) = ap suc (straight_length T rows)
 
 -- a piece takes as many rows as its size
-pub flat_length : {R T : Type 0} (k : ℕ) (piece : Piece R T) → length (flattened k piece) ≡ size piece
+pub flat_length : {R T : Type 0} (k : ℕ) (piece : Piece R T)
+    → length (flattened k piece) ≡ size piece
 flat_length {R} {T} k (Rows rows) = straight_length T rows
 flat_length {R} {T} k (Then first rest) =
     length-append (flattened k first) (flattened (k + size first) rest)

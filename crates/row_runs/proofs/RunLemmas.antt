@@ -1,15 +1,17 @@
 -- Rows one after another, and longer runs.
-use Rattle.std.proofs.Common.{◌≡◌, refl, sym, ◌∙◌, ap, arith, ℕ, zero, suc, ◌+◌, ◌≤◌, List, [], ◌∷◌, ◌++◌}
+use Rattle.std.proofs.Common.{◌≡◌, refl, sym, ◌∙◌, ap, arith, ℕ, zero, suc, ◌+◌, List, [], ◌∷◌}
+use Rattle.std.proofs.Common.{◌++◌}
 use Rattle.std.proofs.Common.{length, drop, append_assoc}
-use Rattle.zpl_lists.specs.Front.{IsFrontOf}
-use Rattle.zpl_nums.specs.declared.ends.End.TheVariants.{Done, More}
-use Rattle.row_runs.specs.Run.{Stop, Ends, Result, Step, Goes, Stops, Effect, Does, Leaps, Passes}
+use Rattle.zpl_nums.specs.declared.ends.End.TheVariants.{Done}
+use Rattle.row_runs.specs.Run.{Ends, Result, Step, Goes, Stops, Effect, Does, Leaps, Passes}
 use Rattle.row_runs.specs.Run.{stopped, printed, stepped, went, walked, runs}
-use Rattle.row_runs.specs.Growth.{GoesOnTo, StaysSo, WasCutOff}
+use Rattle.row_runs.specs.Growth.{GoesOnTo, StaysSo, WasCutOff, IsFurther, SameEffect}
+use Rattle.row_runs.specs.Growth.{WantedMore, AreFurther}
 use Rattle.row_runs.specs.Laws.{Grow}
 
 module _ {S Row : Type 0} (act : Row → S → Effect S) where
-  step_ap : (step : Step S) (f g : S → Result) → ((s : S) → f s ≡ g s) → stepped step f ≡ stepped step g
+  step_ap : (step : Step S) (f g : S → Result) → ((s : S) → f s ≡ g s)
+      → stepped step f ≡ stepped step g
   step_ap (Goes bytes next) f g same = ap (printed bytes) (same next)
   step_ap (Stops stop) f g same = refl
 
@@ -19,7 +21,8 @@ module _ {S Row : Type 0} (act : Row → S → Effect S) where
   went_ap leap at s (Leaps goal) f g same = refl
   went_ap leap at s Passes f g same = refl
 
-  pub walked_append : (leap : ℕ → S → Result) (rest : S → Result) (at : ℕ) (xs ys : List Row) (s : S)
+  pub walked_append : (leap : ℕ → S → Result) (rest : S → Result) (at : ℕ) (xs ys : List Row)
+      (s : S)
       → walked act leap rest at (xs ++ ys) s
       ≡ walked act leap (λ s. walked act leap rest (at + length xs) ys s) at xs s
   walked_append leap rest at [] ys s =
@@ -52,27 +55,41 @@ module _ {S Row : Type 0} (act : Row → S → Effect S) where
   grown_step (Goes bytes next) f g more = grown_printed bytes (f next) (g next) (more next)
   grown_step (Stops stop) f g more = StaysSo refl
 
-  grown_went : (leap meap : ℕ → S → Result) (at : ℕ) (s : S) (e : Effect S) (f g : S → Result)
-      → ((goal : ℕ) (s : S) → GoesOnTo (leap goal s) (meap goal s))
-      → ((s : S) → GoesOnTo (f s) (g s)) → GoesOnTo (went leap at s e f) (went meap at s e g)
-  grown_went leap meap at s (Does step) f g leaps more = grown_step step f g more
-  grown_went leap meap at s (Leaps goal) f g leaps more = leaps goal s
-  grown_went leap meap at s Passes f g leaps more = leaps (at + 1) s
+  module _ (bct : Row → S → Effect S) (further : AreFurther act bct) where
+    grown_went : (leap meap : ℕ → S → Result) (at : ℕ) (s : S) (e f : Effect S)
+        (rest sest : S → Result)
+        → ((goal : ℕ) (s : S) → GoesOnTo (leap goal s) (meap goal s))
+        → ((s : S) → GoesOnTo (rest s) (sest s)) → IsFurther e f
+        → GoesOnTo (went leap at s e rest) (went meap at s f sest)
+    grown_went leap meap at s e f rest sest leaps more (SameEffect {effect = effect}) = by effect
+      where
+        by : (effect : Effect S)
+            → GoesOnTo (went leap at s effect rest) (went meap at s effect sest)
+        by (Does step) = grown_step step rest sest more
+        by (Leaps goal) = leaps goal s
+        by Passes = leaps (at + 1) s
+    grown_went leap meap at s e f rest sest leaps more (WantedMore {effect = effect}) =
+        WasCutOff refl (record { rest = (went meap at s effect sest).bytes; joins = refl })
 
-  grown_walk : (leap meap : ℕ → S → Result)
-      → ((goal : ℕ) (s : S) → GoesOnTo (leap goal s) (meap goal s))
-      → (at : ℕ) (rows : List Row) (s : S)
-      → GoesOnTo (walked act leap (λ _. stopped (Ends Done)) at rows s)
-      (walked act meap (λ _. stopped (Ends Done)) at rows s)
-  grown_walk leap meap leaps at [] s = StaysSo refl
-  grown_walk leap meap leaps at (row ∷ rows) s =
-      grown_went leap meap at s (act row s) (walked act leap (λ _. stopped (Ends Done)) (at + 1) rows)
-      (walked act meap (λ _. stopped (Ends Done)) (at + 1) rows) leaps
-      (grown_walk leap meap leaps (at + 1) rows)
+    grown_walk : (leap meap : ℕ → S → Result)
+        → ((goal : ℕ) (s : S) → GoesOnTo (leap goal s) (meap goal s))
+        → (at : ℕ) (rows : List Row) (s : S)
+        → GoesOnTo (walked act leap (λ _. stopped (Ends Done)) at rows s)
+        (walked bct meap (λ _. stopped (Ends Done)) at rows s)
+    grown_walk leap meap leaps at [] s = StaysSo refl
+    grown_walk leap meap leaps at (row ∷ rows) s =
+        grown_went leap meap at s (act row s) (bct row s)
+        (walked act leap (λ _. stopped (Ends Done)) (at + 1) rows)
+        (walked bct meap (λ _. stopped (Ends Done)) (at + 1) rows) leaps
+        (grown_walk leap meap leaps (at + 1) rows) (further.further row s)
 
-  pub grow : Grow act
-  grow code zero more fewer at s = WasCutOff refl (record { rest = (runs act code more at s).bytes; joins = refl })
-  grow code (suc less) zero fewer at s = absurd (omega (arith, fewer))
-  grow code (suc less) (suc more) fewer at s =
-      grown_walk (runs act code less) (runs act code more)
-      (λ goal s. grow code less more (omega (arith, fewer)) goal s) at (drop at code) s
+    pub grow : Grow act bct
+    grow code zero more fewer at s =
+        WasCutOff refl (record { rest = (runs bct code more at s).bytes; joins = refl })
+    grow code (suc less) zero fewer at s = absurd (omega (arith, fewer))
+    grow code (suc less) (suc more) fewer at s =
+        grown_walk (runs act code less) (runs bct code more)
+        (λ goal s. grow code less more (omega (arith, fewer)) goal s) at (drop at code) s
+
+  pub grow_alone : Grow act act
+  grow_alone = grow act (record { further = λ row s. SameEffect })

@@ -1,9 +1,11 @@
 -- A program rewritten segment by segment runs alike.
-use Rattle.std.proofs.Common.{◌≡◌, refl, sym, ◌∙◌, ap, subst, arith, ℕ, zero, suc, ◌+◌, List, [], ◌∷◌}
+use Rattle.std.proofs.Common.{◌≡◌, refl, sym, ◌∙◌, ap, subst, arith, ℕ, zero, suc, ◌+◌, List, []}
+use Rattle.std.proofs.Common.{◌∷◌}
 use Rattle.std.proofs.Common.{◌++◌, length, drop}
 use Rattle.zpl_nums.specs.declared.ends.End.TheVariants.{Done}
 use Rattle.row_runs.specs.Run.{Ends, Result, Effect, stopped, walked, runs}
-use Rattle.row_runs.specs.Segments.{Keeps, Same, Segment, olds, news, IsStart, Here, Behind, AllAlike}
+use Rattle.row_runs.specs.Segments.{Keeps, Same, Segment, olds, news, IsStart, Here, Behind}
+use Rattle.row_runs.specs.Segments.{AllAlike}
 use Rattle.row_runs.specs.Laws.{KeepRuns}
 use Rattle.row_runs.proofs.RunLemmas.{walked_append}
 
@@ -15,14 +17,16 @@ drop_over (x ∷ xs) ys g =
 
 module _ {S T Old New : Type 0} (act : Old → S → Effect S) (bct : New → T → Effect T)
     (IsLike : S → T → Type 0) where
-  record Found (IsGoal : ℕ → ℕ → Type 0) (segments : List (Segment Old New)) (g h : ℕ) : Type 0 where
+  record Found (IsGoal : ℕ → ℕ → Type 0) (segments : List (Segment Old New))
+      (g h : ℕ) : Type 0 where
     rest : List (Segment Old New)
     old : drop g (olds segments) ≡ olds rest
     new : drop h (news segments) ≡ news rest
     alike : (at bt : ℕ) → AllAlike act bct IsLike IsGoal segments at bt
         → AllAlike act bct IsLike IsGoal rest (at + g) (bt + h)
 
-  found : (IsGoal : ℕ → ℕ → Type 0) (segments : List (Segment Old New)) (g h : ℕ) → IsStart segments g h
+  found : (IsGoal : ℕ → ℕ → Type 0) (segments : List (Segment Old New)) (g h : ℕ)
+      → IsStart segments g h
       → Found IsGoal segments g h
   found IsGoal segments g h (Here {segments = rest}) = record {
     rest = segments;
@@ -55,20 +59,25 @@ module _ {S T Old New : Type 0} (act : Old → S → Effect S) (bct : New → T 
 
   walk_all : (IsGoal : ℕ → ℕ → Type 0) (leap : ℕ → S → Result) (meap : ℕ → T → Result)
       → ((g h : ℕ) (s : S) (t : T) → IsGoal g h → IsLike s t → Keeps (leap g s) (meap h t))
-      → (segments : List (Segment Old New)) (at bt : ℕ) → AllAlike act bct IsLike IsGoal segments at bt
+      → (segments : List (Segment Old New)) (at bt : ℕ)
+      → AllAlike act bct IsLike IsGoal segments at bt
       → (s : S) (t : T) → IsLike s t
-      → Keeps (walked act leap old_end at (olds segments) s) (walked bct meap new_end bt (news segments) t)
+      → Keeps (walked act leap old_end at (olds segments) s)
+      (walked bct meap new_end bt (news segments) t)
   walk_all IsGoal leap meap leaps [] at bt all s t like = Same refl
   walk_all IsGoal leap meap leaps (first ∷ others) at bt all s t like =
-      let old_rest : S → Result = λ s. walked act leap old_end (at + length first.old) (olds others) s in
-      let new_rest : T → Result = λ t. walked bct meap new_end (bt + length first.new) (news others) t in
+      let old_rest : S → Result =
+      λ s. walked act leap old_end (at + length first.old) (olds others) s in
+      let new_rest : T → Result =
+      λ t. walked bct meap new_end (bt + length first.new) (news others) t in
       subst (λ r. Keeps r (walked bct meap new_end bt (news (first ∷ others)) t))
       (sym (walked_append act leap old_end at first.old (olds others) s))
       (subst (λ r. Keeps (walked act leap old_rest at first.old s) r)
       (sym (walked_append bct meap new_end bt first.new (news others) t))
       (all.0.alike leap meap old_rest new_rest s t leaps
       (λ s t like.
-      walk_all IsGoal leap meap leaps others (at + length first.old) (bt + length first.new) all.1 s t like)
+      walk_all IsGoal leap meap leaps others (at + length first.old)
+      (bt + length first.new) all.1 s t like)
       like))
 
   -- from each start, and for each number of leaps and tests
@@ -80,9 +89,11 @@ module _ {S T Old New : Type 0} (act : Old → S → Effect S) (bct : New → T 
       let meap = runs bct (news segments) more in
       let e : 0 + g ≡ g = omega arith in
       let f : 0 + h ≡ h = omega arith in
-      subst (λ rows. Keeps (walked act leap old_end g rows s) (runs bct (news segments) (suc more) h t))
+      subst (λ rows. Keeps (walked act leap old_end g rows s)
+      (runs bct (news segments) (suc more) h t))
       (sym there.old)
-      (subst (λ rows. Keeps (walked act leap old_end g (olds there.rest) s) (walked bct meap new_end h rows t))
+      (subst (λ rows. Keeps (walked act leap old_end g (olds there.rest) s)
+      (walked bct meap new_end h rows t))
       (sym there.new)
       (walk_all (IsStart segments) leap meap
       (λ g h s t goal like. keeps_runs segments all more g h s t goal like) there.rest g h

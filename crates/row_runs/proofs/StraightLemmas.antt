@@ -1,14 +1,15 @@
 -- Straight rows: what a rewriting of them owes.
-use Rattle.std.proofs.Common.{◌≡◌, refl, sym, ◌∙◌, ap, subst, ℕ, zero, suc, ◌+◌, List, [], ◌∷◌, ◌++◌}
+use Rattle.std.proofs.Common.{◌≡◌, refl, sym, ◌∙◌, ap, subst, ℕ, ◌+◌, List, [], ◌∷◌, ◌++◌}
 use Rattle.std.proofs.Common.{length, append_assoc}
-use Rattle.row_runs.specs.Run.{Stop, Wrong, Result, Step, Goes, Stops, Effect, Does, Leaps, Passes}
-use Rattle.row_runs.specs.Run.{stopped, printed, stepped, went, walked}
-use Rattle.row_runs.specs.Straight.{Every, Flow, OnTo, Halts, flow_behind, flow_then, flow_of, flow_step}
+use Rattle.row_runs.specs.Run.{Result, Step, Goes, Stops, Effect, Does, Leaps, Passes}
+use Rattle.row_runs.specs.Run.{printed, stepped, went, walked}
+use Rattle.row_runs.specs.Straight.{Every, Flow, OnTo, Halts, flow_behind, flow_then, flow_of}
+use Rattle.row_runs.specs.Straight.{flow_step}
 use Rattle.row_runs.specs.Straight.{through, flowed, IsStep, Stepping, IsStraight, Tied, TiedWrong}
 use Rattle.row_runs.specs.Straight.{TiedOn, TiedHalt, rewritten, IsRewriting}
 use Rattle.row_runs.specs.Segments.{Keeps, WasWrong, Same, Segment, AreAlike}
 use Rattle.row_runs.specs.Cut.{LastAlike, BothLeap, BothPass, BothStop, LastWrong}
-use Rattle.row_runs.specs.Laws.{FlowOn, RewrittenAreTied}
+use Rattle.row_runs.specs.Laws.{FlowOn}
 use Rattle.row_runs.proofs.RunLemmas.{walked_append}
 
 pub keeps_printed : (bytes : List ℕ) (old new : Result) → Keeps old new
@@ -20,7 +21,8 @@ module _ {S Row : Type 0} (act : Row → S → Effect S) where
   flowed_behind : (bytes : List ℕ) (flow : Flow S) (rest : S → Result)
       → flowed (flow_behind bytes flow) rest ≡ printed bytes (flowed flow rest)
   flowed_behind bytes (OnTo more state) rest =
-      ap (λ b. record { bytes = b; stop = (rest state).stop }) (append_assoc bytes more (rest state).bytes)
+      ap (λ b. record { bytes = b; stop = (rest state).stop })
+      (append_assoc bytes more (rest state).bytes)
   flowed_behind bytes (Halts more stop) rest = refl
 
   pub walked_straight : FlowOn act
@@ -29,7 +31,8 @@ module _ {S Row : Type 0} (act : Row → S → Effect S) where
       by (act row s) (all.0.straight s) (λ next. walked_straight leap rest (at + 1) rows next all.1)
     where
       step_by : (step : Step S)
-          → ((next : S) → walked act leap rest (at + 1) rows next ≡ flowed (through act rows next) rest)
+          → ((next : S) → walked act leap rest (at + 1) rows next
+          ≡ flowed (through act rows next) rest)
           → stepped step (walked act leap rest (at + 1) rows)
           ≡ flowed (flow_of step (through act rows)) rest
       step_by (Goes bytes next) more =
@@ -37,7 +40,8 @@ module _ {S Row : Type 0} (act : Row → S → Effect S) where
       step_by (Stops stop) more = refl
 
       by : (e : Effect S) → IsStep e
-          → ((next : S) → walked act leap rest (at + 1) rows next ≡ flowed (through act rows next) rest)
+          → ((next : S) → walked act leap rest (at + 1) rows next
+          ≡ flowed (through act rows next) rest)
           → went leap at s e (walked act leap rest (at + 1) rows)
           ≡ flowed (flow_step e (through act rows)) rest
       by e (Stepping {step = step}) more = step_by step more
@@ -66,7 +70,8 @@ module _ {S Row : Type 0} (act : Row → S → Effect S) where
           → flow_of step (through act (xs ++ ys))
           ≡ flow_then (flow_of step (through act xs)) (through act ys)
       step_by (Goes bytes next) more =
-          ap (flow_behind bytes) (more next) ∙ sym (then_more bytes (through act xs next) (through act ys))
+          ap (flow_behind bytes) (more next)
+          ∙ sym (then_more bytes (through act xs next) (through act ys))
       step_by (Stops stop) more = refl
 
       by : (e : Effect S)
@@ -78,7 +83,8 @@ module _ {S Row : Type 0} (act : Row → S → Effect S) where
       by Passes more = refl
 
 module _ {S T : Type 0} where
-  pub tied_keeps : (IsLike : S → T → Type 0) (f : Flow S) (g : Flow T) (rest : S → Result) (sest : T → Result)
+  pub tied_keeps : (IsLike : S → T → Type 0) (f : Flow S) (g : Flow T) (rest : S → Result)
+      (sest : T → Result)
       → Tied IsLike f g → ((s : S) (t : T) → IsLike s t → Keeps (rest s) (sest t))
       → Keeps (flowed f rest) (flowed g sest)
   tied_keeps IsLike f g rest sest TiedWrong rests = WasWrong refl
@@ -97,7 +103,8 @@ module _ {S T : Type 0} where
     pub straight_alike : (IsLike : S → T → Type 0) (IsGoal : ℕ → ℕ → Type 0)
         (segment : Segment Old New) (at bt : ℕ)
         → Every (IsStraight act) segment.old → Every (IsStraight bct) segment.new
-        → ((s : S) (t : T) → IsLike s t → Tied IsLike (through act segment.old s) (through bct segment.new t))
+        → ((s : S) (t : T) → IsLike s t
+        → Tied IsLike (through act segment.old s) (through bct segment.new t))
         → AreAlike act bct IsLike IsGoal segment at bt
     straight_alike IsLike IsGoal segment at bt olds news tied = record {
       alike = λ leap meap rest sest s t leaps rests like.
@@ -114,8 +121,10 @@ module _ {S T : Type 0} where
         (leap : ℕ → S → Result) (meap : ℕ → T → Result) (rest : S → Result) (sest : T → Result)
         (s : S) (t : T) (e : Effect S) (f : Effect T)
         → ((g h : ℕ) (s : S) (t : T) → IsGoal g h → IsLike s t → Keeps (leap g s) (meap h t))
-        → IsLike s t → LastAlike IsGoal at bt e f → Keeps (went leap at s e rest) (went meap bt t f sest)
-    last_keeps IsLike IsGoal at bt leap meap rest sest s t e f leaps like (BothLeap {g = g} {h = h} goal) =
+        → IsLike s t → LastAlike IsGoal at bt e f
+        → Keeps (went leap at s e rest) (went meap bt t f sest)
+    last_keeps IsLike IsGoal at bt leap meap rest sest s t e f leaps like
+        (BothLeap {g = g} {h = h} goal) =
         leaps g h s t goal like
     last_keeps IsLike IsGoal at bt leap meap rest sest s t e f leaps like (BothPass goal) =
         leaps (at + 1) (bt + 1) s t goal like
@@ -128,7 +137,8 @@ module _ {S T : Type 0} where
         → ((s : S) (t : T) → IsLike s t → Tied IsLike (through act front s) (through bct gront t))
         → ((s : S) (t : T) → IsLike s t
         → LastAlike IsGoal (at + length front) (bt + length gront) (act row s) (bct sow t))
-        → AreAlike act bct IsLike IsGoal (record { old = front ++ row ∷ []; new = gront ++ sow ∷ [] }) at bt
+        → AreAlike act bct IsLike IsGoal
+        (record { old = front ++ row ∷ []; new = gront ++ sow ∷ [] }) at bt
     ended_alike IsLike IsGoal front gront row sow at bt olds news tied last = record {
       alike = λ leap meap rest sest s t leaps rests like.
           let last_old : S → Result = λ s. walked act leap rest (at + length front) (row ∷ []) s in
@@ -139,7 +149,8 @@ module _ {S T : Type 0} where
           (subst (λ r. Keeps (flowed (through act front s) last_old) r)
           (sym (walked_append bct meap sest bt gront (sow ∷ []) t
           ∙ walked_straight bct meap last_new bt gront t news))
-          (tied_keeps IsLike (through act front s) (through bct gront t) last_old last_new (tied s t like)
+          (tied_keeps IsLike (through act front s) (through bct gront t) last_old last_new
+          (tied s t like)
           (λ s t like.
           last_keeps IsLike IsGoal (at + length front) (bt + length gront) leap meap
           (λ s. walked act leap rest (at + length front + 1) [] s)
@@ -148,7 +159,8 @@ module _ {S T : Type 0} where
     }
 
     -- ---- rows rewritten by what is known
-    module _ {F : Type 0} (rewrite : F → Old → List New) (learn : F → Old → F) (IsLike : S → T → Type 0)
+    module _ {F : Type 0} (rewrite : F → Old → List New) (learn : F → Old → F)
+        (IsLike : S → T → Type 0)
         (Knows : F → S → T → Type 0) where
       step_ties : (facts : F) (f : Flow S) (g : Flow T) (next : S → Flow S) (mext : T → Flow T)
           → Tied (λ s t. IsLike s t × Knows facts s t) f g
@@ -160,15 +172,18 @@ module _ {S T : Type 0} where
       step_ties facts f g next mext TiedHalt more = TiedHalt
 
       pub rewritten_ties : (facts : F) (rows : List Old) (s : S) (t : T)
-          → Every (IsRewriting act bct rewrite learn IsLike Knows) rows → Knows facts s t → IsLike s t
+          → Every (IsRewriting act bct rewrite learn IsLike Knows) rows → Knows facts s t
+          → IsLike s t
           → Tied IsLike (through act rows s) (through bct (rewritten rewrite learn facts rows) t)
       rewritten_ties facts [] s t all knows like = TiedOn like
       rewritten_ties facts (row ∷ rows) s t all knows like =
           let others = rewritten rewrite learn (learn facts row) rows in
           subst (λ flow. Tied IsLike (through act (row ∷ rows) s) flow)
           (sym (through_append bct (rewrite facts row) others t))
-          (subst (λ flow. Tied IsLike flow (flow_then (through bct (rewrite facts row) t) (through bct others)))
+          (subst (λ flow. Tied IsLike flow
+          (flow_then (through bct (rewrite facts row) t) (through bct others)))
           (sym (through_append act (row ∷ []) rows s))
-          (step_ties (learn facts row) (through act (row ∷ []) s) (through bct (rewrite facts row) t)
+          (step_ties (learn facts row) (through act (row ∷ []) s)
+          (through bct (rewrite facts row) t)
           (through act rows) (through bct others) (all.0.ties facts s t knows like)
           (λ s t knows like. rewritten_ties (learn facts row) rows s t all.1 knows like)))

@@ -1,8 +1,8 @@
 -- A program cut into stretches, and a pass that rewrites each.
-use Rattle.std.specs.Prelude.{◌≡◌, ℕ, zero, suc, ◌+◌, ◌-◌, ◌≤◌, Bool, true, false, Option, Some, None}
+use Rattle.std.specs.Prelude.{◌≡◌, ℕ, zero, suc, ◌+◌, ◌-◌, Bool, true, false, Option, Some, None}
 use Rattle.std.specs.Prelude.{List, [], ◌∷◌, ◌++◌, length}
 use Rattle.std.specs.Option.{option_map}
-use Rattle.row_runs.specs.Run.{Stop, Wrong, Step, Stops, Effect, Does, Leaps, Passes}
+use Rattle.row_runs.specs.Run.{Stop, Wrong, Stops, Effect, Does, Leaps, Passes}
 use Rattle.row_runs.specs.Straight.{Every, IsStraight, Tied, through}
 use Rattle.row_runs.specs.Segments.{Segment, news}
 

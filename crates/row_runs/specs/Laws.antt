@@ -1,21 +1,27 @@
 -- The laws of bounded runs.
-use Rattle.std.specs.Prelude.{◌≡◌, ℕ, suc, ◌+◌, ◌≤◌, List, [], ◌++◌}
-use Rattle.std.specs.Prelude.{Bool, true, false, length}
+use Rattle.std.specs.Prelude.{◌≡◌, ℕ, suc, ◌+◌, ◌≤◌, List}
+use Rattle.std.specs.Prelude.{Bool, true, length}
 use Rattle.zpl_nums.specs.declared.ends.End.TheVariants.{Done}
 use Rattle.row_runs.specs.Run.{Ends, Result, Step, Effect, stopped, walked, runs}
 use Rattle.row_runs.specs.Growth.{GoesOnTo}
-use Rattle.row_runs.specs.Straight.{Every, IsStraight, Tied, IsRewriting, through, flowed, rewritten}
+use Rattle.row_runs.specs.Straight.{Every, IsStraight, Tied, IsRewriting, through, flowed}
+use Rattle.row_runs.specs.Straight.{rewritten}
 use Rattle.row_runs.specs.Segments.{Keeps, Segment, IsStart, AllAlike, olds, news}
+use Rattle.row_runs.specs.Rows.{AreLikeRows}
 use Rattle.row_runs.specs.Cut.{Stretch, IsRewritten, cut, passed, segments_of, moved_by}
 use Rattle.row_runs.specs.Code.{CodeRow, Decision, code_act}
 use Rattle.row_runs.specs.Structured.{Piece, Wants, StandsAt, doing, size, flattened}
 use Rattle.row_runs.specs.Structured.{left_before, shown_by}
 
--- a run that may make more jumps goes on from a shorter one
-abbrev pub Grow : {S Row : Type 0} → (Row → S → Effect S) → Type 0
-Grow {S = S} {Row = Row} act =
+-- a run that may make more jumps goes on from a shorter one, also where its rows go further
+abbrev pub Grow : {S Row : Type 0} → (act bct : Row → S → Effect S) → Type 0
+Grow {S = S} {Row = Row} act bct =
     (code : List Row) (less more : ℕ) → less ≤ more → (at : ℕ) (state : S)
-    → GoesOnTo (runs act code less at state) (runs act code more at state)
+    → GoesOnTo (runs act code less at state) (runs bct code more at state)
+
+-- what is kept is kept by two passes one after the other
+abbrev pub KeepsThrough : Type 0
+KeepsThrough = (a b c : Result) → Keeps a b → Keeps b c → Keeps a c
 
 -- straight rows are run as one flow
 abbrev pub FlowOn : {S Row : Type 0} → (Row → S → Effect S) → Type 0
@@ -33,6 +39,13 @@ module _ {S T Old New : Type 0} (act : Old → S → Effect S) (bct : New → T 
       (segments : List (Segment Old New)) → AllAlike act bct IsLike (IsStart segments) segments 0 0
       → (left g h : ℕ) (s : S) (t : T) → IsStart segments g h → IsLike s t
       → Keeps (runs act (olds segments) left g s) (runs bct (news segments) left h t)
+
+  -- Code of as many rows, each of which does alike, keeps its runs from each row on.
+  abbrev pub RowsKeepRuns : Type 0
+  RowsKeepRuns =
+      (olds : List Old) (news : List New) → AreLikeRows act bct IsLike olds news
+      → (left at : ℕ) (s : S) (t : T) → IsLike s t
+      → Keeps (runs act olds left at s) (runs bct news left at t)
 
   -- So does code that is cut into stretches, each of which is rewritten.
   abbrev pub PassesKeepRuns : Type 0

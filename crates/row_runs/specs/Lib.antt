@@ -2,7 +2,9 @@ pub mod Run
 pub mod Growth
 pub mod Straight
 pub mod Segments
+pub mod Rows
 pub mod Cut
 pub mod Code
 pub mod Structured
+pub mod Counter
 pub mod Laws

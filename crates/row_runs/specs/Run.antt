@@ -1,5 +1,5 @@
 -- Bounded runs of rows, over any rows and any states.
-use Rattle.std.specs.Prelude.{ℕ, zero, suc, ◌+◌, Bool, true, false, List, [], ◌∷◌, ◌++◌, drop}
+use Rattle.std.specs.Prelude.{ℕ, zero, suc, ◌+◌, List, [], ◌∷◌, ◌++◌, drop}
 use Rattle.zpl_nums.specs.declared.ends.End.{End}
 use Rattle.zpl_nums.specs.declared.ends.End.TheVariants.{Done, More}
 
@@ -37,7 +37,8 @@ abbrev pub stepped : {S : Type 0} → Step S → (S → Result) → Result
 stepped (Goes bytes next) rest = printed bytes (rest next)
 stepped (Stops stop) rest = stopped stop
 
--- The row with the number `at` has this effect: `leap` is the run from a row that is leapt or passed
+-- The row with the number `at` has this effect: `leap` is the run from a row that is leapt or
+-- passed
 -- to, `rest` the run of the rows behind it.
 abbrev pub went : {S : Type 0} → (ℕ → S → Result) → ℕ → S → Effect S → (S → Result) → Result
 went leap at state (Does step) rest = stepped step rest

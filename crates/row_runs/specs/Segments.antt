@@ -1,6 +1,6 @@
 -- Programs rewritten segment by segment.
-use Rattle.std.specs.Prelude.{◌≡◌, ℕ, zero, suc, ◌+◌, List, [], ◌∷◌, ◌++◌, length, ⊤}
-use Rattle.row_runs.specs.Run.{Stop, Wrong, Result, Effect, walked}
+use Rattle.std.specs.Prelude.{◌≡◌, ℕ, ◌+◌, List, [], ◌∷◌, ◌++◌, length, ⊤}
+use Rattle.row_runs.specs.Run.{Wrong, Result, Effect, walked}
 
 -- the new result is the old one, unless the old one is wrong
 pub data Keeps (old new : Result) : Type 0 where

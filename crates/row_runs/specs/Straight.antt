@@ -1,5 +1,5 @@
 -- Straight rows: those that only go on, or stop the run.
-use Rattle.std.specs.Prelude.{◌≡◌, ℕ, ◌+◌, List, [], ◌∷◌, ◌++◌, ⊤}
+use Rattle.std.specs.Prelude.{ℕ, List, [], ◌∷◌, ◌++◌, ⊤}
 use Rattle.row_runs.specs.Run.{Stop, Wrong, Result, Step, Goes, Stops, Effect, Does, Leaps}
 use Rattle.row_runs.specs.Run.{Passes, printed}
 

@@ -1,8 +1,8 @@
 -- Structured code: what it does with a bound on the turns of each loop, and how it is laid out.
-use Rattle.std.specs.Prelude.{ℕ, zero, suc, ◌+◌, Bool, true, false, List, [], ◌∷◌, ◌++◌, map}
+use Rattle.std.specs.Prelude.{ℕ, zero, suc, ◌+◌, true, false, List, [], ◌∷◌, ◌++◌, map}
 use Rattle.std.specs.Prelude.{◌≡◌, drop, length}
 use Rattle.zpl_nums.specs.declared.ends.End.TheVariants.{More}
-use Rattle.row_runs.specs.Run.{Stop, Ends, Result, Step, Goes, Stops, stopped, printed}
+use Rattle.row_runs.specs.Run.{Stop, Ends, Result, Step, Goes, Stops, printed}
 use Rattle.row_runs.specs.Code.{CodeRow, Straight, Jump, Unless, Decision, Says, Fails}
 
 -- The head of a loop is rows that are run before each test.

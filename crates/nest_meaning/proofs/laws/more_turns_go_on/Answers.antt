@@ -1,0 +1,5 @@
+use Rattle.nest_meaning.proofs.GrowthLemmas.{grow}
+use Rattle.nest_meaning.proofs.laws.more_turns_go_on.Goals as goal
+
+pub returns : goal.returns
+returns g c = λ ways. grow ways

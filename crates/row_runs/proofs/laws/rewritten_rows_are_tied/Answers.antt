@@ -1,0 +1,7 @@
+use Rattle.row_runs.proofs.StraightLemmas.{rewritten_ties}
+use Rattle.row_runs.proofs.laws.rewritten_rows_are_tied.Goals as goal
+
+pub returns : goal.returns
+returns g c =
+    λ act bct rewrite learn. rewritten_ties act bct rewrite learn (g.K.Knowledge.IsLike)
+    (g.K.Knowledge.Knows)

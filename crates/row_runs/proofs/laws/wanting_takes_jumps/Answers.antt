@@ -1,0 +1,5 @@
+use Rattle.row_runs.proofs.WantLemmas.{want_behind_turns}
+use Rattle.row_runs.proofs.laws.wanting_takes_jumps.Goals as goal
+
+pub returns : goal.returns
+returns g c = λ step decide. want_behind_turns step decide

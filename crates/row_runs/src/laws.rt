@@ -1,0 +1,82 @@
+//! The laws of bounded runs.
+//!
+//! Each law is the contract of a function that does nothing: a call brings the law into a proof,
+//! for rows and states of any types, whatever the rows do. The statements stand in `specs/Laws`.
+ghost use Rattle.row_runs.specs.Code.{Decision};
+ghost use Rattle.row_runs.specs.Counter.{TellTheirEnd};
+ghost use Rattle.row_runs.specs.Growth.{AreFurther};
+ghost use Rattle.row_runs.specs.Laws.{FlowOn, Follow, FollowWhole, GoalsAreStarts, Grow};
+ghost use Rattle.row_runs.specs.Laws.{KeepRuns, KeepsThrough, PassesKeepRuns, RewrittenAreTied};
+ghost use Rattle.row_runs.specs.Laws.{RowsKeepRuns, WantBehindTurns};
+ghost use Rattle.row_runs.specs.Run.{Effect, Step};
+
+use crate::likeness::{Knowledge, Likeness};
+
+/// A run that may make more jumps goes on from a shorter one: the bytes of the shorter one begin
+/// its own, and where the shorter one didn't want more, it is the same. So it is where the rows go
+/// further too.
+pub fn longer_runs_go_on<Row, State>()
+    ensures jumps { (act : Row → State → Effect State) → Grow act act }
+    ensures rows { (act bct : Row → State → Effect State) → AreFurther act bct → Grow act bct }
+{}
+
+/// Rows that only go on or stop are run as one flow.
+pub fn straight_rows_are_flows<Row, State>()
+    ensures { (act : Row → State → Effect State) → FlowOn act }
+{}
+
+/// What two passes keep, one after the other, is kept.
+pub fn passes_compose()
+    ensures { KeepsThrough }
+{}
+
+/// Code of as many rows, each of which does as the old one from like states to like states, has
+/// the same runs, unless an old one is wrong.
+pub fn like_rows_keep_runs<Old, New, L: Likeness>()
+    ensures { (act : Old → L.Old → Effect L.Old) (bct : New → L.New → Effect L.New) →
+        RowsKeepRuns act bct L.IsLike }
+{}
+
+/// So has code whose segments do alike, from each place where a segment starts, and for every
+/// number of jumps.
+pub fn like_segments_keep_runs<Old, New, L: Likeness>()
+    ensures { (act : Old → L.Old → Effect L.Old) (bct : New → L.New → Effect L.New) →
+        KeepRuns act bct L.IsLike }
+{}
+
+/// So has code that is cut into stretches, each of which is rewritten, with the goals of its last
+/// row moved to where the new rows stand.
+pub fn passes_keep_runs<Old, New, L: Likeness>()
+    ensures runs { (act : Old → L.Old → Effect L.Old) (bct : New → L.New → Effect L.New) →
+        PassesKeepRuns act bct L.IsLike }
+    ensures goals { GoalsAreStarts Old New }
+{}
+
+/// Straight rows that are rewritten one by one, by the facts that are known in front of each, do
+/// alike.
+pub fn rewritten_rows_are_tied<Old, New, K: Knowledge>()
+    ensures { (act : Old → K.Old → Effect K.Old) (bct : New → K.New → Effect K.New) →
+        RewrittenAreTied act bct K.IsLike K.Knows }
+{}
+
+/// Where structured code is laid out, the run does what it does, for every number of jumps that
+/// are left behind it: wherever it stands in code, and as a whole program.
+pub fn laid_out_code_does_the_same<Row, Test, State>()
+    ensures anywhere { (step : Row → State → Step State) (decide : Test → State → Decision) →
+        Follow step decide }
+    ensures whole { (step : Row → State → Step State) (decide : Test → State → Decision) →
+        FollowWhole step decide }
+{}
+
+/// Structured code that wants a turn more than each loop may make has made at least as many jumps.
+pub fn wanting_takes_jumps<Row, Test, State>()
+    ensures { (step : Row → State → Step State) (decide : Test → State → Decision) →
+        WantBehindTurns step decide }
+{}
+
+/// Whether the next value of a counter is behind the last one is told in integers that wrap: for a
+/// step of at least 1, upward exactly where the value that wraps is greater than the one before and
+/// not beyond the last, and likewise downward.
+pub fn counters_tell_their_end()
+    ensures { TellTheirEnd }
+{}
