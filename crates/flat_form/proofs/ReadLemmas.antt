@@ -12,7 +12,7 @@ use Rattle.node_form.specs.declared.members.Member.TheVariants as member
 use Rattle.node_form.specs.declared.tables.Tables.{Tables}
 use Rattle.node_form.specs.Fits.{Fits, FitsAt, FitsInstr, FitsMember, FitsPart, HasExpr}
 use Rattle.row_runs.specs.Straight.{Every}
-use Rattle.flat_form.specs.Laws.{IsInline, IsPlain, Patch, ReadAgain}
+use Rattle.flat_form.specs.Laws.{AreInline, IsInline, IsPlain, Patch, ReadAgain}
 use Rattle.flat_form.specs.Row.{Words, Member, Put, Cell, Acc, OpenIf, Otherwise, CloseIf, OpenWhile, CloseWhile, OpenRepeat, Until, Part, Span, Star, Copied, Row, Set, Dims, Loop, Print, Number, Truth, Unless, Plain, all_coded, all_inlined, coded, group_coded, inlined, mask_words, member_coded, member_inlined, member_words, numbered, part_coded, part_inlined, part_words, patched, row_groups, row_texts, row_with_goal, row_words, with_goal, with_row, with_rows, words_at}
 
 -- ---- lists from a place on
@@ -313,6 +313,44 @@ steady tables fits = record { same = λ exprs groups texts. rows_steady tables e
 
 pub read_again : ReadAgain
 read_again tables rows fits all = rows_read rows tables (steady tables fits) all
+
+row_inline : (tables : Tables) (row : Instr) → IsInline (inlined tables row)
+row_inline tables (instr.Set scalar expr line) = tt
+row_inline tables (instr.Fix slot region) = tt
+row_inline tables (instr.Dims slot parts line) = tt
+row_inline tables (instr.Formed form slot from shift line) = tt
+row_inline tables (instr.Need slot array shift line) = tt
+row_inline tables (instr.Same target source kind line) = tt
+row_inline tables (instr.Fits slot shift line) = tt
+row_inline tables (instr.Room array slot) = tt
+row_inline tables (instr.Clear array) = tt
+row_inline tables (instr.Loop slot group) = tt
+row_inline tables (instr.Start exchange) = tt
+row_inline tables (instr.Finish exchange) = tt
+row_inline tables (instr.Edge kind array slot shift) = tt
+row_inline tables (instr.Flood array target from source) = tt
+row_inline tables (instr.Part array target f from source) = tt
+row_inline tables (instr.Scan array slot f along from mask) = tt
+row_inline tables (instr.Vote group) = tt
+row_inline tables (instr.Fold scalar f) = tt
+row_inline tables (instr.TreeVote group) = tt
+row_inline tables (instr.TreeFold scalar f) = tt
+row_inline tables (instr.Print text) = tt
+row_inline tables (instr.Number expr) = tt
+row_inline tables (instr.Truth expr) = tt
+row_inline tables (instr.Gather truth array slot) = tt
+row_inline tables (instr.Jump goal) = tt
+row_inline tables (instr.Unless expr goal line) = tt
+row_inline tables (instr.Trap kind line) = tt
+row_inline tables instr.End = tt
+row_inline tables (instr.Remap array slot from parts) = tt
+
+every_row : (tables : Tables) (code : List Instr) → Every IsInline (map (inlined tables) code)
+every_row tables [] = tt
+every_row tables (row ∷ code) = (row_inline tables row, every_row tables code)
+
+pub are_inline : AreInline
+are_inline tables = every_row tables tables.code
 
 -- ---- goals
 set_append : {X : Type 0} (xs ys : List X) (k : ℕ) (v : X) → k < length xs → set (xs ++ ys) k v ≡ set xs k v ++ ys

@@ -31,6 +31,10 @@ abbrev pub IsInline : Row → Type 0
 IsInline (Plain row) = IsPlain row
 IsInline row = Unit {0}
 
+-- Rows of tables are such rows.
+abbrev pub AreInline : Type 0
+AreInline = (tables : Tables) → Every IsInline (all_inlined tables)
+
 -- Rows that were added to tables are read again.
 abbrev pub ReadAgain : Type 0
 ReadAgain =
