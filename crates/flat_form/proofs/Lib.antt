@@ -1,0 +1,11 @@
+mod Examples
+pub mod GrowthLemmas
+pub mod WordLemmas
+pub mod AgreeLemmas
+pub mod NamedLemmas
+pub mod ControlLemmas
+pub mod LogLemmas
+pub mod LoopLemmas
+pub mod TouchLemmas
+pub mod ChangeLemmas
+pub mod ReadLemmas

@@ -1,0 +1,10 @@
+pub mod Row
+pub mod Whole
+pub mod Names
+pub mod Right
+pub mod Loop
+pub mod Moves
+pub mod Act
+pub mod Flat
+pub mod Laws
+pub mod Touches
