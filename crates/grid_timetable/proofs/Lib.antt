@@ -7,3 +7,4 @@ pub mod LedgerLemmas
 pub mod StepLemmas
 pub mod FirstLemmas
 pub mod AddLemmas
+pub mod TraceLemmas

@@ -34,11 +34,7 @@ fn segment_to(stretches: &[Stretch], place: Place) -> Segment
 }
 
 /// The segments from a place back to one that waits for nothing, the last one first.
-fn trace(
-    stretches: &[Stretch],
-    last: Place,
-    into: &mut Vec<Segment>,
-) -> Result<(), AllocError>
+fn trace(stretches: &[Stretch], last: Place, into: &mut Vec<Segment>) -> Result<(), AllocError>
     requires there { last.stretch < length stretches.now }
     requires caused { AreCaused stretches.now }
     requires empty { into.old.items ≡ [] }

@@ -19,8 +19,10 @@ settle-requires c =
 
 pub returns-clause-added : goal.returns-clause-added
 returns-clause-added c = λ history is.
-    let room : length history.moves < 4194304 = omega (arith, c.if-self-eq-MOST_MOVES.false, is.made, is.few) in
-    (room, is_added (ledger_of c.args.self.now) history is c.args.p c.args.sent c.args.took
-    (can_too (ledger_of c.args.self.now) c.requires.history history c.requires.is is c.args.p c.args.sent c.args.took c.requires.can)
-    c.opened-stretch.result c.place_in-place.result (ledger_of c.enter.new.self) (ledger_of c.settle.new.self)
-    c.opened-stretch.ensures c.place_in-place.ensures c.in_ok-enter.ensures.done c.settle.ensures room)
+    let room : length history.moves < 4194304 = omega (arith, c.if-self-eq-MOST_MOVES.false, is.made, is.few) in (
+      room,
+      is_added (ledger_of c.args.self.now) history is c.args.p c.args.sent c.args.took
+          (can_too (ledger_of c.args.self.now) c.requires.history history c.requires.is is c.args.p c.args.sent c.args.took c.requires.can)
+          c.opened-stretch.result c.place_in-place.result (ledger_of c.enter.new.self) (ledger_of c.settle.new.self)
+          c.opened-stretch.ensures c.place_in-place.ensures c.in_ok-enter.ensures.done c.settle.ensures room,
+    )
