@@ -1,0 +1,10 @@
+pub mod Run
+pub mod Chain
+pub mod History
+pub mod Mail
+pub mod Post
+pub mod Ledger
+pub mod Table
+pub mod Adding
+pub mod Reading
+pub mod Trace
