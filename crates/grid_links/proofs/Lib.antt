@@ -1,5 +1,5 @@
 pub mod DominationLemmas
-mod CapacityLemmas
+pub mod CapacityLemmas
 pub mod EndLemmas
 mod Examples
 pub mod FrontLemmas

@@ -1,5 +1,5 @@
 -- Where some stay away from an exchange up a tree, all others come to wait.
-use Rattle.std.proofs.Common.{◌≡◌, ℕ, zero, suc, ◌+◌, ◌-◌, ◌<◌, ◌≤◌, Bool, true, false, ◌==◌, nat_lt, List, [], ◌∷◌, ◌++◌, length, map, replicate, All, Option, Some, None, refl, sym, ◌∙◌, ap, ap₂, subst, arith, append_assoc, append-nil, length-append, ltb-true, ltb-false, ◌||◌}
+use Rattle.std.proofs.Common.{◌≡◌, ℕ, zero, suc, ◌-◌, ◌<◌, ◌≤◌, Bool, true, false, ◌==◌, nat_lt, List, [], ◌∷◌, ◌++◌, length, map, replicate, All, Option, Some, None, refl, sym, ◌∙◌, ap, ap₂, subst, arith, append_assoc, append-nil, ltb-true, ltb-false, ◌||◌}
 use Rattle.std.proofs.lemmas.Bool.{ne_eqb}
 use Rattle.std.proofs.lemmas.List.{length-map, length-replicate}
 use Rattle.std.proofs.lemmas.List.Elements.{All-nil, All-cons, All-head, All-tail}
@@ -9,12 +9,12 @@ use Rattle.grid_links.specs.Links.{IsWithin, has_room}
 use Rattle.grid_links.specs.Machine.{Processes, Awaits}
 use Rattle.grid_links.specs.Run.{System, count_of}
 use Rattle.grid_paths.specs.Path.{Event, Quiet, Sent, Taken, IsPath, messages_to, messages_from, shown_in, NamesOthers}
-use Rattle.grid_paths.specs.Scene.{Scene, Leads, WaitsIn}
-use Rattle.grid_paths.specs.Tree.{times, Tree, parents, IsTree, Climbs, Halting, Halted}
+use Rattle.grid_paths.specs.Scene.{Scene, WaitsIn}
+use Rattle.grid_paths.specs.Tree.{times, Tree, parents, Climbs, Halting, Halted}
 use Rattle.grid_paths.specs.Laws.{IsOnceEach, Round, Halts}
 use Rattle.grid_paths.proofs.EventLemmas.{path_through, messages_to-append, messages_from-append, shown_in-append, named-append, sends_named, takes_named, sends_take_none, takes_send_none, sends_show_none, takes_show_none, sends_send, takes_take}
 use Rattle.grid_paths.proofs.RoundLemmas.{leads_agreed, runs_in_turn}
-use Rattle.grid_paths.proofs.TreeLemmas.{All-each, times_below, times_other, times_parents, clear_front, Fronts, AllClear, FirstBlocked, fronts, any_blocked, All-clear_front, times-clear_front, times-clear_front_blocked, blocked, blocked_by, away_blocked, clear_parent}
+use Rattle.grid_paths.proofs.TreeLemmas.{All-each, times_below, times_other, times_parents, clear_front, Fronts, AllClear, FirstBlocked, fronts, any_blocked, All-clear_front, times-clear_front, times-clear_front_blocked, blocked_of, blocked_by, away_blocked, clear_parent}
 
 -- ---- events without a message
 pub quiets_send_none : {M : Type 0} (q : ℕ) (bytes : List (List ℕ))
@@ -59,9 +59,9 @@ takes_path processes tree message p one climbs front (c ∷ now) behind is = (
   climbs.heard (front ++ c ∷ []),
   (climbs.awaits_child front (now ++ behind) c is, climbs.takes front (now ++ behind) c is),
   subst (λ l. IsPath processes p (climbs.heard (front ++ c ∷ []))
-  (map (λ k. Taken k (message k)) now) (climbs.heard l)) (append_assoc front (c ∷ []) now)
-  (takes_path processes tree message p one climbs (front ++ c ∷ []) now behind
-  (is ∙ sym (append_assoc front (c ∷ []) (now ++ behind)))),
+      (map (λ k. Taken k (message k)) now) (climbs.heard l)) (append_assoc front (c ∷ []) now)
+      (takes_path processes tree message p one climbs (front ++ c ∷ []) now behind
+      (is ∙ sym (append_assoc front (c ∷ []) (now ++ behind)))),
 )
 
 all_of : {X : Type 0} (xs : List X) → xs ≡ xs ++ []
@@ -73,7 +73,8 @@ replicate_less x m zero less = ap (λ k. replicate k x) (let e : m ≡ m - 0 = o
 replicate_less x zero (suc n) less = absurd (omega arith)
 replicate_less x (suc m) (suc n) less =
     let same : m - n ≡ suc m - suc n = omega arith in
-    ap (λ l. x ∷ l) (replicate_less x m n (omega arith) ∙ ap (λ k. replicate n x ++ replicate k x) same)
+    ap (λ l. x ∷ l) (replicate_less x m n (omega arith)
+    ∙ ap (λ k. replicate n x ++ replicate k x) same)
 
 module _ {L M K : Type 0} (system : System L M K) (tree : Tree) (message : ℕ → M) (away : ℕ → Bool)
     (bytes : ℕ → List (List ℕ)) (one : Scene L M) (on : ℕ → L)
@@ -82,7 +83,7 @@ module _ {L M K : Type 0} (system : System L M K) (tree : Tree) (message : ℕ �
   count = count_of system
 
   abbrev stuck : ℕ → Bool
-  stuck = blocked count tree is.is_tree away
+  stuck = blocked_of count tree away
 
   abbrev own : ℕ → List (List ℕ)
   own p = if away p then bytes p else []
@@ -250,7 +251,8 @@ module _ {L M K : Type 0} (system : System L M K) (tree : Tree) (message : ℕ �
     path = λ there.
         subst (λ l. IsPath system.processes p (one.locals p) l (on p))
         (sym (ap₂ (λ b l. map Quiet (if b then bytes p else [])
-        ++ (map (λ c. Taken c (message c)) (if b then [] else clear_front stuck (tree.children p)) ++ map (λ q. Sent q (message p)) l))
+        ++ (map (λ c. Taken c (message c)) (if b then [] else clear_front stuck (tree.children p))
+        ++ map (λ q. Sent q (message p)) l))
         e (away_tells p below e) ∙ append-nil (map Quiet (bytes p))))
         (is.alone p below e);
     alone = λ there a. refl;
@@ -348,7 +350,8 @@ module _ {L M K : Type 0} (system : System L M K) (tree : Tree) (message : ℕ �
   climbed p below e true s (FirstBlocked any c rest children by) =
       went_blocked p c rest below e s children by
   climbed p below e false s (AllClear none all) =
-      let (q, parent) = clear_parent count tree is.is_tree away is.some p is.some_below is.some_away below s in
+      let (q, parent) = clear_parent count tree is.is_tree away is.some p is.some_below is.some_away
+      below s in
       went_clear p q below e s all parent
   climbed p below e false s (FirstBlocked any c rest children by) =
       let both : false ≡ true = sym s ∙ (blocked_by count tree is.is_tree away p below

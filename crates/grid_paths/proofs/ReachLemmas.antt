@@ -1,14 +1,14 @@
 -- From the start to a scene in which each process rests or moves on.
-use Rattle.std.proofs.Common.{◌≡◌, ◌⊎◌, ℕ, ◌<◌, ◌≤◌, Bool, true, false, ◌&&◌, List, [], ◌∷◌, ◌++◌, length, nat_lt, Option, Some, None, refl, sym, ◌∙◌, ap, subst, inl, inr, lt-ltb}
+use Rattle.std.proofs.Common.{◌≡◌, ◌⊎◌, ℕ, ◌*◌, ◌<◌, ◌≤◌, false, ◌&&◌, List, [], length, Some, None, refl, sym, ◌∙◌, ap, subst, inl, inr, lt-ltb}
+use Rattle.std.proofs.lemmas.List.{length-replicate, get_or-replicate}
 use Rattle.std.specs.List.{slice_get}
 use Rattle.zpl_lists.specs.Front.{IsFrontOf}
-use Rattle.grid_links.specs.Laws.{Reaches}
-use Rattle.grid_links.specs.Links.{has_room, link_of}
-use Rattle.grid_links.specs.Machine.{Act, Ended, Goes, Awaits, Turn, Moves, Waiting, Over, Stuck, awaits, where_room, over_links, Move}
-use Rattle.grid_links.specs.Run.{System, World, count_of, start_world, heads_at, rooms_at, turn_or_over, next_turn, after, moves_of, shown_by, IsOver, IsStuck, Rests}
-use Rattle.grid_paths.specs.Path.{Event}
-use Rattle.grid_paths.specs.Scene.{Scene, HasScene, Leads, IsReady, MovesIn, WaitsIn, RestsIn, HasEnded, AwaitsMessage, AwaitsRoom}
-use Rattle.grid_paths.specs.Laws.{HasCome, Reached, ReachesFrom}
+use Rattle.grid_links.specs.Links.{has_room, link_number, link_of}
+use Rattle.grid_links.specs.Machine.{Act, Ended, Goes, Awaits, Moves, Waiting, Over, Stuck, awaits, where_room, over_links}
+use Rattle.grid_links.specs.Run.{System, World, count_of, start_world, heads_at, rooms_at, turn_or_over, next_turn, after, moves_of, IsStuck, Rests}
+use Rattle.grid_links.proofs.LinkLemmas.{number-below}
+use Rattle.grid_paths.specs.Scene.{Scene, HasScene, MovesIn, WaitsIn, RestsIn, HasEnded, AwaitsMessage, AwaitsRoom}
+use Rattle.grid_paths.specs.Laws.{ReachesFrom}
 use Rattle.grid_paths.proofs.AloneLemmas.{move_of, step_turn}
 use Rattle.grid_paths.proofs.StuckLemmas.{stays_stuck}
 
@@ -58,7 +58,8 @@ module _ {L M K : Type 0} (system : System L M K) (world : World L M) (scene : S
 
   pub moving_turn : (moves : MovesIn system scene p)
       → next_turn system world p ≡ Moves (move_of moves.event moves.next)
-  moving_turn moves = step_turn system world scene p moves.event moves.next has below moves.step moves.ready
+  moving_turn moves = step_turn system world scene p moves.event moves.next has below moves.step
+      moves.ready
 
   pub unstuck : (least many : ℕ) (kind : K)
       → RestsIn system scene p ⊎ ((least ≤ many) × MovesIn system scene p)
@@ -68,22 +69,41 @@ module _ {L M K : Type 0} (system : System L M K) (world : World L M) (scene : S
       by : Rests system world p → ⊥
       by (inl waiting) = let e = sym waiting ∙ stuck in cc
       by (inr over) = let e = sym over ∙ stuck in cc
-  unstuck least many kind (inr (enough, moves)) stuck = let e = sym (moving_turn moves) ∙ stuck in cc
+  unstuck least many kind (inr (enough, moves)) stuck = let e = sym (moving_turn moves)
+      ∙ stuck in cc
+
+-- the start is a scene with empty links
+pub starts : {L M K : Type 0} (system : System L M K) (scene : Scene L M)
+    → ((p : ℕ) → p < count_of system → slice_get system.start p ≡ Some (scene.locals p))
+    → ((p q : ℕ) → p < count_of system → q < count_of system → scene.links p q ≡ [])
+    → HasScene (count_of system) (start_world system) scene
+starts system scene locals quiet = record {
+  size = refl;
+  many = length-replicate (count_of system * count_of system) [];
+  local = locals;
+  link = λ p q here there.
+      get_or-replicate (count_of system * count_of system) (link_number (count_of system) p q) [] []
+      (number-below (count_of system) p q here there)
+      ∙ sym (quiet p q here there);
+}
 
 pub reaches_from : {L M K : Type 0} (system : System L M K) → ReachesFrom system
 reaches_from {L = L} {M = M} system one other many shown least starts leads come =
     let comes = leads (start_world system) starts in
     record {
       order = comes.order;
+      only_moves = comes.only_moves;
       reaches = record {
-        moved = λ p below. moved p below comes.order comes.arrives (comes.moved p below) (come p below);
+        moved = λ p below. moved p below comes.order comes.arrives (comes.moved p below)
+            (come p below);
         not_stuck = not_stuck comes.order comes.arrives;
       };
       arrives = comes.arrives;
       moved = comes.moved;
       shows = comes.shows;
       on_the_way = λ front is. on_the_way comes.order comes.arrives front is;
-      over = λ all p below. ended_turn system (after system comes.order) other comes.arrives p below (all p below);
+      over = λ all p below. ended_turn system (after system comes.order) other comes.arrives p below
+          (all p below);
     }
   where
     moved : (p : ℕ) → p < count_of system → (order : List ℕ)
@@ -99,7 +119,8 @@ reaches_from {L = L} {M = M} system one other many shown least starts leads come
     not_stuck : (order : List ℕ) → HasScene (count_of system) (after system order) other
         → IsStuck system (after system order) → ⊥
     not_stuck order has stuck =
-        unstuck system (after system order) other has stuck.process stuck.there least (many stuck.process)
+        unstuck system (after system order) other has stuck.process stuck.there least
+        (many stuck.process)
         stuck.kind (come stuck.process stuck.there) stuck.stuck
 
     on_the_way : (order : List ℕ) → HasScene (count_of system) (after system order) other

@@ -1,7 +1,7 @@
 -- A process that is stuck stays so.
-use Rattle.std.proofs.Common.{◌≡◌, ℕ, ◌<◌, List, ◌++◌, ◌⊎◌, inl, inr}
+use Rattle.std.proofs.Common.{◌≡◌, ◌++◌, inl, inr}
 use Rattle.grid_links.specs.Machine.{Stuck}
-use Rattle.grid_links.specs.Run.{System, count_of, next_turn, after, moves_of}
+use Rattle.grid_links.specs.Run.{System, next_turn, after, moves_of}
 use Rattle.grid_links.proofs.DominationLemmas.{carried, IsCarried}
 use Rattle.grid_links.proofs.HistoryLemmas.{IsRun-after}
 use Rattle.grid_links.proofs.LapLemmas.{goes_on}

@@ -1,5 +1,5 @@
 -- Who is blocked in a tree, from whom a process hears, and whom it tells.
-use Rattle.std.proofs.Common.{◌≡◌, ◌⊎◌, ℕ, zero, suc, ◌+◌, ◌-◌, ◌<◌, ◌≤◌, Bool, true, false, cond, ◌||◌, ◌==◌, List, [], ◌∷◌, ◌++◌, All, count_by, Option, Some, None, refl, sym, ◌∙◌, ap, ap₂, subst, inl, inr, arith, eqb-true, eq-eqb}
+use Rattle.std.proofs.Common.{◌≡◌, ℕ, zero, suc, ◌+◌, ◌<◌, ◌≤◌, Bool, true, false, cond, ◌||◌, ◌==◌, List, [], ◌∷◌, ◌++◌, All, Option, Some, None, refl, sym, ◌∙◌, ap, ap₂, subst, arith, eqb-true, eq-eqb}
 use Rattle.std.proofs.lemmas.Bool.{ne_eqb}
 use Rattle.std.proofs.lemmas.List.Sums.{sum_by-cons}
 use Rattle.std.proofs.lemmas.List.Elements.{All-nil, All-cons, All-head, All-tail}
@@ -27,12 +27,14 @@ pub times_below : (p q : ℕ) (numbers : List ℕ) → All (λ c. q < c) numbers
     → times p numbers ≡ 0
 times_below p q [] above less = refl
 times_below p q (c ∷ numbers) above less =
-    let apart : c ≡ p → ⊥ = λ same. omega (arith, All-head (λ k. q < k) c numbers above, same, less) in
+    let apart : c ≡ p → ⊥ = λ same. omega
+    (arith, All-head (λ k. q < k) c numbers above, same, less) in
     times-cons p c numbers
     ∙ ap₂ (λ b n. cond b 1 0 + n) (ne_eqb c p apart)
     (times_below p q numbers (All-tail (λ k. q < k) c numbers above) less)
 
-pub All-each : {X : Type 0} (P Q : X → Type 0) (xs : List X) → ((x : X) → P x → Q x) → All P xs → All Q xs
+pub All-each : {X : Type 0} (P Q : X → Type 0) (xs : List X) → ((x : X) → P x → Q x) → All P xs
+    → All Q xs
 All-each P Q xs f all = λ i d below. f _ (all i d below)
 
 pub times_parents : (n : ℕ) (parent : Option ℕ) → times n (parents parent) ≤ 1
@@ -104,7 +106,8 @@ times-clear_front_blocked n blocked (c ∷ numbers) stuck =
         → times n (front_where b c (clear_front blocked numbers)) ≡ 0
     by true e rest = refl
     by false e rest =
-        let apart : c ≡ n → ⊥ = λ same. let both : false ≡ true = sym e ∙ (ap blocked same ∙ stuck) in cc in
+        let apart : c ≡ n → ⊥ = λ same. let both : false ≡ true = sym e
+        ∙ (ap blocked same ∙ stuck) in cc in
         times-cons n c (clear_front blocked numbers)
         ∙ ap₂ (λ b k. cond b 1 0 + k) (ne_eqb c n apart) rest
 
@@ -126,7 +129,8 @@ any_blocked-in n blocked (c ∷ numbers) some stuck =
         rest (omega (arith, count, some)) stuck
 
 -- the same of two tests that agree
-pub any_blocked-same : (one other : ℕ → Bool) (numbers : List ℕ) → All (λ c. one c ≡ other c) numbers
+pub any_blocked-same : (one other : ℕ → Bool) (numbers : List ℕ)
+    → All (λ c. one c ≡ other c) numbers
     → any_blocked one numbers ≡ any_blocked other numbers
 any_blocked-same one other [] all = refl
 any_blocked-same one other (c ∷ numbers) all =
@@ -134,21 +138,27 @@ any_blocked-same one other (c ∷ numbers) all =
     (any_blocked-same one other numbers (All-tail (λ k. one k ≡ other k) c numbers all))
 
 -- ---- a process is blocked if it stays away, or one of its children is blocked
+-- as far as so many generations show
+abbrev pub blocked_in : Tree → (ℕ → Bool) → ℕ → ℕ → Bool
+blocked_in tree away zero p = away p
+blocked_in tree away (suc n) p =
+    away p || any_blocked (blocked_in tree away n) (tree.children p)
+
+abbrev pub blocked_of : ℕ → Tree → (ℕ → Bool) → ℕ → Bool
+blocked_of count tree away p = blocked_in tree away count p
+
 module _ (count : ℕ) (tree : Tree) (is : IsTree count tree) (away : ℕ → Bool) where
-  -- as far as so many generations show
-  abbrev blocked_in : ℕ → ℕ → Bool
-  blocked_in zero p = away p
-  blocked_in (suc n) p = away p || any_blocked (blocked_in n) (tree.children p)
+  abbrev blocked : ℕ → Bool
+  blocked p = blocked_of count tree away p
 
-  abbrev pub blocked : ℕ → Bool
-  blocked p = blocked_in count p
-
-  settled : (n p : ℕ) → p < count → count ≤ n + p → blocked_in (suc n) p ≡ blocked_in n p
+  settled : (n p : ℕ) → p < count → count ≤ n + p → blocked_in tree away (suc n) p
+      ≡ blocked_in tree away n p
   settled zero p below far = absurd (omega arith)
   settled (suc n) p below far =
       ap (λ b. away p || b)
-      (any_blocked-same (blocked_in (suc n)) (blocked_in n) (tree.children p)
-      (All-each (λ c. (p < c) × (c < count)) (λ c. blocked_in (suc n) c ≡ blocked_in n c)
+      (any_blocked-same (blocked_in tree away (suc n)) (blocked_in tree away n) (tree.children p)
+      (All-each (λ c. (p < c) × (c < count))
+      (λ c. blocked_in tree away (suc n) c ≡ blocked_in tree away n c)
       (tree.children p) (λ c both. settled n c both.1 (omega (arith, both.0, far)))
       (is.children p below)))
 

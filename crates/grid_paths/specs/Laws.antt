@@ -4,17 +4,19 @@
 --   RunsInTurn    a round: each process goes along its path, one process after another
 --   Composes      an order and one behind it, and scenes that agree
 --   StaysStuck    who is stuck makes no more moves
+--   HoldsAsMuch   an order of moves over links of some capacity is one over links of any number of
+--                 messages, on which no more are ever held
 --   ReachesFrom   what an order from the start comes to: an order by which the laws of every order
 --                 hold (`Reaches`)
 --   Halts         where some stay away from an exchange up a tree, all others come to wait
-use Rattle.std.specs.Prelude.{◌≡◌, ◌⊎◌, ℕ, ◌+◌, ◌<◌, ◌≤◌, ◌==◌, List, [], ◌++◌, Bool, length, if◌then◌else◌}
+use Rattle.std.specs.Prelude.{◌≡◌, ◌⊎◌, ℕ, ◌+◌, ◌<◌, ◌≤◌, ◌==◌, List, [], ◌++◌, Bool, length, Some, None, if◌then◌else◌}
 use Rattle.zpl_lists.specs.Front.{IsFrontOf}
-use Rattle.grid_links.specs.Laws.{Reaches}
+use Rattle.grid_links.specs.Laws.{Reaches, HoldsAtMost, with_capacity}
 use Rattle.grid_links.specs.Links.{IsWithin}
 use Rattle.grid_links.specs.Machine.{Ended, Stuck}
-use Rattle.grid_links.specs.Run.{System, World, count_of, start_world, next_turn, after, moves_of, shown_by, IsOver, IsStuck}
+use Rattle.grid_links.specs.Run.{System, count_of, start_world, next_turn, after, moves_of, shown_by, IsOver, IsStuck}
 use Rattle.grid_paths.specs.Path.{Event, IsPath, messages_to, messages_from, shown_in, NamesOthers}
-use Rattle.grid_paths.specs.Scene.{Scene, HasScene, Agrees, Leads, MovesIn, RestsIn}
+use Rattle.grid_paths.specs.Scene.{Scene, HasScene, Agrees, OnlyMoves, Leads, MovesIn, RestsIn}
 use Rattle.grid_paths.specs.Tree.{Tree, Halting, Halted}
 
 -- ---- 1: one process
@@ -60,9 +62,9 @@ pub record IsOnceEach (count : ℕ) (at place : ℕ → ℕ) : Type 0 where
   pub place_at : (k : ℕ) → k < count → place (at k) ≡ k
   pub at_place : (p : ℕ) → p < count → at (place p) ≡ p
 
--- Each goes along its path. On each link, what was on it and is sent is what is taken and what is on
--- it then; no link has to hold more than was on it and is sent; and a process that comes before the
--- sender takes only what was on the link.
+-- Each goes along its path. On each link, what was on it and is sent is what is taken and what is
+-- on it then, and there is room for what was on it and is sent; and a process that comes before the
+-- sender takes no more than was on the link.
 pub record Round {L M K : Type 0} (system : System L M K) (place : ℕ → ℕ)
     (events : ℕ → List (Event M)) (one other : Scene L M) : Type 0 where
   pub path : (p : ℕ) → p < count_of system
@@ -104,7 +106,15 @@ StaysStuck {K = K} system =
     → (next_turn system (after system (order ++ more)) p ≡ Stuck kind)
     × (moves_of system (order ++ more) p ≡ moves_of system order p)
 
--- ---- 5: from the start on
+-- ---- 5: over links of any number of messages
+abbrev pub HoldsAsMuch : {L M K : Type 0} → System L M K → Type 0
+HoldsAsMuch system =
+    (order : List ℕ) (most : ℕ)
+    → OnlyMoves (with_capacity system (Some most)) (start_world system) order
+    → OnlyMoves (with_capacity system None) (start_world system) order
+    × HoldsAtMost (with_capacity system None) order most
+
+-- ---- 6: from the start on
 -- Each process rests in the scene, or it has made so many moves and its next turn is one more.
 abbrev pub HasCome : {L M K : Type 0} → System L M K → Scene L M → (ℕ → ℕ) → ℕ → Type 0
 HasCome system scene many least =
@@ -114,6 +124,7 @@ HasCome system scene many least =
 pub record Reached {L M K : Type 0} (system : System L M K) (other : Scene L M) (many : ℕ → ℕ)
     (shown : ℕ → List ℕ) (least : ℕ) : Type 0 where
   pub order : List ℕ
+  pub only_moves : OnlyMoves system (start_world system) order
   pub reaches : Reaches system order least
   pub arrives : HasScene (count_of system) (after system order) other
   pub moved : (p : ℕ) → p < count_of system → length (moves_of system order p) ≡ many p
@@ -129,7 +140,7 @@ ReachesFrom {L = L} {M = M} system =
     → HasScene (count_of system) (start_world system) one → Leads system one other many shown
     → HasCome system other many least → Reached system other many shown least
 
--- ---- 6: where some stay away
+-- ---- 7: where some stay away
 abbrev pub Halts : {L M K : Type 0} → System L M K → Type 0
 Halts {L = L} {M = M} system =
     (tree : Tree) (message : ℕ → M) (away : ℕ → Bool) (bytes : ℕ → List (List ℕ))

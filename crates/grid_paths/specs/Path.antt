@@ -1,7 +1,7 @@
 -- What one process does by itself, told apart from the links.
 --
---   Event           a move: one without a message, that shows some bytes; one that sends a message; or
---                   one that takes one. The last two show nothing
+--   Event           a move: one without a message, that shows some bytes; one that sends a message;
+--                   or one that takes one. The last two show nothing
 --   IsStep          the process goes from one state to the next by the event
 --   IsPath          it goes from one state to another by these events, one after another
 --   messages_to     the messages that events send to a process, the first one first

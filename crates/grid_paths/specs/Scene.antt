@@ -3,7 +3,8 @@
 --   Scene       the state of each process, and what is on each link
 --   HasScene    the states and the links of a world are the scene's
 --   Agrees      two scenes are the same, as far as there are processes
---   ComesTo     an order after which the world has the scene, with so many moves of each process
+--   OnlyMoves   each turn of an order is a move
+--   ComesTo     an order of moves after which the world has the scene, with so many of each process
 --               and the bytes that they show
 --   Leads       each world with the one scene comes so to the other
 --   IsReady     the links of a scene have what an event needs: room, or the message as the oldest
@@ -12,8 +13,8 @@
 --   RestsIn     its next turn is none: it has ended, awaits a message, or would send on a full link
 use Rattle.std.specs.Prelude.{◌≡◌, ℕ, ◌*◌, ◌<◌, true, false, List, [], ◌∷◌, length, Option, Some, slice_get}
 use Rattle.grid_links.specs.Links.{link_of, has_room}
-use Rattle.grid_links.specs.Machine.{Ended, Goes, Awaits}
-use Rattle.grid_links.specs.Run.{System, World, count_of, after_from, moves_from, shown_by}
+use Rattle.grid_links.specs.Machine.{Ended, Goes, Awaits, Move, Moves}
+use Rattle.grid_links.specs.Run.{System, World, count_of, next_turn, given_turn, after_from, moves_from, shown_by}
 use Rattle.grid_paths.specs.Path.{Event, Quiet, Sent, Taken, IsStep}
 
 pub record Scene (L M : Type 0) : Type 0 where
@@ -33,9 +34,16 @@ pub record Agrees {L M : Type 0} (count : ℕ) (one other : Scene L M) : Type 0 
   pub link : (from to : ℕ) → from < count → to < count → one.links from to ≡ other.links from to
 
 -- ---- from one scene to another
+abbrev pub OnlyMoves : {L M K : Type 0} → System L M K → World L M → List ℕ → Type 0
+OnlyMoves system world [] = Unit {0}
+OnlyMoves {L = L} {M = M} system world (p ∷ order) =
+    (move : Move L M) × (next_turn system world p ≡ Moves move)
+    × OnlyMoves system (given_turn system world p) order
+
 pub record ComesTo {L M K : Type 0} (system : System L M K) (world : World L M) (other : Scene L M)
     (many : ℕ → ℕ) (shown : ℕ → List ℕ) : Type 0 where
   pub order : List ℕ
+  pub only_moves : OnlyMoves system world order
   pub arrives : HasScene (count_of system) (after_from system world order) other
   pub moved : (p : ℕ) → p < count_of system → length (moves_from system world order p) ≡ many p
   pub shows : (p : ℕ) → p < count_of system → shown_by (moves_from system world order p) ≡ shown p

@@ -1,6 +1,6 @@
 -- Processes that exchange messages up a tree and down again, where some stay away.
 --
---   Tree, IsTree   each process has its children and its parent, except the root, which is process 0
+--   Tree, IsTree   each process has its children and its parent; the root, process 0, has no parent
 --   Climbs         what a process does on the way up: it takes a message from each of its children,
 --                  in their order, sends one to its parent, and then awaits the parent's
 --   Halting        no message is on its way; some processes stay away, and go on by themselves; all
@@ -26,8 +26,8 @@ abbrev pub parents : Option ℕ → List ℕ
 parents None = []
 parents (Some parent) = parent ∷ []
 
--- A process is once among another one's children where that is its parent, and else not at all; each
--- has a greater number than its parent.
+-- A process is once among another one's children where that is its parent, and else not at all;
+-- each has a greater number than its parent.
 pub record IsTree (count : ℕ) (tree : Tree) : Type 0 where
   pub family : (p c : ℕ) → p < count → c < count
       → times c (tree.children p) ≡ times p (parents (tree.parent c))

@@ -3,8 +3,8 @@
 //! law into a proof. The statements stand in `specs/Laws.antt`.
 ghost use Rattle.std.specs.Prelude.{List, Option, ℕ};
 ghost use Rattle.grid_links.specs.Laws.{system_of};
-ghost use Rattle.grid_paths.specs.Laws.{Composes, Halts, ReachesFrom, RunsAlone, RunsInTurn};
-ghost use Rattle.grid_paths.specs.Laws.{StaysStuck};
+ghost use Rattle.grid_paths.specs.Laws.{Composes, Halts, HoldsAsMuch, ReachesFrom, RunsAlone};
+ghost use Rattle.grid_paths.specs.Laws.{RunsInTurn, StaysStuck};
 
 use grid_links::Machine;
 
@@ -34,6 +34,14 @@ pub fn orders_compose<T: Machine>()
 pub fn stuck_processes_stay<T: Machine>()
     ensures { (machine : T) (start : List T.Local) (capacity : Option ℕ) →
         StaysStuck (system_of (T.act machine) (T.fed machine) start capacity) }
+{}
+
+/// An order over links of some capacity in which each turn is a move is so over links of any number
+/// of messages too, and no link ever holds more than that capacity: turn for turn it is the same
+/// run.
+pub fn orders_hold_as_much<T: Machine>()
+    ensures { (machine : T) (start : List T.Local) (capacity : Option ℕ) →
+        HoldsAsMuch (system_of (T.act machine) (T.fed machine) start capacity) }
 {}
 
 /// Where an order leads from the start to a scene in which each process rests, or has made so many
