@@ -4,12 +4,8 @@ use Rattle.std.proofs.lemmas.List.Sums.{sum_by-cons}
 use Rattle.std.proofs.lemmas.List.Elements.{All-head, All-tail}
 use Rattle.grid_links.specs.Machine.{Processes}
 use Rattle.grid_links.specs.Run.{message_where}
-use Rattle.grid_paths.specs.Path.{Event, Quiet, Sent, Taken, IsPath, messages_to, messages_from, shown_in, NamesOthers}
+use Rattle.grid_paths.specs.Path.{AreOthers, Event, Quiet, Sent, Taken, IsPath, messages_to, messages_from, shown_in, NamesOthers}
 use Rattle.grid_paths.specs.Tree.{times}
-
--- these are processes, and others than p
-abbrev pub AreOthers : ℕ → ℕ → List ℕ → Type 0
-AreOthers count p numbers = All (λ q. (q < count) × ((q == p) ≡ false)) numbers
 
 pub path_through : {L M K : Type 0} (processes : Processes L M K) (p : ℕ) (one two three : L)
     (first second : List (Event M))

@@ -7,8 +7,9 @@
 --   messages_to     the messages that events send to a process, the first one first
 --   messages_from   those that they take from a process
 --   shown_in        the bytes that they show
+--   AreOthers       these are processes, and others than p
 --   NamesOthers     whom each event names is a process, and another one than its own
-use Rattle.std.specs.Prelude.{◌≡◌, ℕ, ◌<◌, ◌==◌, false, List, [], ◌∷◌, ◌++◌, Some, None}
+use Rattle.std.specs.Prelude.{◌≡◌, ℕ, ◌<◌, ◌==◌, false, List, [], ◌∷◌, ◌++◌, All, Some, None}
 use Rattle.grid_links.specs.Machine.{Processes, Goes, Awaits, Takes}
 use Rattle.grid_links.specs.Run.{message_where}
 
@@ -51,6 +52,9 @@ shown_in (Sent q message ∷ events) = shown_in events
 shown_in (Taken q message ∷ events) = shown_in events
 
 -- ---- whom they name
+abbrev pub AreOthers : ℕ → ℕ → List ℕ → Type 0
+AreOthers count p numbers = All (λ q. (q < count) × ((q == p) ≡ false)) numbers
+
 abbrev pub NamesOther : {M : Type 0} → ℕ → ℕ → Event M → Type 0
 NamesOther count p (Quiet shown) = Unit {0}
 NamesOther count p (Sent q message) = (q < count) × ((q == p) ≡ false)
