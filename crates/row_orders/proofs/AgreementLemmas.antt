@@ -1,28 +1,26 @@
 -- All come to one value: one round up, and one down.
-use Rattle.std.proofs.Common.{◌≡◌, ℕ, zero, suc, ◌+◌, ◌-◌, ◌*◌, ◌<◌, ◌≤◌, Bool, true, false, cond, ◌==◌, nat_lt, ℤ, pos, List, [], ◌∷◌, ◌++◌, length, map, replicate, find, fold, if◌then◌else◌, All, Option, Some, None, option_map, refl, sym, ◌∙◌, ap, ap₂, subst, arith, append_assoc, append-nil, length-append, lt-ltb, eq-eqb, eqb-true, le_trans, lt_trans, zero-add}
+use Rattle.std.proofs.Common.{◌≡◌, ℕ, ◌+◌, ◌-◌, ◌*◌, ◌<◌, ◌≤◌, Bool, true, false, cond, ◌==◌, nat_lt, ℤ, List, [], ◌∷◌, ◌++◌, length, map, replicate, find, fold, if◌then◌else◌, All, Option, Some, None, refl, sym, ◌∙◌, ap, ap₂, subst, arith, append_assoc, append-nil, length-append, lt-ltb, eq-eqb, zero-add}
 use Rattle.std.proofs.lemmas.Bool.{ne_eqb}
 use Rattle.std.proofs.lemmas.List.{length-map, length-replicate}
 use Rattle.std.proofs.lemmas.List.Sums.{sum_by-cons}
 use Rattle.std.proofs.lemmas.List.Elements.{All-head, All-tail, All-nil, All-cons}
 use Rattle.grid_links.specs.Links.{IsWithin}
 use Rattle.grid_links.specs.declared.messages.Message.{Message}
-use Rattle.grid_links.specs.Machine.{Goes}
-use Rattle.grid_links.specs.Run.{System, count_of}
+use Rattle.grid_links.specs.Run.{count_of}
 use Rattle.node_form.specs.declared.tables.Tables.{Tables}
-use Rattle.grid_meaning.specs.Action.{Action, StuckKind}
-use Rattle.grid_meaning.specs.Collective.{Collective, Stage, Alone, Sends, TakesFrom, Last, Kin, agreed, agreeing_stages, to_parent, joined_values, value_for, value_of_all, word_from, word_or_zero, first_word, kept_with, keeping}
+use Rattle.grid_meaning.specs.Action.{Action}
+use Rattle.grid_meaning.specs.Collective.{Collective, Stage, Sends, TakesFrom, Last, Kin, agreed, agreeing_stages, to_parent, joined_values, value_for, value_of_all, word_from, word_or_zero, first_word, kept_with, keeping}
 use Rattle.grid_meaning.specs.Grid.{IsCapacity, system_over}
 use Rattle.grid_meaning.specs.Local.{Local}
 use Rattle.grid_meaning.specs.Turn.{processes}
-use Rattle.grid_paths.specs.Path.{AreOthers, Event, Quiet, Sent, Taken, IsPath, NamesOthers, messages_to, messages_from, shown_in}
+use Rattle.grid_paths.specs.Path.{AreOthers, Event, Quiet, Sent, Taken, IsPath, messages_to, messages_from, shown_in}
 use Rattle.grid_paths.specs.Scene.{Scene, Leads}
 use Rattle.grid_paths.specs.Laws.{IsOnceEach, Round}
 use Rattle.grid_paths.proofs.RoundLemmas.{leads_agreed, leads_through, runs_in_turn}
-use Rattle.grid_paths.specs.Scene.{Agrees}
 use Rattle.grid_paths.specs.Tree.{times, parents}
-use Rattle.row_orders.specs.Rows.{at_turn, KeepsRow, IsBlind, taking, IsAtRow, messages, quiet_scene}
+use Rattle.row_orders.specs.Rows.{at_turn, KeepsRow, IsBlind, taking, IsAtRow, quiet_scene}
 use Rattle.row_orders.specs.Agreement.{gathered, Agreeing, Agree}
-use Rattle.row_orders.proofs.StageLemmas.{at_row_kept, keeps_same, keeps_through, last_step, sends_path, takes_path}
+use Rattle.row_orders.proofs.StageLemmas.{at_row_kept, last_step, sends_path, takes_path}
 use Rattle.grid_paths.proofs.EventLemmas.{path_through, messages_to-append, messages_from-append, shown_in-append, named-append, sends_named, takes_named, sends_take_none, takes_send_none, sends_show_none, takes_show_none, sends_send, takes_take}
 use Rattle.row_orders.proofs.DeliveryLemmas.{in_order}
 

@@ -1,5 +1,5 @@
 -- Each row but `remap` is blind: it sees the turns that were made in its stages alone.
-use Rattle.std.proofs.Common.{◌≡◌, ℕ, zero, suc, ◌+◌, ◌*◌, ◌==◌, Bool, true, false, ℤ, List, [], ◌∷◌, ◌++◌, length, map, Option, Some, None, option_map, option_and_then, slice_get, refl, sym, ◌∙◌, ap, ap₂, subst}
+use Rattle.std.proofs.Common.{◌≡◌, ℕ, zero, suc, ◌==◌, Bool, ℤ, List, [], ◌∷◌, ◌++◌, length, map, Option, Some, None, option_map, option_and_then, slice_get, refl, ◌∙◌, ap, ap₂, subst}
 use Rattle.std.specs.Prelude.{unwrap_or}
 use Rattle.std.proofs.Math.Path.{fun_ext}
 use Rattle.zpl_arrays.specs.Row.{kept_values, running}
@@ -11,9 +11,9 @@ use Rattle.zpl_arrays.specs.Array.{Array}
 use Rattle.node_form.specs.declared.arrays.Item.{Item}
 use Rattle.node_form.specs.declared.tables.Tables.{Tables}
 use Rattle.grid_meaning.specs.Collective.{Collective, Stage, Alone, Sends, TakesFrom, Last, others_where, keeping}
-use Rattle.grid_meaning.specs.Delivery.{Delivery, delivered, each_word, with_words, with_combined, combined_into, edging, edged, flooding, flooded, parting, parted, border_targets, flood_targets, part_targets}
-use Rattle.grid_meaning.specs.Exchange.{started, finished, word_count, words_between, words_written, places_of}
-use Rattle.grid_meaning.specs.Gather.{gathered, gather_stages, gather_last, prints_gathered}
+use Rattle.grid_meaning.specs.Delivery.{Delivery, delivered, each_word, with_words, with_combined, combined_into, edging, flooding, parting, border_targets, flood_targets, part_targets}
+use Rattle.grid_meaning.specs.Exchange.{started, finished, words_written}
+use Rattle.grid_meaning.specs.Gather.{gathered, gather_last, prints_gathered}
 use Rattle.grid_meaning.specs.Local.{Local}
 use Rattle.grid_meaning.specs.Owner.{region_in, tuples_of}
 use Rattle.grid_meaning.specs.Place.{values_at, with_values}

@@ -1,23 +1,21 @@
 -- A row in lock step is two rounds: each acts alone and sends, then each takes and goes on.
-use Rattle.std.proofs.Common.{◌≡◌, ℕ, zero, suc, ◌+◌, ◌<◌, ◌≤◌, Bool, true, false, ◌==◌, ℤ, List, [], ◌∷◌, ◌++◌, length, map, replicate, All, Option, Some, None, refl, sym, ◌∙◌, ap, ap₂, subst, arith, append_assoc, append-nil, length-append, zero-add, add-zero, le_trans}
-use Rattle.std.proofs.lemmas.List.{length-map, length-replicate}
+use Rattle.std.proofs.Common.{◌≡◌, ℕ, ◌+◌, ◌<◌, ◌≤◌, Bool, true, false, List, [], ◌∷◌, ◌++◌, length, map, replicate, Option, Some, None, refl, sym, ◌∙◌, ap, ap₂, subst, arith, append_assoc, append-nil, length-append}
+use Rattle.std.proofs.lemmas.List.{length-map}
 use Rattle.grid_links.specs.Links.{IsWithin}
 use Rattle.grid_links.specs.declared.messages.Message.{Message}
 use Rattle.grid_links.specs.Machine.{Goes}
-use Rattle.grid_links.specs.Run.{System, count_of}
+use Rattle.grid_links.specs.Run.{count_of}
 use Rattle.node_form.specs.declared.tables.Tables.{Tables}
-use Rattle.grid_meaning.specs.Action.{StuckKind}
-use Rattle.grid_meaning.specs.Collective.{Collective, Stage, Alone, Sends, TakesFrom, Last}
-use Rattle.grid_meaning.specs.Grid.{IsCapacity, system_over}
+use Rattle.grid_meaning.specs.Collective.{Collective, Stage, Sends, TakesFrom, Last}
+use Rattle.grid_meaning.specs.Grid.{system_over}
 use Rattle.grid_meaning.specs.Local.{Local}
 use Rattle.grid_meaning.specs.Turn.{processes}
 use Rattle.grid_paths.specs.Path.{Event, Quiet, Sent, Taken, IsPath, NamesOthers, messages_to, messages_from, shown_in}
 use Rattle.grid_paths.specs.Scene.{Scene, Leads}
 use Rattle.grid_paths.specs.Laws.{IsOnceEach, Round}
 use Rattle.grid_paths.proofs.RoundLemmas.{leads_agreed, leads_through, runs_in_turn}
-use Rattle.grid_paths.specs.Scene.{Agrees}
 use Rattle.grid_paths.specs.Tree.{times}
-use Rattle.row_orders.specs.Rows.{at_turn, KeepsRow, IsBlind, alone_where, alone_stage, delivery_stages, IsAtRow, Acting, Balances, scene_of, Meet}
+use Rattle.row_orders.specs.Rows.{at_turn, KeepsRow, IsBlind, alone_where, alone_stage, IsAtRow, Acting, Balances, scene_of, Meet}
 use Rattle.row_orders.proofs.StageLemmas.{alone_step, at_row_kept, keeps_same, last_step, sends_path, takes_path}
 use Rattle.grid_paths.proofs.EventLemmas.{path_through, messages_to-append, messages_from-append, shown_in-append, named-append, sends_named, takes_named, sends_take_none, takes_send_none, sends_show_none, takes_show_none, sends_send, takes_take}
 

@@ -1,7 +1,7 @@
 -- Stages, messages on links, and joined values.
 use Rattle.std.proofs.Common.{◌≡◌, ℕ, zero, suc, true, false, ℤ, List, [], ◌∷◌, refl}
 use Rattle.std.specs.Prelude.{pos}
-use Rattle.grid_meaning.specs.Collective.{Stage, Alone, Sends, TakesFrom, Last}
+use Rattle.grid_meaning.specs.Collective.{Alone, Sends, TakesFrom, Last}
 use Rattle.grid_meaning.specs.Local.{Local}
 use Rattle.row_orders.specs.Rows.{delivery_stages, Flight, flying}
 use Rattle.row_orders.specs.Agreement.{gathered}

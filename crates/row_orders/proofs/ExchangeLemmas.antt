@@ -1,5 +1,5 @@
 -- The words of a row are taken in it, or are on their way until they are.
-use Rattle.std.proofs.Common.{◌≡◌, ℕ, zero, suc, ◌+◌, ◌*◌, ◌<◌, ◌≤◌, List, [], ◌∷◌, ◌++◌, length, replicate, All, Option, Some, None, refl, sym, ◌∙◌, ap, ap₂, subst, arith, append-nil, length-append, le_trans}
+use Rattle.std.proofs.Common.{◌≡◌, ℕ, ◌*◌, ◌<◌, ◌≤◌, List, [], ◌∷◌, ◌++◌, length, All, Option, Some, None, sym, ◌∙◌, ap, ap₂, subst, arith, append-nil, length-append, le_trans}
 use Rattle.std.proofs.lemmas.Grind.{flat_map-append}
 use Rattle.std.proofs.lemmas.List.{length-replicate}
 use Rattle.std.proofs.lemmas.List.Elements.{All-head, All-tail}
@@ -8,11 +8,9 @@ use Rattle.grid_links.specs.Links.{IsWithin}
 use Rattle.grid_links.specs.declared.messages.Message.{Message}
 use Rattle.grid_links.specs.Run.{count_of}
 use Rattle.node_form.specs.declared.tables.Tables.{Tables}
-use Rattle.grid_meaning.specs.Collective.{Collective}
 use Rattle.grid_meaning.specs.Grid.{IsCapacity, system_over}
-use Rattle.grid_meaning.specs.Local.{Local}
 use Rattle.grid_paths.specs.Tree.{times}
-use Rattle.row_orders.specs.Rows.{messages, ArePartners, Flight, flight_messages, flying, IsFlight, HasRoom, Delivering, Deliver, Starting, Finishing, Exchange}
+use Rattle.row_orders.specs.Rows.{messages, Flight, flight_messages, IsFlight, HasRoom, Deliver, Exchange}
 use Rattle.row_orders.proofs.DeliveryLemmas.{meets}
 
 within_one : (links : Option ℕ) (link : List Message) → IsCapacity links → length link ≤ 1

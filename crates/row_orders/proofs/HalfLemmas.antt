@@ -1,23 +1,22 @@
 -- Half rounds, and the rows that are made of them.
-use Rattle.std.proofs.Common.{◌≡◌, ℕ, zero, suc, ◌+◌, ◌<◌, ◌≤◌, Bool, true, false, cond, ◌==◌, ℤ, List, [], ◌∷◌, ◌++◌, length, map, replicate, All, Option, Some, None, refl, sym, ◌∙◌, ap, ap₂, subst, arith, append-nil, length-append, eq-eqb, le_trans}
+use Rattle.std.proofs.Common.{◌≡◌, ℕ, ◌+◌, ◌<◌, ◌≤◌, Bool, true, false, cond, ℤ, List, [], ◌∷◌, ◌++◌, length, map, Option, Some, None, refl, sym, ◌∙◌, ap, subst, arith, append-nil, length-append, eq-eqb}
 use Rattle.std.proofs.lemmas.List.{length-map, length-replicate}
 use Rattle.grid_links.specs.Links.{IsWithin}
 use Rattle.grid_links.specs.declared.messages.Message.{Message}
-use Rattle.grid_links.specs.Machine.{Goes, Awaits, Takes, Refuses}
+use Rattle.grid_links.specs.Machine.{Goes, Takes, Refuses}
 use Rattle.grid_links.specs.Run.{count_of}
 use Rattle.node_form.specs.declared.tables.Tables.{Tables}
-use Rattle.grid_meaning.specs.Action.{Action, Feeding, WrongTag, WrongLength}
-use Rattle.grid_meaning.specs.Collective.{Collective, Stage, Sends, TakesFrom, stage_of}
+use Rattle.grid_meaning.specs.Action.{Action, WrongTag, WrongLength}
+use Rattle.grid_meaning.specs.Collective.{Collective}
 use Rattle.grid_meaning.specs.Grid.{IsCapacity, system_over}
 use Rattle.grid_meaning.specs.Local.{Local}
-use Rattle.grid_meaning.specs.Turn.{act, act_in, fed, fed_in, processes, sends, takes}
-use Rattle.grid_paths.specs.Path.{AreOthers, Event, Quiet, Sent, Taken, IsStep, IsPath, messages_to, messages_from, shown_in}
-use Rattle.grid_paths.specs.Scene.{Scene, Leads}
-use Rattle.grid_paths.specs.Laws.{Round}
+use Rattle.grid_meaning.specs.Turn.{act_in, fed_in, processes, sends, takes}
+use Rattle.grid_paths.specs.Path.{AreOthers, Event, Sent, Taken, IsPath, messages_from}
+use Rattle.grid_paths.specs.Scene.{Leads}
 use Rattle.grid_paths.proofs.RoundLemmas.{leads_agreed, leads_through, runs_in_turn}
 use Rattle.grid_paths.specs.Tree.{times}
-use Rattle.row_orders.specs.Rows.{IsAtRow, taken_where, ArePartners, messages, scene_of, quiet_scene}
-use Rattle.row_orders.specs.Halves.{more, Sending, Taking, Remapping, Remap}
+use Rattle.row_orders.specs.Rows.{taken_where, ArePartners, messages, scene_of, quiet_scene}
+use Rattle.row_orders.specs.Halves.{more, Sending, Taking, Remap}
 use Rattle.row_orders.proofs.StageLemmas.{act_here, fed_here}
 use Rattle.grid_paths.proofs.EventLemmas.{sends_named, takes_named, sends_take_none, takes_send_none, sends_show_none, takes_show_none, sends_send, takes_take}
 use Rattle.row_orders.proofs.DeliveryLemmas.{in_order}

@@ -1,5 +1,5 @@
 -- Where some stay away from an agreement, all others come to wait.
-use Rattle.std.proofs.Common.{◌≡◌, ℕ, zero, suc, ◌+◌, ◌*◌, ◌<◌, ◌≤◌, Bool, true, false, ◌==◌, ℤ, List, [], ◌∷◌, ◌++◌, length, map, Option, Some, None, refl, sym, ◌∙◌, ap, ap₂, subst, arith, append_assoc, length-append, eq-eqb, lt-ltb}
+use Rattle.std.proofs.Common.{◌≡◌, ℕ, ◌+◌, ◌*◌, ◌<◌, Bool, true, false, ℤ, List, [], ◌∷◌, ◌++◌, length, map, Option, Some, None, refl, sym, ◌∙◌, ap, ap₂, arith, append_assoc, length-append, eq-eqb, lt-ltb}
 use Rattle.std.proofs.lemmas.List.{length-map, map-append}
 use Rattle.grid_links.specs.Links.{has_room}
 use Rattle.grid_links.specs.declared.messages.Message.{Message}
@@ -11,7 +11,7 @@ use Rattle.grid_meaning.specs.Collective.{Collective, Stage, Sends, TakesFrom, L
 use Rattle.grid_meaning.specs.Grid.{IsCapacity, system_over}
 use Rattle.grid_meaning.specs.Local.{Local}
 use Rattle.grid_meaning.specs.Turn.{act, act_in, fed, processes}
-use Rattle.grid_paths.specs.Tree.{parents, Climbs, Halting, Halted}
+use Rattle.grid_paths.specs.Tree.{parents, Climbs, Halting}
 use Rattle.grid_paths.proofs.HaltLemmas.{halts}
 use Rattle.row_orders.specs.Rows.{at_turn, KeepsRow, IsBlind, IsAtRow, quiet_scene}
 use Rattle.row_orders.specs.Agreement.{gathered, tree_of, Partly, Halt}

@@ -1,11 +1,11 @@
 -- Who sends to whom, and who takes from whom.
-use Rattle.std.proofs.Common.{◌≡◌, ◌⊎◌, ℕ, zero, suc, ◌+◌, ◌-◌, ◌*◌, ◌/◌, ◌<◌, ◌≤◌, Bool, true, false, cond, not, ◌==◌, nat_lt, List, [], ◌∷◌, ◌++◌, length, filter, All, Option, Some, None, refl, sym, ◌∙◌, ap, ap₂, subst, inl, inr, arith, eq-eqb, eqb-true, ltb-true, lt-ltb, eq-or-lt_of_le}
+use Rattle.std.proofs.Common.{◌≡◌, ◌⊎◌, ℕ, zero, suc, ◌+◌, ◌-◌, ◌<◌, ◌≤◌, Bool, true, false, cond, not, ◌==◌, nat_lt, List, [], ◌∷◌, filter, All, refl, sym, ◌∙◌, ap, ap₂, subst, inl, inr, arith, eq-eqb, eqb-true, eq-or-lt_of_le}
 use Rattle.std.proofs.lemmas.Bool.{eqb-false, ne_eqb}
 use Rattle.std.proofs.lemmas.List.Sums.{sum_by-cons}
 use Rattle.std.proofs.lemmas.List.Elements.{All-nil, All-cons, All-filter}
 use Rattle.std.specs.List.{range_with_len}
 use Rattle.node_form.specs.declared.tables.Tables.{Tables}
-use Rattle.grid_meaning.specs.Collective.{Kin, others, others_where, star}
+use Rattle.grid_meaning.specs.Collective.{others, others_where, star}
 use Rattle.grid_meaning.specs.Local.{processors, processor_numbers}
 use Rattle.grid_paths.specs.Tree.{times, parents}
 use Rattle.grid_paths.specs.Path.{AreOthers}

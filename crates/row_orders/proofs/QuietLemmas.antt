@@ -1,7 +1,6 @@
 -- Each processor goes along by itself.
 use Rattle.std.proofs.Common.{◌≡◌, ℕ, ◌<◌, ◌≤◌, List, [], ◌∷◌, ◌++◌, length, map, Option, None, refl, sym, ◌∙◌, ap, subst, arith, append-nil}
 use Rattle.std.proofs.lemmas.List.{length-map}
-use Rattle.std.specs.List.{concat}
 use Rattle.grid_links.specs.Links.{IsWithin}
 use Rattle.grid_links.specs.declared.messages.Message.{Message}
 use Rattle.grid_links.specs.Machine.{Goes}
@@ -9,10 +8,9 @@ use Rattle.grid_links.specs.Run.{count_of}
 use Rattle.node_form.specs.declared.tables.Tables.{Tables}
 use Rattle.grid_meaning.specs.Grid.{system_over}
 use Rattle.grid_meaning.specs.Local.{Local}
-use Rattle.grid_meaning.specs.Turn.{act, processes}
-use Rattle.grid_paths.specs.Path.{Event, Quiet, IsPath}
+use Rattle.grid_meaning.specs.Turn.{act}
+use Rattle.grid_paths.specs.Path.{Event, Quiet}
 use Rattle.grid_paths.specs.Scene.{Leads}
-use Rattle.grid_paths.specs.Laws.{Round}
 use Rattle.grid_paths.proofs.HaltLemmas.{quiets_send_none, quiets_take_none, quiets_show, quiets_named}
 use Rattle.grid_paths.proofs.RoundLemmas.{leads_agreed, runs_in_turn}
 use Rattle.row_orders.specs.Rows.{scene_of, GoAlone}

@@ -1,21 +1,19 @@
 -- Every row but `remap` is blind.
-use Rattle.std.proofs.Common.{◌≡◌, ℕ, Bool, true, false, ℤ, List, [], ◌∷◌, Option, Some, None, option_map, slice_get, refl, sym, ◌∙◌, ap, subst}
+use Rattle.std.proofs.Common.{◌≡◌, ℕ, List, [], Option, Some, None, option_map, slice_get, refl, subst}
 use Rattle.std.specs.Prelude.{slice_set}
 use Rattle.zpl_nums.specs.Fold.{joined}
-use Rattle.node_form.specs.declared.instructions.Instr.{Instr}
 use Rattle.node_form.specs.declared.instructions.Instr.TheVariants as instr
 use Rattle.node_form.specs.declared.tables.Tables.{Tables}
 use Rattle.node_form.specs.declared.arrays.Item.{Item}
 use Rattle.zpl_nums.specs.declared.folds.Fold.{Fold}
 use Rattle.grid_meaning.specs.Action.{moves, goes_on}
-use Rattle.grid_meaning.specs.Collective.{Collective, Kin, agreed, decided, flag_word, word_flag, least_flag, folded, voted, scalar_at, star, tree}
+use Rattle.grid_meaning.specs.Collective.{Collective, Kin, decided, flag_word, word_flag, least_flag, folded, voted, scalar_at, star, tree}
 use Rattle.grid_meaning.specs.Delivery.{edging, edged, flooding, flooded, parting, parted}
 use Rattle.grid_meaning.specs.Exchange.{started, finished}
 use Rattle.grid_meaning.specs.Gather.{gathered}
 use Rattle.grid_meaning.specs.Local.{Local}
-use Rattle.grid_meaning.specs.Rows.{collective}
 use Rattle.grid_meaning.specs.Scan.{scanned_row}
-use Rattle.row_orders.specs.Rows.{at_turn, IsBlind, is_remap, AreBlind}
+use Rattle.row_orders.specs.Rows.{at_turn, IsBlind, AreBlind}
 use Rattle.row_orders.proofs.AgreementLemmas.{agreed_blind}
 use Rattle.row_orders.proofs.BlindLemmas.{delivered_blind, edging_by_slots, flooding_by_slots, parting_by_slots, started_blind, finished_blind, gathered_blind, scanned_blind}
 

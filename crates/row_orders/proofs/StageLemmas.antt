@@ -1,18 +1,18 @@
 -- Paths through the stages of a row.
-use Rattle.std.proofs.Common.{◌≡◌, ℕ, zero, suc, ◌+◌, ◌<◌, ◌≤◌, Bool, true, false, ◌==◌, ℤ, List, [], ◌∷◌, ◌++◌, length, map, All, slice_get, Option, Some, None, option_map, option_and_then, refl, sym, ◌∙◌, ap, ap₂, subst, arith, cond, add-zero, append_assoc, length-append, eq-eqb}
+use Rattle.std.proofs.Common.{◌≡◌, ℕ, ◌+◌, Bool, true, false, ℤ, List, [], ◌∷◌, ◌++◌, length, map, All, slice_get, Option, Some, None, option_map, option_and_then, refl, sym, ◌∙◌, ap, ap₂, subst, arith, cond, add-zero, append_assoc, length-append, eq-eqb}
 use Rattle.std.proofs.lemmas.List.Elements.{All-head, All-tail}
 use Rattle.grid_links.specs.declared.messages.Message.{Message}
-use Rattle.grid_links.specs.Machine.{Goes, Awaits, Takes, Refuses}
+use Rattle.grid_links.specs.Machine.{Goes, Takes, Refuses}
 use Rattle.node_form.specs.declared.instructions.Instr.{Instr}
 use Rattle.node_form.specs.declared.instructions.Instr.TheVariants as instr
 use Rattle.node_form.specs.declared.tables.Tables.{Tables}
 use Rattle.node_form.specs.Control.{control}
-use Rattle.grid_meaning.specs.Action.{Action, Feeding, WrongTag, WrongLength, Unheld}
+use Rattle.grid_meaning.specs.Action.{Action, Feeding, WrongTag, WrongLength}
 use Rattle.grid_meaning.specs.Collective.{Collective, Stage, Alone, Sends, TakesFrom, Last, stage_of}
 use Rattle.grid_meaning.specs.Local.{Local}
 use Rattle.grid_meaning.specs.Rows.{collective}
-use Rattle.grid_meaning.specs.Turn.{act, act_at, act_in, act_together, fed, fed_at, fed_in, fed_by, fed_together, processes, registers_of, steps_on, sends, takes, unless_ended}
-use Rattle.grid_paths.specs.Path.{Event, Quiet, Sent, Taken, IsStep, IsPath}
+use Rattle.grid_meaning.specs.Turn.{act, act_at, act_in, act_together, fed, fed_at, fed_in, fed_together, processes, registers_of, steps_on, sends, takes, unless_ended}
+use Rattle.grid_paths.specs.Path.{Quiet, Sent, Taken, IsStep, IsPath}
 use Rattle.row_orders.specs.Rows.{at_turn, KeepsRow, IsBlind, taken_where, taking, IsAtRow}
 
 -- ---- a row in which processors work together

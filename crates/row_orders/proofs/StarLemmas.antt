@@ -1,5 +1,5 @@
 -- All others are children of processor 0.
-use Rattle.std.proofs.Common.{◌≡◌, ℕ, zero, suc, ◌+◌, ◌-◌, ◌*◌, ◌<◌, ◌≤◌, Bool, true, false, cond, ◌==◌, nat_lt, ℤ, List, [], ◌∷◌, ◌++◌, length, map, fold, All, slice_get, Option, Some, None, refl, sym, ◌∙◌, ap, ap₂, subst, arith, append_assoc, append-nil, le-ltb}
+use Rattle.std.proofs.Common.{◌≡◌, ℕ, zero, suc, ◌+◌, ◌-◌, ◌<◌, ◌≤◌, Bool, true, false, cond, ◌==◌, ℤ, List, [], ◌∷◌, ◌++◌, length, fold, All, slice_get, Option, Some, None, refl, sym, ◌∙◌, ap, subst, arith, le-ltb}
 use Rattle.std.specs.List.{range_with_len}
 use Rattle.std.proofs.lemmas.List.{length-map}
 use Rattle.std.proofs.lemmas.List.FromFn.{length-range_with_len}
@@ -10,16 +10,16 @@ use Rattle.grid_links.specs.Run.{count_of}
 use Rattle.node_form.specs.declared.instructions.Instr.{Instr}
 use Rattle.node_form.specs.declared.tables.Tables.{Tables}
 use Rattle.grid_meaning.specs.Action.{Action}
-use Rattle.grid_meaning.specs.Collective.{Collective, Kin, agreed, agreeing_stages, star, joined_values, kept_with, keeping, first_word}
+use Rattle.grid_meaning.specs.Collective.{agreed, agreeing_stages, star, joined_values, kept_with, keeping, first_word}
 use Rattle.grid_meaning.specs.Grid.{IsCapacity, system_over}
 use Rattle.grid_meaning.specs.Local.{Local, processors, processor_numbers, start_local}
 use Rattle.grid_meaning.specs.Rows.{collective}
 use Rattle.grid_paths.specs.Scene.{Leads}
 use Rattle.grid_paths.specs.Tree.{times, parents}
-use Rattle.row_orders.specs.Rows.{at_turn, quiet_scene}
+use Rattle.row_orders.specs.Rows.{quiet_scene}
 use Rattle.row_orders.specs.Agreement.{gathered, Agreeing, joined_over, AgreeAsStar}
 use Rattle.row_orders.proofs.AgreementLemmas.{agrees}
-use Rattle.row_orders.proofs.PartnerLemmas.{star_family, times-range, below-range}
+use Rattle.row_orders.proofs.PartnerLemmas.{star_family}
 
 pub processor_count : (code : Tables) (links : Option ℕ) → count_of (system_over code links)
     ≡ processors code

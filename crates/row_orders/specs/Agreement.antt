@@ -9,7 +9,7 @@
 --   AreTrees      the star and the tree of halves are trees
 --   Partly        some processors stay away
 --   Halt          then all others come to wait
-use Rattle.std.specs.Prelude.{◌≡◌, ℕ, ◌+◌, ◌-◌, ◌<◌, ◌≤◌, ◌==◌, Bool, true, false, ℤ, List, [], ◌∷◌, ◌++◌, All, fold, length, map, slice_get, Option, Some, None}
+use Rattle.std.specs.Prelude.{◌≡◌, ℕ, ◌-◌, ◌<◌, ◌≤◌, Bool, true, false, ℤ, List, [], ◌∷◌, All, fold, length, map, slice_get, Option, Some, None}
 use Rattle.std.specs.List.{range_with_len}
 use Rattle.grid_links.specs.Machine.{Goes}
 use Rattle.grid_links.specs.Run.{count_of}

@@ -3,9 +3,7 @@
 --   Sending, Taking   one after another, from one state to another
 --   Remapping         a remap read on all processors
 --   Remap             then some order leads all through
-use Rattle.std.specs.Prelude.{◌≡◌, ℕ, zero, suc, ◌+◌, ◌<◌, ◌≤◌, Bool, ℤ, List, [], ◌∷◌, ◌++◌, All, length, Option, Some, None}
-use Rattle.grid_links.specs.declared.messages.Message.{Message}
-use Rattle.grid_links.specs.Links.{IsWithin}
+use Rattle.std.specs.Prelude.{◌≡◌, ℕ, ◌+◌, ◌<◌, ℤ, List, [], ◌∷◌, length, Option, Some, None}
 use Rattle.grid_links.specs.Machine.{Goes}
 use Rattle.grid_links.specs.Run.{count_of}
 use Rattle.node_form.specs.declared.tables.Tables.{Tables}
@@ -14,9 +12,8 @@ use Rattle.grid_meaning.specs.Grid.{system_over}
 use Rattle.grid_meaning.specs.Local.{Local}
 use Rattle.grid_meaning.specs.Turn.{act}
 use Rattle.grid_paths.specs.Scene.{Leads}
-use Rattle.grid_paths.specs.Tree.{times}
 use Rattle.grid_paths.specs.Path.{AreOthers}
-use Rattle.row_orders.specs.Rows.{IsAtRow, taken_where, ArePartners, messages, scene_of, quiet_scene}
+use Rattle.row_orders.specs.Rows.{IsAtRow, taken_where, ArePartners, quiet_scene}
 
 abbrev pub more : Local → Local
 more local = record local { made = local.made + 1 }

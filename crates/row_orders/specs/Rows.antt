@@ -16,7 +16,7 @@
 --   Deliver, Exchange
 --                  then some order leads all through
 --   GoAlone        so it does where each goes along by itself
-use Rattle.std.specs.Prelude.{◌≡◌, ℕ, ◌+◌, ◌*◌, ◌<◌, ◌≤◌, ◌==◌, Bool, true, false, ℤ, List, [], ◌∷◌, ◌++◌, All, length, map, option_and_then, option_map, replicate, slice_get, Option, Some, None}
+use Rattle.std.specs.Prelude.{◌≡◌, ℕ, ◌*◌, ◌<◌, ◌≤◌, Bool, true, false, ℤ, List, [], ◌∷◌, ◌++◌, All, length, map, option_and_then, option_map, replicate, slice_get, Option, Some, None}
 use Rattle.std.specs.List.{concat, flat_map}
 use Rattle.grid_links.specs.Links.{IsWithin}
 use Rattle.grid_links.specs.declared.messages.Message.{Message}
