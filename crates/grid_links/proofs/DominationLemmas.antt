@@ -32,7 +32,7 @@ and-both false b c more e = e
 -- ---- a run and one that goes further
 -- what a process does that isn't waiting: it is its next turn in the other run, where it has made no more moves
 -- there, or else its next move there
-abbrev IsCarried : {L M K : Type 0} → List (Move L M) → List (Move L M) → Turn L M K → Turn L M K → Type 0
+abbrev pub IsCarried : {L M K : Type 0} → List (Move L M) → List (Move L M) → Turn L M K → Turn L M K → Type 0
 IsCarried {L} {M} {K} whole past theirs turn =
     ((whole ≡ past) × (theirs ≡ turn))
     ⊎ ((move : Move L M) × (rest : List (Move L M)) × (whole ≡ past ++ move ∷ rest) × (turn ≡ Moves move))
@@ -57,7 +57,7 @@ module _ {L M K : Type 0} (system : System L M K) (past : Past L M) (world : Wor
         and-both (nat_lt to (count_of system)) _ _ (has_room-less system.capacity _ _ less) e;
   }
 
-  carried : (p : ℕ) → p < count_of system → (turn : Turn L M K) → next_turn system world p ≡ turn → (turn ≡ Waiting → ⊥)
+  pub carried : (p : ℕ) → p < count_of system → (turn : Turn L M K) → next_turn system world p ≡ turn → (turn ≡ Waiting → ⊥)
       → IsCarried (whole p) (past p) (next_turn system last p) turn
   carried p below turn e acts = by_rest (fronts p).rest (fronts p).joins
     where

@@ -1,10 +1,10 @@
-mod DominationLemmas
-mod CapacityLemmas
-mod EndLemmas
+pub mod DominationLemmas
+pub mod CapacityLemmas
+pub mod EndLemmas
 mod Examples
-mod FrontLemmas
-mod HistoryLemmas
-mod LapLemmas
-mod LinkLemmas
+pub mod FrontLemmas
+pub mod HistoryLemmas
+pub mod LapLemmas
+pub mod LinkLemmas
 mod NetworkLemmas
-mod TurnLemmas
+pub mod TurnLemmas

@@ -1,0 +1,4 @@
+pub mod Path
+pub mod Scene
+pub mod Tree
+pub mod Laws

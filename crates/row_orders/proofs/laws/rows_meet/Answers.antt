@@ -1,0 +1,5 @@
+use Rattle.row_orders.proofs.DeliveryLemmas.{meets}
+use Rattle.row_orders.proofs.laws.rows_meet.Goals as goal
+
+pub returns : goal.returns
+returns c = meets
