@@ -1,1 +1,5 @@
-mod Examples
+mod ExamplesArrays
+mod ExamplesCalls
+mod ExamplesOperators
+mod ExamplesRuns
+mod ExamplesScalars

@@ -136,7 +136,8 @@ where_in setup routine calling frame = record {
   numbers = frame.numbers;
 }
 
-abbrev pub body_code : Setup → Entry → (Calling → Next → Lowered) → Routine → Calling → Next → Lowered
+abbrev pub body_code : Setup → Entry → (Calling → Next → Lowered) → Routine → Calling → Next →
+    Lowered
 body_code setup entry call routine calling next =
     givens_code entry.line (formal_names routine.procedure.params) calling.actuals
     (record { names = []; numbers = calling.numbers }) next (λ frame after.

@@ -39,7 +39,8 @@ mutual
     NoSlate : Slates
     ThenSlate : (first : Slate) (rest : Slates) → Slates
 
--- a slate, the rows of its brackets, and the slots and the storages of copies that it has of its own
+-- a slate, the rows of its brackets, and the slots and the storages of copies that it has of its
+-- own
 pub record Settled (A : Type 0) : Type 0 where
   pub slate : A
   pub rows : List Row

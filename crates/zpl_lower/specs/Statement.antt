@@ -36,8 +36,8 @@ use Rattle.zpl_lower.specs.Lowered.{Lowered, coded, rows_alone, behind, joined, 
 
 -- ---- where statements are lowered
 
--- what a parameter takes: a scalar of the call's own, a copy of an array with its home box, or what a
--- variable's name stands for
+-- what a parameter takes: a scalar of the call's own, a copy of an array with its home box, or what
+-- a variable's name stands for
 pub data Given : Type 0 where
   Valued : (scalar : ℕ) → Given
   Copied : (stored : Stored) (home : Region) → Given

@@ -27,8 +27,8 @@ pub record Numbers : Type 0 where
 
 -- ---- current regions
 
--- A slot that has a rank's current region, with its mask or without one. Which of the dimensions are
--- flood dimensions is known before the run.
+-- A slot that has a rank's current region, with its mask or without one. Which of the dimensions
+-- are flood dimensions is known before the run.
 pub record Slotted : Type 0 where
   pub slot : ℕ
   pub flood : List Bool
