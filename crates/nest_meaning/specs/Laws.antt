@@ -24,8 +24,8 @@ Grow {P = P} ways =
 module _ {P Q : Type 0} (IsLike : P → Q → Type 0) where
   abbrev pub DoAlike : Type 0
   DoAlike =
-      (a : Ways P) (b : Ways Q) (n : ℕ) (nest oest : Nest) → AreNests IsLike a b nest oest
-      → (p : P) (q : Q) → IsLike p q → AreTold IsLike (nested a n nest p) (nested b n oest q)
+      (a : Ways P) (b : Ways Q) (n : ℕ) (nest nest' : Nest) → AreNests IsLike a b nest nest'
+      → (p : P) (q : Q) → IsLike p q → AreTold IsLike (nested a n nest p) (nested b n nest' q)
 
   abbrev pub DoesAlike : Type 0
   DoesAlike =
