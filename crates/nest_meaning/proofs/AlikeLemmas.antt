@@ -1,5 +1,6 @@
 -- Two trees of members do alike.
 use Rattle.std.proofs.Common.{◌≡◌, refl, sym, subst, ℕ, zero, suc, Bool, true, false, ℤ}
+use Rattle.std.proofs.Common.{◌∷◌}
 use Rattle.std.specs.Prelude.{Option, Some, None, if◌then◌else◌}
 use Rattle.std.specs.Option.{IfSome}
 use Rattle.zpl_nums.specs.Integer.{is_true}
@@ -17,7 +18,9 @@ use Rattle.nest_meaning.specs.Alike.{AreMasks}
 use Rattle.nest_meaning.specs.Alike.{NoMasks, Masks, AreLeaves, AreNests, BothNothing, Leaves, Ifs}
 use Rattle.nest_meaning.specs.Alike.{Elses}
 use Rattle.nest_meaning.specs.Alike.{Whiles, Repeats, IsSame, IsNestSame}
-use Rattle.nest_meaning.specs.Laws.{DoAlike, DoesAlike}
+use Rattle.nest_meaning.specs.Alike.{AreUnits, NoUnits, MoreUnits}
+use Rattle.nest_meaning.specs.Units.{units_of}
+use Rattle.nest_meaning.specs.Laws.{DoAlike, DoesAlike, HaveLikeUnits}
 
 module _ {P Q : Type 0} (IsLike : P → Q → Type 0) where
   value_told : (p : P) (q : Q) (x y : Computed ℤ) (f : ℤ → Told P) (g : ℤ → Told Q) → IsLike p q
@@ -187,6 +190,40 @@ module _ {P Q : Type 0} (IsLike : P → Q → Type 0) where
         Whiles (masks_same mask same.0) same.1 (same_nests body same.2) (same_nests after same.3)
     same_nests (Repeating mask line body until after) same =
         Repeats (masks_same mask same.0) same.1 (same_nests body same.2) (same_nests after same.3)
+
+  pub have_like_units : HaveLikeUnits IsLike
+  have_like_units a b nest nest' BothNothing = NoUnits
+  have_like_units a b nest nest'
+      (Leaves {leaf = x} {leaf' = y} line line' {after = c} {after' = d} m s w r) =
+      by c d x y m s w (have_like_units a b c d r)
+    where
+      one : (leaf : Leaf) (expr : ℕ) (mask : Option ℕ) (line : ℕ) (after : Nest)
+          → units_of (leafed leaf expr mask line after)
+          ≡ leafed leaf expr mask line Nothing ∷ units_of after
+      one (PutLeaf array) expr mask line after = refl
+      one (KeepLeaf cell) expr mask line after = refl
+      one (JoinLeaf scalar fold) expr mask line after = refl
+
+      by : {expr expr' : ℕ} {mask mask' : Option ℕ} (after after' : Nest) (x y : Leaf)
+          → AreMasks IsLike a b mask mask' → AreValues IsLike a b expr expr'
+          → AreLeaves IsLike a b x y
+          → AreUnits IsLike a b (units_of after) (units_of after')
+          → AreUnits IsLike a b (units_of (leafed x expr mask line after))
+          (units_of (leafed y expr' mask' line' after'))
+      by {expr = e} {expr' = f} {mask = k} {mask' = l} c d x y m s w more =
+          subst (λ units. AreUnits IsLike a b units (units_of (leafed y f l line' d)))
+          (sym (one x e k line c))
+          (subst (AreUnits IsLike a b (leafed x e k line Nothing ∷ units_of c))
+          (sym (one y f l line' d))
+          (MoreUnits (Leaves line line' m s w BothNothing) more))
+  have_like_units a b nest nest' (Ifs m s w r) =
+      MoreUnits (Ifs m s w BothNothing) (have_like_units a b _ _ r)
+  have_like_units a b nest nest' (Elses m s w o r) =
+      MoreUnits (Elses m s w o BothNothing) (have_like_units a b _ _ r)
+  have_like_units a b nest nest' (Whiles m s w r) =
+      MoreUnits (Whiles m s w BothNothing) (have_like_units a b _ _ r)
+  have_like_units a b nest nest' (Repeats m s w r) =
+      MoreUnits (Repeats m s w BothNothing) (have_like_units a b _ _ r)
 
   pub do_as_pairs : DoAlike IsLike
   do_as_pairs a b n nest nest' are p q like = do_alike a b n nest nest' are p q like

@@ -1,5 +1,5 @@
 -- Two trees that do alike, each by its own ways, from like states to like ones.
-use Rattle.std.specs.Prelude.{◌≡◌, ℕ, ℤ, Option, Some, None, ⊤}
+use Rattle.std.specs.Prelude.{◌≡◌, ℕ, ℤ, Option, Some, None, List, [], ◌∷◌, ⊤}
 use Rattle.std.specs.Option.{IfSome}
 use Rattle.zpl_nums.specs.declared.folds.Fold.{Fold}
 use Rattle.node_form.specs.Nest.{Nest, Nothing, Putting, Keeping, Joining, Choosing, ChoosingElse}
@@ -66,6 +66,11 @@ module _ {P Q : Type 0} (IsLike : P → Q → Type 0) (a : Ways P) (b : Ways Q) 
     Repeats : {expr expr' line line' : ℕ} {mask mask' : Option ℕ} {body body' after after' : Nest}
         → AreMasks mask mask' → AreValues expr expr' → AreNests body body' → AreNests after after'
         → AreNests (Repeating mask line body expr after) (Repeating mask' line' body' expr' after')
+
+  pub data AreUnits : List Nest → List Nest → Type 0 where
+    NoUnits : AreUnits [] []
+    MoreUnits : {unit unit' : Nest} {units units' : List Nest} → AreNests unit unit'
+        → AreUnits units units' → AreUnits (unit ∷ units) (unit' ∷ units')
 
   -- ---- one tree by two ways: what is read and written in it is alike
   abbrev pub IsSame : ℕ → Type 0
