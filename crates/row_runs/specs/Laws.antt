@@ -11,7 +11,7 @@ use Rattle.row_runs.specs.Rows.{AreLikeRows}
 use Rattle.row_runs.specs.Cut.{Stretch, IsRewritten, cut, passed, segments_of, moved_by}
 use Rattle.row_runs.specs.Code.{CodeRow, Decision, code_act}
 use Rattle.row_runs.specs.Structured.{Piece, Wants, StandsAt, doing, size, flattened}
-use Rattle.row_runs.specs.Structured.{left_before, shown_by}
+use Rattle.row_runs.specs.Structured.{left_before, shown_by, TurnsOn}
 
 -- a run that may make more jumps goes on from a shorter one, also where its rows go further
 abbrev pub Grow : {S Row : Type 0} → (act act' : Row → S → Effect S) → Type 0
@@ -101,3 +101,9 @@ module _ {R T S : Type 0} (step : R → S → Step S) (decide : T → S → Deci
   WantBehindTurns =
       (n : ℕ) (piece : Piece R T) (state : S) → (doing step decide n piece state).close ≡ Wants
       → n ≤ (doing step decide n piece state).jumps
+
+  -- where loops may make more turns, code goes on
+  abbrev pub GrowByTurns : Type 0
+  GrowByTurns =
+      (fewer more : ℕ) → fewer ≤ more → (piece : Piece R T) (state : S)
+      → TurnsOn (doing step decide fewer piece state) (doing step decide more piece state)

@@ -6,6 +6,7 @@ ghost use Rattle.row_runs.specs.Code.{Decision};
 ghost use Rattle.row_runs.specs.Counter.{TellTheirEnd};
 ghost use Rattle.row_runs.specs.Growth.{AreFurther};
 ghost use Rattle.row_runs.specs.Laws.{FlowOn, Follow, FollowWhole, GoalsAreStarts, Grow};
+ghost use Rattle.row_runs.specs.Laws.{GrowByTurns};
 ghost use Rattle.row_runs.specs.Laws.{KeepRuns, KeepsThrough, PassesKeepRuns, RewrittenAreTied};
 ghost use Rattle.row_runs.specs.Laws.{RowsKeepRuns, WantBehindTurns};
 ghost use Rattle.row_runs.specs.Run.{Effect, Step};
@@ -69,10 +70,13 @@ pub fn laid_out_code_does_the_same<Row, Test, State>()
         FollowWhole step decide }
 {}
 
-/// Structured code that wants a turn more than each loop may make has made at least as many jumps.
+/// Structured code that wants a turn more than each loop may make has made at least as many jumps;
+/// and where loops may make more turns, all else stays, and bytes that were printed are printed.
 pub fn wanting_takes_jumps<Row, Test, State>()
-    ensures { (step : Row → State → Step State) (decide : Test → State → Decision) →
+    ensures jumps { (step : Row → State → Step State) (decide : Test → State → Decision) →
         WantBehindTurns step decide }
+    ensures turns { (step : Row → State → Step State) (decide : Test → State → Decision) →
+        GrowByTurns step decide }
 {}
 
 /// Whether the next value of a counter is behind the last one is told in integers that wrap: for a
