@@ -1,7 +1,6 @@
 -- Laid-out code does what the structured code does.
 use Rattle.std.proofs.Common.{◌≡◌, ℕ, zero, suc, ◌+◌, true, false, List, [], ◌∷◌, ◌++◌, length, map}
 use Rattle.std.proofs.Common.{drop, refl, sym, ap, ◌∙◌, subst, arith, append_assoc, append-nil}
-use Rattle.std.proofs.Common.{length-append}
 use Rattle.zpl_nums.specs.declared.ends.End.TheVariants.{Done}
 use Rattle.row_runs.specs.Run.{Ends, Result, Step, Goes, Stops, stopped, printed, stepped, went}
 use Rattle.row_runs.specs.Run.{walked, runs}

@@ -8,7 +8,7 @@ use Rattle.row_runs.specs.Code.{Decision, Says, Fails}
 use Rattle.row_runs.specs.Structured.{Rows, Then, When, Choose, While, Repeat, Close, GoesOn}
 use Rattle.row_runs.specs.Structured.{Over, Wants, Course, goes_on, wants_more, jumping, behind}
 use Rattle.row_runs.specs.Structured.{then_at}
-use Rattle.row_runs.specs.Structured.{then_do, choose, rows_do, tested, while_turns, repeat_turns}
+use Rattle.row_runs.specs.Structured.{then_do, choose, tested, while_turns, repeat_turns}
 use Rattle.row_runs.specs.Structured.{doing, TurnsOn, SameCourse, WantedTurns}
 use Rattle.row_runs.specs.Laws.{GrowByTurns}
 
@@ -73,54 +73,55 @@ module _ {S : Type 0} where
   wants_on s course = WantedTurns refl (record { rest = course.bytes; joins = refl })
 
 module _ {R T S : Type 0} (step : R → S → Step S) (decide : T → S → Decision) where
-  tested_on : (head : List R) (test : T) (f g h k : S → Course S) (s : S)
+  tested_on : (x y : S → Course S) (test : T) (f g h k : S → Course S) (s : S)
+      → ((s : S) → TurnsOn (x s) (y s))
       → ((s : S) → TurnsOn (f s) (g s)) → ((s : S) → TurnsOn (h s) (k s))
-      → TurnsOn (tested step decide head test f h s) (tested step decide head test g k s)
-  tested_on head test f g h k s one other =
-      then_on (rows_do step decide head s) (rows_do step decide head s)
-      (λ t. choose (decide test t) f h t) (λ t. choose (decide test t) g k t)
-      (same_on (rows_do step decide head s))
-      (λ t. choose_on (decide test t) f g h k t (one t) (other t))
+      → TurnsOn (tested step decide x test f h s) (tested step decide y test g k s)
+  tested_on x y test f g h k s head one other =
+      then_on (x s) (y s) (λ t. choose (decide test t) f h t) (λ t. choose (decide test t) g k t)
+      (head s) (λ t. choose_on (decide test t) f g h k t (one t) (other t))
 
   abbrev out : S → Course S
   out s = jumping (goes_on s)
 
-  while_on : (n m : ℕ) → n ≤ m → (head : List R) (test : T) (f g : S → Course S)
-      → ((s : S) → TurnsOn (f s) (g s)) → (s : S)
-      → TurnsOn (while_turns step decide n head test f s) (while_turns step decide m head test g s)
-  while_on zero zero less head test f g body s = same_on _
-  while_on zero (suc m) less head test f g body s =
-      tested_on head test wants_more
-      (λ s. jumping (then_do (g s) (λ t. jumping (while_turns step decide m head test g t)))) out
-      out s
+  while_on : (n m : ℕ) → n ≤ m → (x y : S → Course S) (test : T) (f g : S → Course S)
+      → ((s : S) → TurnsOn (x s) (y s)) → ((s : S) → TurnsOn (f s) (g s)) → (s : S)
+      → TurnsOn (while_turns step decide n x test f s) (while_turns step decide m y test g s)
+  while_on zero zero less x y test f g head body s =
+      tested_on x y test wants_more wants_more out out s head (λ s. wants_on s _)
+      (λ s. same_on (out s))
+  while_on zero (suc m) less x y test f g head body s =
+      tested_on x y test wants_more
+      (λ s. jumping (then_do (g s) (λ t. jumping (while_turns step decide m y test g t)))) out
+      out s head
       (λ s. wants_on s _) (λ s. same_on (out s))
-  while_on (suc n) zero less head test f g body s = absurd (omega (arith, less))
-  while_on (suc n) (suc m) less head test f g body s =
-      let one : S → Course S = λ t. jumping (while_turns step decide n head test f t) in
-      let two : S → Course S = λ t. jumping (while_turns step decide m head test g t) in
-      tested_on head test (λ s. jumping (then_do (f s) one))
-      (λ s. jumping (then_do (g s) two)) out out s
+  while_on (suc n) zero less x y test f g head body s = absurd (omega (arith, less))
+  while_on (suc n) (suc m) less x y test f g head body s =
+      let one : S → Course S = λ t. jumping (while_turns step decide n x test f t) in
+      let two : S → Course S = λ t. jumping (while_turns step decide m y test g t) in
+      tested_on x y test (λ s. jumping (then_do (f s) one))
+      (λ s. jumping (then_do (g s) two)) out out s head
       (λ s. jumping_on (then_do (f s) one) (then_do (g s) two)
       (then_on (f s) (g s) one two (body s)
-      (λ t. jumping_on (while_turns step decide n head test f t)
-      (while_turns step decide m head test g t)
-      (while_on n m (omega (arith, less)) head test f g body t))))
+      (λ t. jumping_on (while_turns step decide n x test f t)
+      (while_turns step decide m y test g t)
+      (while_on n m (omega (arith, less)) x y test f g head body t))))
       (λ s. same_on (out s))
 
-  repeat_on : (n m : ℕ) → n ≤ m → (f g : S → Course S) (head : List R) (test : T)
-      → ((s : S) → TurnsOn (f s) (g s)) → (s : S)
-      → TurnsOn (repeat_turns step decide n f head test s)
-      (repeat_turns step decide m g head test s)
-  repeat_on zero m less f g head test body s = wants_on s _
-  repeat_on (suc n) zero less f g head test body s = absurd (omega (arith, less))
-  repeat_on (suc n) (suc m) less f g head test body s =
-      let one = tested step decide head test out (repeat_turns step decide n f head test) in
-      let two = tested step decide head test out (repeat_turns step decide m g head test) in
+  repeat_on : (n m : ℕ) → n ≤ m → (f g x y : S → Course S) (test : T)
+      → ((s : S) → TurnsOn (x s) (y s)) → ((s : S) → TurnsOn (f s) (g s)) → (s : S)
+      → TurnsOn (repeat_turns step decide n f x test s)
+      (repeat_turns step decide m g y test s)
+  repeat_on zero m less f g x y test head body s = wants_on s _
+  repeat_on (suc n) zero less f g x y test head body s = absurd (omega (arith, less))
+  repeat_on (suc n) (suc m) less f g x y test head body s =
+      let one = tested step decide x test out (repeat_turns step decide n f x test) in
+      let two = tested step decide y test out (repeat_turns step decide m g y test) in
       jumping_on (then_do (f s) one) (then_do (g s) two)
       (then_on (f s) (g s) one two (body s)
-      (λ t. tested_on head test out out (repeat_turns step decide n f head test)
-      (repeat_turns step decide m g head test) t (λ s. same_on (out s))
-      (λ s. repeat_on n m (omega (arith, less)) f g head test body s)))
+      (λ t. tested_on x y test out out (repeat_turns step decide n f x test)
+      (repeat_turns step decide m g y test) t head (λ s. same_on (out s))
+      (λ s. repeat_on n m (omega (arith, less)) f g x y test head body s)))
 
   pub grow_by_turns : GrowByTurns step decide
   grow_by_turns n m less (Rows rows) s = same_on _
@@ -144,8 +145,10 @@ module _ {R T S : Type 0} (step : R → S → Step S) (decide : T → S → Deci
       (jumping_on (doing step decide n other s) (doing step decide m other s)
       (grow_by_turns n m less other s))
   grow_by_turns n m less (While head test body) s =
-      while_on n m less head test (doing step decide n body) (doing step decide m body)
-      (λ t. grow_by_turns n m less body t) s
+      while_on n m less (doing step decide n head) (doing step decide m head) test
+      (doing step decide n body) (doing step decide m body)
+      (λ t. grow_by_turns n m less head t) (λ t. grow_by_turns n m less body t) s
   grow_by_turns n m less (Repeat body head test) s =
-      repeat_on n m less (doing step decide n body) (doing step decide m body) head test
-      (λ t. grow_by_turns n m less body t) s
+      repeat_on n m less (doing step decide n body) (doing step decide m body)
+      (doing step decide n head) (doing step decide m head) test
+      (λ t. grow_by_turns n m less head t) (λ t. grow_by_turns n m less body t) s
