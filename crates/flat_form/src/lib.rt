@@ -1,8 +1,8 @@
 //! Flat programs: rows of node code but for those that send messages, which act on whole arrays.
 //!
-//! [`Flat`] is a program. What its rows do, and its bounded runs, are defined in `specs/`. The other
-//! functions do nothing: each has a law of these definitions as its contract, and a call brings the
-//! law into a proof.
+//! [`Flat`] is a program. What its rows do, and its bounded runs, are defined in `specs/`. The
+//! other functions do nothing: each has a law of these definitions as its contract, and a call brings
+//! the law into a proof.
 #![tactic(auto)]
 
 mod flat;
