@@ -1,5 +1,6 @@
 -- Greater bounds on the turns of loops within groups.
-use Rattle.std.proofs.Common.{◌≡◌, refl, ℕ, ◌≤◌, Bool, true, false, List, [], ◌∷◌, Option, Some, None}
+use Rattle.std.proofs.Common.{ℕ, ◌≤◌, Bool, true, false, List, [], ◌∷◌, Option, Some}
+use Rattle.std.proofs.Common.{None}
 use Rattle.std.specs.Prelude.{if◌then◌else◌, slice_get}
 use Rattle.zpl_nums.specs.declared.ends.End.TheVariants.{More}
 use Rattle.zpl_region.specs.declared.regions.Region.{Region}
@@ -11,24 +12,30 @@ use Rattle.nest_meaning.specs.Tree.{nest_of}
 use Rattle.nest_meaning.specs.Units.{units_of}
 use Rattle.nest_meaning.proofs.GrowthLemmas.{grow as nest_grow}
 use Rattle.row_runs.specs.Growth.{AreFurther, IsFurther, SameEffect, WantedMore}
-use Rattle.row_runs.specs.Run.{Step, Goes, Stops, Ends, Wrong, Effect, Does}
+use Rattle.row_runs.specs.Run.{Step, Stops, Ends, Wrong, Effect, Does}
 use Rattle.row_runs.proofs.RunLemmas.{grow as runs_grow}
 use Rattle.flat_form.specs.Act.{act, row_does}
 use Rattle.flat_form.specs.Laws.{Grow}
-use Rattle.flat_form.specs.Loop.{AllTold, AllFine, SomeZero, SomeWant, SomeLost, Column, Point, all_awaiting, all_told, and_want, both_told, columns_behind, all_written, from_written, log_ways, loop_stands, looped, start_columns, tree_does, unit_at, unit_does, unit_line, units_do}
+use Rattle.flat_form.specs.Loop.{AllTold, AllFine, SomeZero, SomeWant, SomeLost, Column, Point}
+use Rattle.flat_form.specs.Loop.{all_awaiting, all_told, and_want, both_told, columns_behind}
+use Rattle.flat_form.specs.Loop.{all_written, from_written, log_ways, loop_stands, looped}
+use Rattle.flat_form.specs.Loop.{start_columns, tree_does, unit_at, unit_does, unit_line, units_do}
 use Rattle.flat_form.specs.Names.{Total, group_totals, group_words}
 use Rattle.flat_form.specs.Right.{are_settled}
-use Rattle.flat_form.specs.Row.{Member, Row, Set, Dims, Loop, Print, Number, Truth, Unless, Plain, Words, all_inlined, group_coded}
+use Rattle.flat_form.specs.Row.{Member, Row, Set, Dims, Loop, Print, Number, Truth, Unless, Plain}
+use Rattle.flat_form.specs.Row.{Words, all_inlined, group_coded}
 use Rattle.flat_form.specs.Whole.{Whole, start_whole}
 
 abbrev IsMore : Step Whole → Step Whole → Type 0
 IsMore = IsUpTo (Stops (Ends More))
 
 -- ---- all tuples
-both_wants : (told : Told Point) → IsUpTo SomeWant (both_told told SomeWant) (both_told told SomeWant)
+both_wants : (told : Told Point) → IsUpTo SomeWant (both_told told SomeWant)
+    (both_told told SomeWant)
 both_wants told = TheSame
 
-wants_both : (told : Told Point) (rest : AllTold) → IsUpTo SomeWant (and_want rest) (both_told told rest)
+wants_both : (told : Told Point) (rest : AllTold)
+    → IsUpTo SomeWant (and_want rest) (both_told told rest)
 wants_both told (AllFine points) = Beyond
 wants_both told SomeZero = Beyond
 wants_both told SomeWant = Beyond
@@ -50,27 +57,34 @@ both_most s t u w (TheSame {x = x}) Beyond = by x
 both_most s t u w Beyond (TheSame {x = y}) = wants_both t y
 both_most s t u w Beyond Beyond = Beyond
 
-all_most : (told more : Column → Told Point) → ((column : Column) → IsUpTo Wants (told column) (more column))
+all_most : (told more : Column → Told Point) → ((column : Column)
+    → IsUpTo Wants (told column) (more column))
     → (columns : List Column) → IsUpTo SomeWant (all_told told columns) (all_told more columns)
 all_most told more each [] = TheSame
 all_most told more each (column ∷ columns) =
-    both_most (told column) (more column) (all_told told columns) (all_told more columns) (each column)
+    both_most (told column) (more column) (all_told told columns) (all_told more columns)
+    (each column)
     (all_most told more each columns)
 
 -- ---- units
-written_more : (written : Option Whole) (f g : Whole → Step Whole) → ((whole : Whole) → IsMore (f whole) (g whole))
+written_more : (written : Option Whole) (f g : Whole → Step Whole)
+    → ((whole : Whole) → IsMore (f whole) (g whole))
     → IsMore (from_written written f) (from_written written g)
 written_more (Some whole) f g more = more whole
 written_more None f g more = TheSame
 
-unit_more : (line : ℕ) (columns : List Column) (whole : Whole) (s t : AllTold) (f g : List Column → Whole → Step Whole)
-    → IsUpTo SomeWant s t → ((columns : List Column) (whole : Whole) → IsMore (f columns whole) (g columns whole))
+unit_more : (line : ℕ) (columns : List Column) (whole : Whole) (s t : AllTold)
+    (f g : List Column → Whole → Step Whole)
+    → IsUpTo SomeWant s t → ((columns : List Column) (whole : Whole)
+    → IsMore (f columns whole) (g columns whole))
     → IsMore (unit_does line columns whole s f) (unit_does line columns whole t g)
 unit_more line columns whole s t f g (TheSame {x = x}) more = by x
   where
-    by : (x : AllTold) → IsMore (unit_does line columns whole x f) (unit_does line columns whole x g)
+    by : (x : AllTold) → IsMore (unit_does line columns whole x f)
+        (unit_does line columns whole x g)
     by (AllFine points) =
-        written_more (all_written columns points whole) (f (columns_behind columns points)) (g (columns_behind columns points))
+        written_more (all_written columns points whole) (f (columns_behind columns points))
+        (g (columns_behind columns points))
         (more (columns_behind columns points))
     by SomeZero = TheSame
     by SomeWant = TheSame
@@ -83,13 +97,17 @@ module _ (n m : ℕ) (less : n ≤ m) where
   units_more exprs [] columns whole = TheSame
   units_more exprs (unit ∷ units) columns whole =
       unit_more (unit_line unit) columns whole
-      (all_told (unit_at n exprs unit whole) columns) (all_told (unit_at m exprs unit whole) columns)
-      (λ columns whole. units_do n exprs units columns whole) (λ columns whole. units_do m exprs units columns whole)
+      (all_told (unit_at n exprs unit whole) columns)
+      (all_told (unit_at m exprs unit whole) columns)
+      (λ columns whole. units_do n exprs units columns whole)
+      (λ columns whole. units_do m exprs units columns whole)
       (all_most (unit_at n exprs unit whole) (unit_at m exprs unit whole)
-      (λ column. nest_grow (log_ways exprs whole column.at) n m less unit (record { cells = column.cells; log = [] })) columns)
+      (λ column. nest_grow (log_ways exprs whole column.at) n m less unit
+      (record { cells = column.cells; log = [] })) columns)
       (units_more exprs units)
 
-  awaiting_more : (totals : List Total) (s t : Step Whole) → IsMore s t → IsMore (all_awaiting totals s) (all_awaiting totals t)
+  awaiting_more : (totals : List Total) (s t : Step Whole) → IsMore s t
+      → IsMore (all_awaiting totals s) (all_awaiting totals t)
   awaiting_more totals s t (TheSame {x = x}) = TheSame
   awaiting_more totals s t Beyond = Beyond
 
@@ -110,7 +128,8 @@ module _ (n m : ℕ) (less : n ≤ m) where
   loop_more : (tables : Tables) (group : List Member) (whole : Whole) (region : Option Region)
       → IsMore (looped tables n group whole region) (looped tables m group whole region)
   loop_more tables group whole (Some region) =
-      if_more (loop_stands tables whole region group) (tree_does n region group whole (nest_of (group_coded 0 group)))
+      if_more (loop_stands tables whole region group)
+      (tree_does n region group whole (nest_of (group_coded 0 group)))
       (tree_does m region group whole (nest_of (group_coded 0 group)))
       (tree_more region group whole (nest_of (group_coded 0 group)))
   loop_more tables group whole None = TheSame
@@ -125,9 +144,11 @@ module _ (n m : ℕ) (less : n ≤ m) where
   if_further true e f more = more
   if_further false e f more = SameEffect
 
-  row_further : (tables : Tables) (row : Row) (whole : Whole) → IsFurther (row_does tables n row whole) (row_does tables m row whole)
+  row_further : (tables : Tables) (row : Row) (whole : Whole)
+      → IsFurther (row_does tables n row whole) (row_does tables m row whole)
   row_further tables (Loop slot group) whole =
-      further_does (looped tables n group whole (slice_get whole.slots slot)) (looped tables m group whole (slice_get whole.slots slot))
+      further_does (looped tables n group whole (slice_get whole.slots slot))
+      (looped tables m group whole (slice_get whole.slots slot))
       (loop_more tables group whole (slice_get whole.slots slot))
   row_further tables (Set scalar expr line) whole = SameEffect
   row_further tables (Dims slot parts line) whole = SameEffect
@@ -140,9 +161,11 @@ module _ (n m : ℕ) (less : n ≤ m) where
   pub acts_further : (tables : Tables) → AreFurther (act tables n) (act tables m)
   acts_further tables = record {
     further = λ row whole.
-        if_further (are_settled whole row) (row_does tables n row whole) (row_does tables m row whole) (row_further tables row whole);
+        if_further (are_settled whole row) (row_does tables n row whole)
+        (row_does tables m row whole) (row_further tables row whole);
   }
 
 pub grow : Grow
 grow tables less more fewer_turns_less n m n_less =
-    runs_grow (act tables n) (act tables m) (acts_further n m n_less tables) (all_inlined tables) less more fewer_turns_less 0 (start_whole tables)
+    runs_grow (act tables n) (act tables m) (acts_further n m n_less tables)
+    (all_inlined tables) less more fewer_turns_less 0 (start_whole tables)

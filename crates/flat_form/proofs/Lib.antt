@@ -7,5 +7,7 @@ pub mod ControlLemmas
 pub mod LogLemmas
 pub mod LoopLemmas
 pub mod TouchLemmas
+pub mod StepLemmas
 pub mod ChangeLemmas
 pub mod ReadLemmas
+pub mod WholeLemmas

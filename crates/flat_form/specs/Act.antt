@@ -1,5 +1,6 @@
 -- What each row of a flat program does on whole arrays, and bounded runs of flat programs.
-use Rattle.std.specs.Prelude.{ℕ, ◌==◌, Bool, true, false, ℤ, List, [], ◌∷◌, Option, Some, None, if◌then◌else◌, slice_get, slice_set}
+use Rattle.std.specs.Prelude.{ℕ, ◌==◌, Bool, false, ℤ, List, [], Option, Some, None}
+use Rattle.std.specs.Prelude.{if◌then◌else◌, slice_get, slice_set}
 use Rattle.std.specs.Fmt.{signed_decimal}
 use Rattle.std.specs.List.{filter_map}
 use Rattle.zpl_nums.specs.declared.ends.End.TheVariants.{Trap}
@@ -13,11 +14,14 @@ use Rattle.node_form.specs.declared.tables.Tables.{Tables}
 use Rattle.node_form.specs.Control as control
 use Rattle.node_form.specs.Control.{Control}
 use Rattle.node_form.specs.Value.{Computed, Gives, Divides, Lacks, scalar_operands, value_of}
-use Rattle.row_runs.specs.Run.{Step, Goes, Stops, Ends, Wrong, Effect, Does, Leaps, Passes, Result, runs}
+use Rattle.row_runs.specs.Run.{Step, Goes, Stops, Ends, Wrong, Effect, Does, Leaps, Passes, Result}
+use Rattle.row_runs.specs.Run.{runs}
 use Rattle.flat_form.specs.Loop.{looped}
-use Rattle.flat_form.specs.Moves.{cleared, edged, flooded, found, gathered, parted, remapped, roomed, scanned_in}
+use Rattle.flat_form.specs.Moves.{cleared, edged, flooded, found, gathered, parted, remapped}
+use Rattle.flat_form.specs.Moves.{roomed, scanned_in}
 use Rattle.flat_form.specs.Right.{are_settled}
-use Rattle.flat_form.specs.Row.{Words, Row, Set, Dims, Loop, Print, Number, Truth, Unless, Plain, all_inlined, coded, with_row}
+use Rattle.flat_form.specs.Row.{Row, Loop, Print, Number, Truth, Unless, Plain}
+use Rattle.flat_form.specs.Row.{all_inlined, coded, with_row}
 use Rattle.flat_form.specs.Whole.{Whole, registers_of, start_whole, with_registers}
 
 -- ---- rows that need scalars and slots alone: as in any program, over the row's own expressions
@@ -75,15 +79,18 @@ module _ (tables : Tables) where
       found (slice_get whole.slots slot) (λ region. roomed tables whole array region row)))
   plain_does whole (instr.Clear array) = Does (cleared tables whole array)
   plain_does whole (instr.Edge kind array slot shift) =
-      Does (found (slice_get whole.slots slot) (λ region. edged tables whole kind array region shift))
+      Does (found (slice_get whole.slots slot) (λ region.
+      edged tables whole kind array region shift))
   plain_does whole (instr.Flood array target from source) =
       Does (found (slice_get whole.slots target) (λ region.
       found (slice_get whole.slots source) (λ other. flooded tables whole array region from other)))
   plain_does whole (instr.Part array target f from source) =
       Does (found (slice_get whole.slots target) (λ region.
-      found (slice_get whole.slots source) (λ other. parted tables whole array region f from other)))
+      found (slice_get whole.slots source) (λ other.
+      parted tables whole array region f from other)))
   plain_does whole (instr.Scan array slot f along from mask) =
-      Does (found (slice_get whole.slots slot) (λ region. scanned_in tables whole array region f along from mask))
+      Does (found (slice_get whole.slots slot) (λ region.
+      scanned_in tables whole array region f along from mask))
   plain_does whole (instr.Remap array slot from parts) =
       Does (found (slice_get whole.slots slot) (λ region.
       remapped tables whole array region from (filter_map (λ part. part) parts)))
@@ -101,7 +108,8 @@ module _ (tables : Tables) (n : ℕ) where
       Does (value_printed whole signed_decimal (value_of (scalar_operands whole.scalars) expr))
   row_does (Truth expr) whole =
       Does (value_printed whole truth_text (value_of (scalar_operands whole.scalars) expr))
-  row_does (Unless expr goal line) whole = tested whole (control_of tables (Unless expr goal line) whole)
+  row_does (Unless expr goal line) whole =
+      tested whole (control_of tables (Unless expr goal line) whole)
   row_does (Plain row) whole = plain_does tables whole row
   row_does row whole = controlled whole (control_of tables row whole)
 

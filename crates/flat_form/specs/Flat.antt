@@ -1,5 +1,5 @@
 -- Tables of a flat program.
-use Rattle.std.specs.Prelude.{List, [], ◌∷◌, ◌++◌, All}
+use Rattle.std.specs.Prelude.{[], ◌∷◌, ◌++◌, All}
 use Rattle.node_form.specs.declared.instructions.Instr.{Instr}
 use Rattle.node_form.specs.declared.instructions.Instr.TheVariants as instr
 use Rattle.node_form.specs.declared.tables.Tables.{Tables}

@@ -8,3 +8,4 @@ pub mod Act
 pub mod Flat
 pub mod Laws
 pub mod Touches
+pub mod States

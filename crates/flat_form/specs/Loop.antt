@@ -4,7 +4,9 @@
 --   log_ways          what members ask, at a tuple, of the state before the unit and of a log
 --   all_told          what a unit comes to at all tuples together
 --   units_do, looped  units one after another, and the row `loop`
-use Rattle.std.specs.Prelude.{ℕ, ◌==◌, Bool, true, false, ◌&&◌, if◌then◌else◌, ℤ, pos, Option, Some, None, List, [], ◌∷◌, fold, map, replicate, option_and_then, slice_get, slice_set}
+use Rattle.std.specs.Prelude.{ℕ, ◌==◌, Bool, ◌&&◌, if◌then◌else◌, ℤ, pos, Option, Some}
+use Rattle.std.specs.Prelude.{None, List, [], ◌∷◌, fold, map, replicate, option_and_then, slice_get}
+use Rattle.std.specs.Prelude.{slice_set}
 use Rattle.std.specs.List.{list_all}
 use Rattle.std.specs.Option.{option_map}
 use Rattle.zpl_nums.specs.declared.ends.End.TheVariants.{Trap, More}
@@ -13,16 +15,17 @@ use Rattle.zpl_nums.specs.declared.folds.Fold.{Fold}
 use Rattle.zpl_nums.specs.Fold.{joined}
 use Rattle.zpl_region.specs.declared.regions.Region.{Region}
 use Rattle.zpl_region.specs.Region.{members}
-use Rattle.zpl_arrays.specs.Array.{Array}
 use Rattle.node_form.specs.declared.tables.Tables.{Tables}
-use Rattle.node_form.specs.Nest.{Nest, Nothing, Putting, Keeping, Joining, Choosing, ChoosingElse, Looping, Repeating}
+use Rattle.node_form.specs.Nest.{Nest, Nothing, Putting, Keeping, Joining, Choosing, ChoosingElse}
+use Rattle.node_form.specs.Nest.{Looping, Repeating}
 use Rattle.node_form.specs.Value.{Operands, and_then, read, value_of}
 use Rattle.grid_meaning.specs.Place.{moved_by, value_at, with_value}
 use Rattle.nest_meaning.specs.Nested.{Ways, Told, Fine, Zero, Wants, Lost, nested}
 use Rattle.nest_meaning.specs.Tree.{nest_of}
 use Rattle.nest_meaning.specs.Units.{units_of}
 use Rattle.row_runs.specs.Run.{Step, Goes, Stops, Ends, Wrong}
-use Rattle.flat_form.specs.Names.{Total, group_cells, group_puts, group_reads, group_totals, group_words}
+use Rattle.flat_form.specs.Names.{Total, group_cells, group_puts, group_reads, group_totals}
+use Rattle.flat_form.specs.Names.{group_words}
 use Rattle.flat_form.specs.Right.{can_read, can_write, is_unmoved, totals_begin}
 use Rattle.flat_form.specs.Row.{Member, Words, group_coded}
 use Rattle.flat_form.specs.Whole.{Whole}
@@ -45,7 +48,8 @@ pub record Point : Type 0 where
 -- the value of an array at the tuple, behind what is put there
 abbrev pub logged : Log → ℕ → Option ℤ → Option ℤ
 logged [] array before = before
-logged (Puts other value ∷ log) array before = if other == array then Some value else logged log array before
+logged (Puts other value ∷ log) array before =
+    if other == array then Some value else logged log array before
 logged (Joins scalar operator value ∷ log) array before = logged log array before
 
 -- A read without shift sees what the tuple itself has put; else what was there before the unit.
@@ -68,7 +72,8 @@ logging write point = record point { log = write ∷ point.log }
 -- what members ask there, of the expressions of a group
 abbrev pub log_ways : List Words → Whole → List ℤ → Ways Point
 log_ways exprs before t = record {
-  value = λ point expr. and_then (value_of (operands_at before t point)) (read (slice_get exprs expr));
+  value =
+      λ point expr. and_then (value_of (operands_at before t point)) (read (slice_get exprs expr));
   put = λ array value point. Some (logging (Puts array value) point);
   keep = λ cell value point. Some (record point { cells = slice_set point.cells cell value });
   join = λ scalar operator value point. Some (logging (Joins scalar operator value) point);
@@ -120,7 +125,8 @@ abbrev pub written : List ℤ → Write → Whole → Option Whole
 written t (Puts array value) whole =
     option_map (λ stores. record whole { stores = stores }) (with_value whole.stores array t value)
 written t (Joins scalar operator value) whole =
-    option_map (λ own. record whole { scalars = slice_set whole.scalars scalar (joined operator own value) })
+    option_map (λ own.
+    record whole { scalars = slice_set whole.scalars scalar (joined operator own value) })
     (slice_get whole.scalars scalar)
 
 abbrev pub log_written : List ℤ → Log → Whole → Option Whole
@@ -153,7 +159,8 @@ abbrev pub from_written : Option Whole → (Whole → Step Whole) → Step Whole
 from_written (Some whole) next = next whole
 from_written None next = Stops Wrong
 
-abbrev pub unit_does : ℕ → List Column → Whole → AllTold → (List Column → Whole → Step Whole) → Step Whole
+abbrev pub unit_does : ℕ → List Column → Whole → AllTold → (List Column → Whole → Step Whole)
+    → Step Whole
 unit_does line columns whole (AllFine points) next =
     from_written (all_written columns points whole) (next (columns_behind columns points))
 unit_does line columns whole SomeZero next = Stops (Ends (Trap DivideByZero line))
@@ -177,7 +184,8 @@ module _ (n : ℕ) (exprs : List Words) where
 abbrev pub loop_stands : Tables → Whole → Region → List Member → Bool
 loop_stands tables whole region group =
     list_all (can_read tables whole region) (group_reads group)
-    && (list_all (can_write tables whole region) (group_puts group) && totals_begin whole region group)
+    && (list_all (can_write tables whole region) (group_puts group)
+    && totals_begin whole region group)
 
 -- a `fold` of each scalar that was accumulated is to come
 abbrev pub awaiting : Whole → Total → Whole
@@ -200,6 +208,7 @@ tree_does n region group whole None = Stops Wrong
 
 abbrev pub looped : Tables → ℕ → List Member → Whole → Option Region → Step Whole
 looped tables n group whole (Some region) =
-    if loop_stands tables whole region group then tree_does n region group whole (nest_of (group_coded 0 group))
+    if loop_stands tables whole region group
+    then tree_does n region group whole (nest_of (group_coded 0 group))
     else Stops Wrong
 looped tables n group whole None = Stops Wrong

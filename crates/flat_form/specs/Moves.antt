@@ -3,7 +3,8 @@
 --
 --   moved_in    an array becomes, at the tuples of a region, what a function of the tuple says
 --   edged, flooded, parted, scanned_in, remapped, gathered, roomed, cleared   the rows
-use Rattle.std.specs.Prelude.{ℕ, zero, suc, ◌==◌, not, Bool, true, false, ◌&&◌, if◌then◌else◌, ℤ, List, [], ◌∷◌, Option, Some, None, map, option_and_then, slice_get}
+use Rattle.std.specs.Prelude.{ℕ, zero, suc, ◌==◌, not, Bool, true, false, ◌&&◌, ℤ}
+use Rattle.std.specs.Prelude.{List, [], Option, Some, None, map, option_and_then, slice_get}
 use Rattle.std.specs.List.{filter_map, list_all}
 use Rattle.zpl_nums.specs.declared.ends.Border.{Border}
 use Rattle.zpl_nums.specs.declared.folds.Fold.{Fold}
@@ -25,7 +26,6 @@ use Rattle.grid_meaning.specs.Place.{with_values}
 use Rattle.grid_meaning.specs.Remap.{padded}
 use Rattle.grid_meaning.specs.Room.{zeros_at}
 use Rattle.row_runs.specs.Run.{Step, Goes, Stops, Wrong}
-use Rattle.flat_form.specs.Names.{Read}
 use Rattle.flat_form.specs.Right.{can_read, can_write, matches, no_flood}
 use Rattle.flat_form.specs.Whole.{Whole, with_store}
 
@@ -44,16 +44,19 @@ with_stores whole stores = Goes [] (record whole { stores = stores })
 -- the array with these values at the tuples of a region
 abbrev pub moved_in : Whole → ℕ → Region → (List ℤ → ℤ) → Step Whole
 moved_in whole array region value =
-    found (with_values array (members region) (map value (members region)) whole.stores) (with_stores whole)
+    found (with_values array (members region) (map value (members region)) whole.stores)
+    (with_stores whole)
 
 -- an array is read without shift, by a region
 abbrev pub reads_in : Tables → Whole → Region → ℕ → Bool
-reads_in tables whole region array = can_read tables whole region (record { array = array; shift = unmoved })
+reads_in tables whole region array =
+    can_read tables whole region (record { array = array; shift = unmoved })
 
 -- the value of a scan at a tuple: in row-major order over all, or along a dimension
 abbrev pub scan_value : ℕ → Fold → Region → (List ℤ → Bool) → (List ℤ → ℤ) → List ℤ → ℤ
 scan_value zero operator region is_kept value t = scanned operator region is_kept value t
-scan_value (suc k) operator region is_kept value t = scanned_along (suc k) operator region is_kept value t
+scan_value (suc k) operator region is_kept value t =
+    scanned_along (suc k) operator region is_kept value t
 
 -- a mask that isn't there keeps all
 abbrev pub kept_by : Option Array → List ℤ → Bool
@@ -72,7 +75,8 @@ module _ (tables : Tables) (whole : Whole) where
       && (can_write tables whole (outside_of shift region) array
       && reads_in tables whole (border_sources kind region shift) array))
       (found (slice_get whole.stores array) (λ store.
-      moved_in whole array (outside_of shift region) (λ t. element store (border_source kind region shift t))))
+      moved_in whole array (outside_of shift region)
+      (λ t. element store (border_source kind region shift t))))
 
   -- ---- `flood`: a target's tuples, from those of the source
   abbrev pub flooded : ℕ → Region → ℕ → Region → Step Whole
@@ -100,13 +104,15 @@ module _ (tables : Tables) (whole : Whole) where
       provided (no_flood region && (can_write tables whole region array
       && (reads_in tables whole region from && reads_mask region mask)))
       (found (slice_get whole.stores from) (λ store.
-      moved_in whole array region
-      (scan_value along operator region (kept_by (option_and_then (λ mask. slice_get whole.stores mask) mask)) (element store))))
+      let is_kept = kept_by (option_and_then (λ mask. slice_get whole.stores mask) mask) in
+      moved_in whole array region (scan_value along operator region is_kept (element store))))
 
-  -- ---- `remap`: each tuple from the tuple that the index arrays hold there; 0 where that is outside the storage
+  -- ---- `remap`: each tuple from the one that the index arrays hold there, and 0 where that is
+  -- outside the storage
   abbrev pub remapped : ℕ → Region → ℕ → List ℕ → Step Whole
   remapped array region from parts =
-      provided (can_write tables whole region array && list_all (reads_in tables whole region) parts)
+      provided (can_write tables whole region array
+      && list_all (reads_in tables whole region) parts)
       (found (slice_get whole.stores from) (λ store.
       moved_in whole array region
       (λ t. element store (wanted_at (filter_map (λ part. slice_get whole.stores part) parts) t))))
@@ -118,11 +124,14 @@ module _ (tables : Tables) (whole : Whole) where
       (found (slice_get whole.stores array) (λ store.
       Goes (array_text (element_text truth) region (element store)) whole))
 
-  -- ---- `room`: the temporary's places are the region, and all its values 0; `clear`: a stored array's values are 0
+  -- ---- `room` and `clear`: the temporary's places become the region, with 0 at each; and the
+  -- values of a stored array become 0
   abbrev pub roomed : ℕ → Region → ArrayRow → Step Whole
   roomed array region row =
-      provided (not row.stored && matches row region) (Goes [] (with_store whole array (zeros_at region)))
+      provided (not row.stored && matches row region)
+      (Goes [] (with_store whole array (zeros_at region)))
 
   abbrev pub cleared : ℕ → Step Whole
   cleared array =
-      found (slice_get whole.stores array) (λ store. Goes [] (with_store whole array (zeros_at store.storage)))
+      found (slice_get whole.stores array) (λ store.
+      Goes [] (with_store whole array (zeros_at store.storage)))

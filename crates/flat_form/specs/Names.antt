@@ -4,7 +4,9 @@ use Rattle.zpl_nums.specs.declared.folds.Fold.{Fold}
 use Rattle.node_form.specs.declared.words.ExprOp.{ExprOp}
 use Rattle.node_form.specs.declared.words.ExprOp.TheVariants as word
 use Rattle.node_form.specs.Value.{unmoved}
-use Rattle.flat_form.specs.Row.{Words, Member, Put, Cell, Acc, OpenIf, Otherwise, CloseIf, OpenWhile, CloseWhile, OpenRepeat, Until, member_words, Row, Set, Dims, Loop, Print, Number, Truth, Unless, Plain, row_words}
+use Rattle.flat_form.specs.Row.{Words, Member, Put, Cell, Acc}
+use Rattle.flat_form.specs.Row.{member_words, Row, Set}
+use Rattle.flat_form.specs.Row.{Loop, row_words}
 
 -- a read of an array, at the index moved by a vector
 pub record Read : Type 0 where
@@ -50,7 +52,8 @@ abbrev pub group_puts : List Member → List ℕ
 group_puts group = flat_map member_puts group
 
 abbrev pub member_totals : Member → List Total
-member_totals (Acc scalar operator expr mask line) = record { scalar = scalar; operator = operator } ∷ []
+member_totals (Acc scalar operator expr mask line) =
+    record { scalar = scalar; operator = operator } ∷ []
 member_totals row = []
 
 abbrev pub group_totals : List Member → List Total
@@ -63,7 +66,8 @@ member_cells row = 0
 
 abbrev pub group_cells : List Member → ℕ
 group_cells group =
-    fold max 0 (map member_cells group ++ each_word (λ word. word_cells word ∷ []) (group_words group))
+    fold max 0
+    (map member_cells group ++ each_word (λ word. word_cells word ∷ []) (group_words group))
 
 -- ---- rows: the scalars that a row reads or writes; a `fold` is told apart
 abbrev pub own_scalars : Row → List ℕ

@@ -3,7 +3,9 @@
 --   can_read, can_write   an array, by a region
 --   is_settled            a scalar
 --   totals_begin          what a loop accumulates
-use Rattle.std.specs.Prelude.{ℕ, ◌==◌, Bool, true, false, not, ◌&&◌, ℤ, pos, List, [], ◌∷◌, map, Option, Some, None, is_none, option_and_then, if◌then◌else◌, slice_get}
+use Rattle.std.specs.Prelude.{ℕ, ◌==◌, Bool, true, false, not, ◌&&◌, ℤ, pos, List, [], ◌∷◌, map}
+use Rattle.std.specs.Prelude.{Option, Some, None, is_none, option_and_then, if◌then◌else◌}
+use Rattle.std.specs.Prelude.{slice_get}
 use Rattle.std.specs.List.{list_all, list_any}
 use Rattle.std.specs.Ordering.{int_eq}
 use Rattle.zpl_nums.specs.Fold.{unit_of}
@@ -19,7 +21,8 @@ use Rattle.node_form.specs.declared.tables.Tables.{Tables}
 use Rattle.node_form.specs.Value.{unmoved}
 use Rattle.grid_meaning.specs.Place.{moved_by}
 use Rattle.flat_form.specs.Row.{Member, Row}
-use Rattle.flat_form.specs.Names.{Read, Total, each_word, word_scalars, group_words, group_totals, row_scalars}
+use Rattle.flat_form.specs.Names.{Read, Total, each_word, word_scalars, group_words, group_totals}
+use Rattle.flat_form.specs.Names.{row_scalars}
 use Rattle.flat_form.specs.Whole.{Whole}
 
 -- ---- flood dimensions
@@ -62,22 +65,25 @@ is_unmoved shift = list_all (λ d. int_eq d (pos 0)) shift
 
 -- the array has a place for each tuple of the region, moved by the vector
 abbrev pub has_places : Array → Region → List ℤ → Bool
-has_places store region shift = list_all (λ t. has_place store.storage (moved_by shift t)) (members region)
+has_places store region shift =
+    list_all (λ t. has_place store.storage (moved_by shift t)) (members region)
 
--- A stored array is read at places of its storage, and has a flood dimension wherever the region has
--- one. A temporary is read without shift, at tuples of its room, by a region with the same flood
--- dimensions.
+-- A stored array is read at places of its storage, and has a flood dimension wherever the region
+-- has one. A temporary is read without shift, at tuples of its room, by a region with the same
+-- flood dimensions.
 abbrev pub may_read : ArrayRow → Region → List ℤ → Bool
 may_read row region shift =
     if row.stored then each_covers row.dims region.dims else is_unmoved shift && matches row region
 
 abbrev pub reads_well : Option ArrayRow → Option Array → Region → List ℤ → Bool
-reads_well (Some row) (Some store) region shift = may_read row region shift && has_places store region shift
+reads_well (Some row) (Some store) region shift =
+    may_read row region shift && has_places store region shift
 reads_well row store region shift = false
 
 abbrev pub can_read : Tables → Whole → Region → Read → Bool
 can_read tables whole region read =
-    reads_well (slice_get tables.arrays read.array) (slice_get whole.stores read.array) region read.shift
+    reads_well (slice_get tables.arrays read.array) (slice_get whole.stores read.array)
+    region read.shift
 
 -- An array is written at places that it has, and has the flood dimensions of the region.
 abbrev pub writes_well : Option ArrayRow → Option Array → Region → Bool
@@ -91,7 +97,8 @@ can_write tables whole region array =
 -- ---- scalars
 -- No `fold` of the scalar is still to come.
 abbrev pub is_settled : Whole → ℕ → Bool
-is_settled whole scalar = is_none (option_and_then (λ awaited. awaited) (slice_get whole.awaited scalar))
+is_settled whole scalar =
+    is_none (option_and_then (λ awaited. awaited) (slice_get whole.awaited scalar))
 
 -- the row names no other scalar
 abbrev pub are_settled : Whole → Row → Bool
@@ -112,7 +119,8 @@ is_value value None = false
 -- the scalar holds its fold's unit, and no member of the group reads it
 abbrev pub total_begins : Whole → List ℕ → Total → Bool
 total_begins whole scalars total =
-    is_value (unit_of total.operator) (slice_get whole.scalars total.scalar) && not (is_among total.scalar scalars)
+    is_value (unit_of total.operator) (slice_get whole.scalars total.scalar)
+    && not (is_among total.scalar scalars)
 
 -- so do all that the group accumulates, each by one member, over a region without flood dimension
 abbrev pub all_begin : Whole → Region → List ℕ → List Total → Bool

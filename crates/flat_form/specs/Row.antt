@@ -4,7 +4,8 @@
 --   inlined               a row of tables, seen so
 --   coded, with_row       back: the row by numbers, and tables with it behind their rows
 --   with_goal             a row with another goal
-use Rattle.std.specs.Prelude.{ℕ, ◌+◌, List, [], ◌∷◌, ◌++◌, Option, Some, None, flat_map, fold, length, map, set, slice_index_or}
+use Rattle.std.specs.Prelude.{ℕ, ◌+◌, List, [], ◌∷◌, ◌++◌, Option, Some, None, flat_map, fold}
+use Rattle.std.specs.Prelude.{length, map, set, slice_index_or}
 use Rattle.std.specs.Option.{option_map}
 use Rattle.zpl_nums.specs.declared.folds.Fold.{Fold}
 use Rattle.node_form.specs.declared.words.ExprOp.{ExprOp}
@@ -55,14 +56,18 @@ module _ (tables : Tables) where
   words_at expr = slice_index_or tables.exprs expr []
 
   abbrev pub member_inlined : number.Member → Member
-  member_inlined (member.Put array expr mask line) = Put array (words_at expr) (option_map words_at mask) line
-  member_inlined (member.Cell cell expr mask line) = Cell cell (words_at expr) (option_map words_at mask) line
+  member_inlined (member.Put array expr mask line) =
+      Put array (words_at expr) (option_map words_at mask) line
+  member_inlined (member.Cell cell expr mask line) =
+      Cell cell (words_at expr) (option_map words_at mask) line
   member_inlined (member.Acc scalar operator expr mask line) =
       Acc scalar operator (words_at expr) (option_map words_at mask) line
-  member_inlined (member.OpenIf expr mask line) = OpenIf (words_at expr) (option_map words_at mask) line
+  member_inlined (member.OpenIf expr mask line) =
+      OpenIf (words_at expr) (option_map words_at mask) line
   member_inlined member.Otherwise = Otherwise
   member_inlined member.CloseIf = CloseIf
-  member_inlined (member.OpenWhile expr mask line) = OpenWhile (words_at expr) (option_map words_at mask) line
+  member_inlined (member.OpenWhile expr mask line) =
+      OpenWhile (words_at expr) (option_map words_at mask) line
   member_inlined member.CloseWhile = CloseWhile
   member_inlined (member.OpenRepeat mask line) = OpenRepeat (option_map words_at mask) line
   member_inlined (member.Until expr) = Until (words_at expr)
@@ -75,7 +80,8 @@ module _ (tables : Tables) where
   abbrev pub inlined : Instr → Row
   inlined (instr.Set scalar expr line) = Set scalar (words_at expr) line
   inlined (instr.Dims slot parts line) = Dims slot (map part_inlined parts) line
-  inlined (instr.Loop slot group) = Loop slot (map member_inlined (slice_index_or tables.groups group []))
+  inlined (instr.Loop slot group) =
+      Loop slot (map member_inlined (slice_index_or tables.groups group []))
   inlined (instr.Print text) = Print (slice_index_or tables.texts text [])
   inlined (instr.Number expr) = Number (words_at expr)
   inlined (instr.Truth expr) = Truth (words_at expr)
@@ -113,7 +119,8 @@ numbered n mask = option_map (λ _. n) mask
 abbrev pub member_coded : ℕ → Member → number.Member
 member_coded n (Put array expr mask line) = member.Put array n (numbered (n + 1) mask) line
 member_coded n (Cell cell expr mask line) = member.Cell cell n (numbered (n + 1) mask) line
-member_coded n (Acc scalar operator expr mask line) = member.Acc scalar operator n (numbered (n + 1) mask) line
+member_coded n (Acc scalar operator expr mask line) =
+    member.Acc scalar operator n (numbered (n + 1) mask) line
 member_coded n (OpenIf expr mask line) = member.OpenIf n (numbered (n + 1) mask) line
 member_coded n Otherwise = member.Otherwise
 member_coded n CloseIf = member.CloseIf
@@ -158,7 +165,8 @@ row_texts row = []
 -- the row, where its parts come behind those that the tables have
 abbrev pub coded : Tables → Row → Instr
 coded tables (Set scalar expr line) = instr.Set scalar (length tables.exprs) line
-coded tables (Dims slot parts line) = instr.Dims slot (all_coded part_words part_coded (length tables.exprs) parts) line
+coded tables (Dims slot parts line) =
+    instr.Dims slot (all_coded part_words part_coded (length tables.exprs) parts) line
 coded tables (Loop slot group) = instr.Loop slot (length tables.groups)
 coded tables (Print text) = instr.Print (length tables.texts)
 coded tables (Number expr) = instr.Number (length tables.exprs)
@@ -191,4 +199,7 @@ row_with_goal goal row = row
 -- the tables, with another goal in the row that has this number
 abbrev pub patched : Tables → ℕ → ℕ → Tables
 patched tables at goal =
-    record tables { code = set tables.code at (with_goal goal (slice_index_or tables.code at instr.End)) }
+    record tables {
+      code = set tables.code at
+          (with_goal goal (slice_index_or tables.code at instr.End));
+    }

@@ -16,7 +16,8 @@ HaveSame tables other one two (Scalar scalar) =
     (slice_get one.scalars scalar ≡ slice_get two.scalars scalar)
     × (slice_get one.awaited scalar ≡ slice_get two.awaited scalar)
 HaveSame tables other one two (Slot slot) =
-    (slice_get tables.slots slot ≡ slice_get other.slots slot) × (slice_get one.slots slot ≡ slice_get two.slots slot)
+    (slice_get tables.slots slot ≡ slice_get other.slots slot)
+    × (slice_get one.slots slot ≡ slice_get two.slots slot)
 HaveSame tables other one two (Array array) =
     (slice_get tables.arrays array ≡ slice_get other.arrays array)
     × (slice_get one.stores array ≡ slice_get two.stores array)
@@ -35,7 +36,8 @@ abbrev pub GoByNames : Type 0
 GoByNames =
     (tables other : Tables) (n : ℕ) (row second : Instr) → inlined tables row ≡ inlined other second
     → (is_some : Thing → Bool) → ((thing : Thing) → IsNamed tables row thing → is_some thing ≡ true)
-    → (one two : Whole) → ((thing : Thing) → is_some thing ≡ true → HaveSame tables other one two thing)
+    → (one two : Whole) → ((thing : Thing) → is_some thing ≡ true
+    → HaveSame tables other one two thing)
     → DoSame (λ s t. (thing : Thing) → is_some thing ≡ true → HaveSame tables other s t thing)
     (act tables n (inlined tables row) one) (act other n (inlined other second) two)
 

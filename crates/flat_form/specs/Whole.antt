@@ -1,5 +1,6 @@
 -- The state of a flat run, in which each array is whole.
-use Rattle.std.specs.Prelude.{ℕ, ℤ, pos, Bool, true, false, List, map, replicate, Option, None, slice_set}
+use Rattle.std.specs.Prelude.{ℕ, ℤ, pos, Bool, true, false, List, map, replicate, Option, None}
+use Rattle.std.specs.Prelude.{slice_set}
 use Rattle.zpl_nums.specs.declared.folds.Fold.{Fold}
 use Rattle.zpl_region.specs.declared.regions.Region.{Region}
 use Rattle.zpl_arrays.specs.Array.{Array}
@@ -23,7 +24,8 @@ abbrev pub registers_of : Whole → Registers
 registers_of whole = record { scalars = whole.scalars; slots = whole.slots }
 
 abbrev pub with_registers : Whole → Registers → Whole
-with_registers whole registers = record whole { scalars = registers.scalars; slots = registers.slots }
+with_registers whole registers =
+    record whole { scalars = registers.scalars; slots = registers.slots }
 
 abbrev pub with_store : Whole → ℕ → Array → Whole
 with_store whole array store = record whole { stores = slice_set whole.stores array store }

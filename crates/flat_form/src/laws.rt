@@ -1,8 +1,9 @@
 //! The laws of flat programs.
 //!
 //! Each law is the contract of a function that does nothing: a call brings the law into a proof.
-//! The statements stand in `specs/Laws` and `specs/Touches`.
+//! The statements stand in `specs/Laws`, `specs/States` and `specs/Touches`.
 ghost use Rattle.flat_form.specs.Laws.{AreInline, Grow, Patch, ReadAgain};
+ghost use Rattle.flat_form.specs.States.{BeginWhole, StayWhole};
 ghost use Rattle.flat_form.specs.Touches.{ChangeWritten, GoByNames};
 
 /// A run that may make more jumps, and more turns of each loop within a group, goes on from a
@@ -21,6 +22,13 @@ pub fn rows_go_by_names()
 /// What a row doesn't write stays as it was.
 pub fn rows_change_what_they_write()
     ensures { ChangeWritten }
+{}
+
+/// A run has at each row as many scalars and slots as its tables say, and for each array a value at
+/// each of its places; those of a stored array are its storage.
+pub fn states_stay_whole()
+    ensures begin { BeginWhole }
+    ensures stay { StayWhole }
 {}
 
 /// Rows that are added to tables are read again behind those that were there; and rows that are
