@@ -2,6 +2,7 @@
 -- whichever order.
 use Rattle.std.proofs.Common.{◌≡◌, ◌⊎◌, ℕ, zero, suc, ◌+◌, ◌-◌, ◌*◌, ◌/◌, ◌<◌, ◌≤◌, Bool, true, false, cond, ◌==◌, nat_lt, nat_le, ℤ, List, [], ◌∷◌, ◌++◌, slice_get, filter, fold, All, Option, None, refl, sym, ◌∙◌, ap, ap₂, subst, inl, inr, arith, eq-eqb, eqb-true, le-leb, leb-true, leb-false, eq-or-lt_of_le}
 use Rattle.std.proofs.lemmas.Bool.{eqb-false, ne_eqb}
+use Rattle.std.proofs.Math.Path.{fun_ext}
 use Rattle.std.proofs.Math.Nat.{div-le_self}
 use Rattle.std.proofs.lemmas.List.Elements.{All-nil, All-cons, All-head, All-tail, All-append}
 use Rattle.std.specs.Prelude.{⊤}
@@ -15,7 +16,7 @@ use Rattle.grid_meaning.specs.Grid.{IsCapacity, system_over}
 use Rattle.grid_meaning.specs.Local.{Local, processors}
 use Rattle.grid_paths.specs.Tree.{times, parents}
 use Rattle.grid_paths.proofs.TreeLemmas.{times_parents}
-use Rattle.row_orders.specs.Agreement.{gathered, Agreeing, joined_over, IsAgreementRow, StandsBefore, AgreeAsTree}
+use Rattle.row_orders.specs.Agreement.{gathered, Agreeing, joined_over, IsAgreementRow, IsJoin, StandsBefore, AgreeAsTree}
 use Rattle.row_orders.proofs.AgreementLemmas.{agrees}
 use Rattle.row_orders.proofs.PartnerLemmas.{times-cons, same_turned}
 use Rattle.row_orders.proofs.StarLemmas.{kept_of, IsUnder, kept_last, gathered_is, processor_count}
@@ -333,15 +334,87 @@ tree_rises code p = by (nat_lt (2 * p + 1) (processors code)) (nat_lt (2 * p + 2
     by false true = (omega arith, tt)
     by false false = tt
 
+-- ---- values that pass a test: a join of others is one of these in their place
+module _ (test : ℤ → Bool) (join : ℤ → ℤ → ℤ) (is : IsJoin test join) (d : ℤ)
+    (tested : test d ≡ true) where
+  abbrev norm : ℤ → ℤ
+  norm a = cond (test a) a d
+
+  norm_is : (a : ℤ) → test a ≡ true → norm a ≡ a
+  norm_is a e = ap (λ b. cond b a d) e
+
+  norm_tests : (a : ℤ) → test (norm a) ≡ true
+  norm_tests a = by (test a) refl
+    where
+      by : (b : Bool) → test a ≡ b → test (cond b a d) ≡ true
+      by true e = e
+      by false e = tested
+
+  abbrev normal : ℤ → ℤ → ℤ
+  normal a b = join (norm a) (norm b)
+
+  normal_is : (a b : ℤ) → test a ≡ true → test b ≡ true → normal a b ≡ join a b
+  normal_is a b e f = ap₂ join (norm_is a e) (norm_is b f)
+
+  normal_tests : (a b : ℤ) → test (normal a b) ≡ true
+  normal_tests a b = is.closed (norm a) (norm b) (norm_tests a) (norm_tests b)
+
+  normal_swaps : (a b : ℤ) → normal a b ≡ normal b a
+  normal_swaps a b = is.swaps (norm a) (norm b) (norm_tests a) (norm_tests b)
+
+  normal_joins : (a b c : ℤ) → normal (normal a b) c ≡ normal a (normal b c)
+  normal_joins a b c =
+      ap (λ v. join v (norm c)) (norm_is (normal a b) (normal_tests a b))
+      ∙ (is.joins (norm a) (norm b) (norm c) (norm_tests a) (norm_tests b) (norm_tests c)
+      ∙ ap (join (norm a)) (sym (norm_is (normal b c) (normal_tests b c))))
+
+  fold_normal : (s : ℕ → ℤ) (cs : List ℕ) (first : ℤ) → test first ≡ true
+      → ((c : ℕ) → test (s c) ≡ true)
+      → (fold (λ v c. normal v (s c)) first cs ≡ fold (λ v c. join v (s c)) first cs)
+      × (test (fold (λ v c. join v (s c)) first cs) ≡ true)
+  fold_normal s [] first e each = (refl, e)
+  fold_normal s (c ∷ cs) first e each =
+      let (same, passes) =
+      fold_normal s cs (join first (s c)) (is.closed first (s c) e (each c)) each in (
+        ap (λ v. fold (λ w k. normal w (s k)) v cs) (normal_is first (s c) e (each c)) ∙ same,
+        passes,
+      )
+
+  module _ (count : ℕ) (children : ℕ → List ℕ)
+      (above : (p : ℕ) → p < count → All (λ c. (p < c) × (c < count)) (children p))
+      (own : ℕ → ℤ) (owns : (p : ℕ) → test (own p) ≡ true) where
+    sum_normal : (k p : ℕ)
+        → (sum_at count children above normal own k p ≡ sum_at count children above join own k p)
+        × (test (sum_at count children above join own k p) ≡ true)
+    sum_normal zero p = (refl, owns p)
+    sum_normal (suc k) p =
+        let (same, passes) =
+        fold_normal (sum_at count children above join own k) (children p) (own p) (owns p)
+        (λ c. (sum_normal k c).1) in (
+          ap (λ (s : ℕ → ℤ). fold (λ v c. normal v (s c)) (own p) (children p))
+              (fun_ext (λ c. (sum_normal k c).0)) ∙ same,
+          passes,
+        )
+
+    total_normal : (m : ℕ) → (total_of normal own m ≡ total_of join own m)
+        × (test (total_of join own m) ≡ true)
+    total_normal zero = (refl, owns 0)
+    total_normal (suc m) =
+        let (same, passes) = total_normal m in (
+          ap (λ v. normal v (own (suc m))) same
+              ∙ normal_is (total_of join own m) (own (suc m)) passes (owns (suc m)),
+          is.closed (total_of join own m) (own (suc m)) passes (owns (suc m)),
+        )
+
 -- the numbers of parents
 abbrev parent_number : ℕ → ℕ
 parent_number zero = 0
 parent_number (suc k) = k / 2
 
-module _ (code : Tables) (links : Option ℕ) (capable : IsCapacity links) (join : ℤ → ℤ → ℤ)
-    (own : Local → ℤ) (last : Local → ℤ → Action) (at : ℕ) (one other : ℕ → Local)
-    (shown : ℕ → List ℕ) (swaps : (a b : ℤ) → join a b ≡ join b a)
-    (joins : (a b c : ℤ) → join (join a b) c ≡ join a (join b c))
+module _ (code : Tables) (links : Option ℕ) (capable : IsCapacity links) (test : ℤ → Bool)
+    (join : ℤ → ℤ → ℤ) (own : Local → ℤ) (last : Local → ℤ → Action) (at : ℕ)
+    (one other : ℕ → Local) (shown : ℕ → List ℕ) (is : IsJoin test join)
+    (owns : (p : ℕ) → test (own (one p)) ≡ true)
     (row : IsAgreementRow code at (tree code) join own last)
     (stands : (p : ℕ) → StandsBefore at (one p))
     (ends : (p : ℕ) → p < processors code
@@ -382,9 +455,18 @@ module _ (code : Tables) (links : Option ℕ) (capable : IsCapacity links) (join
 
     root_sum : 0 < processors code → sum 0 ≡ value
     root_sum some =
-        root_value (processors code) (λ q. (tree code q).children) (halves_tree code).children join
-        (λ q. own (one q)) swaps joins parent_number (λ k below. div-le_self k 2) times_child some
-        ∙ total_is join (λ q. own (one q)) (processors code - 1)
+        sym (sum_normal test join is (own (one 0)) (owns 0) (processors code)
+        (λ q. (tree code q).children) (halves_tree code).children (λ q. own (one q)) owns
+        (processors code) 0).0
+        ∙ (root_value (processors code) (λ q. (tree code q).children) (halves_tree code).children
+        (normal test join is (own (one 0)) (owns 0)) (λ q. own (one q))
+        (normal_swaps test join is (own (one 0)) (owns 0))
+        (normal_joins test join is (own (one 0)) (owns 0)) parent_number
+        (λ k below. div-le_self k 2) times_child some
+        ∙ ((total_normal test join is (own (one 0)) (owns 0) (processors code)
+        (λ q. (tree code q).children) (halves_tree code).children (λ q. own (one q)) owns
+        (processors code - 1)).0
+        ∙ total_is join (λ q. own (one q)) (processors code - 1)))
 
     agreeing : Agreeing code links (tree code) join own last value one other shown
     agreeing = record {
@@ -428,7 +510,7 @@ module _ (code : Tables) (links : Option ℕ) (capable : IsCapacity links) (join
             ap sum same ∙ root_sum (omega (arith, below))
 
 pub agree_as_tree : (code : Tables) (links : Option ℕ) → IsCapacity links → AgreeAsTree code links
-agree_as_tree code links capable join own last at one other shown swaps joins row stands ends =
+agree_as_tree code links capable test join own last at one other shown is owns row stands ends =
     agrees code links capable (tree code) join own last
     (joined_over (processors code) join own one) one other shown
-    (agreeing code links capable join own last at one other shown swaps joins row stands ends)
+    (agreeing code links capable test join own last at one other shown is owns row stands ends)

@@ -102,12 +102,19 @@ AgreeAsStar code links =
     → Leads (system_over code links) (quiet_scene one) (quiet_scene other)
     (λ p. length (agreeing_stages (star code p))) shown
 
--- and so over the tree of halves, where the order of values doesn't matter
+-- the join of values that pass a test does, and on such values their order doesn't matter
+pub record IsJoin (test : ℤ → Bool) (join : ℤ → ℤ → ℤ) : Type 0 where
+  pub closed : (a b : ℤ) → test a ≡ true → test b ≡ true → test (join a b) ≡ true
+  pub swaps : (a b : ℤ) → test a ≡ true → test b ≡ true → join a b ≡ join b a
+  pub joins : (a b c : ℤ) → test a ≡ true → test b ≡ true → test c ≡ true
+      → join (join a b) c ≡ join a (join b c)
+
+-- and so over the tree of halves, for such values
 abbrev pub AgreeAsTree : Tables → Option ℕ → Type 0
 AgreeAsTree code links =
-    (join : ℤ → ℤ → ℤ) (own : Local → ℤ) (last : Local → ℤ → Action) (at : ℕ)
-    (one other : ℕ → Local) (shown : ℕ → List ℕ) → ((a b : ℤ) → join a b ≡ join b a)
-    → ((a b c : ℤ) → join (join a b) c ≡ join a (join b c))
+    (test : ℤ → Bool) (join : ℤ → ℤ → ℤ) (own : Local → ℤ) (last : Local → ℤ → Action) (at : ℕ)
+    (one other : ℕ → Local) (shown : ℕ → List ℕ) → IsJoin test join
+    → ((p : ℕ) → test (own (one p)) ≡ true)
     → IsAgreementRow code at (tree code) join own last → ((p : ℕ) → StandsBefore at (one p))
     → ((p : ℕ) → p < processors code
     → last (one p) (joined_over (processors code) join own one) ≡ Goes (other p) None (shown p))

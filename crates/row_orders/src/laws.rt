@@ -47,7 +47,7 @@ pub fn rows_agree_as_stars()
     ensures { (code : Code) (links : Option ℕ) → IsCapacity links → AgreeAsStar code links }
 {}
 
-/// Over the tree of halves they come to that too, where the values may be joined in any order.
+/// Over the tree of halves they come to that too, for values that may be joined in any order.
 pub fn rows_agree_as_trees()
     ensures { (code : Code) (links : Option ℕ) → IsCapacity links → AgreeAsTree code links }
 {}
