@@ -1,4 +1,4 @@
--- A row in lock step is two rounds: each acts alone and sends, then each takes and goes on.
+-- A row is two rounds: each acts alone and sends, then each takes and goes on.
 use Rattle.std.proofs.Common.{◌≡◌, ℕ, ◌+◌, ◌<◌, ◌≤◌, Bool, true, false, List, [], ◌∷◌, ◌++◌, length, map, replicate, Option, Some, None, refl, sym, ◌∙◌, ap, ap₂, subst, arith, append_assoc, append-nil, length-append}
 use Rattle.std.proofs.lemmas.List.{length-map}
 use Rattle.grid_links.specs.Links.{IsWithin}

@@ -10,4 +10,5 @@ pub mod QuietLemmas
 pub mod RowLemmas
 pub mod StageLemmas
 pub mod StarLemmas
+pub mod SumLemmas
 pub mod TreeLemmas

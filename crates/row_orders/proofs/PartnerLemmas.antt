@@ -82,7 +82,7 @@ times-others_where code p q many below =
     ∙ ap (λ n. cond (not (q == p)) n 0)
     (times-range q 0 (processors code) (omega arith) (omega arith)))
 
-same_turned : (p q : ℕ) → (q == p) ≡ (p == q)
+pub same_turned : (p q : ℕ) → (q == p) ≡ (p == q)
 same_turned p q = by (q == p) refl
   where
     by : (b : Bool) → (q == p) ≡ b → b ≡ (p == q)

@@ -56,7 +56,7 @@ pair_all P test a b first second = by (test a) (test b) first second
     by false true f g = All-cons P b [] (g refl) (All-nil P)
     by false false f g = All-nil P
 
-halves_tree : (code : Tables) → IsTree (processors code) (tree_of (tree code))
+pub halves_tree : (code : Tables) → IsTree (processors code) (tree_of (tree code))
 halves_tree code =
     record { family = family; children = children; parent = parent; root = root }
   where

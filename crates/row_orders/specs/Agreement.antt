@@ -5,7 +5,8 @@
 --   Agreeing      all stand before the row; what they come to, and the states behind it
 --   Agree         then some order leads them through
 --   joined_over   the values of all processors, joined in ascending order
---   AgreeAsStar   over a star that is what they come to
+--   AgreeAsStar, AgreeAsTree
+--                 over a star that is what they come to; so it is over the tree of halves
 --   AreTrees      the star and the tree of halves are trees
 --   Partly        some processors stay away
 --   Halt          then all others come to wait
@@ -72,13 +73,13 @@ abbrev pub joined_over : ℕ → (ℤ → ℤ → ℤ) → (Local → ℤ) → (
 joined_over count join own locals =
     fold (λ value p. join value (own (locals p))) (own (locals 0)) (range_with_len 1 (count - 1))
 
--- a row of the code that is an agreement over a star, and which doesn't look at kept words
-pub record IsStarRow (code : Tables) (at : ℕ) (join : ℤ → ℤ → ℤ) (own : Local → ℤ)
-    (last : Local → ℤ → Action) : Type 0 where
+-- a row of the code in which all come to one value, and which doesn't look at kept words
+pub record IsAgreementRow (code : Tables) (at : ℕ) (kin : ℕ → Kin) (join : ℤ → ℤ → ℤ)
+    (own : Local → ℤ) (last : Local → ℤ → Action) : Type 0 where
   pub instr : Instr
   pub here : slice_get code.code at ≡ Some instr
   pub rows : (p : ℕ) → p < processors code
-      → collective code p instr ≡ Some (agreed (star code p) join own last)
+      → collective code p instr ≡ Some (agreed (kin p) join own last)
   pub blind_own : (local : Local) (n : ℕ) (kept : List (ℕ × List ℤ))
       → own (record local { made = n; kept = kept }) ≡ own local
   pub blind_last : (local : Local) (n : ℕ) (kept : List (ℕ × List ℤ)) (value : ℤ)
@@ -94,12 +95,31 @@ pub record StandsBefore (at : ℕ) (local : Local) : Type 0 where
 abbrev pub AgreeAsStar : Tables → Option ℕ → Type 0
 AgreeAsStar code links =
     (join : ℤ → ℤ → ℤ) (own : Local → ℤ) (last : Local → ℤ → Action) (at : ℕ)
-    (one other : ℕ → Local) (shown : ℕ → List ℕ) → IsStarRow code at join own last
+    (one other : ℕ → Local) (shown : ℕ → List ℕ) → IsAgreementRow code at (star code) join own last
     → ((p : ℕ) → StandsBefore at (one p))
     → ((p : ℕ) → p < processors code
     → last (one p) (joined_over (processors code) join own one) ≡ Goes (other p) None (shown p))
     → Leads (system_over code links) (quiet_scene one) (quiet_scene other)
     (λ p. length (agreeing_stages (star code p))) shown
+
+-- the join of values that pass a test does, and on such values their order doesn't matter
+pub record IsJoin (test : ℤ → Bool) (join : ℤ → ℤ → ℤ) : Type 0 where
+  pub closed : (a b : ℤ) → test a ≡ true → test b ≡ true → test (join a b) ≡ true
+  pub swaps : (a b : ℤ) → test a ≡ true → test b ≡ true → join a b ≡ join b a
+  pub joins : (a b c : ℤ) → test a ≡ true → test b ≡ true → test c ≡ true
+      → join (join a b) c ≡ join a (join b c)
+
+-- and so over the tree of halves, for such values
+abbrev pub AgreeAsTree : Tables → Option ℕ → Type 0
+AgreeAsTree code links =
+    (test : ℤ → Bool) (join : ℤ → ℤ → ℤ) (own : Local → ℤ) (last : Local → ℤ → Action) (at : ℕ)
+    (one other : ℕ → Local) (shown : ℕ → List ℕ) → IsJoin test join
+    → ((p : ℕ) → test (own (one p)) ≡ true)
+    → IsAgreementRow code at (tree code) join own last → ((p : ℕ) → StandsBefore at (one p))
+    → ((p : ℕ) → p < processors code
+    → last (one p) (joined_over (processors code) join own one) ≡ Goes (other p) None (shown p))
+    → Leads (system_over code links) (quiet_scene one) (quiet_scene other)
+    (λ p. length (agreeing_stages (tree code p))) shown
 
 -- ---- where some stay away
 abbrev pub tree_of : (ℕ → Kin) → Tree

@@ -4,7 +4,7 @@
 ghost use Rattle.std.specs.Prelude.{Option, ℕ};
 ghost use Rattle.grid_meaning.specs.Grid.{IsCapacity};
 ghost use Rattle.node_form.specs.declared.tables.Tables.{Tables as Code};
-ghost use Rattle.row_orders.specs.Agreement.{Agree, AgreeAsStar, AreTrees, Halt};
+ghost use Rattle.row_orders.specs.Agreement.{Agree, AgreeAsStar, AgreeAsTree, AreTrees, Halt};
 ghost use Rattle.row_orders.specs.Halves.{Remap};
 ghost use Rattle.row_orders.specs.Rows.{AreBlind, Deliver, Exchange, GoAlone, Meet};
 
@@ -45,6 +45,11 @@ pub fn rows_agree()
 /// Over a star all come to the values of all processors, joined in ascending order.
 pub fn rows_agree_as_stars()
     ensures { (code : Code) (links : Option ℕ) → IsCapacity links → AgreeAsStar code links }
+{}
+
+/// Over the tree of halves they come to that too, for values that may be joined in any order.
+pub fn rows_agree_as_trees()
+    ensures { (code : Code) (links : Option ℕ) → IsCapacity links → AgreeAsTree code links }
 {}
 
 /// The star and the tree of halves, over which votes and folds go, are trees.
