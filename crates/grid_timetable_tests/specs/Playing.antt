@@ -15,7 +15,8 @@ is_below count (Some p) = nat_lt p count
 
 abbrev pub has_message : Run → ℕ → Option ℕ → Bool
 has_message run to None = true
-has_message run to (Some from) = nat_lt (length (taken_at run from to)) (length (sent_at run from to))
+has_message run to (Some from) =
+    nat_lt (length (taken_at run from to)) (length (sent_at run from to))
 
 abbrev pub may_come : History → Move → Bool
 may_come history move =
