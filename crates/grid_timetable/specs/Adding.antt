@@ -1,4 +1,7 @@
 -- What comes of adding a move.
+--
+--   MayAdd    the move may be added to the table
+--   IsAdded   what comes of adding it, by the answer
 use Rattle.std.specs.Prelude.{◌≡◌, ℕ, ◌<◌, Option, Result, Ok, Err, length}
 use Rattle.grid_timetable.specs.declared.table.Table.{Table}
 use Rattle.grid_timetable.specs.declared.table.TableFault.{TableFault}

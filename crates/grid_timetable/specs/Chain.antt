@@ -1,10 +1,12 @@
 -- Chains of moves, each of which waits for the one before.
 --
 --   IsSegment       consecutive moves of one processor
---   Follows         the first move of one segment takes the message that the last one of another sent
+--   Follows         the first move of one segment takes the message that the last one of another
+--                   sent
 --   IsChain         segments of which each later one follows the one before
 --   chain_length    its moves, and the latency between each two segments
---   StandsBehind    a segment's tick is that of the one before, with that one's moves and the latency
+--   StandsBehind    a segment's tick is that of the one before, with that one's moves and the
+--                   latency
 --   IsTimed         the first segment is at tick 0, and each later one stands behind the one before
 --   IsEnd           the last move of the least processor whose last move ends at so many ticks
 --   IsLongestChain  a chain as long as the shortest timetable
@@ -58,8 +60,8 @@ AtLast P [] = Unit {0}
 AtLast P (segment ∷ []) = P segment
 AtLast P (segment ∷ next ∷ rest) = AtLast P (next ∷ rest)
 
--- where every move is made as early as may be, this is the last move of its processor, it ends at so
--- many ticks, and that of no lower processor does
+-- where every move is made as early as may be, this is the last move of its processor, it ends at
+-- so many ticks, and that of no lower processor does
 pub record IsEnd (run : Run) (ticks : ℕ) (segment : Segment) : Type 0 where
   pub tick : ℕ → ℕ → ℕ
   pub earliest : IsEarliest run tick

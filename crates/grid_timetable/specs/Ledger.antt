@@ -4,7 +4,8 @@
 --   tick_at     the tick that a place stands for
 --   next_place  where a processor's next move stands that goes on behind the one before
 --   arrival     the tick at which a message can be taken, by the move that sent it
---   opened      the stretch that a move opens, where it takes a message that comes too late to go on
+--   opened      the stretch that a move opens, where it takes a message that comes too late to go
+--               on
 --   moved       the ledger with a move more
 use Rattle.std.specs.Prelude.{ℕ, ◌+◌, ◌-◌, max, Bool, true, false, nat_lt, List, [], ◌∷◌, ◌++◌, length, replicate, Option, Some, None, slice_index_or, slice_set}
 use Rattle.grid_timetable.specs.declared.places.Place.{Place}

@@ -1,7 +1,8 @@
 -- The links between processors, and the messages on them, each told by the move that sent it. The
 -- link from `from` to `to` has the number `from * count + to`.
 --
---   Post              how many processors there are, and the links by number, the oldest message first
+--   Post              how many processors there are, and the links by number, the oldest message
+--                     first
 --   link_of           what is on a link
 --   with_link         that one link anew, all others as they were
 --   sending, taking   a message more at the end of a link; the oldest one gone

@@ -48,8 +48,8 @@ abbrev pub taken_at : Run → ℕ → ℕ → List ℕ
 taken_at run from to = numbers_from (takes_from from) 1 (run.moves to)
 
 -- ---- timetables
--- A processor's next move stands at least 1 after the one before; and a move that takes a message at
--- least 1 plus the latency after the one that sent it.
+-- A processor's next move stands at least 1 after the one before; and a move that takes a message
+-- at least 1 plus the latency after the one that sent it.
 pub record IsTimetable (run : Run) (tick : ℕ → ℕ → ℕ) : Type 0 where
   pub one_by_one : (p j : ℕ) → 1 ≤ j → j < length (run.moves p) → tick p j + 1 ≤ tick p (j + 1)
   pub delivered : (from to k i j : ℕ) → slice_get (sent_at run from to) k ≡ Some i

@@ -3,12 +3,11 @@
 --   IsPlaceOf   a place stands for this move of a processor, and for its tick
 --   IsJoined    a stretch with a cause: its first move takes the message that the cause sent, and
 --               stands as early as that lets it
---   IsStretch   a stretch of a run: joined to its cause, or a processor's first moves from tick 0 on
+--   IsStretch   a stretch of a run: joined to its cause, or a processor's first moves from tick 0
+--               on
 --   IsLane      how many moves a processor has made, and where the next one may stand
 --   IsLetter    the message at a place of a link was sent by that move
 --   IsTableOf   the table of these moves
---   MayAdd      the move may be added
---   IsAdded     what comes of adding it, by the answer
 use Rattle.std.specs.Prelude.{◌≡◌, ℕ, ◌+◌, ◌*◌, ◌<◌, ◌≤◌, ◌^◌, List, length, Option, Some, None, Result, Ok, Err, slice_get}
 use Rattle.grid_timetable.specs.declared.places.Place.{Place}
 use Rattle.grid_timetable.specs.declared.places.Stretch.{Stretch}
@@ -22,8 +21,8 @@ use Rattle.grid_timetable.specs.Mail.{IsPost, link}
 use Rattle.grid_timetable.specs.Ledger.{Ledger, ledger_of, stretch_at, tick_in, tick_at, lane_at, next_in, next_place}
 
 -- ---- places and stretches, by the tick of each move
-pub record IsPlaceOf (run : Run) (tick : ℕ → ℕ → ℕ) (stretches : List Stretch) (p : ℕ) (place : Place)
-    : Type 0 where
+pub record IsPlaceOf (run : Run) (tick : ℕ → ℕ → ℕ) (stretches : List Stretch) (p : ℕ)
+    (place : Place) : Type 0 where
   pub there : place.stretch < length stretches
   pub processor : (stretch_at stretches place.stretch).processor ≡ p
   pub numbered : 1 ≤ (stretch_at stretches place.stretch).first
@@ -31,8 +30,8 @@ pub record IsPlaceOf (run : Run) (tick : ℕ → ℕ → ℕ) (stretches : List 
   pub made : place.number ≤ length (run.moves p)
   pub at : tick_at stretches place ≡ tick p place.number
 
-pub record IsJoined (run : Run) (tick : ℕ → ℕ → ℕ) (stretches : List Stretch) (s : ℕ) (stretch : Stretch)
-    (cause : Place) : Type 0 where
+pub record IsJoined (run : Run) (tick : ℕ → ℕ → ℕ) (stretches : List Stretch) (s : ℕ)
+    (stretch : Stretch) (cause : Place) : Type 0 where
   pub before : cause.stretch < s
   pub sender : ℕ
   pub place : IsPlaceOf run tick stretches sender cause

@@ -2,7 +2,8 @@
 --
 --   IsSomeTable      the table of some moves
 --   segment_to       the moves of a stretch up to a place
---   IsTrace          the segments from a place back to one that waits for nothing, the last one first
+--   IsTrace          the segments from a place back to one that waits for nothing, the last one
+--                    first
 --   IsLastProcessor  the least processor whose last move ends last
 --   IsLastPlace      where that move stands
 use Rattle.std.specs.Prelude.{◌≡◌, ◌≢◌, ℕ, ◌<◌, ◌≤◌, List, [], ◌∷◌, length, Option, Some, None}

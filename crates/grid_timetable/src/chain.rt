@@ -62,7 +62,8 @@ impl Table {
         requires { IsSomeTable self.now }
         ensures some { IfSome result (IsLastProcessor (ledger_of self.now)) }
         ensures none { result ≡ None → (p : ℕ) → p < self.now.count
-            → tick_at self.now.stretches.items (next_place (ledger_of self.now) p) ≢ self.now.ticks }
+            → tick_at self.now.stretches.items (next_place (ledger_of self.now) p)
+            ≢ self.now.ticks }
     {
         for p in 0..self.count {
             if self.end_of(p) == self.ticks {

@@ -7,8 +7,8 @@ pub(crate) struct Place {
     pub(crate) number: u64,
 }
 
-/// Moves of one processor at one tick after another. What made the first of them stand no earlier is
-/// the message that it takes, sent by the move that is the cause; without one it is the
+/// Moves of one processor at one tick after another. What made the first of them stand no earlier
+/// is the message that it takes, sent by the move that is the cause; without one it is the
 /// processor's first move, at tick 0.
 #[derive(Clone, Copy)]
 pub(crate) struct Stretch {

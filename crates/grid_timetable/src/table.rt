@@ -204,7 +204,8 @@ impl Table {
 
     /// Opens a stretch, if there is one to open.
     fn open(&mut self, stretch: Option<Stretch>) -> Result<(), AllocError>
-        ensures done { OnOk result (ledger_of self.new ≡ with_stretch (ledger_of self.old) stretch) }
+        ensures done { OnOk result
+            (ledger_of self.new ≡ with_stretch (ledger_of self.old) stretch) }
         ensures kept { OnErr result (ledger_of self.new ≡ ledger_of self.old) }
     {
         if let Some(stretch) = stretch {
@@ -216,7 +217,8 @@ impl Table {
     /// Sends a message, if there is one to send.
     fn post(&mut self, p: u32, sent: Option<u32>, place: Place) -> Result<(), AllocError>
         requires { CanSend (ledger_of self.old) p sent }
-        ensures done { OnOk result (ledger_of self.new ≡ with_mail (ledger_of self.old) p sent place) }
+        ensures done { OnOk result
+            (ledger_of self.new ≡ with_mail (ledger_of self.old) p sent place) }
         ensures kept { OnErr result (ledger_of self.new ≡ ledger_of self.old) }
     {
         if let Some(to) = sent {
@@ -235,7 +237,8 @@ impl Table {
     ) -> Result<(), AllocError>
         requires { CanSend (ledger_of self.old) p sent }
         ensures done { OnOk result
-            (ledger_of self.new ≡ with_mail (with_stretch (ledger_of self.old) stretch) p sent place) }
+            (ledger_of self.new
+            ≡ with_mail (with_stretch (ledger_of self.old) stretch) p sent place) }
         ensures kept { OnErr result (ledger_of self.new ≡ ledger_of self.old) }
     {
         let before = self.stretches.len();
