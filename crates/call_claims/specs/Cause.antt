@@ -11,12 +11,12 @@ use Rattle.zpl_text.specs.declared.TheConstants.{MOST_SOURCE}
 use Rattle.node_form.specs.declared.tables.Tables.{Tables}
 use Rattle.zpl_binding.specs.Settings.{Setting}
 use Rattle.call_claims.specs.Call.{Call}
-use Rattle.call_claims.specs.Command.{Asked, IsList, IsNoList}
+use Rattle.call_claims.specs.Command.{Asked, Asks, IsList}
 use Rattle.call_claims.specs.Execution.{Execution, HasNoRun}
 use Rattle.call_claims.specs.Refusal.{IsRefusal, IsUnbound}
 use Rattle.call_claims.specs.Source.{IsCodeOf, Source}
-use Rattle.call_claims.specs.Texts.{usage_text, unreadable_text, too_long_text, no_memory_text}
-use Rattle.call_claims.specs.declared.status.TheConstants.{DONE, USAGE, UNREADABLE, TOO_LONG}
+use Rattle.call_claims.specs.Texts.{unreadable_text, too_long_text, no_memory_text}
+use Rattle.call_claims.specs.declared.status.TheConstants.{DONE, UNREADABLE, TOO_LONG}
 use Rattle.call_claims.specs.declared.status.TheConstants.{REFUSED, UNBOUND, NO_MEMORY}
 
 -- ---- a text
@@ -67,17 +67,12 @@ abbrev pub ListCause : Call → List ℕ → Asked → Execution → ℕ → Lis
 ListCause call file asked execution =
     ProgramCause call file asked.settings execution (λ code. IsListed execution.turns)
 
--- The words list a file, of which and of what they ask for this holds.
-pub record Lists (call : Call) (Holds : List ℕ → Asked → Type 0) : Type 0 where
-  pub file : List ℕ
-  pub asked : Asked
-  pub given : IsList call.words file asked
-  pub holds : Holds file asked
+abbrev pub Lists : Call → (List ℕ → Asked → Type 0) → Type 0
+Lists call = Asks IsList call.words
 
 -- ---- any call of it
 -- The cause of a status, and what is told of it. A failed put is no cause of these.
 pub data Cause (call : Call) (execution : Execution) : ℕ → List ℕ → Type 0 where
-  usage : IsNoList call.words → HasNoRun execution → Cause call execution USAGE usage_text
   no_memory : Cause call execution NO_MEMORY no_memory_text
   list : {status : ℕ} {told : List ℕ}
       → Lists call (λ file asked. ListCause call file asked execution status told)

@@ -3,11 +3,10 @@ use Rattle.std.specs.Prelude.{◌≡◌, ◌≢◌, ◌↔◌, ℕ, List}
 use Rattle.zpl_binding.specs.Settings.{Setting}
 use Rattle.call_claims.specs.Call.{Call}
 use Rattle.call_claims.specs.Cause.{IsTooLong, Lists}
-use Rattle.call_claims.specs.Command.{IsNoList}
 use Rattle.call_claims.specs.Execution.{Execution, HasCode}
 use Rattle.call_claims.specs.Refusal.{HasUnbound, IsRefused}
 use Rattle.call_claims.specs.Source.{Source}
-use Rattle.call_claims.specs.declared.status.TheConstants.{DONE, USAGE, UNREADABLE, TOO_LONG}
+use Rattle.call_claims.specs.declared.status.TheConstants.{DONE, UNREADABLE, TOO_LONG}
 use Rattle.call_claims.specs.declared.status.TheConstants.{REFUSED, UNBOUND, PUT_FAILED, NO_MEMORY}
 
 -- no put failed, and memory wasn't wanting
@@ -39,8 +38,6 @@ pub record IsExact (call : Call) (execution : Execution) (status : ℕ) : Type 0
   -- 0: the words list a file, and code was made
   pub done : IsDecided status
       → (status ≡ DONE) ↔ Lists call (λ file asked. HasCode execution)
-  -- 1: they don't
-  pub usage : IsDecided status → (status ≡ USAGE) ↔ IsNoList call.words
   -- 3: they list one that tells a text that is too long
   pub too_long : IsSettled call status
       → (status ≡ TOO_LONG) ↔ Lists call (λ file asked. IsTooLong call file)

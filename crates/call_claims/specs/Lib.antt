@@ -4,7 +4,10 @@ pub mod Cause
 pub mod Command
 pub mod Decided
 pub mod Execution
+pub mod Met
 pub mod Refusal
 pub mod Setting
 pub mod Source
+pub mod Stream
 pub mod Texts
+pub mod Words

@@ -41,11 +41,11 @@ pub has_meant : (text : List ℕ) (settings : List Setting) (loops : ℕ) (progr
     → IsAcceptedWith program settings → Means answer (mean_of program settings loops) before after
     → MeansText text settings loops before after (answer_in answer)
 has_meant text settings loops program before after (Ok ending.Done) accepted bound means =
-    record { program = program; accepted = accepted; bound = bound; holds = means }
+    (refl, record { program = program; accepted = accepted; bound = bound; holds = means })
 has_meant text settings loops program before after (Ok (ending.Trap kind line)) accepted bound means =
-    record { program = program; accepted = accepted; bound = bound; holds = means }
+    (refl, record { program = program; accepted = accepted; bound = bound; holds = means })
 has_meant text settings loops program before after (Ok ending.More) accepted bound means =
-    record { program = program; accepted = accepted; bound = bound; holds = means }
+    (refl, record { program = program; accepted = accepted; bound = bound; holds = means })
 has_meant text settings loops program before after (Err fault.SinkFailed) accepted bound means =
     inr (record { program = program; accepted = accepted; bound = bound; holds = means })
 has_meant text settings loops program before after (Err fault.NoMemory) accepted bound means =

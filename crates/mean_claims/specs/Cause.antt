@@ -8,14 +8,13 @@ use Rattle.zpl_binding.specs.Outcome.{BindFault}
 use Rattle.zpl_meaning.specs.Program.{Meaning}
 use Rattle.call_claims.specs.Call.{Call}
 use Rattle.call_claims.specs.Cause.{FileCause}
-use Rattle.call_claims.specs.Command.{Asked, limit_of}
+use Rattle.call_claims.specs.Command.{Asked, Asks, IsMean, limit_of}
 use Rattle.call_claims.specs.Execution.{Execution}
 use Rattle.call_claims.specs.Refusal.{IsFault}
-use Rattle.call_claims.specs.Texts.{bind_name, settings_text, usage_text, trap_text}
+use Rattle.call_claims.specs.Texts.{bind_name, settings_text, trap_text}
 use Rattle.call_claims.specs.Texts.{turn_limit_text, no_memory_text}
-use Rattle.call_claims.specs.declared.status.TheConstants.{DONE, USAGE, REFUSED, UNBOUND}
+use Rattle.call_claims.specs.declared.status.TheConstants.{DONE, REFUSED, UNBOUND}
 use Rattle.call_claims.specs.declared.status.TheConstants.{TRAPPED, TURN_LIMIT, NO_MEMORY}
-use Rattle.mean_claims.specs.Command.{IsMean, IsNoMean}
 use Rattle.mean_claims.specs.Text.{IsFaulty, HasMeaning, HasUnbound}
 
 -- the meaning ends so
@@ -51,8 +50,7 @@ MeanCause call file asked =
 -- ---- any call
 -- The cause of a status, and what is told of it. A failed put is no cause of these.
 pub data Cause (call : Call) : ℕ → List ℕ → Type 0 where
-  usage : IsNoMean call.words → Cause call USAGE usage_text
   no_memory : Cause call NO_MEMORY no_memory_text
-  mean : {status : ℕ} {told : List ℕ} (file : List ℕ) (asked : Asked)
-      → IsMean call.words file asked → MeanCause call file asked status told
+  mean : {status : ℕ} {told : List ℕ}
+      → Asks IsMean call.words (λ file asked. MeanCause call file asked status told)
       → Cause call status told

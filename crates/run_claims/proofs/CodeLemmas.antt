@@ -13,7 +13,7 @@ use Rattle.grid_meaning.specs.Order.{IsOrder, given, turn_number}
 use Rattle.grid_order.specs.Reading.{reading}
 use Rattle.grid_runs.specs.Run.{grid_at, IsIdleAt, IsLimitedAt, IsStuckAt}
 use Rattle.call_claims.specs.Source.{IsCodeOf}
-use Rattle.exec_words.specs.Asked.{Asked, limit_of}
+use Rattle.call_claims.specs.Command.{Asked, limit_of}
 use Rattle.exec_claims.specs.Cause.{run_of}
 use Rattle.run_claims.specs.Decided.{IsTooFew}
 

@@ -2,7 +2,8 @@
 use Rattle.std.proofs.Common.{ℕ, List, Result, Ok, Err, IfErr}
 use Rattle.node_form.specs.declared.tables.Tables.{Tables}
 use Rattle.zpl_binding.specs.Settings.{Setting}
-use Rattle.top_call.specs.Work.{FailsToFetch, IsUncoded}
+use Rattle.call_answers.specs.Fetched.{FailsToFetch}
+use Rattle.top_call.specs.Work.{IsUncoded}
 use Rattle.call_answers.specs.declared.answers.Answer.{Answer}
 use Rattle.top_call.proofs.FileLemmas.{uncoded_read}
 

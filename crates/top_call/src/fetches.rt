@@ -1,5 +1,6 @@
 //! The code of a program's file.
-ghost use Rattle.std.specs.Prelude.{◌≢◌, ◌≤◌, ℕ, List, IfErr, IfOk, length, map, string_bytes};
+ghost use Rattle.std.specs.Prelude.{◌≢◌, ◌≤◌, ℕ, List, IfErr, IfOk, length, map};
+ghost use Rattle.std.specs.Prelude.{string_bytes};
 ghost use Rattle.zpl_io.specs.Faults.{CountsFaults};
 ghost use Rattle.zpl_io.specs.Files.{SameTexts};
 ghost use Rattle.zpl_text.specs.declared.TheConstants.{MOST_SOURCE};
@@ -8,13 +9,14 @@ ghost use Rattle.call_claims.specs.Call.{call_of};
 ghost use Rattle.call_claims.specs.Execution.{IsMadeOf};
 ghost use Rattle.call_claims.specs.Setting.{settings_among};
 ghost use Rattle.call_claims.specs.Source.{IsCodeOf};
-ghost use Rattle.top_call.specs.Work.{FailsToFetch, HasNoCode, IsUncoded};
+ghost use Rattle.call_answers.specs.Fetched.{FailsToFetch};
+ghost use Rattle.top_call.specs.Work.{HasNoCode, IsUncoded};
 
 use crate::compiling::compile;
-use call_answers::Answer;
+use call_answers::{Answer, text_of_file};
 use node_form::NodeProgram;
 use std::alloc::Global;
-use zpl_io::{Fetched, Files};
+use zpl_io::Files;
 use zpl_text::MOST_SOURCE;
 
 /// Fetches a file and makes code of its text under the settings among words, or answers why there
@@ -26,24 +28,24 @@ pub fn code_of_file<'a, F: Files>(
     files: &mut F,
 ) -> Result<NodeProgram, Answer<'a>>
     ensures code { (texts : List (List ℕ)) → IfOk result
-        (IsMadeOf (call_of texts (F.tells files.old) (F.may_fail files.old)) file.now
+        (IsMadeOf (call_of texts (F.tells files.old) (F.may_fail files.old)
+        (F.may_fail_later files.old)) file.now
         (settings_among (map string_bytes words.now))) }
     ensures room { IfOk result HasRoom }
     ensures none { (texts : List (List ℕ)) → IfErr result
-        (HasNoCode (call_of texts (F.tells files.old) (F.may_fail files.old)) file.now
+        (HasNoCode (call_of texts (F.tells files.old) (F.may_fail files.old)
+        (F.may_fail_later files.old)) file.now
         (settings_among (map string_bytes words.now))) }
     ensures put { IfErr result (λ answer. answer ≢ Answer.PutFailed) }
-    ensures done { IfErr result (λ answer. answer ≢ Answer.Done) }
     ensures texts { SameTexts (F.tells files.old) (F.tells files.new) }
+    ensures later { (name : List ℕ) → F.may_fail_later files.new name →
+        F.may_fail_later files.old name }
     ensures fetches { CountsFaults (FailsToFetch result)
         (F.faults files.old) (F.faults files.new) }
 {
-    let mut text = Vec::new(alloc);
-    match files.fetch(alloc, file, MOST_SOURCE, &mut text) {
-        Fetched::Whole => code_of_text(alloc, text.as_slice(), words),
-        Fetched::TooLong => Err(Answer::TooLong(file)),
-        Fetched::Failed => Err(Answer::Unreadable(file)),
-        Fetched::NoMemory => Err(Answer::NoMemory),
+    match text_of_file(alloc, file, MOST_SOURCE, files) {
+        Ok(text) => code_of_text(alloc, text.as_slice(), words),
+        Err(answer) => Err(answer),
     }
 }
 
@@ -55,7 +57,6 @@ fn code_of_text<'a>(alloc: Global, text: &[u8], words: &[String]) -> Result<Node
     ensures none { IfErr result
         (IsUncoded text.now (settings_among (map string_bytes words.now))) }
     ensures put { IfErr result (λ answer. answer ≢ Answer.PutFailed) }
-    ensures done { IfErr result (λ answer. answer ≢ Answer.Done) }
 {
     match compile(alloc, text, words) {
         Ok(code) => Ok(code),

@@ -14,9 +14,4 @@ returns-in-Err-clause-none c =
 pub returns-in-Err-clause-put : goal.returns-in-Err-clause-put
 returns-in-Err-clause-put c =
     subst (λ a. a ≢ answer.PutFailed) (sym c.of_refusal.ensures)
-    (refusal_not_put c.args.text.now c.in-Err.refusal).1
-
-pub returns-in-Err-clause-done : goal.returns-in-Err-clause-done
-returns-in-Err-clause-done c =
-    subst (λ a. a ≢ answer.Done) (sym c.of_refusal.ensures)
-    (refusal_not_put c.args.text.now c.in-Err.refusal).0
+    (refusal_not_put c.args.text.now c.in-Err.refusal)
