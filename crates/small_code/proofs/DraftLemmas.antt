@@ -3,7 +3,7 @@ use Rattle.std.proofs.Common.{◌≡◌, ℕ, zero, suc, ◌+◌, ◌<◌, ◌�
 use Rattle.std.proofs.Common.{ap, ◌∙◌, arith, length-append, append_assoc, append-nil}
 use Rattle.std.specs.Prelude.{slice_get, slice_set, All}
 use Rattle.std.specs.Option.{IsSomeAnd}
-use Rattle.std.proofs.lemmas.List.Elements.{All-nil, All-cons, All-append, All-head, All-tail}
+use Rattle.std.proofs.lemmas.List.Elements.{All-cons, All-push, All-head, All-tail}
 use Rattle.std.proofs.lemmas.Option.{slice_get-get_or, slice_get_within, get_or_from_slice_get}
 use Rattle.std.proofs.lemmas.List.{get_or_append_left}
 use Rattle.std.proofs.Math.Seq.{get_or-append_seam}
@@ -236,9 +236,6 @@ FitsRow-scalar t (instr.Unless expr goal line) fits = tt
 FitsRow-scalar t instr.End fits = tt
 FitsRow-scalar t _ fits = absurd fits
 
-All-pushed : {X : Type 0} (P : X → Type 0) (xs : List X) (x : X) → All P xs → P x → All P (xs ++ x ∷ [])
-All-pushed P xs x all holds = All-append P xs (x ∷ []) all (All-cons P x [] holds (All-nil P))
-
 newline_stays : (t : Tables) (text : List ℕ) → slice_get t.texts 0 ≡ Some newline → slice_get (t.texts ++ text ∷ []) 0 ≡ Some newline
 newline_stays t text first = front_row t.texts (t.texts ++ text ∷ []) 0 newline (front_push t.texts text) first
 
@@ -248,12 +245,12 @@ IsDraft-text growth t text draft =
 
 pub IsDraft-expr : Growth → (t : Tables) (words : List ExprOp) → IsDraft t → FitsExpr t words → All IsScalarWord words → IsDraft (record t { exprs = t.exprs ++ words ∷ [] })
 IsDraft-expr growth t words draft fits scalar =
-    record { fits = growth.expr t words draft.fits fits; scalar_exprs = All-pushed (All IsScalarWord) t.exprs words draft.scalar_exprs scalar; scalar_rows = draft.scalar_rows; newline_first = draft.newline_first }
+    record { fits = growth.expr t words draft.fits fits; scalar_exprs = All-push (All IsScalarWord) t.exprs words draft.scalar_exprs scalar; scalar_rows = draft.scalar_rows; newline_first = draft.newline_first }
 
 pub IsDraft-row : Growth → (t : Tables) (row : Instr) → IsDraft t → FitsRow (record t { code = t.code ++ row ∷ [] }) row → IsDraft (record t { code = t.code ++ row ∷ [] })
 IsDraft-row growth t row draft fits =
     let longer : Tables = record t { code = t.code ++ row ∷ [] } in
-    record { fits = growth.instr t row draft.fits (FitsRow-fits longer row draft.scalar_exprs fits); scalar_exprs = draft.scalar_exprs; scalar_rows = All-pushed IsScalarRow t.code row draft.scalar_rows (FitsRow-scalar longer row fits); newline_first = draft.newline_first }
+    record { fits = growth.instr t row draft.fits (FitsRow-fits longer row draft.scalar_exprs fits); scalar_exprs = draft.scalar_exprs; scalar_rows = All-push IsScalarRow t.code row draft.scalar_rows (FitsRow-scalar longer row fits); newline_first = draft.newline_first }
 
 -- what fits keeps fitting in tables that grow
 pub record Numbers : Type 0 where

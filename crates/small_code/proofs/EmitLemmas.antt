@@ -22,7 +22,7 @@ use Rattle.node_form.specs.declared.words.ExprOp.{ExprOp}
 use Rattle.node_form.specs.declared.instructions.Instr.{Instr}
 use Rattle.node_form.specs.declared.instructions.Instr.TheVariants as instr
 use Rattle.node_form.specs.Expression.{words_of}
-use Rattle.zpl_claims.specs.Tidy.{code_size}
+use Rattle.code_parts.specs.Counts.{code_size}
 use Rattle.zpl_claims.specs.Small.{IsSum, IsTest, IsItem}
 use Rattle.small_code.specs.Draft.{Extends, newline}
 use Rattle.small_code.specs.Emits.{AreFine, AreFineItems, IsFine, Emits, EmitsAll, EmitsAssignment}
@@ -461,10 +461,6 @@ pub record ItemsLeft (names : List (List ℕ)) (old now : Tables) (all left : Li
     pub fine : AreFineItems names all → AreFineItems names left
     pub scalars : now.scalars ≡ old.scalars
 
-pub all_items_left : (names : List (List ℕ)) (t : Tables) (all : List Item)
-    → ItemsLeft names t t all all
-all_items_left names t all = record { finishes = λ new h. h; fine = λ h. h; scalars = refl }
-
 pub next_item : (names : List (List ℕ)) (old now next : Tables) (all left rest : List Item)
     (item : Item) → left ≡ item ∷ rest → ItemsLeft names old now all left
     → EmitsItem names now next item → ItemsLeft names old next all rest
@@ -487,11 +483,6 @@ pub record StmtsLeft (source : List ℕ) (names : List (List ℕ)) (room : ℕ) 
   pub fine : AreFine names room all → AreFine names room left
   pub scalars : now.scalars ≡ old.scalars
 
-pub all_stmts_left : (source : List ℕ) (names : List (List ℕ)) (room : ℕ) (t : Tables) (all : Stmts)
-    → StmtsLeft source names room t t all all
-all_stmts_left source names room t all = record
-    { finishes = λ new h. h; fine = λ h. h; scalars = refl }
-
 fine_first : (names : List (List ℕ)) (room : ℕ) (stmt : Stmt) (rest : Stmts)
     → AreFine names room (ThenStmt stmt rest) → IsFine names room stmt × AreFine names room rest
 fine_first names room stmt rest h = ((h.0.0, omega (arith, h.1)), (h.0.1, omega (arith, h.1)))
@@ -507,12 +498,6 @@ next_stmt source names room old now next all left rest stmt is l f = record {
   scalars = f.extends.scalars ∙ l.scalars;
 }
 
-pub bad_stmt : (source : List ℕ) (names : List (List ℕ)) (room : ℕ) (old now : Tables)
-    (all left rest : Stmts) (stmt : Stmt) → left ≡ ThenStmt stmt rest
-    → StmtsLeft source names room old now all left → AreFine names room all → IsFine names room stmt
-bad_stmt source names room old now all left rest stmt is l h =
-    (fine_first names room stmt rest (subst (AreFine names room) is (l.fine h))).0
-
 -- ---- statements of each form
 pub assignment_stmt : (source : List ℕ) (names : List (List ℕ)) (room line : ℕ) (old new : Tables)
     (at : ℕ) (name : Name) (value : Expr) → line ≡ line_at source at
@@ -525,18 +510,6 @@ assignment_stmt source names room line old new at name value is f = record {
       f.code;
   grows = f.grows;
 }
-
-pub line_stmt : (source : List ℕ) (names : List (List ℕ)) (room : ℕ) (old new : Tables) (at : ℕ)
-    (items : List Item) → EmitsLine names old new items
-    → Emits source names room old new (Prefixed at [] (Write true items))
-line_stmt source names room old new at items f =
-    record {
-      fine = ((refl, f.fine), omega arith);
-      extends = f.extends;
-      code = f.code;
-      grows =
-          f.grows;
-    }
 
 pub loop_stmt : (source : List ℕ) (names : List (List ℕ)) (room line : ℕ) (old new : Tables)
     (at : ℕ) (test : Expr) (body : Stmts) → line ≡ line_at source at

@@ -1,12 +1,15 @@
 -- From the parts of a program to the claims on its code.
 use Rattle.std.proofs.Common.{◌≡◌, ℕ, List, [], ◌∷◌, length, refl, sym, ap, ◌∙◌, subst, arith}
-use Rattle.std.specs.Prelude.{Result, Ok, Err, IfErr, IsErrAnd}
+use Rattle.std.specs.Prelude.{Option, Result, Ok, Err, IfErr, IsErrAnd}
 use Rattle.std.proofs.lemmas.List.{length-map}
 use Rattle.zpl_tree.specs.Syntax.{Name, Stmts, Prefixed, Block, Procedure, Decl, Vars, Defined}
 use Rattle.zpl_tree.specs.Syntax.{Program}
 use Rattle.zpl_tree.specs.Spelling.{program_words}
 use Rattle.node_form.specs.declared.tables.Tables.{Tables}
 use Rattle.node_form.specs.declared.instructions.Instr.TheVariants as instr
+use Rattle.grid_meaning.specs.Scalar.{IsScalarCode}
+use Rattle.zpl_claims.specs.Build.{plain_build}
+use Rattle.zpl_claims.specs.Origin.{origin_of}
 use Rattle.zpl_claims.specs.Small.{IsSmall, AreDistinct, texts_of, integers, plain_procedure}
 use Rattle.zpl_claims.specs.Small.{small_decls}
 use Rattle.zpl_claims.specs.Tidy.{IsTidy}
@@ -149,14 +152,17 @@ module _ (program : Program) (names : List Name) (entry : Procedure)
           (is_code is_entry made.distinct made.drafted made.emitted
           (subst KnowsTurns made.ended knows))
 
-      pub made_is_tidy : HoldsItsWords program
-          → IsTidy (1 ∷ 0 ∷ 0 ∷ []) program (length (program_words program)) code
-      made_is_tidy holds =
-          subst (IsTidy (1 ∷ 0 ∷ 0 ∷ []) program (length (program_words program))) (sym made.ended)
+      pub made_is_tidy : HoldsItsWords program → (links : Option ℕ)
+          → IsTidy (origin_of (plain_build links []) program (length (program_words program))) code
+      made_is_tidy holds links =
+          subst
+          (IsTidy (origin_of (plain_build links []) program (length (program_words program))))
+          (sym made.ended)
           (small_is_tidy program names entry.name plain.0 body
           (shape ∙ ap (declared names) plain.1 ∙ sym
-          (small_declared names entry.name plain.0 body)) is_entry made.drafted
-          made.emitted.grows made.emitted.extends.grid holds)
+          (small_declared names entry.name plain.0 body)) is_entry links made.drafted
+          made.emitted.grows made.emitted.extends.grid made.emitted.extends.arrays
+          (subst IsScalarCode made.ended made.rows) holds)
 
     -- a small program's body can be made
     pub small_can_be_made : IsSmall program → CanBeMade program.name.text names body

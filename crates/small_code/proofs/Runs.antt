@@ -1,7 +1,7 @@
 -- One processor alone, turn by turn, and that a grid of one is just that.
 use Rattle.std.proofs.Common.{◌≡◌, ℕ, zero, suc, ◌+◌, ◌-◌, ◌<◌, ◌≤◌, List, [], ◌∷◌, ◌++◌, length}
 use Rattle.std.proofs.Common.{map, Option, Some, None, IsSome, refl, sym, ap, ◌∙◌, subst, ⊎_elim}
-use Rattle.std.proofs.Common.{arith, append_assoc, append-nil}
+use Rattle.std.proofs.Common.{arith, append-nil}
 use Rattle.std.specs.List.{range_with_len}
 use Rattle.std.specs.Prelude.{slice_get}
 use Rattle.std.proofs.lemmas.Bool.{cases_lt}
@@ -24,6 +24,7 @@ use Rattle.grid_meaning.specs.Turn.{Turn, act, act_at, fed, unless_ended}
 use Rattle.grid_meaning.specs.Grid.{Grid, processors, system_over, start_grid, counting}
 use Rattle.grid_meaning.specs.Grid.{given_turn, after_from, after, IsStuck, IsIdle}
 use Rattle.grid_meaning.specs.Order.{IsOrder}
+use Rattle.small_code.proofs.DraftLemmas.{front_through}
 
 -- a processor and what it has printed
 pub record Solo : Type 0 where
@@ -257,14 +258,6 @@ moved_front solo (Goes next sent shown) = record { rest = shown; joins = refl }
 moved_front solo Ended = record { rest = []; joins = sym (append-nil solo.printed) }
 moved_front solo (Blocked kind) = record { rest = []; joins = sym (append-nil solo.printed) }
 moved_front solo (Awaits from) = record { rest = []; joins = sym (append-nil solo.printed) }
-
-pub front_through : (a b c : List ℕ) → IsFrontOf a b → IsFrontOf b c → IsFrontOf a c
-front_through a b c f g =
-    record {
-      rest = f.rest ++ g.rest;
-      joins = g.joins ∙ ap (λ l. l ++ g.rest) f.joins ∙ append_assoc
-          a f.rest g.rest;
-    }
 
 run_front : (code : Tables) (n : ℕ) (solo : Solo) → IsFrontOf solo.printed (run code n solo).printed
 run_front code zero solo = record { rest = []; joins = sym (append-nil solo.printed) }

@@ -1,11 +1,13 @@
 -- The size of a small program's code.
 use Rattle.std.proofs.Common.{◌≡◌, ℕ, ◌+◌, ◌-◌, ◌*◌, ◌≤◌, Bool, true, false, cond, List, [], ◌∷◌}
-use Rattle.std.proofs.Common.{◌++◌, length, Some, None, refl, ap, ◌∙◌, subst, arith}
-use Rattle.std.proofs.Common.{length-append}
-use Rattle.std.specs.Prelude.{sum_by, sum, find, map, option_map}
-use Rattle.std.specs.List.{flat_map}
+use Rattle.std.proofs.Common.{◌++◌, length, Some, None, refl, sym, ap, ap₂, ◌∙◌, subst, arith}
+use Rattle.std.proofs.Common.{length-append, true≢false}
+use Rattle.std.specs.Prelude.{sum_by, count_by, sum, find, map, filter_map, Option, option_map}
+use Rattle.std.specs.Prelude.{All}
+use Rattle.std.specs.List.{flat_map, cons_option}
 use Rattle.std.specs.Str.{bytes_eq}
-use Rattle.std.proofs.lemmas.List.Sums.{sum_by-append, sum_by-cons}
+use Rattle.std.proofs.lemmas.List.Sums.{sum_by-append, sum_by-cons, count_by-le-length}
+use Rattle.std.proofs.lemmas.List.Elements.{All-head, All-tail}
 use Rattle.zpl_tokens.specs.declared.keywords.Key.TheVariants as key
 use Rattle.zpl_tokens.specs.declared.symbols.Sym.TheVariants as sym
 use Rattle.zpl_tree.specs.Syntax.{Name, NoBracket, Integer, Stmts, Procedure, Vars, Defined}
@@ -18,18 +20,31 @@ use Rattle.zpl_tree.specs.Spelling.{program_words, stmt_words, stmts_words, end_
 use Rattle.zpl_names.specs.Kinds as kind
 use Rattle.zpl_names.specs.Scope.{Entry, is_array, in_reach, kind_in, kind_of}
 use Rattle.zpl_names.specs.Declared.{entry_for, procedure_entry, with_decl, with_each, Routine}
-use Rattle.zpl_names.specs.Declared.{routines_behind, routines_of, scope_of}
+use Rattle.zpl_names.specs.Declared.{routines_behind, routines_of, scope_of, globals_of}
+use Rattle.zpl_names.specs.Expansion.{array_of_entry, expanded_arrays}
 use Rattle.zpl_names.specs.Expansion.{body_tokens, called_names, expanded_tokens, other_size}
 use Rattle.zpl_names.specs.Expansion.{other_tokens, plain_assignments, plain_tokens, source_size}
 use Rattle.node_form.specs.declared.tables.Tables.{Tables}
+use Rattle.node_form.specs.declared.instructions.Instr.{Instr}
 use Rattle.node_form.specs.declared.instructions.Instr.TheVariants as instr
+use Rattle.grid_meaning.specs.Scalar.{IsScalarCode, IsScalarRow}
+use Rattle.grid_meaning.specs.Stored.{stored}
+use Rattle.grid_meaning.specs.Stored.{box_of as laid_box}
+use Rattle.zpl_binding.specs.Declarations.{known_of}
+use Rattle.zpl_binding.specs.Regions.{Known}
+use Rattle.code_parts.specs.Counts.{code_size, count_of, is_counted, is_vote}
+use Rattle.code_parts.specs.Needs.{is_decided}
+use Rattle.zpl_claims.specs.Boxes.{box_of, boxes_of, copy_box}
+use Rattle.zpl_claims.specs.Build.{one_processor, plain_build}
+use Rattle.zpl_claims.specs.Origin.{origin_of}
 use Rattle.zpl_claims.specs.Small.{integers, plain_procedure, small_decls}
-use Rattle.zpl_claims.specs.Tidy.{code_size, IsTidy}
+use Rattle.zpl_claims.specs.Tidy.{IsTidy}
 use Rattle.small_code.specs.Claims.{HoldsItsWords}
 use Rattle.small_code.specs.Draft.{first_tables}
 use Rattle.small_code.specs.Size.{GrowsBy, weight}
 use Rattle.small_code.proofs.EmitLemmas.{with_row, size_row}
-use Rattle.small_code.proofs.ExpandedLemmas.{own_is_counted, nothing_is_plain}
+use Rattle.small_code.proofs.ExpandedLemmas.{own_is_counted, nothing_is_own, nothing_is_plain}
+use Rattle.small_code.proofs.ExpandedLemmas.{nothing_wraps_round}
 use Rattle.small_code.proofs.Whole.{integers_of, same_name, small_globals, small_routines}
 use Rattle.small_code.proofs.Whole.{routine as small_routine_of}
 
@@ -93,6 +108,42 @@ not_among last other (x ∷ names) text =
         (map (entry_for (kind.Scalar Integer)) names ++ last ∷ []))))) ≡ false
     by true later = refl
     by false later = later
+
+-- integers are kept by no test that keeps arrays alone, nor is what stands behind them
+kept_none : (kept : Entry → Option Entry) (last : Entry)
+    → ((name : Name) → kept (entry_for (kind.Scalar Integer) name) ≡ None) → kept last ≡ None
+    → (names : List Name)
+    → filter_map kept (map (entry_for (kind.Scalar Integer)) names ++ last ∷ []) ≡ []
+kept_none kept last of_name of_last [] = ap (λ found. cons_option found []) of_last
+kept_none kept last of_name of_last (x ∷ names) =
+    ap₂ (λ found rest. cons_option found rest) (of_name x)
+    (kept_none kept last of_name of_last names)
+
+-- ---- rows that need scalars alone
+undecided_row : (code : Tables) (row : Instr) → IsScalarRow row → is_decided code row ≡ false
+undecided_row code (instr.Set scalar expr line) h = refl
+undecided_row code (instr.Print text) h = refl
+undecided_row code (instr.Number expr) h = refl
+undecided_row code (instr.Jump goal) h = refl
+undecided_row code (instr.Unless expr goal line) h = refl
+undecided_row code instr.End h = refl
+undecided_row code _ h = absurd h
+
+no_vote : (row : Instr) → IsScalarRow row → is_vote row ≡ false
+no_vote (instr.Set scalar expr line) h = refl
+no_vote (instr.Print text) h = refl
+no_vote (instr.Number expr) h = refl
+no_vote (instr.Jump goal) h = refl
+no_vote (instr.Unless expr goal line) h = refl
+no_vote instr.End h = refl
+no_vote _ h = absurd h
+
+no_votes : (rows : List Instr) → All IsScalarRow rows → count_by is_vote rows ≡ 0
+no_votes [] all = refl
+no_votes (row ∷ rows) all =
+    let rest = no_votes rows (All-tail IsScalarRow row rows all) in
+    sum_by-cons (λ row. cond (is_vote row) 1 0) row rows
+    ∙ ap₂ (λ b n. cond b 1 0 + n) (no_vote row (All-head IsScalarRow row rows all)) rest
 
 -- ---- the words of a small program
 module _ (program : Program) (names : List Name) (entry : Name) (at : ℕ) (body : Stmts)
@@ -199,18 +250,64 @@ module _ (program : Program) (names : List Name) (entry : Name) (at : ℕ) (body
         bytes-append front inner,
       )
 
+  -- ---- its arrays: there are none
+  abbrev entry_of_names : Entry
+  entry_of_names = procedure_entry (integers_of program.source program.name.text names entry at body
+      is_entry names) plain
+
+  globals_are : globals_of program ≡
+      map (entry_for (kind.Scalar Integer)) names ++ entry_of_names ∷ []
+  globals_are =
+      ap (with_each with_decl []) decls
+      ∙ small_globals program.source program.name.text names entry at body is_entry names
+
+  no_global : (kept : Entry → Option Entry)
+      → ((name : Name) → kept (entry_for (kind.Scalar Integer) name) ≡ None)
+      → kept entry_of_names ≡ None → map array_of_entry (filter_map kept (globals_of program)) ≡ []
+  no_global kept of_name of_entry =
+      ap (λ entries. map array_of_entry (filter_map kept entries)) globals_are
+      ∙ ap (map array_of_entry) (kept_none kept entry_of_names of_name of_entry names)
+
+  none_expanded : expanded_arrays program ≡ []
+  none_expanded =
+      ap₂ (λ globals own. globals ++ own) (no_global _ (λ name. refl) refl)
+      (nothing_is_own program routine only
+      (same_name program.source program.name.text names entry at body is_entry) refl refl)
+
+  pub no_boxes : (known : Known) → boxes_of program known ≡ []
+  no_boxes known =
+      ap₂ (λ arrays copies.
+      map (box_of program known) arrays ++ map (copy_box program known) copies)
+      none_expanded
+      (nothing_wraps_round program routine only
+      (same_name program.source program.name.text names entry at body is_entry) no_arrays)
+
   -- ---- the code
-  pub small_is_tidy : (drafted : Tables)
+  pub small_is_tidy : (links : Option ℕ) (drafted : Tables)
       → GrowsBy (stmts_words body) (first_tables (length names)) drafted
-      → drafted.grid ≡ 1 ∷ 0 ∷ 0 ∷ [] → HoldsItsWords program
-      → IsTidy (1 ∷ 0 ∷ 0 ∷ []) program (length (program_words program))
+      → drafted.grid ≡ one_processor → drafted.arrays ≡ []
+      → IsScalarCode (with_row drafted instr.End) → HoldsItsWords program
+      → IsTidy (origin_of (plain_build links []) program (length (program_words program)))
       (with_row drafted instr.End)
-  small_is_tidy drafted g grid holds =
+  small_is_tidy links drafted g grid arrays rows holds =
       let tokens = length (program_words program) in
+      let code = with_row drafted instr.End in
       record {
-        for_grid = grid;
+        laid_out =
+            ap₂ (λ grid arrays. record { grid = grid; boxes = map laid_box (stored arrays) })
+            grid arrays
+            ∙ ap (λ boxes. record { grid = one_processor; boxes = boxes })
+            (sym (no_boxes (known_of program [])));
         small = fits (source_size program) sized;
         few = follows (plain_assignments program) (other_size program tokens) (other tokens);
+        votes = omega (arith, no_votes code.code rows);
+        undecided = λ k d inside. undecided_row code _ (rows k d inside);
+        fused = λ asked. absurd (true≢false (sym asked));
+        contracted = λ asked. absurd (true≢false (sym asked));
+        not_redundant = λ asked. absurd (true≢false (sym asked));
+        merged = λ asked. absurd (true≢false (sym asked));
+        early = λ asked. absurd (true≢false (sym asked));
+        by_trees = λ asked. absurd (true≢false (sym asked));
       }
     where
       fits : (source : ℕ) → length program.source + (length (stmts_words body) + 3) ≤ source
@@ -225,6 +322,11 @@ module _ (program : Program) (names : List Name) (entry : Name) (at : ℕ) (body
       )
 
       follows : (plain others : ℕ) → length (stmts_words body) + 3 ≤ others
-          → length (with_row drafted instr.End).code ≤ plain + 64 * (others + 1)
+          → count_of is_counted (with_row drafted instr.End) ≤ plain + 64 * (others + 1)
       follows plain others le =
-          omega (arith, length-append drafted.code (instr.End ∷ []), g.rows)
+          omega (
+            arith,
+            count_by-le-length is_counted (drafted.code ++ instr.End ∷ []),
+            length-append drafted.code (instr.End ∷ []),
+            g.rows,
+          )

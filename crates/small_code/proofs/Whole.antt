@@ -35,7 +35,8 @@ use Rattle.zpl_meaning.specs.Program.{returned, run_routine, call_at, setup_of, 
 use Rattle.zpl_meaning.specs.Program.{first_frame, outcome_of, mean_of, steps_of}
 use Rattle.zpl_names.specs.Expansion.{shattered_loops}
 use Rattle.zpl_claims.specs.Bound.{turn_bound, EndsInBound}
-use Rattle.zpl_claims.specs.Good.{IsGood, OverAllLinks}
+use Rattle.zpl_claims.specs.Build.{OverAllLinks, plain_build}
+use Rattle.zpl_claims.specs.Good.{IsGood}
 use Rattle.zpl_claims.specs.LockStep.{HasLockSteps}
 use Rattle.zpl_claims.specs.Small.{IsSmall, texts_of, plain_procedure, small_decls}
 use Rattle.small_code.specs.Rows.{AreStmtsCode}
@@ -237,18 +238,20 @@ module _ (push : (operands : Operands) (tree : Expression)
       (does_whole code n of.last _ frame.store _
       (begins code (length names) frame.store of.scalars zeros) of.end_row whole)
 
-  pub is_good : OverAllLinks (λ links. IsGood code links (mean_of program []))
-  is_good links capacity = good code links of.solo (outcome_of program []) does
+  pub is_good : (limit : Option ℕ)
+      → OverAllLinks (plain_build limit []) (λ links. IsGood code links (mean_of program []))
+  is_good limit links capacity = good code links of.solo (outcome_of program []) does
 
-  pub has_lock_steps : OverAllLinks (λ links. HasLockSteps code links (mean_of program []))
-  has_lock_steps links capacity = in_step code links of.solo (outcome_of program []) does
+  pub has_lock_steps : (limit : Option ℕ)
+      → OverAllLinks (plain_build limit []) (λ links. HasLockSteps code links (mean_of program []))
+  has_lock_steps limit links capacity = in_step code links of.solo (outcome_of program []) does
 
   pub ends_in_bound : ((order : List ℕ) (count k : ℕ) → length (given order count k) ≡ k)
       → ((order : List ℕ) (count k : ℕ) → 0 < count → IsOrder count order
       → IsOrder count (given order count k))
-      → OverAllLinks (λ links.
+      → (limit : Option ℕ) → OverAllLinks (plain_build limit []) (λ links.
       EndsInBound code links (mean_of program []) (steps_of program []) (shattered_loops program))
-  ends_in_bound many below links capacity n order ending h =
+  ends_in_bound many below limit links capacity n order ending h =
       let loops = shattered_loops program in
       let bound = turn_bound code (steps_of program []) loops n in
       let one = one_processor code of.solo in

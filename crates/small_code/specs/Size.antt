@@ -2,7 +2,7 @@
 use Rattle.std.specs.Prelude.{ℕ, ◌+◌, ◌*◌, ◌≤◌, List, length, sum_by}
 use Rattle.zpl_tree.specs.Word.{Word, word_text}
 use Rattle.node_form.specs.declared.tables.Tables.{Tables}
-use Rattle.zpl_claims.specs.Tidy.{code_size}
+use Rattle.code_parts.specs.Counts.{code_size}
 
 -- words, and the bytes that they are written with
 abbrev pub weight : List Word → ℕ

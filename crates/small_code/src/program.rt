@@ -1,13 +1,15 @@
 //! The code of a program.
-ghost use Rattle.std.specs.Prelude.{◌≡◌, ◌∷◌, [], OnOk, IfOk, IfErr, length, map};
+ghost use Rattle.std.specs.Prelude.{◌≡◌, ℕ, [], OnOk, IfOk, IfErr, Option, length, map};
 ghost use Rattle.zpl_tree.specs.Spelling.{program_words};
 ghost use Rattle.zpl_tree.specs.View.{name_of, stmts_of, syntax_of};
 ghost use Rattle.grid_meaning.specs.Scalar.{IsScalarCode};
 ghost use Rattle.zpl_meaning.specs.Program.{mean_of, steps_of};
 ghost use Rattle.zpl_names.specs.Expansion.{shattered_loops};
 ghost use Rattle.zpl_claims.specs.Bound.{EndsInBound};
-ghost use Rattle.zpl_claims.specs.Good.{IsGood, OverAllLinks};
+ghost use Rattle.zpl_claims.specs.Build.{OverAllLinks, plain_build};
+ghost use Rattle.zpl_claims.specs.Good.{IsGood};
 ghost use Rattle.zpl_claims.specs.LockStep.{HasLockSteps};
+ghost use Rattle.zpl_claims.specs.Origin.{origin_of};
 ghost use Rattle.zpl_claims.specs.Small.{IsSmall};
 ghost use Rattle.zpl_claims.specs.Tidy.{IsTidy};
 ghost use Rattle.small_code.specs.Claims.{HoldsItsWords};
@@ -37,17 +39,19 @@ pub fn code_of_small(alloc: Global, program: &Program<'_>) -> Result<NodeProgram
     // Over links of every capacity it is right after every order of turns, some order brings it to
     // each bound of the meaning, and where the meaning ends it comes to its end in time.
     ensures good { let tree = syntax_of program.now in
-        IfOk result (λ code. OverAllLinks (λ links. IsGood code links (mean_of tree []))) }
+        IfOk result (λ code. (limit : Option ℕ) → OverAllLinks (plain_build limit []) (λ links.
+        IsGood code links (mean_of tree []))) }
     ensures in_step { let tree = syntax_of program.now in
-        IfOk result (λ code. OverAllLinks (λ links. HasLockSteps code links (mean_of tree []))) }
+        IfOk result (λ code. (limit : Option ℕ) → OverAllLinks (plain_build limit []) (λ links.
+        HasLockSteps code links (mean_of tree []))) }
     ensures bound { let tree = syntax_of program.now in
-        IfOk result (λ code. OverAllLinks (λ links.
+        IfOk result (λ code. (limit : Option ℕ) → OverAllLinks (plain_build limit []) (λ links.
         EndsInBound code links (mean_of tree []) (steps_of tree []) (shattered_loops tree))) }
 
-    // It is for one processor, and no larger than the source.
+    // It is tidy: for one processor, without arrays, and no larger than a multiple of the source.
     ensures tidy { let tree = syntax_of program.now in
-        IfOk result (λ code. HoldsItsWords tree →
-        IsTidy (1 ∷ 0 ∷ 0 ∷ []) tree (length (program_words tree)) code) }
+        IfOk result (λ code. HoldsItsWords tree → (limit : Option ℕ) →
+        IsTidy (origin_of (plain_build limit []) tree (length (program_words tree))) code) }
 
     // Its rows need scalars alone, and it has no arrays.
     ensures rows { IfOk result IsScalarCode }

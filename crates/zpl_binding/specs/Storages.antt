@@ -99,3 +99,12 @@ home_or known (Some array) = home_of known array.region
 abbrev pub home_at : Program → Known → ℕ → Outcome Region
 home_at program known at =
     home_or known (find (λ array. array.name.at == at) (arrays_of program))
+
+-- and its storage
+abbrev pub storage_or : Program → Known → Option Shaped → Outcome Region
+storage_or program known None = Gives no_region
+storage_or program known (Some array) = storage_of known (borders_of program) array.region
+
+abbrev pub storage_at : Program → Known → ℕ → Outcome Region
+storage_at program known at =
+    storage_or program known (find (λ array. array.name.at == at) (arrays_of program))

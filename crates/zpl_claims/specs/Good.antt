@@ -5,7 +5,7 @@ use Rattle.zpl_nums.specs.declared.ends.End.TheVariants.{More}
 use Rattle.node_form.specs.declared.tables.Tables.{Tables}
 use Rattle.zpl_meaning.specs.Program.{Meaning}
 use Rattle.grid_meaning.specs.Grid.{Grid, processors, after, IsOver, EndsAs, IsStuck, IsIdle}
-use Rattle.grid_meaning.specs.Grid.{HasEmptyLinks, IsCapacity}
+use Rattle.grid_meaning.specs.Grid.{HasEmptyLinks}
 use Rattle.grid_meaning.specs.Order.{IsOrder}
 
 -- A grid that is over has printed all that the meaning prints, and has ended as the meaning does,
@@ -29,7 +29,3 @@ abbrev pub IsGood : Tables → Option ℕ → (ℕ → Meaning) → Type 0
 IsGood code links mean =
     (order : List ℕ) → IsOrder (processors code) order →
     IsRight code links (mean (length order)) (after code links order)
-
--- what holds over links of every capacity, and over those that hold any number of messages
-abbrev pub OverAllLinks : (Option ℕ → Type 0) → Type 0
-OverAllLinks Holds = (links : Option ℕ) → IsCapacity links → Holds links

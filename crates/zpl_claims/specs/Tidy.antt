@@ -1,18 +1,36 @@
--- Code that is tidy: for the grid that was handed in, of a size that the source bounds, and with no
--- more instructions than its statements need.
-use Rattle.std.specs.Prelude.{◌≡◌, ℕ, ◌+◌, ◌*◌, ◌≤◌, List, length, sum_by}
-use Rattle.zpl_tree.specs.Syntax.{Program}
+-- Code that is tidy: laid out as the grid and the program's arrays ask for it, of a size that the
+-- source bounds, with no more instructions than its statements need; and free of what the
+-- optimisations that were asked for leave out.
+use Rattle.std.specs.Prelude.{◌≡◌, true, ◌+◌, ◌*◌, ◌≤◌}
 use Rattle.zpl_names.specs.Expansion.{source_size, other_size, plain_assignments}
 use Rattle.node_form.specs.declared.tables.Tables.{Tables}
+use Rattle.grid_meaning.specs.Stored.{arrangement_of}
+use Rattle.code_parts.specs.Counts.{code_size, count_of, is_counted, is_vote, is_loop}
+use Rattle.code_parts.specs.Counts.{GoesByTrees}
+use Rattle.code_parts.specs.Contracted.{IsContracted}
+use Rattle.code_parts.specs.Early.{IsEarly}
+use Rattle.code_parts.specs.Exchanged.{HasNoRepeats, IsMerged}
+use Rattle.code_parts.specs.Fused.{IsFused}
+use Rattle.code_parts.specs.Needs.{IsUndecided}
+use Rattle.zpl_claims.specs.Origin.{Origin}
 
--- ---- the size of code: scalars, cells, instructions, words of expressions and bytes of texts
-abbrev pub code_size : Tables → ℕ
-code_size code =
-    code.scalars + code.cells + length code.code
-    + sum_by length code.exprs + sum_by length code.texts
-
--- What holds of all code, for a grid and a program whose text has so many tokens.
-pub record IsTidy (grid : List ℕ) (program : Program) (tokens : ℕ) (code : Tables) : Type 0 where
-  pub for_grid : code.grid ≡ grid
-  pub small : code_size code ≤ 512 * (source_size program + 1)
-  pub few : length code.code ≤ plain_assignments program + 64 * (other_size program tokens + 1)
+-- The grid is the one that is asked for, and the stored arrays are the program's, in their order,
+-- with their storages and fringes. The size is at most a multiple of the source with its calls
+-- expanded. Rows other than checks, exchanges, votes and traps are at most one for each plain
+-- assignment, and so many for each token, parameter and local name that stands in none. There are no
+-- more votes than loops. No check is left that always passes. And for each optimisation that is
+-- asked for the code is free of what it leaves out.
+pub record IsTidy (origin : Origin) (code : Tables) : Type 0 where
+  pub laid_out : arrangement_of code ≡
+      record { grid = origin.build.grid; boxes = origin.boxes }
+  pub small : code_size code ≤ 512 * (source_size origin.program + 1)
+  pub few : count_of is_counted code ≤
+      plain_assignments origin.program + 64 * (other_size origin.program origin.tokens + 1)
+  pub votes : count_of is_vote code ≤ count_of is_loop code
+  pub undecided : IsUndecided code
+  pub fused : origin.build.options.fuse ≡ true → IsFused code
+  pub contracted : origin.build.options.contract ≡ true → IsContracted code
+  pub not_redundant : origin.build.options.redundant ≡ true → HasNoRepeats code
+  pub merged : origin.build.options.merge ≡ true → IsMerged code
+  pub early : origin.build.options.early ≡ true → IsEarly origin.build.links code
+  pub by_trees : origin.build.options.tree ≡ true → GoesByTrees code

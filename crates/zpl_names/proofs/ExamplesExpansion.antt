@@ -4,6 +4,9 @@ use Rattle.zpl_nums.specs.declared.operators.Op.TheVariants as op
 use Rattle.zpl_nums.specs.declared.folds.Fold.TheVariants as fold
 use Rattle.zpl_tree.specs.Syntax.{Number, Named, Shifted, Around, Pair, Reduce, NoExpr, ThenExpr, NamedDir, NamedRegion, Rexpr, Dims, NoBracket, Bracketed, NoPost, Span, NoDim, ThenDim, Prefixed, NoStmt, ThenStmt, Assign, Invoke, Block, If, While, Repeat, Tested, NoArm, ThenArm, NoElse, Integer, Boolean, Regions, Directions, Vars, Defined, Program}
 use Rattle.zpl_names.specs.Expansion.{expanded_statements, expanded_nodes, expanded_tokens, called_names, expanded_arrays, expanded_shifts, expanded_copies, plain_tokens, source_size, other_size, shattered_loops}
+use Rattle.zpl_nums.specs.declared.ends.Border.TheVariants as edge
+use Rattle.zpl_tree.specs.Syntax.{Border, One, Paren, Vector}
+use Rattle.zpl_names.specs.Counts.{stmt_count, stmt_nodes}
 use Rattle.zpl_names.specs.Reached.{longest_chain}
 use Rattle.zpl_names.proofs.Trees.{name}
 
@@ -15,7 +18,7 @@ use Rattle.zpl_names.proofs.Trees.{name}
 -- [R] begin a := c@e; end;
 -- procedure t();
 -- [R] begin u(A, B); A := B@e + 1; v(A, B); v(A, A); [R] A := 1; A := A@e; begin x := +<<A; end; end;
-abbrev calls : Program
+abbrev pub calls : Program
 calls = record {
   name = (name (codes "t") 8);
   decls = ((Regions ((record {
@@ -280,3 +283,24 @@ loops = record {
 most_loops : shattered_loops loops ≡ 3
 unfolding longest_chain
 most_loops = refl
+
+
+-- ---- statements and nodes
+-- wrap A, B; is one statement
+one_statement :
+    stmt_count (Prefixed 0 [] (Border edge.Wrap (name (codes "A") 5 ∷ name (codes "B") 8 ∷ [])))
+    ≡ 1
+one_statement = refl
+
+-- [1..n, 2] A := (A@[1, n]); has the three bounds of its prefix, the bracket, the read and two
+-- components
+counted_nodes :
+    stmt_nodes (Prefixed 10 (record {
+      at = 0;
+      region = Dims (ThenDim (Span (Number 1 (pos 1)) (Named 4 (name (codes "n") 4)))
+          (ThenDim (One (Number 7 (pos 2))) NoDim));
+      mask = None;
+    } ∷ []) (Assign (name (codes "A") 10) None (Paren 15 (Shifted 16 (name (codes "A") 16)
+    (Vector (ThenExpr (Number 19 (pos 1)) (ThenExpr (Named 22 (name (codes "n") 22)) NoExpr)))))))
+    ≡ 7
+counted_nodes = refl

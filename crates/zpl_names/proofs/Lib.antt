@@ -10,7 +10,7 @@ mod Trees
 pub mod ListLemmas
 pub mod ReachedLemmas
 mod ExpansionLemmas
-mod ExamplesExpansion
+pub mod ExamplesExpansion
 pub mod WalkLemmas
 pub mod FaultlessLemmas
 pub mod NameLemmas

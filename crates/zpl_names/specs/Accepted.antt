@@ -1,5 +1,5 @@
 -- The faults of a program, each with the offset of its place, and the programs that have none.
-use Rattle.std.specs.Prelude.{◌≡◌, ℕ, ◌≤◌, ◌<◌, Bool, true, false, not, List, [], ◌++◌, map, flat_map, Option, Some, None, IsSome, Contains, ◌⊎◌}
+use Rattle.std.specs.Prelude.{◌≡◌, ℕ, ◌<◌, Bool, true, false, not, List, [], ◌++◌, map, flat_map, Option, Some, None, IsSome, Contains, ◌⊎◌}
 use Rattle.zpl_tree.specs.Syntax.{Program}
 use Rattle.zpl_tree.specs.Syntax as plain
 use Rattle.zpl_names.specs.Ranks.{inner_rank}
@@ -156,15 +156,16 @@ HasKnownRank site = Unit {0}
 
 -- ---- what is too much to compile
 
+-- the statements of the program with its calls expanded
 abbrev pub most_statements : ℕ
 most_statements = 20000
 
+abbrev pub HasTooManyStatements : Program → Type 0
+HasTooManyStatements program = most_statements < expanded_statements program
+
+-- and the nodes of their expressions
 abbrev pub most_nodes : ℕ
 most_nodes = 200000
 
--- A program that is accepted, where its tree isn't too deep: no fault holds, and it isn't too much
--- to compile.
-pub record IsAccepted (program : Program) : Type 0 where
-  pub faultless : IsFaultless program
-  pub statements : expanded_statements program ≤ most_statements
-  pub nodes : expanded_nodes program ≤ most_nodes
+abbrev pub HasTooManyNodes : Program → Type 0
+HasTooManyNodes program = most_nodes < expanded_nodes program
