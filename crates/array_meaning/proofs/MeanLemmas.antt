@@ -32,7 +32,7 @@ use Rattle.routine_walks.specs.Texts.{routine_of}
 use Rattle.array_frames.specs.declared.heads.Head.{Head}
 use Rattle.array_frames.specs.Heads.{names_in, names_of}
 use Rattle.array_statements.specs.declared.faults.MeanFault.{MeanFault}
-use Rattle.array_statements.specs.Runs.{Runs}
+use Rattle.array_statements.specs.Runs.{Faults, Runs}
 use Rattle.array_meaning.specs.Means.{Means}
 use Rattle.array_meaning.specs.Opened.{IsOpened}
 
@@ -128,7 +128,7 @@ means_nothing P (Err fault) program settings n told is = record {
 }
 
 pub means_so : (result : Result End MeanFault) (program : syntax.Program) (settings : List Setting)
-    (n : ℕ) (outcome : Outcome) (store : Store) (before after : List ℕ → Type 0) (old new : ℕ) →
+    (n : ℕ) (outcome : Outcome) (store : Store) (before after : List ℕ → Type 0) (old new : Faults) →
     outcome ≡ outcome_of program settings n →
     Runs result outcome store before after old new →
     Means result (mean_of program settings n) before after

@@ -3,6 +3,7 @@ ghost use Rattle.std.specs.Prelude.{◌≡◌, ◌≤◌, List, length};
 ghost use Rattle.zpl_tree.specs.Grammar.{IsProgram};
 ghost use Rattle.zpl_tree.specs.View.{syntax_of};
 ghost use Rattle.zpl_io.specs.Faults.{CountsFaults};
+ghost use Rattle.zpl_io.specs.Sink.{StopsAtFault};
 ghost use Rattle.zpl_binding.specs.Bound.{Binds};
 ghost use Rattle.zpl_binding.specs.Settings.{Setting};
 ghost use Rattle.zpl_binding.specs.Declarations.{known_of};
@@ -52,6 +53,8 @@ pub fn mean<'a, O: Sink>(
         Means result (mean_of (syntax_of typed.now.program.now) settings loops)
         (O.tells out.old) (O.tells out.new) }
     ensures counts { CountsFaults (result ≡ Err SinkFailed) (O.faults out.old) (O.faults out.new) }
+    ensures stops { StopsAtFault (result ≡ Err SinkFailed)
+        (O.has_failed out.old) (O.has_failed out.new) }
 {
     faultless_programs_are_fit();
     let program = typed.program;
@@ -98,6 +101,8 @@ fn run_all<'n, O: Sink>(
         Means result (mean_of (syntax_of program.now) settings loops)
         (O.tells out.old) (O.tells out.new) }
     ensures counts { CountsFaults (result ≡ Err SinkFailed) (O.faults out.old) (O.faults out.new) }
+    ensures stops { StopsAtFault (result ≡ Err SinkFailed)
+        (O.has_failed out.old) (O.has_failed out.new) }
 {
     run_in(
         alloc, &*program, &*text, &*known, &*parts, &*things, &*heads, store, loops, out,
@@ -123,6 +128,8 @@ fn run_in<'a, 'n, O: Sink>(
         Means result (mean_of (syntax_of program.entry.now) settings loops)
         (O.tells out.old) (O.tells out.new) }
     ensures counts { CountsFaults (result ≡ Err SinkFailed) (O.faults out.old) (O.faults out.new) }
+    ensures stops { StopsAtFault (result ≡ Err SinkFailed)
+        (O.has_failed out.old) (O.has_failed out.new) }
 {
     ranks_agree();
     let setup = Setup {

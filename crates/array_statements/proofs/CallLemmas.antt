@@ -21,11 +21,11 @@ use Rattle.array_frames.specs.Heads.{names_in, names_of}
 use Rattle.array_statements.specs.declared.faults.MeanFault.{MeanFault}
 use Rattle.array_statements.specs.declared.runs.Run.{Run}
 use Rattle.array_statements.specs.Running.{HasNames, IsRunning}
-use Rattle.array_statements.specs.Runs.{Runs}
+use Rattle.array_statements.specs.Runs.{Faults, Runs}
 use Rattle.array_statements.proofs.RunLemmas.{Told, as_equal, left_as, left_so, quiet, runs_as}
 
 pub returned_ok : (ending : End) (outcome : Outcome) (earlier store : Store) (before after : Told)
-    (old new : ℕ) → Runs (Ok ending) outcome store before after old new →
+    (old new : Faults) → Runs (Ok ending) outcome store before after old new →
     Runs (Ok ending) (returned earlier outcome) (cut_back earlier store) before after old new
 returned_ok ending outcome earlier store before after old new runs = record {
   ran = record {
@@ -34,13 +34,14 @@ returned_ok ending outcome earlier store before after old new runs = record {
     takes = runs.ran.takes;
   };
   counts = runs.counts;
+  stops = runs.stops;
 }
 
 pub returned_err : (fault : MeanFault) (outcome : Outcome) (earlier store left : Store)
-    (before after : Told) (old new : ℕ) → Runs (Err fault) outcome store before after old new →
+    (before after : Told) (old new : Faults) → Runs (Err fault) outcome store before after old new →
     Runs (Err fault) (returned earlier outcome) left before after old new
 returned_err fault outcome earlier store left before after old new runs =
-    record { ran = runs.ran; counts = runs.counts }
+    record { ran = runs.ran; counts = runs.counts; stops = runs.stops }
 
 pub call_none : (setup : Setup) (n depth : ℕ) (called : Called) (store : Store) → depth ≡ 0 →
     call_at setup n depth called store ≡ goes_on store
@@ -78,7 +79,7 @@ module _ (setup : Setup) (n depth deeper : ℕ) (called : Called) (store : Store
   call_is = call_some setup n depth deeper called store routine one named
       ∙ ap (λ frame. returned store (body_outcome frame)) (sym same)
 
-  pub call_ok : (ending : End) (left cut : Store) (before after : Told) (old new : ℕ) →
+  pub call_ok : (ending : End) (left cut : Store) (before after : Told) (old new : Faults) →
       cut ≡ cut_back store left →
       Runs (Ok ending) (body_outcome frame) left before after old new →
       Runs (Ok ending) (call_at setup n depth called store) cut before after old new
@@ -88,7 +89,7 @@ module _ (setup : Setup) (n depth deeper : ℕ) (called : Called) (store : Store
       (runs_as (Ok ending) _ _ (cut_back store left) before after old new (as_equal _ _ call_is)
       (returned_ok ending (body_outcome frame) store left before after old new runs))
 
-  pub call_err : (fault : MeanFault) (left other : Store) (before after : Told) (old new : ℕ) →
+  pub call_err : (fault : MeanFault) (left other : Store) (before after : Told) (old new : Faults) →
       Runs (Err fault) (body_outcome frame) left before after old new →
       Runs (Err fault) (call_at setup n depth called store) other before after old new
   call_err fault left other before after old new runs =
@@ -162,7 +163,7 @@ module _ (run : Run) (setup : Setup) (running : IsRunning run setup) (name : Lis
 
 -- no procedure has the name
 pub nothing_called : (setup : Setup) (n depth : ℕ) (called : Called) (store : Store) (told : Told)
-    (count : ℕ) → routine_named setup.program called.name ≡ None →
+    (count : Faults) → routine_named setup.program called.name ≡ None →
     Runs (Ok end.Done) (call_at setup n depth called store) store told told count count
 nothing_called setup n depth called store told count none =
     quiet (Ok end.Done) (call_at setup n depth called store) store told count

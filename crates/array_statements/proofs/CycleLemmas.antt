@@ -28,7 +28,7 @@ use Rattle.array_statements.specs.declared.faults.MeanFault.{MeanFault}
 use Rattle.array_steps.specs.Fit.{AreFitItems}
 use Rattle.array_statements.specs.Fit.{AreFitPrefixes, AreFitTests, IsFitHead}
 use Rattle.array_statements.specs.Running.{IsHere, AreVisited}
-use Rattle.array_statements.specs.Runs.{Runs, IsAs}
+use Rattle.array_statements.specs.Runs.{Faults, IsAs, Runs}
 use Rattle.array_statements.proofs.FitLemmas.{elementwise_form, fit_expr, fit_items, fit_prefixes, fit_tests, ranked_under}
 use Rattle.array_statements.proofs.RunLemmas.{Goes, Told, as_equal, goes_as, left_as, left_so, quiet, runs_as, wanting}
 use Rattle.array_statements.proofs.StatementLemmas.{all_next, exec_inner, exec_stopped}
@@ -173,7 +173,7 @@ module _ (setup : Setup) (here : Place) (ranked : AllRanked setup) where
 
 pub exec_runs : (result : Result End MeanFault) (place inner : Place)
     (call other : Called → Store → Outcome) (n at : ℕ) (prefixes : List Prefix) (form : Form)
-    (store left : Store) (before after : Told) (old new : ℕ) → other ≡ call →
+    (store left : Store) (before after : Told) (old new : Faults) → other ≡ call →
     ((call : Called → Store → Outcome) (next : Context → Outcome) →
     under (context_at place call) prefixes store next ≡ next (context_at inner call)) →
     Runs result (exec_form (context_at inner other) n at form store) left before after old new →
@@ -189,7 +189,7 @@ exec_runs result place inner call other n at prefixes form store left before aft
 
 pub exec_ends : (place : Place) (call : Called → Store → Outcome) (n at : ℕ)
     (prefixes : List Prefix) (form : Form) (store : Store) (ending : End) (told : Told)
-    (count : ℕ) →
+    (count : Faults) →
     ((call : Called → Store → Outcome) (next : Context → Outcome) →
     under (context_at place call) prefixes store next ≡ ends store ending) →
     Runs (Ok ending) (exec (context_at place call) n (Prefixed at prefixes form) store) store told
@@ -201,7 +201,7 @@ exec_ends place call n at prefixes form store ending told count reaches =
     (left_so ending store))
 
 pub goes_next : (whole : Outcome) (context : Context) (n : ℕ) (body : List CodeStmt) (k : ℕ)
-    (d : CodeStmt) (store : Store) (before now : Told) (old new : ℕ) → k < length body →
+    (d : CodeStmt) (store : Store) (before now : Told) (old new : Faults) → k < length body →
     Goes whole (exec_all context n (stmts_of (drop k body)) store) before now old new →
     Goes whole
     (then_do (exec context n (stmt_of (get_or body k d)) store)
@@ -211,7 +211,7 @@ goes_next whole context n body k d store before now old new less goes =
 
 -- a statement of a row, and those behind it
 pub all_step : (whole : Outcome) (context : Context) (n : ℕ) (body : List CodeStmt) (k : ℕ)
-    (stmt : CodeStmt) (store : Store) (before now : Told) (old new : ℕ) → k < length body →
+    (stmt : CodeStmt) (store : Store) (before now : Told) (old new : Faults) → k < length body →
     stmt ≡ get_or body k stmt →
     Goes whole (exec_all context n (stmts_of (drop k body)) store) before now old new →
     Goes whole
@@ -232,7 +232,7 @@ visited_item setup here body k stmt less is all =
 
 -- a form in memory
 pub form_runs : (result : Result End MeanFault) (context : Context) (n at : ℕ) (form plain : Form)
-    (outcome : Outcome) (store left : Store) (before after : Told) (old new : ℕ) → form ≡ plain →
+    (outcome : Outcome) (store left : Store) (before after : Told) (old new : Faults) → form ≡ plain →
     IsAs (exec_form context n at plain store) outcome →
     Runs result outcome left before after old new →
     Runs result (exec_form context n at form store) left before after old new
@@ -242,7 +242,7 @@ form_runs result context n at form plain outcome store left before after old new
 
 -- what stops before anything is done
 pub stops_runs : {A : Type 0} (stop : Stop) (computed : Computed A) (outcome : Outcome) (line : ℕ)
-    (store : Store) (told : Told) (count : ℕ) →
+    (store : Store) (told : Told) (count : Faults) →
     ((kind : TrapKind) → computed ≡ Traps kind →
     outcome ≡ ends store (end.Trap kind line)) →
     Stops stop computed → Runs (stopped line stop) outcome store told told count count

@@ -7,7 +7,7 @@ use Rattle.zpl_meaning.specs.Statement.{Start, for_from}
 use Rattle.array_statements.specs.Choices.{Leads}
 use Rattle.array_statements.specs.Counting.{IsNext}
 use Rattle.array_statements.specs.declared.choices.Truth.TheVariants as truth
-use Rattle.array_statements.specs.Runs.{IsAs}
+use Rattle.array_statements.specs.Runs.{Faults, IsAs}
 use Rattle.array_statements.proofs.RunLemmas.{Goes, Told, as_self, as_equal, goes_as}
 
 positive : (left : ℕ) → (left ≡ 0 → ⊥) → left ≡ suc (left - 1)
@@ -122,7 +122,7 @@ set_in target value store = with_scalar store target value
 
 -- ---- with what was begun before
 
-module _ (whole : Outcome) (before now : Told) (old new : ℕ) where
+module _ (whole : Outcome) (before now : Told) (old new : Faults) where
   pub while_goes : (test : Test) (body : Store → Outcome) (store : Store) (left : ℕ) →
       (left ≡ 0 → ⊥) → Leads truth.True test store →
       Goes whole (while_turns left test body store) before now old new →

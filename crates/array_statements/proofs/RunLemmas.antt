@@ -1,7 +1,7 @@
 -- Runs, one after the other.
 use Rattle.std.proofs.Common.{◌≡◌, ℕ, ◌<◌, true, false, List, [], ◌++◌, Result, Ok, Err, refl, sym, ◌∙◌, ap, subst, append-nil, append_assoc, arith, eq-or-lt_of_le, ⊎_elim}
 use Rattle.zpl_io.specs.Faults.{CountsFaults}
-use Rattle.zpl_io.specs.Sink.{Takes, TakesFront}
+use Rattle.zpl_io.specs.Sink.{StopsAtFault, Takes, TakesFront}
 use Rattle.zpl_nums.specs.declared.ends.End.{End}
 use Rattle.zpl_nums.specs.declared.ends.End.TheVariants as end
 use Rattle.zpl_meaning.specs.Store.{Store}
@@ -9,7 +9,7 @@ use Rattle.zpl_meaning.specs.Outcome.{Outcome, ends, then_at, then_do, behind}
 use Rattle.array_statements.specs.declared.faults.MeanFault.{MeanFault}
 use Rattle.array_statements.specs.declared.faults.MeanFault.TheVariants as fault
 use Rattle.array_statements.specs.Endings.{is_done}
-use Rattle.array_statements.specs.Runs.{Runs, HasLeft, Leaves, IsAs}
+use Rattle.array_statements.specs.Runs.{Faults, Runs, HasLeft, Leaves, IsAs}
 
 abbrev pub Told : Type 1
 Told = List ℕ → Type 0
@@ -33,6 +33,19 @@ pub counts_from : (failed : Type 0) (start before after : ℕ) → before ≡ st
     CountsFaults failed before after → CountsFaults failed start after
 counts_from failed start before after same counts =
     subst (λ n. CountsFaults failed n after) same counts
+
+pub stops_still : (failed before : Type 0) → (failed → ⊥) → StopsAtFault failed before before
+stops_still failed before fine = record {
+  fails = λ has. absurd (fine has);
+  goes_on = λ none has. has;
+}
+
+pub stops_from : (failed start before after : Type 0) → (before → start) →
+    StopsAtFault failed before after → StopsAtFault failed start after
+stops_from failed start before after same stops = record {
+  fails = stops.fails;
+  goes_on = λ none has. same (stops.goes_on none has);
+}
 
 -- ---- what sinks take
 
@@ -81,18 +94,20 @@ front_more before after x y takes = record {
 -- ---- what prints nothing
 
 pub quiet : (result : Result End MeanFault) (outcome : Outcome) (store : Store) (told : Told)
-    (count : ℕ) → Leaves result outcome store → Runs result outcome store told told count count
+    (count : Faults) → Leaves result outcome store → Runs result outcome store told told count count
 quiet (Ok ending) outcome store told count left = record {
   ran = record {
     ends = left.ends;
     leaves = left.leaves;
     takes = takes_none told outcome.bytes left.nothing;
   };
-  counts = counts_still _ count (λ is. cc);
+  counts = counts_still _ count.count (λ is. cc);
+  stops = stops_still _ count.last (λ is. cc);
 }
 quiet (Err fault.NoMemory) outcome store told count left = record {
   ran = front_none told outcome.bytes;
-  counts = counts_still _ count (λ is. cc);
+  counts = counts_still _ count.count (λ is. cc);
+  stops = stops_still _ count.last (λ is. cc);
 }
 quiet (Err fault.SinkFailed) outcome store told count left =
     absurd (let no : fault.SinkFailed ≡ fault.NoMemory = left in cc)
@@ -129,7 +144,7 @@ as_both one two three first second = record {
 }
 
 pub runs_as : (result : Result End MeanFault) (outcome other : Outcome) (store : Store)
-    (before after : Told) (old new : ℕ) → IsAs outcome other →
+    (before after : Told) (old new : Faults) → IsAs outcome other →
     Runs result other store before after old new → Runs result outcome store before after old new
 runs_as (Ok ending) outcome other store before after old new same runs = record {
   ran = record {
@@ -138,24 +153,27 @@ runs_as (Ok ending) outcome other store before after old new same runs = record 
     takes = takes_as before after other.bytes outcome.bytes (sym same.bytes) runs.ran.takes;
   };
   counts = runs.counts;
+  stops = runs.stops;
 }
 runs_as (Err fault) outcome other store before after old new same runs = record {
   ran = subst (λ b. TakesFront before b after) (sym same.bytes) runs.ran;
   counts = runs.counts;
+  stops = runs.stops;
 }
 
 -- ---- one after the other
 
 -- what was begun goes on with the rest
-pub record Goes (whole rest : Outcome) (before now : List ℕ → Type 0) (old new : ℕ) : Type 0 where
+pub record Goes (whole rest : Outcome) (before now : List ℕ → Type 0) (old new : Faults) : Type 0 where
   pub bytes : List ℕ
   pub takes : Takes before bytes now
   pub ending : whole.ending ≡ rest.ending
   pub store : whole.store ≡ rest.store
   pub says : whole.bytes ≡ bytes ++ rest.bytes
-  pub faults : new ≡ old
+  pub faults : new.count ≡ old.count
+  pub last : new.last → old.last
 
-pub goes_begin : (whole : Outcome) (told : Told) (count : ℕ) → Goes whole whole told told count count
+pub goes_begin : (whole : Outcome) (told : Told) (count : Faults) → Goes whole whole told told count count
 goes_begin whole told count = record {
   bytes = [];
   takes = takes_none told [] refl;
@@ -163,9 +181,10 @@ goes_begin whole told count = record {
   store = refl;
   says = refl;
   faults = refl;
+  last = λ has. has;
 }
 
-pub goes_as : (whole rest other : Outcome) (before now : Told) (old new : ℕ) → IsAs rest other →
+pub goes_as : (whole rest other : Outcome) (before now : Told) (old new : Faults) → IsAs rest other →
     Goes whole rest before now old new → Goes whole other before now old new
 goes_as whole rest other before now old new same goes = record {
   bytes = goes.bytes;
@@ -174,11 +193,12 @@ goes_as whole rest other before now old new same goes = record {
   store = goes.store ∙ same.store;
   says = goes.says ∙ ap (λ b. goes.bytes ++ b) same.bytes;
   faults = goes.faults;
+  last = goes.last;
 }
 
 -- the rest runs to its end
 pub goes_end : (result : Result End MeanFault) (whole rest : Outcome) (store : Store)
-    (before now after : Told) (old new later : ℕ) → Goes whole rest before now old new →
+    (before now after : Told) (old new later : Faults) → Goes whole rest before now old new →
     Runs result rest store now after new later → Runs result whole store before after old later
 goes_end (Ok ending) whole rest store before now after old new later goes runs = record {
   ran = record {
@@ -187,12 +207,14 @@ goes_end (Ok ending) whole rest store before now after old new later goes runs =
     takes = takes_as before after (goes.bytes ++ rest.bytes) whole.bytes (sym goes.says)
         (takes_both before now after goes.bytes rest.bytes goes.takes runs.ran.takes);
   };
-  counts = counts_from _ old new later goes.faults runs.counts;
+  counts = counts_from _ old.count new.count later.count goes.faults runs.counts;
+  stops = stops_from _ old.last new.last later.last goes.last runs.stops;
 }
 goes_end (Err fault) whole rest store before now after old new later goes runs = record {
   ran = subst (λ b. TakesFront before b after) (sym goes.says)
       (front_both before now after goes.bytes rest.bytes goes.takes runs.ran);
-  counts = counts_from _ old new later goes.faults runs.counts;
+  counts = counts_from _ old.count new.count later.count goes.faults runs.counts;
+  stops = stops_from _ old.last new.last later.last goes.last runs.stops;
 }
 
 -- its first part goes on
@@ -202,7 +224,7 @@ then_done ending first next done =
     ap (λ e. then_at e first next) done
 
 pub goes_then : (whole first : Outcome) (next : Store → Outcome) (store : Store)
-    (before now later : Told) (old new last : ℕ) →
+    (before now later : Told) (old new last : Faults) →
     Runs (Ok end.Done) first store now later new last →
     Goes whole (then_do first next) before now old new →
     Goes whole (next store) before later old last
@@ -217,12 +239,13 @@ goes_then whole first next store before now later old new last runs goes =
       store = goes.store ∙ ap (λ o. o.store) rest;
       says = goes.says ∙ ap (λ o. goes.bytes ++ o.bytes) rest
           ∙ sym (append_assoc goes.bytes first.bytes (next store).bytes);
-      faults = counts_same _ new last runs.counts (λ is. cc) ∙ goes.faults;
+      faults = counts_same _ new.count last.count runs.counts (λ is. cc) ∙ goes.faults;
+      last = λ has. goes.last (runs.stops.goes_on (λ is. cc) has);
     }
 
 -- its first part doesn't go on
 pub then_ended : (ending : End) (first : Outcome) (next : Store → Outcome) (store : Store)
-    (before after : Told) (old new : ℕ) → is_done ending ≡ false →
+    (before after : Told) (old new : Faults) → is_done ending ≡ false →
     Runs (Ok ending) first store before after old new →
     Runs (Ok ending) (then_do first next) store before after old new
 then_ended end.Done first next store before after old new not runs =
@@ -242,12 +265,13 @@ front_then (end.Trap kind line) first next before after takes = takes
 front_then end.More first next before after takes = takes
 
 pub then_failed : (fault : MeanFault) (first : Outcome) (next : Store → Outcome) (store : Store)
-    (before after : Told) (old new : ℕ) →
+    (before after : Told) (old new : Faults) →
     Runs (Err fault) first store before after old new →
     Runs (Err fault) (then_do first next) store before after old new
 then_failed fault first next store before after old new runs = record {
   ran = front_then first.ending first next before after runs.ran;
   counts = runs.counts;
+  stops = runs.stops;
 }
 
 pub done_is : (ending : End) → is_done ending ≡ true → ending ≡ end.Done
@@ -257,7 +281,7 @@ done_is end.More is = absurd (let no : false ≡ true = is in cc)
 
 -- the second part goes on with nothing printed
 pub then_goes : (first : Outcome) (next : Store → Outcome) (store left : Store)
-    (before after : Told) (old new : ℕ) → next store ≡ ends left end.Done →
+    (before after : Told) (old new : Faults) → next store ≡ ends left end.Done →
     Runs (Ok end.Done) first store before after old new →
     Runs (Ok end.Done) (then_do first next) left before after old new
 then_goes first next store left before after old new same runs =
@@ -272,7 +296,7 @@ then_goes first next store left before after old new same runs =
 
 -- a loop goes on with the rest where its turn does
 pub goes_done : (whole first : Outcome) (next : Store → Outcome) (store : Store) (ending : End)
-    (before now later : Told) (old new last : ℕ) → is_done ending ≡ true →
+    (before now later : Told) (old new last : Faults) → is_done ending ≡ true →
     Runs (Ok ending) first store now later new last →
     Goes whole (then_do first next) before now old new →
     Goes whole (next store) before later old last
@@ -282,7 +306,7 @@ goes_done whole first next store ending before now later old new last is runs go
 
 -- and ends with its turn where that ends
 pub goes_ended : (whole first : Outcome) (next : Store → Outcome) (store : Store) (ending : End)
-    (before now later : Told) (old new last : ℕ) → is_done ending ≡ false →
+    (before now later : Told) (old new last : Faults) → is_done ending ≡ false →
     Runs (Ok ending) first store now later new last →
     Goes whole (then_do first next) before now old new →
     Runs (Ok ending) whole store before later old last
@@ -291,7 +315,7 @@ goes_ended whole first next store ending before now later old new last is runs g
     (then_ended ending first next store now later new last is runs)
 
 pub goes_failed : (whole first : Outcome) (next : Store → Outcome) (store : Store)
-    (fault : MeanFault) (before now later : Told) (old new last : ℕ) →
+    (fault : MeanFault) (before now later : Told) (old new last : Faults) →
     Runs (Err fault) first store now later new last →
     Goes whole (then_do first next) before now old new →
     Runs (Err fault) whole store before later old last
@@ -301,13 +325,13 @@ goes_failed whole first next store fault before now later old new last runs goes
 
 -- what is left prints nothing
 pub goes_left : (result : Result End MeanFault) (whole rest : Outcome) (store : Store)
-    (before now : Told) (old new : ℕ) → Leaves result rest store →
+    (before now : Told) (old new : Faults) → Leaves result rest store →
     Goes whole rest before now old new → Runs result whole store before now old new
 goes_left result whole rest store before now old new left goes =
     goes_end result whole rest store before now now old new new goes
     (quiet result rest store now new left)
 
 -- want of memory
-pub wanting : (outcome : Outcome) (store : Store) (told : Told) (count : ℕ) →
+pub wanting : (outcome : Outcome) (store : Store) (told : Told) (count : Faults) →
     Runs (Err fault.NoMemory) outcome store told told count count
 wanting outcome store told count = quiet (Err fault.NoMemory) outcome store told count refl

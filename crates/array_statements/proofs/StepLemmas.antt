@@ -19,7 +19,7 @@ use Rattle.array_stops.specs.declared.stops.Stop.{Stop}
 use Rattle.array_statements.specs.Choices.{Leads}
 use Rattle.array_statements.specs.Counting.{IsNext}
 use Rattle.array_statements.specs.Endings.{is_done, stopped}
-use Rattle.array_statements.specs.Runs.{IsAs, Leaves, Runs}
+use Rattle.array_statements.specs.Runs.{Faults, IsAs, Leaves, Runs}
 use Rattle.array_statements.specs.declared.choices.Truth.{Truth}
 use Rattle.array_statements.specs.declared.choices.Truth.TheVariants as truth
 use Rattle.array_statements.specs.declared.faults.MeanFault.{MeanFault}
@@ -32,7 +32,7 @@ use Rattle.array_statements.proofs.StatementLemmas.{IsNoCall, assign_plain, whol
 -- ---- faults
 
 pub passed : (result : Result End MeanFault) (fault : MeanFault) (outcome : Outcome)
-    (store : Store) (before after : Told) (old new : ℕ) → IsErrAnd result (λ f. f ≡ fault) →
+    (store : Store) (before after : Told) (old new : Faults) → IsErrAnd result (λ f. f ≡ fault) →
     Runs (Err fault) outcome store before after old new →
     Runs result outcome store before after old new
 passed (Ok ending) fault outcome store before after old new is runs = absurd is
@@ -41,14 +41,14 @@ passed (Err other) fault outcome store before after old new is runs =
 
 -- want of memory
 pub wanted : (result : Result End MeanFault) (outcome : Outcome) (store : Store) (told : Told)
-    (count : ℕ) → IsErrAnd result (λ f. f ≡ NoMemory) →
+    (count : Faults) → IsErrAnd result (λ f. f ≡ NoMemory) →
     Runs result outcome store told told count count
 wanted result outcome store told count is =
     passed result NoMemory outcome store told told count count is
     (wanting outcome store told count)
 
 pub lacking : (result : Result End MeanFault) (fault : MeanFault) (outcome : Outcome)
-    (store : Store) (told : Told) (count : ℕ) → IsErrAnd result (λ f. f ≡ fault) →
+    (store : Store) (told : Told) (count : Faults) → IsErrAnd result (λ f. f ≡ fault) →
     fault ≡ NoMemory → Runs result outcome store told told count count
 lacking result fault outcome store told count is none =
     wanted result outcome store told count
@@ -57,7 +57,7 @@ lacking result fault outcome store told count is none =
 -- what stops before anything is done
 pub stopped_runs : {A : Type 0} (result : Result End MeanFault) (stop : Stop)
     (computed : Computed A) (outcome : Outcome) (line : ℕ) (store : Store) (told : Told)
-    (count : ℕ) → result ≡ stopped line stop →
+    (count : Faults) → result ≡ stopped line stop →
     ((kind : TrapKind) → computed ≡ Traps kind → outcome ≡ ends store (end.Trap kind line)) →
     Stops stop computed → Runs result outcome store told told count count
 stopped_runs result stop computed outcome line store told count is traps stops =
@@ -66,14 +66,14 @@ stopped_runs result stop computed outcome line store told count is traps stops =
 
 -- what ends with nothing printed
 goes_quiet : (whole rest : Outcome) (ending : End) (store : Store) (before now : Told)
-    (old new : ℕ) → IsAs rest (ends store ending) → Goes whole rest before now old new →
+    (old new : Faults) → IsAs rest (ends store ending) → Goes whole rest before now old new →
     Runs (Ok ending) whole store before now old new
 goes_quiet whole rest ending store before now old new is goes =
     goes_left (Ok ending) whole rest store before now old new
     (left_as (Ok ending) rest (ends store ending) store is (left_so ending store)) goes
 
 goes_lacking : (result : Result End MeanFault) (fault : MeanFault) (whole rest : Outcome)
-    (store : Store) (before now : Told) (old new : ℕ) → IsErrAnd result (λ f. f ≡ fault) →
+    (store : Store) (before now : Told) (old new : Faults) → IsErrAnd result (λ f. f ≡ fault) →
     fault ≡ NoMemory → Goes whole rest before now old new →
     Runs result whole store before now old new
 goes_lacking result fault whole rest store before now old new is none goes =
@@ -88,7 +88,7 @@ leads_as test store t one is leads = subst (λ t. Leads t test store) is leads
 
 module _ (context : Context) (n : ℕ) (body : List CodeStmt) (k : ℕ) (d : CodeStmt)
     (less : k < length body) (whole : Outcome) (store left : Store) (before now later : Told)
-    (old new last : ℕ)
+    (old new last : Faults)
     (goes : Goes whole (exec_all context n (stmts_of (drop k body)) store) before now old new)
   where
     pub all_goes : (ending : End) → is_done ending ≡ true →
@@ -118,7 +118,7 @@ module _ (context : Context) (n : ℕ) (body : List CodeStmt) (k : ℕ) (d : Cod
 -- ---- `while`
 
 module _ (test : Test) (body : Store → Outcome) (whole : Outcome) (store : Store) (left : ℕ)
-    (before now : Told) (old new : ℕ)
+    (before now : Told) (old new : Faults)
     (goes : Goes whole (while_turns left test body store) before now old new) (t : Truth)
     (leads : Leads t test store) where
   pub while_false : t ≡ truth.False → Runs (Ok end.Done) whole store before now old new
@@ -139,7 +139,7 @@ module _ (test : Test) (body : Store → Outcome) (whole : Outcome) (store : Sto
         goes_quiet whole (while_turns left test body store) end.More store before now old new
         (while_more test body store left none (leads_as test store t truth.True is leads)) goes
 
-    module _ (some : left ≡ 0 → ⊥) (after : Store) (later : Told) (last : ℕ) where
+    module _ (some : left ≡ 0 → ⊥) (after : Store) (later : Told) (last : Faults) where
       pub while_failed : (fault : MeanFault) →
           Runs (Err fault) (body store) after now later new last →
           Runs (Err fault) whole after before later old last
@@ -170,9 +170,9 @@ module _ (test : Test) (body : Store → Outcome) (whole : Outcome) (store : Sto
 -- ---- `repeat`
 
 module _ (test : Test) (body : Store → Outcome) (whole : Outcome) (store : Store) (left : ℕ)
-    (before now : Told) (old new : ℕ)
+    (before now : Told) (old new : Faults)
     (goes : Goes whole (repeat_turns left test body store) before now old new)
-    (some : left ≡ 0 → ⊥) (after : Store) (later : Told) (last : ℕ) where
+    (some : left ≡ 0 → ⊥) (after : Store) (later : Told) (last : Faults) where
   abbrev behind_turn : Store → Outcome
   behind_turn = tested test goes_on (repeat_turns (left - 1) test body)
 
@@ -228,7 +228,7 @@ module _ (test : Test) (body : Store → Outcome) (whole : Outcome) (store : Sto
 -- ---- `for`
 
 module _ (count : Count) (set : ℤ → Store → Store) (body : Store → Outcome) (whole : Outcome)
-    (value : Option ℤ) (store : Store) (left : ℕ) (before now : Told) (old new : ℕ)
+    (value : Option ℤ) (store : Store) (left : ℕ) (before now : Told) (old new : Faults)
     (goes : Goes whole (turns_from count set body left value store) before now old new) (v : ℤ)
     (is : value ≡ Some v) where
   begun : Goes whole (for_turns left count set body v store) before now old new
@@ -247,7 +247,7 @@ module _ (count : Count) (set : ℤ → Store → Store) (body : Store → Outco
         (for_more count set body left v store none not) begun
 
     module _ (some : left ≡ 0 → ⊥) (began : Store) (sets : began ≡ set v store) (after : Store)
-        (later : Told) (last : ℕ) where
+        (later : Told) (last : Faults) where
       abbrev rest_of : Store → Outcome
       rest_of = for_turns (left - 1) count set body (next_value count v)
 
@@ -286,7 +286,7 @@ module _ (count : Count) (set : ℤ → Store → Store) (body : Store → Outco
 -- a `for` that counts in a scalar
 pub from_runs : (result : Result End MeanFault) (n : ℕ) (thing : Option Thing) (start : Start)
     (body : Store → Outcome) (store left : Store) (target : ℕ) (first : ℤ) (before after : Told)
-    (old new : ℕ) → thing ≡ Some (Scalar target) →
+    (old new : Faults) → thing ≡ Some (Scalar target) →
     int_lt start.count.by (pos 1) ≡ false → first ≡ start.first →
     Runs result (for_turns n start.count (set_in target) body first store) left before after old
     new → Runs result (for_from n thing start body store) left before after old new
@@ -304,7 +304,7 @@ module _ (context : Context) (n at : ℕ) (form : Form) (arms : Arms) (otherwise
     (store : Store) (is : form ≡ If arms otherwise)
     (whole : is_shattered (reach_of context.place) (If arms otherwise) ≡ false) where
   pub if_runs : (result : Result End MeanFault) (outcome : Outcome) (left : Store)
-      (before after : Told) (old new : ℕ) →
+      (before after : Told) (old new : Faults) →
       IsAs (exec_arms context n at arms (exec_otherwise context n otherwise) store) outcome →
       Runs result outcome left before after old new →
       Runs result (exec_form context n at form store) left before after old new
@@ -313,7 +313,7 @@ module _ (context : Context) (n at : ℕ) (form : Form) (arms : Arms) (otherwise
       is
       (as_both _ _ _ (as_equal _ _ (whole_if context n at arms otherwise store whole)) same) runs
 
-  pub if_ends : (ending : End) (told : Told) (count : ℕ) →
+  pub if_ends : (ending : End) (told : Told) (count : Faults) →
       IsAs (exec_arms context n at arms (exec_otherwise context n otherwise) store)
       (ends store ending) →
       Runs (Ok ending) (exec_form context n at form store) store told told count count
@@ -323,7 +323,7 @@ module _ (context : Context) (n at : ℕ) (form : Form) (arms : Arms) (otherwise
 
 -- what prints nothing
 pub form_left : (result : Result End MeanFault) (context : Context) (n at : ℕ) (form plain : Form)
-    (store left : Store) (told : Told) (count : ℕ) → form ≡ plain →
+    (store left : Store) (told : Told) (count : Faults) → form ≡ plain →
     Leaves result (exec_form context n at plain store) left →
     Runs result (exec_form context n at form store) left told told count count
 form_left result context n at form plain store left told count is leaves =
@@ -333,7 +333,7 @@ form_left result context n at form plain store left told count is leaves =
 
 -- at another context that is the same
 pub placed_runs : (result : Result End MeanFault) (one other : Context) (n : ℕ) (stmt : Stmt)
-    (store left : Store) (before after : Told) (old new : ℕ) → other ≡ one →
+    (store left : Store) (before after : Told) (old new : Faults) → other ≡ one →
     Runs result (exec other n stmt store) left before after old new →
     Runs result (exec one n stmt store) left before after old new
 placed_runs result one other n stmt store left before after old new same runs =
@@ -341,7 +341,7 @@ placed_runs result one other n stmt store left before after old new same runs =
 
 -- an assignment of no call
 pub assign_runs : (result : Result End MeanFault) (context : Context) (name : Name)
-    (op : Option Op) (value : Expr) (line : ℕ) (store left : Store) (told : Told) (count : ℕ) →
+    (op : Option Op) (value : Expr) (line : ℕ) (store left : Store) (told : Told) (count : Faults) →
     IsNoCall op value →
     Leaves result
     (assign_to context.place (Assigned name op) (thing_of context.place.environment name.text)

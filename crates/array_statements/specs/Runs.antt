@@ -2,11 +2,19 @@
 use Rattle.std.specs.Prelude.{◌≡◌, ℕ, List, [], Result, Ok, Err}
 use Rattle.zpl_nums.specs.declared.ends.End.{End}
 use Rattle.zpl_io.specs.Faults.{CountsFaults}
-use Rattle.zpl_io.specs.Sink.{Takes, TakesFront}
+use Rattle.zpl_io.specs.Sink.{StopsAtFault, Takes, TakesFront}
 use Rattle.zpl_meaning.specs.Store.{Store}
 use Rattle.zpl_meaning.specs.Outcome.{Outcome}
 use Rattle.array_statements.specs.declared.faults.MeanFault.{MeanFault}
 use Rattle.array_statements.specs.declared.faults.MeanFault.TheVariants.{SinkFailed, NoMemory}
+
+-- what a sink tells of puts that failed: how many there were, and whether the last put was one
+pub record Faults : Type 1 where
+  pub count : ℕ
+  pub last : Type 0
+
+abbrev pub faults_of : ℕ → Type 0 → Faults
+faults_of count last = record { count = count; last = last }
 
 -- It ran so: the sink took just the bytes, and the store and the ending are the outcome's.
 pub record HasRun (outcome : Outcome) (ending : End) (store : Store)
@@ -21,11 +29,12 @@ abbrev pub Ran : Result End MeanFault → Outcome → Store → (List ℕ → Ty
 Ran (Ok ending) outcome store before after = HasRun outcome ending store before after
 Ran (Err fault) outcome store before after = TakesFront before outcome.bytes after
 
--- And the sink's count of faults rose exactly where a put failed.
+-- And the sink's count of faults rose exactly where a put failed, behind which nothing was put.
 pub record Runs (result : Result End MeanFault) (outcome : Outcome) (store : Store)
-    (before after : List ℕ → Type 0) (old new : ℕ) : Type 0 where
+    (before after : List ℕ → Type 0) (old new : Faults) : Type 0 where
   pub ran : Ran result outcome store before after
-  pub counts : CountsFaults (result ≡ Err SinkFailed) old new
+  pub counts : CountsFaults (result ≡ Err SinkFailed) old.count new.count
+  pub stops : StopsAtFault (result ≡ Err SinkFailed) old.last new.last
 
 -- ---- what prints nothing
 

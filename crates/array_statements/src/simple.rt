@@ -14,7 +14,7 @@ ghost use Rattle.array_places.specs.View.{place_of};
 ghost use Rattle.array_settling.specs.Fit.{IsFit};
 ghost use Rattle.array_steps.specs.Fit.{AreFitItems};
 ghost use Rattle.array_points.specs.Elementwise.{IsElementwiseForm};
-ghost use Rattle.array_statements.specs.Runs.{Leaves, Runs};
+ghost use Rattle.array_statements.specs.Runs.{Leaves, Runs, faults_of};
 
 use crate::endings::{line_of, stopped};
 use crate::faults::MeanFault;
@@ -154,8 +154,9 @@ pub fn print<O: Sink>(
     requires fit { AreFitItems (map item_of items.now) }
     ensures { (context : statement.Context) → context.place ≡ place_of place.now →
         Runs result (statement.exec_form context 0 at (plain.Write line (map item_of items.now))
-        store.now) store.now (O.tells out.old) (O.tells out.new) (O.faults out.old)
-        (O.faults out.new) }
+        store.now) store.now (O.tells out.old) (O.tells out.new)
+        (faults_of (O.faults out.old) (O.has_failed out.old))
+        (faults_of (O.faults out.new) (O.has_failed out.new)) }
 {
     let mut text = Vec::new(alloc);
     match print_text(alloc, place, store, line, items, buffers, &mut text) {

@@ -21,7 +21,7 @@ ghost use Rattle.array_steps.specs.Start.{start_in};
 ghost use Rattle.array_statements.specs.Fit.{IsFitHead};
 ghost use Rattle.array_statements.specs.Bodies.{body_at};
 ghost use Rattle.array_statements.specs.Running.{AreVisited, IsHere, IsRunning, context_of};
-ghost use Rattle.array_statements.specs.Runs.{Runs};
+ghost use Rattle.array_statements.specs.Runs.{Runs, faults_of};
 
 use crate::arms::{Choice, arm_taken};
 use crate::choices::{Truth, behind_prefixes, truth_of};
@@ -57,7 +57,9 @@ pub fn exec<'n, O: Sink>(
         (stmt_of stmt.now) }
     ensures { Runs result
         (statement.exec (context_of run.now place.now) run.now.turns (stmt_of stmt.now) store.old)
-        store.new (O.tells out.old) (O.tells out.new) (O.faults out.old) (O.faults out.new) }
+        store.new (O.tells out.old) (O.tells out.new)
+        (faults_of (O.faults out.old) (O.has_failed out.old))
+        (faults_of (O.faults out.new) (O.has_failed out.new)) }
 {
     match behind_prefixes(place, store, stmt.prefixes) {
         Ok(inner) => exec_behind(run, &inner, stmt, store, buffers, out),
@@ -81,7 +83,9 @@ fn exec_all<'n, O: Sink>(
         (stmts_of body.now) }
     ensures { Runs result (statement.exec_all (context_of run.now place.now) run.now.turns
         (stmts_of body.now) store.old)
-        store.new (O.tells out.old) (O.tells out.new) (O.faults out.old) (O.faults out.new) }
+        store.new (O.tells out.old) (O.tells out.new)
+        (faults_of (O.faults out.old) (O.has_failed out.old))
+        (faults_of (O.faults out.new) (O.has_failed out.new)) }
 {
     for stmt in body {
         let ending = exec(run, place, stmt, store, buffers, out)?;
@@ -108,7 +112,9 @@ fn exec_behind<'n, O: Sink>(
         (statement_of stmt.now.form) }
     ensures { Runs result (statement.exec_form (context_of run.now place.now) run.now.turns
         stmt.now.at (statement_of stmt.now.form) store.old)
-        store.new (O.tells out.old) (O.tells out.new) (O.faults out.old) (O.faults out.new) }
+        store.new (O.tells out.old) (O.tells out.new)
+        (faults_of (O.faults out.old) (O.has_failed out.old))
+        (faults_of (O.faults out.new) (O.has_failed out.new)) }
 {
     let rank = tests_rank(place, &stmt.form);
     if is_above_zero(rank) {
@@ -138,7 +144,9 @@ fn exec_form<'n, O: Sink>(
         ≡ false }
     ensures { Runs result (statement.exec_form (context_of run.now place.now) run.now.turns
         stmt.now.at (statement_of stmt.now.form) store.old)
-        store.new (O.tells out.old) (O.tells out.new) (O.faults out.old) (O.faults out.new) }
+        store.new (O.tells out.old) (O.tells out.new)
+        (faults_of (O.faults out.old) (O.has_failed out.old))
+        (faults_of (O.faults out.new) (O.has_failed out.new)) }
 {
     let at = stmt.at;
     match &stmt.form {
@@ -195,7 +203,9 @@ fn exec_while<'n, O: Sink>(
         Runs result (while_turns run.now.turns
         (statement.test_of context.place (expr_of test.now) at)
         (statement.exec_all context run.now.turns (stmts_of body.now)) store.old)
-        store.new (O.tells out.old) (O.tells out.new) (O.faults out.old) (O.faults out.new) }
+        store.new (O.tells out.old) (O.tells out.new)
+        (faults_of (O.faults out.old) (O.has_failed out.old))
+        (faults_of (O.faults out.new) (O.has_failed out.new)) }
 {
     let mut left = run.turns;
     loop {
@@ -236,7 +246,9 @@ fn exec_repeat<'n, O: Sink>(
         Runs result (repeat_turns run.now.turns
         (statement.test_of context.place (expr_of test.now) until)
         (statement.exec_all context run.now.turns (stmts_of body.now)) store.old)
-        store.new (O.tells out.old) (O.tells out.new) (O.faults out.old) (O.faults out.new) }
+        store.new (O.tells out.old) (O.tells out.new)
+        (faults_of (O.faults out.old) (O.has_failed out.old))
+        (faults_of (O.faults out.new) (O.has_failed out.new)) }
 {
     let mut left = run.turns;
     loop {
@@ -275,7 +287,9 @@ fn exec_for<'n, O: Sink>(
         (stmts_of body.now) }
     ensures { Runs result (statement.exec_form (context_of run.now place.now) run.now.turns at
         (plain.For (head_of head.now) (stmts_of body.now)) store.old)
-        store.new (O.tells out.old) (O.tells out.new) (O.faults out.old) (O.faults out.new) }
+        store.new (O.tells out.old) (O.tells out.new)
+        (faults_of (O.faults out.old) (O.has_failed out.old))
+        (faults_of (O.faults out.new) (O.has_failed out.new)) }
 {
     match head_value(run.alloc, place, store, head, buffers) {
         Ok(start) => {
@@ -307,7 +321,9 @@ fn exec_from<'n, O: Sink>(
         Runs result (statement.for_from run.now.turns (option_map thing_in counter)
         (start_in start.now) (statement.exec_all context run.now.turns (stmts_of body.now))
         store.old)
-        store.new (O.tells out.old) (O.tells out.new) (O.faults out.old) (O.faults out.new) }
+        store.new (O.tells out.old) (O.tells out.new)
+        (faults_of (O.faults out.old) (O.has_failed out.old))
+        (faults_of (O.faults out.new) (O.has_failed out.new)) }
 {
     let Some(Thing::Scalar(target)) = counter else {
         return Ok(End::Done);
@@ -355,7 +371,9 @@ fn exec_assign<'n, O: Sink>(
     ensures { let context = context_of run.now place.now in
         Runs result (statement.assign context (name_of name.now) op (expr_of value.now)
         (statement.line_of context.place at) store.old)
-        store.new (O.tells out.old) (O.tells out.new) (O.faults out.old) (O.faults out.new) }
+        store.new (O.tells out.old) (O.tells out.new)
+        (faults_of (O.faults out.old) (O.has_failed out.old))
+        (faults_of (O.faults out.new) (O.has_failed out.new)) }
 {
     if let None = op {
         if let ExprForm::Call(callee, actuals) = &value.form {
@@ -386,7 +404,9 @@ fn invoke<'n, O: Sink>(
     ensures { let context = context_of run.now place.now in
         Runs result (statement.invoke context (name_of name.now) (exprs_of actuals.now)
         (statement.line_of context.place at) store.old)
-        store.new (O.tells out.old) (O.tells out.new) (O.faults out.old) (O.faults out.new) }
+        store.new (O.tells out.old) (O.tells out.new)
+        (faults_of (O.faults out.old) (O.has_failed out.old))
+        (faults_of (O.faults out.new) (O.has_failed out.new)) }
 {
     match actuals_in(run.alloc, place, store, name, actuals, buffers) {
         Ok(handed) => call(
@@ -427,7 +447,9 @@ fn assign_call<'n, O: Sink>(
     ensures { let context = context_of run.now place.now in
         Runs result (statement.assign_call context (name_of target.now) (name_of callee.now)
         (exprs_of actuals.now) (statement.line_of context.place at) store.old)
-        store.new (O.tells out.old) (O.tells out.new) (O.faults out.old) (O.faults out.new) }
+        store.new (O.tells out.old) (O.tells out.new)
+        (faults_of (O.faults out.old) (O.has_failed out.old))
+        (faults_of (O.faults out.new) (O.has_failed out.new)) }
 {
     let handed = match actuals_in(run.alloc, place, store, callee, actuals, buffers) {
         Ok(handed) => handed,
@@ -487,7 +509,9 @@ pub fn call<'n, O: Sink>(
           currents = currents_of currents;
           result = answer;
         }) store.old)
-        store.new (O.tells out.old) (O.tells out.new) (O.faults out.old) (O.faults out.new) }
+        store.new (O.tells out.old) (O.tells out.new)
+        (faults_of (O.faults out.old) (O.has_failed out.old))
+        (faults_of (O.faults out.new) (O.has_failed out.new)) }
 {
     if run.depth == 0 {
         return Ok(End::Done);
@@ -535,7 +559,9 @@ fn exec_frame<'n, O: Sink>(
               (framed own.now store.old);
           call = call_at setup run.now.turns run.now.depth;
         }) run.now.turns (stmt_of routine.now.procedure.now.body) store.old)
-        store.new (O.tells out.old) (O.tells out.new) (O.faults out.old) (O.faults out.new) }
+        store.new (O.tells out.old) (O.tells out.new)
+        (faults_of (O.faults out.old) (O.has_failed out.old))
+        (faults_of (O.faults out.new) (O.has_failed out.new)) }
 {
     exec_body(
         &*run, &*setup, currents, &*routine, &*own, answer, store, buffers, out,
@@ -567,7 +593,9 @@ fn exec_body<'a, 'n, O: Sink>(
               (framed own.entry.now store.old);
           call = call_at setup run.entry.now.turns run.entry.now.depth;
         }) run.entry.now.turns (stmt_of routine.entry.now.procedure.now.body) store.old)
-        store.new (O.tells out.old) (O.tells out.new) (O.faults out.old) (O.faults out.new) }
+        store.new (O.tells out.old) (O.tells out.new)
+        (faults_of (O.faults out.old) (O.has_failed out.old))
+        (faults_of (O.faults out.new) (O.has_failed out.new)) }
 {
     let inner = body_place(run.text, setup, routine, own, answer, currents);
     exec(run, &inner, &routine.procedure.body, store, buffers, out)

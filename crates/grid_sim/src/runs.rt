@@ -2,6 +2,7 @@
 ghost use Rattle.std.specs.Prelude.{◌≡◌, ◌≢◌, ℕ, ◌+◌, ◌<◌, ◌≤◌, ◌^◌, List, Option, Some, length};
 ghost use Rattle.zpl_nums.specs.declared.ends.End.{End as Ending};
 ghost use Rattle.zpl_io.specs.Faults.{CountsFaults};
+ghost use Rattle.zpl_io.specs.Sink.{StopsAtFault};
 ghost use Rattle.grid_meaning.specs.Local.{processors};
 ghost use Rattle.grid_meaning.specs.Order.{IsOrder};
 ghost use Rattle.grid_sim.specs.Run.{IsRun, run_in};
@@ -92,6 +93,8 @@ impl Sim {
             (O.tells out.old) (O.tells out.new) result }
         ensures counts { CountsFaults (result ≡ Err SimFault.SinkFailed)
             (O.faults out.old) (O.faults out.new) }
+        ensures stops { StopsAtFault (result ≡ Err SimFault.SinkFailed)
+            (O.has_failed out.old) (O.has_failed out.new) }
     {
         let mut rounds = Rounds {
             count: self.count(),

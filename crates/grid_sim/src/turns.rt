@@ -1,6 +1,7 @@
 //! Turns.
 ghost use Rattle.std.specs.Prelude.{◌≡◌, ◌≢◌, ◌<◌, ◌^◌, None, OnErr};
 ghost use Rattle.zpl_io.specs.Faults.{CountsFaults};
+ghost use Rattle.zpl_io.specs.Sink.{StopsAtFault};
 ghost use Rattle.grid_meaning.specs.Local.{processors};
 ghost use Rattle.grid_meaning.specs.Stored.{arrangement_of};
 ghost use Rattle.grid_sim.specs.Counting.{AreCounts, with_traffic, with_turn};
@@ -54,6 +55,8 @@ impl Sim {
         ensures same_sink { result ≢ Err SimFault.SinkFailed → OnErr result (out.new ≡ out.old) }
         ensures counts { CountsFaults (result ≡ Err SimFault.SinkFailed)
             (O.faults out.old) (O.faults out.new) }
+        ensures stops { StopsAtFault (result ≡ Err SimFault.SinkFailed)
+            (O.has_failed out.old) (O.has_failed out.new) }
     {
         Ok(self.turn_told(alloc, p, out)?.turned)
     }
@@ -71,6 +74,8 @@ impl Sim {
         ensures same_sink { result ≢ Err SimFault.SinkFailed → OnErr result (out.new ≡ out.old) }
         ensures counts { CountsFaults (result ≡ Err SimFault.SinkFailed)
             (O.faults out.old) (O.faults out.new) }
+        ensures stops { StopsAtFault (result ≡ Err SimFault.SinkFailed)
+            (O.has_failed out.old) (O.has_failed out.new) }
     {
         give(
             alloc,
@@ -107,6 +112,8 @@ fn give<O: Sink>(
     ensures same_sink { result ≢ Err SimFault.SinkFailed → OnErr result (out.new ≡ out.old) }
     ensures faults { CountsFaults (result ≡ Err SimFault.SinkFailed)
         (O.faults out.old) (O.faults out.new) }
+    ensures stops { StopsAtFault (result ≡ Err SimFault.SinkFailed)
+        (O.has_failed out.old) (O.has_failed out.new) }
 {
     if team.move_alone(code, layout, p) {
         return Ok(counted(counts, Traffic::Quiet));
@@ -137,6 +144,8 @@ fn give_any<O: Sink>(
     ensures same_sink { result ≢ Err SimFault.SinkFailed → OnErr result (out.new ≡ out.old) }
     ensures faults { CountsFaults (result ≡ Err SimFault.SinkFailed)
         (O.faults out.old) (O.faults out.new) }
+    ensures stops { StopsAtFault (result ≡ Err SimFault.SinkFailed)
+        (O.has_failed out.old) (O.has_failed out.new) }
 {
     match team.turn(alloc, code, layout, p)? {
         Step::Moved(traffic) => Ok(counted(counts, traffic)),

@@ -1,12 +1,13 @@
 //! The lists of a program's tables, and rows that are lists themselves.
-ghost use Rattle.std.specs.Prelude.{◌≡◌, ◌≤◌, ◌↔◌, [], ◌∷◌, ◌++◌, length, IsNone, OnOk, OnErr};
-ghost use Rattle.std.specs.Prelude.{slice_get};
+ghost use Rattle.std.specs.Prelude.{◌≡◌, ◌<◌, ◌≤◌, ◌↔◌, [], ◌∷◌, ◌++◌, length, IsNone, OnOk, OnErr};
+ghost use Rattle.std.specs.Prelude.{slice_get, slice_set};
 ghost use Rattle.std.specs.Option.{option_copied};
 
 use std::alloc::{AllocError, Global};
 use std::marker::Model;
 
-/// A list of a program's tables, which grows at its end. Contracts see it as the list of its rows.
+/// A list of a program's tables, which grows at its end, and whose rows can be changed in place.
+/// Contracts see it as the list of its rows.
 #[derive(Debug, Drop)]
 pub struct Rows<T> {
     rows: Vec<T>,
@@ -30,6 +31,13 @@ impl<T> Rows<T> {
         }
     }
 
+    /// The list of the vector's rows. It takes no memory.
+    pub fn of(rows: Vec<T>) -> Rows<T>
+        ensures { result ≡ rows.items }
+    {
+        Rows { rows }
+    }
+
     /// Appends a row, in memory of the list's own allocator. For want of memory the row is dropped.
     pub fn push(&mut self, _alloc: Global, row: T) -> Result<(), AllocError>
     where
@@ -39,6 +47,16 @@ impl<T> Rows<T> {
     {
         self.rows.push(row)?;
         Ok(())
+    }
+
+    /// Puts a row in the place of the one of that number, counted from 0.
+    pub fn set(&mut self, i: u64, row: T)
+    where
+        T: Copy,
+        requires { i < length self.old }
+        ensures { self.new ≡ slice_set self.old i row }
+    {
+        self.rows[i as usize] = row;
     }
 
     /// How many rows there are.

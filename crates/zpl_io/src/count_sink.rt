@@ -51,6 +51,8 @@ impl Sink for CountSink {
 
     ghost faults = { λ _. 0 };
 
+    ghost has_failed = { λ _. ⊥ };
+
     fn put(&mut self, bytes: &[u8]) -> Put
         ensures done { Takes
             (λ taken. self.old ≡ tally_of taken) bytes.now (λ taken. self.new ≡ tally_of taken) }

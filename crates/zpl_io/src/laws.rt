@@ -1,10 +1,10 @@
 //! Laws of what files and sinks tell, and of counting.
 //!
 //! Each law is the contract of a function that does nothing: a call brings the law into a proof.
-ghost use Rattle.std.specs.Prelude.{◌≡◌, ◌≤◌, ◌↔◌, ℕ, List, [], ◌++◌};
+ghost use Rattle.std.specs.Prelude.{◌≡◌, ◌≤◌, ◌↔◌, ℕ, Bool, List, [], ◌++◌, IsTrue};
 ghost use Rattle.zpl_io.specs.Faults.{last_count, Rose};
 ghost use Rattle.zpl_io.specs.Files.{SameTexts};
-ghost use Rattle.zpl_io.specs.Sink.{Takes, TakesFront};
+ghost use Rattle.zpl_io.specs.Sink.{StopsAtFault, Takes, TakesFront};
 ghost use Rattle.zpl_io.specs.MemFiles.{KeptFiles, HasText, FailsLater, FailsNext};
 ghost use Rattle.zpl_io.specs.MemSink.{KeptBytes};
 ghost use Rattle.zpl_io.specs.CountSink.{Tally, tally_of, tally_after};
@@ -19,7 +19,8 @@ use crate::sure_files::SureFiles;
 use std::io::Stdout;
 
 /// Two pieces that a sink takes one after another act as their concatenation, and an empty piece
-/// changes nothing.
+/// changes nothing. A put that failed was the last one of two calls, where the first call made none
+/// that failed.
 pub fn puts_join<S: Sink>()
     ensures none { (sink : S) → Takes (S.tells sink) [] (S.tells sink) }
     ensures whole { (before after : S) (x : List ℕ) →
@@ -31,6 +32,10 @@ pub fn puts_join<S: Sink>()
         Takes (S.tells before) x (S.tells between) →
         TakesFront (S.tells between) y (S.tells after) →
         TakesFront (S.tells before) (x ++ y) (S.tells after) }
+    ensures last { (failed : Bool) (before between after : S) →
+        StopsAtFault ⊥ (S.has_failed before) (S.has_failed between) →
+        StopsAtFault (IsTrue failed) (S.has_failed between) (S.has_failed after) →
+        StopsAtFault (IsTrue failed) (S.has_failed before) (S.has_failed after) }
 {}
 
 /// Counting goes on where it stopped: a list counts as its parts do one after another.
@@ -82,14 +87,20 @@ pub fn files_tell()
 {}
 
 /// What each kind of sink tells: in memory its own bytes and no others, counting each list of its
-/// number and hash, and a stream every list.
+/// number and hash, and a stream every list. The last two keep whether the last put failed, and no
+/// put of the counting sink does.
 pub fn sinks_tell()
     ensures memory { (sink : KeptBytes) (bytes : List ℕ) →
         ⟦<MemSink as Sink>⟧.tells sink bytes ↔ (bytes ≡ sink.taken) }
     ensures memory_faults { (sink : KeptBytes) → ⟦<MemSink as Sink>⟧.faults sink ≡ sink.faults }
+    ensures memory_last { (sink : KeptBytes) →
+        ⟦<MemSink as Sink>⟧.has_failed sink ↔ IsTrue sink.has_failed }
     ensures counting { (tally : Tally) (bytes : List ℕ) →
         ⟦<CountSink as Sink>⟧.tells tally bytes ↔ (tally ≡ tally_of bytes) }
     ensures counting_faults { (tally : Tally) → ⟦<CountSink as Sink>⟧.faults tally ≡ 0 }
+    ensures counting_last { (tally : Tally) → ¬ ⟦<CountSink as Sink>⟧.has_failed tally }
     ensures stream { (sink : _) (bytes : List ℕ) → ⟦<StdSink<Stdout> as Sink>⟧.tells sink bytes }
     ensures stream_faults { (sink : _) → ⟦<StdSink<Stdout> as Sink>⟧.faults sink ≡ sink.faults }
+    ensures stream_last { (sink : _) →
+        ⟦<StdSink<Stdout> as Sink>⟧.has_failed sink ↔ IsTrue sink.has_failed }
 {}

@@ -1,5 +1,6 @@
 //! A sink in memory.
 ghost use Rattle.std.specs.Prelude.{◌≡◌, ◌↔◌, ◌+◌, ◌≤◌, [], ◌∷◌, ◌++◌, IfOk, OnOk, OnErr};
+ghost use Rattle.std.specs.Prelude.{false, IsTrue};
 ghost use Rattle.zpl_io.specs.Faults.{last_count, CountsFaults};
 ghost use Rattle.zpl_io.specs.MemSink.{FailsToPut, sink_after};
 
@@ -19,6 +20,7 @@ pub struct MemSink {
     failing: Vec<u64>,
     calls: u64,
     faults: u64,
+    has_failed: bool,
 }
 
 impl Model for MemSink {
@@ -34,6 +36,7 @@ impl Model for MemSink {
       failing = a.failing.items;
       calls = a.calls;
       faults = a.faults;
+      has_failed = a.has_failed;
     } };
 
     ghost invariant = { λ a. (vec_len a.taken ≤ a.room) × (a.room ≤ vec_capacity a.taken) };
@@ -43,7 +46,14 @@ impl MemSink {
     /// An empty sink with room for this many bytes, of which no put fails but for want of room.
     pub fn new(alloc: Global, room: u64) -> Result<MemSink, AllocError>
         ensures { IfOk result (λ sink.
-            sink ≡ record { taken = []; room = room; failing = []; calls = 0; faults = 0 }) }
+            sink ≡ record {
+              taken = [];
+              room = room;
+              failing = [];
+              calls = 0;
+              faults = 0;
+              has_failed = false;
+            }) }
     {
         Ok(MemSink {
             taken: Vec::with_capacity(alloc, room as usize)?,
@@ -51,6 +61,7 @@ impl MemSink {
             failing: Vec::new(alloc),
             calls: 0,
             faults: 0,
+            has_failed: false,
         })
     }
 
@@ -77,6 +88,8 @@ impl Sink for MemSink {
 
     ghost faults = { λ sink. sink.faults };
 
+    ghost has_failed = { λ sink. IsTrue sink.has_failed };
+
     fn put(&mut self, bytes: &[u8]) -> Put
         ensures fails_exactly { (result ≡ Put.Failed) ↔ FailsToPut self.old bytes.now }
         ensures counts { CountsFaults (result ≡ Put.Failed) self.old.faults self.new.faults }
@@ -86,7 +99,10 @@ impl Sink for MemSink {
         let named = self.failing.contains(&self.calls);
         let left = self.room - self.taken.len() as u64;
         self.calls = self.calls.saturating_add(1);
-        if named || bytes.len() as u64 > left || self.taken.extend_from_slice(bytes).is_err() {
+        self.has_failed = named
+            || bytes.len() as u64 > left
+            || self.taken.extend_from_slice(bytes).is_err();
+        if self.has_failed {
             self.faults = self.faults.saturating_add(1);
             return Put::Failed;
         }

@@ -84,6 +84,9 @@ pub trait Sink {
     /// How many puts failed; the count stands still at `u64::MAX`.
     ghost faults: { Self → ℕ };
 
+    /// Whether the last put failed. Before the first put none has.
+    ghost has_failed: { Self → Type 0 };
+
     /// Takes a piece behind what was taken so far.
     fn put(&mut self, bytes: &[u8]) -> Put
         // What is taken, by the answer.
@@ -91,7 +94,8 @@ pub trait Sink {
         ensures failed { result ≡ Put.Failed →
             TakesFront (tells self.old) bytes.now (tells self.new) }
 
-        // The count of faults.
+        // The count of faults, and whether the last put was one.
         ensures counts { CountsFaults (result ≡ Put.Failed) (faults self.old) (faults self.new) }
-        ensures bounded { faults self.new ≤ last_count };
+        ensures bounded { faults self.new ≤ last_count }
+        ensures last { has_failed self.new ↔ (result ≡ Put.Failed) };
 }

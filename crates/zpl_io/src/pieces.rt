@@ -1,7 +1,7 @@
 //! Pieces that are put one after another.
 ghost use Rattle.std.specs.Prelude.{◌≡◌, [], OnOk, OnErr, IsOk, IsErr};
 ghost use Rattle.zpl_io.specs.Faults.{CountsFaults};
-ghost use Rattle.zpl_io.specs.Sink.{Takes, TakesFront};
+ghost use Rattle.zpl_io.specs.Sink.{StopsAtFault, Takes, TakesFront};
 
 use crate::outside::{Put, Sink};
 
@@ -15,6 +15,7 @@ pub fn put_piece<S: Sink>(sink: &mut S, piece: &[u8]) -> Result<(), PutFailed>
     ensures err { OnErr result (TakesFront (S.tells sink.old) piece.now (S.tells sink.new)) }
     ensures nothing { piece.now ≡ [] → IsOk result × (sink.new ≡ sink.old) }
     ensures counts { CountsFaults (IsErr result) (S.faults sink.old) (S.faults sink.new) }
+    ensures stops { StopsAtFault (IsErr result) (S.has_failed sink.old) (S.has_failed sink.new) }
 {
     if piece.is_empty() {
         return Ok(());

@@ -1,5 +1,5 @@
 //! A standard stream as a sink.
-ghost use Rattle.std.specs.Prelude.{◌≡◌, ◌≤◌, ⊤};
+ghost use Rattle.std.specs.Prelude.{◌≡◌, ◌≤◌, ◌↔◌, ⊤, false, IsTrue};
 ghost use Rattle.std.specs.Io.KnownBytes.{Appends};
 ghost use Rattle.zpl_io.specs.Faults.{last_count, CountsFaults};
 ghost use Rattle.zpl_io.specs.StdSink.{WritesFront};
@@ -35,6 +35,7 @@ fn write_piece<W: Write>(stream: &mut W, piece: &[u8]) -> Put
 pub struct StdSink<W> {
     stream: W,
     faults: u64,
+    has_failed: bool,
 }
 
 impl<W> Model for StdSink<W> {
@@ -42,15 +43,23 @@ impl<W> Model for StdSink<W> {
 
     ghost Value = { Stream W };
 
-    ghost view = { λ a. record { writer = a.stream; faults = a.faults } };
+    ghost view = { λ a. record {
+      writer = a.stream;
+      faults = a.faults;
+      has_failed = a.has_failed;
+    } };
 }
 
 impl<W: Write> StdSink<W> {
     /// A sink that writes to the stream.
     pub fn new(stream: W) -> StdSink<W>
-        ensures { result ≡ record { writer = stream; faults = 0 } }
+        ensures { result ≡ record { writer = stream; faults = 0; has_failed = false } }
     {
-        StdSink { stream, faults: 0 }
+        StdSink {
+            stream,
+            faults: 0,
+            has_failed: false,
+        }
     }
 }
 
@@ -59,6 +68,8 @@ impl<W: Write> Sink for StdSink<W> {
 
     ghost faults = { λ sink. sink.faults };
 
+    ghost has_failed = { λ sink. IsTrue sink.has_failed };
+
     fn put(&mut self, bytes: &[u8]) -> Put
         ensures done { result ≡ Put.Done →
             Appends (W.contents self.old.writer) (W.contents self.new.writer) bytes.now }
@@ -66,10 +77,12 @@ impl<W: Write> Sink for StdSink<W> {
             WritesFront (W.contents self.old.writer) (W.contents self.new.writer) bytes.now }
         ensures counts { CountsFaults (result ≡ Put.Failed) self.old.faults self.new.faults }
         ensures bounded { self.new.faults ≤ last_count }
+        ensures last { IsTrue self.new.has_failed ↔ (result ≡ Put.Failed) }
     {
         let faults = self.faults;
         let put = write_piece(&mut self.stream, bytes);
-        if put == Put::Failed {
+        self.has_failed = put == Put::Failed;
+        if self.has_failed {
             self.faults = faults.saturating_add(1);
         }
         put

@@ -7,6 +7,7 @@ use Rattle.zpl_meaning.specs.Outcome.{repeat_turns, while_turns}
 use Rattle.zpl_meaning.specs.Statement.{exec_all, test_of}
 use Rattle.array_steps.specs.Start.{start_in}
 use Rattle.array_statements.specs.Running.{context_of}
+use Rattle.array_statements.specs.Runs.{faults_of}
 use Rattle.array_statements.proofs.DepthLemmas.{room_for}
 use Rattle.array_statements.proofs.LoopLemmas.{set_in, turns_from}
 use Rattle.array_statements.proofs.RunLemmas.{Goes}
@@ -65,8 +66,9 @@ invariant-exec_all-loop-stmt g l =
     let context = context_of l.run l.place in
     Goes (exec_all context l.run.turns (stmts_of l.body) l.initial.store)
     (exec_all context l.run.turns (stmts_of (drop l.stmt-index l.body)) l.store)
-    (g.O.Sink.tells l.initial.out) (g.O.Sink.tells l.out) (g.O.Sink.faults l.initial.out)
-    (g.O.Sink.faults l.out)
+    (g.O.Sink.tells l.initial.out) (g.O.Sink.tells l.out)
+    (faults_of (g.O.Sink.faults l.initial.out) (g.O.Sink.has_failed l.initial.out))
+    (faults_of (g.O.Sink.faults l.out) (g.O.Sink.has_failed l.out))
 
 abbrev pub invariant-exec_while-loop-ending : goal.invariant-exec_while-loop-ending
 invariant-exec_while-loop-ending g l =
@@ -74,8 +76,9 @@ invariant-exec_while-loop-ending g l =
     let test = test_of context.place (expr_of l.test) l.at in
     let body = exec_all context l.run.turns (stmts_of l.body) in
     Goes (while_turns l.run.turns test body l.initial.store) (while_turns l.left test body l.store)
-    (g.O.Sink.tells l.initial.out) (g.O.Sink.tells l.out) (g.O.Sink.faults l.initial.out)
-    (g.O.Sink.faults l.out)
+    (g.O.Sink.tells l.initial.out) (g.O.Sink.tells l.out)
+    (faults_of (g.O.Sink.faults l.initial.out) (g.O.Sink.has_failed l.initial.out))
+    (faults_of (g.O.Sink.faults l.out) (g.O.Sink.has_failed l.out))
 
 abbrev pub decreases-exec_while-loop-ending : goal.decreases-exec_while-loop-ending
 decreases-exec_while-loop-ending g l = l.left
@@ -87,8 +90,9 @@ invariant-exec_repeat-loop-left g l =
     let body = exec_all context l.run.turns (stmts_of l.body) in
     Goes (repeat_turns l.run.turns test body l.initial.store)
     (repeat_turns l.left test body l.store)
-    (g.O.Sink.tells l.initial.out) (g.O.Sink.tells l.out) (g.O.Sink.faults l.initial.out)
-    (g.O.Sink.faults l.out)
+    (g.O.Sink.tells l.initial.out) (g.O.Sink.tells l.out)
+    (faults_of (g.O.Sink.faults l.initial.out) (g.O.Sink.has_failed l.initial.out))
+    (faults_of (g.O.Sink.faults l.out) (g.O.Sink.has_failed l.out))
 
 abbrev pub decreases-exec_repeat-loop-left : goal.decreases-exec_repeat-loop-left
 decreases-exec_repeat-loop-left g l = l.left
@@ -101,8 +105,9 @@ invariant-exec_from-loop-value g l =
     Goes
     (turns_from count (set_in l.target) body l.run.turns l.initial.value l.initial.store)
     (turns_from count (set_in l.target) body l.left l.value l.store)
-    (g.O.Sink.tells l.initial.out) (g.O.Sink.tells l.out) (g.O.Sink.faults l.initial.out)
-    (g.O.Sink.faults l.out)
+    (g.O.Sink.tells l.initial.out) (g.O.Sink.tells l.out)
+    (faults_of (g.O.Sink.faults l.initial.out) (g.O.Sink.has_failed l.initial.out))
+    (faults_of (g.O.Sink.faults l.out) (g.O.Sink.has_failed l.out))
 
 abbrev pub decreases-exec_from-loop-value : goal.decreases-exec_from-loop-value
 decreases-exec_from-loop-value g l = l.left

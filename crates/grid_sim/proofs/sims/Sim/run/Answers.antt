@@ -38,6 +38,7 @@ turns-preserved g c =
           c.in_default.ensures turn made.0;
       count = c.next_turn.ensures.count ∙ c.turns.invariant.count;
       faults = counts_same _ _ _ c.in_ok-turn.ensures.counts (λ failed. cc) ∙ c.turns.invariant.faults;
+      last = λ has. c.turns.invariant.last (c.in_ok-turn.ensures.stops.goes_on (λ failed. cc) has);
     }
 
 -- the fault is handed on as it is

@@ -9,6 +9,7 @@ invariant-turns g l = record {
   so : HasGiven (run_in l.fn.self l.fn.order l.tail_limit) l.self l.order l.rounds (g.O.Sink.tells l.fn.out) (g.O.Sink.tells l.out);
   count : l.rounds.count ≡ processors l.fn.self.code;
   faults : g.O.Sink.faults l.out ≡ g.O.Sink.faults l.fn.out;
+  last : g.O.Sink.has_failed l.out → g.O.Sink.has_failed l.fn.out;
 }
 
 abbrev pub decreases-turns : goal.decreases-turns

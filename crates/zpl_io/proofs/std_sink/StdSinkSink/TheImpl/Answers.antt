@@ -12,4 +12,5 @@ put-tells g c = record {
   };
   counts = c.ensures.counts;
   bounded = c.ensures.bounded;
+  last = c.ensures.last;
 }
