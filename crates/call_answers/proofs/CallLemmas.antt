@@ -1,12 +1,12 @@
 -- From the cause of the answer of work, and what was told of it, to what is said of the call, whatever
 -- a cause is.
 use Rattle.std.proofs.Common.{◌≡◌, ◌≢◌, ℕ, ◌⊎◌, List, None, refl, sym, ◌∙◌, ap, subst, inl, inr, arith}
-use Rattle.zpl_io.specs.Faults.{Rose}
-use Rattle.call_claims.specs.Answer.{IsAnswered, IsHalfAnswered}
+use Rattle.zpl_io.specs.Faults.{CountsFaults, Rose}
+use Rattle.call_claims.specs.Answer.{CountsFetches, CountsPuts, IsAnswered, IsHalfAnswered}
 use Rattle.call_claims.specs.Decided.{IsDecided}
 use Rattle.call_claims.specs.Stream.{Stream}
 use Rattle.call_claims.specs.Texts.{no_memory_text}
-use Rattle.call_claims.specs.declared.status.TheConstants.{NO_MEMORY, PUT_FAILED, USAGE}
+use Rattle.call_claims.specs.declared.status.TheConstants.{NO_MEMORY, PUT_FAILED, UNREADABLE, USAGE}
 use Rattle.call_answers.specs.Answers.{status_of, told_of}
 use Rattle.call_answers.specs.Told.{IsAnswerOf, IsHalfTold}
 use Rattle.call_answers.specs.declared.answers.Answer.{Answer}
@@ -37,6 +37,34 @@ module _ (a : Answer) (status : ℕ) (errs : Stream) (is : IsAnswerOf a status e
       | inr none ↦ omega (arith, is.is, ap status_of none, e)
     ]
   ]
+
+  -- the count of failed fetches, and that of failed puts
+  told_unread : status ≡ UNREADABLE → (is.answer ≡ a) ⊎ (is.answer ≡ answer.NoMemory)
+      → status_of a ≡ UNREADABLE
+  told_unread e (inl same) = sym (ap status_of same) ∙ (sym is.is ∙ e)
+  told_unread e (inr none) = absurd (omega (arith, is.is, ap status_of none, e))
+
+  was_unread : status_of a ≡ UNREADABLE → IsDecided status
+      → (is.answer ≡ a) ⊎ (is.answer ≡ answer.NoMemory) → status ≡ UNREADABLE
+  was_unread e d (inl same) = is.is ∙ (ap status_of same ∙ e)
+  was_unread e d (inr none) = absurd (d.memory (is.is ∙ ap status_of none))
+
+  pub fetches_counted : (before after : ℕ) → CountsFaults (status_of a ≡ UNREADABLE) before after
+      → CountsFetches status before after
+  fetches_counted before after counts = record {
+    rises = λ e. counts.rises (told_unread e (told_as (λ f. omega (arith, e, f))));
+    only = λ less d. was_unread (counts.only less) d (told_as d.put);
+    never_falls = counts.never_falls;
+    bounded = counts.bounded;
+  }
+
+  pub puts_counted : (before after : ℕ) → CountsFaults (a ≡ answer.PutFailed) before after
+      → CountsPuts status before after
+  puts_counted before after counts = record {
+    only = λ less. is.is ∙ ap status_of (is.told.failed (counts.only less)).0;
+    never_falls = counts.never_falls;
+    bounded = counts.bounded;
+  }
 
   module _ (Caused : ℕ → List ℕ → Type 0) (wanting : Caused NO_MEMORY no_memory_text)
       (caused : IsDecided (status_of a) → Caused (status_of a) (told_of a)) where

@@ -1,14 +1,14 @@
 -- A status of `list` with its cause comes just where that cause is.
 use Rattle.std.proofs.Common.{◌≡◌, ◌≢◌, ℕ, List, codes, refl, sym, arith, inl, inr}
 use Rattle.node_form.specs.declared.tables.Tables.{Tables}
-use Rattle.zpl_binding.specs.Settings.{Setting}
+use Rattle.zpl_claims.specs.Build.{Build}
 use Rattle.call_claims.specs.Call.{Call}
 use Rattle.call_claims.specs.Cause.{CodeCause, ListCause, IsListed, Lists, Cause, IsTooLong}
 use Rattle.call_claims.specs.Cause.CodeCause.{faulty, made}
 use Rattle.call_claims.specs.Cause.FileCause.{unreadable, too_long, work}
 use Rattle.call_claims.specs.Cause.IsListed.{listed}
 use Rattle.call_claims.specs.Cause.Cause.{no_memory, list}
-use Rattle.call_claims.specs.Command.{Asked, ListTakes}
+use Rattle.call_claims.specs.Command.{Asked, ListTakes, build_of}
 use Rattle.call_claims.specs.Decided.{IsDecided, IsExact, HasNoProgramIn, HasUnboundIn}
 use Rattle.call_claims.specs.Execution.{Execution, HasCode}
 use Rattle.call_claims.specs.declared.status.TheConstants.{DONE, TOO_LONG, REFUSED, UNBOUND}
@@ -24,19 +24,19 @@ module _ (call : Call) (ex : Execution) where
   was_listed (listed none) = refl
 
   -- ---- of a text
-  module _ {text : List ℕ} {settings : List Setting} where
-    text_done : {n : ℕ} {told : List ℕ} → CodeCause text settings ex Does n told → n ≡ DONE
+  module _ {text : List ℕ} {build : Build} where
+    text_done : {n : ℕ} {told : List ℕ} → CodeCause text build ex Does n told → n ≡ DONE
         → HasCode ex
     text_done (faulty fault none) e = absurd (elim (fault_other fault)
         [ inl f ↦ omega (arith, e, f) | inr f ↦ omega (arith, e, f) ])
     text_done (made code of_text is does) e = record { code = code; made = is }
 
-    text_made : {n : ℕ} {told : List ℕ} → CodeCause text settings ex Does n told → HasCode ex
+    text_made : {n : ℕ} {told : List ℕ} → CodeCause text build ex Does n told → HasCode ex
         → n ≡ DONE
     text_made (faulty fault none) h = absurd (none_made ex none h.made)
     text_made (made code of_text is does) h = was_listed does
 
-    text_short : {n : ℕ} {told : List ℕ} → CodeCause text settings ex Does n told → n ≢ TOO_LONG
+    text_short : {n : ℕ} {told : List ℕ} → CodeCause text build ex Does n told → n ≢ TOO_LONG
     text_short (faulty fault none) = elim (fault_other fault)
         [ inl f ↦ λ e. omega (arith, e, f) | inr f ↦ λ e. omega (arith, e, f) ]
     text_short (made code of_text is does) =
@@ -99,25 +99,25 @@ exactly call ex n told cause = record {
   too_long = λ s. (
     from call ex TOO_LONG (λ file asked. IsTooLong call file) s.decided.memory (λ file asked c e. file_long call ex file asked c e) cause,
     back call ex TOO_LONG (λ file asked. IsTooLong call file) s.decided
-        (λ file asked c h. was_too_long_in call file asked.settings ex (Does call ex) (s.one file)
+        (λ file asked c h. was_too_long_in call file (build_of asked) ex (Does call ex) (s.one file)
         c s.read h) cause,
   );
   refused = λ s. (
-    from call ex REFUSED (λ file asked. HasNoProgramIn call file asked.settings) s.decided.memory
-        (λ file asked c e. refused_of call file asked.settings ex (Does call ex)
+    from call ex REFUSED (λ file asked. HasNoProgramIn call file (build_of asked)) s.decided.memory
+        (λ file asked c e. refused_of call file (build_of asked) ex (Does call ex)
         (λ code m t does. let o = done_other call ex code m t does in
         record { refused = o.0; unbound = o.1 }) c e) cause,
-    back call ex REFUSED (λ file asked. HasNoProgramIn call file asked.settings) s.decided
-        (λ file asked c h. was_refused_in call file asked.settings ex (Does call ex) (s.one file)
+    back call ex REFUSED (λ file asked. HasNoProgramIn call file (build_of asked)) s.decided
+        (λ file asked c h. was_refused_in call file (build_of asked) ex (Does call ex) (s.one file)
         c s.read h) cause,
   );
   unbound = λ s. (
-    from call ex UNBOUND (λ file asked. HasUnboundIn call file asked.settings) s.decided.memory
-        (λ file asked c e. unbound_of call file asked.settings ex (Does call ex)
+    from call ex UNBOUND (λ file asked. HasUnboundIn call file (build_of asked)) s.decided.memory
+        (λ file asked c e. unbound_of call file (build_of asked) ex (Does call ex)
         (λ code m t does. let o = done_other call ex code m t does in
         record { refused = o.0; unbound = o.1 }) c e) cause,
-    back call ex UNBOUND (λ file asked. HasUnboundIn call file asked.settings) s.decided
-        (λ file asked c h. was_unbound_in call file asked.settings ex (Does call ex) (s.one file)
+    back call ex UNBOUND (λ file asked. HasUnboundIn call file (build_of asked)) s.decided
+        (λ file asked c h. was_unbound_in call file (build_of asked) ex (Does call ex) (s.one file)
         c s.read h) cause,
   );
 }

@@ -9,9 +9,9 @@
 use Rattle.std.specs.Prelude.{◌≡◌, ℕ, ◌<◌, List, [], length, Some}
 use Rattle.zpl_text.specs.declared.TheConstants.{MOST_SOURCE}
 use Rattle.node_form.specs.declared.tables.Tables.{Tables}
-use Rattle.zpl_binding.specs.Settings.{Setting}
+use Rattle.zpl_claims.specs.Build.{Build}
 use Rattle.call_claims.specs.Call.{Call}
-use Rattle.call_claims.specs.Command.{Asked, Asks, IsList}
+use Rattle.call_claims.specs.Command.{Asked, Asks, IsList, build_of}
 use Rattle.call_claims.specs.Execution.{Execution, HasNoRun}
 use Rattle.call_claims.specs.Refusal.{IsRefusal, IsUnbound}
 use Rattle.call_claims.specs.Source.{IsCodeOf, Source}
@@ -20,20 +20,20 @@ use Rattle.call_claims.specs.declared.status.TheConstants.{DONE, UNREADABLE, TOO
 use Rattle.call_claims.specs.declared.status.TheConstants.{REFUSED, UNBOUND, NO_MEMORY}
 
 -- ---- a text
--- It has no code under these settings, and why.
-pub data TextFault (text : List ℕ) (settings : List Setting) : ℕ → List ℕ → Type 0 where
-  refused : (told : List ℕ) → IsRefusal text settings told → TextFault text settings REFUSED told
-  unbound : (told : List ℕ) → IsUnbound text settings told → TextFault text settings UNBOUND told
+-- It has no code for this build, and why.
+pub data TextFault (text : List ℕ) (build : Build) : ℕ → List ℕ → Type 0 where
+  refused : (told : List ℕ) → IsRefusal text build told → TextFault text build REFUSED told
+  unbound : (told : List ℕ) → IsUnbound text build told → TextFault text build UNBOUND told
 
 -- It has none, and nothing was run; or code was made of it, and there is the cause of what was done
 -- with that.
-pub data CodeCause (text : List ℕ) (settings : List Setting) (execution : Execution)
+pub data CodeCause (text : List ℕ) (build : Build) (execution : Execution)
     (Does : Tables → ℕ → List ℕ → Type 0) : ℕ → List ℕ → Type 0 where
-  faulty : {status : ℕ} {told : List ℕ} → TextFault text settings status told
-      → HasNoRun execution → CodeCause text settings execution Does status told
-  made : {status : ℕ} {told : List ℕ} (code : Tables) → IsCodeOf text settings code
+  faulty : {status : ℕ} {told : List ℕ} → TextFault text build status told
+      → HasNoRun execution → CodeCause text build execution Does status told
+  made : {status : ℕ} {told : List ℕ} (code : Tables) → IsCodeOf text build code
       → execution.code ≡ Some code → Does code status told
-      → CodeCause text settings execution Does status told
+      → CodeCause text build execution Does status told
 
 -- ---- the file of a command
 -- A text that the file tells is too long for a program.
@@ -53,10 +53,10 @@ pub data FileCause (call : Call) (file : List ℕ) (execution : Execution)
       → Works source.text status told → FileCause call file execution Works status told
 
 -- Code is made of the file's text, and this is done with it.
-abbrev pub ProgramCause : Call → List ℕ → List Setting → Execution
+abbrev pub ProgramCause : Call → List ℕ → Build → Execution
     → (Tables → ℕ → List ℕ → Type 0) → ℕ → List ℕ → Type 0
-ProgramCause call file settings execution Does =
-    FileCause call file execution (λ text. CodeCause text settings execution Does)
+ProgramCause call file build execution Does =
+    FileCause call file execution (λ text. CodeCause text build execution Does)
 
 -- ---- list FILE
 -- the code is listed, and not run
@@ -65,7 +65,7 @@ pub data IsListed (turns : ℕ) : ℕ → List ℕ → Type 0 where
 
 abbrev pub ListCause : Call → List ℕ → Asked → Execution → ℕ → List ℕ → Type 0
 ListCause call file asked execution =
-    ProgramCause call file asked.settings execution (λ code. IsListed execution.turns)
+    ProgramCause call file (build_of asked) execution (λ code. IsListed execution.turns)
 
 abbrev pub Lists : Call → (List ℕ → Asked → Type 0) → Type 0
 Lists call = Asks IsList call.words

@@ -9,6 +9,7 @@ use Rattle.std.specs.Prelude.{◌≡◌, ℕ, Bool, true, false, List, [], ◌�
 use Rattle.std.specs.Prelude.{⊤}
 use Rattle.std.specs.Option.{option_map}
 use Rattle.zpl_binding.specs.Settings.{Setting}
+use Rattle.zpl_claims.specs.Build.{Build, plain_build}
 use Rattle.call_claims.specs.Words.{Word, Order, Turns, Report, Links, Sets, IsWord}
 use Rattle.call_claims.specs.declared.limits.TheConstants.{MOST_TURNS}
 
@@ -72,6 +73,11 @@ most_turns (Some n) = n
 
 abbrev pub limit_of : Asked → ℕ
 limit_of asked = most_turns asked.turns
+
+-- What the words have code built for. No word tells of a grid or of optimisations yet: it is for one
+-- processor, without any.
+abbrev pub build_of : Asked → Build
+build_of asked = plain_build asked.links asked.settings
 
 -- ---- a command
 -- The first word is its name, the second names the file, whatever it holds, and the words behind ask

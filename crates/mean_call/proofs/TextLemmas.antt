@@ -20,7 +20,7 @@ use Rattle.call_answers.specs.declared.refusals.Refusal.{Refusal}
 use Rattle.call_answers.specs.declared.refusals.Refusal.TheVariants.{Lex, Parse, Judge, Bind}
 use Rattle.call_answers.specs.declared.refusals.Refusal.TheVariants.{NotBuilt, NoMemory}
 use Rattle.bound_texts.specs.Refused.{IsRefused, IsTreeless}
-use Rattle.mean_claims.specs.Text.{IsAccepted, IsFaulty}
+use Rattle.call_claims.specs.Accepted.{IsAccepted, IsFaulty}
 use Rattle.mean_call.specs.Work.{answer_in, MeansText}
 
 -- a sink that was not used took nothing

@@ -21,7 +21,8 @@ use Rattle.call_answers.specs.Answers.{status_of, told_of}
 use Rattle.call_answers.specs.Refusals.{refusal_text}
 use Rattle.mean_claims.specs.Answer.{TakesOutput, TakesPart}
 use Rattle.mean_claims.specs.Cause.{Cause}
-use Rattle.mean_claims.specs.Text.{IsFaulty, HasMeaning, HasUnbound}
+use Rattle.call_claims.specs.Accepted.{IsFaulty}
+use Rattle.mean_claims.specs.Text.{HasMeaning, IsUnboundWith}
 
 -- the answer of a meaning's end, or of what cut it off
 abbrev pub answer_in : Result End MeanFault → Answer
@@ -57,9 +58,9 @@ abbrev pub MeansText :
 MeansText text settings loops before after (answer.Stopped stop report) =
     (report ≡ None) × StopsText text settings loops before after stop
 MeansText text settings loops before after (answer.Refused refusal line) =
-    IsFaulty text × IsFault text settings (refusal_text refusal line) × Takes before [] after
+    IsFaulty text × IsFault text (refusal_text refusal line) × Takes before [] after
 MeansText text settings loops before after (answer.Unbound fault) =
-    (kind : BindFault) × HasUnbound text settings kind
+    (kind : BindFault) × IsUnboundWith text settings kind
     × (settings_text (fault_name fault) ≡ settings_text (bind_name kind)) × Takes before [] after
 MeansText text settings loops before after answer.PutFailed =
     Takes before [] after

@@ -6,7 +6,7 @@ ghost use Rattle.zpl_bind.specs.Lists.{bound_of};
 ghost use Rattle.zpl_binding.specs.Bound.{Binds, IsAcceptedWith};
 ghost use Rattle.call_claims.specs.Command.{limit_of};
 ghost use Rattle.call_words.specs.Reading.{asked_in};
-ghost use Rattle.mean_claims.specs.Text.{IsAccepted};
+ghost use Rattle.call_claims.specs.Accepted.{IsAccepted};
 ghost use Rattle.bound_texts.specs.Accepted.{program_of};
 ghost use Rattle.mean_call.specs.Work.{answer_in, MeansText};
 

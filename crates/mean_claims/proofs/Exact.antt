@@ -18,7 +18,8 @@ use Rattle.mean_claims.specs.Cause.TextCause.{refused, unbound, done, trap, turn
 use Rattle.mean_claims.specs.Cause.Cause.{no_memory, mean}
 use Rattle.mean_claims.specs.Decided.{AsksMean, IsExact, MeansDone, MeansFaulty, MeansMore, MeansTooLong}
 use Rattle.mean_claims.specs.Decided.{MeansTrap, MeansUnbound}
-use Rattle.mean_claims.specs.Text.{IsFaulty, HasMeaning, HasUnbound}
+use Rattle.call_claims.specs.Accepted.{IsFaulty}
+use Rattle.mean_claims.specs.Text.{HasMeaning, IsUnboundWith}
 use Rattle.mean_claims.proofs.OneLemmas.{OneWay, OneTree, on_file, on_text, was_long}
 use Rattle.mean_claims.proofs.OneLemmas.{was_faulty, was_unbound, was_done, was_trap, was_more}
 
@@ -33,7 +34,7 @@ text_faulty (turn_limit has) e = absurd (omega arith)
 
 text_unbound : {text told : List ℕ} {settings : List Setting} {loops n : ℕ}
     → TextCause text settings loops n told → n ≡ UNBOUND
-    → (fault : BindFault) × HasUnbound text settings fault
+    → (fault : BindFault) × IsUnboundWith text settings fault
 text_unbound (refused told faulty fault) e = absurd (omega arith)
 text_unbound (unbound fault has) e = (fault, has)
 text_unbound (done has) e = absurd (omega arith)

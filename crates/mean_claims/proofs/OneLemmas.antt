@@ -24,7 +24,8 @@ use Rattle.call_claims.proofs.OneLemmas.{of_given}
 use Rattle.mean_claims.specs.Cause.{TextCause, MeanCause, Cause, EndsSo}
 use Rattle.mean_claims.specs.Cause.TextCause.{refused, unbound, done, trap, turn_limit}
 use Rattle.mean_claims.specs.Cause.Cause.{no_memory, mean}
-use Rattle.mean_claims.specs.Text.{IsAccepted, IsFaulty, HasMeaning, HasUnbound}
+use Rattle.call_claims.specs.Accepted.{IsAccepted, IsFaulty}
+use Rattle.mean_claims.specs.Text.{HasMeaning, IsUnboundWith}
 
 -- ---- texts
 -- a text has one list of tokens
@@ -57,7 +58,7 @@ module _ (one_way : OneWay) (one_tree : OneTree) (text : List ℕ) where
 
   module _ (settings : List Setting) (loops : ℕ) where
     -- there is no fault of settings where there is a meaning
-    not_bound : {Holds : Meaning → Type 0} (fault : BindFault) → HasUnbound text settings fault
+    not_bound : {Holds : Meaning → Type 0} (fault : BindFault) → IsUnboundWith text settings fault
         → HasMeaning text settings loops Holds → ⊥
     not_bound fault has means =
         means.bound fault (subst (λ p. HasBindFault p settings fault)
@@ -77,7 +78,7 @@ module _ (one_way : OneWay) (one_tree : OneTree) (text : List ℕ) where
     was_faulty (turn_limit has) none = absurd (none has.program has.accepted)
 
     pub was_unbound : {n : ℕ} {told : List ℕ} → TextCause text settings loops n told → (fault : BindFault)
-        → HasUnbound text settings fault → n ≡ UNBOUND
+        → IsUnboundWith text settings fault → n ≡ UNBOUND
     was_unbound (refused told faulty fault) kind is = absurd (faulty is.program is.accepted)
     was_unbound (unbound fault has) kind is = refl
     was_unbound (done has) kind is = absurd (not_bound kind is has)

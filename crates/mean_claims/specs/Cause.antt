@@ -15,7 +15,8 @@ use Rattle.call_claims.specs.Texts.{bind_name, settings_text, trap_text}
 use Rattle.call_claims.specs.Texts.{turn_limit_text, no_memory_text}
 use Rattle.call_claims.specs.declared.status.TheConstants.{DONE, REFUSED, UNBOUND}
 use Rattle.call_claims.specs.declared.status.TheConstants.{TRAPPED, TURN_LIMIT, NO_MEMORY}
-use Rattle.mean_claims.specs.Text.{IsFaulty, HasMeaning, HasUnbound}
+use Rattle.call_claims.specs.Accepted.{IsFaulty}
+use Rattle.mean_claims.specs.Text.{HasMeaning, IsUnboundWith}
 
 -- the meaning ends so
 abbrev pub EndsSo : End → Meaning → Type 0
@@ -27,9 +28,9 @@ EndsSo ending meaning = meaning.ending ≡ ending
 -- or wanting more turns of a loop.
 pub data TextCause (text : List ℕ) (settings : List Setting) (loops : ℕ) : ℕ → List ℕ → Type 0
   where
-    refused : (told : List ℕ) → IsFaulty text → IsFault text settings told
+    refused : (told : List ℕ) → IsFaulty text → IsFault text told
         → TextCause text settings loops REFUSED told
-    unbound : (fault : BindFault) → HasUnbound text settings fault
+    unbound : (fault : BindFault) → IsUnboundWith text settings fault
         → TextCause text settings loops UNBOUND (settings_text (bind_name fault))
     done : HasMeaning text settings loops (EndsSo Done) → TextCause text settings loops DONE []
     trap : (kind : TrapKind) (line : ℕ) → HasMeaning text settings loops (EndsSo (Trap kind line))

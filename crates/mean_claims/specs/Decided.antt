@@ -11,7 +11,8 @@ use Rattle.call_claims.specs.Source.{Source}
 use Rattle.call_claims.specs.declared.status.TheConstants.{DONE, TOO_LONG, REFUSED, UNBOUND}
 use Rattle.call_claims.specs.declared.status.TheConstants.{TRAPPED, TURN_LIMIT}
 use Rattle.mean_claims.specs.Cause.{EndsSo}
-use Rattle.mean_claims.specs.Text.{IsFaulty, HasMeaning, HasUnbound}
+use Rattle.call_claims.specs.Accepted.{IsFaulty}
+use Rattle.mean_claims.specs.Text.{HasMeaning, IsUnboundWith}
 
 -- The words ask for the meaning of a file, and this holds of it and of what they ask for.
 abbrev pub AsksMean : Call → (List ℕ → Asked → Type 0) → Type 0
@@ -42,7 +43,7 @@ MeansFaulty call = AsksMean call (λ file asked. (source : Source call file) × 
 abbrev pub MeansUnbound : Call → Type 0
 MeansUnbound call =
     AsksMean call (λ file asked. (source : Source call file) × (fault : BindFault)
-    × HasUnbound source.text asked.settings fault)
+    × IsUnboundWith source.text asked.settings fault)
 
 -- 7
 abbrev pub MeansTrap : Call → Type 0

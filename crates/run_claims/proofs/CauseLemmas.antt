@@ -1,7 +1,7 @@
 -- A status of `run` with its cause comes just where that cause is.
 use Rattle.std.proofs.Common.{◌≡◌, ◌≢◌, ℕ, Bool, List, [], Option, Some, None, Err, codes, refl, sym, subst, inl, inr, arith}
 use Rattle.node_form.specs.declared.tables.Tables.{Tables}
-use Rattle.zpl_binding.specs.Settings.{Setting}
+use Rattle.zpl_claims.specs.Build.{Build}
 use Rattle.grid_meaning.specs.Grid.{processors}
 use Rattle.grid_order.specs.Reading.{reading}
 use Rattle.grid_runs.specs.Run.{Run, IsLimitedAt}
@@ -14,7 +14,7 @@ use Rattle.call_claims.specs.declared.status.TheConstants.{DONE, UNREADABLE, TOO
 use Rattle.call_claims.specs.declared.status.TheConstants.{UNBOUND, TRAPPED, TURN_LIMIT, NO_MEMORY}
 use Rattle.call_claims.proofs.ProgramLemmas.{IsOther, fault_other, none_made, one_made, refused_of}
 use Rattle.call_claims.proofs.ProgramLemmas.{unbound_of, was_refused_in, was_too_long_in, was_unbound_in}
-use Rattle.call_claims.specs.Command.{Asked, IsRun, RunTakes}
+use Rattle.call_claims.specs.Command.{Asked, IsRun, RunTakes, build_of}
 use Rattle.call_claims.proofs.MetLemmas.{is_met}
 use Rattle.call_claims.proofs.OneLemmas.{as_asked}
 use Rattle.exec_claims.specs.Cause.{OrderCause, OrderFileCause, RunCause, run_of}
@@ -81,14 +81,14 @@ settled_order call n (Some file) settled = (settled.read, settled.one file)
 
 -- ---- a file
 module _ (call : Call) (ex : Execution) (file : List ℕ) (asked : Asked) where
-  abbrev settings : List Setting
-  settings = asked.settings
+  abbrev build : Build
+  build = build_of asked
 
   abbrev Does : Tables → ℕ → List ℕ → Type 0
   Does code = OrderFileCause call code asked ex.turns asked.order
 
   does_other : (code : Tables) (n : ℕ) (told : List ℕ) → Does code n told
-      → IsOther call file settings ex Does n
+      → IsOther call file build ex Does n
   does_other code n told c =
       let later = order_file_later call code asked ex.turns asked.order n told c in
       record { refused = later.refused; unbound = later.unbound }
@@ -115,7 +115,7 @@ module _ (call : Call) (ex : Execution) (file : List ℕ) (asked : Asked) where
       }
 
   file_code : {n : ℕ} {told : List ℕ} → FileCause n told → IsRunStatus n
-      → HasCodeOf call file settings ex (UnderCause n told)
+      → HasCodeOf call file build ex (UnderCause n told)
   file_code (unreadable may none) s = absurd (s.unreadable refl)
   file_code (too_long long none) s = absurd (s.too_long refl)
   file_code (work source (faulty fault none)) s =
@@ -133,7 +133,7 @@ module _ (call : Call) (ex : Execution) (file : List ℕ) (asked : Asked) where
       → IsOneOrder call n asked.order → m ≢ UNREADABLE
       → ((a : Run) (k : ℕ) (report : Bool) → Holds a k
       → (t : List ℕ) × RunCause a report k m t)
-      → HasCodeOf call file settings ex (IsUnder call asked ex.turns Holds) → n ≡ m
+      → HasCodeOf call file build ex (IsUnder call asked ex.turns Holds) → n ≡ m
   file_was m Holds (unreadable may none) one read f h = absurd (none_made ex none h.made)
   file_was m Holds (too_long long none) one read f h = absurd (none_made ex none h.made)
   file_was m Holds (work source (faulty fault none)) one read f h =
@@ -165,7 +165,7 @@ module _ (call : Call) (ex : Execution) (file : List ℕ) (asked : Asked) where
   })
 
   long_made : {n : ℕ} {told : List ℕ} → FileCause n told → IsSettled call n
-      → HasCodeOf call file settings ex (λ code. HasLongOrder call asked.order) → n ≡ TOO_LONG
+      → HasCodeOf call file build ex (λ code. HasLongOrder call asked.order) → n ≡ TOO_LONG
   long_made (unreadable may none) settled h = absurd (settled.read refl)
   long_made (too_long long none) settled h = refl
   long_made (work source (faulty fault none)) settled h = absurd (none_made ex none h.made)
@@ -176,12 +176,12 @@ module _ (call : Call) (ex : Execution) (file : List ℕ) (asked : Asked) where
   was_file_long : {n : ℕ} {told : List ℕ} → FileCause n told → IsSettled call n
       → HasLongFile call file asked ex → n ≡ TOO_LONG
   was_file_long c settled (inl long) =
-      was_too_long_in call file settings ex Does (settled.one file) c settled.read long
+      was_too_long_in call file build ex Does (settled.one file) c settled.read long
   was_file_long c settled (inr h) = long_made c settled h
 
   -- ---- wrong items
   file_bad : {n : ℕ} {told : List ℕ} → FileCause n told → n ≡ ORDER_REFUSED
-      → HasCodeOf call file settings ex (HasBadOrder call asked)
+      → HasCodeOf call file build ex (HasBadOrder call asked)
   file_bad (unreadable may none) e = absurd (omega arith)
   file_bad (too_long long none) e = absurd (omega arith)
   file_bad (work source (faulty fault none)) e = absurd (elim (fault_other fault)
@@ -197,7 +197,7 @@ module _ (call : Call) (ex : Execution) (file : List ℕ) (asked : Asked) where
       }
 
   was_file_bad : {n : ℕ} {told : List ℕ} → FileCause n told → IsOneOrder call n asked.order
-      → HasCodeOf call file settings ex (HasBadOrder call asked) → n ≡ ORDER_REFUSED
+      → HasCodeOf call file build ex (HasBadOrder call asked) → n ≡ ORDER_REFUSED
   was_file_bad (unreadable may none) one h = absurd (none_made ex none h.made)
   was_file_bad (too_long long none) one h = absurd (none_made ex none h.made)
   was_file_bad (work source (faulty fault none)) one h = absurd (none_made ex none h.made)
@@ -233,7 +233,7 @@ module _ (call : Call) (ex : Execution) where
   -- ---- runs
   abbrev Under : (Run → ℕ → Type 0) → List ℕ → Asked → Type 0
   Under Holds file asked =
-      HasCodeOf call file asked.settings ex (IsUnder call asked ex.turns Holds)
+      HasCodeOf call file (build_of asked) ex (IsUnder call asked ex.turns Holds)
 
   run_to : (m : ℕ) (Holds : Run → ℕ → Type 0) → IsRunStatus m
       → ((a : Run) (report : Bool) (k n : ℕ) (told : List ℕ) → RunCause a report k n told
@@ -297,30 +297,30 @@ exactly call ex laws n told cause = record {
         (λ file asked given c h. was_file_long call ex file asked c s h) cause,
   );
   refused = λ s. (
-    from call ex REFUSED (λ file asked. HasNoProgramIn call file asked.settings)
+    from call ex REFUSED (λ file asked. HasNoProgramIn call file (build_of asked))
         (λ e. omega arith)
-        (λ file asked given c e. refused_of call file asked.settings ex
+        (λ file asked given c e. refused_of call file (build_of asked) ex
         (Does call ex file asked) (does_other call ex file asked) c e) cause,
-    back call ex REFUSED (λ file asked. HasNoProgramIn call file asked.settings) s.decided
-        (λ file asked given c h. was_refused_in call file asked.settings ex
+    back call ex REFUSED (λ file asked. HasNoProgramIn call file (build_of asked)) s.decided
+        (λ file asked given c h. was_refused_in call file (build_of asked) ex
         (Does call ex file asked) (s.one file) c s.read h) cause,
   );
   unbound = λ s. (
-    from call ex UNBOUND (λ file asked. HasUnboundIn call file asked.settings)
+    from call ex UNBOUND (λ file asked. HasUnboundIn call file (build_of asked))
         (λ e. omega arith)
-        (λ file asked given c e. unbound_of call file asked.settings ex
+        (λ file asked given c e. unbound_of call file (build_of asked) ex
         (Does call ex file asked) (does_other call ex file asked) c e) cause,
-    back call ex UNBOUND (λ file asked. HasUnboundIn call file asked.settings) s.decided
-        (λ file asked given c h. was_unbound_in call file asked.settings ex
+    back call ex UNBOUND (λ file asked. HasUnboundIn call file (build_of asked)) s.decided
+        (λ file asked given c h. was_unbound_in call file (build_of asked) ex
         (Does call ex file asked) (s.one file) c s.read h) cause,
   );
   order_refused = λ s. (
     from call ex ORDER_REFUSED
-        (λ file asked. HasCodeOf call file asked.settings ex (HasBadOrder call asked))
+        (λ file asked. HasCodeOf call file (build_of asked) ex (HasBadOrder call asked))
         (λ e. omega arith)
         (λ file asked given c e. file_bad call ex file asked c e) cause,
     back call ex ORDER_REFUSED
-        (λ file asked. HasCodeOf call file asked.settings ex (HasBadOrder call asked)) s.decided
+        (λ file asked. HasCodeOf call file (build_of asked) ex (HasBadOrder call asked)) s.decided
         (λ file asked given c h. was_file_bad call ex file asked c
         (s.order file asked given) h) cause,
   );

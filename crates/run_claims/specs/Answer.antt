@@ -6,19 +6,19 @@ use Rattle.grid_runs.specs.Run.{grid_at, IsCutOff}
 use Rattle.call_claims.specs.declared.ran.Ran.{Ran}
 use Rattle.call_claims.specs.Call.{Call}
 use Rattle.call_claims.specs.Execution.{HasNoCounts, IsMadeOf}
-use Rattle.call_claims.specs.Command.{Asked}
+use Rattle.call_claims.specs.Command.{Asked, build_of}
 use Rattle.exec_claims.specs.Answer.{HasCounts}
 use Rattle.exec_claims.specs.Answer as orders
 use Rattle.run_claims.specs.Cause.{Runs}
 
 -- ---- the code and the counts
--- The code is made of the file's text, under the settings: over links of every capacity it is right
+-- The code is made of the file's text, for the build: over links of every capacity it is right
 -- after every order of turns, some order brings it in step to each bound of the meaning, and it comes
 -- to its end in time; and it is tidy. It was not run, or it was run under the order that the words
 -- ask for, and the counts are those of its grid after the given turns.
 pub record IsMade (call : Call) (ran : Ran) (file : List ℕ) (asked : Asked) (code : Tables)
     : Type 0 where
-  pub made : IsMadeOf call file asked.settings code
+  pub made : IsMadeOf call file (build_of asked) code
   pub counts : HasNoCounts ran ⊎ orders.Runs call code asked (λ run. HasCounts run ran)
 
 abbrev pub IsMadeFor : Call → Ran → Tables → Type 0

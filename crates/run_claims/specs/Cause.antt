@@ -6,13 +6,13 @@ use Rattle.call_claims.specs.Cause.{ProgramCause}
 use Rattle.call_claims.specs.Execution.{Execution}
 use Rattle.call_claims.specs.Texts.{no_memory_text}
 use Rattle.call_claims.specs.declared.status.TheConstants.{NO_MEMORY}
-use Rattle.call_claims.specs.Command.{Asked, Asks, IsRun}
+use Rattle.call_claims.specs.Command.{Asked, Asks, IsRun, build_of}
 use Rattle.exec_claims.specs.Cause.{OrderFileCause}
 
 -- run FILE: of the program's file, of its text, of the order that the words name, and of the run
 abbrev pub RunFileCause : Call → List ℕ → Asked → Execution → ℕ → List ℕ → Type 0
 RunFileCause call file asked execution =
-    ProgramCause call file asked.settings execution
+    ProgramCause call file (build_of asked) execution
     (λ code. OrderFileCause call code asked execution.turns asked.order)
 
 -- The words run a file, of which and of what they ask for this holds.

@@ -9,7 +9,7 @@ use Rattle.call_claims.specs.Cause.{IsListed, ListCause}
 use Rattle.call_claims.specs.Cause.CodeCause.{made}
 use Rattle.call_claims.specs.Cause.FileCause.{work as of_text}
 use Rattle.call_claims.specs.Cause.IsListed.{listed}
-use Rattle.call_claims.specs.Command.{Asked}
+use Rattle.call_claims.specs.Command.{Asked, build_of}
 use Rattle.call_claims.specs.Decided.{IsDecided}
 use Rattle.call_claims.specs.Execution.{HasNoRun, IsMadeOf, TakesListing, TakesListingFront}
 use Rattle.call_claims.specs.Stream.{Stream}
@@ -34,7 +34,7 @@ no_run work none zero = record { no_code = none; no_turns = no_turns work zero }
 
 -- the answer of a listing that was put has its cause
 pub list_caused : (call : Call) (file : List ℕ) (asked : Asked) (work : Work) (code : Tables)
-    → IsMadeOf call file asked.settings code → work.code ≡ Some code → work.counts ≡ no_counts
+    → IsMadeOf call file (build_of asked) code → work.code ≡ Some code → work.counts ≡ no_counts
     → IsOfListing work.answer → IsListOn call file asked work
 list_caused call file asked w code of_file is_made zero is = elim is [
   | inl e ↦ subst (λ a. IsDecided (status_of a)
@@ -48,12 +48,12 @@ list_caused call file asked w code of_file is_made zero is = elim is [
 
 -- and that of a file without code
 pub list_none : (call : Call) (file : List ℕ) (asked : Asked) (work : Work) (a : Answer)
-    → HasNoCode call file asked.settings a → work.answer ≡ a → work.code ≡ None
+    → HasNoCode call file (build_of asked) a → work.answer ≡ a → work.code ≡ None
     → work.counts ≡ no_counts → IsListOn call file asked work
 list_none call file asked work a is same none zero =
     subst (λ b. IsDecided (status_of b)
     → ListCause call file asked (execution_in work) (status_of b) (told_of b)) (sym same)
-    (λ d. none_caused call file asked.settings a (execution_in work) 
+    (λ d. none_caused call file (build_of asked) a (execution_in work) 
     (λ code. IsListed (execution_in work).turns) is (no_run work none zero) d)
 
 -- ---- what out took of the listing of code

@@ -5,7 +5,7 @@ use Rattle.node_form.specs.declared.tables.Tables.{Tables}
 use Rattle.call_claims.specs.Call.{Call}
 use Rattle.call_claims.specs.Cause.CodeCause.{made as of_code_made}
 use Rattle.call_claims.specs.Cause.FileCause.{work as of_file}
-use Rattle.call_claims.specs.Command.{Asked, IsRun}
+use Rattle.call_claims.specs.Command.{Asked, IsRun, build_of}
 use Rattle.call_claims.specs.Decided.{IsDecided}
 use Rattle.call_claims.specs.Execution.{HasNoCounts}
 use Rattle.exec_claims.specs.Cause.{OrderFileCause}
@@ -31,7 +31,7 @@ module _ (call : Call) (file : List ℕ) (asked : Asked) (given : IsRun call.wor
     file = file;
     asked = asked;
     given = given;
-    holds = none_caused call file asked.settings w.answer (execution_in w)
+    holds = none_caused call file (build_of asked) w.answer (execution_in w)
         (λ code. OrderFileCause call code asked w.counts.turns asked.order) is
         (record { no_code = none; no_turns = ap (λ counts. counts.turns) nothing.counts }) d;
   })

@@ -1,10 +1,10 @@
 -- What is told of words that are no command.
-use Rattle.std.proofs.Common.{◌≡◌, ◌⊎◌, ℕ, sym, ◌∙◌, ap, subst, inl, inr}
+use Rattle.std.proofs.Common.{◌≡◌, ◌≢◌, ◌⊎◌, ℕ, sym, ◌∙◌, ap, subst, inl, inr, arith}
 use Rattle.zpl_io.specs.Faults.{Rose}
 use Rattle.zpl_io.specs.Sink.{Takes, TakesFront}
 use Rattle.call_claims.specs.Stream.{Stream}
 use Rattle.call_claims.specs.Texts.{usage_text}
-use Rattle.call_claims.specs.declared.status.TheConstants.{PUT_FAILED, USAGE}
+use Rattle.call_claims.specs.declared.status.TheConstants.{PUT_FAILED, UNREADABLE, USAGE}
 use Rattle.call_answers.specs.Answers.{status_of, told_of, NeedsNoMemory}
 use Rattle.call_answers.specs.Told.{IsAnswerOf}
 use Rattle.call_answers.specs.declared.answers.Answer.{Answer}
@@ -36,3 +36,7 @@ tells_usage a status errs is told = elim (failed_or told.answer) [
         subst (λ t. Takes errs.before t errs.after) (ap told_of same) (told.told.takes other),
       )
 ]
+
+pub usage_read : (status : ℕ) (errs : Stream) → TellsUsage status errs → status ≢ UNREADABLE
+usage_read status errs (inl told) e = omega (arith, told.0, e)
+usage_read status errs (inr told) e = omega (arith, told.0, e)

@@ -8,7 +8,7 @@ use Rattle.call_claims.specs.declared.ran.Ran.{Ran}
 use Rattle.call_claims.specs.Answer.{IsAnswered, IsHalfAnswered}
 use Rattle.call_claims.specs.Call.{Call}
 use Rattle.call_claims.specs.Cause.{Cause, Lists}
-use Rattle.call_claims.specs.Command.{Asked, IsExec, IsList, IsMean, IsRun}
+use Rattle.call_claims.specs.Command.{Asked, IsExec, IsList, IsMean, IsRun, build_of}
 use Rattle.call_claims.specs.Decided.{IsExact}
 use Rattle.call_claims.specs.Execution.{execution_of, HasNoCounts, IsMadeOf, TakesListingFront}
 use Rattle.call_claims.specs.Execution.{TakesOutput}
@@ -63,7 +63,7 @@ pub record IsListed (call : Call) (answered : Ran) (out errs : Stream) : Type 0 
   -- The code is made of the text that the file of the words tells, under their settings, and was not
   -- run.
   pub code : IfSome answered.code
-      (λ code. Lists call (λ file asked. IsMadeOf call file asked.settings code))
+      (λ code. Lists call (λ file asked. IsMadeOf call file (build_of asked) code))
   pub no_counts : HasNoCounts answered
   -- Out took the listing of the code where the work was done, and nothing elsewhere.
   pub output : answered.status ≢ PUT_FAILED

@@ -6,10 +6,10 @@
 --   IsRunWork              what came of a `run`
 use Rattle.std.specs.Prelude.{◌≡◌, ◌⊎◌, ℕ, List, None, Some}
 use Rattle.node_form.specs.declared.tables.Tables.{Tables}
-use Rattle.zpl_binding.specs.Settings.{Setting}
+use Rattle.zpl_claims.specs.Build.{Build}
 use Rattle.call_claims.specs.Call.{Call}
 use Rattle.call_claims.specs.Cause.{TextFault, FileCause, ListCause}
-use Rattle.call_claims.specs.Command.{Asked}
+use Rattle.call_claims.specs.Command.{Asked, build_of}
 use Rattle.call_claims.specs.Decided.{IsDecided}
 use Rattle.call_claims.specs.Execution.{Execution, HasNoRun, IsMadeOf}
 use Rattle.grid_call.specs.Work.{HasNoTurns, IsCodeWork}
@@ -21,14 +21,14 @@ use Rattle.call_answers.specs.declared.answers.Stop.TheVariants as stop
 use Rattle.call_answers.specs.declared.work.Work.{Work}
 
 -- ---- no code: the answer has its cause, unless memory was wanting
-abbrev pub IsUncoded : List ℕ → List Setting → Answer → Type 0
-IsUncoded text settings a = IsDecided (status_of a)
-    → TextFault text settings (status_of a) (told_of a)
+abbrev pub IsUncoded : List ℕ → Build → Answer → Type 0
+IsUncoded text build a = IsDecided (status_of a)
+    → TextFault text build (status_of a) (told_of a)
 
-abbrev pub HasNoCode : Call → List ℕ → List Setting → Answer → Type 0
-HasNoCode call file settings a = IsDecided (status_of a) → (execution : Execution)
+abbrev pub HasNoCode : Call → List ℕ → Build → Answer → Type 0
+HasNoCode call file build a = IsDecided (status_of a) → (execution : Execution)
     → HasNoRun execution
-    → FileCause call file execution (λ text. TextFault text settings) (status_of a) (told_of a)
+    → FileCause call file execution (λ text. TextFault text build) (status_of a) (told_of a)
 
 -- ---- list
 abbrev pub IsListOn : Call → List ℕ → Asked → Work → Type 0
@@ -45,8 +45,8 @@ IsOfListing a = (a ≡ answer.Stopped stop.Done None)
 -- work on it.
 pub data IsRunWork (call : Call) (file : List ℕ) (asked : Asked) (work : Work)
     (before after : List ℕ → Type 0) : Type 0 where
-  unmade : work.code ≡ None → HasNoCode call file asked.settings work.answer
+  unmade : work.code ≡ None → HasNoCode call file (build_of asked) work.answer
       → HasNoTurns work before after → IsRunWork call file asked work before after
-  made : (code : Tables) → work.code ≡ Some code → IsMadeOf call file asked.settings code
+  made : (code : Tables) → work.code ≡ Some code → IsMadeOf call file (build_of asked) code
       → IsCodeWork call code asked work before after
       → IsRunWork call file asked work before after

@@ -6,7 +6,7 @@ ghost use Rattle.zpl_io.specs.Sink.{Takes, TakesFront};
 ghost use Rattle.listing_rows.specs.Listing.{listing_of};
 ghost use Rattle.call_claims.specs.Answer.{CountsFetches, CountsPuts};
 ghost use Rattle.call_claims.specs.Call.{call_of};
-ghost use Rattle.call_claims.specs.Command.{IsList};
+ghost use Rattle.call_claims.specs.Command.{IsList, build_of};
 ghost use Rattle.call_claims.specs.Execution.{IsMadeOf, TakesListing, TakesListingFront};
 ghost use Rattle.call_claims.specs.Stream.{stream_of};
 ghost use Rattle.call_claims.specs.declared.status.TheConstants.{UNREADABLE, USAGE};
@@ -79,7 +79,7 @@ fn list_file<'a, F: Files, O: Sink>(
     ensures code { (words : List (List ℕ)) → IfSome result.code
         (IsMadeOf (call_of words (F.tells files.old) (F.may_fail files.old)
         (F.may_fail_later files.old))
-        list.entry.file.now (asked_in list.entry.asked).settings) }
+        list.entry.file.now (build_of (asked_in list.entry.asked))) }
     ensures no_counts { result.counts ≡ no_counts }
     ensures listed { result.answer ≡ Answer.Stopped Stop.Done None →
         TakesListing (execution_in result) (O.tells out.old) (O.tells out.new) }
@@ -93,7 +93,7 @@ fn list_file<'a, F: Files, O: Sink>(
     ensures puts { CountsFaults (result.answer ≡ Answer.PutFailed)
         (O.faults out.old) (O.faults out.new) }
 {
-    match code_of_file(alloc, list.file, list.asked.words, files) {
+    match code_of_file(alloc, list.file, list.asked, files) {
         Ok(code) => list_code(alloc, code, out),
         Err(answer) => Work::without_turns(None, answer),
     }

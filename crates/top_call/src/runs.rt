@@ -82,7 +82,7 @@ fn work_for<'a, F: Files, O: Sink>(
     ensures puts { CountsFaults (result.answer ≡ Answer.PutFailed)
         (O.faults out.old) (O.faults out.new) }
 {
-    match code_of_file(alloc, command.file, command.asked.words, files) {
+    match code_of_file(alloc, command.file, command.asked, files) {
         Ok(code) => run_code(alloc, code, command.asked, files, out),
         Err(answer) => Work::without_turns(None, answer),
     }

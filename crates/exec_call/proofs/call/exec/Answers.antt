@@ -3,7 +3,8 @@ use Rattle.call_claims.specs.Call.{call_of}
 use Rattle.call_claims.proofs.MetLemmas.{is_met}
 use Rattle.call_answers.specs.Answers.{told_of}
 use Rattle.call_answers.specs.Work.{execution_in}
-use Rattle.call_answers.proofs.CallLemmas.{answered, failed_put, status_caused, work_other}
+use Rattle.call_answers.proofs.CallLemmas.{answered, failed_put, fetches_counted}
+use Rattle.call_answers.proofs.CallLemmas.{puts_counted, status_caused, work_other}
 use Rattle.call_answers.proofs.CallLemmas.FailedPut.{in_work, in_telling}
 use Rattle.call_words.specs.Reading.{asked_in}
 use Rattle.exec_claims.specs.Cause.{Cause}
@@ -79,3 +80,11 @@ returns-clause-known g c = λ e.
     (caused call c.args.command.file.now (asked_in c.args.command.asked) work.result
     (g.O.Sink.tells c.args.out.now) (g.O.Sink.tells work.new.out) given.1
     (work.ensures.work given.0)) (λ f. omega (arith, e, f))) e
+
+pub returns-clause-fetches : goal.returns-clause-fetches
+returns-clause-fetches g c =
+    fetches_counted c.work_for-work.result.answer _ _ c.answered.ensures.told _ _ c.work_for-work.ensures.fetches
+
+pub returns-clause-puts : goal.returns-clause-puts
+returns-clause-puts g c =
+    puts_counted c.work_for-work.result.answer _ _ c.answered.ensures.told _ _ c.work_for-work.ensures.puts

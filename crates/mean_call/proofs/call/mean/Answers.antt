@@ -1,7 +1,11 @@
-use Rattle.std.proofs.Common.{inl, inr, sym, ◌∙◌, ap, subst, arith}
+use Rattle.std.proofs.Common.{◌≡◌, inl, inr, sym, ◌∙◌, ap, subst, arith}
 use Rattle.call_claims.specs.Call.{call_of}
-use Rattle.call_answers.specs.Answers.{told_of}
-use Rattle.call_answers.proofs.CallLemmas.{answered, failed_put, status_caused}
+use Rattle.zpl_io.specs.Faults.{CountsFaults}
+use Rattle.call_claims.specs.declared.status.TheConstants.{UNREADABLE}
+use Rattle.call_answers.specs.Answers.{status_of, told_of}
+use Rattle.call_answers.specs.declared.answers.Answer.TheVariants as answer
+use Rattle.call_answers.proofs.CallLemmas.{answered, failed_put, fetches_counted}
+use Rattle.call_answers.proofs.CallLemmas.{puts_counted, status_caused}
 use Rattle.call_answers.proofs.CallLemmas.FailedPut.{in_work, in_telling}
 use Rattle.mean_claims.proofs.KnownLemmas.{cause_known}
 use Rattle.mean_call.specs.Call.{IsMeant}
@@ -68,3 +72,15 @@ returns-clause-known g c = λ e.
     cause_known (status_caused a c.answered.result.status _ c.answered.ensures.told
     (Comes call before after) (wanting_comes call a before after work)
     (work_comes call a before after work) (λ f. omega (arith, e, f))).0 e
+
+pub returns-clause-fetches : goal.returns-clause-fetches
+returns-clause-fetches g c =
+    fetches_counted c.without_turns.result.answer _ _ c.answered.ensures.told _ _
+    (subst (λ a. CountsFaults (status_of a ≡ UNREADABLE) _ _) (sym c.without_turns.ensures.answer)
+    c.mean_file-answer.ensures.fetches)
+
+pub returns-clause-puts : goal.returns-clause-puts
+returns-clause-puts g c =
+    puts_counted c.without_turns.result.answer _ _ c.answered.ensures.told _ _
+    (subst (λ a. CountsFaults (a ≡ answer.PutFailed) _ _) (sym c.without_turns.ensures.answer)
+    c.mean_file-answer.ensures.puts)

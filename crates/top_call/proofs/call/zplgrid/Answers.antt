@@ -1,6 +1,7 @@
-use Rattle.std.proofs.Common.{map, string_bytes, refl, ap, sym, subst, inl, inr, arith}
+use Rattle.std.proofs.Common.{map, string_bytes, refl, ap, sym, subst, arith}
 use Rattle.call_claims.specs.Call.{call_of}
-use Rattle.top_call.proofs.UnknownLemmas.{tells_usage}
+use Rattle.top_call.specs.Call.{IsUnknown}
+use Rattle.top_call.proofs.UnknownLemmas.{tells_usage, usage_read}
 use Rattle.top_call.proofs.WordLemmas.{is_some, of_exec, of_list, of_mean, of_run}
 use Rattle.top_call.proofs.call.zplgrid.Goals as goal
 
@@ -61,4 +62,25 @@ returns-in-None-clause-mean g c = λ asks.
     absurd ((c.in-None.ensures {u = tt}).no_mean asks.0 asks.1 asks.2)
 
 pub returns-in-None-clause-unknown : goal.returns-in-None-clause-unknown
-returns-in-None-clause-unknown g c = λ none. ?
+returns-in-None-clause-unknown g c = λ none.
+    subst (λ ran. IsUnknown ran _ _) (sym c.answered.ensures.ran) (record {
+      code = c.without_turns.ensures.code;
+      no_counts = record {
+        turns = ap (λ counts. counts.turns) c.without_turns.ensures.counts;
+        sends = ap (λ counts. counts.sends) c.without_turns.ensures.counts;
+        words = ap (λ counts. counts.words) c.without_turns.ensures.counts;
+      };
+      output = refl;
+      told = tells_usage c.without_turns.result.answer c.answered.result.status _
+          c.without_turns.ensures.answer c.answered.ensures.told;
+    })
+
+pub returns-in-None-clause-fetches : goal.returns-in-None-clause-fetches
+returns-in-None-clause-fetches g c = record {
+  rises = λ e. absurd (usage_read c.answered.result.status _
+      (tells_usage c.without_turns.result.answer c.answered.result.status _
+      c.without_turns.ensures.answer c.answered.ensures.told) e);
+  only = λ less. absurd (omega (arith, less));
+  never_falls = omega arith;
+  bounded = λ h. h;
+}

@@ -1,7 +1,8 @@
-use Rattle.std.proofs.Common.{◌≤◌, length, map, string_bytes, sym, subst}
+use Rattle.std.proofs.Common.{◌≤◌, length, sym, subst}
 use Rattle.zpl_text.specs.declared.TheConstants.{MOST_SOURCE}
 use Rattle.call_claims.specs.Call.{call_of}
-use Rattle.call_claims.specs.Setting.{settings_among}
+use Rattle.call_claims.specs.Command.{build_of}
+use Rattle.call_words.specs.Reading.{asked_in}
 use Rattle.call_claims.specs.Source.{Source}
 use Rattle.call_answers.proofs.FetchLemmas.{not_fetched, on_err, on_ok}
 use Rattle.call_answers.specs.Fetched.{IsWholeText}
@@ -35,21 +36,21 @@ returns-in-Ok-clause-none g c = λ words.
     (c.in-Ok.ensures {u = tt}).ok in
     let source : Source call file =
     record { text = c.as_slice.result.now; told = whole.told; short = whole.short } in
-    let settings = settings_among (map string_bytes c.args.words.now) in
-    on_err c.code_of_text.result _ _ (λ a is. no_code call file settings source a is)
+    let build = build_of (asked_in c.args.asked) in
+    on_err c.code_of_text.result _ _ (λ a is. no_code call file build source a is)
     c.code_of_text.ensures.none
 
 pub returns-in-Ok-clause-fetches : goal.returns-in-Ok-clause-fetches
 returns-in-Ok-clause-fetches g c =
     not_fetched _ _ _ _ (λ no. no)
-    (text_fetches_none c.as_slice.result.now (settings_among (map string_bytes c.args.words.now))
+    (text_fetches_none c.as_slice.result.now (build_of (asked_in c.args.asked))
     c.code_of_text.result c.code_of_text.ensures.none) (c.in-Ok.ensures {u = tt}).fetches
 
 pub returns-in-Err-clause-none : goal.returns-in-Err-clause-none
 returns-in-Err-clause-none g c = λ words.
     let call = call_of words (g.F.Files.tells c.args.files.now)
     (g.F.Files.may_fail c.args.files.now) (g.F.Files.may_fail_later c.args.files.now) in
-    unfetched call c.args.file.now (settings_among (map string_bytes c.args.words.now))
+    unfetched call c.args.file.now (build_of (asked_in c.args.asked))
     c.in-Err.answer (c.in-Err.ensures {u = tt}).err
 
 pub returns-in-Err-clause-put : goal.returns-in-Err-clause-put

@@ -2,12 +2,14 @@ use Rattle.std.proofs.Common.{◌≡◌, ◌≢◌, None, inl, inr, sym, ◌∙�
 use Rattle.call_claims.specs.Call.{call_of}
 use Rattle.call_claims.specs.Cause.{Cause, Lists}
 use Rattle.call_claims.specs.Cause.Cause.{list, no_memory}
+use Rattle.call_claims.specs.Command.{build_of}
 use Rattle.call_claims.specs.Decided.{IsDecided}
 use Rattle.call_claims.specs.Execution.{IsMadeOf}
 use Rattle.call_answers.specs.Answers.{status_of, told_of}
 use Rattle.call_answers.specs.Work.{execution_in}
 use Rattle.call_answers.specs.declared.answers.Answer.TheVariants as answer
-use Rattle.call_answers.proofs.CallLemmas.{answered, failed_put, status_caused, work_other}
+use Rattle.call_answers.proofs.CallLemmas.{answered, failed_put, fetches_counted}
+use Rattle.call_answers.proofs.CallLemmas.{puts_counted, status_caused, work_other}
 use Rattle.call_answers.proofs.CallLemmas.FailedPut.{in_work, in_telling}
 use Rattle.call_words.specs.Reading.{asked_in}
 use Rattle.top_call.specs.Call.{IsListed}
@@ -36,8 +38,8 @@ returns-clause-listed g c = λ words given.
     }) in
     let cause = status_caused work.result.answer status _ told caused_by no_memory has_cause in
     subst (λ ran. IsListed call ran _ _) (sym c.answered.ensures.ran) (record {
-      code = on_some work.result.code (IsMadeOf call file asked.settings)
-          (λ code. Lists call (λ file asked. IsMadeOf call file asked.settings code))
+      code = on_some work.result.code (IsMadeOf call file (build_of asked))
+          (λ code. Lists call (λ file asked. IsMadeOf call file (build_of asked) code))
           (λ code made. record { file = file; asked = asked; given = given; holds = made })
           (work.ensures.code words);
       no_counts = record {
@@ -85,3 +87,11 @@ returns-clause-known g c = λ e.
       given = given.1;
       holds = work.ensures.cause words d;
     })) (λ f. omega (arith, e, f))) e
+
+pub returns-clause-fetches : goal.returns-clause-fetches
+returns-clause-fetches g c =
+    fetches_counted c.list_file-work.result.answer _ _ c.answered.ensures.told _ _ c.list_file-work.ensures.fetches
+
+pub returns-clause-puts : goal.returns-clause-puts
+returns-clause-puts g c =
+    puts_counted c.list_file-work.result.answer _ _ c.answered.ensures.told _ _ c.list_file-work.ensures.puts
