@@ -25,7 +25,8 @@ use Rattle.zpl_bound.specs.Faults.{Holds as HoldsBound}
 use Rattle.call_claims.specs.Refusal.{IsFault, placed_text}
 use Rattle.call_claims.specs.Refusal.IsFault.{lexical, syntax, too_deep, judged}
 use Rattle.call_claims.specs.Texts.{bind_name, judged_name, settings_text}
-use Rattle.mean_claims.specs.Text.{IsAccepted, IsFaulty, HasUnbound}
+use Rattle.call_claims.specs.Accepted.{IsAccepted, IsFaulty}
+use Rattle.mean_claims.specs.Text.{IsUnboundWith}
 use Rattle.call_answers.specs.Refusals.{of_lex, of_parse, of_judge, of_bind}
 use Rattle.call_answers.specs.declared.refusals.Refusal.{Refusal}
 use Rattle.call_answers.specs.declared.refusals.Refusal.TheVariants.{Lex, Parse, Judge, Bind}
@@ -43,11 +44,11 @@ NotBoth = (text : List ℕ) (tokens found : List Token) (fault : LexFault) → I
     → HasFault text found fault → ⊥
 
 -- the fault that a `?` passes on
-pub passed_on : {A : Type 0} (text : List ℕ) (settings : List Setting) (r : Result A Refusal)
-    (refusal : Refusal) → IsErrAnd r (λ f. f ≡ refusal) → IsUnread text settings refusal
-    → IfErr r (IsUnread text settings)
-passed_on text settings (Ok v) refusal is h = tt
-passed_on text settings (Err f) refusal is h = subst (IsUnread text settings) (sym is) h
+pub passed_on : {A : Type 0} (text : List ℕ) (r : Result A Refusal)
+    (refusal : Refusal) → IsErrAnd r (λ f. f ≡ refusal) → IsUnread text refusal
+    → IfErr r (IsUnread text)
+passed_on text (Ok v) refusal is h = tt
+passed_on text (Err f) refusal is h = subst (IsUnread text) (sym is) h
 
 pub passed_up : {A : Type 0} (text : List ℕ) (settings : List Setting) (r : Result A Refusal)
     (refusal : Refusal) → IsErrAnd r (λ f. f ≡ refusal) → IsRejected text settings refusal
@@ -56,11 +57,11 @@ passed_up text settings (Ok v) refusal is h = tt
 passed_up text settings (Err f) refusal is h = subst (IsRejected text settings) (sym is) h
 
 -- ---- tokens
-pub lexical_refused : (text : List ℕ) (settings : List Setting) (old new : List Token)
+pub lexical_refused : (text : List ℕ) (old new : List Token)
     (fault : LexFault) → NotBoth → old ≡ [] → Appends old new (LexRefuses text fault)
-    → IsUnread text settings (of_lex fault)
-lexical_refused text settings old new lex.NoMemory not_both empty appends = tt
-lexical_refused text settings old new fault not_both empty appends = (
+    → IsUnread text (of_lex fault)
+lexical_refused text old new lex.NoMemory not_both empty appends = tt
+lexical_refused text old new fault not_both empty appends = (
   λ tokens program of_text tree. not_both text tokens appends.tokens fault of_text appends.holds,
   lexical appends.tokens fault appends.holds,
 )
@@ -76,28 +77,28 @@ none_read text tokens r fault same one_way of_text exact is not_memory others tr
     (exact tree (subst (λ ts. IsShallowTree text ts tree) (one_way text others tokens also of_text)
     shallow)))
 
-pub parse_refused : {A : Type 0} (text : List ℕ) (settings : List Setting) (tokens : List Token)
+pub parse_refused : {A : Type 0} (text : List ℕ) (tokens : List Token)
     (r : Result A ParseFault) (fault : ParseFault) (same : Program → A → Type 0) → OneWay
     → IsTokens text tokens
     → ((tree : Program) → IsShallowTree text tokens tree → Reads r (same tree)) → r ≡ Err fault
     → ((at : ℕ) → r ≡ Err (parse.Syntax at) → IsSyntaxFault text tokens at)
-    → (r ≡ Err parse.TooDeep → IsTooDeep text tokens) → IsUnread text settings (of_parse fault)
-parse_refused text settings tokens r (parse.Syntax at) same one_way of_text exact is wrong deep = (
+    → (r ≡ Err parse.TooDeep → IsTooDeep text tokens) → IsUnread text (of_parse fault)
+parse_refused text tokens r (parse.Syntax at) same one_way of_text exact is wrong deep = (
   none_read text tokens r (parse.Syntax at) same one_way of_text exact is (λ no. no),
   syntax tokens at of_text (wrong at is),
 )
-parse_refused text settings tokens r parse.TooDeep same one_way of_text exact is wrong deep = (
+parse_refused text tokens r parse.TooDeep same one_way of_text exact is wrong deep = (
   none_read text tokens r parse.TooDeep same one_way of_text exact is (λ no. no),
   too_deep tokens of_text (deep is),
 )
-parse_refused text settings tokens r parse.NoMemory same one_way of_text exact is wrong deep = tt
+parse_refused text tokens r parse.NoMemory same one_way of_text exact is wrong deep = tt
 
 -- ---- names, ranks and types
 module _ (text : List ℕ) (settings : List Setting) (tokens : List Token) (program : Program)
     (one_way : OneWay) (of_text : IsTokens text tokens) (tree : IsShallowTree text tokens program)
     (only : IsOnlyTree text tokens program) where
   judged_as : (kind : FaultKind) (at : ℕ) → HasJudgeFault program kind at
-      → IsFaulty text × IsFault text settings (placed_text text (judged_name kind) at)
+      → IsFaulty text × IsFault text (placed_text text (judged_name kind) at)
   judged_as kind at holds = (
     λ other accepted. accepted.faultless kind at
         (subst (λ p. HasJudgeFault p kind at)
@@ -132,7 +133,7 @@ module _ (text : List ℕ) (settings : List Setting) (tokens : List Token) (prog
 module _ (text : List ℕ) (settings : List Setting) (program : Program)
     (accepted : IsAccepted text program) where
   unbound_as : (fault : BindFault) → HasBindFault program settings fault
-      → (kind : BindFault) × HasUnbound text settings kind
+      → (kind : BindFault) × IsUnboundWith text settings kind
       × (settings_text (bind_name fault) ≡ settings_text (bind_name kind))
   unbound_as fault holds =
       (fault, record { program = program; accepted = accepted; holds = holds }, refl)
@@ -149,7 +150,7 @@ module _ (text : List ℕ) (settings : List Setting) (program : Program)
 
 -- ---- all of it
 pub unread_is_refused : (text : List ℕ) (settings : List Setting) (refusal : Refusal)
-    → IsUnread text settings refusal → IsRefused text settings refusal
+    → IsUnread text refusal → IsRefused text settings refusal
 unread_is_refused text settings (Lex fault) h = h
 unread_is_refused text settings (Parse fault) h = h
 unread_is_refused text settings (Judge fault) h = absurd h
@@ -167,7 +168,7 @@ rejected_is_refused text settings NotBuilt h = h
 rejected_is_refused text settings NoMemory h = tt
 
 pub refused_on : {A : Type 0} (text : List ℕ) (settings : List Setting) (r : Result A Refusal)
-    (refusal : Refusal) → IsErrAnd r (λ f. f ≡ refusal) → IsUnread text settings refusal
+    (refusal : Refusal) → IsErrAnd r (λ f. f ≡ refusal) → IsUnread text refusal
     → IfErr r (IsRefused text settings)
 refused_on text settings (Ok v) refusal is h = tt
 refused_on text settings (Err f) refusal is h =

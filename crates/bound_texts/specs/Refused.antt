@@ -8,7 +8,8 @@ use Rattle.zpl_binding.specs.Outcome.{BindFault}
 use Rattle.zpl_binding.specs.Settings.{Setting}
 use Rattle.call_claims.specs.Refusal.{IsFault}
 use Rattle.call_claims.specs.Texts.{bind_name, settings_text}
-use Rattle.mean_claims.specs.Text.{IsFaulty, HasUnbound}
+use Rattle.call_claims.specs.Accepted.{IsFaulty}
+use Rattle.mean_claims.specs.Text.{IsUnboundWith}
 use Rattle.call_answers.specs.declared.refusals.Refusal.{Refusal}
 use Rattle.call_answers.specs.declared.refusals.Refusal.TheVariants.{Lex, Parse, Judge, Bind, NotBuilt}
 use Rattle.call_answers.specs.declared.refusals.Refusal.TheVariants.{NoMemory}
@@ -26,15 +27,15 @@ IsOnlyTree text tokens program =
 
 -- The text has no tokens, or no tree that isn't too deep, and the fault that is told; or memory was
 -- wanting.
-abbrev pub IsUnread : List ℕ → List Setting → Refusal → Type 0
-IsUnread text settings (Lex fault) =
-    IsTreeless text × IsFault text settings (told_of text (Lex fault))
-IsUnread text settings (Parse fault) =
-    IsTreeless text × IsFault text settings (told_of text (Parse fault))
-IsUnread text settings (Judge fault) = ⊥
-IsUnread text settings (Bind fault) = ⊥
-IsUnread text settings NotBuilt = ⊥
-IsUnread text settings NoMemory = ⊤
+abbrev pub IsUnread : List ℕ → Refusal → Type 0
+IsUnread text (Lex fault) =
+    IsTreeless text × IsFault text (told_of text (Lex fault))
+IsUnread text (Parse fault) =
+    IsTreeless text × IsFault text (told_of text (Parse fault))
+IsUnread text (Judge fault) = ⊥
+IsUnread text (Bind fault) = ⊥
+IsUnread text NotBuilt = ⊥
+IsUnread text NoMemory = ⊤
 
 -- Its tree has a fault of names, ranks or types that is told; or a fault of the settings, or of its
 -- declarations under them, holds and is told; or memory was wanting.
@@ -42,17 +43,17 @@ abbrev pub IsRejected : List ℕ → List Setting → Refusal → Type 0
 IsRejected text settings (Lex fault) = ⊥
 IsRejected text settings (Parse fault) = ⊥
 IsRejected text settings (Judge fault) =
-    IsFaulty text × IsFault text settings (told_of text (Judge fault))
+    IsFaulty text × IsFault text (told_of text (Judge fault))
 IsRejected text settings (Bind fault) =
-    (kind : BindFault) × HasUnbound text settings kind
+    (kind : BindFault) × IsUnboundWith text settings kind
     × (told_of text (Bind fault) ≡ settings_text (bind_name kind))
 IsRejected text settings NotBuilt = ⊥
 IsRejected text settings NoMemory = ⊤
 
 -- It is refused so, or so.
 abbrev pub IsRefused : List ℕ → List Setting → Refusal → Type 0
-IsRefused text settings (Lex fault) = IsUnread text settings (Lex fault)
-IsRefused text settings (Parse fault) = IsUnread text settings (Parse fault)
+IsRefused text settings (Lex fault) = IsUnread text (Lex fault)
+IsRefused text settings (Parse fault) = IsUnread text (Parse fault)
 IsRefused text settings (Judge fault) = IsRejected text settings (Judge fault)
 IsRefused text settings (Bind fault) = IsRejected text settings (Bind fault)
 IsRefused text settings NotBuilt = ⊥

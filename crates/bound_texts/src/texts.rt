@@ -1,14 +1,13 @@
 //! Texts, their tokens, their trees, and what is bound.
-ghost use Rattle.std.specs.Prelude.{◌≤◌, List, length, map, string_bytes, IfOk, IfErr, OnOk};
+ghost use Rattle.std.specs.Prelude.{◌≤◌, length, map, string_bytes, IfOk, IfErr, OnOk};
 ghost use Rattle.zpl_binding.specs.Bound.{Binds, IsAcceptedWith};
-ghost use Rattle.zpl_binding.specs.Settings.{Setting};
 ghost use Rattle.zpl_text.specs.Tokens.{IsTokens};
 ghost use Rattle.zpl_text.specs.declared.TheConstants.{MOST_SOURCE};
 ghost use Rattle.zpl_tree.specs.View.{syntax_of};
 ghost use Rattle.zpl_grammar.specs.Texts.{IsShallowTree};
 ghost use Rattle.zpl_bind.specs.Lists.{bound_of};
 ghost use Rattle.call_claims.specs.Setting.{settings_among};
-ghost use Rattle.mean_claims.specs.Text.{IsAccepted};
+ghost use Rattle.call_claims.specs.Accepted.{IsAccepted};
 ghost use Rattle.bound_texts.specs.Accepted.{program_of};
 ghost use Rattle.bound_texts.specs.Refused.{IsOnlyTree, IsRefused, IsRejected, IsUnread};
 
@@ -58,7 +57,7 @@ pub fn accepted_text<'a>(
 pub fn tokens_of(alloc: Global, text: &[u8]) -> Result<Vec<Token>, Refusal>
     requires { length text.now ≤ MOST_SOURCE }
     ensures tokens { IfOk result (λ tokens. IsTokens text.now tokens.items) }
-    ensures refused { (settings : List Setting) → IfErr result (IsUnread text.now settings) }
+    ensures refused { IfErr result (IsUnread text.now) }
 {
     text_is_cut_one_way();
     let mut tokens = Vec::new(alloc);
@@ -76,7 +75,7 @@ pub fn tree_of<'a>(
     requires { IsTokens text.now tokens.now }
     ensures tree { IfOk result (λ tree. IsShallowTree text.now tokens.now (syntax_of tree.now)) }
     ensures only { IfOk result (λ tree. IsOnlyTree text.now tokens.now (syntax_of tree.now)) }
-    ensures refused { (settings : List Setting) → IfErr result (IsUnread text.now settings) }
+    ensures refused { IfErr result (IsUnread text.now) }
 {
     text_is_cut_one_way();
     let program = parse(alloc, arena, tokens, text)?;

@@ -1,20 +1,57 @@
 -- Answers by their statuses.
 use Rattle.std.proofs.Common.{◌≡◌, ◌≢◌, ℕ, ◌⊎◌, refl, sym, ◌∙◌, ap, inl, inr, arith}
 use Rattle.call_claims.specs.Decided.{IsDecided}
-use Rattle.call_claims.specs.declared.status.TheConstants.{DONE, PUT_FAILED}
+use Rattle.call_claims.specs.declared.status.TheConstants.{PUT_FAILED, USAGE}
+use Rattle.call_answers.specs.Answers.{status_of, stop_status}
 use Rattle.call_answers.specs.declared.answers.Answer.{Answer}
 use Rattle.call_answers.specs.declared.answers.Answer.TheVariants as answer
-use Rattle.call_answers.specs.Answers.{status_of}
+use Rattle.call_answers.specs.declared.answers.Stop.{Stop}
+use Rattle.call_answers.specs.declared.answers.Stop.TheVariants as stop
+
+-- the status of how work stopped is that of no failed put, nor of want of memory, nor of words that
+-- are no command
+record IsOther (n : ℕ) : Type 0 where
+  put : n ≢ 9
+  memory : n ≢ 10
+  usage : n ≢ 1
+
+stopped_other : (s : Stop) → IsOther (stop_status s)
+stopped_other stop.Done =
+    record { put = λ e. omega arith; memory = λ e. omega arith; usage = λ e. omega arith }
+stopped_other (stop.Trap kind line) =
+    record { put = λ e. omega arith; memory = λ e. omega arith; usage = λ e. omega arith }
+stopped_other stop.TurnLimit =
+    record { put = λ e. omega arith; memory = λ e. omega arith; usage = λ e. omega arith }
+stopped_other (stop.Stuck p kind) =
+    record { put = λ e. omega arith; memory = λ e. omega arith; usage = λ e. omega arith }
 
 -- the status of a failed put is that answer's alone
 pub failed_of : (a : Answer) → status_of a ≡ PUT_FAILED → a ≡ answer.PutFailed
 failed_of answer.PutFailed e = refl
-failed_of a e = absurd (omega arith)
+failed_of (answer.Stopped s report) e = absurd ((stopped_other s).put e)
+failed_of answer.Usage e = absurd (omega arith)
+failed_of (answer.Unreadable file) e = absurd (omega arith)
+failed_of (answer.TooLong file) e = absurd (omega arith)
+failed_of (answer.Refused refusal line) e = absurd (omega arith)
+failed_of (answer.Unbound fault) e = absurd (omega arith)
+failed_of (answer.BadLine line) e = absurd (omega arith)
+failed_of (answer.BadTable line) e = absurd (omega arith)
+failed_of (answer.BadItem at) e = absurd (omega arith)
+failed_of answer.NoMemory e = absurd (omega arith)
 
--- and that of work that was done
-pub done_of : (a : Answer) → status_of a ≡ DONE → a ≡ answer.Done
-done_of answer.Done e = refl
-done_of a e = absurd (omega arith)
+-- and so is that of words that are no command
+pub usage_of : (a : Answer) → status_of a ≡ USAGE → a ≡ answer.Usage
+usage_of answer.Usage e = refl
+usage_of (answer.Stopped s report) e = absurd ((stopped_other s).usage e)
+usage_of answer.PutFailed e = absurd (omega arith)
+usage_of (answer.Unreadable file) e = absurd (omega arith)
+usage_of (answer.TooLong file) e = absurd (omega arith)
+usage_of (answer.Refused refusal line) e = absurd (omega arith)
+usage_of (answer.Unbound fault) e = absurd (omega arith)
+usage_of (answer.BadLine line) e = absurd (omega arith)
+usage_of (answer.BadTable line) e = absurd (omega arith)
+usage_of (answer.BadItem at) e = absurd (omega arith)
+usage_of answer.NoMemory e = absurd (omega arith)
 
 -- an answer is a failed put, want of memory, or decided
 pub data Kind (a : Answer) : Type 0 where
@@ -29,7 +66,23 @@ decided_by a put memory = is_decided (λ e. put (ap status_of e))
 pub kind_of : (a : Answer) → Kind a
 kind_of answer.PutFailed = is_failed refl
 kind_of answer.NoMemory = is_wanting refl
-kind_of a = decided_by a (λ e. omega arith) (λ e. omega arith)
+kind_of (answer.Stopped s report) =
+    decided_by (answer.Stopped s report) (stopped_other s).put (stopped_other s).memory
+kind_of answer.Usage = decided_by answer.Usage (λ e. omega arith) (λ e. omega arith)
+kind_of (answer.Unreadable file) =
+    decided_by (answer.Unreadable file) (λ e. omega arith) (λ e. omega arith)
+kind_of (answer.TooLong file) =
+    decided_by (answer.TooLong file) (λ e. omega arith) (λ e. omega arith)
+kind_of (answer.Refused refusal line) =
+    decided_by (answer.Refused refusal line) (λ e. omega arith) (λ e. omega arith)
+kind_of (answer.Unbound fault) =
+    decided_by (answer.Unbound fault) (λ e. omega arith) (λ e. omega arith)
+kind_of (answer.BadLine line) =
+    decided_by (answer.BadLine line) (λ e. omega arith) (λ e. omega arith)
+kind_of (answer.BadTable line) =
+    decided_by (answer.BadTable line) (λ e. omega arith) (λ e. omega arith)
+kind_of (answer.BadItem at) =
+    decided_by (answer.BadItem at) (λ e. omega arith) (λ e. omega arith)
 
 pub failed_or : (a : Answer) → (a ≡ answer.PutFailed) ⊎ (a ≢ answer.PutFailed)
 failed_or a = elim (kind_of a) [

@@ -1,54 +1,112 @@
--- The answers of the program: their statuses, and what is told of them.
-use Rattle.std.specs.Prelude.{◌≡◌, ℕ, ◌⊎◌, List, []}
-use Rattle.zpl_io.specs.Sink.{TakesFront}
+-- The answers of calls: their statuses, and what is told of them.
+--
+--   status_of      the status that the program ends with
+--   told_of        what is told on the stream for errors: a text, and the report behind it
+--   NeedsNoMemory  answers of which that takes no memory
+--   answer_of      the answer of a text's refusal
+use Rattle.std.specs.Prelude.{◌≡◌, ℕ, List, [], ◌++◌, codes, Option, Some, None, ⊤}
 use Rattle.zpl_text.specs.Lines.{line_at}
-use Rattle.call_claims.specs.Texts.{usage_text, unreadable_text, too_long_text, trap_text}
 use Rattle.zpl_bind.specs.Fault.{fault_name}
+use Rattle.grid_sim.specs.declared.counts.Counts.{Counts}
+use Rattle.grid_sim.specs.StuckKind.{StuckKind}
+use Rattle.grid_sim.specs.StuckKind.TheVariants as kind
+use Rattle.call_claims.specs.Texts.{usage_text, unreadable_text, too_long_text, trap_text}
 use Rattle.call_claims.specs.Texts.{settings_text, turn_limit_text, no_memory_text}
 use Rattle.call_claims.specs.declared.status.TheConstants.{DONE, USAGE, UNREADABLE, TOO_LONG}
 use Rattle.call_claims.specs.declared.status.TheConstants.{REFUSED, UNBOUND, TRAPPED, TURN_LIMIT}
 use Rattle.call_claims.specs.declared.status.TheConstants.{PUT_FAILED, NO_MEMORY}
+use Rattle.exec_claims.specs.Texts.{order_refused_text, listing_refused_text, report_text, stuck_text}
+use Rattle.exec_claims.specs.declared.status.TheConstants.{ORDER_REFUSED, LISTING_REFUSED, STUCK}
 use Rattle.call_answers.specs.declared.answers.Answer.{Answer}
 use Rattle.call_answers.specs.declared.answers.Answer.TheVariants as answer
-use Rattle.call_answers.specs.declared.answers.Piece.{Piece}
-use Rattle.call_answers.specs.declared.answers.Piece.TheVariants.{Fixed, Made}
+use Rattle.call_answers.specs.declared.answers.Stop.{Stop}
+use Rattle.call_answers.specs.declared.answers.Stop.TheVariants as stop
+use Rattle.call_answers.specs.declared.telling.Piece.{Piece}
+use Rattle.call_answers.specs.declared.telling.Piece.TheVariants.{Fixed, Made}
 use Rattle.call_answers.specs.declared.refusals.Refusal.{Refusal}
 use Rattle.call_answers.specs.declared.refusals.Refusal.TheVariants.{Lex, Parse, Judge, Bind, NotBuilt}
 use Rattle.call_answers.specs.declared.refusals.Refusal.TheVariants.{NoMemory}
 use Rattle.call_answers.specs.Refusals.{offset_of, refusal_text}
 
+-- ---- how work stopped
+abbrev pub stop_status : Stop → ℕ
+stop_status stop.Done = DONE
+stop_status (stop.Trap kind line) = TRAPPED
+stop_status stop.TurnLimit = TURN_LIMIT
+stop_status (stop.Stuck p kind) = STUCK
+
+-- how it is called that a processor is stuck, or that none can move
+abbrev pub kind_text : StuckKind → List ℕ
+kind_text kind.Tag = codes "Tag"
+kind_text kind.Length = codes "Length"
+kind_text kind.Unheld = codes "Unheld"
+kind_text kind.Idle = codes "Idle"
+
+abbrev pub stop_text : Stop → List ℕ
+stop_text stop.Done = []
+stop_text (stop.Trap kind line) = trap_text kind line
+stop_text stop.TurnLimit = turn_limit_text
+stop_text (stop.Stuck p kind) = stuck_text p (kind_text kind)
+
+-- the counts, where they are to be told
+abbrev pub counts_text : Option Counts → List ℕ
+counts_text None = []
+counts_text (Some counts) = report_text counts.turns counts.sends counts.words
+
+-- ---- answers
 -- the status that the program ends with
 abbrev pub status_of : Answer → ℕ
-status_of answer.Done = DONE
 status_of answer.Usage = USAGE
 status_of (answer.Unreadable file) = UNREADABLE
 status_of (answer.TooLong file) = TOO_LONG
 status_of (answer.Refused refusal line) = REFUSED
 status_of (answer.Unbound fault) = UNBOUND
-status_of (answer.Trap kind line) = TRAPPED
-status_of answer.TurnLimit = TURN_LIMIT
+status_of (answer.BadLine line) = LISTING_REFUSED
+status_of (answer.BadTable line) = LISTING_REFUSED
+status_of (answer.BadItem at) = ORDER_REFUSED
+status_of (answer.Stopped stop report) = stop_status stop
 status_of answer.PutFailed = PUT_FAILED
 status_of answer.NoMemory = NO_MEMORY
 
--- what is told on the stream for errors
+-- what is told on the stream for errors: a text, and the report behind it
 abbrev pub text_of : Answer → List ℕ
-text_of answer.Done = []
 text_of answer.Usage = usage_text
 text_of (answer.Unreadable file) = unreadable_text file.now
 text_of (answer.TooLong file) = too_long_text file.now
 text_of (answer.Refused refusal line) = refusal_text refusal line
 text_of (answer.Unbound fault) = settings_text (fault_name fault)
-text_of (answer.Trap kind line) = trap_text kind line
-text_of answer.TurnLimit = turn_limit_text
+text_of (answer.BadLine line) = listing_refused_text (codes "BadLine") line
+text_of (answer.BadTable line) = listing_refused_text (codes "BadTable") line
+text_of (answer.BadItem at) = order_refused_text at
+text_of (answer.Stopped stop report) = stop_text stop
 text_of answer.PutFailed = []
 text_of answer.NoMemory = no_memory_text
+
+abbrev pub report_of : Answer → List ℕ
+report_of (answer.Stopped stop report) = counts_text report
+report_of a = []
+
+abbrev pub told_of : Answer → List ℕ
+told_of (answer.Stopped stop report) = stop_text stop ++ counts_text report
+told_of a = text_of a
 
 -- the bytes of a piece
 abbrev pub bytes_of : Piece → List ℕ
 bytes_of (Fixed bytes) = bytes.now
 bytes_of (Made bytes) = bytes.items
 
--- the answer of a text's refusal
+-- ---- answers whose pieces stand in the program
+abbrev pub StopNeedsNoMemory : Stop → Type 0
+StopNeedsNoMemory stop.Done = ⊤
+StopNeedsNoMemory stop.TurnLimit = ⊤
+StopNeedsNoMemory s = ⊥
+
+abbrev pub NeedsNoMemory : Answer → Type 0
+NeedsNoMemory answer.Usage = ⊤
+NeedsNoMemory (answer.Stopped stop report) = StopNeedsNoMemory stop × (report ≡ None)
+NeedsNoMemory a = ⊥
+
+-- ---- the answer of a text's refusal
 abbrev pub answer_of : List ℕ → Refusal → Answer
 answer_of text NoMemory = answer.NoMemory
 answer_of text (Lex fault) = answer.Refused (Lex fault) (line_at text (offset_of (Lex fault)))
@@ -58,9 +116,3 @@ answer_of text (Judge fault) =
     answer.Refused (Judge fault) (line_at text (offset_of (Judge fault)))
 answer_of text (Bind fault) = answer.Unbound fault
 answer_of text NotBuilt = answer.Refused NotBuilt (line_at text (offset_of NotBuilt))
-
--- what was tried to tell of an answer: that answer, or that memory was wanting
-pub record IsHalfTold (a : Answer) (before after : List ℕ → Type 0) : Type 0 where
-  pub tried : Answer
-  pub is : (tried ≡ a) ⊎ (tried ≡ answer.NoMemory)
-  pub front : TakesFront before (text_of tried) after

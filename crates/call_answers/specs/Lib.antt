@@ -1,2 +1,5 @@
 pub mod Answers
+pub mod Fetched
 pub mod Refusals
+pub mod Told
+pub mod Work

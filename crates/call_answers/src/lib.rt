@@ -1,9 +1,16 @@
-//! The answers of the calls that read the text of a program: their statuses, and what is told of
-//! them on the stream for errors.
+//! The answers of all calls: their statuses, what is told of them on the stream for errors, and the
+//! files that calls fetch.
 #![tactic(auto)]
 
 mod answers;
+mod fetches;
+mod lines;
 mod refusals;
+mod telling;
+mod work;
 
-pub use answers::{Answer, told};
+pub use answers::{Answer, Stop};
+pub use fetches::text_of_file;
 pub use refusals::Refusal;
+pub use telling::told;
+pub use work::{Work, answered};

@@ -1,18 +1,18 @@
 -- A status of `list` with its cause comes just where that cause is.
-use Rattle.std.proofs.Common.{◌≡◌, ◌≢◌, ℕ, List, refl, sym, subst, arith, inl, inr}
+use Rattle.std.proofs.Common.{◌≡◌, ◌≢◌, ℕ, List, codes, refl, sym, arith, inl, inr}
 use Rattle.node_form.specs.declared.tables.Tables.{Tables}
-use Rattle.zpl_binding.specs.Settings.{Setting}
+use Rattle.zpl_claims.specs.Build.{Build}
 use Rattle.call_claims.specs.Call.{Call}
 use Rattle.call_claims.specs.Cause.{CodeCause, ListCause, IsListed, Lists, Cause, IsTooLong}
 use Rattle.call_claims.specs.Cause.CodeCause.{faulty, made}
 use Rattle.call_claims.specs.Cause.FileCause.{unreadable, too_long, work}
 use Rattle.call_claims.specs.Cause.IsListed.{listed}
-use Rattle.call_claims.specs.Cause.Cause.{usage, no_memory, list}
-use Rattle.call_claims.specs.Command.{Asked, IsNoList}
+use Rattle.call_claims.specs.Cause.Cause.{no_memory, list}
+use Rattle.call_claims.specs.Command.{Asked, ListTakes, build_of}
 use Rattle.call_claims.specs.Decided.{IsDecided, IsExact, HasNoProgramIn, HasUnboundIn}
 use Rattle.call_claims.specs.Execution.{Execution, HasCode}
-use Rattle.call_claims.specs.declared.status.TheConstants.{DONE, USAGE, TOO_LONG, REFUSED, UNBOUND}
-use Rattle.call_claims.proofs.OneLemmas.{list_is_one}
+use Rattle.call_claims.specs.declared.status.TheConstants.{DONE, TOO_LONG, REFUSED, UNBOUND}
+use Rattle.call_claims.proofs.OneLemmas.{as_asked}
 use Rattle.call_claims.proofs.ProgramLemmas.{fault_other, none_made, refused_of, unbound_of}
 use Rattle.call_claims.proofs.ProgramLemmas.{was_refused_in, was_too_long_in, was_unbound_in}
 
@@ -24,27 +24,23 @@ module _ (call : Call) (ex : Execution) where
   was_listed (listed none) = refl
 
   -- ---- of a text
-  module _ {text : List ℕ} {settings : List Setting} where
-    text_done : {n : ℕ} {told : List ℕ} → CodeCause text settings ex Does n told → n ≡ DONE
+  module _ {text : List ℕ} {build : Build} where
+    text_done : {n : ℕ} {told : List ℕ} → CodeCause text build ex Does n told → n ≡ DONE
         → HasCode ex
     text_done (faulty fault none) e = absurd (elim (fault_other fault)
         [ inl f ↦ omega (arith, e, f) | inr f ↦ omega (arith, e, f) ])
     text_done (made code of_text is does) e = record { code = code; made = is }
 
-    text_made : {n : ℕ} {told : List ℕ} → CodeCause text settings ex Does n told → HasCode ex
+    text_made : {n : ℕ} {told : List ℕ} → CodeCause text build ex Does n told → HasCode ex
         → n ≡ DONE
     text_made (faulty fault none) h = absurd (none_made ex none h.made)
     text_made (made code of_text is does) h = was_listed does
 
-    text_other : {n : ℕ} {told : List ℕ} → CodeCause text settings ex Does n told
-        → (n ≢ USAGE) × (n ≢ TOO_LONG)
-    text_other (faulty fault none) = elim (fault_other fault) [
-      | inl f ↦ (λ e. omega (arith, e, f), λ e. omega (arith, e, f))
-      | inr f ↦ (λ e. omega (arith, e, f), λ e. omega (arith, e, f))
-    ]
-    text_other (made code of_text is does) =
-        let done = was_listed does in
-        (λ e. omega (arith, e, done), λ e. omega (arith, e, done))
+    text_short : {n : ℕ} {told : List ℕ} → CodeCause text build ex Does n told → n ≢ TOO_LONG
+    text_short (faulty fault none) = elim (fault_other fault)
+        [ inl f ↦ λ e. omega (arith, e, f) | inr f ↦ λ e. omega (arith, e, f) ]
+    text_short (made code of_text is does) =
+        let done = was_listed does in λ e. omega (arith, e, done)
 
   -- ---- of a file
   module _ (file : List ℕ) (asked : Asked) where
@@ -64,12 +60,7 @@ module _ (call : Call) (ex : Execution) where
         → IsTooLong call file
     file_long (unreadable may none) e = absurd (omega arith)
     file_long (too_long long none) e = long
-    file_long (work source cause) e = absurd ((text_other cause).1 e)
-
-    file_other : {n : ℕ} {told : List ℕ} → ListCause call file asked ex n told → n ≢ USAGE
-    file_other (unreadable may none) = λ e. omega arith
-    file_other (too_long long none) = λ e. omega arith
-    file_other (work source cause) = (text_other cause).0
+    file_long (work source cause) e = absurd (text_short cause e)
 
   done_other : (code : Tables) (n : ℕ) (told : List ℕ) → Does code n told
       → (n ≢ REFUSED) × (n ≢ UNBOUND)
@@ -78,25 +69,11 @@ module _ (call : Call) (ex : Execution) where
       (λ e. omega (arith, e, done), λ e. omega (arith, e, done))
 
   -- ---- of a call
-  -- where the words list a file, that is the file of the cause
-  moved : {Holds : List ℕ → Asked → Type 0} (file : List ℕ) (asked : Asked)
-      (given : IsNoList call.words → ⊥) → (h : Lists call Holds)
-      → (file ≡ h.file) × (asked ≡ h.asked) → Holds file asked
-  moved {Holds} file asked given h same =
-      subst (λ f. Holds f asked) (sym same.0) (subst (λ a. Holds h.file a) (sym same.1) h.holds)
-
-  as_listed : {Holds : List ℕ → Asked → Type 0} {Also : List ℕ → Asked → Type 0}
-      (l : Lists call Also) (h : Lists call Holds) → Holds l.file l.asked
-  as_listed {Holds} {Also} l h =
-      let same = list_is_one call.words l.file h.file l.asked h.asked l.given h.given in
-      moved l.file l.asked (λ none. none l.file l.asked l.given) h same
-
-  from : {n : ℕ} {told : List ℕ} (wanted : ℕ) (Holds : List ℕ → Asked → Type 0) → wanted ≢ USAGE → n ≢ 10
+  from : {n : ℕ} {told : List ℕ} (wanted : ℕ) (Holds : List ℕ → Asked → Type 0) → n ≢ 10
       → ((file : List ℕ) (asked : Asked) → ListCause call file asked ex n told → n ≡ wanted
       → Holds file asked) → Cause call ex n told → n ≡ wanted → Lists call Holds
-  from wanted Holds other memory to (usage none no_run) e = absurd (other (sym e))
-  from wanted Holds other memory to no_memory e = absurd (memory refl)
-  from wanted Holds other memory to (list l) e = record {
+  from wanted Holds memory to no_memory e = absurd (memory refl)
+  from wanted Holds memory to (list l) e = record {
     file = l.file;
     asked = l.asked;
     given = l.given;
@@ -106,55 +83,41 @@ module _ (call : Call) (ex : Execution) where
   back : {n : ℕ} {told : List ℕ} (wanted : ℕ) (Holds : List ℕ → Asked → Type 0) → IsDecided n
       → ((file : List ℕ) (asked : Asked) → ListCause call file asked ex n told
       → Holds file asked → n ≡ wanted) → Cause call ex n told → Lists call Holds → n ≡ wanted
-  back wanted Holds d to (usage none no_run) h = absurd (none h.file h.asked h.given)
   back wanted Holds d to no_memory h = absurd (d.memory refl)
-  back wanted Holds d to (list l) h = to l.file l.asked l.holds (as_listed l h)
-
-  usage_of : {n : ℕ} {told : List ℕ} → n ≢ 10 → Cause call ex n told → n ≡ USAGE → IsNoList call.words
-  usage_of memory (usage none no_run) e = none
-  usage_of memory no_memory e = absurd (memory refl)
-  usage_of memory (list l) e = absurd (file_other l.file l.asked l.holds e)
-
-  was_usage : {n : ℕ} {told : List ℕ} → IsDecided n → Cause call ex n told → IsNoList call.words → n ≡ USAGE
-  was_usage d (usage none no_run) h = refl
-  was_usage d no_memory h = absurd (d.memory refl)
-  was_usage d (list l) h = absurd (h l.file l.asked l.given)
+  back wanted Holds d to (list l) h = to l.file l.asked l.holds 
+      (as_asked (codes "list") ListTakes call.words l h)
 
 pub exactly : (call : Call) (ex : Execution) (n : ℕ) (told : List ℕ) → Cause call ex n told
     → IsExact call ex n
 exactly call ex n told cause = record {
   done = λ d. (
-    from call ex DONE (λ file asked. HasCode ex) (λ e. omega (arith, e)) d.memory
+    from call ex DONE (λ file asked. HasCode ex) d.memory
         (λ file asked c e. file_done call ex file asked c e) cause,
     back call ex DONE (λ file asked. HasCode ex) d
         (λ file asked c h. file_made call ex file asked c h) cause,
   );
-  usage = λ d. (usage_of call ex d.memory cause, was_usage call ex d cause);
   too_long = λ s. (
-    from call ex TOO_LONG (λ file asked. IsTooLong call file) (λ e. omega (arith, e))
-        s.decided.memory (λ file asked c e. file_long call ex file asked c e) cause,
+    from call ex TOO_LONG (λ file asked. IsTooLong call file) s.decided.memory (λ file asked c e. file_long call ex file asked c e) cause,
     back call ex TOO_LONG (λ file asked. IsTooLong call file) s.decided
-        (λ file asked c h. was_too_long_in call file asked.settings ex (Does call ex) (s.one file)
+        (λ file asked c h. was_too_long_in call file (build_of asked) ex (Does call ex) (s.one file)
         c s.read h) cause,
   );
   refused = λ s. (
-    from call ex REFUSED (λ file asked. HasNoProgramIn call file asked.settings)
-        (λ e. omega (arith, e)) s.decided.memory
-        (λ file asked c e. refused_of call file asked.settings ex (Does call ex)
+    from call ex REFUSED (λ file asked. HasNoProgramIn call file (build_of asked)) s.decided.memory
+        (λ file asked c e. refused_of call file (build_of asked) ex (Does call ex)
         (λ code m t does. let o = done_other call ex code m t does in
         record { refused = o.0; unbound = o.1 }) c e) cause,
-    back call ex REFUSED (λ file asked. HasNoProgramIn call file asked.settings) s.decided
-        (λ file asked c h. was_refused_in call file asked.settings ex (Does call ex) (s.one file)
+    back call ex REFUSED (λ file asked. HasNoProgramIn call file (build_of asked)) s.decided
+        (λ file asked c h. was_refused_in call file (build_of asked) ex (Does call ex) (s.one file)
         c s.read h) cause,
   );
   unbound = λ s. (
-    from call ex UNBOUND (λ file asked. HasUnboundIn call file asked.settings)
-        (λ e. omega (arith, e)) s.decided.memory
-        (λ file asked c e. unbound_of call file asked.settings ex (Does call ex)
+    from call ex UNBOUND (λ file asked. HasUnboundIn call file (build_of asked)) s.decided.memory
+        (λ file asked c e. unbound_of call file (build_of asked) ex (Does call ex)
         (λ code m t does. let o = done_other call ex code m t does in
         record { refused = o.0; unbound = o.1 }) c e) cause,
-    back call ex UNBOUND (λ file asked. HasUnboundIn call file asked.settings) s.decided
-        (λ file asked c h. was_unbound_in call file asked.settings ex (Does call ex) (s.one file)
+    back call ex UNBOUND (λ file asked. HasUnboundIn call file (build_of asked)) s.decided
+        (λ file asked c h. was_unbound_in call file (build_of asked) ex (Does call ex) (s.one file)
         c s.read h) cause,
   );
 }

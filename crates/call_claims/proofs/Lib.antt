@@ -1,3 +1,4 @@
 pub mod CauseLemmas
+pub mod MetLemmas
 pub mod OneLemmas
 pub mod ProgramLemmas

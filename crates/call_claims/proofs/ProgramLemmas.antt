@@ -1,7 +1,7 @@
 -- Of a program's file: when its status is the file's, or that of its text.
 use Rattle.std.proofs.Common.{◌≡◌, ◌≢◌, ℕ, ◌⊎◌, List, length, Some, None, refl, sym, ◌∙◌, ap, subst, arith, inl, inr}
 use Rattle.node_form.specs.declared.tables.Tables.{Tables}
-use Rattle.zpl_binding.specs.Settings.{Setting}
+use Rattle.zpl_claims.specs.Build.{Build}
 use Rattle.call_claims.specs.Call.{Call}
 use Rattle.call_claims.specs.Cause.{TextFault, CodeCause, ProgramCause, IsTooLong}
 use Rattle.call_claims.specs.Cause.TextFault.{refused, unbound}
@@ -22,37 +22,37 @@ pub one_made : (execution : Execution) {code other : Tables} → execution.code 
 one_made execution {code} {other} e f = let same : Some code ≡ Some other = sym e ∙ f in cc
 
 -- code is made of texts without such faults
-pub has_program : {text : List ℕ} {settings : List Setting} {code : Tables}
-    → IsCodeOf text settings code → ¬ HasNoProgram text settings
+pub has_program : {text : List ℕ} {build : Build} {code : Tables}
+    → IsCodeOf text build code → ¬ HasNoProgram text build
 has_program of_text none = none of_text.program of_text.small
 
 -- ---- what is wrong with a text
-module _ {text : List ℕ} {settings : List Setting} where
-  fault_none : {n : ℕ} {told : List ℕ} → TextFault text settings n told → HasNoProgram text settings
+module _ {text : List ℕ} {build : Build} where
+  fault_none : {n : ℕ} {told : List ℕ} → TextFault text build n told → HasNoProgram text build
   fault_none (refused told is) = is.none
   fault_none (unbound told is) = is.none
 
-  fault_refused : {n : ℕ} {told : List ℕ} → TextFault text settings n told → n ≡ REFUSED
-      → IsRefused text settings
+  fault_refused : {n : ℕ} {told : List ℕ} → TextFault text build n told → n ≡ REFUSED
+      → IsRefused text build
   fault_refused (refused told is) e = record { none = is.none; not_unbound = is.not_unbound }
   fault_refused (unbound told is) e = absurd (omega arith)
 
-  was_refused : {n : ℕ} {told : List ℕ} → TextFault text settings n told → IsRefused text settings
+  was_refused : {n : ℕ} {told : List ℕ} → TextFault text build n told → IsRefused text build
       → n ≡ REFUSED
   was_refused (refused told is) h = refl
   was_refused (unbound told is) h = absurd (h.not_unbound (told, is))
 
-  fault_unbound : {n : ℕ} {told : List ℕ} → TextFault text settings n told → n ≡ UNBOUND
-      → HasUnbound text settings
+  fault_unbound : {n : ℕ} {told : List ℕ} → TextFault text build n told → n ≡ UNBOUND
+      → HasUnbound text build
   fault_unbound (refused told is) e = absurd (omega arith)
   fault_unbound (unbound told is) e = (told, is)
 
-  was_unbound : {n : ℕ} {told : List ℕ} → TextFault text settings n told → HasUnbound text settings
+  was_unbound : {n : ℕ} {told : List ℕ} → TextFault text build n told → HasUnbound text build
       → n ≡ UNBOUND
   was_unbound (refused told is) h = absurd (is.not_unbound h)
   was_unbound (unbound told is) h = refl
 
-  pub fault_other : {n : ℕ} {told : List ℕ} → TextFault text settings n told
+  pub fault_other : {n : ℕ} {told : List ℕ} → TextFault text build n told
       → (n ≡ REFUSED) ⊎ (n ≡ UNBOUND)
   fault_other (refused told is) = inl refl
   fault_other (unbound told is) = inr refl
@@ -72,7 +72,7 @@ text_short call file one long source =
     ap length (one long.text source.text long.told source.told) in
     omega (arith, same, long.long, source.short)
 
-module _ (call : Call) (file : List ℕ) (settings : List Setting) (execution : Execution)
+module _ (call : Call) (file : List ℕ) (build : Build) (execution : Execution)
     (Does : Tables → ℕ → List ℕ → Type 0) where
   -- ---- what is done with the code has another status
   pub record IsOther (n : ℕ) : Type 0 where
@@ -84,59 +84,59 @@ module _ (call : Call) (file : List ℕ) (settings : List Setting) (execution : 
 
   module _ (other : DoesOther) where
     text_refused : (text : List ℕ) {n : ℕ} {told : List ℕ}
-        → CodeCause text settings execution Does n told → n ≡ REFUSED → IsRefused text settings
+        → CodeCause text build execution Does n told → n ≡ REFUSED → IsRefused text build
     text_refused text (faulty fault none) e = fault_refused fault e
     text_refused text (made code of_text is does) e = absurd ((other code _ _ does).refused e)
 
-    pub refused_of : {n : ℕ} {told : List ℕ} → ProgramCause call file settings execution Does n told
-        → n ≡ REFUSED → HasNoProgramIn call file settings
+    pub refused_of : {n : ℕ} {told : List ℕ} → ProgramCause call file build execution Does n told
+        → n ≡ REFUSED → HasNoProgramIn call file build
     refused_of (unreadable may none) e = absurd (omega arith)
     refused_of (too_long long none) e = absurd (omega arith)
     refused_of (work source cause) e = (source, text_refused source.text cause e)
 
     text_unbound : (text : List ℕ) {n : ℕ} {told : List ℕ}
-        → CodeCause text settings execution Does n told → n ≡ UNBOUND → HasUnbound text settings
+        → CodeCause text build execution Does n told → n ≡ UNBOUND → HasUnbound text build
     text_unbound text (faulty fault none) e = fault_unbound fault e
     text_unbound text (made code of_text is does) e = absurd ((other code _ _ does).unbound e)
 
-    pub unbound_of : {n : ℕ} {told : List ℕ} → ProgramCause call file settings execution Does n told
-        → n ≡ UNBOUND → HasUnboundIn call file settings
+    pub unbound_of : {n : ℕ} {told : List ℕ} → ProgramCause call file build execution Does n told
+        → n ≡ UNBOUND → HasUnboundIn call file build
     unbound_of (unreadable may none) e = absurd (omega arith)
     unbound_of (too_long long none) e = absurd (omega arith)
     unbound_of (work source cause) e = (source, text_unbound source.text cause e)
 
   -- ---- back
   text_was_refused : (text : List ℕ) {n : ℕ} {told : List ℕ}
-      → CodeCause text settings execution Does n told → IsRefused text settings → n ≡ REFUSED
+      → CodeCause text build execution Does n told → IsRefused text build → n ≡ REFUSED
   text_was_refused text (faulty fault none) h = was_refused fault h
   text_was_refused text (made code of_text is does) h = absurd (has_program of_text h.none)
 
   text_was_unbound : (text : List ℕ) {n : ℕ} {told : List ℕ}
-      → CodeCause text settings execution Does n told → HasUnbound text settings → n ≡ UNBOUND
+      → CodeCause text build execution Does n told → HasUnbound text build → n ≡ UNBOUND
   text_was_unbound text (faulty fault none) h = was_unbound fault h
   text_was_unbound text (made code of_text is does) h = absurd (has_program of_text h.1.none)
 
   module _ (one : TellsOne call file) where
     pub was_refused_in : {n : ℕ} {told : List ℕ}
-        → ProgramCause call file settings execution Does n told → n ≢ UNREADABLE
-        → HasNoProgramIn call file settings → n ≡ REFUSED
+        → ProgramCause call file build execution Does n told → n ≢ UNREADABLE
+        → HasNoProgramIn call file build → n ≡ REFUSED
     was_refused_in (unreadable may none) read h = absurd (read refl)
     was_refused_in (too_long long none) read h = absurd (text_short call file one long h.0)
     was_refused_in (work source cause) read h =
         text_was_refused source.text cause
-        (subst (λ t. IsRefused t settings) (texts_same call file one h.0 source) h.1)
+        (subst (λ t. IsRefused t build) (texts_same call file one h.0 source) h.1)
 
     pub was_unbound_in : {n : ℕ} {told : List ℕ}
-        → ProgramCause call file settings execution Does n told → n ≢ UNREADABLE
-        → HasUnboundIn call file settings → n ≡ UNBOUND
+        → ProgramCause call file build execution Does n told → n ≢ UNREADABLE
+        → HasUnboundIn call file build → n ≡ UNBOUND
     was_unbound_in (unreadable may none) read h = absurd (read refl)
     was_unbound_in (too_long long none) read h = absurd (text_short call file one long h.0)
     was_unbound_in (work source cause) read h =
         text_was_unbound source.text cause
-        (subst (λ t. HasUnbound t settings) (texts_same call file one h.0 source) h.1)
+        (subst (λ t. HasUnbound t build) (texts_same call file one h.0 source) h.1)
 
     pub was_too_long_in : {n : ℕ} {told : List ℕ}
-        → ProgramCause call file settings execution Does n told → n ≢ UNREADABLE
+        → ProgramCause call file build execution Does n told → n ≢ UNREADABLE
         → IsTooLong call file → n ≡ TOO_LONG
     was_too_long_in (unreadable may none) read h = absurd (read refl)
     was_too_long_in (too_long long none) read h = refl

@@ -2,25 +2,23 @@
 use Rattle.std.specs.Prelude.{◌≡◌, ℕ, ◌<◌, ◌≤◌, List}
 use Rattle.zpl_io.specs.Faults.{last_count, Rose}
 use Rattle.zpl_io.specs.Sink.{Takes, TakesFront}
-use Rattle.call_claims.specs.declared.ran.Ran.{Ran}
-use Rattle.call_claims.specs.Call.{Call}
-use Rattle.call_claims.specs.Cause.{Cause}
 use Rattle.call_claims.specs.Decided.{IsDecided}
-use Rattle.call_claims.specs.Execution.{execution_of}
 use Rattle.call_claims.specs.declared.status.TheConstants.{UNREADABLE, PUT_FAILED}
 
 -- The status has its cause, and the stream for errors took its text.
-pub record IsAnswered (call : Call) (ran : Ran) (before after : List ℕ → Type 0) : Type 0 where
+pub record IsAnswered (Caused : ℕ → List ℕ → Type 0) (status : ℕ) (before after : List ℕ → Type 0)
+    : Type 0 where
   pub text : List ℕ
-  pub cause : Cause call (execution_of ran) ran.status text
+  pub cause : Caused status text
   pub told : Takes before text after
 
 -- Some status has its cause, and the stream for errors took a front of its text.
-pub record IsHalfAnswered (call : Call) (ran : Ran) (before after : List ℕ → Type 0) : Type 0 where
-  pub status : ℕ
-  pub text : List ℕ
-  pub cause : Cause call (execution_of ran) status text
-  pub front : TakesFront before text after
+pub record IsHalfAnswered (Caused : ℕ → List ℕ → Type 0) (before after : List ℕ → Type 0) : Type 0
+  where
+    pub status : ℕ
+    pub text : List ℕ
+    pub cause : Caused status text
+    pub front : TakesFront before text after
 
 -- The count of failed fetches in a call rises where the status is that of one, and elsewhere only
 -- where a put failed too or memory was wanting.

@@ -1,62 +1,72 @@
--- What words behind a file ask for, and the command `list`. Other commands have words of their own.
-use Rattle.std.specs.Prelude.{◌≡◌, ℕ, ◌≤◌, List, [], ◌∷◌, ◌++◌, length, codes, IsTrue, Option, Some, None}
-use Rattle.std.specs.List.{list_all}
-use Rattle.std.specs.Char.{is_ascii_digit}
-use Rattle.std.specs.Str.Parse.{digits_value}
-use Rattle.zpl_tokens.specs.declared.Kind.TheVariants.{Name}
-use Rattle.zpl_text.specs.Kinds.{IsToken}
+-- The commands: a word, a file, and what the words behind the file ask for.
+--
+--   Asked, AskFor          what the words behind the file ask for
+--   IsWorded, IsCommandOf  words of one command, by its name and by what it takes
+--   IsList, IsMean, IsRun, IsExec
+--   IsNoCommand            words that are none of these
+--   Asks                   what holds of the file of a command and of what is asked for
+use Rattle.std.specs.Prelude.{◌≡◌, ℕ, Bool, true, false, List, [], ◌∷◌, ◌++◌, codes, Option, Some, None}
+use Rattle.std.specs.Prelude.{⊤}
+use Rattle.std.specs.Option.{option_map}
 use Rattle.zpl_binding.specs.Settings.{Setting}
-use Rattle.call_claims.specs.declared.limits.TheConstants.{MOST_DIGITS, MOST_TURNS}
+use Rattle.zpl_claims.specs.Build.{Build, plain_build}
+use Rattle.call_claims.specs.Words.{Word, Order, Turns, Report, Links, Sets, IsWord}
+use Rattle.call_claims.specs.declared.limits.TheConstants.{MOST_TURNS}
 
--- ---- words behind the file
--- one to nineteen digits, with leading zeros allowed
-pub record IsNumber (text : List ℕ) (n : ℕ) : Type 0 where
-  pub some : 1 ≤ length text
-  pub few : length text ≤ MOST_DIGITS
-  pub digits : IsTrue (list_all is_ascii_digit text)
-  pub value : n ≡ digits_value 10 text
-
--- the word is `turns=` and a number
-pub record IsTurnsWord (word : List ℕ) (n : ℕ) : Type 0 where
-  pub digits : List ℕ
-  pub split : word ≡ codes "turns=" ++ digits
-  pub number : IsNumber digits n
-  pub within : n ≤ MOST_TURNS
-
--- the word is a name of the language, which is no keyword, then `:=` and any text
-pub record IsSettingWord (word : List ℕ) (setting : Setting) : Type 0 where
-  pub named : IsToken setting.name Name
-  pub split : word ≡ setting.name ++ (codes ":=" ++ setting.value)
-
--- What the words ask for: how many turns round the processors may follow the order of turns, where
--- they tell it, and what configs are set to, in the order of the words.
+-- ---- what the words behind the file ask for
+-- The file of an order of turns, how many turns may be given (round the processors behind the order,
+-- or in each loop of the meaning), and how many messages a link holds, each where a word tells it;
+-- whether a report is wanted; and what configs are set to, in the order of the words.
 pub record Asked : Type 0 where
+  pub order : Option (List ℕ)
   pub turns : Option ℕ
+  pub report : Bool
+  pub links : Option ℕ
   pub settings : List Setting
 
 abbrev pub nothing_asked : Asked
-nothing_asked = record { turns = None; settings = [] }
+nothing_asked =
+    record { order = None; turns = None; report = false; links = None; settings = [] }
 
--- One word more: turns are asked for once at most. Settings may be any, and a name may be set again:
--- what is wrong with them is told of the text.
-pub data Adds (before : Asked) (word : List ℕ) : Asked → Type 0 where
-  asks_turns : (n : ℕ) → IsTurnsWord word n → before.turns ≡ None
-      → Adds before word (record { turns = Some n; settings = before.settings })
-  sets : (setting : Setting) → IsSettingWord word setting
-      → Adds before word
-      (record { turns = before.turns; settings = before.settings ++ setting ∷ [] })
+-- ---- each at most once
+abbrev pub once : {A : Type 0} → Option A → A → Option (Option A)
+once None told = Some (Some told)
+once (Some before) told = None
+
+abbrev pub first_report : Bool → Option Bool
+first_report false = Some true
+first_report true = None
+
+-- What is asked for with one word more; nothing where it asks again. Settings may be any, and a name
+-- may be set again: what is wrong with them is told of the text.
+abbrev pub asked_more : Asked → Word → Option Asked
+asked_more asked (Order file) =
+    option_map (λ order. record asked { order = order }) (once asked.order file)
+asked_more asked (Turns n) =
+    option_map (λ turns. record asked { turns = turns }) (once asked.turns n)
+asked_more asked Report =
+    option_map (λ report. record asked { report = report }) (first_report asked.report)
+asked_more asked (Links capacity) =
+    option_map (λ links. record asked { links = links }) (once asked.links capacity)
+asked_more asked (Sets setting) = Some (record asked { settings = asked.settings ++ setting ∷ [] })
+
+-- one word more asks for something, and not again
+pub record Adds (before : Asked) (text : List ℕ) (next : Asked) : Type 0 where
+  pub word : Word
+  pub is : IsWord text word
+  pub adds : asked_more before word ≡ Some next
 
 -- the words, one after another
 pub data AddAll : Asked → List (List ℕ) → Asked → Type 0 where
-  no_more : {asked : Asked} → AddAll asked [] asked
-  one_more : {before next last : Asked} {word : List ℕ} {words : List (List ℕ)}
-      → Adds before word next → AddAll next words last → AddAll before (word ∷ words) last
+  no_more : {all : Asked} → AddAll all [] all
+  one_more : {before next last : Asked} {text : List ℕ} {texts : List (List ℕ)}
+      → Adds before text next → AddAll next texts last → AddAll before (text ∷ texts) last
 
 -- the words behind the file, in any order
 abbrev pub AskFor : List (List ℕ) → Asked → Type 0
-AskFor words asked = AddAll nothing_asked words asked
+AskFor texts asked = AddAll nothing_asked texts asked
 
--- the most turns round the processors
+-- the most turns
 abbrev pub most_turns : Option ℕ → ℕ
 most_turns None = MOST_TURNS
 most_turns (Some n) = n
@@ -64,14 +74,75 @@ most_turns (Some n) = n
 abbrev pub limit_of : Asked → ℕ
 limit_of asked = most_turns asked.turns
 
--- ---- list FILE [name:=value ..]
--- The first word is the command, and the second names the file, whatever it holds.
-pub record IsList (words : List (List ℕ)) (file : List ℕ) (asked : Asked) : Type 0 where
-  pub more : List (List ℕ)
-  pub split : words ≡ codes "list" ∷ file ∷ more
-  pub are : AskFor more asked
-  pub no_turns : asked.turns ≡ None
+-- What the words have code built for. No word tells of a grid or of optimisations yet: it is for one
+-- processor, without any.
+abbrev pub build_of : Asked → Build
+build_of asked = plain_build asked.links asked.settings
 
--- they are no such command
-abbrev pub IsNoList : List (List ℕ) → Type 0
-IsNoList words = (file : List ℕ) (asked : Asked) → ¬ IsList words file asked
+-- ---- a command
+-- The first word is its name, the second names the file, whatever it holds, and the words behind ask
+-- for this.
+pub record IsWorded (words : List (List ℕ)) (name file : List ℕ) (asked : Asked) : Type 0 where
+  pub more : List (List ℕ)
+  pub split : words ≡ name ∷ file ∷ more
+  pub are : AskFor more asked
+
+-- they are so worded, and ask for no more than the command takes
+pub record IsCommandOf (name : List ℕ) (Takes : Asked → Type 0) (words : List (List ℕ))
+    (file : List ℕ) (asked : Asked) : Type 0 where
+  pub worded : IsWorded words name file asked
+  pub takes : Takes asked
+
+-- no file and nothing that is asked for make the words one
+abbrev pub IsNoCommandOf : List ℕ → (Asked → Type 0) → List (List ℕ) → Type 0
+IsNoCommandOf name Takes words =
+    (file : List ℕ) (asked : Asked) → ¬ IsCommandOf name Takes words file asked
+
+-- ---- list FILE [links=C] [name:=value ..]
+pub record ListTakes (asked : Asked) : Type 0 where
+  pub no_order : asked.order ≡ None
+  pub no_turns : asked.turns ≡ None
+  pub no_report : asked.report ≡ false
+
+abbrev pub IsList : List (List ℕ) → List ℕ → Asked → Type 0
+IsList = IsCommandOf (codes "list") ListTakes
+
+-- ---- mean FILE [turns=N] [name:=value ..]
+-- The turns are those of each loop that is entered.
+pub record MeanTakes (asked : Asked) : Type 0 where
+  pub no_order : asked.order ≡ None
+  pub no_report : asked.report ≡ false
+  pub no_links : asked.links ≡ None
+
+abbrev pub IsMean : List (List ℕ) → List ℕ → Asked → Type 0
+IsMean = IsCommandOf (codes "mean") MeanTakes
+
+-- ---- run FILE [order=FILE] [turns=N] [report] [links=C] [name:=value ..]
+abbrev pub RunTakes : Asked → Type 0
+RunTakes asked = ⊤
+
+abbrev pub IsRun : List (List ℕ) → List ℕ → Asked → Type 0
+IsRun = IsCommandOf (codes "run") RunTakes
+
+-- ---- exec FILE [order=FILE] [turns=N] [report] [links=C]
+pub record ExecTakes (asked : Asked) : Type 0 where
+  pub no_settings : asked.settings ≡ []
+
+abbrev pub IsExec : List (List ℕ) → List ℕ → Asked → Type 0
+IsExec = IsCommandOf (codes "exec") ExecTakes
+
+-- ---- words that are none of these
+pub record IsNoCommand (words : List (List ℕ)) : Type 0 where
+  pub no_list : IsNoCommandOf (codes "list") ListTakes words
+  pub no_mean : IsNoCommandOf (codes "mean") MeanTakes words
+  pub no_run : IsNoCommandOf (codes "run") RunTakes words
+  pub no_exec : IsNoCommandOf (codes "exec") ExecTakes words
+
+-- ---- a call of a command
+-- The words of the call are this command, of a file and asking for something of which this holds.
+pub record Asks (Is : List (List ℕ) → List ℕ → Asked → Type 0) (words : List (List ℕ))
+    (Holds : List ℕ → Asked → Type 0) : Type 0 where
+  pub file : List ℕ
+  pub asked : Asked
+  pub given : Is words file asked
+  pub holds : Holds file asked

@@ -3,7 +3,7 @@ use Rattle.std.specs.Prelude.{◌≡◌, ◌≢◌, ℕ, List, [], Option, Some,
 use Rattle.zpl_io.specs.Sink.{Takes, TakesFront}
 use Rattle.node_form.specs.declared.tables.Tables.{Tables}
 use Rattle.listing_rows.specs.Listing.{listing_of}
-use Rattle.zpl_binding.specs.Settings.{Setting}
+use Rattle.zpl_claims.specs.Build.{Build}
 use Rattle.call_claims.specs.declared.ran.Ran.{Ran}
 use Rattle.call_claims.specs.Call.{Call}
 use Rattle.call_claims.specs.Source.{IsCodeOf, Source}
@@ -30,11 +30,11 @@ pub record HasNoCounts (ran : Ran) : Type 0 where
   pub words : ran.words_sent ≡ 0
 
 -- ---- code
--- The code is made of a text that the file tells, under the settings.
-pub record IsMadeOf (call : Call) (file : List ℕ) (settings : List Setting) (code : Tables)
+-- The code is made of a text that the file tells, for the build.
+pub record IsMadeOf (call : Call) (file : List ℕ) (build : Build) (code : Tables)
     : Type 0 where
   pub source : Source call file
-  pub of_text : IsCodeOf source.text settings code
+  pub of_text : IsCodeOf source.text build code
 
 -- some code was made
 pub record HasCode (execution : Execution) : Type 0 where

@@ -1,10 +1,14 @@
+pub mod Accepted
 pub mod Answer
 pub mod Call
 pub mod Cause
 pub mod Command
 pub mod Decided
 pub mod Execution
+pub mod Met
 pub mod Refusal
 pub mod Setting
 pub mod Source
+pub mod Stream
 pub mod Texts
+pub mod Words

@@ -24,7 +24,10 @@ fault_text name line byte =
     codes "refused: " ++ (name ++ (codes ", line " ++ (decimal line
     ++ (codes ", byte " ++ (decimal byte ++ codes "\n")))))
 
--- a fault of the whole text
+-- a fault of the whole text, by its name
+abbrev pub whole_text : List ℕ → List ℕ
+whole_text name = codes "refused: " ++ (name ++ codes "\n")
+
 abbrev pub too_deep_text : List ℕ
 too_deep_text = codes "refused: TooDeep\n"
 
@@ -61,6 +64,13 @@ bind_name bound.DirectionLimit = codes "DirectionLimit"
 -- such a fault, by its name
 abbrev pub settings_text : List ℕ → List ℕ
 settings_text name = codes "settings refused: " ++ (name ++ codes "\n")
+
+-- a grid that is none, and arrays that have no room on it
+abbrev pub bad_shape_text : List ℕ
+bad_shape_text = settings_text (codes "BadShape")
+
+abbrev pub too_much_storage_text : List ℕ
+too_much_storage_text = settings_text (codes "TooMuchStorage")
 
 abbrev pub trap_name : TrapKind → List ℕ
 trap_name DivideByZero = codes "division by zero"

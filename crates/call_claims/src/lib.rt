@@ -10,6 +10,6 @@ mod limits;
 mod ran;
 pub mod status;
 
-pub use laws::{list_commands_are_one, list_statuses_are_exact};
-pub use limits::{MOST_DIGITS, MOST_TOKENS, MOST_TURNS};
+pub use laws::{commands_are_one, list_statuses_are_exact};
+pub use limits::{MOST_DIGITS, MOST_LINKS, MOST_TOKENS, MOST_TURNS};
 pub use ran::Ran;

@@ -1,41 +1,68 @@
 -- Words one after another.
 use Rattle.std.proofs.Common.{◌≡◌, ℕ, ◌+◌, ◌<◌, ◌≤◌, zero, suc, List, [], ◌∷◌, ◌++◌, map, length, take, drop, get_or}
-use Rattle.std.proofs.Common.{Option, Some, None, sym, ◌∙◌, ap, subst, arith, drop-cons, add-one}
+use Rattle.std.proofs.Common.{MatchOption, Option, Some, None, refl, sym, ◌∙◌, ap, subst, arith, drop-cons, add-one}
 use Rattle.std.proofs.Math.ListN.{length-map}
 use Rattle.std.proofs.lemmas.List.{append-nil, append_assoc, drop_all, get_or-map, take_all}
 use Rattle.std.specs.List.{flat_map}
+use Rattle.std.specs.Option.{option_map}
 use Rattle.zpl_binding.specs.Settings.{Setting}
-use Rattle.call_claims.specs.Command.{Asked, Adds, AddAll, IsSettingWord, IsTurnsWord}
-use Rattle.call_claims.specs.Command.Adds.{asks_turns, sets}
+use Rattle.call_claims.specs.Command.{Asked, Adds, AddAll, asked_more}
 use Rattle.call_claims.specs.Command.AddAll.{no_more, one_more}
 use Rattle.call_claims.specs.Setting.{one_or_none, setting_in, settings_among}
-use Rattle.call_claims.proofs.OneLemmas.{adds_one, set_word, turns_word}
-use Rattle.call_words.specs.Asked.{asked_with}
+use Rattle.call_claims.specs.Words.{IsSettingWord, IsWord, Sets, Word as Claimed}
+use Rattle.call_claims.proofs.OneLemmas.{adds_one, set_word, sets_are, word_is_one}
+use Rattle.call_words.specs.Reading.{asked_with, word_in}
+use Rattle.call_words.specs.declared.asked.Asked.{Asked as Read}
+use Rattle.call_words.specs.declared.words.Word.{Word}
+use Rattle.call_words.specs.declared.words.Word.TheVariants.{Order, Turns, Report, Links}
 
 -- ---- one word
-pub setting_adds : (turns : Option ℕ) (word : List ℕ) (setting : Setting) (settings : List Setting)
-    → IsSettingWord word setting
-    → Adds (asked_with turns settings) word
-    (asked_with turns (settings ++ one_or_none (setting_in word)))
-setting_adds turns word setting settings is =
-    subst (λ s. Adds (asked_with turns settings) word (asked_with turns (settings ++ one_or_none s)))
-    (sym (set_word word setting is)) (sets setting is)
+pub set_adds : (asked : Read) (text : List ℕ) (setting : Setting) (settings : List Setting)
+    → IsSettingWord text setting
+    → Adds (asked_with asked settings) text
+    (asked_with asked (settings ++ one_or_none (setting_in text)))
+set_adds asked text setting settings is =
+    subst (λ s. Adds (asked_with asked settings) text
+    (asked_with asked (settings ++ one_or_none s)))
+    (sym (set_word text setting is)) (record { word = Sets setting; is = is; adds = refl })
 
-pub turns_add : (turns : Option ℕ) (word : List ℕ) (n : ℕ) (settings : List Setting)
-    → turns ≡ None → IsTurnsWord word n
-    → Adds (asked_with turns settings) word
-    (asked_with (Some n) (settings ++ one_or_none (setting_in word)))
-turns_add turns word n settings none is =
-    let same : settings ++ one_or_none (setting_in word) ≡ settings =
-    ap (λ s. settings ++ one_or_none s) (turns_word word n is) ∙ append-nil settings in
-    subst (λ s. Adds (asked_with turns settings) word (asked_with (Some n) s)) (sym same)
-    (asks_turns n is none)
+-- a word that is read sets nothing
+sets_none : (settings : List Setting) (text : List ℕ) (word : Word) → IsWord text (word_in word)
+    → settings ++ one_or_none (setting_in text) ≡ settings
+sets_none settings text (Order file) is =
+    ap (λ s. settings ++ one_or_none s) (sets_are text (word_in (Order file)) is) ∙ append-nil settings
+sets_none settings text (Turns n) is =
+    ap (λ s. settings ++ one_or_none s) (sets_are text (word_in (Turns n)) is) ∙ append-nil settings
+sets_none settings text Report is =
+    ap (λ s. settings ++ one_or_none s) (sets_are text (word_in Report) is) ∙ append-nil settings
+sets_none settings text (Links capacity) is =
+    ap (λ s. settings ++ one_or_none s) (sets_are text (word_in (Links capacity)) is) ∙ append-nil settings
 
-pub adds_none : (asked next : Asked) (word : List ℕ)
-    → ((setting : Setting) → ¬ IsSettingWord word setting)
-    → (asked.turns ≡ None → (n : ℕ) → ¬ IsTurnsWord word n) → ¬ Adds asked word next
-adds_none asked next word not_set not_turns (asks_turns n is none) = not_turns none n is
-adds_none asked next word not_set not_turns (sets setting is) = not_set setting is
+adds_none : (before next : Asked) (text : List ℕ) (word : Claimed) → IsWord text word
+    → asked_more before word ≡ None → ¬ Adds before text next
+adds_none before next text word is none adds =
+    let same : word ≡ adds.word = word_is_one text word adds.word is adds.is in
+    let no : None ≡ Some next = sym none ∙ (ap (asked_more before) same ∙ adds.adds) in
+    absurd cc
+
+pub adds_as : (asked : Read) (settings : List Setting) (text : List ℕ) (word : Word)
+    (result : Option Read) → IsWord text (word_in word)
+    → option_map (λ next. asked_with next settings) result
+    ≡ asked_more (asked_with asked settings) (word_in word)
+    → MatchOption result ((next : Asked) → ¬ Adds (asked_with asked settings) text next)
+    (λ next. Adds (asked_with asked settings) text
+    (asked_with next (settings ++ one_or_none (setting_in text))))
+adds_as asked settings text word None is e = λ next.
+    adds_none (asked_with asked settings) next text (word_in word) is (sym e)
+adds_as asked settings text word (Some read) is e =
+    subst (λ s. Adds (asked_with asked settings) text (asked_with read s))
+    (sym (sets_none settings text word is))
+    (record { word = word_in word; is = is; adds = sym e })
+
+-- words that are none
+pub adds_no_word : (before next : Asked) (text : List ℕ) → ((word : Claimed) → ¬ IsWord text word)
+    → ¬ Adds before text next
+adds_no_word before next text none adds = none adds.word adds.is
 
 -- ---- the words in memory
 pub word_here : {X : Type 0} (f : X → List ℕ) (xs : List X) (i : ℕ) (item : X) (bytes : List ℕ)
@@ -125,28 +152,28 @@ set_somewhere (word ∷ words) (suc i) setting inside is none =
     (no_front (one_or_none (setting_in word)) (settings_among words) none)
 
 -- ---- a turn of the loop, and its end
-pub word_adds : (words : List (List ℕ)) (i : ℕ) → i < length words → (word : List ℕ)
-    → (turns now : Option ℕ) → get_or words i [] ≡ word
-    → Adds (asked_with turns (settings_among (take i words))) word
-    (asked_with now (settings_among (take i words) ++ one_or_none (setting_in word)))
-    → Adds (asked_with turns (settings_among (take i words))) (get_or words i [])
-    (asked_with now (settings_among (take (i + 1) words)))
-word_adds words i inside word turns now here adds =
-    let before = asked_with turns (settings_among (take i words)) in
-    let there : Adds before (get_or words i []) (asked_with now
+pub word_adds : (words : List (List ℕ)) (i : ℕ) → i < length words → (text : List ℕ)
+    → (asked next : Read) → get_or words i [] ≡ text
+    → Adds (asked_with asked (settings_among (take i words))) text
+    (asked_with next (settings_among (take i words) ++ one_or_none (setting_in text)))
+    → Adds (asked_with asked (settings_among (take i words))) (get_or words i [])
+    (asked_with next (settings_among (take (i + 1) words)))
+word_adds words i inside text asked next here adds =
+    let before = asked_with asked (settings_among (take i words)) in
+    let there : Adds before (get_or words i []) (asked_with next
     (settings_among (take i words) ++ one_or_none (setting_in (get_or words i [])))) =
-    subst (λ w. Adds before w (asked_with now
+    subst (λ w. Adds before w (asked_with next
     (settings_among (take i words) ++ one_or_none (setting_in w)))) (sym here) adds in
-    subst (λ s. Adds before (get_or words i []) (asked_with now s))
+    subst (λ s. Adds before (get_or words i []) (asked_with next s))
     (sym (settings_more words i inside)) there
 
-pub all_read : (words : List (List ℕ)) (i : ℕ) (turns : Option ℕ) → length words ≤ i
-    → AddAll (asked_with turns (settings_among (take i words))) (drop i words)
-    (asked_with turns (settings_among words))
-all_read words i turns ends =
+pub all_read : (words : List (List ℕ)) (i : ℕ) (asked : Read) → length words ≤ i
+    → AddAll (asked_with asked (settings_among (take i words))) (drop i words)
+    (asked_with asked (settings_among words))
+all_read words i asked ends =
     let all : take i words ≡ words = take_all i words ends in
     let none : drop i words ≡ [] = drop_all i words ends in
-    subst (λ ws. AddAll (asked_with turns (settings_among (take i words))) ws
-    (asked_with turns (settings_among words))) (sym none)
-    (subst (λ ws. AddAll (asked_with turns (settings_among (take i words))) []
-    (asked_with turns (settings_among ws))) all no_more)
+    subst (λ ws. AddAll (asked_with asked (settings_among (take i words))) ws
+    (asked_with asked (settings_among words))) (sym none)
+    (subst (λ ws. AddAll (asked_with asked (settings_among (take i words))) []
+    (asked_with asked (settings_among ws))) all no_more)

@@ -1,27 +1,34 @@
 //! What the words behind a file ask for.
-ghost use Rattle.std.specs.Prelude.{◌≡◌, ◌∷◌, ◌++◌, ℕ, List, map, MatchOption, Some, None};
+ghost use Rattle.std.specs.Prelude.{◌≡◌, ◌++◌, List, map, IfSome, MatchOption, option_map};
 ghost use Rattle.std.specs.Prelude.{string_bytes};
 ghost use Rattle.zpl_binding.specs.Settings.{Setting};
-ghost use Rattle.call_claims.specs.Command.{Adds, AskFor, IsTurnsWord, limit_of};
+ghost use Rattle.call_claims.specs.Command.{asked_more, Adds, AskFor, limit_of};
 ghost use Rattle.call_claims.specs.Command.{Asked as Claimed};
 ghost use Rattle.call_claims.specs.Setting.{one_or_none, setting_in};
-ghost use Rattle.call_words.specs.Asked.{asked_in, asked_with};
+ghost use Rattle.call_words.specs.Reading.{asked_in, asked_with, word_in};
 
-use crate::numbers::number_of;
 use crate::settings::is_setting;
+use crate::words::{Word, word_of};
 use call_claims::MOST_TURNS;
 
 /// What the words behind a file ask for.
 #[derive(Clone, Copy)]
 pub struct Asked<'a> {
-    /// The most turns round the processors, where a word tells them.
+    /// The file of the order of turns, where a word names one.
+    pub order: Option<&'a str>,
+    /// The most turns round the processors behind the order, or of each loop of a meaning, where a
+    /// word tells them.
     pub turns: Option<u64>,
+    /// Whether a report is wanted.
+    pub report: bool,
+    /// The most messages on a link, where a word tells them.
+    pub links: Option<u32>,
     /// All the words, among which the settings are.
     pub words: &'a [String],
 }
 
 impl<'a> Asked<'a> {
-    /// The most turns round the processors.
+    /// The most turns.
     pub fn limit(self) -> u64
         ensures { result ≡ limit_of (asked_in self.entry) }
     {
@@ -32,49 +39,77 @@ impl<'a> Asked<'a> {
 /// What the words ask for, or None where one of them is none of a command's, or asks again.
 pub fn asked_of(words: &[String]) -> Option<Asked<'_>>
     ensures { MatchOption result
-        ((asked : Claimed) → ¬ AskFor (map string_bytes words.now) asked)
+        ((all : Claimed) → ¬ AskFor (map string_bytes words.now) all)
         (λ asked. AskFor (map string_bytes words.now) (asked_in asked)) }
 {
-    let mut turns = None;
+    let mut asked = Asked {
+        order: None,
+        turns: None,
+        report: false,
+        links: None,
+        words,
+    };
     for word in words {
-        match turns_with(turns, word.as_bytes()) {
-            Some(now) => turns = now,
+        match with_text(asked, word.as_str()) {
+            Some(next) => asked = next,
             None => return None,
         }
     }
-    Some(Asked { turns, words })
+    Some(asked)
 }
 
-/// The turns that are asked for with one word more, where it may stand behind the others.
-fn turns_with(turns: Option<u64>, word: &[u8]) -> Option<Option<u64>>
-    ensures { (settings : List Setting) → MatchOption result
-        ((next : Claimed) → ¬ Adds (asked_with turns settings) word.now next)
-        (λ now. Adds (asked_with turns settings) word.now
-        (asked_with now (settings ++ one_or_none (setting_in word.now)))) }
+/// What is asked for with one word more, or None where it is none of a command's, or asks again.
+fn with_text<'a>(asked: Asked<'a>, text: &'a str) -> Option<Asked<'a>>
+    ensures adds { (settings : List Setting) → MatchOption result
+        ((next : Claimed) → ¬ Adds (asked_with asked.entry settings) text.now next)
+        (λ next. Adds (asked_with asked.entry settings) text.now
+        (asked_with next (settings ++ one_or_none (setting_in text.now)))) }
+    ensures words { IfSome result (λ next. next.words ≡ asked.entry.words) }
 {
-    if is_setting(word) {
-        return Some(turns);
+    if is_setting(text.as_bytes()) {
+        return Some(asked);
     }
-    if turns.is_some() {
-        return None;
-    }
-    match turns_of(word) {
-        Some(asked) => Some(Some(asked)),
+    match word_of(text) {
+        Some(word) => with_word(asked, word),
         None => None,
     }
 }
 
-/// The number behind `turns=`.
-pub fn turns_of(word: &[u8]) -> Option<u64>
-    ensures { MatchOption result ((n : ℕ) → ¬ IsTurnsWord word.now n) (IsTurnsWord word.now) }
+/// What is asked for with one word more, or None where it asks again.
+fn with_word<'a>(asked: Asked<'a>, word: Word<'a>) -> Option<Asked<'a>>
+    ensures adds { (settings : List Setting) →
+        option_map (λ next. asked_with next settings) result
+        ≡ asked_more (asked_with asked.entry settings) (word_in word.entry) }
+    ensures words { IfSome result (λ next. next.words ≡ asked.entry.words) }
 {
-    let [b't', b'u', b'r', b'n', b's', b'=', digits @ ..] = word else {
-        return None;
-    };
-    let turns = number_of(digits)?;
-    if turns <= MOST_TURNS {
-        Some(turns)
-    } else {
-        None
+    match word {
+        Word::Order(file) => match asked.order {
+            None => Some(Asked {
+                order: Some(file),
+                ..asked
+            }),
+            Some(_) => None,
+        },
+        Word::Turns(turns) => match asked.turns {
+            None => Some(Asked {
+                turns: Some(turns),
+                ..asked
+            }),
+            Some(_) => None,
+        },
+        Word::Report => match asked.report {
+            false => Some(Asked {
+                report: true,
+                ..asked
+            }),
+            true => None,
+        },
+        Word::Links(links) => match asked.links {
+            None => Some(Asked {
+                links: Some(links),
+                ..asked
+            }),
+            Some(_) => None,
+        },
     }
 }

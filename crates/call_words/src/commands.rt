@@ -1,9 +1,11 @@
-//! The command `list`.
-ghost use Rattle.std.specs.Prelude.{◌∷◌, codes, map, MatchOption, string_bytes};
-ghost use Rattle.call_claims.specs.Command.{IsList, IsNoList};
-ghost use Rattle.call_words.specs.Asked.{asked_in};
+//! The commands.
+ghost use Rattle.std.specs.Prelude.{◌≡◌, ◌≢◌, ◌∷◌, map, MatchBool, MatchOption, string_bytes};
+ghost use Rattle.call_claims.specs.Command.{IsNoCommand};
+ghost use Rattle.call_words.specs.Reading.{asked_in, command_in, name_of, IsRead, Takes};
+ghost use Rattle.call_words.specs.declared.commands.Verb.{Verb as Named};
 
 use crate::asked::{Asked, asked_of};
+use crate::settings::sets_nothing;
 
 /// A file, and what the words behind it ask for.
 #[derive(Clone, Copy)]
@@ -14,42 +16,109 @@ pub struct FileCommand<'a> {
     pub asked: Asked<'a>,
 }
 
-/// The file that the words list, with what they ask for, or None where they are no such command:
-/// `list FILE`, and then settings.
-pub fn list_command(words: &[String]) -> Option<FileCommand<'_>>
-    ensures { MatchOption result
-        (IsNoList (map string_bytes words.now))
-        (λ list. IsList (map string_bytes words.now) list.file.now (asked_in list.asked)) }
+/// A command.
+#[derive(Clone, Copy)]
+pub enum Command<'a> {
+    /// `list FILE`, then `links=C` and settings.
+    List(FileCommand<'a>),
+    /// `mean FILE`, then `turns=N` and settings.
+    Mean(FileCommand<'a>),
+    /// `run FILE`, then `order=FILE`, `turns=N`, `report`, `links=C` and settings.
+    Run(FileCommand<'a>),
+    /// `exec FILE`, then `order=FILE`, `turns=N`, `report` and `links=C`.
+    Exec(FileCommand<'a>),
+}
+
+/// The name of a command.
+#[derive(Clone, Copy)]
+enum Verb {
+    List,
+    Mean,
+    Run,
+    Exec,
+}
+
+/// The command that words are, or None where they are none: its name, a file, and behind it in any
+/// order what the command takes, each word but settings at most once. It takes no memory.
+pub fn command_of(words: &[String]) -> Option<Command<'_>>
+    ensures { let texts = map string_bytes words.now in
+        MatchOption result (IsNoCommand texts) (IsRead texts) }
 {
     match words {
-        [command, file, rest @ ..] => file_command(command.as_bytes(), file.as_str(), rest),
+        [name, file, rest @ ..] => named_command(name.as_bytes(), file.as_str(), rest),
         _ => None,
     }
 }
 
 /// The command of a first word, a file and the words behind it.
-#[tactic(auto, using(crate::proofs::CommandLemmas::not_first))]
-fn file_command<'a>(command: &[u8], file: &'a str, rest: &'a [String]) -> Option<FileCommand<'a>>
-    ensures { MatchOption result
-        (IsNoList (command.now ∷ file.now ∷ map string_bytes rest.now))
-        (λ list. IsList (command.now ∷ file.now ∷ map string_bytes rest.now)
-        list.file.now (asked_in list.asked)) }
+fn named_command<'a>(name: &[u8], file: &'a str, rest: &'a [String]) -> Option<Command<'a>>
+    ensures { let texts = name.now ∷ file.now ∷ map string_bytes rest.now in
+        MatchOption result (IsNoCommand texts) (IsRead texts) }
 {
-    if command == b"list".as_slice() {
-        return behind_list(file, rest);
+    match verb_of(name) {
+        Some(verb) => verb_command(verb, file, rest),
+        None => None,
+    }
+}
+
+/// The command of a name, a file and the words behind it.
+fn verb_command<'a>(verb: Verb, file: &'a str, rest: &'a [String]) -> Option<Command<'a>>
+    ensures { let texts = name_of verb ∷ file.now ∷ map string_bytes rest.now in
+        MatchOption result (IsNoCommand texts) (IsRead texts) }
+{
+    match asked_of(rest) {
+        Some(asked) => {
+            if takes(verb, asked) {
+                Some(command_with(verb, FileCommand { file, asked }))
+            } else {
+                None
+            }
+        }
+        None => None,
+    }
+}
+
+/// The name that a word is.
+fn verb_of(word: &[u8]) -> Option<Verb>
+    ensures { MatchOption result
+        ((verb : Named) → word.now ≢ name_of verb) (λ verb. word.now ≡ name_of verb) }
+{
+    if word == b"list".as_slice() {
+        return Some(Verb::List);
+    }
+    if word == b"mean".as_slice() {
+        return Some(Verb::Mean);
+    }
+    if word == b"run".as_slice() {
+        return Some(Verb::Run);
+    }
+    if word == b"exec".as_slice() {
+        return Some(Verb::Exec);
     }
     None
 }
 
-/// `list FILE`, with the words behind the file, which ask for no turns.
-fn behind_list<'a>(file: &'a str, rest: &'a [String]) -> Option<FileCommand<'a>>
-    ensures { MatchOption result
-        (IsNoList (codes "list" ∷ file.now ∷ map string_bytes rest.now))
-        (λ list. IsList (codes "list" ∷ file.now ∷ map string_bytes rest.now)
-        list.file.now (asked_in list.asked)) }
+/// Whether a command of this name takes what is asked for.
+fn takes(verb: Verb, asked: Asked<'_>) -> bool
+    ensures { MatchBool result
+        (Takes verb (asked_in asked.entry)) (¬ Takes verb (asked_in asked.entry)) }
 {
-    match asked_of(rest) {
-        Some(asked) if asked.turns.is_none() => Some(FileCommand { file, asked }),
-        _ => None,
+    match verb {
+        Verb::List => asked.order.is_none() && asked.turns.is_none() && !asked.report,
+        Verb::Mean => asked.order.is_none() && !asked.report && asked.links.is_none(),
+        Verb::Run => true,
+        Verb::Exec => sets_nothing(asked.words),
+    }
+}
+
+/// The command of this name.
+fn command_with<'a>(verb: Verb, of: FileCommand<'a>) -> Command<'a>
+    ensures { result ≡ command_in verb of.entry }
+{
+    match verb {
+        Verb::List => Command::List(of),
+        Verb::Mean => Command::Mean(of),
+        Verb::Run => Command::Run(of),
+        Verb::Exec => Command::Exec(of),
     }
 }

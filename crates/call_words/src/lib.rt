@@ -1,5 +1,5 @@
-//! The words of `list`, and parts of words that commands share: what they ask for, read without
-//! taking memory.
+//! The words of commands, read without taking memory: which command they are, of which file, and
+//! what the words behind it ask for.
 #![tactic(auto)]
 
 mod asked;
@@ -7,8 +7,8 @@ mod commands;
 mod names;
 mod numbers;
 mod settings;
+mod words;
 
-pub use asked::{Asked, asked_of, turns_of};
-pub use commands::{FileCommand, list_command};
-pub use numbers::number_of;
-pub use settings::{is_setting, sets_nothing, setting_in};
+pub use asked::Asked;
+pub use commands::{Command, FileCommand, command_of};
+pub use settings::{setting_in, sets_nothing};

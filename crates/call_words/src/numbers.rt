@@ -1,6 +1,6 @@
 //! Numbers of the command line.
 ghost use Rattle.std.specs.Prelude.{ℕ, MatchOption};
-ghost use Rattle.call_claims.specs.Command.{IsNumber};
+ghost use Rattle.call_claims.specs.Words.{IsNumber};
 
 use call_claims::MOST_DIGITS;
 

@@ -3,7 +3,7 @@ ghost use Rattle.std.specs.Prelude.{◌≡◌, ◌↔◌, [], IsTrue, MatchBool,
 ghost use Rattle.std.specs.List.{prefix_len};
 ghost use Rattle.zpl_binding.specs.Settings.{Setting};
 ghost use Rattle.zpl_text.specs.Bytes.{is_word_byte};
-ghost use Rattle.call_claims.specs.Command.{IsSettingWord};
+ghost use Rattle.call_claims.specs.Words.{IsSettingWord};
 ghost use Rattle.call_claims.specs.Setting.{setting_in, settings_among};
 
 use crate::names::{is_name, is_word_byte};

@@ -3,20 +3,25 @@ use Rattle.std.proofs.Common.{◌≡◌, ◌≢◌, ℕ, List, Some, MatchOption
 use Rattle.node_form.specs.declared.tables.Tables.{Tables}
 use Rattle.call_claims.specs.Call.{Call}
 use Rattle.call_claims.specs.Decided.{IsDecided}
-use Rattle.call_claims.specs.Execution.{HasNoCounts}
-use Rattle.exec_words.specs.Asked.{Asked, IsExec}
+use Rattle.call_claims.specs.Execution.{HasNoCounts, HasNoRun}
+use Rattle.call_claims.specs.Command.{Asked, IsExec}
 use Rattle.exec_claims.specs.Answer.{IsReadFor, TakesPrinted}
-use Rattle.exec_claims.specs.Cause.{Cause, Source}
+use Rattle.exec_claims.specs.Cause.{Cause, ListingCause, Source, TextCause}
+use Rattle.exec_claims.specs.declared.limits.TheConstants.{MOST_LISTING}
+use Rattle.call_claims.specs.Texts.{too_long_text, unreadable_text}
+use Rattle.call_claims.specs.declared.status.TheConstants.{TOO_LONG, UNREADABLE}
 use Rattle.exec_claims.specs.Cause.Cause.{exec}
 use Rattle.exec_claims.specs.Cause.ListingCause.{bad_line, bad_table, listed}
-use Rattle.exec_claims.specs.Cause.TextCause.{work as of_text}
-use Rattle.grid_call.specs.Answers.{status_of, told_of}
-use Rattle.grid_call.specs.Work.{execution_in, IsCodeWork}
+use Rattle.exec_claims.specs.Cause.TextCause.{too_long, unreadable, work as of_text}
+use Rattle.call_answers.specs.Answers.{status_of, told_of}
+use Rattle.call_answers.specs.Fetched.{IsNoText, IsWholeText}
+use Rattle.call_answers.specs.Work.{execution_in, ran_of}
+use Rattle.grid_call.specs.Work.{IsCodeWork}
 use Rattle.grid_call.specs.Work.IsCodeWork.{unordered, ran}
-use Rattle.grid_call.specs.declared.answers.Answer.{Answer}
-use Rattle.grid_call.specs.declared.answers.Answer.TheVariants as answer
-use Rattle.grid_call.specs.declared.work.Work.{Work}
-use Rattle.grid_call.proofs.WorkLemmas.{none_counted, of_code, ran_of, run_counted}
+use Rattle.call_answers.specs.declared.answers.Answer.{Answer}
+use Rattle.call_answers.specs.declared.answers.Answer.TheVariants as answer
+use Rattle.call_answers.specs.declared.work.Work.{Work}
+use Rattle.grid_call.proofs.WorkLemmas.{none_counted, of_code, run_counted}
 use Rattle.exec_call.specs.Call.{IsOutputCut}
 use Rattle.exec_call.specs.Work.{IsUnlisted, IsWorkOn, ReadsNone}
 use Rattle.exec_call.specs.Work.IsWorkOn.{unread, read}
@@ -29,11 +34,35 @@ unlisted_of call file source (answer.BadLine line) is =
 unlisted_of call file source (answer.BadTable line) is =
     λ d asked execution none. of_text source (bad_table line is none)
 unlisted_of call file source answer.NoMemory is = λ d. absurd (d.memory refl)
+unlisted_of call file source answer.Usage is = elim is [ ]
+unlisted_of call file source (answer.Refused refusal line) is = elim is [ ]
+unlisted_of call file source (answer.Unbound fault) is = elim is [ ]
 unlisted_of call file source (answer.Unreadable name) is = elim is [ ]
 unlisted_of call file source (answer.TooLong name) is = elim is [ ]
 unlisted_of call file source (answer.BadItem at) is = elim is [ ]
 unlisted_of call file source (answer.Stopped stop report) is = elim is [ ]
 unlisted_of call file source answer.PutFailed is = elim is [ ]
+
+-- nor is there one where there is no text
+pub unfetched : (call : Call) (file : List ℕ) (a : Answer)
+    → IsNoText (call.tells file) (call.may_fail file) MOST_LISTING file a → ReadsNone call file a
+unfetched call file (answer.Unreadable name) is = λ d asked execution none.
+    subst (λ f. TextCause call file (call.may_fail file) (HasNoRun execution)
+    (ListingCause call asked execution) UNREADABLE (unreadable_text f)) (sym is.0)
+    (unreadable is.1 none)
+unfetched call file (answer.TooLong name) is = λ d asked execution none.
+    subst (λ f. TextCause call file (call.may_fail file) (HasNoRun execution)
+    (ListingCause call asked execution) TOO_LONG (too_long_text f)) (sym is.0)
+    (too_long (record { text = is.1.text; told = is.1.told; long = is.1.long }) none)
+unfetched call file answer.NoMemory is = λ d. absurd (d.memory refl)
+unfetched call file answer.Usage is = elim is [ ]
+unfetched call file (answer.Refused refusal line) is = elim is [ ]
+unfetched call file (answer.Unbound fault) is = elim is [ ]
+unfetched call file (answer.BadLine line) is = elim is [ ]
+unfetched call file (answer.BadTable line) is = elim is [ ]
+unfetched call file (answer.BadItem at) is = elim is [ ]
+unfetched call file (answer.Stopped stop report) is = elim is [ ]
+unfetched call file answer.PutFailed is = elim is [ ]
 
 -- ---- the cause of the answer
 pub caused : (call : Call) (file : List ℕ) (asked : Asked) (work : Work)
@@ -41,11 +70,21 @@ pub caused : (call : Call) (file : List ℕ) (asked : Asked) (work : Work)
     → IsWorkOn call file asked work before after → IsDecided (status_of work.answer)
     → Cause call (execution_in work) (status_of work.answer) (told_of work.answer)
 caused call file asked work before after given (unread none reads nothing) d =
-    exec file asked given (reads d asked (execution_in work)
-    (record { no_code = none; no_turns = ap (λ counts. counts.turns) nothing.counts }))
+    exec (record {
+      file = file;
+      asked = asked;
+      given = given;
+      holds = reads d asked (execution_in work)
+          (record { no_code = none; no_turns = ap (λ counts. counts.turns) nothing.counts });
+    })
 caused call file asked work before after given (read code made is of) d =
-    exec file asked given (of_text is.source
-    (listed code is.listing made (of_code call code asked work before after of d)))
+    exec (record {
+      file = file;
+      asked = asked;
+      given = given;
+      holds = of_text is.source
+          (listed code is.listing made (of_code call code asked work before after of d));
+    })
 
 -- ---- the code and the counts
 pub read_for : (status : ℕ) (call : Call) (file : List ℕ) (asked : Asked) (work : Work)

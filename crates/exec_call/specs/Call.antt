@@ -7,15 +7,17 @@ use Rattle.zpl_io.specs.Faults.{Rose}
 use Rattle.node_form.specs.declared.tables.Tables.{Tables}
 use Rattle.grid_runs.specs.Run.{IsCutOff, IsLimitedAt}
 use Rattle.call_claims.specs.declared.ran.Ran.{Ran}
+use Rattle.call_claims.specs.Answer.{IsAnswered, IsHalfAnswered}
 use Rattle.call_claims.specs.Call.{Call}
 use Rattle.call_claims.specs.Decided.{IsSettled}
 use Rattle.call_claims.specs.Execution.{execution_of, HasNoCounts}
 use Rattle.call_claims.specs.declared.status.TheConstants.{DONE, TOO_LONG, TRAPPED}
 use Rattle.call_claims.specs.declared.status.TheConstants.{TURN_LIMIT, PUT_FAILED}
-use Rattle.exec_words.specs.Asked.{Asked}
-use Rattle.grid_call.specs.Stream.{Stream}
-use Rattle.exec_claims.specs.Answer.{IsAnswered, IsHalfAnswered, IsReadFor, Runs, TakesPrinted}
-use Rattle.exec_claims.specs.Decided.{Execs, ExecsNoListing, ExecsTooLong, ExecsBadOrder}
+use Rattle.call_claims.specs.Command.{Asked}
+use Rattle.call_claims.specs.Stream.{Stream}
+use Rattle.exec_claims.specs.Answer.{IsReadFor, Runs, TakesPrinted}
+use Rattle.exec_claims.specs.Cause.{Cause, Execs}
+use Rattle.exec_claims.specs.Decided.{ExecsNoListing, ExecsTooLong, ExecsBadOrder}
 use Rattle.exec_claims.specs.Decided.{IsDoneAt, IsStuckOrIdleAt, IsTrapAt, RunsTo}
 use Rattle.exec_claims.specs.declared.status.TheConstants.{LISTING_REFUSED, ORDER_REFUSED, STUCK}
 
@@ -43,7 +45,8 @@ pub record IsExecuted (call : Call) (ran : Ran) (out errs : Stream) : Type 0 whe
       → TakesPrinted call ran out.before out.after ran.code
   -- Each status but that of a failed put has its cause, and errs took its text, with the report
   -- behind it.
-  pub cause : ran.status ≢ PUT_FAILED → IsAnswered call ran errs.before errs.after
+  pub cause : ran.status ≢ PUT_FAILED
+      → IsAnswered (Cause call (execution_of ran)) ran.status errs.before errs.after
   -- When statuses come, where no put or fetch failed and memory wasn't wanting.
   pub too_long : IsSettled call ran.status
       → (ran.status ≡ TOO_LONG) ↔ ExecsTooLong call
@@ -65,4 +68,4 @@ pub record IsExecuted (call : Call) (ran : Ran) (out errs : Stream) : Type 0 whe
       × Rose out.faults out.faults_after × errs.same)
       ⊎ (TakesPrinted call ran out.before out.after ran.code
       × Rose errs.faults errs.faults_after
-      × IsHalfAnswered call ran errs.before errs.after)
+      × IsHalfAnswered (Cause call (execution_of ran)) errs.before errs.after)

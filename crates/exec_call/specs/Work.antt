@@ -10,14 +10,14 @@ use Rattle.node_text.specs.Listing.{IsBadTable}
 use Rattle.call_claims.specs.Call.{Call}
 use Rattle.call_claims.specs.Decided.{IsDecided}
 use Rattle.call_claims.specs.Execution.{Execution, HasNoRun}
-use Rattle.exec_words.specs.Asked.{Asked}
+use Rattle.call_claims.specs.Command.{Asked}
 use Rattle.exec_claims.specs.Answer.{IsListedIn}
 use Rattle.exec_claims.specs.Cause.{ListingFileCause}
-use Rattle.grid_call.specs.Answers.{status_of, told_of}
+use Rattle.call_answers.specs.Answers.{status_of, told_of}
 use Rattle.grid_call.specs.Work.{HasNoTurns, IsCodeWork}
-use Rattle.grid_call.specs.declared.answers.Answer.{Answer}
-use Rattle.grid_call.specs.declared.answers.Answer.TheVariants as answer
-use Rattle.grid_call.specs.declared.work.Work.{Work}
+use Rattle.call_answers.specs.declared.answers.Answer.{Answer}
+use Rattle.call_answers.specs.declared.answers.Answer.TheVariants as answer
+use Rattle.call_answers.specs.declared.work.Work.{Work}
 
 -- ---- the listing
 -- No code was read, and that has its cause, whatever the words ask for besides.

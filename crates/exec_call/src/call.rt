@@ -4,20 +4,21 @@ ghost use Rattle.zpl_io.specs.Faults.{CountsFaults};
 ghost use Rattle.zpl_io.specs.Files.{SameTexts};
 ghost use Rattle.call_claims.specs.Answer.{CountsFetches, CountsPuts};
 ghost use Rattle.call_claims.specs.Call.{call_of};
+ghost use Rattle.call_claims.specs.Command.{IsExec};
+ghost use Rattle.call_claims.specs.Met.{CanBeMet};
+ghost use Rattle.call_claims.specs.Stream.{stream_of};
 ghost use Rattle.call_claims.specs.declared.status.TheConstants.{UNREADABLE, USAGE};
-ghost use Rattle.exec_words.specs.Asked.{IsExec};
-ghost use Rattle.exec_words.specs.Met.{CanBeMet};
-ghost use Rattle.exec_words.specs.Reading.{asked_in};
-ghost use Rattle.grid_call.specs.Answers.{status_of};
-ghost use Rattle.grid_call.specs.Stream.{stream_of};
+ghost use Rattle.call_answers.specs.Answers.{status_of};
+ghost use Rattle.call_words.specs.Reading.{asked_in};
 ghost use Rattle.exec_call.specs.Call.{IsExecuted};
 ghost use Rattle.exec_call.specs.Work.{IsWorkOn};
 
 use crate::fetches::fetch_code;
+use call_answers::{Answer, Work, answered};
 use call_claims::Ran;
+use call_words::FileCommand;
 use exec_claims::exec_statuses_are_exact;
-use exec_words::ExecCommand;
-use grid_call::{Answer, Work, run_code, told};
+use grid_call::run_code;
 use listing_runs::listed_code_has_room;
 use std::alloc::Global;
 use zpl_io::{Files, Sink};
@@ -29,7 +30,7 @@ use zpl_io::{Files, Sink};
 /// put nothing more is put on either sink.
 pub fn exec<F: Files, O: Sink, E: Sink>(
     alloc: Global,
-    command: ExecCommand<'_>,
+    command: FileCommand<'_>,
     files: &mut F,
     out: &mut O,
     errs: &mut E,
@@ -42,7 +43,8 @@ pub fn exec<F: Files, O: Sink, E: Sink>(
     // come.
     ensures executed { (words : List (List ℕ)) →
         IsExec words command.entry.file.now (asked_in command.entry.asked) →
-        IsExecuted (call_of words (F.tells files.old) (F.may_fail files.old)) result
+        IsExecuted (call_of words (F.tells files.old) (F.may_fail files.old)
+        (F.may_fail_later files.old)) result
         (stream_of (O.tells out.old) (O.tells out.new) (O.faults out.old) (O.faults out.new)
         (out.new ≡ out.old))
         (stream_of (E.tells errs.old) (E.tells errs.new) (E.faults errs.old) (E.faults errs.new)
@@ -58,27 +60,20 @@ pub fn exec<F: Files, O: Sink, E: Sink>(
 {
     exec_statuses_are_exact::<F>();
     let work = work_for(alloc, command, files, out);
-    let answer = told(alloc, work.answer, errs);
-    Ran {
-        status: answer.status(),
-        code: work.code,
-        turns: work.counts.turns,
-        sends: work.counts.sends,
-        words_sent: work.counts.words,
-    }
+    answered(alloc, work, errs)
 }
 
 /// The work of the command, up to its answer.
 fn work_for<'a, F: Files, O: Sink>(
     alloc: Global,
-    command: ExecCommand<'a>,
+    command: FileCommand<'a>,
     files: &mut F,
     out: &mut O,
 ) -> Work<'a>
     requires asked { CanBeMet (asked_in command.asked) }
     ensures work { (words : List (List ℕ)) →
-        IsWorkOn (call_of words (F.tells files.old) (F.may_fail files.old))
-        command.entry.file.now (asked_in command.entry.asked) result
+        IsWorkOn (call_of words (F.tells files.old) (F.may_fail files.old)
+        (F.may_fail_later files.old)) command.entry.file.now (asked_in command.entry.asked) result
         (O.tells out.old) (O.tells out.new) }
     ensures texts { SameTexts (F.tells files.old) (F.tells files.new) }
     ensures fetches { CountsFaults (status_of result.answer ≡ UNREADABLE)

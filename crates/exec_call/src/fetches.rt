@@ -6,15 +6,15 @@ ghost use Rattle.node_text.specs.Listing.{IsListing};
 ghost use Rattle.call_claims.specs.Call.{call_of};
 ghost use Rattle.exec_claims.specs.Answer.{IsListedIn};
 ghost use Rattle.exec_claims.specs.declared.limits.TheConstants.{MOST_LISTING};
-ghost use Rattle.grid_call.specs.Work.{FailsToFetch};
+ghost use Rattle.call_answers.specs.Fetched.{FailsToFetch};
 ghost use Rattle.exec_call.specs.Work.{IsUnlisted, ReadsNone};
 
+use call_answers::{Answer, text_of_file};
 use exec_claims::MOST_LISTING;
-use grid_call::Answer;
 use node_form::NodeProgram;
 use node_text::{ListFault, read_listing};
 use std::alloc::Global;
-use zpl_io::{Fetched, Files};
+use zpl_io::Files;
 
 /// Fetches a file and reads its text as a listing, or answers why there is no code.
 pub(crate) fn fetch_code<'a, F: Files>(
@@ -23,20 +23,21 @@ pub(crate) fn fetch_code<'a, F: Files>(
     files: &mut F,
 ) -> Result<NodeProgram, Answer<'a>>
     ensures ok { (words : List (List ℕ)) → IfOk result
-        (IsListedIn (call_of words (F.tells files.old) (F.may_fail files.old)) file.now) }
+        (IsListedIn (call_of words (F.tells files.old) (F.may_fail files.old)
+        (F.may_fail_later files.old)) file.now) }
     ensures err { (words : List (List ℕ)) → IfErr result
-        (ReadsNone (call_of words (F.tells files.old) (F.may_fail files.old)) file.now) }
+        (ReadsNone (call_of words (F.tells files.old) (F.may_fail files.old)
+        (F.may_fail_later files.old)) file.now) }
     ensures put { IfErr result (λ answer. answer ≢ Answer.PutFailed) }
     ensures texts { SameTexts (F.tells files.old) (F.tells files.new) }
+    ensures later { (name : List ℕ) → F.may_fail_later files.new name →
+        F.may_fail_later files.old name }
     ensures fetches { CountsFaults (FailsToFetch result)
         (F.faults files.old) (F.faults files.new) }
 {
-    let mut text = Vec::new(alloc);
-    match files.fetch(alloc, file, MOST_LISTING as u64, &mut text) {
-        Fetched::Whole => code_of(alloc, text.as_slice()),
-        Fetched::TooLong => Err(Answer::TooLong(file)),
-        Fetched::Failed => Err(Answer::Unreadable(file)),
-        Fetched::NoMemory => Err(Answer::NoMemory),
+    match text_of_file(alloc, file, MOST_LISTING as u64, files) {
+        Ok(text) => code_of(alloc, text.as_slice()),
+        Err(answer) => Err(answer),
     }
 }
 

@@ -1,5 +1,5 @@
 -- When each status comes.
-use Rattle.std.proofs.Common.{◌≡◌, ◌≢◌, ◌↔◌, ℕ, Bool, List, [], Option, Some, None}
+use Rattle.std.proofs.Common.{◌≡◌, ◌≢◌, ◌↔◌, ℕ, Bool, List, [], Option, Some, None, codes}
 use Rattle.std.proofs.Common.{refl, sym, subst, inl, inr, arith}
 use Rattle.node_form.specs.declared.tables.Tables.{Tables}
 use Rattle.listing_lines.specs.Listing.{IsBadLine}
@@ -7,10 +7,10 @@ use Rattle.node_text.specs.Listing.{IsBadTable, IsListing}
 use Rattle.call_claims.specs.Call.{Call}
 use Rattle.call_claims.specs.Decided.{IsSettled}
 use Rattle.call_claims.specs.Execution.{Execution}
-use Rattle.call_claims.specs.declared.status.TheConstants.{DONE, USAGE, UNREADABLE, TOO_LONG, TRAPPED}
+use Rattle.call_claims.specs.declared.status.TheConstants.{DONE, UNREADABLE, TOO_LONG, TRAPPED}
 use Rattle.call_claims.specs.declared.status.TheConstants.{TURN_LIMIT}
-use Rattle.exec_words.specs.Asked.{Asked, IsNoExec}
-use Rattle.exec_words.proofs.OneLemmas.{exec_is_one}
+use Rattle.call_claims.specs.Command.{Asked, ExecTakes}
+use Rattle.call_claims.proofs.OneLemmas.{as_asked}
 use Rattle.grid_runs.specs.Run.{Run, GoesOnTo, IsLimitedAt}
 use Rattle.exec_claims.specs.Cause.{RunCause, OrderCause, OrderFileCause, ListingCause}
 use Rattle.exec_claims.specs.Cause.{ListingFileCause, Cause, Source, run_of}
@@ -18,7 +18,7 @@ use Rattle.exec_claims.specs.Cause.RunCause.{done, trap, turn_limit, stuck, idle
 use Rattle.exec_claims.specs.Cause.OrderCause.{bad_item, ran}
 use Rattle.exec_claims.specs.Cause.TextCause.{unreadable, too_long, work}
 use Rattle.exec_claims.specs.Cause.ListingCause.{bad_line, bad_table, listed}
-use Rattle.exec_claims.specs.Cause.Cause.{usage, no_memory, exec}
+use Rattle.exec_claims.specs.Cause.Cause.{no_memory, exec}
 use Rattle.exec_claims.specs.Decided.{IsOrderText, HasRun, RunsTo, IsDoneAt, IsTrapAt}
 use Rattle.exec_claims.specs.Decided.{IsStuckOrIdleAt, HasNoListing, ExecsNoListing}
 use Rattle.exec_claims.specs.declared.status.TheConstants.{ORDER_REFUSED, LISTING_REFUSED, STUCK}
@@ -61,12 +61,12 @@ module _ (run : Run) (report : Bool) (k : ℕ) where
   run_stuck (idle p e) h = inr (p, e)
 
   run_other : {n : ℕ} {told : List ℕ} → RunCause run report k n told
-      → (n ≢ USAGE) × (n ≢ LISTING_REFUSED)
-  run_other (done e) = (λ h. omega arith, λ h. omega arith)
-  run_other (trap kind line e) = (λ h. omega arith, λ h. omega arith)
-  run_other (turn_limit e) = (λ h. omega arith, λ h. omega arith)
-  run_other (stuck p kind e) = (λ h. omega arith, λ h. omega arith)
-  run_other (idle p e) = (λ h. omega arith, λ h. omega arith)
+      → n ≢ LISTING_REFUSED
+  run_other (done e) = λ h. omega arith
+  run_other (trap kind line e) = λ h. omega arith
+  run_other (turn_limit e) = λ h. omega arith
+  run_other (stuck p kind e) = λ h. omega arith
+  run_other (idle p e) = λ h. omega arith
 
 -- ---- from how the run ended to a cause
 pub told_done : (run : Run) (k : ℕ) (report : Bool) → IsDoneAt run k → (told : List ℕ) × RunCause run report k DONE told
@@ -116,15 +116,15 @@ module _ (call : Call) (code : Tables) (asked : Asked) (turns : ℕ) where
       work is.0 (subst (λ t. OrderCause code asked turns t n told) (sym is.1) c)
 
   order_other : {text : List ℕ} {n : ℕ} {told : List ℕ} → OrderCause code asked turns text n told
-      → (n ≢ USAGE) × (n ≢ LISTING_REFUSED)
-  order_other (bad_item at e z) = (λ h. omega arith, λ h. omega arith)
+      → n ≢ LISTING_REFUSED
+  order_other (bad_item at e z) = λ h. omega arith
   order_other (ran order e goes c) = run_other (run_of code asked order) asked.report turns c
 
   order_file_other : (file : Option (List ℕ)) (n : ℕ) (told : List ℕ)
-      → OrderFileCause call code asked turns file n told → (n ≢ USAGE) × (n ≢ LISTING_REFUSED)
+      → OrderFileCause call code asked turns file n told → n ≢ LISTING_REFUSED
   order_file_other None n told c = order_other c
-  order_file_other (Some file) n told (unreadable may ends) = (λ h. omega arith, λ h. omega arith)
-  order_file_other (Some file) n told (too_long long ends) = (λ h. omega arith, λ h. omega arith)
+  order_file_other (Some file) n told (unreadable may ends) = λ h. omega arith
+  order_file_other (Some file) n told (too_long long ends) = λ h. omega arith
   order_file_other (Some file) n told (work source w) = order_other w
 
 -- ---- files of listings
@@ -166,17 +166,6 @@ module _ (call : Call) (ex : Execution) (file : List ℕ) (asked : Asked) where
             (ran h.order h.read h.goes_on c.1))),
       )
 
-  listing_other : {text : List ℕ} {n : ℕ} {told : List ℕ} → ListingCause call asked ex text n told
-      → n ≢ USAGE
-  listing_other (bad_line line e z) = λ h. omega arith
-  listing_other (bad_table line e z) = λ h. omega arith
-  listing_other (listed code is made c) = (order_file_other call code asked ex.turns asked.order _ _ c).0
-
-  file_other : {n : ℕ} {told : List ℕ} → ListingFileCause call file asked ex n told → n ≢ USAGE
-  file_other (unreadable may ends) = λ h. omega arith
-  file_other (too_long long ends) = λ h. omega arith
-  file_other (work source w) = listing_other w
-
   module _ (line_law : (bytes : List ℕ) (tables : Tables) (number : ℕ) → IsListing bytes tables
       → IsBadLine bytes number → ⊥)
       (table_law : (bytes : List ℕ) (tables : Tables) (number : ℕ) → IsListing bytes tables
@@ -186,7 +175,7 @@ module _ (call : Call) (ex : Execution) (file : List ℕ) (asked : Asked) where
     no_code text (bad_line line e z) h = λ code is. line_law text code line is e
     no_code text (bad_table line e z) h = λ code is. table_law text code line is e
     no_code text (listed code is made c) h =
-        absurd ((order_file_other call code asked ex.turns asked.order _ _ c).1 h)
+        absurd (order_file_other call code asked ex.turns asked.order _ _ c h)
 
     file_listing : {n : ℕ} {told : List ℕ} → ListingFileCause call file asked ex n told
         → n ≡ LISTING_REFUSED → HasNoListing call file
@@ -207,37 +196,25 @@ module _ (call : Call) (ex : Execution) (file : List ℕ) (asked : Asked) where
 
 -- ---- any call
 module _ (call : Call) (ex : Execution) (n : ℕ) (told : List ℕ) where
-  usage_from : {m : ℕ} {t : List ℕ} → Cause call ex m t → m ≡ USAGE → IsNoExec call.words
-  usage_from (usage none z) e = none
-  usage_from no_memory e = absurd (omega arith)
-  usage_from (exec file asked is c) e = absurd (file_other call ex file asked c e)
-
-  usage_to : {m : ℕ} {t : List ℕ} → Cause call ex m t → IsSettled call m → IsNoExec call.words
-      → m ≡ USAGE
-  usage_to (usage none z) settled e = refl
-  usage_to no_memory settled e = absurd (settled.decided.memory refl)
-  usage_to (exec file asked is c) settled e = absurd (e file asked is)
-
-  pub usage_exactly : Cause call ex n told → IsSettled call n → (n ≡ USAGE) ↔ IsNoExec call.words
-  usage_exactly c settled = (usage_from c, usage_to c settled)
-
   module _ (line : (bytes : List ℕ) (tables : Tables) (number : ℕ) → IsListing bytes tables
       → IsBadLine bytes number → ⊥)
       (table : (bytes : List ℕ) (tables : Tables) (number : ℕ) → IsListing bytes tables
       → IsBadTable bytes number → ⊥) where
     listing_from : {m : ℕ} {t : List ℕ} → Cause call ex m t → m ≡ LISTING_REFUSED → ExecsNoListing call
-    listing_from (usage none z) e = absurd (omega arith)
     listing_from no_memory e = absurd (omega arith)
-    listing_from (exec file asked is c) e =
-        record { file = file; asked = asked; given = is; holds = file_listing call ex file asked line table c e }
+    listing_from (exec is) e = record {
+      file = is.file;
+      asked = is.asked;
+      given = is.given;
+      holds = file_listing call ex is.file is.asked line table is.holds e;
+    }
 
     listing_to : {m : ℕ} {t : List ℕ} → Cause call ex m t → IsSettled call m → ExecsNoListing call
         → m ≡ LISTING_REFUSED
-    listing_to (usage none z) settled r = absurd (none r.file r.asked r.given)
     listing_to no_memory settled r = absurd (settled.decided.memory refl)
-    listing_to {m = m} (exec file asked is c) settled r =
-        let same = exec_is_one call.words r.file file r.asked asked r.given is in
-        file_refused call ex file asked m settled (subst (HasNoListing call) same.0 r.holds) c settled.read
+    listing_to {m = m} (exec is) settled r =
+        file_refused call ex is.file is.asked m settled
+        (as_asked (codes "exec") ExecTakes call.words is r) is.holds settled.read
 
     pub listing_exactly : Cause call ex n told → IsSettled call n
         → (n ≡ LISTING_REFUSED) ↔ ExecsNoListing call
@@ -248,14 +225,13 @@ module _ (call : Call) (ex : Execution) (n : ℕ) (told : List ℕ) where
         → ((run : Run) (report : Bool) (k m : ℕ) (t : List ℕ) → RunCause run report k m t
         → m ≡ s → Holds run k)
         → {m : ℕ} {t : List ℕ} → Cause call ex m t → m ≡ s → RunsTo call ex Holds
-    run_from s Holds is_run f (usage none z) e = absurd (is_run.usage (sym e))
     run_from s Holds is_run f no_memory e = absurd (is_run.memory (sym e))
-    run_from s Holds is_run f (exec file asked is c) e =
-        let h = file_run call ex file asked c (subst IsRunStatus (sym e) is_run) in
+    run_from s Holds is_run f (exec is) e =
+        let h = file_run call ex is.file is.asked is.holds (subst IsRunStatus (sym e) is_run) in
         record {
-          file = file;
-          asked = asked;
-          given = is;
+          file = is.file;
+          asked = is.asked;
+          given = is.given;
           holds = record {
             source = h.source;
             code = h.code;
@@ -266,7 +242,7 @@ module _ (call : Call) (ex : Execution) (n : ℕ) (told : List ℕ) where
             order = h.order;
             read = h.read;
             goes_on = h.goes_on;
-            holds = f (run_of h.code asked h.order) asked.report ex.turns _ _ h.holds e;
+            holds = f (run_of h.code is.asked h.order) is.asked.report ex.turns _ _ h.holds e;
           };
         }
 
@@ -280,7 +256,9 @@ module _ (call : Call) (ex : Execution) (n : ℕ) (told : List ℕ) where
           read = is_run.unreadable;
           one = settled.one;
         } in
-        cause_one call ex n s told found.0 line table c (exec r.file r.asked r.given found.1) settled also
+        cause_one call ex n s told found.0 line table c
+        (exec (record { file = r.file; asked = r.asked; given = r.given; holds = found.1 })) settled
+        also
 
     pub done_exactly : Cause call ex n told → IsSettled call n → (n ≡ DONE) ↔ RunsTo call ex IsDoneAt
     done_exactly c settled =

@@ -1,4 +1,5 @@
 pub mod Exact
+pub mod KnownLemmas
 pub mod OneCause
 pub mod OrderExact
 pub mod RunStatus

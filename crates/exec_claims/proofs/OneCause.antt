@@ -1,5 +1,5 @@
 -- Of what was made and run in a call there is a cause of one status.
-use Rattle.std.proofs.Common.{◌≡◌, ◌≢◌, ℕ, Bool, List, [], length, Option, Some, None, Result, Ok, Err}
+use Rattle.std.proofs.Common.{◌≡◌, ◌≢◌, ℕ, Bool, List, [], length, Option, Some, None, Result, Ok, Err, codes}
 use Rattle.std.proofs.Common.{refl, sym, ◌∙◌, ap, subst, inl, inr, arith}
 use Rattle.zpl_nums.specs.declared.ends.End.TheVariants.{Done, Trap}
 use Rattle.zpl_nums.specs.declared.ends.End.{End}
@@ -11,8 +11,8 @@ use Rattle.call_claims.specs.Call.{Call}
 use Rattle.call_claims.specs.Decided.{IsSettled}
 use Rattle.call_claims.specs.Execution.{Execution}
 use Rattle.call_claims.specs.declared.status.TheConstants.{UNREADABLE}
-use Rattle.exec_words.specs.Asked.{Asked}
-use Rattle.exec_words.proofs.OneLemmas.{exec_is_one}
+use Rattle.call_claims.specs.Command.{Asked, ExecTakes}
+use Rattle.call_claims.proofs.OneLemmas.{as_asked}
 use Rattle.grid_runs.specs.Run.{Run}
 use Rattle.exec_claims.specs.Cause.{RunCause, OrderCause, TextCause, OrderFileCause, ListingCause}
 use Rattle.exec_claims.specs.Cause.{ListingFileCause, Cause, Source, IsTooLong, run_of}
@@ -20,7 +20,7 @@ use Rattle.exec_claims.specs.Cause.RunCause.{done, trap, turn_limit, stuck, idle
 use Rattle.exec_claims.specs.Cause.OrderCause.{bad_item, ran}
 use Rattle.exec_claims.specs.Cause.TextCause.{unreadable, too_long, work}
 use Rattle.exec_claims.specs.Cause.ListingCause.{bad_line, bad_table, listed}
-use Rattle.exec_claims.specs.Cause.Cause.{usage, no_memory, exec}
+use Rattle.exec_claims.specs.Cause.Cause.{no_memory, exec}
 
 -- ---- a run
 ends_one : (ending : Option End) (kind : TrapKind) (line : ℕ) → ending ≡ Some Done
@@ -195,15 +195,8 @@ pub cause_one : (call : Call) (execution : Execution) (n m : ℕ) (told other : 
     → IsBadTable bytes number → ⊥)
     → Cause call execution n told → Cause call execution m other → IsSettled call n
     → IsSettled call m → n ≡ m
-cause_one call ex n m told other line table (usage none z) (usage also yet) s t = refl
-cause_one call ex n m told other line table (usage none z) no_memory s t = absurd (t.decided.memory refl)
-cause_one call ex n m told other line table (usage none z) (exec file asked is c) s t = absurd (none file asked is)
 cause_one call ex n m told other line table no_memory d s t = absurd (s.decided.memory refl)
-cause_one call ex n m told other line table (exec file asked is c) (usage none z) s t = absurd (none file asked is)
-cause_one call ex n m told other line table (exec file asked is c) no_memory s t = absurd (t.decided.memory refl)
-cause_one call ex n m told other line table (exec file asked is c) (exec name more also d) s t =
-    let same = exec_is_one call.words file name asked more is also in
-    let here : ListingFileCause call name more ex n told =
-    subst (λ f. ListingFileCause call f more ex n told) same.0
-    (subst (λ a. ListingFileCause call file a ex n told) same.1 c) in
-    file_one call (tells_one call n s) more ex line table name here d s.read t.read
+cause_one call ex n m told other line table (exec is) no_memory s t = absurd (t.decided.memory refl)
+cause_one call ex n m told other line table (exec is) (exec also) s t =
+    file_one call (tells_one call n s) is.asked ex line table is.file is.holds
+    (as_asked (codes "exec") ExecTakes call.words is also) s.read t.read

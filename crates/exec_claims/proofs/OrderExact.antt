@@ -1,5 +1,5 @@
 -- When a text is too long, and when an item of the order is wrong.
-use Rattle.std.proofs.Common.{◌≡◌, ◌≢◌, ◌↔◌, ◌⊎◌, ℕ, Bool, List, [], Option, Some, None, Err}
+use Rattle.std.proofs.Common.{◌≡◌, ◌≢◌, ◌↔◌, ◌⊎◌, ℕ, Bool, List, [], Option, Some, None, Err, codes}
 use Rattle.std.proofs.Common.{refl, sym, ◌∙◌, subst, inl, inr, arith}
 use Rattle.node_form.specs.declared.tables.Tables.{Tables}
 use Rattle.listing_lines.specs.Listing.{IsBadLine}
@@ -8,8 +8,8 @@ use Rattle.call_claims.specs.Call.{Call}
 use Rattle.call_claims.specs.Decided.{IsSettled}
 use Rattle.call_claims.specs.Execution.{Execution}
 use Rattle.call_claims.specs.declared.status.TheConstants.{UNREADABLE, TOO_LONG}
-use Rattle.exec_words.specs.Asked.{Asked}
-use Rattle.exec_words.proofs.OneLemmas.{exec_is_one}
+use Rattle.call_claims.specs.Command.{Asked, ExecTakes}
+use Rattle.call_claims.proofs.OneLemmas.{as_asked}
 use Rattle.grid_runs.specs.Run.{Run}
 use Rattle.grid_meaning.specs.Grid.{processors}
 use Rattle.grid_order.specs.Reading.{reading}
@@ -19,7 +19,7 @@ use Rattle.exec_claims.specs.Cause.RunCause.{done, trap, turn_limit, stuck, idle
 use Rattle.exec_claims.specs.Cause.OrderCause.{bad_item, ran}
 use Rattle.exec_claims.specs.Cause.TextCause.{unreadable, too_long, work}
 use Rattle.exec_claims.specs.Cause.ListingCause.{bad_line, bad_table, listed}
-use Rattle.exec_claims.specs.Cause.Cause.{usage, no_memory, exec}
+use Rattle.exec_claims.specs.Cause.Cause.{no_memory, exec}
 use Rattle.exec_claims.specs.Decided.{IsOneOrder, IsOrderText, HasListing, HasLongOrder}
 use Rattle.exec_claims.specs.Decided.{ExecsTooLong, HasBadOrder, ExecsBadOrder}
 use Rattle.exec_claims.specs.declared.status.TheConstants.{ORDER_REFUSED}
@@ -181,42 +181,44 @@ module _ (call : Call) (ex : Execution) (n : ℕ) (told : List ℕ)
     (table : (bytes : List ℕ) (tables : Tables) (number : ℕ) → IsListing bytes tables
     → IsBadTable bytes number → ⊥) where
   execs_long : {m : ℕ} {t : List ℕ} → Cause call ex m t → m ≡ TOO_LONG → ExecsTooLong call
-  execs_long (usage none z) e = absurd (omega arith)
   execs_long no_memory e = absurd (omega arith)
-  execs_long (exec file asked is c) e =
-      record { file = file; asked = asked; given = is; holds = long_from call ex file asked c e }
+  execs_long (exec is) e = record {
+    file = is.file;
+    asked = is.asked;
+    given = is.given;
+    holds = long_from call ex is.file is.asked is.holds e;
+  }
 
   is_long : {m : ℕ} {t : List ℕ} → Cause call ex m t → IsSettled call m → ExecsTooLong call
       → m ≡ TOO_LONG
-  is_long (usage none z) settled r = absurd (none r.file r.asked r.given)
   is_long no_memory settled r = absurd (settled.decided.memory refl)
-  is_long {m = m} (exec file asked is c) settled r =
-      let same = exec_is_one call.words r.file file r.asked asked r.given is in
-      long_to call ex file asked m settled line table c settled.read
-      (one_order call m settled asked.order) (subst (λ a. IsLong call ex file a) same.1
-      (subst (λ f. IsLong call ex f r.asked) same.0 r.holds))
+  is_long {m = m} (exec is) settled r =
+      long_to call ex is.file is.asked m settled line table is.holds settled.read
+      (one_order call m settled is.asked.order)
+      (as_asked (codes "exec") ExecTakes call.words is r)
 
   pub long_exactly : Cause call ex n told → IsSettled call n → (n ≡ TOO_LONG) ↔ ExecsTooLong call
   long_exactly c settled = (execs_long c, is_long c settled)
 
   execs_wrong : {m : ℕ} {t : List ℕ} → Cause call ex m t → m ≡ ORDER_REFUSED
       → ExecsBadOrder call
-  execs_wrong (usage none z) e = absurd (omega arith)
   execs_wrong no_memory e = absurd (omega arith)
-  execs_wrong (exec file asked is c) e =
-      record { file = file; asked = asked; given = is; holds = wrong_from call ex file asked c e }
+  execs_wrong (exec is) e = record {
+    file = is.file;
+    asked = is.asked;
+    given = is.given;
+    holds = wrong_from call ex is.file is.asked is.holds e;
+  }
 
   module _ (one : (bytes : List ℕ) (first other : Tables) → IsListing bytes first
       → IsListing bytes other → first ≡ other) where
     is_wrong : {m : ℕ} {t : List ℕ} → Cause call ex m t → IsSettled call m
         → ExecsBadOrder call → m ≡ ORDER_REFUSED
-    is_wrong (usage none z) settled r = absurd (none r.file r.asked r.given)
     is_wrong no_memory settled r = absurd (settled.decided.memory refl)
-    is_wrong {m = m} (exec file asked is c) settled r =
-        let same = exec_is_one call.words r.file file r.asked asked r.given is in
-        wrong_to_order call ex file asked m settled line table one c settled.read
-        (one_order call m settled asked.order) (subst (λ a. HasListing call file (HasBadOrder call a)) same.1
-        (subst (λ f. HasListing call f (HasBadOrder call r.asked)) same.0 r.holds))
+    is_wrong {m = m} (exec is) settled r =
+        wrong_to_order call ex is.file is.asked m settled line table one is.holds settled.read
+        (one_order call m settled is.asked.order)
+        (as_asked (codes "exec") ExecTakes call.words is r)
 
     pub order_exactly : Cause call ex n told → IsSettled call n
         → (n ≡ ORDER_REFUSED) ↔ ExecsBadOrder call

@@ -1,11 +1,10 @@
 -- The statuses of how a run ended are those of nothing else.
 use Rattle.std.proofs.Common.{◌≢◌, ℕ, arith}
-use Rattle.call_claims.specs.declared.status.TheConstants.{DONE, USAGE, UNREADABLE, TOO_LONG, REFUSED}
+use Rattle.call_claims.specs.declared.status.TheConstants.{DONE, UNREADABLE, TOO_LONG, REFUSED}
 use Rattle.call_claims.specs.declared.status.TheConstants.{UNBOUND, TRAPPED, TURN_LIMIT, PUT_FAILED, NO_MEMORY}
 use Rattle.exec_claims.specs.declared.status.TheConstants.{ORDER_REFUSED, LISTING_REFUSED, STUCK}
 
 pub record IsRunStatus (n : ℕ) : Type 0 where
-  pub usage : n ≢ USAGE
   pub unreadable : n ≢ UNREADABLE
   pub too_long : n ≢ TOO_LONG
   pub refused : n ≢ REFUSED
@@ -17,7 +16,6 @@ pub record IsRunStatus (n : ℕ) : Type 0 where
 
 pub is_done : IsRunStatus DONE
 is_done = record {
-  usage = λ h. omega arith;
   unreadable = λ h. omega arith;
   too_long = λ h. omega arith;
   refused = λ h. omega arith;
@@ -30,7 +28,6 @@ is_done = record {
 
 pub is_trapped : IsRunStatus TRAPPED
 is_trapped = record {
-  usage = λ h. omega arith;
   unreadable = λ h. omega arith;
   too_long = λ h. omega arith;
   refused = λ h. omega arith;
@@ -43,7 +40,6 @@ is_trapped = record {
 
 pub is_limit : IsRunStatus TURN_LIMIT
 is_limit = record {
-  usage = λ h. omega arith;
   unreadable = λ h. omega arith;
   too_long = λ h. omega arith;
   refused = λ h. omega arith;
@@ -56,7 +52,6 @@ is_limit = record {
 
 pub is_stuck : IsRunStatus STUCK
 is_stuck = record {
-  usage = λ h. omega arith;
   unreadable = λ h. omega arith;
   too_long = λ h. omega arith;
   refused = λ h. omega arith;

@@ -1,17 +1,16 @@
--- What a call of `exec` answers: its code and counts, what the stream for output took, and what the
--- stream for errors did.
+-- What a call of `exec` answers: its code and counts, and what the stream for output took.
 use Rattle.std.specs.Prelude.{◌≡◌, ◌⊎◌, ℕ, ◌≤◌, List, [], Option, Some, None, Ok}
-use Rattle.zpl_io.specs.Sink.{Takes, TakesFront}
+use Rattle.zpl_io.specs.Sink.{Takes}
 use Rattle.node_form.specs.declared.tables.Tables.{Tables}
 use Rattle.grid_meaning.specs.Grid.{processors}
 use Rattle.grid_order.specs.Reading.{reading}
 use Rattle.node_text.specs.Listing.{IsListing}
 use Rattle.call_claims.specs.declared.ran.Ran.{Ran}
 use Rattle.call_claims.specs.Call.{Call}
-use Rattle.call_claims.specs.Execution.{execution_of, HasNoCounts}
-use Rattle.exec_words.specs.Asked.{Asked}
-use Rattle.exec_claims.specs.Cause.{Cause, Source, run_of}
-use Rattle.exec_claims.specs.Decided.{Execs, IsOrderText}
+use Rattle.call_claims.specs.Execution.{HasNoCounts}
+use Rattle.call_claims.specs.Command.{Asked}
+use Rattle.exec_claims.specs.Cause.{Execs, Source, run_of}
+use Rattle.exec_claims.specs.Decided.{IsOrderText}
 use Rattle.grid_runs.specs.Run.{Run, grid_at, turns_in, GoesOnTo}
 
 -- ---- the code and the counts
@@ -54,17 +53,3 @@ TakesPrinted call ran before after (Some code) =
     (HasNoCounts ran × Takes before [] after)
     ⊎ Execs call (λ file asked. Runs call code asked
     (λ run. Takes before (grid_at run ran.turns).printed after))
-
--- ---- what the stream for errors took
--- The status has its cause, and the stream took its text.
-pub record IsAnswered (call : Call) (ran : Ran) (before after : List ℕ → Type 0) : Type 0 where
-  pub text : List ℕ
-  pub cause : Cause call (execution_of ran) ran.status text
-  pub told : Takes before text after
-
--- Some status has its cause, and the stream took a front of its text.
-pub record IsHalfAnswered (call : Call) (ran : Ran) (before after : List ℕ → Type 0) : Type 0 where
-  pub status : ℕ
-  pub text : List ℕ
-  pub cause : Cause call (execution_of ran) status text
-  pub front : TakesFront before text after

@@ -1,6 +1,6 @@
 -- Why a call of `exec` has its status, and what is told of it: by the command, the files, the listing,
 -- the order, and the run.
-use Rattle.std.specs.Prelude.{◌≡◌, ℕ, ◌<◌, ◌≤◌, Bool, true, false, List, [], ◌++◌, length, Option, Some, None, Ok, Err, codes, ⊤}
+use Rattle.std.specs.Prelude.{◌≡◌, ℕ, ◌<◌, ◌≤◌, Bool, true, false, List, [], ◌++◌, length, Option, Some, None, Ok, Err, codes}
 use Rattle.zpl_nums.specs.declared.ends.End.TheVariants.{Done, Trap}
 use Rattle.zpl_nums.specs.declared.ends.TrapKind.{TrapKind}
 use Rattle.node_form.specs.declared.tables.Tables.{Tables}
@@ -11,11 +11,11 @@ use Rattle.listing_lines.specs.Listing.{IsBadLine}
 use Rattle.node_text.specs.Listing.{IsBadTable, IsListing}
 use Rattle.call_claims.specs.Call.{Call}
 use Rattle.call_claims.specs.Execution.{Execution, HasNoRun}
-use Rattle.call_claims.specs.Texts.{usage_text, unreadable_text, too_long_text, trap_text}
+use Rattle.call_claims.specs.Texts.{unreadable_text, too_long_text, trap_text}
 use Rattle.call_claims.specs.Texts.{turn_limit_text, no_memory_text}
-use Rattle.call_claims.specs.declared.status.TheConstants.{DONE, USAGE, UNREADABLE, TOO_LONG}
+use Rattle.call_claims.specs.declared.status.TheConstants.{DONE, UNREADABLE, TOO_LONG}
 use Rattle.call_claims.specs.declared.status.TheConstants.{TRAPPED, TURN_LIMIT, NO_MEMORY}
-use Rattle.exec_words.specs.Asked.{Asked, IsExec, IsNoExec, limit_of}
+use Rattle.call_claims.specs.Command.{Asked, Asks, IsExec, limit_of}
 use Rattle.grid_runs.specs.Run.{Run, grid_at, GoesOnTo, IsStuckAt, IsIdleAt, IsLimitedAt}
 use Rattle.exec_claims.specs.Texts.{order_refused_text, listing_refused_text, report_text}
 use Rattle.exec_claims.specs.Texts.{stuck_text, kind_name, idle_name}
@@ -86,12 +86,11 @@ pub data TextCause (call : Call) (file : List ℕ) (May Ends : Type 0)
   work : {status : ℕ} {told : List ℕ} (source : Source call file)
       → Works source.text status told → TextCause call file May Ends Works status told
 
--- The order is the empty one where no word names a file. Of its fetch, which is the second, it isn't
--- known before the call whether it may fail.
+-- The order is the empty one where no word names a file. Its fetch is not the first of the call.
 abbrev pub OrderFileCause : Call → Tables → Asked → ℕ → Option (List ℕ) → ℕ → List ℕ → Type 0
 OrderFileCause call code asked turns None = OrderCause code asked turns []
 OrderFileCause call code asked turns (Some file) =
-    TextCause call file ⊤ (turns ≡ 0) (OrderCause code asked turns)
+    TextCause call file (call.may_fail_later file) (turns ≡ 0) (OrderCause code asked turns)
 
 -- ---- the text of a listing
 -- It is no listing, and why; or it is that of the code, with what came of its order and run.
@@ -114,11 +113,14 @@ ListingFileCause call file asked execution =
     TextCause call file (call.may_fail file) (HasNoRun execution)
     (ListingCause call asked execution)
 
+-- The words run a listing, and this holds of its file and of what they ask for.
+abbrev pub Execs : Call → (List ℕ → Asked → Type 0) → Type 0
+Execs call = Asks IsExec call.words
+
 -- ---- any call
 -- The cause of a status, and what is told of it. A failed put is no cause of these.
 pub data Cause (call : Call) (execution : Execution) : ℕ → List ℕ → Type 0 where
-  usage : IsNoExec call.words → HasNoRun execution → Cause call execution USAGE usage_text
   no_memory : Cause call execution NO_MEMORY no_memory_text
-  exec : {status : ℕ} {told : List ℕ} (file : List ℕ) (asked : Asked)
-      → IsExec call.words file asked → ListingFileCause call file asked execution status told
+  exec : {status : ℕ} {told : List ℕ}
+      → Execs call (λ file asked. ListingFileCause call file asked execution status told)
       → Cause call execution status told

@@ -10,16 +10,9 @@ use Rattle.node_text.specs.Listing.{IsListing}
 use Rattle.call_claims.specs.Call.{Call}
 use Rattle.call_claims.specs.Execution.{Execution}
 use Rattle.call_claims.specs.declared.status.TheConstants.{UNREADABLE}
-use Rattle.exec_words.specs.Asked.{Asked, IsExec}
-use Rattle.exec_claims.specs.Cause.{Source, IsTooLong, run_of}
+use Rattle.call_claims.specs.Command.{Asked}
+use Rattle.exec_claims.specs.Cause.{Execs, Source, IsTooLong, run_of}
 use Rattle.grid_runs.specs.Run.{Run, grid_at, GoesOnTo, IsStuckAt, IsIdleAt}
-
--- The words run a listing, and this holds of its file and of what they ask for.
-pub record Execs (call : Call) (Holds : List ℕ → Asked → Type 0) : Type 0 where
-  pub file : List ℕ
-  pub asked : Asked
-  pub given : IsExec call.words file asked
-  pub holds : Holds file asked
 
 -- ---- a run of the listed code
 -- the text of the order: that of its file, and none where no word names one

@@ -3,9 +3,8 @@ ghost use Rattle.std.specs.Prelude.{◌≡◌, ◌↔◌, ℕ, List};
 ghost use Rattle.call_claims.specs.Call.{call_of};
 ghost use Rattle.call_claims.specs.Decided.{IsSettled};
 ghost use Rattle.call_claims.specs.Execution.{Execution};
-ghost use Rattle.call_claims.specs.declared.status.TheConstants.{DONE, TOO_LONG, USAGE};
+ghost use Rattle.call_claims.specs.declared.status.TheConstants.{DONE, TOO_LONG};
 ghost use Rattle.call_claims.specs.declared.status.TheConstants.{TRAPPED, TURN_LIMIT};
-ghost use Rattle.exec_words.specs.Asked.{IsNoExec};
 ghost use Rattle.exec_claims.specs.Cause.{Cause};
 ghost use Rattle.exec_claims.specs.Decided.{ExecsNoListing, ExecsTooLong, ExecsBadOrder};
 ghost use Rattle.exec_claims.specs.Decided.{IsDoneAt, IsStuckOrIdleAt, IsTrapAt, RunsTo};
@@ -22,7 +21,8 @@ use zpl_io::Files;
 pub fn exec_causes_are_one<F: Files>()
     ensures { (files : F) (words : List (List ℕ)) (ran : Execution) (n m : ℕ)
         (told other : List ℕ) →
-        let call = call_of words (F.tells files) (F.may_fail files) in
+        let call = call_of words (F.tells files) (F.may_fail files)
+        (F.may_fail_later files) in
         Cause call ran n told → Cause call ran m other →
         IsSettled call n → IsSettled call m → n ≡ m }
 {
@@ -31,30 +31,34 @@ pub fn exec_causes_are_one<F: Files>()
 
 /// A status that has its cause comes just where its own cause is, under the same conditions.
 pub fn exec_statuses_are_exact<F: Files>()
-    ensures usage { (files : F) (words : List (List ℕ)) (ran : Execution) (n : ℕ) (told : List ℕ) →
-        let call = call_of words (F.tells files) (F.may_fail files) in
-        Cause call ran n told → IsSettled call n → (n ≡ USAGE) ↔ IsNoExec words }
     ensures too_long { (files : F) (words : List (List ℕ)) (ran : Execution) (n : ℕ)
-        (told : List ℕ) → let call = call_of words (F.tells files) (F.may_fail files) in
+        (told : List ℕ) → let call = call_of words (F.tells files) (F.may_fail files)
+        (F.may_fail_later files) in
         Cause call ran n told → IsSettled call n → (n ≡ TOO_LONG) ↔ ExecsTooLong call }
     ensures order { (files : F) (words : List (List ℕ)) (ran : Execution) (n : ℕ)
-        (told : List ℕ) → let call = call_of words (F.tells files) (F.may_fail files) in
+        (told : List ℕ) → let call = call_of words (F.tells files) (F.may_fail files)
+        (F.may_fail_later files) in
         Cause call ran n told → IsSettled call n → (n ≡ ORDER_REFUSED) ↔ ExecsBadOrder call }
     ensures listing { (files : F) (words : List (List ℕ)) (ran : Execution) (n : ℕ)
-        (told : List ℕ) → let call = call_of words (F.tells files) (F.may_fail files) in
+        (told : List ℕ) → let call = call_of words (F.tells files) (F.may_fail files)
+        (F.may_fail_later files) in
         Cause call ran n told → IsSettled call n →
         (n ≡ LISTING_REFUSED) ↔ ExecsNoListing call }
     ensures done { (files : F) (words : List (List ℕ)) (ran : Execution) (n : ℕ) (told : List ℕ) →
-        let call = call_of words (F.tells files) (F.may_fail files) in
+        let call = call_of words (F.tells files) (F.may_fail files)
+        (F.may_fail_later files) in
         Cause call ran n told → IsSettled call n → (n ≡ DONE) ↔ RunsTo call ran IsDoneAt }
     ensures trap { (files : F) (words : List (List ℕ)) (ran : Execution) (n : ℕ) (told : List ℕ) →
-        let call = call_of words (F.tells files) (F.may_fail files) in
+        let call = call_of words (F.tells files) (F.may_fail files)
+        (F.may_fail_later files) in
         Cause call ran n told → IsSettled call n → (n ≡ TRAPPED) ↔ RunsTo call ran IsTrapAt }
     ensures turn_limit { (files : F) (words : List (List ℕ)) (ran : Execution) (n : ℕ)
-        (told : List ℕ) → let call = call_of words (F.tells files) (F.may_fail files) in
+        (told : List ℕ) → let call = call_of words (F.tells files) (F.may_fail files)
+        (F.may_fail_later files) in
         Cause call ran n told → IsSettled call n → (n ≡ TURN_LIMIT) ↔ RunsTo call ran IsLimitedAt }
     ensures stuck { (files : F) (words : List (List ℕ)) (ran : Execution) (n : ℕ)
-        (told : List ℕ) → let call = call_of words (F.tells files) (F.may_fail files) in
+        (told : List ℕ) → let call = call_of words (F.tells files) (F.may_fail files)
+        (F.may_fail_later files) in
         Cause call ran n told → IsSettled call n → (n ≡ STUCK) ↔ RunsTo call ran IsStuckOrIdleAt }
 {
     bytes_have_one_program();

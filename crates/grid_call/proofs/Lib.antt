@@ -1,4 +1,2 @@
-pub mod AnswerLemmas
 pub mod RunLemmas
-pub mod TellLemmas
 pub mod WorkLemmas

@@ -17,13 +17,13 @@ use Rattle.grid_sim.specs.Turned.{kind_told}
 use Rattle.call_claims.specs.Decided.{IsDecided}
 use Rattle.exec_claims.specs.Cause.{RunCause, report_at}
 use Rattle.exec_claims.specs.Cause.RunCause.{done, trap, turn_limit, stuck, idle}
-use Rattle.grid_call.specs.Answers.{answer_in, counts_for, counts_text, status_of, stop_status}
-use Rattle.grid_call.specs.Answers.{stop_text, told_of}
+use Rattle.call_answers.specs.Answers.{counts_text, status_of, stop_status, stop_text, told_of}
+use Rattle.grid_call.specs.Ended.{answer_in, counts_for}
 use Rattle.grid_call.specs.Work.{IsRunOn}
-use Rattle.grid_call.specs.declared.answers.Answer.{Answer}
-use Rattle.grid_call.specs.declared.answers.Answer.TheVariants as answer
-use Rattle.grid_call.specs.declared.answers.Stop.{Stop}
-use Rattle.grid_call.specs.declared.answers.Stop.TheVariants as stop
+use Rattle.call_answers.specs.declared.answers.Answer.{Answer}
+use Rattle.call_answers.specs.declared.answers.Answer.TheVariants as answer
+use Rattle.call_answers.specs.declared.answers.Stop.{Stop}
+use Rattle.call_answers.specs.declared.answers.Stop.TheVariants as stop
 
 module _ (run : Run) (wanted : Bool) (k : ℕ) where
   -- what the grid has counted

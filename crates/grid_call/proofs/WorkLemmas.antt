@@ -1,8 +1,7 @@
 -- From what was fetched, read and run to the cause of the answer, and to what was counted.
-use Rattle.std.proofs.Common.{◌≡◌, ℕ, ◌+◌, ◌*◌, ◌≤◌, ◌⊎◌, Bool, Result, List, [], length, Option, Some, None, Ok, Err}
-use Rattle.std.proofs.Common.{IfErr, IfOk, refl, sym, ◌∙◌, ap, subst, inl, inr, arith}
-use Rattle.zpl_io.specs.Faults.{CountsFaults}
-use Rattle.zpl_io.specs.Files.{GainsWhole, GainsTooMuch, SameTexts}
+use Rattle.std.proofs.Common.{◌≡◌, ℕ, ◌+◌, ◌*◌, ◌≤◌, ◌⊎◌, Bool, List, [], length, Option, Some, None, Ok, Err}
+use Rattle.std.proofs.Common.{refl, sym, ◌∙◌, ap, subst, inl, inr, arith}
+use Rattle.zpl_io.specs.Files.{SameTexts}
 use Rattle.node_form.specs.declared.tables.Tables.{Tables}
 use Rattle.grid_meaning.specs.Grid.{processors}
 use Rattle.grid_order.specs.Reading.{reading}
@@ -11,36 +10,29 @@ use Rattle.grid_runs.specs.Run.{Run, GoesOnTo}
 use Rattle.call_claims.specs.Call.{Call, call_of}
 use Rattle.call_claims.specs.Decided.{IsDecided}
 use Rattle.call_claims.specs.Execution.{HasNoCounts}
-use Rattle.call_claims.specs.declared.ran.Ran.{Ran}
-use Rattle.exec_words.specs.Asked.{Asked}
+use Rattle.call_claims.specs.Texts.{too_long_text, unreadable_text}
+use Rattle.call_claims.specs.declared.status.TheConstants.{TOO_LONG, UNREADABLE}
+use Rattle.call_claims.specs.Command.{Asked}
 use Rattle.exec_claims.specs.Answer.{HasCounts, Runs}
-use Rattle.exec_claims.specs.Cause.{IsTooLong, OrderFileCause, RunCause, Source, run_of}
+use Rattle.exec_claims.specs.Cause.{OrderCause, OrderFileCause, RunCause, Source, TextCause, run_of}
 use Rattle.exec_claims.specs.Cause.RunCause.{done, trap, turn_limit, stuck, idle}
 use Rattle.exec_claims.specs.Cause.OrderCause.{bad_item, ran as under_order}
 use Rattle.exec_claims.specs.Cause.TextCause.{too_long, unreadable, work as of_text}
 use Rattle.exec_claims.specs.Decided.{IsOrderText}
 use Rattle.exec_claims.specs.declared.limits.TheConstants.{MOST_LISTING}
-use Rattle.grid_call.specs.Answers.{status_of, told_of}
+use Rattle.call_answers.specs.Answers.{status_of, told_of}
+use Rattle.call_answers.specs.Fetched.{IsNoText, IsWholeText}
+use Rattle.call_answers.specs.Work.{ran_of}
 use Rattle.grid_call.specs.Work.{HasNoTurns, IsCodeWork, IsNoOrder, IsOrderOf, IsRunOn, OrderFails}
 use Rattle.grid_call.specs.Work.IsCodeWork.{unordered, ran}
-use Rattle.grid_call.specs.declared.answers.Answer.{Answer}
-use Rattle.grid_call.specs.declared.answers.Answer.TheVariants as answer
-use Rattle.grid_call.specs.declared.work.Work.{Work}
+use Rattle.call_answers.specs.declared.answers.Answer.{Answer}
+use Rattle.call_answers.specs.declared.answers.Answer.TheVariants as answer
+use Rattle.call_answers.specs.declared.work.Work.{Work}
 
 -- ---- files
--- a whole text that was fetched
-abbrev pub source_of : (call : Call) (file text new : List ℕ)
-    → GainsWhole (call.tells file) MOST_LISTING [] new → text ≡ new → Source call file
-source_of call file text new gains is = record {
-  text = text;
-  told = subst (call.tells file) (sym (is ∙ gains.gained)) gains.is_told;
-  short = subst (λ t. length t ≤ MOST_LISTING) (sym (is ∙ gains.gained)) gains.is_short;
-}
-
-abbrev pub too_long_of : (call : Call) (file new : List ℕ)
-    → GainsTooMuch (call.tells file) MOST_LISTING [] new → IsTooLong call file
-too_long_of call file new gains =
-    record { text = gains.text; told = gains.is_told; long = gains.is_long }
+pub source_of : (call : Call) (file text : List ℕ)
+    → IsWholeText (call.tells file) MOST_LISTING text → Source call file
+source_of call file text is = record { text = text; told = is.told; short = is.short }
 
 -- ---- no order
 pub unread_order : (call : Call) (code : Tables) (file : List ℕ) (source : Source call file)
@@ -48,30 +40,55 @@ pub unread_order : (call : Call) (code : Tables) (file : List ℕ) (source : Sou
 unread_order call code file source (answer.BadItem at) is =
     λ d asked. of_text source (bad_item at is refl)
 unread_order call code file source answer.NoMemory is = λ d. absurd (d.memory refl)
+unread_order call code file source answer.Usage is = elim is [ ]
 unread_order call code file source (answer.Unreadable name) is = elim is [ ]
 unread_order call code file source (answer.TooLong name) is = elim is [ ]
+unread_order call code file source (answer.Refused refusal line) is = elim is [ ]
+unread_order call code file source (answer.Unbound fault) is = elim is [ ]
 unread_order call code file source (answer.BadLine line) is = elim is [ ]
 unread_order call code file source (answer.BadTable line) is = elim is [ ]
 unread_order call code file source (answer.Stopped stop report) is = elim is [ ]
 unread_order call code file source answer.PutFailed is = elim is [ ]
 
+-- nor where there is no text
+pub unfetched_order : (call : Call) (code : Tables) (file : List ℕ) (a : Answer)
+    → IsNoText (call.tells file) (call.may_fail_later file) MOST_LISTING file a
+    → OrderFails call code (Some file) a
+unfetched_order call code file (answer.Unreadable name) is = λ d asked.
+    subst (λ f. TextCause call file (call.may_fail_later file) (0 ≡ 0) (OrderCause code asked 0) UNREADABLE
+    (unreadable_text f)) (sym is.0) (unreadable is.1 refl)
+unfetched_order call code file (answer.TooLong name) is = λ d asked.
+    subst (λ f. TextCause call file (call.may_fail_later file) (0 ≡ 0) (OrderCause code asked 0) TOO_LONG
+    (too_long_text f)) (sym is.0)
+    (too_long (record { text = is.1.text; told = is.1.told; long = is.1.long }) refl)
+unfetched_order call code file answer.NoMemory is = λ d. absurd (d.memory refl)
+unfetched_order call code file answer.Usage is = elim is [ ]
+unfetched_order call code file (answer.Refused refusal line) is = elim is [ ]
+unfetched_order call code file (answer.Unbound fault) is = elim is [ ]
+unfetched_order call code file (answer.BadLine line) is = elim is [ ]
+unfetched_order call code file (answer.BadTable line) is = elim is [ ]
+unfetched_order call code file (answer.BadItem at) is = elim is [ ]
+unfetched_order call code file (answer.Stopped stop report) is = elim is [ ]
+unfetched_order call code file answer.PutFailed is = elim is [ ]
+
 -- ---- files that tell the same texts
 module _ (words : List (List ℕ)) (tells other : List ℕ → List ℕ → Type 0)
-    (fails fail : List ℕ → Type 0) (same : SameTexts tells other) where
-  abbrev source_back : (file : List ℕ) → Source (call_of words other fail) file
-      → Source (call_of words tells fails) file
+    (fails fail late later : List ℕ → Type 0) (same : SameTexts tells other)
+    (kept : (file : List ℕ) → later file → late file) where
+  abbrev source_back : (file : List ℕ) → Source (call_of words other fail later) file
+      → Source (call_of words tells fails late) file
   source_back file s =
       record { text = s.text; told = (same file s.text).1 s.told; short = s.short }
 
   text_back : (named : Option (List ℕ)) (text : List ℕ)
-      → IsOrderText (call_of words other fail) named text
-      → IsOrderText (call_of words tells fails) named text
+      → IsOrderText (call_of words other fail later) named text
+      → IsOrderText (call_of words tells fails late) named text
   text_back None text is = is
   text_back (Some file) text is = (source_back file is.0, is.1)
 
   order_back : (code : Tables) (named : Option (List ℕ)) (order : List ℕ)
-      → IsOrderOf (call_of words other fail) code named order
-      → IsOrderOf (call_of words tells fails) code named order
+      → IsOrderOf (call_of words other fail later) code named order
+      → IsOrderOf (call_of words tells fails late) code named order
   order_back code named order is = record {
     text = is.text;
     order_text = text_back named is.text is.order_text;
@@ -80,11 +97,11 @@ module _ (words : List (List ℕ)) (tells other : List ℕ → List ℕ → Type
 
   cause_back : (code : Tables) (asked : Asked) (turns status : ℕ) (told : List ℕ)
       (named : Option (List ℕ))
-      → OrderFileCause (call_of words other fail) code asked turns named status told
-      → OrderFileCause (call_of words tells fails) code asked turns named status told
+      → OrderFileCause (call_of words other fail later) code asked turns named status told
+      → OrderFileCause (call_of words tells fails late) code asked turns named status told
   cause_back code asked turns status told None cause = cause
   cause_back code asked turns status told (Some file) (unreadable may ends) =
-      unreadable tt ends
+      unreadable (kept file may) ends
   cause_back code asked turns status told (Some file) (too_long long ends) =
       too_long
       (record { text = long.text; told = (same file long.text).1 long.told; long = long.long })
@@ -93,8 +110,8 @@ module _ (words : List (List ℕ)) (tells other : List ℕ → List ℕ → Type
       of_text (source_back file source) works
 
   pub work_back : (code : Tables) (asked : Asked) (work : Work) (before after : List ℕ → Type 0)
-      → IsCodeWork (call_of words other fail) code asked work before after
-      → IsCodeWork (call_of words tells fails) code asked work before after
+      → IsCodeWork (call_of words other fail later) code asked work before after
+      → IsCodeWork (call_of words tells fails late) code asked work before after
   work_back code asked work before after (unordered fails nothing) =
       unordered (λ d more. cause_back code more 0 _ _ asked.order (fails d more)) nothing
   work_back code asked work before after (ran order is run) =
@@ -128,16 +145,6 @@ of_code call code asked work before after (ran order is run) d =
     ordered call code asked work.counts.turns _ _ asked.order order is run.goes_on (run.cause d)
 
 -- ---- the code and the counts
--- what is answered, with a status
-abbrev pub ran_of : ℕ → Work → Ran
-ran_of status work = record {
-  status = status;
-  code = work.code;
-  turns = work.counts.turns;
-  sends = work.counts.sends;
-  words_sent = work.counts.words;
-}
-
 pub none_counted : (status : ℕ) (work : Work) (before after : List ℕ → Type 0)
     → HasNoTurns work before after → HasNoCounts (ran_of status work)
 none_counted status work before after nothing = record {
@@ -164,28 +171,6 @@ run_counted status call code asked work before after (ran order is run) = inr (r
     words = run.words;
   };
 })
-
--- ---- answers of results
-pub on_ok : {A B : Type 0} (r : Result A B) (P Q : A → Type 0) → ((v : A) → P v → Q v) → IfOk r P
-    → IfOk r Q
-on_ok (Ok v) P Q to h = to v h
-on_ok (Err e) P Q to h = tt
-
-pub on_err : {A B : Type 0} (r : Result A B) (P Q : B → Type 0) → ((e : B) → P e → Q e)
-    → IfErr r P → IfErr r Q
-on_err (Ok v) P Q to h = tt
-on_err (Err e) P Q to h = to e h
-
--- ---- fetches
--- where neither failed the counts are as they were
-pub not_fetched : (P Q : Type 0) (before after : ℕ) → ¬ P → ¬ Q → CountsFaults P before after
-    → CountsFaults Q before after
-not_fetched P Q before after passed never counts = record {
-  rises = λ q. absurd (never q);
-  only = λ less. absurd (passed (counts.only less));
-  never_falls = counts.never_falls;
-  bounded = counts.bounded;
-}
 
 -- ---- orders
 -- the text of an order isn't too long

@@ -1,3 +1,2 @@
-pub mod Answers
-pub mod Stream
+pub mod Ended
 pub mod Work

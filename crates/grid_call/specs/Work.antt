@@ -1,34 +1,27 @@
 -- What comes of the work on code that is there, up to what is told of it.
 --
---   execution_in, HasNoTurns   the code and the turns; nothing was run
+--   HasNoTurns                 nothing was run
 --   OrderFails                 no order was read, and why
 --   IsOrderOf                  the order that the words ask for
 --   IsRunOn                    what came of a run
 --   IsCodeWork                 what came of the work on the code
-use Rattle.std.specs.Prelude.{◌≡◌, ◌≢◌, ℕ, ◌≤◌, Bool, List, [], Option, Result, Ok, Err, ⊤}
+use Rattle.std.specs.Prelude.{◌≡◌, ◌≢◌, ℕ, ◌≤◌, Bool, List, [], Option, Ok, Err, ⊤}
 use Rattle.zpl_io.specs.Sink.{Takes}
 use Rattle.node_form.specs.declared.tables.Tables.{Tables}
 use Rattle.grid_meaning.specs.Grid.{processors}
 use Rattle.grid_order.specs.Reading.{reading}
 use Rattle.grid_runs.specs.Run.{Run, grid_at, turns_in, GoesOnTo, IsCutOff}
 use Rattle.grid_sim.specs.declared.counts.Counts.{Counts}
-use Rattle.call_claims.specs.declared.status.TheConstants.{UNREADABLE}
 use Rattle.call_claims.specs.Call.{Call}
 use Rattle.call_claims.specs.Decided.{IsDecided}
-use Rattle.call_claims.specs.Execution.{Execution}
-use Rattle.exec_words.specs.Asked.{Asked}
+use Rattle.call_claims.specs.Command.{Asked}
 use Rattle.exec_claims.specs.Cause.{OrderFileCause, RunCause, run_of}
 use Rattle.exec_claims.specs.Decided.{IsOrderText}
-use Rattle.grid_call.specs.Answers.{status_of, told_of}
-use Rattle.grid_call.specs.declared.answers.Answer.{Answer}
-use Rattle.grid_call.specs.declared.answers.Answer.TheVariants as answer
-use Rattle.grid_call.specs.declared.work.Work.{Work}
-
-abbrev pub execution_in : Work → Execution
-execution_in work = record { code = work.code; turns = work.counts.turns }
-
-abbrev pub no_counts : Counts
-no_counts = record { turns = 0; sends = 0; words = 0 }
+use Rattle.call_answers.specs.Answers.{status_of, told_of}
+use Rattle.call_answers.specs.Work.{no_counts}
+use Rattle.call_answers.specs.declared.answers.Answer.{Answer}
+use Rattle.call_answers.specs.declared.answers.Answer.TheVariants as answer
+use Rattle.call_answers.specs.declared.work.Work.{Work}
 
 -- ---- the order
 -- the text has these turns; or none, and why
@@ -81,8 +74,3 @@ pub data IsCodeWork (call : Call) (code : Tables) (asked : Asked) (work : Work)
   ran : (order : List ℕ) → IsOrderOf call code asked.order order
       → IsRunOn (run_of code asked order) asked.report work.answer work.counts before after
       → IsCodeWork call code asked work before after
-
--- a fetch failed
-abbrev pub FailsToFetch : {A : Type 0} → Result A Answer → Type 0
-FailsToFetch (Ok told) = ⊥
-FailsToFetch (Err a) = status_of a ≡ UNREADABLE

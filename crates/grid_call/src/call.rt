@@ -5,16 +5,15 @@ ghost use Rattle.zpl_io.specs.Files.{SameTexts};
 ghost use Rattle.code_layout.specs.Room.{HasRoom};
 ghost use Rattle.call_claims.specs.Call.{call_of};
 ghost use Rattle.call_claims.specs.declared.status.TheConstants.{UNREADABLE};
-ghost use Rattle.exec_words.specs.Met.{CanBeMet};
-ghost use Rattle.exec_words.specs.Reading.{asked_in};
-ghost use Rattle.grid_call.specs.Answers.{status_of};
+ghost use Rattle.call_claims.specs.Met.{CanBeMet};
+ghost use Rattle.call_words.specs.Reading.{asked_in};
+ghost use Rattle.call_answers.specs.Answers.{status_of};
 ghost use Rattle.grid_call.specs.Work.{IsCodeWork};
 
-use crate::answers::Answer;
 use crate::orders::fetch_order;
 use crate::runs::run;
-use crate::work::Work;
-use exec_words::Asked;
+use call_answers::{Answer, Work};
+use call_words::Asked;
 use grid_order::orders_have_their_bounds;
 use node_form::NodeProgram;
 use std::alloc::Global;
@@ -33,7 +32,8 @@ pub fn run_code<'a, F: Files, O: Sink>(
     requires asked { CanBeMet (asked_in asked) }
     ensures code { result.code ≡ Some code }
     ensures work { (words : List (List ℕ)) →
-        IsCodeWork (call_of words (F.tells files.old) (F.may_fail files.old)) code
+        IsCodeWork (call_of words (F.tells files.old) (F.may_fail files.old)
+        (F.may_fail_later files.old)) code
         (asked_in asked.entry) result (O.tells out.old) (O.tells out.new) }
     ensures texts { SameTexts (F.tells files.old) (F.tells files.new) }
     ensures fetches { CountsFaults (status_of result.answer ≡ UNREADABLE)

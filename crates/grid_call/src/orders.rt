@@ -7,14 +7,15 @@ ghost use Rattle.node_form.specs.Grid.{IsGrid, processors_of};
 ghost use Rattle.grid_meaning.specs.Local.{processors};
 ghost use Rattle.call_claims.specs.Call.{call_of};
 ghost use Rattle.exec_claims.specs.declared.limits.TheConstants.{MOST_LISTING};
-ghost use Rattle.grid_call.specs.Work.{FailsToFetch, IsNoOrder, IsOrderOf, IsReading, OrderFails};
+ghost use Rattle.call_answers.specs.Fetched.{FailsToFetch};
+ghost use Rattle.grid_call.specs.Work.{IsNoOrder, IsOrderOf, IsReading, OrderFails};
 
-use crate::answers::Answer;
+use call_answers::{Answer, text_of_file};
 use exec_claims::MOST_LISTING;
 use grid_order::{Order, OrderFault, read_order};
 use node_form::{Grid3, NodeProgram};
 use std::alloc::Global;
-use zpl_io::{Fetched, Files};
+use zpl_io::Files;
 
 /// The order of turns that a file tells, and the empty one where none is named; or the answer that
 /// there is none.
@@ -25,10 +26,12 @@ pub fn fetch_order<'a, F: Files>(
     files: &mut F,
 ) -> Result<Order, Answer<'a>>
     ensures ok { (words : List (List ℕ)) → IfOk result
-        (IsOrderOf (call_of words (F.tells files.old) (F.may_fail files.old)) code.now
+        (IsOrderOf (call_of words (F.tells files.old) (F.may_fail files.old)
+        (F.may_fail_later files.old)) code.now
         (option_map (λ file. file.now) named.entry)) }
     ensures err { (words : List (List ℕ)) → IfErr result
-        (OrderFails (call_of words (F.tells files.old) (F.may_fail files.old)) code.now
+        (OrderFails (call_of words (F.tells files.old) (F.may_fail files.old)
+        (F.may_fail_later files.old)) code.now
         (option_map (λ file. file.now) named.entry)) }
     ensures put { IfErr result (λ answer. answer ≢ Answer.PutFailed) }
     ensures texts { SameTexts (F.tells files.old) (F.tells files.new) }
@@ -49,22 +52,21 @@ fn fetch_named<'a, F: Files>(
     files: &mut F,
 ) -> Result<Order, Answer<'a>>
     ensures ok { (words : List (List ℕ)) → IfOk result
-        (IsOrderOf (call_of words (F.tells files.old) (F.may_fail files.old)) code.now
+        (IsOrderOf (call_of words (F.tells files.old) (F.may_fail files.old)
+        (F.may_fail_later files.old)) code.now
         (Some file.now)) }
     ensures err { (words : List (List ℕ)) → IfErr result
-        (OrderFails (call_of words (F.tells files.old) (F.may_fail files.old)) code.now
+        (OrderFails (call_of words (F.tells files.old) (F.may_fail files.old)
+        (F.may_fail_later files.old)) code.now
         (Some file.now)) }
     ensures put { IfErr result (λ answer. answer ≢ Answer.PutFailed) }
     ensures texts { SameTexts (F.tells files.old) (F.tells files.new) }
     ensures fetches { CountsFaults (FailsToFetch result)
         (F.faults files.old) (F.faults files.new) }
 {
-    let mut text = Vec::new(alloc);
-    match files.fetch(alloc, file, MOST_LISTING as u64, &mut text) {
-        Fetched::Whole => order_of(alloc, text.as_slice(), code),
-        Fetched::TooLong => Err(Answer::TooLong(file)),
-        Fetched::Failed => Err(Answer::Unreadable(file)),
-        Fetched::NoMemory => Err(Answer::NoMemory),
+    match text_of_file(alloc, file, MOST_LISTING as u64, files) {
+        Ok(text) => order_of(alloc, text.as_slice(), code),
+        Err(answer) => Err(answer),
     }
 }
 

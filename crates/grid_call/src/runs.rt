@@ -1,26 +1,27 @@
 //! Runs of code.
-ghost use Rattle.std.specs.Prelude.{◌≡◌, ◌+◌, ◌≤◌, ◌^◌, None, Some, IfErr, IfOk, length};
+ghost use Rattle.std.specs.Prelude.{◌≡◌, ◌≢◌, ◌+◌, ◌≤◌, ◌^◌, None, Some, IfErr, IfOk, Ok, length};
 ghost use Rattle.zpl_io.specs.Faults.{CountsFaults};
+ghost use Rattle.zpl_nums.specs.declared.ends.End.TheVariants.{More};
 ghost use Rattle.code_layout.specs.Room.{HasRoom};
 ghost use Rattle.grid_meaning.specs.Grid.{IsCapacity};
 ghost use Rattle.grid_meaning.specs.Local.{processors};
 ghost use Rattle.grid_meaning.specs.Order.{IsOrder};
 ghost use Rattle.grid_sim.specs.Simulation.{start_simulation};
-ghost use Rattle.exec_words.specs.Asked.{limit_of};
-ghost use Rattle.exec_words.specs.Reading.{asked_in};
+ghost use Rattle.call_claims.specs.Command.{limit_of};
+ghost use Rattle.call_words.specs.Reading.{asked_in};
 ghost use Rattle.exec_claims.specs.Cause.{run_of};
-ghost use Rattle.grid_call.specs.Answers.{counts_for};
+ghost use Rattle.grid_call.specs.Ended.{answer_in, counts_for};
 ghost use Rattle.grid_call.specs.Work.{IsRunOn};
 
-use crate::answers::Answer;
-use crate::work::Work;
-use exec_words::Asked;
+use call_answers::{Answer, Stop, Work};
+use call_words::Asked;
 use grid_order::Order;
 use grid_runs::{endings_are_final, turns_count};
-use grid_sim::{Counts, Sim};
+use grid_sim::{Counts, Sim, SimFault};
 use node_form::NodeProgram;
 use std::alloc::Global;
 use zpl_io::Sink;
+use zpl_nums::End;
 
 /// Runs code under an order of turns, as the words ask for it, up to the answer.
 pub fn run<'a, O: Sink>(
@@ -83,9 +84,25 @@ fn run_sim<'a, O: Sink>(
     let counts = sim.counts();
     let report = report_for(asked.report, counts);
     Work {
-        answer: Answer::of_run(ended, report),
+        answer: answer_of(ended, report),
         code: Some(sim.into_code()),
         counts,
+    }
+}
+
+/// The answer of a run that ended so.
+fn answer_of<'a>(ended: Result<End, SimFault>, report: Option<Counts>) -> Answer<'a>
+    requires { ended ≢ Ok More }
+    ensures { result ≡ answer_in ended report }
+{
+    match ended {
+        Ok(End::Done) => Answer::Stopped(Stop::Done, report),
+        Ok(End::Trap(kind, line)) => Answer::Stopped(Stop::Trap(kind, line), report),
+        Ok(End::More) => unreachable!(),
+        Err(SimFault::TurnLimit) => Answer::Stopped(Stop::TurnLimit, report),
+        Err(SimFault::SinkFailed) => Answer::PutFailed,
+        Err(SimFault::Stuck(p, kind)) => Answer::Stopped(Stop::Stuck(p, kind), report),
+        Err(SimFault::NoMemory) => Answer::NoMemory,
     }
 }
 

@@ -1,4 +1,2 @@
-mod CallLemmas
 mod TextLemmas
-mod WordLemmas
 mod WorkLemmas

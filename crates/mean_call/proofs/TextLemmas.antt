@@ -20,7 +20,7 @@ use Rattle.call_answers.specs.declared.refusals.Refusal.{Refusal}
 use Rattle.call_answers.specs.declared.refusals.Refusal.TheVariants.{Lex, Parse, Judge, Bind}
 use Rattle.call_answers.specs.declared.refusals.Refusal.TheVariants.{NotBuilt, NoMemory}
 use Rattle.bound_texts.specs.Refused.{IsRefused, IsTreeless}
-use Rattle.mean_claims.specs.Text.{IsAccepted, IsFaulty}
+use Rattle.call_claims.specs.Accepted.{IsAccepted, IsFaulty}
 use Rattle.mean_call.specs.Work.{answer_in, MeansText}
 
 -- a sink that was not used took nothing
@@ -41,11 +41,11 @@ pub has_meant : (text : List ℕ) (settings : List Setting) (loops : ℕ) (progr
     → IsAcceptedWith program settings → Means answer (mean_of program settings loops) before after
     → MeansText text settings loops before after (answer_in answer)
 has_meant text settings loops program before after (Ok ending.Done) accepted bound means =
-    record { program = program; accepted = accepted; bound = bound; holds = means }
+    (refl, record { program = program; accepted = accepted; bound = bound; holds = means })
 has_meant text settings loops program before after (Ok (ending.Trap kind line)) accepted bound means =
-    record { program = program; accepted = accepted; bound = bound; holds = means }
+    (refl, record { program = program; accepted = accepted; bound = bound; holds = means })
 has_meant text settings loops program before after (Ok ending.More) accepted bound means =
-    record { program = program; accepted = accepted; bound = bound; holds = means }
+    (refl, record { program = program; accepted = accepted; bound = bound; holds = means })
 has_meant text settings loops program before after (Err fault.SinkFailed) accepted bound means =
     inr (record { program = program; accepted = accepted; bound = bound; holds = means })
 has_meant text settings loops program before after (Err fault.NoMemory) accepted bound means =

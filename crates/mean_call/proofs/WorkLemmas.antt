@@ -1,5 +1,5 @@
 -- From the work on a text to that of a call.
-use Rattle.std.proofs.Common.{◌≡◌, ◌≢◌, ◌⊎◌, ℕ, List, [], ◌++◌, refl, sym, subst, inl, inr, arith}
+use Rattle.std.proofs.Common.{◌≡◌, ◌≢◌, ◌⊎◌, ℕ, List, [], ◌++◌, None, refl, sym, ap, subst, inl, inr, arith}
 use Rattle.std.proofs.lemmas.List.{append-nil}
 use Rattle.zpl_nums.specs.declared.ends.End.{End}
 use Rattle.zpl_nums.specs.declared.ends.End.TheVariants.{Done, Trap, More}
@@ -9,21 +9,26 @@ use Rattle.zpl_bind.specs.Fault.{fault_name}
 use Rattle.array_meaning.specs.Means.{HasMeant}
 use Rattle.call_claims.specs.Call.{Call}
 use Rattle.call_claims.specs.Cause.FileCause.{unreadable, too_long, work}
-use Rattle.call_claims.specs.Command.{Asked, limit_of}
+use Rattle.call_claims.specs.Command.{Asked, IsMean, limit_of}
 use Rattle.call_claims.specs.Decided.{IsDecided}
 use Rattle.call_claims.specs.Source.{Source}
-use Rattle.call_claims.specs.Texts.{settings_text}
-use Rattle.call_claims.specs.declared.status.TheConstants.{UNREADABLE, UNBOUND, NO_MEMORY}
+use Rattle.call_claims.specs.Texts.{no_memory_text, settings_text, too_long_text, trap_text}
+use Rattle.call_claims.specs.Texts.{unreadable_text}
+use Rattle.zpl_text.specs.declared.TheConstants.{MOST_SOURCE}
+use Rattle.call_claims.specs.declared.status.TheConstants.{UNREADABLE, TOO_LONG, UNBOUND, TRAPPED, NO_MEMORY}
 use Rattle.call_answers.specs.declared.answers.Answer.{Answer}
 use Rattle.call_answers.specs.declared.answers.Answer.TheVariants as answer
-use Rattle.call_answers.specs.Answers.{status_of, text_of}
+use Rattle.call_answers.specs.Answers.{status_of, stop_status, stop_text, told_of}
+use Rattle.call_answers.specs.Fetched.{IsNoText}
+use Rattle.call_answers.specs.declared.answers.Stop.{Stop}
+use Rattle.call_answers.specs.declared.answers.Stop.TheVariants as stop
+use Rattle.call_answers.proofs.AnswerLemmas.{failed_or}
 use Rattle.mean_claims.specs.Answer.{IsEnd, TakesMeaning, TakesOutput, TakesPart}
 use Rattle.mean_claims.specs.Cause.{Cause, EndsSo, MeanCause, TextCause}
-use Rattle.mean_claims.specs.Cause.Cause.{mean}
+use Rattle.mean_claims.specs.Cause.Cause.{mean, no_memory}
 use Rattle.mean_claims.specs.Cause.TextCause.{refused, unbound, done, trap, turn_limit}
-use Rattle.mean_claims.specs.Command.{IsMean}
 use Rattle.mean_claims.specs.Text.{HasMeaning}
-use Rattle.mean_call.specs.Work.{HasMeantText, IsMeanWork, MeansText}
+use Rattle.mean_call.specs.Work.{HasMeantText, IsMeanWork, MeansText, StopsText}
 
 -- a status that is none of a meaning
 pub no_end : (n : ℕ) → n ≢ 0 → n ≢ 7 → n ≢ 8 → ¬ IsEnd n
@@ -68,11 +73,14 @@ whole_is_part call before after is = inr (record {
 -- whatever is due, a part of it was taken
 pub part_of : (call : Call) (a : Answer) (before after : List ℕ → Type 0) → a ≢ answer.PutFailed
     → TakesOutput call (status_of a) before after → TakesPart call before after
-part_of call answer.Done before after put out = whole_is_part call before after (out.whole (inl refl))
-part_of call (answer.Trap kind line) before after put out =
+part_of call (answer.Stopped stop.Done report) before after put out =
+    whole_is_part call before after (out.whole (inl refl))
+part_of call (answer.Stopped (stop.Trap kind line) report) before after put out =
     whole_is_part call before after (out.whole (inr (inl refl)))
-part_of call answer.TurnLimit before after put out =
+part_of call (answer.Stopped stop.TurnLimit report) before after put out =
     whole_is_part call before after (out.whole (inr (inr refl)))
+part_of call (answer.Stopped (stop.Stuck p kind) report) before after put out =
+    inl (out.nothing (λ e. omega arith) (no_end 12 (λ e. omega arith) (λ e. omega arith) (λ e. omega arith)))
 part_of call answer.NoMemory before after put out = out.part refl
 part_of call answer.PutFailed before after put out = absurd (put refl)
 part_of call answer.Usage before after put out =
@@ -85,6 +93,12 @@ part_of call (answer.Refused refusal line) before after put out =
     inl (out.nothing (λ e. omega arith) (no_end 4 (λ e. omega arith) (λ e. omega arith) (λ e. omega arith)))
 part_of call (answer.Unbound fault) before after put out =
     inl (out.nothing (λ e. omega arith) (no_end 5 (λ e. omega arith) (λ e. omega arith) (λ e. omega arith)))
+part_of call (answer.BadLine line) before after put out =
+    inl (out.nothing (λ e. omega arith) (no_end 11 (λ e. omega arith) (λ e. omega arith) (λ e. omega arith)))
+part_of call (answer.BadTable line) before after put out =
+    inl (out.nothing (λ e. omega arith) (no_end 11 (λ e. omega arith) (λ e. omega arith) (λ e. omega arith)))
+part_of call (answer.BadItem at) before after put out =
+    inl (out.nothing (λ e. omega arith) (no_end 6 (λ e. omega arith) (λ e. omega arith) (λ e. omega arith)))
 
 -- where memory was wanting
 pub wanting_output : (call : Call) (before after : List ℕ → Type 0) → TakesPart call before after
@@ -100,11 +114,11 @@ wanting_output call before after part = record {
 module _ (call : Call) (file : List ℕ) (asked : Asked) (given : IsMean call.words file asked)
     (before after : List ℕ → Type 0) where
   -- an answer with which nothing is put
-  pub quiet : (a : Answer) → MeanCause call file asked (status_of a) (text_of a)
+  pub quiet : (a : Answer) → MeanCause call file asked (status_of a) (told_of a)
       → Takes before [] after → a ≢ answer.PutFailed → ¬ IsEnd (status_of a)
       → IsMeanWork call a before after
   quiet a cause takes put ends = record {
-    cause = λ d. mean file asked given cause;
+    cause = λ d. mean (record { file = file; asked = asked; given = given; holds = cause });
     output = λ other. nothing_due call (status_of a) before after ends takes;
     cut = λ e. absurd (put e);
   }
@@ -135,16 +149,21 @@ module _ (call : Call) (file : List ℕ) (asked : Asked) (given : IsMean call.wo
     meant : (a : Answer) (ending : End)
         → HasMeantText source.text asked.settings (limit_of asked) before after ending
         → (HasMeaning source.text asked.settings (limit_of asked) (EndsSo ending)
-        → on_text (status_of a) (text_of a))
+        → on_text (status_of a) (told_of a))
         → IsEnd (status_of a) → status_of a ≢ NO_MEMORY → a ≢ answer.PutFailed
         → IsMeanWork call a before after
     meant a ending has to_cause is memory put = record {
-      cause = λ d. mean file asked given (work source (to_cause (record {
-        program = has.program;
-        accepted = has.accepted;
-        bound = has.bound;
-        holds = has.holds.ends;
-      })));
+      cause = λ d. mean (record {
+        file = file;
+        asked = asked;
+        given = given;
+        holds = work source (to_cause (record {
+          program = has.program;
+          accepted = has.accepted;
+          bound = has.bound;
+          holds = has.holds.ends;
+        }));
+      });
       output = λ other. record {
         whole = λ e. record {
           file = file;
@@ -166,16 +185,26 @@ module _ (call : Call) (file : List ℕ) (asked : Asked) (given : IsMean call.wo
       cut = λ e. absurd (put e);
     }
 
+    stopped : (s : Stop)
+        → StopsText source.text asked.settings (limit_of asked) before after s
+        → IsMeanWork call (answer.Stopped s None) before after
+    stopped stop.Done has =
+        meant (answer.Stopped stop.Done None) Done has done (inl refl) (λ e. omega arith) (λ e. cc)
+    stopped (stop.Trap kind line) has =
+        meant (answer.Stopped (stop.Trap kind line) None) (Trap kind line) has
+        (λ ends. subst (on_text TRAPPED) (sym (append-nil (trap_text kind line)))
+        (trap kind line ends)) (inr (inl refl)) (λ e. omega arith) (λ e. cc)
+    stopped stop.TurnLimit has =
+        meant (answer.Stopped stop.TurnLimit None) More has turn_limit (inr (inr refl))
+        (λ e. omega arith) (λ e. cc)
+    stopped (stop.Stuck p kind) has = absurd has
+
     pub of_text : (a : Answer)
         → MeansText source.text asked.settings (limit_of asked) before after a
         → IsMeanWork call a before after
-    of_text answer.Done has =
-        meant answer.Done Done has done (inl refl) (λ e. omega arith) (λ e. cc)
-    of_text (answer.Trap kind line) has =
-        meant (answer.Trap kind line) (Trap kind line) has (trap kind line) (inr (inl refl))
-        (λ e. omega arith) (λ e. cc)
-    of_text answer.TurnLimit has =
-        meant answer.TurnLimit More has turn_limit (inr (inr refl)) (λ e. omega arith) (λ e. cc)
+    of_text (answer.Stopped s report) has =
+        subst (λ r. IsMeanWork call (answer.Stopped s r) before after) (sym has.0)
+        (stopped s has.1)
     of_text (answer.Refused refusal line) has =
         quiet (answer.Refused refusal line) (work source (refused _ has.0 has.1)) has.2 (λ e. cc)
         (no_end 4 (λ e. omega arith) (λ e. omega arith) (λ e. omega arith))
@@ -192,10 +221,75 @@ module _ (call : Call) (file : List ℕ) (asked : Asked) (given : IsMean call.wo
     of_text answer.Usage has = absurd has
     of_text (answer.Unreadable name) has = absurd has
     of_text (answer.TooLong name) has = absurd has
+    of_text (answer.BadLine line) has = absurd has
+    of_text (answer.BadTable line) has = absurd has
+    of_text (answer.BadItem at) has = absurd has
+
+  -- there is no text
+  pub unfetched : (a : Answer)
+      → IsNoText (call.tells file) (call.may_fail file) MOST_SOURCE file a → Takes before [] after
+      → IsMeanWork call a before after
+  unfetched (answer.Unreadable name) is takes =
+      quiet (answer.Unreadable name)
+      (subst (λ f. MeanCause call file asked UNREADABLE (unreadable_text f)) (sym is.0)
+      (unreadable is.1 (record { no_code = refl; no_turns = refl }))) takes (λ e. cc)
+      (no_end 2 (λ e. omega arith) (λ e. omega arith) (λ e. omega arith))
+  unfetched (answer.TooLong name) is takes =
+      quiet (answer.TooLong name)
+      (subst (λ f. MeanCause call file asked TOO_LONG (too_long_text f)) (sym is.0)
+      (too_long (record { text = is.1.text; told = is.1.told; long = is.1.long })
+      (record { no_code = refl; no_turns = refl }))) takes (λ e. cc)
+      (no_end 3 (λ e. omega arith) (λ e. omega arith) (λ e. omega arith))
+  unfetched answer.NoMemory is takes = wanting_none takes
+  unfetched answer.Usage is takes = absurd is
+  unfetched (answer.Refused refusal line) is takes = absurd is
+  unfetched (answer.Unbound fault) is takes = absurd is
+  unfetched (answer.BadLine line) is takes = absurd is
+  unfetched (answer.BadTable line) is takes = absurd is
+  unfetched (answer.BadItem at) is takes = absurd is
+  unfetched (answer.Stopped stop report) is takes = absurd is
+  unfetched answer.PutFailed is takes = absurd is
 
 -- the work on a text fetches nothing
+stop_not_unread : (s : Stop) → stop_status s ≡ UNREADABLE → ⊥
+stop_not_unread stop.Done e = omega (arith, e)
+stop_not_unread (stop.Trap kind line) e = omega (arith, e)
+stop_not_unread stop.TurnLimit e = omega (arith, e)
+stop_not_unread (stop.Stuck p kind) e = omega (arith, e)
+
 pub text_not_unread : (a : Answer) → status_of a ≡ UNREADABLE
     → (text : List ℕ) (settings : List Setting) (loops : ℕ) (before after : List ℕ → Type 0)
     → MeansText text settings loops before after a → ⊥
 text_not_unread (answer.Unreadable name) e text settings loops before after has = has
-text_not_unread a e text settings loops before after has = omega arith
+text_not_unread (answer.Stopped s report) e text settings loops before after has =
+    stop_not_unread s e
+text_not_unread answer.Usage e text settings loops before after has = omega (arith, e)
+text_not_unread (answer.TooLong name) e text settings loops before after has = omega (arith, e)
+text_not_unread (answer.Refused refusal line) e text settings loops before after has =
+    omega (arith, e)
+text_not_unread (answer.Unbound fault) e text settings loops before after has = omega (arith, e)
+text_not_unread (answer.BadLine line) e text settings loops before after has = omega (arith, e)
+text_not_unread (answer.BadTable line) e text settings loops before after has = omega (arith, e)
+text_not_unread (answer.BadItem at) e text settings loops before after has = omega (arith, e)
+text_not_unread answer.PutFailed e text settings loops before after has = omega (arith, e)
+text_not_unread answer.NoMemory e text settings loops before after has = omega (arith, e)
+
+-- ---- the call
+-- an answer has its cause, and out took what is due with it
+abbrev pub Comes : Call → (List ℕ → Type 0) → (List ℕ → Type 0) → ℕ → List ℕ → Type 0
+Comes call before after status told = Cause call status told × TakesOutput call status before after
+
+module _ (call : Call) (a : Answer) (before after : List ℕ → Type 0)
+    (work : IsMeanWork call a before after) where
+  -- a part of what is due was taken
+  pub some_part : TakesPart call before after
+  some_part = elim (failed_or a) [
+    | inl failed ↦ work.cut failed
+    | inr put ↦ part_of call a before after put (work.output put)
+  ]
+
+  pub wanting_comes : Comes call before after NO_MEMORY no_memory_text
+  wanting_comes = (no_memory, wanting_output call before after some_part)
+
+  pub work_comes : IsDecided (status_of a) → Comes call before after (status_of a) (told_of a)
+  work_comes d = (work.cause d, work.output (λ e. d.put (ap status_of e)))

@@ -4,16 +4,16 @@ ghost use Rattle.zpl_io.specs.Faults.{CountsFaults};
 ghost use Rattle.zpl_io.specs.Files.{SameTexts};
 ghost use Rattle.call_claims.specs.Call.{call_of};
 ghost use Rattle.call_claims.specs.declared.status.TheConstants.{UNREADABLE};
-ghost use Rattle.call_words.specs.Asked.{asked_in};
+ghost use Rattle.call_words.specs.Reading.{asked_in};
 ghost use Rattle.call_answers.specs.Answers.{status_of};
-ghost use Rattle.mean_claims.specs.Command.{IsMean};
+ghost use Rattle.call_claims.specs.Command.{IsMean};
 ghost use Rattle.mean_call.specs.Work.{IsMeanWork};
 
 use crate::texts::mean_text;
-use call_answers::Answer;
+use call_answers::{Answer, text_of_file};
 use call_words::FileCommand;
 use std::alloc::Global;
-use zpl_io::{Fetched, Files, Sink};
+use zpl_io::{Files, Sink};
 use zpl_text::MOST_SOURCE;
 
 /// Fetches a file, and puts the meaning of its text, up to the answer.
@@ -25,19 +25,16 @@ pub fn mean_file<'a, F: Files, O: Sink>(
 ) -> Answer<'a>
     ensures work { (words : List (List ℕ)) →
         IsMean words command.entry.file.now (asked_in command.entry.asked) →
-        IsMeanWork (call_of words (F.tells files.old) (F.may_fail files.old)) result
-        (O.tells out.old) (O.tells out.new) }
+        IsMeanWork (call_of words (F.tells files.old) (F.may_fail files.old)
+        (F.may_fail_later files.old)) result (O.tells out.old) (O.tells out.new) }
     ensures texts { SameTexts (F.tells files.old) (F.tells files.new) }
     ensures fetches { CountsFaults (status_of result ≡ UNREADABLE)
         (F.faults files.old) (F.faults files.new) }
     ensures puts { CountsFaults (result ≡ Answer.PutFailed)
         (O.faults out.old) (O.faults out.new) }
 {
-    let mut text = Vec::new(alloc);
-    match files.fetch(alloc, command.file, MOST_SOURCE, &mut text) {
-        Fetched::Whole => mean_text(alloc, text.as_slice(), command.asked, out),
-        Fetched::TooLong => Answer::TooLong(command.file),
-        Fetched::Failed => Answer::Unreadable(command.file),
-        Fetched::NoMemory => Answer::NoMemory,
+    match text_of_file(alloc, command.file, MOST_SOURCE, files) {
+        Ok(text) => mean_text(alloc, text.as_slice(), command.asked, out),
+        Err(answer) => answer,
     }
 }

@@ -4,7 +4,5 @@
 mod call;
 mod files;
 mod texts;
-mod words;
 
 pub use call::mean;
-pub use words::mean_command;

@@ -5,15 +5,15 @@ ghost use Rattle.zpl_text.specs.declared.TheConstants.{MOST_SOURCE};
 ghost use Rattle.zpl_bind.specs.Lists.{bound_of};
 ghost use Rattle.zpl_binding.specs.Bound.{Binds, IsAcceptedWith};
 ghost use Rattle.call_claims.specs.Command.{limit_of};
-ghost use Rattle.call_words.specs.Asked.{asked_in};
-ghost use Rattle.mean_claims.specs.Text.{IsAccepted};
+ghost use Rattle.call_words.specs.Reading.{asked_in};
+ghost use Rattle.call_claims.specs.Accepted.{IsAccepted};
 ghost use Rattle.bound_texts.specs.Accepted.{program_of};
 ghost use Rattle.mean_call.specs.Work.{answer_in, MeansText};
 
 use array_meaning::{MeanFault, mean};
 use bound_texts::{Accepted, accepted_text};
 use bumpalo::Bump;
-use call_answers::Answer;
+use call_answers::{Answer, Stop};
 use call_words::Asked;
 use std::alloc::Global;
 use zpl_io::Sink;
@@ -67,9 +67,9 @@ fn answer_of<'a>(ended: Result<End, MeanFault>) -> Answer<'a>
     ensures { result ≡ answer_in ended }
 {
     match ended {
-        Ok(End::Done) => Answer::Done,
-        Ok(End::Trap(kind, line)) => Answer::Trap(kind, line),
-        Ok(End::More) => Answer::TurnLimit,
+        Ok(End::Done) => Answer::Stopped(Stop::Done, None),
+        Ok(End::Trap(kind, line)) => Answer::Stopped(Stop::Trap(kind, line), None),
+        Ok(End::More) => Answer::Stopped(Stop::TurnLimit, None),
         Err(MeanFault::SinkFailed) => Answer::PutFailed,
         Err(MeanFault::NoMemory) => Answer::NoMemory,
     }

@@ -10,16 +10,16 @@ use Rattle.call_claims.specs.Cause.FileCause.{unreadable, too_long, work}
 use Rattle.call_claims.specs.Command.{Asked, limit_of}
 use Rattle.call_claims.specs.Decided.{IsSettled}
 use Rattle.call_claims.specs.Source.{Source}
-use Rattle.call_claims.specs.declared.status.TheConstants.{DONE, USAGE, UNREADABLE, TOO_LONG}
+use Rattle.call_claims.specs.declared.status.TheConstants.{DONE, UNREADABLE, TOO_LONG}
 use Rattle.call_claims.specs.declared.status.TheConstants.{REFUSED, UNBOUND, TRAPPED, TURN_LIMIT}
 use Rattle.call_claims.specs.declared.status.TheConstants.{NO_MEMORY}
 use Rattle.mean_claims.specs.Cause.{TextCause, MeanCause, Cause, EndsSo}
 use Rattle.mean_claims.specs.Cause.TextCause.{refused, unbound, done, trap, turn_limit}
-use Rattle.mean_claims.specs.Cause.Cause.{usage, no_memory, mean}
-use Rattle.mean_claims.specs.Command.{IsNoMean}
-use Rattle.mean_claims.specs.Decided.{Asks, IsExact, MeansDone, MeansFaulty, MeansMore, MeansTooLong}
+use Rattle.mean_claims.specs.Cause.Cause.{no_memory, mean}
+use Rattle.mean_claims.specs.Decided.{AsksMean, IsExact, MeansDone, MeansFaulty, MeansMore, MeansTooLong}
 use Rattle.mean_claims.specs.Decided.{MeansTrap, MeansUnbound}
-use Rattle.mean_claims.specs.Text.{IsFaulty, HasMeaning, HasUnbound}
+use Rattle.call_claims.specs.Accepted.{IsFaulty}
+use Rattle.mean_claims.specs.Text.{HasMeaning, IsUnboundWith}
 use Rattle.mean_claims.proofs.OneLemmas.{OneWay, OneTree, on_file, on_text, was_long}
 use Rattle.mean_claims.proofs.OneLemmas.{was_faulty, was_unbound, was_done, was_trap, was_more}
 
@@ -34,7 +34,7 @@ text_faulty (turn_limit has) e = absurd (omega arith)
 
 text_unbound : {text told : List ℕ} {settings : List Setting} {loops n : ℕ}
     → TextCause text settings loops n told → n ≡ UNBOUND
-    → (fault : BindFault) × HasUnbound text settings fault
+    → (fault : BindFault) × IsUnboundWith text settings fault
 text_unbound (refused told faulty fault) e = absurd (omega arith)
 text_unbound (unbound fault has) e = (fault, has)
 text_unbound (done has) e = absurd (omega arith)
@@ -68,26 +68,25 @@ text_more (done has) e = absurd (omega arith)
 text_more (trap kind line has) e = absurd (omega arith)
 text_more (turn_limit has) e = has
 
-text_other : {text told : List ℕ} {settings : List Setting} {loops n : ℕ}
-    → TextCause text settings loops n told → (n ≢ USAGE) × (n ≢ TOO_LONG)
-text_other (refused told faulty fault) = (λ e. omega arith, λ e. omega arith)
-text_other (unbound fault has) = (λ e. omega arith, λ e. omega arith)
-text_other (done has) = (λ e. omega arith, λ e. omega arith)
-text_other (trap kind line has) = (λ e. omega arith, λ e. omega arith)
-text_other (turn_limit has) = (λ e. omega arith, λ e. omega arith)
+text_short : {text told : List ℕ} {settings : List Setting} {loops n : ℕ}
+    → TextCause text settings loops n told → n ≢ TOO_LONG
+text_short (refused told faulty fault) = λ e. omega arith
+text_short (unbound fault has) = λ e. omega arith
+text_short (done has) = λ e. omega arith
+text_short (trap kind line has) = λ e. omega arith
+text_short (turn_limit has) = λ e. omega arith
 
 -- ---- what it says of the call
 -- a status that only the work on a text has
 record IsOfText (n : ℕ) : Type 0 where
-  usage : n ≢ USAGE
   unreadable : n ≢ UNREADABLE
   too_long : n ≢ TOO_LONG
   memory : n ≢ NO_MEMORY
 
-of_a_text : {n : ℕ} (s : ℕ) → n ≡ s → s ≢ USAGE → s ≢ UNREADABLE → s ≢ TOO_LONG → s ≢ NO_MEMORY
+of_a_text : {n : ℕ} (s : ℕ) → n ≡ s → s ≢ UNREADABLE → s ≢ TOO_LONG → s ≢ NO_MEMORY
     → IsOfText n
-of_a_text s e a b c d = subst IsOfText (sym e)
-    (record { usage = a; unreadable = b; too_long = c; memory = d })
+of_a_text s e b c d = subst IsOfText (sym e)
+    (record { unreadable = b; too_long = c; memory = d })
 
 module _ (call : Call) where
   file_text : {n : ℕ} {told : List ℕ} → (file : List ℕ) (asked : Asked) → MeanCause call file asked n told → IsOfText n
@@ -98,37 +97,40 @@ module _ (call : Call) where
 
   -- the words name a file that tells a text with this cause
   asks_text : {n : ℕ} {told : List ℕ} → Cause call n told → IsOfText n
-      → Asks call (λ file asked. (source : Source call file)
+      → AsksMean call (λ file asked. (source : Source call file)
       × TextCause source.text asked.settings (limit_of asked) n told)
-  asks_text (usage none) d = absurd (d.usage refl)
   asks_text no_memory d = absurd (d.memory refl)
-  asks_text (mean file asked is cause) d =
-      record { file = file; asked = asked; given = is; holds = file_text file asked cause d }
+  asks_text (mean is) d = record {
+    file = is.file;
+    asked = is.asked;
+    given = is.given;
+    holds = file_text is.file is.asked is.holds d;
+  }
 
   done_of : {n : ℕ} {told : List ℕ} → Cause call n told → n ≡ DONE → MeansDone call
   done_of cause e =
-      let is = asks_text cause (of_a_text DONE e (λ f. omega arith) (λ f. omega arith) (λ f. omega arith) (λ f. omega arith)) in
+      let is = asks_text cause (of_a_text DONE e (λ f. omega arith) (λ f. omega arith) (λ f. omega arith)) in
       record { file = is.file; asked = is.asked; given = is.given; holds = (is.holds.0, text_done is.holds.1 e) }
 
   trap_of : {n : ℕ} {told : List ℕ} → Cause call n told → n ≡ TRAPPED → MeansTrap call
   trap_of cause e =
-      let is = asks_text cause (of_a_text TRAPPED e (λ f. omega arith) (λ f. omega arith) (λ f. omega arith) (λ f. omega arith)) in
+      let is = asks_text cause (of_a_text TRAPPED e (λ f. omega arith) (λ f. omega arith) (λ f. omega arith)) in
       let has = text_trap is.holds.1 e in
       (has.0, has.1, record { file = is.file; asked = is.asked; given = is.given; holds = (is.holds.0, has.2) })
 
   more_of : {n : ℕ} {told : List ℕ} → Cause call n told → n ≡ TURN_LIMIT → MeansMore call
   more_of cause e =
-      let is = asks_text cause (of_a_text TURN_LIMIT e (λ f. omega arith) (λ f. omega arith) (λ f. omega arith) (λ f. omega arith)) in
+      let is = asks_text cause (of_a_text TURN_LIMIT e (λ f. omega arith) (λ f. omega arith) (λ f. omega arith)) in
       record { file = is.file; asked = is.asked; given = is.given; holds = (is.holds.0, text_more is.holds.1 e) }
 
   faulty_of : {n : ℕ} {told : List ℕ} → Cause call n told → n ≡ REFUSED → MeansFaulty call
   faulty_of cause e =
-      let is = asks_text cause (of_a_text REFUSED e (λ f. omega arith) (λ f. omega arith) (λ f. omega arith) (λ f. omega arith)) in
+      let is = asks_text cause (of_a_text REFUSED e (λ f. omega arith) (λ f. omega arith) (λ f. omega arith)) in
       record { file = is.file; asked = is.asked; given = is.given; holds = (is.holds.0, text_faulty is.holds.1 e) }
 
   unbound_of : {n : ℕ} {told : List ℕ} → Cause call n told → n ≡ UNBOUND → MeansUnbound call
   unbound_of cause e =
-      let is = asks_text cause (of_a_text UNBOUND e (λ f. omega arith) (λ f. omega arith) (λ f. omega arith) (λ f. omega arith)) in
+      let is = asks_text cause (of_a_text UNBOUND e (λ f. omega arith) (λ f. omega arith) (λ f. omega arith)) in
       let has = text_unbound is.holds.1 e in
       record { file = is.file; asked = is.asked; given = is.given; holds = (is.holds.0, has.0, has.1) }
 
@@ -136,34 +138,22 @@ module _ (call : Call) where
       → IsTooLong call file
   file_long file asked (unreadable may none) e = absurd (omega arith)
   file_long file asked (too_long long none) e = long
-  file_long file asked (work source cause) e = absurd ((text_other cause).1 e)
+  file_long file asked (work source cause) e = absurd (text_short cause e)
 
   long_of : {n : ℕ} {told : List ℕ} → Cause call n told → n ≡ TOO_LONG → MeansTooLong call
-  long_of (usage none) e = absurd (omega arith)
   long_of no_memory e = absurd (omega arith)
-  long_of (mean file asked is cause) e =
-      record { file = file; asked = asked; given = is; holds = file_long file asked cause e }
-
-  file_usage : {n : ℕ} {told : List ℕ} → (file : List ℕ) (asked : Asked) → MeanCause call file asked n told → n ≢ USAGE
-  file_usage file asked (unreadable may none) e = omega arith
-  file_usage file asked (too_long long none) e = omega arith
-  file_usage file asked (work source cause) e = (text_other cause).0 e
-
-  pub usage_of : {n : ℕ} {told : List ℕ} → Cause call n told → n ≡ USAGE → IsNoMean call.words
-  usage_of (usage none) e = none
-  usage_of no_memory e = absurd (omega arith)
-  usage_of (mean file asked is cause) e = absurd (file_usage file asked cause e)
-
-  was_usage : {n : ℕ} {told : List ℕ} → IsSettled call n → Cause call n told → IsNoMean call.words → n ≡ USAGE
-  was_usage settled (usage also) none = refl
-  was_usage settled no_memory none = absurd (settled.decided.memory refl)
-  was_usage settled (mean file asked is cause) none = absurd (none file asked is)
+  long_of (mean is) e = record {
+    file = is.file;
+    asked = is.asked;
+    given = is.given;
+    holds = file_long is.file is.asked is.holds e;
+  }
 
 -- ---- exactly
 module _ (one_way : OneWay) (one_tree : OneTree) (call : Call) (n : ℕ) (told : List ℕ)
     (cause : Cause call n told) (settled : IsSettled call n) where
   -- the cause, at the file and the text that something is said of
-  at : {Holds : List ℕ → Asked → Type 0} → (is : Asks call Holds) (source : Source call is.file)
+  at : {Holds : List ℕ → Asked → Type 0} → (is : AsksMean call Holds) (source : Source call is.file)
       → TextCause source.text is.asked.settings (limit_of is.asked) n told
   at is source =
       on_text call settled is.file is.asked
@@ -171,7 +161,6 @@ module _ (one_way : OneWay) (one_tree : OneTree) (call : Call) (n : ℕ) (told :
 
   pub exactly : IsExact call n
   exactly = record {
-    usage = (usage_of call cause, was_usage call settled cause);
     too_long = (
       long_of call cause,
       λ is. was_long call settled is.file is.asked

@@ -1,5 +1,5 @@
--- What words ask for, what a text comes to, and the status of a call: each is one.
-use Rattle.std.proofs.Common.{◌≡◌, ℕ, List, ◌∷◌, length, codes}
+-- What a text comes to, and the status of a call: each is one.
+use Rattle.std.proofs.Common.{◌≡◌, ℕ, List, length, codes}
 use Rattle.std.proofs.Common.{refl, sym, ◌∙◌, ap, subst, arith}
 use Rattle.zpl_nums.specs.declared.ends.End.{End}
 use Rattle.zpl_nums.specs.declared.ends.End.TheVariants.{Done, Trap, More}
@@ -15,26 +15,17 @@ use Rattle.zpl_meaning.specs.Program.{Meaning, mean_of}
 use Rattle.call_claims.specs.Call.{Call}
 use Rattle.call_claims.specs.Cause.{IsTooLong}
 use Rattle.call_claims.specs.Cause.FileCause.{unreadable, too_long, work}
-use Rattle.call_claims.specs.Command.{AskFor, Asked, limit_of}
+use Rattle.call_claims.specs.Command.{Asked, IsMean, MeanTakes, limit_of}
 use Rattle.call_claims.specs.Decided.{IsSettled}
 use Rattle.call_claims.specs.Source.{Source}
-use Rattle.call_claims.specs.declared.status.TheConstants.{DONE, USAGE, TOO_LONG, REFUSED, UNBOUND}
+use Rattle.call_claims.specs.declared.status.TheConstants.{DONE, TOO_LONG, REFUSED, UNBOUND}
 use Rattle.call_claims.specs.declared.status.TheConstants.{TRAPPED, TURN_LIMIT}
-use Rattle.call_claims.proofs.OneLemmas.{add_all_one}
+use Rattle.call_claims.proofs.OneLemmas.{of_given}
 use Rattle.mean_claims.specs.Cause.{TextCause, MeanCause, Cause, EndsSo}
 use Rattle.mean_claims.specs.Cause.TextCause.{refused, unbound, done, trap, turn_limit}
-use Rattle.mean_claims.specs.Cause.Cause.{usage, no_memory, mean}
-use Rattle.mean_claims.specs.Command.{IsMean, IsNoMean}
-use Rattle.mean_claims.specs.Text.{IsAccepted, IsFaulty, HasMeaning, HasUnbound}
-
--- ---- words
-pub mean_is_one : (words : List (List ℕ)) (file other : List ℕ) (asked more : Asked)
-    → IsMean words file asked → IsMean words other more → (file ≡ other) × (asked ≡ more)
-mean_is_one words file other asked more f g =
-    let same : codes "mean" ∷ file ∷ f.more ≡ codes "mean" ∷ other ∷ g.more = sym f.split ∙ g.split in
-    let files : file ≡ other = cc in
-    let mores : f.more ≡ g.more = cc in
-    (files, add_all_one g.more _ asked more (subst (λ ws. AskFor ws asked) mores f.are) g.are)
+use Rattle.mean_claims.specs.Cause.Cause.{no_memory, mean}
+use Rattle.call_claims.specs.Accepted.{IsAccepted, IsFaulty}
+use Rattle.mean_claims.specs.Text.{HasMeaning, IsUnboundWith}
 
 -- ---- texts
 -- a text has one list of tokens
@@ -67,7 +58,7 @@ module _ (one_way : OneWay) (one_tree : OneTree) (text : List ℕ) where
 
   module _ (settings : List Setting) (loops : ℕ) where
     -- there is no fault of settings where there is a meaning
-    not_bound : {Holds : Meaning → Type 0} (fault : BindFault) → HasUnbound text settings fault
+    not_bound : {Holds : Meaning → Type 0} (fault : BindFault) → IsUnboundWith text settings fault
         → HasMeaning text settings loops Holds → ⊥
     not_bound fault has means =
         means.bound fault (subst (λ p. HasBindFault p settings fault)
@@ -87,7 +78,7 @@ module _ (one_way : OneWay) (one_tree : OneTree) (text : List ℕ) where
     was_faulty (turn_limit has) none = absurd (none has.program has.accepted)
 
     pub was_unbound : {n : ℕ} {told : List ℕ} → TextCause text settings loops n told → (fault : BindFault)
-        → HasUnbound text settings fault → n ≡ UNBOUND
+        → IsUnboundWith text settings fault → n ≡ UNBOUND
     was_unbound (refused told faulty fault) kind is = absurd (faulty is.program is.accepted)
     was_unbound (unbound fault has) kind is = refl
     was_unbound (done has) kind is = absurd (not_bound kind is has)
@@ -160,12 +151,9 @@ module _ (call : Call) where
   -- and one of the file that the words name
   pub on_file : {n : ℕ} {told : List ℕ} → IsSettled call n → Cause call n told → (file : List ℕ)
       (asked : Asked) → IsMean call.words file asked → MeanCause call file asked n told
-  on_file settled (usage none) file asked is = absurd (none file asked is)
   on_file settled no_memory file asked is = absurd (settled.decided.memory refl)
-  on_file {n = n} {told = told} settled (mean other more also cause) file asked is =
-      let same = mean_is_one call.words other file more asked also is in
-      subst (λ f. MeanCause call f asked n told) same.0
-      (subst (λ a. MeanCause call other a n told) same.1 cause)
+  on_file settled (mean also) file asked is =
+      of_given (codes "mean") MeanTakes call.words file asked is also
 
 -- ---- any call
 module _ (one_way : OneWay) (one_tree : OneTree) (call : Call) where
@@ -178,15 +166,8 @@ module _ (one_way : OneWay) (one_tree : OneTree) (call : Call) where
       text_one one_way one_tree source.text asked.settings (limit_of asked) cause
       (on_text call t file asked c source)
 
-  usage_one : {m : ℕ} {other : List ℕ} → IsSettled call m → IsNoMean call.words
-      → Cause call m other → USAGE ≡ m
-  usage_one t none (usage also) = refl
-  usage_one t none no_memory = absurd (t.decided.memory refl)
-  usage_one t none (mean file asked is cause) = absurd (none file asked is)
-
   pub cause_one : (n m : ℕ) (told other : List ℕ) → IsSettled call n → IsSettled call m
       → Cause call n told → Cause call m other → n ≡ m
-  cause_one n m told other s t (usage none) c = usage_one t none c
   cause_one n m told other s t no_memory c = absurd (s.decided.memory refl)
-  cause_one n m told other s t (mean file asked is cause) c =
-      file_one s t file asked cause (on_file call t c file asked is)
+  cause_one n m told other s t (mean is) c =
+      file_one s t is.file is.asked is.holds (on_file call t c is.file is.asked is.given)

@@ -27,13 +27,7 @@ pub record TakesOutput (call : Call) (status : ℕ) (before after : List ℕ →
   pub part : status ≡ NO_MEMORY → TakesPart call before after
   pub nothing : status ≢ NO_MEMORY → ¬ IsEnd status → Takes before [] after
 
--- ---- the stream for errors
--- The status has its cause, and the stream took its text.
-pub record IsAnswered (call : Call) (status : ℕ) (before after : List ℕ → Type 0) : Type 0 where
-  pub text : List ℕ
-  pub cause : Cause call status text
-  pub told : Takes before text after
-
+-- ---- both streams
 -- Some status has its cause, out took what is due with it, and the stream for errors took a front
 -- of its text.
 pub record IsHalfAnswered (call : Call) (out_before out_after : List ℕ → Type 0)

@@ -8,15 +8,15 @@ use Rattle.zpl_binding.specs.Outcome.{BindFault}
 use Rattle.zpl_meaning.specs.Program.{Meaning}
 use Rattle.call_claims.specs.Call.{Call}
 use Rattle.call_claims.specs.Cause.{FileCause}
-use Rattle.call_claims.specs.Command.{Asked, limit_of}
+use Rattle.call_claims.specs.Command.{Asked, Asks, IsMean, limit_of}
 use Rattle.call_claims.specs.Execution.{Execution}
 use Rattle.call_claims.specs.Refusal.{IsFault}
-use Rattle.call_claims.specs.Texts.{bind_name, settings_text, usage_text, trap_text}
+use Rattle.call_claims.specs.Texts.{bind_name, settings_text, trap_text}
 use Rattle.call_claims.specs.Texts.{turn_limit_text, no_memory_text}
-use Rattle.call_claims.specs.declared.status.TheConstants.{DONE, USAGE, REFUSED, UNBOUND}
+use Rattle.call_claims.specs.declared.status.TheConstants.{DONE, REFUSED, UNBOUND}
 use Rattle.call_claims.specs.declared.status.TheConstants.{TRAPPED, TURN_LIMIT, NO_MEMORY}
-use Rattle.mean_claims.specs.Command.{IsMean, IsNoMean}
-use Rattle.mean_claims.specs.Text.{IsFaulty, HasMeaning, HasUnbound}
+use Rattle.call_claims.specs.Accepted.{IsFaulty}
+use Rattle.mean_claims.specs.Text.{HasMeaning, IsUnboundWith}
 
 -- the meaning ends so
 abbrev pub EndsSo : End → Meaning → Type 0
@@ -28,9 +28,9 @@ EndsSo ending meaning = meaning.ending ≡ ending
 -- or wanting more turns of a loop.
 pub data TextCause (text : List ℕ) (settings : List Setting) (loops : ℕ) : ℕ → List ℕ → Type 0
   where
-    refused : (told : List ℕ) → IsFaulty text → IsFault text settings told
+    refused : (told : List ℕ) → IsFaulty text → IsFault text told
         → TextCause text settings loops REFUSED told
-    unbound : (fault : BindFault) → HasUnbound text settings fault
+    unbound : (fault : BindFault) → IsUnboundWith text settings fault
         → TextCause text settings loops UNBOUND (settings_text (bind_name fault))
     done : HasMeaning text settings loops (EndsSo Done) → TextCause text settings loops DONE []
     trap : (kind : TrapKind) (line : ℕ) → HasMeaning text settings loops (EndsSo (Trap kind line))
@@ -51,8 +51,7 @@ MeanCause call file asked =
 -- ---- any call
 -- The cause of a status, and what is told of it. A failed put is no cause of these.
 pub data Cause (call : Call) : ℕ → List ℕ → Type 0 where
-  usage : IsNoMean call.words → Cause call USAGE usage_text
   no_memory : Cause call NO_MEMORY no_memory_text
-  mean : {status : ℕ} {told : List ℕ} (file : List ℕ) (asked : Asked)
-      → IsMean call.words file asked → MeanCause call file asked status told
+  mean : {status : ℕ} {told : List ℕ}
+      → Asks IsMean call.words (λ file asked. MeanCause call file asked status told)
       → Cause call status told

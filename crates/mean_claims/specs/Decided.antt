@@ -6,26 +6,23 @@ use Rattle.zpl_binding.specs.Outcome.{BindFault}
 use Rattle.zpl_meaning.specs.Program.{Meaning}
 use Rattle.call_claims.specs.Call.{Call}
 use Rattle.call_claims.specs.Cause.{IsTooLong}
-use Rattle.call_claims.specs.Command.{Asked, limit_of}
+use Rattle.call_claims.specs.Command.{Asked, Asks, IsMean, limit_of}
 use Rattle.call_claims.specs.Source.{Source}
-use Rattle.call_claims.specs.declared.status.TheConstants.{DONE, USAGE, TOO_LONG, REFUSED, UNBOUND}
+use Rattle.call_claims.specs.declared.status.TheConstants.{DONE, TOO_LONG, REFUSED, UNBOUND}
 use Rattle.call_claims.specs.declared.status.TheConstants.{TRAPPED, TURN_LIMIT}
 use Rattle.mean_claims.specs.Cause.{EndsSo}
-use Rattle.mean_claims.specs.Command.{IsMean, IsNoMean}
-use Rattle.mean_claims.specs.Text.{IsFaulty, HasMeaning, HasUnbound}
+use Rattle.call_claims.specs.Accepted.{IsFaulty}
+use Rattle.mean_claims.specs.Text.{HasMeaning, IsUnboundWith}
 
 -- The words ask for the meaning of a file, and this holds of it and of what they ask for.
-pub record Asks (call : Call) (Holds : List ℕ → Asked → Type 0) : Type 0 where
-  pub file : List ℕ
-  pub asked : Asked
-  pub given : IsMean call.words file asked
-  pub holds : Holds file asked
+abbrev pub AsksMean : Call → (List ℕ → Asked → Type 0) → Type 0
+AsksMean call = Asks IsMean call.words
 
 -- the file tells a text, not too long, that has a meaning under the settings of the words, and this
 -- holds of it
 abbrev pub Means : Call → (Meaning → Type 0) → Type 0
 Means call Holds =
-    Asks call (λ file asked. (source : Source call file)
+    AsksMean call (λ file asked. (source : Source call file)
     × HasMeaning source.text asked.settings (limit_of asked) Holds)
 
 -- 0
@@ -34,19 +31,19 @@ MeansDone call = Means call (EndsSo Done)
 
 -- 3: it tells one that is too long
 abbrev pub MeansTooLong : Call → Type 0
-MeansTooLong call = Asks call (λ file asked. IsTooLong call file)
+MeansTooLong call = AsksMean call (λ file asked. IsTooLong call file)
 
 -- 4: it tells one, not too long, without a tree, or with one that is too deep or has a fault of
 -- names, ranks or types
 abbrev pub MeansFaulty : Call → Type 0
-MeansFaulty call = Asks call (λ file asked. (source : Source call file) × IsFaulty source.text)
+MeansFaulty call = AsksMean call (λ file asked. (source : Source call file) × IsFaulty source.text)
 
 -- 5: it tells one, not too long, without such a fault, where one of the settings, or of the
 -- declarations under them, holds
 abbrev pub MeansUnbound : Call → Type 0
 MeansUnbound call =
-    Asks call (λ file asked. (source : Source call file) × (fault : BindFault)
-    × HasUnbound source.text asked.settings fault)
+    AsksMean call (λ file asked. (source : Source call file) × (fault : BindFault)
+    × IsUnboundWith source.text asked.settings fault)
 
 -- 7
 abbrev pub MeansTrap : Call → Type 0
@@ -58,7 +55,6 @@ MeansMore call = Means call (EndsSo More)
 
 -- ---- each status comes just where its own cause is
 pub record IsExact (call : Call) (status : ℕ) : Type 0 where
-  pub usage : (status ≡ USAGE) ↔ IsNoMean call.words
   pub too_long : (status ≡ TOO_LONG) ↔ MeansTooLong call
   pub refused : (status ≡ REFUSED) ↔ MeansFaulty call
   pub unbound : (status ≡ UNBOUND) ↔ MeansUnbound call

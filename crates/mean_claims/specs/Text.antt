@@ -1,28 +1,14 @@
--- What a text comes to: its tree, and what that means under settings.
+-- What a text comes to under settings.
 use Rattle.std.specs.Prelude.{ℕ, List}
-use Rattle.zpl_text.specs.declared.tokens.Token.{Token}
-use Rattle.zpl_text.specs.Tokens.{IsTokens}
 use Rattle.zpl_tree.specs.Syntax.{Program}
-use Rattle.zpl_grammar.specs.Texts.{IsShallowTree}
-use Rattle.zpl_names.specs.Accepted.{IsFaultless}
 use Rattle.zpl_binding.specs.Settings.{Setting}
 use Rattle.zpl_binding.specs.Outcome.{BindFault}
 use Rattle.zpl_binding.specs.Bound.{HasBindFault, IsAcceptedWith}
 use Rattle.zpl_meaning.specs.Program.{Meaning, mean_of}
-
--- The text's tree, which isn't too deep and has no fault of names, ranks and types.
-pub record IsAccepted (text : List ℕ) (program : Program) : Type 0 where
-  pub tokens : List Token
-  pub of_text : IsTokens text tokens
-  pub tree : IsShallowTree text tokens program
-  pub faultless : IsFaultless program
-
--- it has none such
-abbrev pub IsFaulty : List ℕ → Type 0
-IsFaulty text = (program : Program) → ¬ IsAccepted text program
+use Rattle.call_claims.specs.Accepted.{IsAccepted}
 
 -- The text is accepted, and a fault of the settings, or of its declarations under them, holds.
-pub record HasUnbound (text : List ℕ) (settings : List Setting) (fault : BindFault) : Type 0 where
+pub record IsUnboundWith (text : List ℕ) (settings : List Setting) (fault : BindFault) : Type 0 where
   pub program : Program
   pub accepted : IsAccepted text program
   pub holds : HasBindFault program settings fault

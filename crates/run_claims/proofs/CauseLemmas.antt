@@ -1,7 +1,7 @@
 -- A status of `run` with its cause comes just where that cause is.
-use Rattle.std.proofs.Common.{◌≡◌, ◌≢◌, ℕ, Bool, List, [], Option, Some, None, Err, refl, sym, subst, inl, inr, arith}
+use Rattle.std.proofs.Common.{◌≡◌, ◌≢◌, ℕ, Bool, List, [], Option, Some, None, Err, codes, refl, sym, subst, inl, inr, arith}
 use Rattle.node_form.specs.declared.tables.Tables.{Tables}
-use Rattle.zpl_binding.specs.Settings.{Setting}
+use Rattle.zpl_claims.specs.Build.{Build}
 use Rattle.grid_meaning.specs.Grid.{processors}
 use Rattle.grid_order.specs.Reading.{reading}
 use Rattle.grid_runs.specs.Run.{Run, IsLimitedAt}
@@ -14,9 +14,9 @@ use Rattle.call_claims.specs.declared.status.TheConstants.{DONE, UNREADABLE, TOO
 use Rattle.call_claims.specs.declared.status.TheConstants.{UNBOUND, TRAPPED, TURN_LIMIT, NO_MEMORY}
 use Rattle.call_claims.proofs.ProgramLemmas.{IsOther, fault_other, none_made, one_made, refused_of}
 use Rattle.call_claims.proofs.ProgramLemmas.{unbound_of, was_refused_in, was_too_long_in, was_unbound_in}
-use Rattle.exec_words.specs.Asked.{Asked, IsRun}
-use Rattle.exec_words.proofs.MetLemmas.{run_is_met}
-use Rattle.exec_words.proofs.OneLemmas.{run_is_one}
+use Rattle.call_claims.specs.Command.{Asked, IsRun, RunTakes, build_of}
+use Rattle.call_claims.proofs.MetLemmas.{is_met}
+use Rattle.call_claims.proofs.OneLemmas.{as_asked}
 use Rattle.exec_claims.specs.Cause.{OrderCause, OrderFileCause, RunCause, run_of}
 use Rattle.exec_claims.specs.Cause.RunCause.{done, trap, turn_limit, stuck, idle}
 use Rattle.exec_claims.specs.Cause.OrderCause.{bad_item, ran}
@@ -80,19 +80,21 @@ settled_order call n None settled = tt
 settled_order call n (Some file) settled = (settled.read, settled.one file)
 
 -- ---- a file
-module _ (call : Call) (ex : Execution) (file : List ℕ) (asked : Asked)
-    (settings : List Setting) where
+module _ (call : Call) (ex : Execution) (file : List ℕ) (asked : Asked) where
+  abbrev build : Build
+  build = build_of asked
+
   abbrev Does : Tables → ℕ → List ℕ → Type 0
   Does code = OrderFileCause call code asked ex.turns asked.order
 
   does_other : (code : Tables) (n : ℕ) (told : List ℕ) → Does code n told
-      → IsOther call file settings ex Does n
+      → IsOther call file build ex Does n
   does_other code n told c =
       let later = order_file_later call code asked ex.turns asked.order n told c in
       record { refused = later.refused; unbound = later.unbound }
 
   abbrev FileCause : ℕ → List ℕ → Type 0
-  FileCause = RunFileCause call file asked settings ex
+  FileCause = RunFileCause call file asked ex
 
   -- ---- what was run
   abbrev UnderCause : ℕ → List ℕ → Tables → Type 0
@@ -113,7 +115,7 @@ module _ (call : Call) (ex : Execution) (file : List ℕ) (asked : Asked)
       }
 
   file_code : {n : ℕ} {told : List ℕ} → FileCause n told → IsRunStatus n
-      → HasCodeOf call file settings ex (UnderCause n told)
+      → HasCodeOf call file build ex (UnderCause n told)
   file_code (unreadable may none) s = absurd (s.unreadable refl)
   file_code (too_long long none) s = absurd (s.too_long refl)
   file_code (work source (faulty fault none)) s =
@@ -131,7 +133,7 @@ module _ (call : Call) (ex : Execution) (file : List ℕ) (asked : Asked)
       → IsOneOrder call n asked.order → m ≢ UNREADABLE
       → ((a : Run) (k : ℕ) (report : Bool) → Holds a k
       → (t : List ℕ) × RunCause a report k m t)
-      → HasCodeOf call file settings ex (IsUnder call asked ex.turns Holds) → n ≡ m
+      → HasCodeOf call file build ex (IsUnder call asked ex.turns Holds) → n ≡ m
   file_was m Holds (unreadable may none) one read f h = absurd (none_made ex none h.made)
   file_was m Holds (too_long long none) one read f h = absurd (none_made ex none h.made)
   file_was m Holds (work source (faulty fault none)) one read f h =
@@ -149,7 +151,7 @@ module _ (call : Call) (ex : Execution) (file : List ℕ) (asked : Asked)
 
   -- ---- files that are too long
   file_long : {n : ℕ} {told : List ℕ} → FileCause n told → n ≡ TOO_LONG
-      → HasLongFile call file asked settings ex
+      → HasLongFile call file asked ex
   file_long (unreadable may none) e = absurd (omega arith)
   file_long (too_long long none) e = inl long
   file_long (work source (faulty fault none)) e = absurd (elim (fault_other fault)
@@ -163,7 +165,7 @@ module _ (call : Call) (ex : Execution) (file : List ℕ) (asked : Asked)
   })
 
   long_made : {n : ℕ} {told : List ℕ} → FileCause n told → IsSettled call n
-      → HasCodeOf call file settings ex (λ code. HasLongOrder call asked.order) → n ≡ TOO_LONG
+      → HasCodeOf call file build ex (λ code. HasLongOrder call asked.order) → n ≡ TOO_LONG
   long_made (unreadable may none) settled h = absurd (settled.read refl)
   long_made (too_long long none) settled h = refl
   long_made (work source (faulty fault none)) settled h = absurd (none_made ex none h.made)
@@ -172,14 +174,14 @@ module _ (call : Call) (ex : Execution) (file : List ℕ) (asked : Asked)
       (settled_order call n asked.order settled) h.holds
 
   was_file_long : {n : ℕ} {told : List ℕ} → FileCause n told → IsSettled call n
-      → HasLongFile call file asked settings ex → n ≡ TOO_LONG
+      → HasLongFile call file asked ex → n ≡ TOO_LONG
   was_file_long c settled (inl long) =
-      was_too_long_in call file settings ex Does (settled.one file) c settled.read long
+      was_too_long_in call file build ex Does (settled.one file) c settled.read long
   was_file_long c settled (inr h) = long_made c settled h
 
   -- ---- wrong items
   file_bad : {n : ℕ} {told : List ℕ} → FileCause n told → n ≡ ORDER_REFUSED
-      → HasCodeOf call file settings ex (HasBadOrder call asked)
+      → HasCodeOf call file build ex (HasBadOrder call asked)
   file_bad (unreadable may none) e = absurd (omega arith)
   file_bad (too_long long none) e = absurd (omega arith)
   file_bad (work source (faulty fault none)) e = absurd (elim (fault_other fault)
@@ -195,7 +197,7 @@ module _ (call : Call) (ex : Execution) (file : List ℕ) (asked : Asked)
       }
 
   was_file_bad : {n : ℕ} {told : List ℕ} → FileCause n told → IsOneOrder call n asked.order
-      → HasCodeOf call file settings ex (HasBadOrder call asked) → n ≡ ORDER_REFUSED
+      → HasCodeOf call file build ex (HasBadOrder call asked) → n ≡ ORDER_REFUSED
   was_file_bad (unreadable may none) one h = absurd (none_made ex none h.made)
   was_file_bad (too_long long none) one h = absurd (none_made ex none h.made)
   was_file_bad (work source (faulty fault none)) one h = absurd (none_made ex none h.made)
@@ -206,52 +208,40 @@ module _ (call : Call) (ex : Execution) (file : List ℕ) (asked : Asked)
 
 -- ---- any call
 module _ (call : Call) (ex : Execution) where
-  -- the words run one file, and ask for one thing
-  as_run : {Holds Also : List ℕ → Asked → List Setting → Type 0} (r : Runs call Also)
-      (h : Runs call Holds) → Holds r.file r.asked r.settings
-  as_run {Holds} {Also} r h =
-      let same = run_is_one call.words r.file h.file r.asked h.asked r.settings h.settings r.given
-      h.given in
-      subst (λ f. Holds f r.asked r.settings) (sym same.0)
-      (subst (λ a. Holds h.file a r.settings) (sym same.1)
-      (subst (λ s. Holds h.file h.asked s) (sym same.2) h.holds))
-
-  from : (m : ℕ) (Holds : List ℕ → Asked → List Setting → Type 0) → m ≢ NO_MEMORY
+  from : (m : ℕ) (Holds : List ℕ → Asked → Type 0) → m ≢ NO_MEMORY
       → {n : ℕ} {told : List ℕ}
-      → ((file : List ℕ) (asked : Asked) (settings : List Setting)
-      → IsRun call.words file asked settings
-      → RunFileCause call file asked settings ex n told → n ≡ m → Holds file asked settings)
+      → ((file : List ℕ) (asked : Asked) → IsRun call.words file asked
+      → RunFileCause call file asked ex n told → n ≡ m → Holds file asked)
       → Cause call ex n told → n ≡ m → Runs call Holds
   from m Holds other to no_memory e = absurd (other (sym e))
   from m Holds other to (run r) e = record {
     file = r.file;
     asked = r.asked;
-    settings = r.settings;
     given = r.given;
-    holds = to r.file r.asked r.settings r.given r.holds e;
+    holds = to r.file r.asked r.given r.holds e;
   }
 
-  back : (m : ℕ) (Holds : List ℕ → Asked → List Setting → Type 0) → {n : ℕ} {told : List ℕ}
+  back : (m : ℕ) (Holds : List ℕ → Asked → Type 0) → {n : ℕ} {told : List ℕ}
       → IsDecided n
-      → ((file : List ℕ) (asked : Asked) (settings : List Setting)
-      → IsRun call.words file asked settings
-      → RunFileCause call file asked settings ex n told → Holds file asked settings → n ≡ m)
+      → ((file : List ℕ) (asked : Asked) → IsRun call.words file asked
+      → RunFileCause call file asked ex n told → Holds file asked → n ≡ m)
       → Cause call ex n told → Runs call Holds → n ≡ m
   back m Holds d to no_memory h = absurd (d.memory refl)
-  back m Holds d to (run r) h = to r.file r.asked r.settings r.given r.holds (as_run r h)
+  back m Holds d to (run r) h = to r.file r.asked r.given r.holds 
+      (as_asked (codes "run") RunTakes call.words r h)
 
   -- ---- runs
-  abbrev Under : (Run → ℕ → Type 0) → List ℕ → Asked → List Setting → Type 0
-  Under Holds file asked settings =
-      HasCodeOf call file settings ex (IsUnder call asked ex.turns Holds)
+  abbrev Under : (Run → ℕ → Type 0) → List ℕ → Asked → Type 0
+  Under Holds file asked =
+      HasCodeOf call file (build_of asked) ex (IsUnder call asked ex.turns Holds)
 
   run_to : (m : ℕ) (Holds : Run → ℕ → Type 0) → IsRunStatus m
       → ((a : Run) (report : Bool) (k n : ℕ) (told : List ℕ) → RunCause a report k n told
       → n ≡ m → Holds a k) → {n : ℕ} {told : List ℕ}
-      (file : List ℕ) (asked : Asked) (settings : List Setting)
-      → RunFileCause call file asked settings ex n told → n ≡ m → Under Holds file asked settings
-  run_to m Holds s f {n = n} {told = told} file asked settings c e =
-      let h = file_code call ex file asked settings c (subst IsRunStatus (sym e) s) in
+      (file : List ℕ) (asked : Asked)
+      → RunFileCause call file asked ex n told → n ≡ m → Under Holds file asked
+  run_to m Holds s f {n = n} {told = told} file asked c e =
+      let h = file_code call ex file asked c (subst IsRunStatus (sym e) s) in
       record {
         source = h.source;
         code = h.code;
@@ -273,9 +263,9 @@ module _ (call : Call) (ex : Execution) where
     stuck_never : {n : ℕ} {told : List ℕ} → Cause call ex n told → n ≢ STUCK
     stuck_never no_memory = λ e. omega arith
     stuck_never {n = n} {told = told} (run r) = λ e.
-        let h = file_code call ex r.file r.asked r.settings r.holds
+        let h = file_code call ex r.file r.asked r.holds
         (subst IsRunStatus (sym e) is_stuck) in
-        let met = run_is_met call.words r.file r.asked r.settings r.given in
+        let met = is_met r.given.worded in
         let a = run_of h.code r.asked h.holds.order in
         elim (run_stuck a r.asked.report ex.turns h.holds.holds e) [
           | inl is ↦ never_stuck laws h.of_text r.asked met.links h.holds.text h.holds.order h.holds.read
@@ -284,13 +274,13 @@ module _ (call : Call) (ex : Execution) where
               ex.turns is.0 is.1
         ]
 
-    cut_short : (file : List ℕ) (asked : Asked) (settings : List Setting)
-        → IsRun call.words file asked settings → Under IsLimitedAt file asked settings
-        → IsCutShort call file asked settings ex
-    cut_short file asked settings given h = record {
+    cut_short : (file : List ℕ) (asked : Asked)
+        → IsRun call.words file asked → Under IsLimitedAt file asked
+        → IsCutShort call file asked ex
+    cut_short file asked given h = record {
       of_code = h;
       too_few = too_few laws h.of_text asked
-          (run_is_met call.words file asked settings given).links h.holds.text h.holds.order
+          (is_met given.worded).links h.holds.text h.holds.order
           h.holds.read
           ex.turns h.holds.holds;
     }
@@ -299,67 +289,67 @@ pub exactly : (call : Call) (ex : Execution) → Laws → (n : ℕ) (told : List
     → Cause call ex n told → IsExact call ex n
 exactly call ex laws n told cause = record {
   too_long = λ s. (
-    from call ex TOO_LONG (λ file asked settings. HasLongFile call file asked settings ex)
+    from call ex TOO_LONG (λ file asked. HasLongFile call file asked ex)
         (λ e. omega arith)
-        (λ file asked settings given c e. file_long call ex file asked settings c e) cause,
-    back call ex TOO_LONG (λ file asked settings. HasLongFile call file asked settings ex)
+        (λ file asked given c e. file_long call ex file asked c e) cause,
+    back call ex TOO_LONG (λ file asked. HasLongFile call file asked ex)
         s.decided
-        (λ file asked settings given c h. was_file_long call ex file asked settings c s h) cause,
+        (λ file asked given c h. was_file_long call ex file asked c s h) cause,
   );
   refused = λ s. (
-    from call ex REFUSED (λ file asked settings. HasNoProgramIn call file settings)
+    from call ex REFUSED (λ file asked. HasNoProgramIn call file (build_of asked))
         (λ e. omega arith)
-        (λ file asked settings given c e. refused_of call file settings ex
-        (Does call ex file asked settings) (does_other call ex file asked settings) c e) cause,
-    back call ex REFUSED (λ file asked settings. HasNoProgramIn call file settings) s.decided
-        (λ file asked settings given c h. was_refused_in call file settings ex
-        (Does call ex file asked settings) (s.one file) c s.read h) cause,
+        (λ file asked given c e. refused_of call file (build_of asked) ex
+        (Does call ex file asked) (does_other call ex file asked) c e) cause,
+    back call ex REFUSED (λ file asked. HasNoProgramIn call file (build_of asked)) s.decided
+        (λ file asked given c h. was_refused_in call file (build_of asked) ex
+        (Does call ex file asked) (s.one file) c s.read h) cause,
   );
   unbound = λ s. (
-    from call ex UNBOUND (λ file asked settings. HasUnboundIn call file settings)
+    from call ex UNBOUND (λ file asked. HasUnboundIn call file (build_of asked))
         (λ e. omega arith)
-        (λ file asked settings given c e. unbound_of call file settings ex
-        (Does call ex file asked settings) (does_other call ex file asked settings) c e) cause,
-    back call ex UNBOUND (λ file asked settings. HasUnboundIn call file settings) s.decided
-        (λ file asked settings given c h. was_unbound_in call file settings ex
-        (Does call ex file asked settings) (s.one file) c s.read h) cause,
+        (λ file asked given c e. unbound_of call file (build_of asked) ex
+        (Does call ex file asked) (does_other call ex file asked) c e) cause,
+    back call ex UNBOUND (λ file asked. HasUnboundIn call file (build_of asked)) s.decided
+        (λ file asked given c h. was_unbound_in call file (build_of asked) ex
+        (Does call ex file asked) (s.one file) c s.read h) cause,
   );
   order_refused = λ s. (
     from call ex ORDER_REFUSED
-        (λ file asked settings. HasCodeOf call file settings ex (HasBadOrder call asked))
+        (λ file asked. HasCodeOf call file (build_of asked) ex (HasBadOrder call asked))
         (λ e. omega arith)
-        (λ file asked settings given c e. file_bad call ex file asked settings c e) cause,
+        (λ file asked given c e. file_bad call ex file asked c e) cause,
     back call ex ORDER_REFUSED
-        (λ file asked settings. HasCodeOf call file settings ex (HasBadOrder call asked)) s.decided
-        (λ file asked settings given c h. was_file_bad call ex file asked settings c
-        (s.order file asked settings given) h) cause,
+        (λ file asked. HasCodeOf call file (build_of asked) ex (HasBadOrder call asked)) s.decided
+        (λ file asked given c h. was_file_bad call ex file asked c
+        (s.order file asked given) h) cause,
   );
   done = λ s. (
     from call ex DONE (Under call ex IsDoneAt) (λ e. omega arith)
-        (λ file asked settings given c e. run_to call ex DONE IsDoneAt is_done
-        (λ a report k m t. run_done a report k) file asked settings c e) cause,
+        (λ file asked given c e. run_to call ex DONE IsDoneAt is_done
+        (λ a report k m t. run_done a report k) file asked c e) cause,
     back call ex DONE (Under call ex IsDoneAt) s.decided
-        (λ file asked settings given c h. file_was call ex file asked settings DONE IsDoneAt c
-        (s.order file asked settings given) (λ e. omega arith) told_done h) cause,
+        (λ file asked given c h. file_was call ex file asked DONE IsDoneAt c
+        (s.order file asked given) (λ e. omega arith) told_done h) cause,
   );
   trap = λ s. (
     from call ex TRAPPED (Under call ex IsTrapAt) (λ e. omega arith)
-        (λ file asked settings given c e. run_to call ex TRAPPED IsTrapAt is_trapped
-        (λ a report k m t. run_trap a report k) file asked settings c e) cause,
+        (λ file asked given c e. run_to call ex TRAPPED IsTrapAt is_trapped
+        (λ a report k m t. run_trap a report k) file asked c e) cause,
     back call ex TRAPPED (Under call ex IsTrapAt) s.decided
-        (λ file asked settings given c h. file_was call ex file asked settings TRAPPED IsTrapAt c
-        (s.order file asked settings given) (λ e. omega arith) told_trap h) cause,
+        (λ file asked given c h. file_was call ex file asked TRAPPED IsTrapAt c
+        (s.order file asked given) (λ e. omega arith) told_trap h) cause,
   );
   turn_limit = λ s. (
-    from call ex TURN_LIMIT (λ file asked settings. IsCutShort call file asked settings ex)
+    from call ex TURN_LIMIT (λ file asked. IsCutShort call file asked ex)
         (λ e. omega arith)
-        (λ file asked settings given c e. cut_short call ex laws file asked settings given
+        (λ file asked given c e. cut_short call ex laws file asked given
         (run_to call ex TURN_LIMIT IsLimitedAt is_limit (λ a report k m t. run_limit a report k)
-        file asked settings c e)) cause,
-    back call ex TURN_LIMIT (λ file asked settings. IsCutShort call file asked settings ex)
+        file asked c e)) cause,
+    back call ex TURN_LIMIT (λ file asked. IsCutShort call file asked ex)
         s.decided
-        (λ file asked settings given c h. file_was call ex file asked settings TURN_LIMIT
-        IsLimitedAt c (s.order file asked settings given) (λ e. omega arith) told_limit h.of_code)
+        (λ file asked given c h. file_was call ex file asked TURN_LIMIT
+        IsLimitedAt c (s.order file asked given) (λ e. omega arith) told_limit h.of_code)
         cause,
   );
   never_stuck = stuck_never call ex laws cause;

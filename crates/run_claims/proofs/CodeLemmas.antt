@@ -1,9 +1,10 @@
 -- Runs of compiled code: they are never stuck nor idle, and come to their end in time.
-use Rattle.std.proofs.Common.{◌≡◌, ℕ, zero, suc, ◌+◌, ◌-◌, ◌<◌, ◌≤◌, List, [], ◌∷◌, ◌++◌, length, Option, All}
-use Rattle.std.proofs.Common.{Ok, sym, ap, subst, inl, arith, add-zero, add-suc}
+use Rattle.std.proofs.Common.{◌≡◌, ℕ, false, true, zero, suc, ◌+◌, ◌-◌, ◌<◌, ◌≤◌, List, [], ◌∷◌, ◌++◌, length, Option, All}
+use Rattle.std.proofs.Common.{Ok, sym, ◌∙◌, ap, subst, inl, arith, add-zero, add-suc}
 use Rattle.std.proofs.lemmas.List.Elements.{All-head, All-tail}
 use Rattle.node_form.specs.declared.tables.Tables.{Tables}
-use Rattle.zpl_binding.specs.Settings.{Setting}
+use Rattle.zpl_claims.specs.Build.{Build, IsBuiltFor}
+use Rattle.grid_layout.specs.Layout.{Arrangement}
 use Rattle.zpl_meaning.specs.Program.{mean_of, steps_of}
 use Rattle.zpl_names.specs.Expansion.{shattered_loops}
 use Rattle.zpl_claims.specs.Bound.{turn_bound}
@@ -13,7 +14,7 @@ use Rattle.grid_meaning.specs.Order.{IsOrder, given, turn_number}
 use Rattle.grid_order.specs.Reading.{reading}
 use Rattle.grid_runs.specs.Run.{grid_at, IsIdleAt, IsLimitedAt, IsStuckAt}
 use Rattle.call_claims.specs.Source.{IsCodeOf}
-use Rattle.exec_words.specs.Asked.{Asked, limit_of}
+use Rattle.call_claims.specs.Command.{Asked, limit_of}
 use Rattle.exec_claims.specs.Cause.{run_of}
 use Rattle.run_claims.specs.Decided.{IsTooFew}
 
@@ -68,13 +69,24 @@ the_rest : (few bound limit k : ℕ) → bound ≤ limit → k ≡ few + limit
     → few + bound + (limit - bound) ≡ k
 the_rest few bound limit k within all = omega arith
 
-alone_of : {text : List ℕ} {settings : List Setting} {code : Tables}
-    → IsCodeOf text settings code → processors code ≡ 1
+-- code of a small program is for one processor, without optimisations
+alone_of : {text : List ℕ} {build : Build} {code : Tables} → IsCodeOf text build code
+    → processors code ≡ 1
 alone_of {code = code} of_text =
-    ap (λ grid. processors (record code { grid = grid })) of_text.compiled.tidy.for_grid
+    ap (λ (a : Arrangement). processors (record code { grid = a.grid })) of_text.compiled.tidy.laid_out
+    ∙ ap (λ (b : Build). processors (record code { grid = b.grid })) of_text.small.plain
 
-module _ (laws : Laws) {text : List ℕ} {settings : List Setting} {code : Tables}
-    (of_text : IsCodeOf text settings code) (asked : Asked) (capacity : IsCapacity asked.links)
+-- so it is for all links
+built_for : {text : List ℕ} {build : Build} {code : Tables} → IsCodeOf text build code
+    → (links : Option ℕ) → IsCapacity links → IsBuiltFor build links
+built_for of_text links capacity = (
+  capacity,
+  λ early. absurd (let no : false ≡ true =
+      sym (ap (λ (b : Build). b.options.early) of_text.small.plain) ∙ early in cc),
+)
+
+module _ (laws : Laws) {text : List ℕ} {build : Build} {code : Tables}
+    (of_text : IsCodeOf text build code) (asked : Asked) (capacity : IsCapacity asked.links)
     (more : List ℕ) (order : List ℕ) (read : reading (processors code) more ≡ Ok order) where
   some_there : 0 < processors code
   some_there = omega (arith, alone_of of_text)
@@ -90,7 +102,7 @@ module _ (laws : Laws) {text : List ℕ} {settings : List Setting} {code : Table
 
   pub never_stuck : (k p : ℕ) (kind : StuckKind) → ¬ IsStuckAt (run_of code asked order) k p kind
   never_stuck k p kind is =
-      (of_text.compiled.good asked.links capacity (given order (processors code) k)
+      (of_text.compiled.good asked.links (built_for of_text asked.links capacity) (given order (processors code) k)
       (is_order k)).not_stuck (record {
         processor = p;
         there = subst (λ q. q < processors code) (sym is.processor) (is_processor k);
@@ -100,20 +112,20 @@ module _ (laws : Laws) {text : List ℕ} {settings : List Setting} {code : Table
 
   pub never_idle : (k p : ℕ) → ¬ IsIdleAt (run_of code asked order) k p
   never_idle k p is =
-      (of_text.compiled.good asked.links capacity (given order (processors code) k)
+      (of_text.compiled.good asked.links (built_for of_text asked.links capacity) (given order (processors code) k)
       (is_order k)).not_idle is.idle
 
   -- a grid that isn't over was given fewer turns behind the order than the bound
   pub too_few : (k : ℕ) → IsLimitedAt (run_of code asked order) k
-      → IsTooFew (limit_of asked) code (mean_of of_text.program settings)
-      (steps_of of_text.program settings) (shattered_loops of_text.program)
+      → IsTooFew (limit_of asked) code (mean_of of_text.program build.settings)
+      (steps_of of_text.program build.settings) (shattered_loops of_text.program)
   too_few k is = λ n ends.
       let limit : ℕ = limit_of asked in
-      let bound : ℕ = turn_bound code (steps_of of_text.program settings)
+      let bound : ℕ = turn_bound code (steps_of of_text.program build.settings)
       (shattered_loops of_text.program) n in
       let there : IsOver (after code asked.links
       (given order (processors code) (length order + bound))) =
-      of_text.compiled.in_time asked.links capacity n order ends
+      of_text.compiled.in_time asked.links (built_for of_text asked.links capacity) n order ends
       (laws.below (processors code) more order read) in
       not_within bound limit (λ within. is.goes_on (inl
       (subst (λ b. IsOver (grid_at (run_of code asked order) b))

@@ -1,31 +1,29 @@
--- What a call of `run` answers: its code and counts, what the stream for output took, and what the
--- stream for errors did.
+-- What a call of `run` answers: its code and counts, and what the stream for output took.
 use Rattle.std.specs.Prelude.{◌≡◌, ◌⊎◌, ℕ, List, [], Option, Some, None}
-use Rattle.zpl_io.specs.Sink.{Takes, TakesFront}
-use Rattle.zpl_binding.specs.Settings.{Setting}
+use Rattle.zpl_io.specs.Sink.{Takes}
 use Rattle.node_form.specs.declared.tables.Tables.{Tables}
 use Rattle.grid_runs.specs.Run.{grid_at, IsCutOff}
 use Rattle.call_claims.specs.declared.ran.Ran.{Ran}
 use Rattle.call_claims.specs.Call.{Call}
-use Rattle.call_claims.specs.Execution.{execution_of, HasNoCounts, IsMadeOf}
-use Rattle.exec_words.specs.Asked.{Asked}
+use Rattle.call_claims.specs.Execution.{HasNoCounts, IsMadeOf}
+use Rattle.call_claims.specs.Command.{Asked, build_of}
 use Rattle.exec_claims.specs.Answer.{HasCounts}
 use Rattle.exec_claims.specs.Answer as orders
-use Rattle.run_claims.specs.Cause.{Cause, Runs}
+use Rattle.run_claims.specs.Cause.{Runs}
 
 -- ---- the code and the counts
--- The code is made of the file's text, under the settings: over links of every capacity it is right
+-- The code is made of the file's text, for the build: over links of every capacity it is right
 -- after every order of turns, some order brings it in step to each bound of the meaning, and it comes
 -- to its end in time; and it is tidy. It was not run, or it was run under the order that the words
 -- ask for, and the counts are those of its grid after the given turns.
-pub record IsMade (call : Call) (ran : Ran) (file : List ℕ) (asked : Asked)
-    (settings : List Setting) (code : Tables) : Type 0 where
-  pub made : IsMadeOf call file settings code
+pub record IsMade (call : Call) (ran : Ran) (file : List ℕ) (asked : Asked) (code : Tables)
+    : Type 0 where
+  pub made : IsMadeOf call file (build_of asked) code
   pub counts : HasNoCounts ran ⊎ orders.Runs call code asked (λ run. HasCounts run ran)
 
 abbrev pub IsMadeFor : Call → Ran → Tables → Type 0
 IsMadeFor call ran code =
-    Runs call (λ file asked settings. IsMade call ran file asked settings code)
+    Runs call (λ file asked. IsMade call ran file asked code)
 
 -- ---- what the stream for output took
 -- nothing where no turn was given, and what is printed in the given turns of the run
@@ -34,7 +32,7 @@ abbrev pub TakesPrinted :
 TakesPrinted call ran before after None = Takes before [] after
 TakesPrinted call ran before after (Some code) =
     (HasNoCounts ran × Takes before [] after)
-    ⊎ Runs call (λ file asked settings. orders.Runs call code asked
+    ⊎ Runs call (λ file asked. orders.Runs call code asked
     (λ run. Takes before (grid_at run ran.turns).printed after))
 
 -- The code was run, and the stream took what is printed in the given turns and a front of what the
@@ -47,18 +45,4 @@ pub record IsCutIn (call : Call) (ran : Ran) (asked : Asked) (before after : Lis
 
 abbrev pub IsOutputCut : Call → Ran → (List ℕ → Type 0) → (List ℕ → Type 0) → Type 0
 IsOutputCut call ran before after =
-    Runs call (λ file asked settings. IsCutIn call ran asked before after)
-
--- ---- what the stream for errors took
--- The status has its cause, and the stream took its text.
-pub record IsAnswered (call : Call) (ran : Ran) (before after : List ℕ → Type 0) : Type 0 where
-  pub text : List ℕ
-  pub cause : Cause call (execution_of ran) ran.status text
-  pub told : Takes before text after
-
--- Some status has its cause, and the stream took a front of its text.
-pub record IsHalfAnswered (call : Call) (ran : Ran) (before after : List ℕ → Type 0) : Type 0 where
-  pub status : ℕ
-  pub text : List ℕ
-  pub cause : Cause call (execution_of ran) status text
-  pub front : TakesFront before text after
+    Runs call (λ file asked. IsCutIn call ran asked before after)

@@ -8,7 +8,7 @@
 use Rattle.std.specs.Prelude.{◌≡◌, ◌≢◌, ◌⊎◌, ◌↔◌, ℕ, ◌<◌, List, Some, Ok}
 use Rattle.zpl_nums.specs.declared.ends.End.TheVariants.{More}
 use Rattle.node_form.specs.declared.tables.Tables.{Tables}
-use Rattle.zpl_binding.specs.Settings.{Setting}
+use Rattle.zpl_claims.specs.Build.{Build}
 use Rattle.zpl_names.specs.Expansion.{shattered_loops}
 use Rattle.zpl_meaning.specs.Program.{Meaning, mean_of, steps_of}
 use Rattle.zpl_claims.specs.Bound.{turn_bound}
@@ -22,7 +22,7 @@ use Rattle.call_claims.specs.Execution.{Execution}
 use Rattle.call_claims.specs.Source.{IsCodeOf, Source}
 use Rattle.call_claims.specs.declared.status.TheConstants.{DONE, TOO_LONG, REFUSED}
 use Rattle.call_claims.specs.declared.status.TheConstants.{UNBOUND, TRAPPED, TURN_LIMIT}
-use Rattle.exec_words.specs.Asked.{Asked, IsRun, limit_of}
+use Rattle.call_claims.specs.Command.{Asked, IsRun, build_of, limit_of}
 use Rattle.exec_claims.specs.Cause.{run_of}
 use Rattle.exec_claims.specs.Decided.{HasBadOrder, HasLongOrder, IsDoneAt, IsOneOrder, IsOrderText}
 use Rattle.exec_claims.specs.Decided.{IsTrapAt}
@@ -33,16 +33,16 @@ use Rattle.run_claims.specs.Cause.{Runs}
 -- No put failed, memory wasn't wanting, and the order of the run is one.
 pub record IsRunSettled (call : Call) (status : ℕ) : Type 0 where
   pub decided : IsDecided status
-  pub order : (file : List ℕ) (asked : Asked) (settings : List Setting)
-      → IsRun call.words file asked settings → IsOneOrder call status asked.order
+  pub order : (file : List ℕ) (asked : Asked)
+      → IsRun call.words file asked → IsOneOrder call status asked.order
 
 -- ---- code
 -- Code was made of the text that the file tells, and this holds of it.
-pub record HasCodeOf (call : Call) (file : List ℕ) (settings : List Setting)
+pub record HasCodeOf (call : Call) (file : List ℕ) (build : Build)
     (execution : Execution) (Holds : Tables → Type 0) : Type 0 where
   pub source : Source call file
   pub code : Tables
-  pub of_text : IsCodeOf source.text settings code
+  pub of_text : IsCodeOf source.text build code
   pub made : execution.code ≡ Some code
   pub holds : Holds code
 
@@ -59,7 +59,7 @@ pub record IsUnder (call : Call) (asked : Asked) (turns : ℕ) (Holds : Run → 
 
 abbrev pub RunsTo : Call → Execution → (Run → ℕ → Type 0) → Type 0
 RunsTo call execution Holds =
-    Runs call (λ file asked settings. HasCodeOf call file settings execution
+    Runs call (λ file asked. HasCodeOf call file (build_of asked) execution
     (IsUnder call asked execution.turns Holds))
 
 -- ---- the last turn of a run
@@ -76,36 +76,34 @@ IsTooFew limit code mean steps loops =
 
 -- 8: all turns of the order, and all that may follow it, were given, and the run isn't over. Those
 -- that may follow are fewer than the bound wherever the meaning ends.
-pub record IsCutShort (call : Call) (file : List ℕ) (asked : Asked) (settings : List Setting)
-    (execution : Execution) : Type 0 where
-  pub of_code : HasCodeOf call file settings execution
+pub record IsCutShort (call : Call) (file : List ℕ) (asked : Asked) (execution : Execution)
+    : Type 0 where
+  pub of_code : HasCodeOf call file (build_of asked) execution
       (IsUnder call asked execution.turns IsLimitedAt)
   pub too_few : let program = of_code.of_text.program in
-      IsTooFew (limit_of asked) of_code.code (mean_of program settings)
-      (steps_of program settings) (shattered_loops program)
+      IsTooFew (limit_of asked) of_code.code (mean_of program asked.settings)
+      (steps_of program asked.settings) (shattered_loops program)
 
 -- ---- 3: the program's file is too long, or that of the order, where code was made
-abbrev pub HasLongFile : Call → List ℕ → Asked → List Setting → Execution → Type 0
-HasLongFile call file asked settings execution =
+abbrev pub HasLongFile : Call → List ℕ → Asked → Execution → Type 0
+HasLongFile call file asked execution =
     IsTooLong call file
-    ⊎ HasCodeOf call file settings execution (λ code. HasLongOrder call asked.order)
+    ⊎ HasCodeOf call file (build_of asked) execution (λ code. HasLongOrder call asked.order)
 
 -- ---- each status comes just where its own cause is
 pub record IsExact (call : Call) (execution : Execution) (status : ℕ) : Type 0 where
   pub too_long : IsSettled call status
-      → (status ≡ TOO_LONG) ↔ Runs call (λ file asked settings.
-      HasLongFile call file asked settings execution)
+      → (status ≡ TOO_LONG) ↔ Runs call (λ file asked. HasLongFile call file asked execution)
   pub refused : IsSettled call status
-      → (status ≡ REFUSED) ↔ Runs call (λ file asked settings. HasNoProgramIn call file settings)
+      → (status ≡ REFUSED) ↔ Runs call (λ file asked. HasNoProgramIn call file (build_of asked))
   pub unbound : IsSettled call status
-      → (status ≡ UNBOUND) ↔ Runs call (λ file asked settings. HasUnboundIn call file settings)
+      → (status ≡ UNBOUND) ↔ Runs call (λ file asked. HasUnboundIn call file (build_of asked))
   pub order_refused : IsRunSettled call status
-      → (status ≡ ORDER_REFUSED) ↔ Runs call (λ file asked settings.
-      HasCodeOf call file settings execution (HasBadOrder call asked))
+      → (status ≡ ORDER_REFUSED) ↔ Runs call (λ file asked.
+      HasCodeOf call file (build_of asked) execution (HasBadOrder call asked))
   pub done : IsRunSettled call status → (status ≡ DONE) ↔ RunsTo call execution IsDoneAt
   pub trap : IsRunSettled call status → (status ≡ TRAPPED) ↔ RunsTo call execution IsTrapAt
   pub turn_limit : IsRunSettled call status
-      → (status ≡ TURN_LIMIT) ↔ Runs call (λ file asked settings.
-      IsCutShort call file asked settings execution)
+      → (status ≡ TURN_LIMIT) ↔ Runs call (λ file asked. IsCutShort call file asked execution)
   -- 12 never comes: over links of every capacity the code goes on until it is over.
   pub never_stuck : status ≢ STUCK

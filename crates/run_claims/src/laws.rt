@@ -15,7 +15,8 @@ use zpl_io::Files;
 /// one text a name. That a processor is stuck, or that none can move, never comes.
 pub fn run_causes_are_exact<F: Files>()
     ensures { (files : F) (words : List (List ℕ)) (ran : Execution) (n : ℕ) (told : List ℕ) →
-        let call = call_of words (F.tells files) (F.may_fail files) in
+        let call = call_of words (F.tells files) (F.may_fail files)
+        (F.may_fail_later files) in
         Cause call ran n told → IsExact call ran n }
 {
     given_turns_are_orders();

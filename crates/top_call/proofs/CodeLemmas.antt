@@ -1,6 +1,7 @@
 -- From the parts of the compiler to code of a text.
-use Rattle.std.proofs.Common.{◌≡◌, ◌↔◌, ℕ, suc, Bool, true, false, IsTrue, ◌<◌, ◌≤◌, List, [], ◌∷◌, length, sum_by, Result, Ok, Err}
+use Rattle.std.proofs.Common.{◌≡◌, ◌↔◌, ℕ, suc, Bool, true, false, IsTrue, ◌<◌, ◌≤◌, List, [], ◌∷◌, length, sum_by, Option, Result, Ok, Err}
 use Rattle.std.proofs.Common.{IfErr, IsErrAnd, refl, sym, ◌∙◌, ap, subst, arith}
+use Rattle.std.proofs.lemmas.List.Elements.{All-from_recursion}
 use Rattle.zpl_text.specs.declared.tokens.Token.{Token}
 use Rattle.zpl_text.specs.Tokens.{IsTokens}
 use Rattle.zpl_tree.specs.Syntax.{Program}
@@ -12,7 +13,9 @@ use Rattle.node_form.specs.declared.tables.Tables.{Tables}
 use Rattle.zpl_meaning.specs.Program.{mean_of, steps_of}
 use Rattle.zpl_names.specs.Expansion.{shattered_loops}
 use Rattle.zpl_claims.specs.Bound.{EndsInBound}
-use Rattle.zpl_claims.specs.Good.{IsGood, OverAllLinks}
+use Rattle.zpl_claims.specs.Build.{Build, OverAllLinks, one_processor, plain_build}
+use Rattle.zpl_claims.specs.Good.{IsGood}
+use Rattle.zpl_claims.specs.Origin.{origin_of}
 use Rattle.zpl_claims.specs.LockStep.{HasLockSteps}
 use Rattle.zpl_claims.specs.Small.{IsSmall}
 use Rattle.zpl_claims.specs.Tidy.{IsTidy}
@@ -20,13 +23,15 @@ use Rattle.small_code.specs.Claims.{HoldsItsWords}
 use Rattle.small_code.specs.Fault.{Refutes}
 use Rattle.small_code.specs.declared.fault.CodeFault.{CodeFault}
 use Rattle.small_code.specs.declared.fault.CodeFault.TheVariants as code
-use Rattle.zpl_binding.specs.Settings.{Setting}
 use Rattle.zpl_binding.specs.Bound.{HasBindFault, IsAcceptedWith}
-use Rattle.call_claims.specs.Refusal.{IsFault, IsRefusal}
-use Rattle.call_claims.specs.Refusal.IsFault.{not_built}
-use Rattle.call_claims.specs.Source.{IsSmallText, HasNoProgram, IsCodeOf, one_processor}
+use Rattle.node_form.specs.Grid.{IsGrid}
+use Rattle.call_claims.specs.Command.{Asked, build_of}
+use Rattle.call_claims.specs.Refusal.{IsFault, IsRefusal, IsSetWrong}
+use Rattle.call_claims.specs.Refusal.IsCodeless.{faulty, not_built}
+use Rattle.call_claims.specs.Refusal.IsSetWrong.{bad_shape, declared}
+use Rattle.call_claims.specs.Source.{IsSmallText, HasNoProgram, IsCodeOf}
 use Rattle.call_claims.specs.declared.limits.TheConstants.{MOST_TOKENS}
-use Rattle.mean_claims.specs.Text.{IsAccepted}
+use Rattle.call_claims.specs.Accepted.{IsAccepted, IsFaulty}
 use Rattle.call_answers.specs.declared.refusals.Refusal.{Refusal}
 use Rattle.call_answers.specs.declared.refusals.Refusal.TheVariants.{Lex, Parse, Judge, Bind}
 use Rattle.call_answers.specs.declared.refusals.Refusal.TheVariants.{NotBuilt, NoMemory}
@@ -58,18 +63,20 @@ small_words text tokens program is small =
     spelled.are
 
 -- what the parts tell of code makes it code of the text
-pub code_is : (text : List ℕ) (tokens : List Token) (program : Program) (code : Tables)
+pub code_is : (text : List ℕ) (tokens : List Token) (program : Program) (links : Option ℕ)
+    (code : Tables)
     → IsTokens text tokens → length tokens ≤ MOST_TOKENS
     → IsShallowTree text tokens program
     → sum_by (λ word. length (word_text word)) (program_words program) ≤ length text
     → IsSmall program
-    → OverAllLinks (λ links. IsGood code links (mean_of program []))
-    → OverAllLinks (λ links. HasLockSteps code links (mean_of program []))
-    → OverAllLinks (λ links.
+    → OverAllLinks (plain_build links []) (λ links. IsGood code links (mean_of program []))
+    → OverAllLinks (plain_build links []) (λ links. HasLockSteps code links (mean_of program []))
+    → OverAllLinks (plain_build links []) (λ links.
     EndsInBound code links (mean_of program []) (steps_of program []) (shattered_loops program))
-    → (HoldsItsWords program → IsTidy one_processor program (length (program_words program)) code)
-    → IsCodeOf text [] code
-code_is text tokens program code of_text few tree fit small good in_step in_time tidy =
+    → (HoldsItsWords program
+    → IsTidy (origin_of (plain_build links []) program (length (program_words program))) code)
+    → IsCodeOf text (plain_build links []) code
+code_is text tokens program links code of_text few tree fit small good in_step in_time tidy =
     let holds : HoldsItsWords program =
     subst (λ t. sum_by (λ word. length (word_text word)) (program_words program) ≤ length t)
     (sym tree.tree.source) fit in
@@ -82,122 +89,133 @@ code_is text tokens program code of_text few tree fit small good in_step in_time
         few = few;
         tree = tree;
         small = small;
-        unset = refl;
+        plain = refl;
       };
       compiled = record {
         good = good;
         in_step = in_step;
         in_time = in_time;
-        tidy = subst (λ n. IsTidy one_processor program n code)
+        tidy = subst (λ n. IsTidy (origin_of (plain_build links []) program n) code)
             (as_many text tokens (program_words program) words) (tidy holds);
       };
     }
 
 -- the tree of a small program is one of these tokens
-small_tree : (text : List ℕ) (settings : List Setting) (tokens : List Token) (program : Program)
-    → OneWay → IsTokens text tokens → IsSmallText text settings program
+small_tree : (text : List ℕ) (build : Build) (tokens : List Token) (program : Program)
+    → OneWay → IsTokens text tokens → IsSmallText text build program
     → IsShallowTree text tokens program
-small_tree text settings tokens program one_way of_text small =
+small_tree text build tokens program one_way of_text small =
     subst (λ ts. IsShallowTree text ts program)
     (one_way text small.tokens tokens small.of_text of_text) small.tree
 
 -- ---- texts without small programs
 -- a text with too many tokens has none
-pub many_have_none : (text : List ℕ) (settings : List Setting) (tokens : List Token) → OneWay
-    → IsTokens text tokens → MOST_TOKENS < length tokens → HasNoProgram text settings
-many_have_none text settings tokens one_way of_text many program small =
+pub many_have_none : (text : List ℕ) (build : Build) (tokens : List Token) → OneWay
+    → IsTokens text tokens → MOST_TOKENS < length tokens → HasNoProgram text build
+many_have_none text build tokens one_way of_text many program small =
     let same : small.tokens ≡ tokens = one_way text small.tokens tokens small.of_text of_text in
     omega (arith, small.few, many, ap length same)
 
 -- nor has one where something is to be set
-pub set_have_none : (text : List ℕ) (settings : List Setting) (r : Bool)
-    → (IsTrue r ↔ (settings ≡ [])) → r ≡ false → HasNoProgram text settings
-set_have_none text settings r unset set program small =
-    let no : false ≡ true = sym set ∙ unset.1 small.unset in cc
+pub set_have_none : (text : List ℕ) (build : Build) (r : Bool)
+    → (IsTrue r ↔ (build.settings ≡ [])) → r ≡ false → HasNoProgram text build
+set_have_none text build r unset set program small =
+    let no : false ≡ true =
+    sym set ∙ unset.1 (ap (λ (b : Build). b.settings) small.plain) in cc
 
 -- nor has one whose tree is none
-pub others_have_none : {A : Type 0} (text : List ℕ) (settings : List Setting) (tokens : List Token)
+pub others_have_none : {A : Type 0} (text : List ℕ) (build : Build) (tokens : List Token)
     (program : Program) (r : Result A CodeFault) → OneWay → IsTokens text tokens
     → IsOnlyTree text tokens program → IfErr r (λ fault. Refutes fault (IsSmall program))
-    → r ≡ Err code.NotBuilt → HasNoProgram text settings
-others_have_none text settings tokens program r one_way of_text only refutes is other small =
+    → r ≡ Err code.NotBuilt → HasNoProgram text build
+others_have_none text build tokens program r one_way of_text only refutes is other small =
     let not_small : IsSmall program → ⊥ = subst
     (λ x. IfErr x (λ fault. Refutes fault (IsSmall program))) is refutes in
     not_small (subst IsSmall (sym (only other
-    (small_tree text settings tokens other one_way of_text small))) small.small)
+    (small_tree text build tokens other one_way of_text small))) small.small)
 
--- a text without a tree has no small program, and none with a fault of its declarations
-no_tree_refused : (text told : List ℕ) (settings : List Setting) → IsTreeless text
-    → IsFault text settings told → IsRefusal text settings told
-no_tree_refused text told settings none fault = record {
-  none = λ program small. none small.tokens program small.of_text small.tree;
-  not_unbound = λ has. none has.1.tokens has.1.program has.1.of_text has.1.tree;
-  fault = fault;
-}
+-- the grid of a call is one, so that only settings and declarations are wrong
+module _ (text : List ℕ) (asked : Asked) where
+  abbrev build : Build
+  build = build_of asked
 
--- ---- refusals
--- of a text without a tree
-unread_refuses : (text : List ℕ) (settings : List Setting) (refusal : Refusal)
-    → IsUnread text settings refusal → Refuses text settings refusal
-unread_refuses text settings (Lex fault) h = no_tree_refused text _ settings h.0 h.1
-unread_refuses text settings (Parse fault) h = no_tree_refused text _ settings h.0 h.1
-unread_refuses text settings (Judge fault) h = absurd h
-unread_refuses text settings (Bind fault) h = absurd h
-unread_refuses text settings NotBuilt h = absurd h
-unread_refuses text settings NoMemory h = tt
+  one_is_grid : IsGrid one_processor
+  one_is_grid = record { some = omega arith; absent = All-from_recursion (λ factor. factor ≡ 0) (0 ∷ 0 ∷ []) (refl, (refl, tt)); few = omega arith }
 
--- which a `?` passes on
-pub passed_on : {A : Type 0} (text : List ℕ) (settings : List Setting) (r : Result A Refusal)
-    (refusal : Refusal) → IsErrAnd r (λ f. f ≡ refusal) → IsUnread text settings refusal
-    → IfErr r (Refuses text settings)
-passed_on text settings (Ok v) refusal is h = tt
-passed_on text settings (Err f) refusal is h =
-    subst (Refuses text settings) (sym is) (unread_refuses text settings refusal h)
+  -- a text that isn't accepted has no fault of what it is built for
+  not_wrong : {told : List ℕ} → IsFaulty text → ¬ IsSetWrong text build told
+  not_wrong faulty (bad_shape none) = none one_is_grid
+  not_wrong faulty (declared program fault accepted holds) = faulty program accepted
 
--- of one without a small program that has a fault of names, ranks or types, or of its declarations
-pub rejected_refuses : (text : List ℕ) (settings : List Setting) (refusal : Refusal)
-    → HasNoProgram text settings → IsRejected text settings refusal → Refuses text settings refusal
-rejected_refuses text settings (Lex fault) none h = absurd h
-rejected_refuses text settings (Parse fault) none h = absurd h
-rejected_refuses text settings (Judge fault) none h = record {
-  none = none;
-  not_unbound = λ has. h.0 has.1.program (record {
-    tokens = has.1.tokens;
-    of_text = has.1.of_text;
-    tree = has.1.tree;
-    faultless = has.1.faultless;
-  });
-  fault = h.1;
-}
-rejected_refuses text settings (Bind fault) none h = record {
-  none = none;
-  tokens = h.1.accepted.tokens;
-  of_text = h.1.accepted.of_text;
-  program = h.1.program;
-  tree = h.1.accepted.tree;
-  faultless = h.1.accepted.faultless;
-  fault = h.0;
-  holds = h.1.holds;
-  tells = h.2;
-}
-rejected_refuses text settings NotBuilt none h = absurd h
-rejected_refuses text settings NoMemory none h = tt
+  -- and none that is accepted with its settings
+  none_wrong : {told : List ℕ} (program : Program)
+      → ((other : Program) → IsAccepted text other → program ≡ other)
+      → IsAcceptedWith program asked.settings → ¬ IsSetWrong text build told
+  none_wrong program only bound (bad_shape none) = none one_is_grid
+  none_wrong program only bound (declared other fault accepted holds) =
+      bound fault (subst (λ p. HasBindFault p asked.settings fault) (sym (only other accepted)) holds)
 
--- of one that is accepted with its settings
-pub not_built_refused : (text : List ℕ) (settings : List Setting) (tokens : List Token)
-    (program found : Program) → OneWay → HasNoProgram text settings → IsTokens text tokens
-    → IsOnlyTree text tokens program → IsAccepted text found → IsAcceptedWith found settings
-    → Refuses text settings NotBuilt
-not_built_refused text settings tokens program found one_way none of_text only accepted bound =
-    let here : (other : Program) (others : List Token) → IsTokens text others
-    → IsShallowTree text others other → program ≡ other =
-    λ other others also tree. only other
-    (subst (λ ts. IsShallowTree text ts other) (one_way text others tokens also of_text) tree) in
-    record {
-      none = none;
-      not_unbound = λ has. bound has.1.fault
-          (subst (λ p. HasBindFault p settings has.1.fault)
-          (sym (here has.1.program has.1.tokens has.1.of_text has.1.tree)
-          ∙ here found accepted.tokens accepted.of_text accepted.tree) has.1.holds);
-      fault = not_built accepted.tokens found accepted.of_text accepted.tree accepted.faultless bound;
-    }
+  faulty_refused : (told : List ℕ) → HasNoProgram text build → IsFaulty text → IsFault text told
+      → IsRefusal text build told
+  faulty_refused told none is fault = record {
+    none = none;
+    not_unbound = λ has. not_wrong is has.1.wrong;
+    fault = faulty fault;
+  }
+
+  treeless_is_faulty : IsTreeless text → IsFaulty text
+  treeless_is_faulty none program accepted =
+      none accepted.tokens program accepted.of_text accepted.tree
+
+  treeless_refused : (told : List ℕ) → IsTreeless text → IsFault text told
+      → IsRefusal text build told
+  treeless_refused told none fault =
+      faulty_refused told (λ program small. none small.tokens program small.of_text small.tree)
+      (treeless_is_faulty none) fault
+
+  -- ---- refusals
+  -- of a text without a tree
+  unread_refuses : (refusal : Refusal) → IsUnread text refusal → Refuses text build refusal
+  unread_refuses (Lex fault) h = treeless_refused _ h.0 h.1
+  unread_refuses (Parse fault) h = treeless_refused _ h.0 h.1
+  unread_refuses (Judge fault) h = absurd h
+  unread_refuses (Bind fault) h = absurd h
+  unread_refuses NotBuilt h = absurd h
+  unread_refuses NoMemory h = tt
+
+  -- which a `?` passes on
+  pub passed_on : {A : Type 0} (r : Result A Refusal) (refusal : Refusal)
+      → IsErrAnd r (λ f. f ≡ refusal) → IsUnread text refusal → IfErr r (Refuses text build)
+  passed_on (Ok v) refusal is h = tt
+  passed_on (Err f) refusal is h =
+      subst (Refuses text build) (sym is) (unread_refuses refusal h)
+
+  -- of one without a small program that has a fault of names, ranks or types, or of its declarations
+  pub rejected_refuses : (refusal : Refusal) → HasNoProgram text build
+      → IsRejected text asked.settings refusal → Refuses text build refusal
+  rejected_refuses (Lex fault) none h = absurd h
+  rejected_refuses (Parse fault) none h = absurd h
+  rejected_refuses (Judge fault) none h = faulty_refused _ none h.0 h.1
+  rejected_refuses (Bind fault) none h = record {
+    none = none;
+    wrong = subst (IsSetWrong text build) (sym h.2)
+        (declared h.1.program h.0 h.1.accepted h.1.holds);
+  }
+  rejected_refuses NotBuilt none h = absurd h
+  rejected_refuses NoMemory none h = tt
+
+  -- of one that is accepted with its settings
+  pub not_built_refused : (tokens : List Token) (program found : Program) → OneWay
+      → HasNoProgram text build → IsTokens text tokens → IsOnlyTree text tokens program
+      → IsAccepted text found → IsAcceptedWith found asked.settings → Refuses text build NotBuilt
+  not_built_refused tokens program found one_way none of_text only accepted bound =
+      let here : (other : Program) → IsAccepted text other → program ≡ other =
+      λ other is. only other
+      (subst (λ ts. IsShallowTree text ts other) (one_way text is.tokens tokens is.of_text of_text)
+      is.tree) in
+      record {
+        none = none;
+        not_unbound = λ has. none_wrong found
+            (λ other is. sym (here found accepted) ∙ here other is) bound has.1.wrong;
+        fault = not_built found (record { accepted = accepted; bound = bound });
+      }

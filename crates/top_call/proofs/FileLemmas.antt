@@ -1,12 +1,12 @@
 -- Why a text, or a file, has no code.
-use Rattle.std.proofs.Common.{◌≡◌, ◌≢◌, ℕ, ◌≤◌, List, [], map, Option, Some, None, Result, Ok, Err}
-use Rattle.std.proofs.Common.{IfErr, IfOk, IfSome, refl, sym, subst, arith}
+use Rattle.std.proofs.Common.{◌≡◌, ◌≢◌, ℕ, ◌≤◌, List, [], map, Option, Some, None}
+use Rattle.std.proofs.Common.{IfSome, refl, sym, subst, arith}
 use Rattle.node_form.specs.declared.arrays.ArrayRow.{ArrayRow}
 use Rattle.node_form.specs.declared.tables.Tables.{Tables}
 use Rattle.grid_layout.specs.Words.{words_of}
 use Rattle.grid_meaning.specs.Stored.{box_of, stored}
 use Rattle.code_layout.specs.Room.{HasRoom}
-use Rattle.zpl_binding.specs.Settings.{Setting}
+use Rattle.zpl_claims.specs.Build.{Build}
 use Rattle.call_claims.specs.Call.{Call}
 use Rattle.call_claims.specs.Cause.{TextFault, FileCause, ProgramCause}
 use Rattle.call_claims.specs.Cause.CodeCause.{faulty}
@@ -15,8 +15,12 @@ use Rattle.call_claims.specs.Cause.TextFault.{refused, unbound}
 use Rattle.call_claims.specs.Decided.{IsDecided}
 use Rattle.call_claims.specs.Execution.{Execution, HasNoRun}
 use Rattle.call_claims.specs.Source.{Source}
-use Rattle.call_claims.specs.declared.status.TheConstants.{UNREADABLE, USAGE}
-use Rattle.call_answers.specs.Answers.{status_of, text_of, answer_of}
+use Rattle.call_claims.specs.Texts.{too_long_text, unreadable_text}
+use Rattle.call_claims.specs.declared.status.TheConstants.{TOO_LONG, UNREADABLE}
+use Rattle.zpl_text.specs.declared.TheConstants.{MOST_SOURCE}
+use Rattle.call_answers.specs.Answers.{status_of, told_of, answer_of}
+use Rattle.call_answers.specs.Fetched.{IsNoText}
+use Rattle.call_answers.proofs.FetchLemmas.{unread_is_decided}
 use Rattle.top_call.specs.Refusals.{Refuses}
 use Rattle.top_call.specs.Work.{IsUncoded, HasNoCode}
 use Rattle.call_answers.specs.declared.answers.Answer.{Answer}
@@ -33,93 +37,93 @@ no_arrays_have_room code none =
     (sym none) (omega arith)
 
 -- ---- a text's refusal is the fault of its answer
-pub uncoded : (text : List ℕ) (settings : List Setting) (refusal : Refusal)
-    → Refuses text settings refusal → IsUncoded text settings (answer_of text refusal)
-uncoded text settings (Lex fault) refuses = λ d. refused _ refuses
-uncoded text settings (Parse fault) refuses = λ d. refused _ refuses
-uncoded text settings (Judge fault) refuses = λ d. refused _ refuses
-uncoded text settings (Bind fault) refuses = λ d. unbound _ refuses
-uncoded text settings NotBuilt refuses = λ d. refused _ refuses
-uncoded text settings NoMemory refuses = λ d. absurd (d.memory refl)
+pub uncoded : (text : List ℕ) (build : Build) (refusal : Refusal)
+    → Refuses text build refusal → IsUncoded text build (answer_of text refusal)
+uncoded text build (Lex fault) refuses = λ d. refused _ refuses
+uncoded text build (Parse fault) refuses = λ d. refused _ refuses
+uncoded text build (Judge fault) refuses = λ d. refused _ refuses
+uncoded text build (Bind fault) refuses = λ d. unbound _ refuses
+uncoded text build NotBuilt refuses = λ d. refused _ refuses
+uncoded text build NoMemory refuses = λ d. absurd (d.memory refl)
 
--- an answer of a refusal is none of work that was done, nor a failed put
+-- an answer of a refusal is no failed put
 pub refusal_not_put : (text : List ℕ) (refusal : Refusal)
-    → (answer_of text refusal ≢ answer.Done) × (answer_of text refusal ≢ answer.PutFailed)
-refusal_not_put text (Lex fault) = (λ e. cc, λ e. cc)
-refusal_not_put text (Parse fault) = (λ e. cc, λ e. cc)
-refusal_not_put text (Judge fault) = (λ e. cc, λ e. cc)
-refusal_not_put text (Bind fault) = (λ e. cc, λ e. cc)
-refusal_not_put text NotBuilt = (λ e. cc, λ e. cc)
-refusal_not_put text NoMemory = (λ e. cc, λ e. cc)
+    → answer_of text refusal ≢ answer.PutFailed
+refusal_not_put text (Lex fault) = λ e. cc
+refusal_not_put text (Parse fault) = λ e. cc
+refusal_not_put text (Judge fault) = λ e. cc
+refusal_not_put text (Bind fault) = λ e. cc
+refusal_not_put text NotBuilt = λ e. cc
+refusal_not_put text NoMemory = λ e. cc
 
 -- ---- a fault of a text is told of its file
-pub no_code : (call : Call) (file : List ℕ) (settings : List Setting) (source : Source call file)
-    (a : Answer) → IsUncoded source.text settings a → HasNoCode call file settings a
-no_code call file settings source a is = λ d execution none. work source (is d)
+pub no_code : (call : Call) (file : List ℕ) (build : Build) (source : Source call file)
+    (a : Answer) → IsUncoded source.text build a → HasNoCode call file build a
+no_code call file build source a is = λ d execution none. work source (is d)
 
-fault_read : {text told : List ℕ} {settings : List Setting} {n : ℕ}
-    → TextFault text settings n told → n ≢ UNREADABLE
+-- nor has it code where there is no text
+pub unfetched : (call : Call) (file : List ℕ) (build : Build) (a : Answer)
+    → IsNoText (call.tells file) (call.may_fail file) MOST_SOURCE file a
+    → HasNoCode call file build a
+unfetched call file build (answer.Unreadable name) is = λ d execution none.
+    subst (λ f. FileCause call file execution (λ text. TextFault text build) UNREADABLE
+    (unreadable_text f)) (sym is.0) (unreadable is.1 none)
+unfetched call file build (answer.TooLong name) is = λ d execution none.
+    subst (λ f. FileCause call file execution (λ text. TextFault text build) TOO_LONG
+    (too_long_text f)) (sym is.0)
+    (too_long (record { text = is.1.text; told = is.1.told; long = is.1.long }) none)
+unfetched call file build answer.NoMemory is = λ d. absurd (d.memory refl)
+unfetched call file build answer.Usage is = absurd is
+unfetched call file build (answer.Refused refusal line) is = absurd is
+unfetched call file build (answer.Unbound fault) is = absurd is
+unfetched call file build (answer.BadLine line) is = absurd is
+unfetched call file build (answer.BadTable line) is = absurd is
+unfetched call file build (answer.BadItem at) is = absurd is
+unfetched call file build (answer.Stopped stop report) is = absurd is
+unfetched call file build answer.PutFailed is = absurd is
+
+pub unfetched_not_put : (Tells : List ℕ → Type 0) (May : Type 0) (limit : ℕ) (file : List ℕ)
+    (a : Answer) → IsNoText Tells May limit file a → a ≢ answer.PutFailed
+unfetched_not_put Tells May limit file (answer.Unreadable name) is = λ e. cc
+unfetched_not_put Tells May limit file (answer.TooLong name) is = λ e. cc
+unfetched_not_put Tells May limit file answer.NoMemory is = λ e. cc
+unfetched_not_put Tells May limit file answer.Usage is = absurd is
+unfetched_not_put Tells May limit file (answer.Refused refusal line) is = absurd is
+unfetched_not_put Tells May limit file (answer.Unbound fault) is = absurd is
+unfetched_not_put Tells May limit file (answer.BadLine line) is = absurd is
+unfetched_not_put Tells May limit file (answer.BadTable line) is = absurd is
+unfetched_not_put Tells May limit file (answer.BadItem at) is = absurd is
+unfetched_not_put Tells May limit file (answer.Stopped stop report) is = absurd is
+unfetched_not_put Tells May limit file answer.PutFailed is = absurd is
+
+fault_read : {text told : List ℕ} {build : Build} {n : ℕ}
+    → TextFault text build n told → n ≢ UNREADABLE
 fault_read (refused told is) = λ e. omega arith
 fault_read (unbound told is) = λ e. omega arith
 
-pub unread_is_decided : {status : ℕ} → status ≡ UNREADABLE → IsDecided status
-unread_is_decided e = record { put = λ f. omega arith; memory = λ f. omega arith }
-
 -- a text fetches nothing
-pub uncoded_read : (text : List ℕ) (settings : List Setting) (a : Answer)
-    → IsUncoded text settings a → status_of a ≢ UNREADABLE
-uncoded_read text settings a is e = fault_read (is (unread_is_decided e)) e
-
--- nor is it that words are no command
-text_known : {text told : List ℕ} {settings : List Setting} {n : ℕ}
-    → TextFault text settings n told → n ≢ USAGE
-text_known (refused told is) = λ e. omega arith
-text_known (unbound told is) = λ e. omega arith
-
-file_known : {call : Call} {file told : List ℕ} {settings : List Setting}
-    {execution : Execution} {n : ℕ}
-    → FileCause call file execution (λ text. TextFault text settings) n told → n ≢ USAGE
-file_known (unreadable may none) = λ e. omega arith
-file_known (too_long long none) = λ e. omega arith
-file_known (work source fault) = text_known fault
-
-usage_is_decided : {status : ℕ} → status ≡ USAGE → IsDecided status
-usage_is_decided e = record { put = λ f. omega arith; memory = λ f. omega arith }
-
-pub none_known : (call : Call) (file : List ℕ) (settings : List Setting) (a : Answer)
-    → HasNoCode call file settings a → status_of a ≢ USAGE
-none_known call file settings a is e =
-    file_known (is (usage_is_decided e) (record { code = None; turns = 0 })
-    (record { no_code = refl; no_turns = refl })) e
+pub uncoded_read : (text : List ℕ) (build : Build) (a : Answer)
+    → IsUncoded text build a → status_of a ≢ UNREADABLE
+uncoded_read text build a is e = fault_read (is (unread_is_decided e)) e
 
 -- so a command on the file has that cause, whatever it does with code
-as_program : {call : Call} {file told : List ℕ} {settings : List Setting}
+as_program : {call : Call} {file told : List ℕ} {build : Build}
     {execution : Execution} {n : ℕ} (Does : Tables → ℕ → List ℕ → Type 0)
     → HasNoRun execution
-    → FileCause call file execution (λ text. TextFault text settings) n told
-    → ProgramCause call file settings execution Does n told
+    → FileCause call file execution (λ text. TextFault text build) n told
+    → ProgramCause call file build execution Does n told
 as_program Does none (unreadable may is) = unreadable may is
 as_program Does none (too_long long is) = too_long long is
 as_program Does none (work source fault) = work source (faulty fault none)
 
-pub none_caused : (call : Call) (file : List ℕ) (settings : List Setting) (a : Answer)
+pub none_caused : (call : Call) (file : List ℕ) (build : Build) (a : Answer)
     (execution : Execution) (Does : Tables → ℕ → List ℕ → Type 0)
-    → HasNoCode call file settings a → HasNoRun execution → IsDecided (status_of a)
-    → ProgramCause call file settings execution Does (status_of a) (text_of a)
-none_caused call file settings a execution Does is none d =
+    → HasNoCode call file build a → HasNoRun execution → IsDecided (status_of a)
+    → ProgramCause call file build execution Does (status_of a) (told_of a)
+none_caused call file build a execution Does is none d =
     as_program Does none (is d execution none)
 
 -- ---- answers of results
-pub on_ok : {A B : Type 0} (r : Result A B) (P Q : A → Type 0) → ((v : A) → P v → Q v) → IfOk r P
-    → IfOk r Q
-on_ok (Ok v) P Q to h = to v h
-on_ok (Err e) P Q to h = tt
-
-pub on_err : {A B : Type 0} (r : Result A B) (P Q : B → Type 0) → ((e : B) → P e → Q e)
-    → IfErr r P → IfErr r Q
-on_err (Ok v) P Q to h = tt
-on_err (Err e) P Q to h = to e h
-
 pub on_some : {A : Type 0} (o : Option A) (P Q : A → Type 0) → ((v : A) → P v → Q v) → IfSome o P
     → IfSome o Q
 on_some None P Q to h = tt

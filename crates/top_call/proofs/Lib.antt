@@ -1,7 +1,9 @@
 pub mod CodeLemmas
 pub mod FetchLemmas
 pub mod FileLemmas
+pub mod KnownLemmas
 pub mod ListLemmas
 pub mod RunLemmas
 pub mod SmallLemmas
-pub mod TopLemmas
+pub mod UnknownLemmas
+pub mod WordLemmas

@@ -1,37 +1,45 @@
 -- The cause of the answer of a listing, and what out took.
-use Rattle.std.proofs.Common.{◌≡◌, ◌≢◌, ℕ, List, Some, None, refl, sym, ap}
+use Rattle.std.proofs.Common.{◌≡◌, ◌≢◌, ◌⊎◌, ℕ, List, Some, None, refl, sym, ◌∙◌, ap}
 use Rattle.std.proofs.Common.{subst, inl, inr, arith}
 use Rattle.zpl_io.specs.Sink.{Takes, TakesFront}
 use Rattle.node_form.specs.declared.tables.Tables.{Tables}
 use Rattle.listing_rows.specs.Listing.{listing_of}
 use Rattle.call_claims.specs.Call.{Call}
-use Rattle.call_claims.specs.Cause.{Cause, IsListed, ListCause}
-use Rattle.call_claims.specs.Cause.Cause.{list, usage}
+use Rattle.call_claims.specs.Cause.{IsListed, ListCause}
 use Rattle.call_claims.specs.Cause.CodeCause.{made}
 use Rattle.call_claims.specs.Cause.FileCause.{work as of_text}
 use Rattle.call_claims.specs.Cause.IsListed.{listed}
-use Rattle.call_claims.specs.Command.{Asked, IsList, IsNoList}
+use Rattle.call_claims.specs.Command.{Asked, build_of}
 use Rattle.call_claims.specs.Decided.{IsDecided}
 use Rattle.call_claims.specs.Execution.{HasNoRun, IsMadeOf, TakesListing, TakesListingFront}
-use Rattle.call_claims.specs.declared.status.TheConstants.{UNREADABLE}
-use Rattle.call_answers.specs.Answers.{status_of, text_of}
-use Rattle.top_call.specs.Work.{execution_in, HasNoCode, IsListOn, IsOfListing, IsWorkFor}
+use Rattle.call_claims.specs.Stream.{Stream}
+use Rattle.call_claims.specs.declared.status.TheConstants.{DONE, PUT_FAILED, UNREADABLE}
+use Rattle.call_answers.specs.Told.{IsAnswerOf}
+use Rattle.call_answers.proofs.CallLemmas.{told_as, work_other}
+use Rattle.call_answers.specs.Answers.{status_of, told_of}
+use Rattle.call_answers.specs.Work.{execution_in, no_counts}
+use Rattle.top_call.specs.Work.{HasNoCode, IsListOn, IsOfListing}
 use Rattle.call_answers.specs.declared.answers.Answer.{Answer}
 use Rattle.call_answers.specs.declared.answers.Answer.TheVariants as answer
-use Rattle.top_call.specs.declared.work.Work.{Work}
+use Rattle.call_answers.specs.declared.answers.Stop.TheVariants as stop
+use Rattle.call_answers.specs.declared.work.Work.{Work}
 use Rattle.top_call.proofs.FileLemmas.{none_caused}
 
-pub no_run : (work : Work) → work.code ≡ None → HasNoRun (execution_in work)
-no_run work none = record { no_code = none; no_turns = refl }
+pub no_turns : (work : Work) → work.counts ≡ no_counts → work.counts.turns ≡ 0
+no_turns work none = ap (λ counts. counts.turns) none
+
+pub no_run : (work : Work) → work.code ≡ None → work.counts ≡ no_counts
+    → HasNoRun (execution_in work)
+no_run work none zero = record { no_code = none; no_turns = no_turns work zero }
 
 -- the answer of a listing that was put has its cause
 pub list_caused : (call : Call) (file : List ℕ) (asked : Asked) (work : Work) (code : Tables)
-    → IsMadeOf call file asked.settings code → work.code ≡ Some code → IsOfListing work.answer
-    → IsListOn call file asked work
-list_caused call file asked w code of_file is_made is = elim is [
+    → IsMadeOf call file (build_of asked) code → work.code ≡ Some code → work.counts ≡ no_counts
+    → IsOfListing work.answer → IsListOn call file asked work
+list_caused call file asked w code of_file is_made zero is = elim is [
   | inl e ↦ subst (λ a. IsDecided (status_of a)
-      → ListCause call file asked (execution_in w) (status_of a) (text_of a)) (sym e)
-      (λ d. of_text of_file.source (made code of_file.of_text is_made (listed refl)))
+      → ListCause call file asked (execution_in w) (status_of a) (told_of a)) (sym e)
+      (λ d. of_text of_file.source (made code of_file.of_text is_made (listed (no_turns w zero))))
   | inr other ↦ elim other [
     | inl e ↦ λ d. absurd (d.put (ap status_of e))
     | inr e ↦ λ d. absurd (d.memory (ap status_of e))
@@ -40,26 +48,13 @@ list_caused call file asked w code of_file is_made is = elim is [
 
 -- and that of a file without code
 pub list_none : (call : Call) (file : List ℕ) (asked : Asked) (work : Work) (a : Answer)
-    → HasNoCode call file asked.settings a → work.answer ≡ a → work.code ≡ None
-    → IsListOn call file asked work
-list_none call file asked work a is same none =
+    → HasNoCode call file (build_of asked) a → work.answer ≡ a → work.code ≡ None
+    → work.counts ≡ no_counts → IsListOn call file asked work
+list_none call file asked work a is same none zero =
     subst (λ b. IsDecided (status_of b)
-    → ListCause call file asked (execution_in work) (status_of b) (text_of b)) (sym same)
-    (λ d. none_caused call file asked.settings a (execution_in work) (λ code. IsListed 0) is
-    (no_run work none) d)
-
--- so the call has it
-pub work_listed : (call : Call) (file : List ℕ) (asked : Asked) (work : Work)
-    → IsList call.words file asked → IsListOn call file asked work → IsWorkFor call work
-work_listed call file asked work given is = λ d.
-    list (record { file = file; asked = asked; given = given; holds = is d })
-
-pub work_unknown : (call : Call) (work : Work) → IsNoList call.words
-    → work.answer ≡ answer.Usage → work.code ≡ None → IsWorkFor call work
-work_unknown call work none is no_code =
-    subst (λ a. IsDecided (status_of a)
-    → Cause call (execution_in work) (status_of a) (text_of a)) (sym is)
-    (λ d. usage none (no_run work no_code))
+    → ListCause call file asked (execution_in work) (status_of b) (told_of b)) (sym same)
+    (λ d. none_caused call file (build_of asked) a (execution_in work) 
+    (λ code. IsListed (execution_in work).turns) is (no_run work none zero) d)
 
 -- ---- what out took of the listing of code
 pub listing_taken : (work : Work) (code : Tables) (before after : List ℕ → Type 0)
@@ -75,7 +70,7 @@ listing_cut work code before after is front =
     record { code = code; made = is; front = front }
 
 -- it is told of what was put, or memory was wanting
-pub not_put : (a : Answer) → IsOfListing a → a ≢ answer.Done → a ≢ answer.PutFailed
+pub not_put : (a : Answer) → IsOfListing a → a ≢ answer.Stopped stop.Done None → a ≢ answer.PutFailed
     → a ≡ answer.NoMemory
 not_put a is done put = elim is [
   | inl e ↦ absurd (done e)
@@ -90,3 +85,27 @@ listing_read a is = elim is [
     | inr e ↦ λ f. omega (arith, ap status_of e, f)
   ]
 ]
+
+-- ---- what was told of a listing
+module _ (a : Answer) (status : ℕ) (errs : Stream) (is : IsAnswerOf a status errs) where
+  -- where the status is that of work that was done, that is the answer
+  pub told_done : IsOfListing a → status ≢ PUT_FAILED → status ≡ DONE
+      → a ≡ answer.Stopped stop.Done None
+  told_done of n done = elim of [
+    | inl e ↦ e
+    | inr other ↦ elim other [
+      | inl e ↦ absurd (work_other a status errs is n e)
+      | inr e ↦ absurd (wanting_told e (told_as a status errs is n) done)
+    ]
+  ]
+    where
+      wanting_told : a ≡ answer.NoMemory
+          → (is.answer ≡ a) ⊎ (is.answer ≡ answer.NoMemory) → status ≡ DONE → ⊥
+      wanting_told e (inl same) d = omega (arith, is.is, ap status_of (same ∙ e), d)
+      wanting_told e (inr none) d = omega (arith, is.is, ap status_of none, d)
+
+  -- where a put of errs failed, the work wasn't done: nothing is told of that
+  pub not_done : is.answer ≡ answer.PutFailed → a ≢ answer.Stopped stop.Done None
+  not_done failed done =
+      let no : answer.PutFailed ≡ answer.Stopped stop.Done None = sym failed ∙ (is.told.quiet done ∙ done) in
+      absurd cc

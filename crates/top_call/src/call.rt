@@ -1,21 +1,20 @@
 //! The call that the program makes.
-ghost use Rattle.std.specs.Prelude.{◌≡◌, ◌≢◌, ◌↔◌, map, string_bytes};
+ghost use Rattle.std.specs.Prelude.{◌≡◌, map, string_bytes};
 ghost use Rattle.zpl_io.specs.Files.{SameTexts};
 ghost use Rattle.call_claims.specs.Answer.{CountsFetches, CountsPuts};
 ghost use Rattle.call_claims.specs.Call.{call_of};
-ghost use Rattle.call_claims.specs.Decided.{IsDecided};
+ghost use Rattle.call_claims.specs.Command.{IsNoCommand};
+ghost use Rattle.call_claims.specs.Stream.{stream_of};
 ghost use Rattle.call_claims.specs.declared.status.TheConstants.{USAGE};
-ghost use Rattle.exec_words.specs.Asked.{IsNoExec, IsNoRun};
-ghost use Rattle.grid_call.specs.Stream.{stream_of};
 ghost use Rattle.exec_call.specs.Call.{IsExecuted};
-ghost use Rattle.mean_claims.specs.Command.{IsNoMean};
-ghost use Rattle.top_call.specs.Call.{AsksExec, AsksMean, AsksRun, IsMeant, IsNoCommand};
-ghost use Rattle.top_call.specs.Call.{IsOfList, IsRan};
+ghost use Rattle.mean_call.specs.Call.{IsMeant};
+ghost use Rattle.top_call.specs.Call.{AsksExec, AsksList, AsksMean, AsksRun, IsListed, IsRan};
+ghost use Rattle.top_call.specs.Call.{IsUnknown};
 
-use crate::text_commands::text_command;
-use call_claims::Ran;
-use exec_call::exec;
-use exec_words::exec_command;
+use crate::commands::perform;
+use call_answers::{Answer, Work, answered};
+use call_claims::{Ran, commands_are_one};
+use call_words::command_of;
 use std::alloc::Global;
 use zpl_io::{Files, Sink};
 
@@ -31,27 +30,26 @@ pub fn zplgrid<F: Files, O: Sink, E: Sink>(
     errs: &mut E,
 ) -> Ran
     // `run`: what code is made and run, and why the status is what it is.
-    ensures run { let call =
-        call_of (map string_bytes words.now) (F.tells files.old) (F.may_fail files.old) in
+    ensures run { let call = call_of (map string_bytes words.now) (F.tells files.old)
+        (F.may_fail files.old) (F.may_fail_later files.old) in
         AsksRun call.words → IsRan call result
         (stream_of (O.tells out.old) (O.tells out.new) (O.faults out.old) (O.faults out.new)
         (out.new ≡ out.old))
         (stream_of (E.tells errs.old) (E.tells errs.new) (E.faults errs.old) (E.faults errs.new)
         (errs.new ≡ errs.old)) }
 
-    // `list`: what code is made and listed, and why the status is what it is; and words that are no
-    // command.
-    ensures list { let call =
-        call_of (map string_bytes words.now) (F.tells files.old) (F.may_fail files.old) in
-        IsNoRun call.words → IsNoExec call.words → IsNoMean call.words → IsOfList call result
+    // `list`: what code is made and listed, and why the status is what it is.
+    ensures list { let call = call_of (map string_bytes words.now) (F.tells files.old)
+        (F.may_fail files.old) (F.may_fail_later files.old) in
+        AsksList call.words → IsListed call result
         (stream_of (O.tells out.old) (O.tells out.new) (O.faults out.old) (O.faults out.new)
         (out.new ≡ out.old))
         (stream_of (E.tells errs.old) (E.tells errs.new) (E.faults errs.old) (E.faults errs.new)
         (errs.new ≡ errs.old)) }
 
     // `exec`: what code is read and run, and why the status is what it is.
-    ensures exec { let call =
-        call_of (map string_bytes words.now) (F.tells files.old) (F.may_fail files.old) in
+    ensures exec { let call = call_of (map string_bytes words.now) (F.tells files.old)
+        (F.may_fail files.old) (F.may_fail_later files.old) in
         AsksExec call.words → IsExecuted call result
         (stream_of (O.tells out.old) (O.tells out.new) (O.faults out.old) (O.faults out.new)
         (out.new ≡ out.old))
@@ -59,18 +57,23 @@ pub fn zplgrid<F: Files, O: Sink, E: Sink>(
         (errs.new ≡ errs.old)) }
 
     // `mean`: that the program's meaning is printed, and why the status is what it is.
-    ensures mean { let call =
-        call_of (map string_bytes words.now) (F.tells files.old) (F.may_fail files.old) in
+    ensures mean { let call = call_of (map string_bytes words.now) (F.tells files.old)
+        (F.may_fail files.old) (F.may_fail_later files.old) in
         AsksMean call.words → IsMeant call result
         (stream_of (O.tells out.old) (O.tells out.new) (O.faults out.old) (O.faults out.new)
         (out.new ≡ out.old))
         (stream_of (E.tells errs.old) (E.tells errs.new) (E.faults errs.old) (E.faults errs.new)
         (errs.new ≡ errs.old)) }
 
-    // The status of words comes just where they are no command.
-    ensures usage { let words = map string_bytes words.now in
-        IsDecided result.status →
-        (result.status ≡ USAGE) ↔ (IsNoCommand words × IsNoExec words × IsNoMean words) }
+    // Words that are no command: that is told, and takes no memory.
+    ensures unknown { IsNoCommand (map string_bytes words.now) → IsUnknown result
+        (stream_of (O.tells out.old) (O.tells out.new) (O.faults out.old) (O.faults out.new)
+        (out.new ≡ out.old))
+        (stream_of (E.tells errs.old) (E.tells errs.new) (E.faults errs.old) (E.faults errs.new)
+        (errs.new ≡ errs.old)) }
+
+    // The status of words comes just where they are none.
+    ensures usage { result.status ≡ USAGE → IsNoCommand (map string_bytes words.now) }
 
     // Files and counts after the call: the texts are the same, and a count of faults rises only
     // with its status.
@@ -79,8 +82,9 @@ pub fn zplgrid<F: Files, O: Sink, E: Sink>(
     ensures puts { CountsPuts result.status (O.faults out.old) (O.faults out.new) }
     ensures told { CountsPuts result.status (E.faults errs.old) (E.faults errs.new) }
 {
-    match exec_command(words) {
-        Some(command) => exec(alloc, command, files, out, errs),
-        None => text_command(alloc, words, files, out, errs),
+    commands_are_one();
+    match command_of(words) {
+        Some(command) => perform(alloc, command, files, out, errs),
+        None => answered(alloc, Work::without_turns(None, Answer::Usage), errs),
     }
 }

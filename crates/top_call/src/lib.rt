@@ -3,13 +3,11 @@
 #![tactic(auto)]
 
 mod call;
+mod commands;
 mod compiling;
 mod fetches;
 mod lists;
-mod run_or_list;
 mod runs;
-mod text_commands;
-mod work;
 
 pub use call::zplgrid;
 pub use call_claims::Ran;

@@ -1,98 +1,67 @@
 //! `list FILE`: a file is fetched, code is made of its text, and the listing of the code is put.
-//! And words that are no command.
-ghost use Rattle.std.specs.Prelude.{◌≡◌, ◌≢◌, ◌↔◌, ℕ, List, [], Some, IfSome, map, string_bytes};
+ghost use Rattle.std.specs.Prelude.{◌≡◌, ◌≢◌, ℕ, List, [], None, Some, IfSome};
 ghost use Rattle.zpl_io.specs.Faults.{CountsFaults};
 ghost use Rattle.zpl_io.specs.Files.{SameTexts};
 ghost use Rattle.zpl_io.specs.Sink.{Takes, TakesFront};
 ghost use Rattle.listing_rows.specs.Listing.{listing_of};
 ghost use Rattle.call_claims.specs.Answer.{CountsFetches, CountsPuts};
 ghost use Rattle.call_claims.specs.Call.{call_of};
-ghost use Rattle.call_claims.specs.Cause.{Lists};
-ghost use Rattle.call_claims.specs.Command.{IsNoList};
-ghost use Rattle.call_claims.specs.Decided.{IsDecided};
+ghost use Rattle.call_claims.specs.Command.{IsList, build_of};
 ghost use Rattle.call_claims.specs.Execution.{IsMadeOf, TakesListing, TakesListingFront};
+ghost use Rattle.call_claims.specs.Stream.{stream_of};
 ghost use Rattle.call_claims.specs.declared.status.TheConstants.{UNREADABLE, USAGE};
-ghost use Rattle.call_words.specs.Asked.{asked_in};
-ghost use Rattle.grid_call.specs.Stream.{stream_of};
 ghost use Rattle.call_answers.specs.Answers.{status_of};
-ghost use Rattle.top_call.specs.Call.{IsOfList};
-ghost use Rattle.top_call.specs.Work.{execution_in, IsListOn, IsOfListing, IsWorkFor};
+ghost use Rattle.call_answers.specs.Work.{execution_in, no_counts};
+ghost use Rattle.call_words.specs.Reading.{asked_in};
+ghost use Rattle.top_call.specs.Call.{IsListed};
+ghost use Rattle.top_call.specs.Work.{IsListOn, IsOfListing};
 
 use crate::fetches::code_of_file;
-use crate::work::Work;
-use call_answers::{Answer, told};
+use call_answers::{Answer, Stop, Work, answered};
 use call_claims::{Ran, list_statuses_are_exact};
-use call_words::{FileCommand, list_command};
+use call_words::FileCommand;
 use listing_rows::write_listing;
 use node_form::NodeProgram;
 use std::alloc::Global;
 use zpl_io::{Files, PutFailed, Sink, put_piece};
 
-/// Does what the words ask for, where they are a `list`, and tells that they are no command
-/// elsewhere: the listing goes to `out`, and what is told of the answer to `errs`.
+/// Puts the listing of a program's code: it goes to `out`, and what is told of the answer to
+/// `errs`.
+///
+/// The program is fetched and compiled. The status has its cause. After a failed put nothing more
+/// is put on either sink.
 pub fn list<F: Files, O: Sink, E: Sink>(
     alloc: Global,
-    words: &[String],
+    command: FileCommand<'_>,
     files: &mut F,
     out: &mut O,
     errs: &mut E,
 ) -> Ran
-    ensures list { let call =
-        call_of (map string_bytes words.now) (F.tells files.old) (F.may_fail files.old) in
-        IsOfList call result
+    // Words give the command: what is said of the call holds of these.
+    requires given { (words : List (List ℕ)) ×
+        IsList words command.file.now (asked_in command.asked) }
+
+    // The code, what out and errs took, the cause of the status, and when statuses come.
+    ensures listed { (words : List (List ℕ)) →
+        IsList words command.entry.file.now (asked_in command.entry.asked) →
+        IsListed (call_of words (F.tells files.old) (F.may_fail files.old)
+        (F.may_fail_later files.old)) result
         (stream_of (O.tells out.old) (O.tells out.new) (O.faults out.old) (O.faults out.new)
         (out.new ≡ out.old))
         (stream_of (E.tells errs.old) (E.tells errs.new) (E.faults errs.old) (E.faults errs.new)
         (errs.new ≡ errs.old)) }
-    ensures usage { IsDecided result.status →
-        (result.status ≡ USAGE) ↔ IsNoList (map string_bytes words.now) }
+    ensures known { result.status ≢ USAGE }
+
+    // Files and counts after the call: the texts are the same, and a count of faults rises only
+    // with its status.
     ensures texts { SameTexts (F.tells files.old) (F.tells files.new) }
     ensures fetches { CountsFetches result.status (F.faults files.old) (F.faults files.new) }
     ensures puts { CountsPuts result.status (O.faults out.old) (O.faults out.new) }
     ensures told { CountsPuts result.status (E.faults errs.old) (E.faults errs.new) }
 {
     list_statuses_are_exact::<F>();
-    let work = work_for(alloc, words, files, out);
-    let answer = told(alloc, work.answer, errs);
-    Ran {
-        status: answer.status(),
-        code: work.code,
-        turns: 0,
-        sends: 0,
-        words_sent: 0,
-    }
-}
-
-/// The work that the words ask for, up to its answer.
-fn work_for<'a, F: Files, O: Sink>(
-    alloc: Global,
-    words: &'a [String],
-    files: &mut F,
-    out: &mut O,
-) -> Work<'a>
-    ensures cause { let call =
-        call_of (map string_bytes words.now) (F.tells files.old) (F.may_fail files.old) in
-        IsWorkFor call result }
-    ensures code { let call =
-        call_of (map string_bytes words.now) (F.tells files.old) (F.may_fail files.old) in
-        IfSome result.code
-        (λ code. Lists call (λ file asked. IsMadeOf call file asked.settings code)) }
-    ensures listed { result.answer ≡ Answer.Done →
-        TakesListing (execution_in result) (O.tells out.old) (O.tells out.new) }
-    ensures not_listed { result.answer ≢ Answer.Done → result.answer ≢ Answer.PutFailed →
-        Takes (O.tells out.old) [] (O.tells out.new) }
-    ensures cut_off { result.answer ≡ Answer.PutFailed →
-        TakesListingFront (execution_in result) (O.tells out.old) (O.tells out.new) }
-    ensures texts { SameTexts (F.tells files.old) (F.tells files.new) }
-    ensures fetches { CountsFaults (status_of result.answer ≡ UNREADABLE)
-        (F.faults files.old) (F.faults files.new) }
-    ensures puts { CountsFaults (result.answer ≡ Answer.PutFailed)
-        (O.faults out.old) (O.faults out.new) }
-{
-    match list_command(words) {
-        Some(command) => list_file(alloc, command, files, out),
-        None => Work::without_code(Answer::Usage),
-    }
+    let work = list_file(alloc, command, files, out);
+    answered(alloc, work, errs)
 }
 
 /// Fetches a file, and puts the listing of its text's code, up to the answer.
@@ -104,15 +73,18 @@ fn list_file<'a, F: Files, O: Sink>(
 ) -> Work<'a>
     // The cause of the answer, and of what the code was made, whatever the words of the call are.
     ensures cause { (words : List (List ℕ)) →
-        IsListOn (call_of words (F.tells files.old) (F.may_fail files.old))
+        IsListOn (call_of words (F.tells files.old) (F.may_fail files.old)
+        (F.may_fail_later files.old))
         list.entry.file.now (asked_in list.entry.asked) result }
     ensures code { (words : List (List ℕ)) → IfSome result.code
-        (IsMadeOf (call_of words (F.tells files.old) (F.may_fail files.old))
-        list.entry.file.now (asked_in list.entry.asked).settings) }
-    ensures listed { result.answer ≡ Answer.Done →
+        (IsMadeOf (call_of words (F.tells files.old) (F.may_fail files.old)
+        (F.may_fail_later files.old))
+        list.entry.file.now (build_of (asked_in list.entry.asked))) }
+    ensures no_counts { result.counts ≡ no_counts }
+    ensures listed { result.answer ≡ Answer.Stopped Stop.Done None →
         TakesListing (execution_in result) (O.tells out.old) (O.tells out.new) }
-    ensures not_listed { result.answer ≢ Answer.Done → result.answer ≢ Answer.PutFailed →
-        Takes (O.tells out.old) [] (O.tells out.new) }
+    ensures not_listed { result.answer ≢ Answer.Stopped Stop.Done None →
+        result.answer ≢ Answer.PutFailed → Takes (O.tells out.old) [] (O.tells out.new) }
     ensures cut_off { result.answer ≡ Answer.PutFailed →
         TakesListingFront (execution_in result) (O.tells out.old) (O.tells out.new) }
     ensures texts { SameTexts (F.tells files.old) (F.tells files.new) }
@@ -121,17 +93,18 @@ fn list_file<'a, F: Files, O: Sink>(
     ensures puts { CountsFaults (result.answer ≡ Answer.PutFailed)
         (O.faults out.old) (O.faults out.new) }
 {
-    match code_of_file(alloc, list.file, list.asked.words, files) {
+    match code_of_file(alloc, list.file, list.asked, files) {
         Ok(code) => list_code(alloc, code, out),
-        Err(answer) => Work::without_code(answer),
+        Err(answer) => Work::without_turns(None, answer),
     }
 }
 
 /// Puts the listing of code, up to the answer.
 fn list_code<'a, O: Sink>(alloc: Global, code: NodeProgram, out: &mut O) -> Work<'a>
     ensures code { result.code ≡ Some code }
+    ensures no_counts { result.counts ≡ no_counts }
     ensures answer { IsOfListing result.answer }
-    ensures listed { result.answer ≡ Answer.Done →
+    ensures listed { result.answer ≡ Answer.Stopped Stop.Done None →
         Takes (O.tells out.old) (listing_of code) (O.tells out.new) }
     ensures not_listed { result.answer ≡ Answer.NoMemory → out.new ≡ out.old }
     ensures cut_off { result.answer ≡ Answer.PutFailed →
@@ -140,16 +113,13 @@ fn list_code<'a, O: Sink>(alloc: Global, code: NodeProgram, out: &mut O) -> Work
         (O.faults out.old) (O.faults out.new) }
 {
     let answer = put_listing(alloc, &code, out);
-    Work {
-        answer,
-        code: Some(code),
-    }
+    Work::without_turns(Some(code), answer)
 }
 
 /// Puts the listing of code, as one piece.
 fn put_listing<'a, O: Sink>(alloc: Global, code: &NodeProgram, out: &mut O) -> Answer<'a>
     ensures answer { IsOfListing result }
-    ensures listed { result ≡ Answer.Done →
+    ensures listed { result ≡ Answer.Stopped Stop.Done None →
         Takes (O.tells out.old) (listing_of code.now) (O.tells out.new) }
     ensures not_listed { result ≡ Answer.NoMemory → out.new ≡ out.old }
     ensures cut_off { result ≡ Answer.PutFailed →
@@ -162,7 +132,7 @@ fn put_listing<'a, O: Sink>(alloc: Global, code: &NodeProgram, out: &mut O) -> A
         return Answer::NoMemory;
     }
     match put_piece(out, listing.as_slice()) {
-        Ok(()) => Answer::Done,
+        Ok(()) => Answer::Stopped(Stop::Done, None),
         Err(PutFailed) => Answer::PutFailed,
     }
 }

@@ -1,23 +1,24 @@
 //! `run FILE`: a file is fetched, code is made of its text, and the code is run under an order of
 //! turns.
-ghost use Rattle.std.specs.Prelude.{◌≡◌, ◌≢◌, ℕ, List, IfErr, IfOk};
+ghost use Rattle.std.specs.Prelude.{◌≡◌, ◌≢◌, ℕ, List};
 ghost use Rattle.zpl_io.specs.Faults.{CountsFaults};
 ghost use Rattle.zpl_io.specs.Files.{SameTexts};
 ghost use Rattle.call_claims.specs.Answer.{CountsFetches, CountsPuts};
 ghost use Rattle.call_claims.specs.Call.{call_of};
-ghost use Rattle.call_claims.specs.declared.status.TheConstants.{USAGE};
-ghost use Rattle.exec_words.specs.Asked.{IsRun};
-ghost use Rattle.exec_words.specs.Met.{CanBeMet};
-ghost use Rattle.exec_words.specs.Reading.{asked_in, settings_in};
-ghost use Rattle.grid_call.specs.Stream.{stream_of};
+ghost use Rattle.call_claims.specs.Command.{IsRun};
+ghost use Rattle.call_claims.specs.Met.{CanBeMet};
+ghost use Rattle.call_claims.specs.Stream.{stream_of};
+ghost use Rattle.call_claims.specs.declared.status.TheConstants.{UNREADABLE, USAGE};
+ghost use Rattle.call_answers.specs.Answers.{status_of};
+ghost use Rattle.call_words.specs.Reading.{asked_in};
 ghost use Rattle.top_call.specs.Call.{IsRan};
-ghost use Rattle.top_call.specs.Work.{HasNoCode, IsRunWork, RunFailsToFetch, RunFailsToPut};
+ghost use Rattle.top_call.specs.Work.{IsRunWork};
 
 use crate::fetches::code_of_file;
-use call_answers::{Answer, told};
+use call_answers::{Answer, Work, answered};
 use call_claims::Ran;
-use exec_words::RunCommand;
-use grid_call::{Work, run_code};
+use call_words::FileCommand;
+use grid_call::run_code;
 use run_claims::run_causes_are_exact;
 use std::alloc::Global;
 use zpl_io::{Files, Sink};
@@ -29,21 +30,21 @@ use zpl_io::{Files, Sink};
 /// put, and after a failed put nothing more is put on either sink.
 pub fn run<F: Files, O: Sink, E: Sink>(
     alloc: Global,
-    command: RunCommand<'_>,
+    command: FileCommand<'_>,
     files: &mut F,
     out: &mut O,
     errs: &mut E,
 ) -> Ran
     // Words give the command: what is said of the call holds of these.
     requires given { (words : List (List ℕ)) ×
-        IsRun words command.file.now (asked_in command.asked) (settings_in command) }
+        IsRun words command.file.now (asked_in command.asked) }
 
     // The code and the counts, what out and errs took, the cause of the status, and when statuses
     // come.
     ensures ran { (words : List (List ℕ)) →
-        IsRun words command.entry.file.now (asked_in command.entry.asked)
-        (settings_in command.entry) →
-        IsRan (call_of words (F.tells files.old) (F.may_fail files.old)) result
+        IsRun words command.entry.file.now (asked_in command.entry.asked) →
+        IsRan (call_of words (F.tells files.old) (F.may_fail files.old)
+        (F.may_fail_later files.old)) result
         (stream_of (O.tells out.old) (O.tells out.new) (O.faults out.old) (O.faults out.new)
         (out.new ≡ out.old))
         (stream_of (E.tells errs.old) (E.tells errs.new) (E.faults errs.old) (E.faults errs.new)
@@ -58,54 +59,31 @@ pub fn run<F: Files, O: Sink, E: Sink>(
     ensures told { CountsPuts result.status (E.faults errs.old) (E.faults errs.new) }
 {
     run_causes_are_exact::<F>();
-    match work_for(alloc, command, files, out) {
-        Ok(work) => {
-            let answer = grid_call::told(alloc, work.answer, errs);
-            Ran {
-                status: answer.status(),
-                code: work.code,
-                turns: work.counts.turns,
-                sends: work.counts.sends,
-                words_sent: work.counts.words,
-            }
-        }
-        Err(answer) => {
-            let answer = told(alloc, answer, errs);
-            Ran {
-                status: answer.status(),
-                code: None,
-                turns: 0,
-                sends: 0,
-                words_sent: 0,
-            }
-        }
-    }
+    let work = work_for(alloc, command, files, out);
+    answered(alloc, work, errs)
 }
 
-/// The work on the code of a program, up to its answer, or the answer that there is no code.
+/// The work on a program, up to its answer.
 fn work_for<'a, F: Files, O: Sink>(
     alloc: Global,
-    command: RunCommand<'a>,
+    command: FileCommand<'a>,
     files: &mut F,
     out: &mut O,
-) -> Result<Work<'a>, Answer<'a>>
+) -> Work<'a>
     requires asked { CanBeMet (asked_in command.asked) }
-    ensures work { (words : List (List ℕ)) → IfOk result
-        (IsRunWork (call_of words (F.tells files.old) (F.may_fail files.old))
-        command.entry.file.now (asked_in command.entry.asked) (settings_in command.entry)
-        (O.tells out.old) (O.tells out.new)) }
-    ensures none { (words : List (List ℕ)) → IfErr result
-        (HasNoCode (call_of words (F.tells files.old) (F.may_fail files.old))
-        command.entry.file.now (settings_in command.entry)) }
-    ensures put { IfErr result (λ answer. answer ≢ Answer.PutFailed) }
-    ensures nothing { IfErr result (λ answer. out.new ≡ out.old) }
+    ensures work { (words : List (List ℕ)) →
+        IsRunWork (call_of words (F.tells files.old) (F.may_fail files.old)
+        (F.may_fail_later files.old))
+        command.entry.file.now (asked_in command.entry.asked) result
+        (O.tells out.old) (O.tells out.new) }
     ensures texts { SameTexts (F.tells files.old) (F.tells files.new) }
-    ensures fetches { CountsFaults (RunFailsToFetch result)
+    ensures fetches { CountsFaults (status_of result.answer ≡ UNREADABLE)
         (F.faults files.old) (F.faults files.new) }
-    ensures puts { CountsFaults (RunFailsToPut result) (O.faults out.old) (O.faults out.new) }
+    ensures puts { CountsFaults (result.answer ≡ Answer.PutFailed)
+        (O.faults out.old) (O.faults out.new) }
 {
-    match code_of_file(alloc, command.file, command.words, files) {
-        Ok(code) => Ok(run_code(alloc, code, command.asked, files, out)),
-        Err(answer) => Err(answer),
+    match code_of_file(alloc, command.file, command.asked, files) {
+        Ok(code) => run_code(alloc, code, command.asked, files, out),
+        Err(answer) => Work::without_turns(None, answer),
     }
 }

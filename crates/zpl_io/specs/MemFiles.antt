@@ -1,5 +1,5 @@
 -- Files in memory: the texts with their names, and the calls that fail.
-use Rattle.std.specs.Prelude.{◌≡◌, ◌⊎◌, ℕ, List, Option, Some, None, find, Contains}
+use Rattle.std.specs.Prelude.{◌≡◌, ◌⊎◌, ℕ, ◌≤◌, List, Option, Some, None, find, Contains}
 use Rattle.std.specs.Option.{option_map}
 use Rattle.std.specs.Str.{bytes_eq}
 use Rattle.zpl_io.specs.Faults.{count_after}
@@ -25,6 +25,12 @@ HasText files name text = text_under name files.named ≡ Some text
 -- the next fetch fails: its number is in the list, or its name isn't there
 abbrev pub FailsNext : KeptFiles → List ℕ → Type 0
 FailsNext files name = Contains files.failing files.calls ⊎ (text_under name files.named ≡ None)
+
+-- the next fetch or a later one fails: the number of one is in the list, or the name isn't there
+abbrev pub FailsLater : KeptFiles → List ℕ → Type 0
+FailsLater files name =
+    ((call : ℕ) × (files.calls ≤ call) × Contains files.failing call)
+    ⊎ (text_under name files.named ≡ None)
 
 -- the files after a fetch with that answer
 abbrev pub files_after : KeptFiles → Fetched → KeptFiles

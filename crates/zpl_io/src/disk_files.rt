@@ -90,6 +90,8 @@ impl<R: FileSystem> Files for DiskFiles<R> {
 
     ghost may_fail = { λ _ _. ⊤ };
 
+    ghost may_fail_later = { λ _ _. ⊤ };
+
     ghost faults = { λ count. count };
 
     fn fetch(&mut self, _alloc: Global, name: &str, limit: u64, into: &mut Vec<u8>) -> Fetched {

@@ -5,7 +5,7 @@ ghost use Rattle.std.specs.Prelude.{◌≡◌, ◌≤◌, ◌↔◌, ℕ, Bool, 
 ghost use Rattle.zpl_io.specs.Faults.{last_count, Rose};
 ghost use Rattle.zpl_io.specs.Files.{SameTexts};
 ghost use Rattle.zpl_io.specs.Sink.{StopsAtFault, Takes, TakesFront};
-ghost use Rattle.zpl_io.specs.MemFiles.{KeptFiles, HasText, FailsNext};
+ghost use Rattle.zpl_io.specs.MemFiles.{KeptFiles, HasText, FailsLater, FailsNext};
 ghost use Rattle.zpl_io.specs.MemSink.{KeptBytes};
 ghost use Rattle.zpl_io.specs.CountSink.{Tally, tally_of, tally_after};
 
@@ -61,22 +61,28 @@ pub fn calls_join<F: Files>()
 {}
 
 /// What each kind of files tells, and where its fetches may fail: in memory its own texts and no
-/// others, where the next call fails; sure files one text, never; on a disk every text, everywhere.
+/// others, where the next call fails, or a later one; sure files one text, never; on a disk every text, everywhere.
 pub fn files_tell()
     ensures memory { (files : KeptFiles) (name text : List ℕ) →
         ⟦<MemFiles as Files>⟧.tells files name text ↔ HasText files name text }
     ensures memory_fails { (files : KeptFiles) (name : List ℕ) →
         ⟦<MemFiles as Files>⟧.may_fail files name ↔ FailsNext files name }
+    ensures memory_fails_later { (files : KeptFiles) (name : List ℕ) →
+        ⟦<MemFiles as Files>⟧.may_fail_later files name ↔ FailsLater files name }
     ensures memory_faults { (files : KeptFiles) →
         ⟦<MemFiles as Files>⟧.faults files ≡ files.faults }
     ensures sure { (kept name text : List ℕ) →
         ⟦<SureFiles as Files>⟧.tells kept name text ↔ (text ≡ kept) }
     ensures sure_fails { (kept name : List ℕ) → ¬ ⟦<SureFiles as Files>⟧.may_fail kept name }
+    ensures sure_fails_later { (kept name : List ℕ) →
+        ¬ ⟦<SureFiles as Files>⟧.may_fail_later kept name }
     ensures sure_faults { (kept : List ℕ) → ⟦<SureFiles as Files>⟧.faults kept ≡ 0 }
     ensures disk { (count : ℕ) (name text : List ℕ) →
         ⟦<DiskFiles<HostRuntime> as Files>⟧.tells count name text }
     ensures disk_fails { (count : ℕ) (name : List ℕ) →
         ⟦<DiskFiles<HostRuntime> as Files>⟧.may_fail count name }
+    ensures disk_fails_later { (count : ℕ) (name : List ℕ) →
+        ⟦<DiskFiles<HostRuntime> as Files>⟧.may_fail_later count name }
     ensures disk_faults { (count : ℕ) → ⟦<DiskFiles<HostRuntime> as Files>⟧.faults count ≡ count }
 {}
 

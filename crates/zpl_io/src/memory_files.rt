@@ -1,11 +1,11 @@
 //! Files in memory.
 ghost use Rattle.std.specs.Prelude.{◌≡◌, ◌≢◌, ◌↔◌, ℕ, ◌+◌, ◌^◌, ◌<◌, ◌≤◌, [], ◌∷◌, ◌++◌};
-ghost use Rattle.std.specs.Prelude.{length, IfOk, OnOk, OnErr};
+ghost use Rattle.std.specs.Prelude.{List, length, IfOk, OnOk, OnErr};
 ghost use Rattle.std.specs.Option.{option_copied};
 ghost use Rattle.std.specs.Str.{bytes_eq};
 ghost use Rattle.zpl_io.specs.Faults.{last_count, CountsFaults};
 ghost use Rattle.zpl_io.specs.Files.{GainsWhole, GainsTooMuch};
-ghost use Rattle.zpl_io.specs.MemFiles.{text_under, HasText, FailsNext, files_after};
+ghost use Rattle.zpl_io.specs.MemFiles.{text_under, HasText, FailsLater, FailsNext, files_after};
 
 use crate::outside::{Fetched, Files};
 use std::alloc::{AllocError, Global};
@@ -165,6 +165,7 @@ impl MemFiles {
     /// Counts a fetch with this answer.
     fn count(&mut self, fetched: Fetched)
         ensures after { self.new ≡ files_after self.old fetched }
+        ensures calls { self.old.calls ≤ self.new.calls }
         ensures counts { CountsFaults (fetched ≡ Fetched.Failed) self.old.faults self.new.faults }
         ensures bounded { self.new.faults ≤ last_count }
     {
@@ -185,6 +186,8 @@ impl Files for MemFiles {
 
     ghost may_fail = { FailsNext };
 
+    ghost may_fail_later = { FailsLater };
+
     ghost faults = { λ files. files.faults };
 
     fn fetch(&mut self, _alloc: Global, name: &str, limit: u64, into: &mut Vec<u8>) -> Fetched
@@ -198,6 +201,8 @@ impl Files for MemFiles {
         ensures too_long_exactly { (result ≡ Fetched.TooLong) ↔
             (length into.new.items ≡ length into.old.items + limit + 1) }
         ensures fails_exactly { (result ≡ Fetched.Failed) ↔ FailsNext self.old name.now }
+        ensures cause_later { result ≡ Fetched.Failed → FailsLater self.old name.now }
+        ensures later { (other : List ℕ) → FailsLater self.new other → FailsLater self.old other }
         ensures after { self.new ≡ files_after self.old result }
         ensures counts { CountsFaults (result ≡ Fetched.Failed) self.old.faults self.new.faults }
         ensures bounded { self.new.faults ≤ last_count }

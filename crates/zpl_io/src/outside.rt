@@ -29,6 +29,9 @@ pub trait Files {
     /// nothing of its texts has every name.
     ghost may_fail: { Self → List ℕ → Type 0 };
 
+    /// Under which names the next fetch or a later one may fail.
+    ghost may_fail_later: { Self → List ℕ → Type 0 };
+
     /// How many fetches failed; the count stands still at `u64::MAX`.
     ghost faults: { Self → ℕ };
 
@@ -50,6 +53,9 @@ pub trait Files {
 
         // It fails only where it may.
         ensures cause { result ≡ Fetched.Failed → may_fail self.old name.now }
+        ensures cause_later { result ≡ Fetched.Failed → may_fail_later self.old name.now }
+        ensures later { (other : List ℕ) →
+            may_fail_later self.new other → may_fail_later self.old other }
 
         // What becomes of the object.
         ensures same_texts { SameTexts (tells self.old) (tells self.new) }

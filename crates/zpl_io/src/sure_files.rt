@@ -35,6 +35,8 @@ impl Files for SureFiles {
 
     ghost may_fail = { λ _ _. ⊥ };
 
+    ghost may_fail_later = { λ _ _. ⊥ };
+
     ghost faults = { λ _. 0 };
 
     fn fetch(&mut self, _alloc: Global, _name: &str, limit: u64, into: &mut Vec<u8>) -> Fetched

@@ -19,7 +19,7 @@ const LISTINGS: [Row; 2] = [
         ),
     ),
     (
-        &["list", "a"],
+        &["list", "a", "links=1"],
         COUNT,
         (
             0,
@@ -30,10 +30,11 @@ const LISTINGS: [Row; 2] = [
     ),
 ];
 
-const NO_COMMANDS: [Row; 4] = [
+const NO_COMMANDS: [Row; 5] = [
     (&["list"], COUNT, (1, "", USAGE, 0)),
     (&["List", "a"], COUNT, (1, "", USAGE, 0)),
     (&["list", "a", "turns=1"], COUNT, (1, "", USAGE, 0)),
+    (&["list", "a", "links=0"], COUNT, (1, "", USAGE, 0)),
     (&["list", "a", "list"], COUNT, (1, "", USAGE, 0)),
 ];
 

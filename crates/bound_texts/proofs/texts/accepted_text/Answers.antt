@@ -7,14 +7,14 @@ pub returns-in_err-tokens-clause-refused : goal.returns-in_err-tokens-clause-ref
 returns-in_err-tokens-clause-refused c =
     let settings = settings_among (map string_bytes c.args.words.now) in
     refused_on c.args.text.now settings c.from_residual.result c.in_err-tokens.field-0.0
-    c.from_residual.ensures.1 ((c.in_err-tokens.ensures {u = tt}).refused settings)
+    c.from_residual.ensures.1 (c.in_err-tokens.ensures {u = tt}).refused
 
 pub returns-in_err-program-clause-refused : goal.returns-in_err-program-clause-refused
 returns-in_err-program-clause-refused c =
     let settings = settings_among (map string_bytes c.args.words.now) in
     refused_on c.args.text.now settings c.from_residual-in_err-program.result
     c.in_err-program.field-0.0 c.from_residual-in_err-program.ensures.1
-    ((c.in_err-program.ensures {u = tt}).refused settings)
+    (c.in_err-program.ensures {u = tt}).refused
 
 pub returns-clause-refused : goal.returns-clause-refused
 returns-clause-refused c =

@@ -1,5 +1,5 @@
 use Rattle.std.proofs.Common.{[]}
-use Rattle.exec_words.specs.Reading.{asked_in}
+use Rattle.call_words.specs.Reading.{asked_in}
 use Rattle.exec_call.specs.Work.IsWorkOn.{read}
 use Rattle.grid_call.proofs.WorkLemmas.{work_back}
 use Rattle.exec_call.proofs.call.work_for.Goals as goal
@@ -15,6 +15,8 @@ returns-in-Ok-clause-work g c = λ words.
     let between = c.fetch_code.new.files in
     read _ c.run_code.ensures.code ((c.in-Ok.ensures {u = tt}).ok words)
     (work_back words (g.F.Files.tells before) (g.F.Files.tells between)
-    (g.F.Files.may_fail before) (g.F.Files.may_fail between) c.fetch_code.ensures.texts _
+    (g.F.Files.may_fail before) (g.F.Files.may_fail between)
+    (g.F.Files.may_fail_later before) (g.F.Files.may_fail_later between)
+    c.fetch_code.ensures.texts c.fetch_code.ensures.later _
     (asked_in c.args.command.asked) c.run_code.result (g.O.Sink.tells c.args.out.now)
     (g.O.Sink.tells c.run_code.new.out) (c.run_code.ensures.work words))

@@ -1,5 +1,5 @@
 use Rattle.call_claims.specs.Call.{call_of}
-use Rattle.exec_claims.proofs.Exact.{usage_exactly, listing_exactly, done_exactly, trap_exactly}
+use Rattle.exec_claims.proofs.Exact.{listing_exactly, done_exactly, trap_exactly}
 use Rattle.exec_claims.proofs.Exact.{limit_exactly, stuck_exactly}
 use Rattle.exec_claims.proofs.OrderExact.{long_exactly, order_exactly}
 use Rattle.exec_claims.proofs.laws.exec_statuses_are_exact.Goals as goal
@@ -9,21 +9,19 @@ returns g c =
     let line = c.bytes_have_one_program.ensures.line in
     let table = c.bytes_have_one_program.ensures.table in
     record {
-      usage = λ files words ran n told cause settled. usage_exactly
-          (call_of words (g.F.Files.tells files) (g.F.Files.may_fail files)) ran n told cause settled;
       too_long = λ files words ran n told cause settled. long_exactly
-          (call_of words (g.F.Files.tells files) (g.F.Files.may_fail files)) ran n told line table cause settled;
+          (call_of words (g.F.Files.tells files) (g.F.Files.may_fail files) (g.F.Files.may_fail_later files)) ran n told line table cause settled;
       order = λ files words ran n told cause settled. order_exactly
-          (call_of words (g.F.Files.tells files) (g.F.Files.may_fail files)) ran n told line table
+          (call_of words (g.F.Files.tells files) (g.F.Files.may_fail files) (g.F.Files.may_fail_later files)) ran n told line table
           c.bytes_have_one_program.ensures.program cause settled;
       listing = λ files words ran n told cause settled. listing_exactly
-          (call_of words (g.F.Files.tells files) (g.F.Files.may_fail files)) ran n told line table cause settled;
+          (call_of words (g.F.Files.tells files) (g.F.Files.may_fail files) (g.F.Files.may_fail_later files)) ran n told line table cause settled;
       done = λ files words ran n told cause settled. done_exactly
-          (call_of words (g.F.Files.tells files) (g.F.Files.may_fail files)) ran n told line table cause settled;
+          (call_of words (g.F.Files.tells files) (g.F.Files.may_fail files) (g.F.Files.may_fail_later files)) ran n told line table cause settled;
       trap = λ files words ran n told cause settled. trap_exactly
-          (call_of words (g.F.Files.tells files) (g.F.Files.may_fail files)) ran n told line table cause settled;
+          (call_of words (g.F.Files.tells files) (g.F.Files.may_fail files) (g.F.Files.may_fail_later files)) ran n told line table cause settled;
       turn_limit = λ files words ran n told cause settled. limit_exactly
-          (call_of words (g.F.Files.tells files) (g.F.Files.may_fail files)) ran n told line table cause settled;
+          (call_of words (g.F.Files.tells files) (g.F.Files.may_fail files) (g.F.Files.may_fail_later files)) ran n told line table cause settled;
       stuck = λ files words ran n told cause settled. stuck_exactly
-          (call_of words (g.F.Files.tells files) (g.F.Files.may_fail files)) ran n told line table cause settled;
+          (call_of words (g.F.Files.tells files) (g.F.Files.may_fail files) (g.F.Files.may_fail_later files)) ran n told line table cause settled;
     }

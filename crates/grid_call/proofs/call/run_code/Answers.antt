@@ -1,10 +1,11 @@
 use Rattle.std.proofs.Common.{[]}
 use Rattle.grid_meaning.specs.Local.{processors}
 use Rattle.call_claims.specs.Call.{call_of}
-use Rattle.exec_words.specs.Asked.{limit_of}
-use Rattle.exec_words.specs.Reading.{asked_in}
+use Rattle.call_claims.specs.Command.{limit_of}
+use Rattle.call_words.specs.Reading.{asked_in}
 use Rattle.grid_call.specs.Work.IsCodeWork.{ran}
-use Rattle.grid_call.proofs.WorkLemmas.{not_fetched, run_fetches_none, turns_fit}
+use Rattle.call_answers.proofs.FetchLemmas.{not_fetched}
+use Rattle.grid_call.proofs.WorkLemmas.{run_fetches_none, turns_fit}
 use Rattle.grid_call.proofs.call.run_code.Goals as goal
 
 pub run-requires-clause-order : goal.run-requires-clause-order
@@ -15,7 +16,7 @@ run-requires-clause-order g c =
 pub run-requires-clause-turns : goal.run-requires-clause-turns
 run-requires-clause-turns g c =
     let call = call_of [] (g.F.Files.tells c.args.files.now)
-    (g.F.Files.may_fail c.args.files.now) in
+    (g.F.Files.may_fail c.args.files.now) (g.F.Files.may_fail_later c.args.files.now) in
     turns_fit c.orders_have_their_bounds.ensures.few call c.args.code
     (asked_in c.args.asked).order _ (limit_of (asked_in c.args.asked))
     ((c.in-Ok.ensures {u = tt}).ok []) c.requires.asked.turns

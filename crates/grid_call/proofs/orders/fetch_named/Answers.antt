@@ -1,22 +1,24 @@
-use Rattle.std.proofs.Common.{rules, arith, subst, sym, refl, ◌≡◌, ◌∙◌}
-use Rattle.zpl_io.specs.Files.{GainsWhole, GainsTooMuch}
-use Rattle.zpl_io.specs.declared.outside.Fetched.TheVariants.{TooLong, Failed}
+use Rattle.std.proofs.Common.{◌≤◌, length, refl, sym, subst}
 use Rattle.call_claims.specs.Call.{call_of}
-use Rattle.exec_claims.specs.Cause.TextCause.{unreadable, too_long}
+use Rattle.call_answers.proofs.FetchLemmas.{on_err, on_ok}
+use Rattle.call_answers.specs.Fetched.{IsWholeText}
 use Rattle.exec_claims.specs.declared.limits.TheConstants.{MOST_LISTING}
-use Rattle.grid_call.proofs.WorkLemmas.{not_fetched, on_err, on_ok, source_of, too_long_of}
-use Rattle.grid_call.proofs.WorkLemmas.{unread_order}
+use Rattle.grid_call.proofs.WorkLemmas.{source_of, unfetched_order, unread_order}
 use Rattle.grid_call.proofs.orders.fetch_named.Goals as goal
 
-pub returns-in-Whole-clause-ok : goal.returns-in-Whole-clause-ok
-returns-in-Whole-clause-ok g c = λ words.
+pub order_of-requires : goal.order_of-requires
+order_of-requires g c =
+    subst (λ t. length t ≤ MOST_LISTING) (sym c.as_slice.ensures.value)
+    (c.in-Ok.ensures {u = tt}).ok.short
+
+pub returns-in-Ok-clause-ok : goal.returns-in-Ok-clause-ok
+returns-in-Ok-clause-ok g c = λ words.
     let call = call_of words (g.F.Files.tells c.args.files.now)
-    (g.F.Files.may_fail c.args.files.now) in
+    (g.F.Files.may_fail c.args.files.now) (g.F.Files.may_fail_later c.args.files.now) in
     let file = c.args.file.now in
-    let gains = subst (λ old. GainsWhole (call.tells file) MOST_LISTING old c.fetch.new.into.items)
-    c.new-text.ensures.items (c.fetch.ensures.whole (search rules)) in
-    let source = source_of call file c.as_slice.result.now c.fetch.new.into.items gains
-    c.as_slice.ensures.value in
+    let source = source_of call file c.as_slice.result.now
+    (subst (IsWholeText (call.tells file) MOST_LISTING) (sym c.as_slice.ensures.value)
+    (c.in-Ok.ensures {u = tt}).ok) in
     on_ok c.order_of.result _ _
     (λ order is. record {
       text = c.as_slice.result.now;
@@ -25,33 +27,20 @@ returns-in-Whole-clause-ok g c = λ words.
     })
     c.order_of.ensures.ok
 
-pub returns-in-Whole-clause-err : goal.returns-in-Whole-clause-err
-returns-in-Whole-clause-err g c = λ words.
+pub returns-in-Ok-clause-err : goal.returns-in-Ok-clause-err
+returns-in-Ok-clause-err g c = λ words.
     let call = call_of words (g.F.Files.tells c.args.files.now)
-    (g.F.Files.may_fail c.args.files.now) in
+    (g.F.Files.may_fail c.args.files.now) (g.F.Files.may_fail_later c.args.files.now) in
     let file = c.args.file.now in
-    let gains = subst (λ old. GainsWhole (call.tells file) MOST_LISTING old c.fetch.new.into.items)
-    c.new-text.ensures.items (c.fetch.ensures.whole (search rules)) in
-    let source = source_of call file c.as_slice.result.now c.fetch.new.into.items gains
-    c.as_slice.ensures.value in
+    let source = source_of call file c.as_slice.result.now
+    (subst (IsWholeText (call.tells file) MOST_LISTING) (sym c.as_slice.ensures.value)
+    (c.in-Ok.ensures {u = tt}).ok) in
     on_err c.order_of.result _ _ (λ a is. unread_order call c.args.code.now file source a is)
     c.order_of.ensures.err
 
-pub returns-in-TooLong-clause-err : goal.returns-in-TooLong-clause-err
-returns-in-TooLong-clause-err g c = λ words d asked.
+pub returns-in-Err-clause-err : goal.returns-in-Err-clause-err
+returns-in-Err-clause-err g c = λ words.
     let call = call_of words (g.F.Files.tells c.args.files.now)
-    (g.F.Files.may_fail c.args.files.now) in
-    let file = c.args.file.now in
-    let gains = subst
-    (λ old. GainsTooMuch (call.tells file) MOST_LISTING old c.fetch.new.into.items)
-    c.new-text.ensures.items (c.fetch.ensures.too_long (search rules)) in
-    too_long (too_long_of call file c.fetch.new.into.items gains) refl
-
-pub returns-in-TooLong-clause-fetches : goal.returns-in-TooLong-clause-fetches
-returns-in-TooLong-clause-fetches g c =
-    let long : c.fetch.result ≡ TooLong = search rules in
-    not_fetched _ _ _ _ (λ failed. let no : TooLong ≡ Failed = sym long ∙ failed in absurd cc)
-    (λ e. absurd (omega (arith, e))) c.fetch.ensures.counts
-
-pub returns-in-Failed-clause-err : goal.returns-in-Failed-clause-err
-returns-in-Failed-clause-err g c = λ words d asked. unreadable tt refl
+    (g.F.Files.may_fail c.args.files.now) (g.F.Files.may_fail_later c.args.files.now) in
+    unfetched_order call c.args.code.now c.args.file.now c.in-Err.answer
+    (c.in-Err.ensures {u = tt}).err_later

@@ -1,13 +1,13 @@
 use Rattle.std.proofs.Common.{subst, refl}
-use Rattle.exec_words.specs.Reading.{asked_in}
+use Rattle.call_words.specs.Reading.{asked_in}
 use Rattle.exec_claims.specs.Cause.{run_of}
 use Rattle.zpl_nums.specs.declared.ends.End.TheVariants.{More}
 use Rattle.grid_sim.specs.Run.{EndsRun, IsRun, run_in}
 use Rattle.grid_call.proofs.RunLemmas.{run_is_on}
 use Rattle.grid_call.proofs.runs.run_sim.Goals as goal
 
-pub of_run-requires : goal.of_run-requires
-of_run-requires g c = λ more.
+pub answer_of-requires : goal.answer_of-requires
+answer_of-requires g c = λ more.
     let run = run_of c.args.sim.code (asked_in c.args.asked) c.args.order in
     let left = c.run-ended.new.order in
     let new = c.run-ended.new.self in
@@ -35,5 +35,5 @@ returns-clause-ran g c =
     (tells c.run-ended.new.out) c.run-ended.result) c.limit.ensures at_start in
     run_is_on c.turns_count.ensures run refl c.args.asked.report new left (tells c.args.out.now)
     (tells c.run-ended.new.out) c.run-ended.result c.counts-counts.result
-    c.report_for-report.result c.of_run.result is c.counts-counts.ensures
-    c.report_for-report.ensures c.of_run.ensures
+    c.report_for-report.result c.answer_of.result is c.counts-counts.ensures
+    c.report_for-report.ensures c.answer_of.ensures

@@ -1,74 +1,86 @@
-use Rattle.std.proofs.Common.{◌≢◌, sym, ◌∙◌, ap, subst, inl, inr}
+use Rattle.std.proofs.Common.{◌≡◌, inl, inr, sym, ◌∙◌, ap, subst, arith}
 use Rattle.call_claims.specs.Call.{call_of}
-use Rattle.call_answers.specs.Answers.{status_of, text_of}
+use Rattle.zpl_io.specs.Faults.{CountsFaults}
+use Rattle.call_claims.specs.declared.status.TheConstants.{UNREADABLE}
+use Rattle.call_answers.specs.Answers.{status_of, told_of}
 use Rattle.call_answers.specs.declared.answers.Answer.TheVariants as answer
-use Rattle.call_answers.proofs.AnswerLemmas.{failed_of, failed_or}
-use Rattle.mean_claims.specs.Answer.{TakesOutput}
-use Rattle.mean_claims.specs.Cause.{Cause}
-use Rattle.mean_call.proofs.CallLemmas.{told_cause, told_output, half_told}
+use Rattle.call_answers.proofs.CallLemmas.{answered, failed_put, fetches_counted}
+use Rattle.call_answers.proofs.CallLemmas.{puts_counted, status_caused}
+use Rattle.call_answers.proofs.CallLemmas.FailedPut.{in_work, in_telling}
+use Rattle.mean_claims.proofs.KnownLemmas.{cause_known}
+use Rattle.mean_call.specs.Call.{IsMeant}
+use Rattle.mean_call.specs.Work.{IsMeanWork}
+use Rattle.mean_call.proofs.WorkLemmas.{Comes, wanting_comes, work_comes}
 use Rattle.mean_call.proofs.call.mean.Goals as goal
 
-pub returns-clause-output : goal.returns-clause-output
-returns-clause-output g c = λ words given n.
+pub returns-clause-meant : goal.returns-clause-meant
+returns-clause-meant g c = λ words given.
     let call = call_of words (g.F.Files.tells c.args.files.now)
-    (g.F.Files.may_fail c.args.files.now) in
-    let work = c.mean_file-work in
-    let told = c.told-answer in
-    let other : told.result ≢ answer.PutFailed = λ e. n (c.status.ensures ∙ ap status_of e) in
-    subst (λ s. TakesOutput call s (g.O.Sink.tells c.args.out.now) (g.O.Sink.tells work.new.out))
-    (sym c.status.ensures)
-    (told_output call work.result (g.O.Sink.tells c.args.out.now) (g.O.Sink.tells work.new.out)
-    (work.ensures.work words given)
-    (λ e. other (told.ensures.kept e).0) told.result (told.ensures.same other))
+    (g.F.Files.may_fail c.args.files.now) (g.F.Files.may_fail_later c.args.files.now) in
+    let before = g.O.Sink.tells c.args.out.now in
+    let after = g.O.Sink.tells c.mean_file-answer.new.out in
+    let a = c.without_turns.result.answer in
+    let work : IsMeanWork call a before after = subst (λ b. IsMeanWork call b before after)
+    (sym c.without_turns.ensures.answer) (c.mean_file-answer.ensures.work words given) in
+    let told = c.answered.ensures.told in
+    let status = c.answered.result.status in
+    let comes = Comes call before after in
+    let wanting = wanting_comes call a before after work in
+    let has_cause = work_comes call a before after work in
+    let caused = status_caused a status _ told comes wanting has_cause in
+    subst (λ ran. IsMeant call ran _ _) (sym c.answered.ensures.ran) (record {
+      code = c.without_turns.ensures.code;
+      no_counts = record {
+        turns = ap (λ counts. counts.turns) c.without_turns.ensures.counts;
+        sends = ap (λ counts. counts.sends) c.without_turns.ensures.counts;
+        words = ap (λ counts. counts.words) c.without_turns.ensures.counts;
+      };
+      output = λ n. (caused n).1;
+      cause = λ n. let is = answered a status _ told comes wanting has_cause n in
+          record { text = is.text; cause = is.cause.0; told = is.told };
+      exact = λ settled. c.mean_statuses_are_exact.ensures c.args.files.now words status
+          (told_of told.answer) (caused settled.decided.put).0 settled;
+      put_failed = λ nine. elim (failed_put a status _ told comes wanting has_cause nine) [
+        | in_work out same ↦ inl (
+          work.cut out,
+          c.mean_file-answer.ensures.puts.rises (sym c.without_turns.ensures.answer ∙ out),
+          same,
+        )
+        | in_telling other failed rose half ↦ inr (
+          rose,
+          record {
+            status = half.status;
+            text = half.text;
+            cause = half.cause.0;
+            output = half.cause.1;
+            front = half.front;
+          },
+        )
+      ];
+    })
 
-pub returns-clause-cause : goal.returns-clause-cause
-returns-clause-cause g c = λ words given n.
-    let call = call_of words (g.F.Files.tells c.args.files.now)
-    (g.F.Files.may_fail c.args.files.now) in
-    let work = c.mean_file-work in
-    let told = c.told-answer in
-    let other : told.result ≢ answer.PutFailed = λ e. n (c.status.ensures ∙ ap status_of e) in
-    record {
-      text = text_of told.result;
-      cause = subst (λ s. Cause call s (text_of told.result)) (sym c.status.ensures)
-          (told_cause call work.result (g.O.Sink.tells c.args.out.now)
-          (g.O.Sink.tells work.new.out) (work.ensures.work words given)
-          (λ e. other (told.ensures.kept e).0) told.result (told.ensures.same other));
-      told = told.ensures.told other;
-    }
+pub returns-clause-known : goal.returns-clause-known
+returns-clause-known g c = λ e.
+    let given = c.requires.given in
+    let call = call_of given.0 (g.F.Files.tells c.args.files.now)
+    (g.F.Files.may_fail c.args.files.now) (g.F.Files.may_fail_later c.args.files.now) in
+    let before = g.O.Sink.tells c.args.out.now in
+    let after = g.O.Sink.tells c.mean_file-answer.new.out in
+    let a = c.without_turns.result.answer in
+    let work : IsMeanWork call a before after = subst (λ b. IsMeanWork call b before after)
+    (sym c.without_turns.ensures.answer) (c.mean_file-answer.ensures.work given.0 given.1) in
+    cause_known (status_caused a c.answered.result.status _ c.answered.ensures.told
+    (Comes call before after) (wanting_comes call a before after work)
+    (work_comes call a before after work) (λ f. omega (arith, e, f))).0 e
 
-pub returns-clause-exact : goal.returns-clause-exact
-returns-clause-exact g c = λ words given settled.
-    let call = call_of words (g.F.Files.tells c.args.files.now)
-    (g.F.Files.may_fail c.args.files.now) in
-    let work = c.mean_file-work in
-    let told = c.told-answer in
-    let other : told.result ≢ answer.PutFailed =
-    λ e. settled.decided.put (c.status.ensures ∙ ap status_of e) in
-    c.mean_statuses_are_exact.ensures c.args.files.now words c.status.result (text_of told.result)
-    (subst (λ s. Cause call s (text_of told.result)) (sym c.status.ensures)
-    (told_cause call work.result (g.O.Sink.tells c.args.out.now)
-    (g.O.Sink.tells work.new.out) (work.ensures.work words given)
-    (λ e. other (told.ensures.kept e).0) told.result (told.ensures.same other))) settled
+pub returns-clause-fetches : goal.returns-clause-fetches
+returns-clause-fetches g c =
+    fetches_counted c.without_turns.result.answer _ _ c.answered.ensures.told _ _
+    (subst (λ a. CountsFaults (status_of a ≡ UNREADABLE) _ _) (sym c.without_turns.ensures.answer)
+    c.mean_file-answer.ensures.fetches)
 
-pub returns-clause-put_failed : goal.returns-clause-put_failed
-returns-clause-put_failed g c = λ words given nine.
-    let call = call_of words (g.F.Files.tells c.args.files.now)
-    (g.F.Files.may_fail c.args.files.now) in
-    let work = c.mean_file-work in
-    let told = c.told-answer in
-    let failed = failed_of told.result (sym c.status.ensures ∙ nine) in
-    elim (failed_or work.result) [
-      | inl out ↦ inl (
-        (work.ensures.work words given).cut out,
-        work.ensures.puts.rises out,
-        (told.ensures.kept out).1,
-      )
-      | inr other ↦ inr (
-        told.ensures.counts.rises (other, failed),
-        half_told call work.result (g.O.Sink.tells c.args.out.now) (g.O.Sink.tells work.new.out)
-            (work.ensures.work words given) other
-            (g.E.Sink.tells c.args.errs.now) (g.E.Sink.tells told.new.errs)
-            (told.ensures.half other failed),
-      )
-    ]
+pub returns-clause-puts : goal.returns-clause-puts
+returns-clause-puts g c =
+    puts_counted c.without_turns.result.answer _ _ c.answered.ensures.told _ _
+    (subst (λ a. CountsFaults (a ≡ answer.PutFailed) _ _) (sym c.without_turns.ensures.answer)
+    c.mean_file-answer.ensures.puts)

@@ -1,43 +1,86 @@
-use Rattle.std.proofs.Common.{map, string_bytes}
-use Rattle.exec_words.proofs.OneLemmas.{run_is_no_exec}
-use Rattle.top_call.proofs.TopLemmas.{exec_is_no_mean}
+use Rattle.std.proofs.Common.{map, string_bytes, refl, ap, sym, subst, arith}
+use Rattle.call_claims.specs.Call.{call_of}
+use Rattle.top_call.specs.Call.{IsUnknown}
+use Rattle.top_call.proofs.UnknownLemmas.{tells_usage, usage_read}
+use Rattle.top_call.proofs.WordLemmas.{is_some, of_exec, of_list, of_mean, of_run}
 use Rattle.top_call.proofs.call.zplgrid.Goals as goal
 
-pub exec-requires : goal.exec-requires
-exec-requires g c =
+pub perform-requires : goal.perform-requires
+perform-requires g c =
     record { given = (map string_bytes c.args.words.now, c.in-Some.ensures {u = tt}) }
 
 pub returns-in-Some-clause-run : goal.returns-in-Some-clause-run
 returns-in-Some-clause-run g c = λ asks.
-    absurd (run_is_no_exec (map string_bytes c.args.words.now) asks.0 _ asks.1 _ asks.2 asks.3
-    (c.in-Some.ensures {u = tt}))
+    let words = map string_bytes c.args.words.now in
+    let is = c.in-Some.ensures {u = tt} in
+    of_run c.commands_are_one.ensures words _ _ _ _ c.in-Some.command is asks
+    (c.perform.ensures.done words is)
 
 pub returns-in-Some-clause-list : goal.returns-in-Some-clause-list
-returns-in-Some-clause-list g c = λ other none rest. absurd (none _ _ (c.in-Some.ensures {u = tt}))
+returns-in-Some-clause-list g c = λ asks.
+    let words = map string_bytes c.args.words.now in
+    let is = c.in-Some.ensures {u = tt} in
+    of_list c.commands_are_one.ensures words _ _ _ _ c.in-Some.command is asks
+    (c.perform.ensures.done words is)
 
 pub returns-in-Some-clause-exec : goal.returns-in-Some-clause-exec
 returns-in-Some-clause-exec g c = λ asks.
-    c.exec.ensures.executed (map string_bytes c.args.words.now) (c.in-Some.ensures {u = tt})
+    let words = map string_bytes c.args.words.now in
+    let is = c.in-Some.ensures {u = tt} in
+    of_exec c.commands_are_one.ensures words _ _ _ _ c.in-Some.command is asks
+    (c.perform.ensures.done words is)
 
 pub returns-in-Some-clause-mean : goal.returns-in-Some-clause-mean
 returns-in-Some-clause-mean g c = λ asks.
-    absurd (exec_is_no_mean (map string_bytes c.args.words.now) _ _ asks.0 asks.1
-    (c.in-Some.ensures {u = tt}) asks.2)
+    let words = map string_bytes c.args.words.now in
+    let is = c.in-Some.ensures {u = tt} in
+    of_mean c.commands_are_one.ensures words _ _ _ _ c.in-Some.command is asks
+    (c.perform.ensures.done words is)
+
+pub returns-in-Some-clause-unknown : goal.returns-in-Some-clause-unknown
+returns-in-Some-clause-unknown g c = λ none.
+    absurd (is_some c.commands_are_one.ensures (map string_bytes c.args.words.now)
+    c.in-Some.command (c.in-Some.ensures {u = tt}) none)
 
 pub returns-in-Some-clause-usage : goal.returns-in-Some-clause-usage
-returns-in-Some-clause-usage g c = λ d.
-    (λ e. absurd (c.exec.ensures.known e), λ all. absurd (all.1 _ _ (c.in-Some.ensures {u = tt})))
+returns-in-Some-clause-usage g c = λ e. absurd (c.perform.ensures.known e)
+
+pub returns-in-None-clause-run : goal.returns-in-None-clause-run
+returns-in-None-clause-run g c = λ asks.
+    absurd ((c.in-None.ensures {u = tt}).no_run asks.0 asks.1 asks.2)
 
 pub returns-in-None-clause-list : goal.returns-in-None-clause-list
-returns-in-None-clause-list g c = λ other none rest. c.text_command.ensures.list other rest
+returns-in-None-clause-list g c = λ asks.
+    absurd ((c.in-None.ensures {u = tt}).no_list asks.0 asks.1 asks.2)
 
 pub returns-in-None-clause-exec : goal.returns-in-None-clause-exec
 returns-in-None-clause-exec g c = λ asks.
-    absurd (c.in-None.ensures {u = tt} asks.0 asks.1 asks.2)
+    absurd ((c.in-None.ensures {u = tt}).no_exec asks.0 asks.1 asks.2)
 
-pub returns-in-None-clause-usage : goal.returns-in-None-clause-usage
-returns-in-None-clause-usage g c = λ d.
-    let is = c.text_command.ensures.usage d in (
-      λ e. ((is.0 e).0, c.in-None.ensures {u = tt}, (is.0 e).1),
-      λ all. is.1 (all.0, all.2),
-    )
+pub returns-in-None-clause-mean : goal.returns-in-None-clause-mean
+returns-in-None-clause-mean g c = λ asks.
+    absurd ((c.in-None.ensures {u = tt}).no_mean asks.0 asks.1 asks.2)
+
+pub returns-in-None-clause-unknown : goal.returns-in-None-clause-unknown
+returns-in-None-clause-unknown g c = λ none.
+    subst (λ ran. IsUnknown ran _ _) (sym c.answered.ensures.ran) (record {
+      code = c.without_turns.ensures.code;
+      no_counts = record {
+        turns = ap (λ counts. counts.turns) c.without_turns.ensures.counts;
+        sends = ap (λ counts. counts.sends) c.without_turns.ensures.counts;
+        words = ap (λ counts. counts.words) c.without_turns.ensures.counts;
+      };
+      output = refl;
+      told = tells_usage c.without_turns.result.answer c.answered.result.status _
+          c.without_turns.ensures.answer c.answered.ensures.told;
+    })
+
+pub returns-in-None-clause-fetches : goal.returns-in-None-clause-fetches
+returns-in-None-clause-fetches g c = record {
+  rises = λ e. absurd (usage_read c.answered.result.status _
+      (tells_usage c.without_turns.result.answer c.answered.result.status _
+      c.without_turns.ensures.answer c.answered.ensures.told) e);
+  only = λ less. absurd (omega (arith, less));
+  never_falls = omega arith;
+  bounded = λ h. h;
+}

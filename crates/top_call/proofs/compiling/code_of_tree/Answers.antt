@@ -1,8 +1,9 @@
-use Rattle.std.proofs.Common.{◌≡◌, ◌≤◌, [], length, map, string_bytes, sym, subst, arith}
+use Rattle.std.proofs.Common.{◌≡◌, ◌≤◌, [], length, sym, subst, arith}
 use Rattle.zpl_tree.specs.Spelling.{program_words}
 use Rattle.zpl_tree.specs.View.{syntax_of}
 use Rattle.call_claims.specs.declared.limits.TheConstants.{MOST_TOKENS}
-use Rattle.call_claims.specs.Setting.{settings_among}
+use Rattle.zpl_claims.specs.Build.{plain_build}
+use Rattle.call_words.specs.Reading.{asked_in}
 use Rattle.call_claims.specs.Source.{IsCodeOf}
 use Rattle.top_call.proofs.CodeLemmas.{code_is, small_words}
 use Rattle.top_call.proofs.FileLemmas.{no_arrays_have_room}
@@ -16,12 +17,13 @@ returns-in-Ok-clause-code c =
     let few : length tokens ≤ MOST_TOKENS = omega arith in
     let made = c.in-Ok.ensures {u = tt} in
     let words = small_words text tokens program c.requires.tree made.built in
-    let none : settings_among (map string_bytes c.args.words.now) ≡ [] =
-    c.sets_nothing.ensures.0 c.if-not-sets_nothing.false in
-    subst (λ settings. IsCodeOf text settings c.in-Ok.code) (sym none)
-    (code_is text tokens program c.in-Ok.code c.requires.tokens few c.requires.tree
+    let asked = asked_in c.args.asked in
+    let none : asked.settings ≡ [] = c.sets_nothing.ensures.0 c.if-not-sets_nothing.false in
+    subst (λ settings. IsCodeOf text (plain_build asked.links settings) c.in-Ok.code) (sym none)
+    (code_is text tokens program asked.links c.in-Ok.code c.requires.tokens few c.requires.tree
     (c.words_fit_their_text.ensures text tokens (program_words program) c.requires.tokens words)
-    made.built made.good made.in_step made.bound made.tidy)
+    made.built (made.good asked.links) (made.in_step asked.links) (made.bound asked.links)
+    (λ holds. made.tidy holds asked.links))
 
 pub returns-in-Ok-clause-room : goal.returns-in-Ok-clause-room
 returns-in-Ok-clause-room c = no_arrays_have_room c.in-Ok.code (c.in-Ok.ensures {u = tt}).arrays

@@ -1,63 +1,59 @@
-use Rattle.std.proofs.Common.{rules, ◌≡◌, map, string_bytes, sym, ◌∙◌, subst, arith}
-use Rattle.zpl_io.specs.Files.{GainsWhole, GainsTooMuch}
-use Rattle.zpl_io.specs.declared.outside.Fetched.TheVariants.{Whole, TooLong, Failed}
+use Rattle.std.proofs.Common.{◌≤◌, length, sym, subst}
 use Rattle.zpl_text.specs.declared.TheConstants.{MOST_SOURCE}
 use Rattle.call_claims.specs.Call.{call_of}
-use Rattle.call_claims.specs.Cause.FileCause.{unreadable, too_long}
-use Rattle.call_claims.specs.Setting.{settings_among}
-use Rattle.grid_call.proofs.WorkLemmas.{not_fetched}
+use Rattle.call_claims.specs.Command.{build_of}
+use Rattle.call_words.specs.Reading.{asked_in}
+use Rattle.call_claims.specs.Source.{Source}
+use Rattle.call_answers.proofs.FetchLemmas.{not_fetched, on_err, on_ok}
+use Rattle.call_answers.specs.Fetched.{IsWholeText}
 use Rattle.top_call.proofs.FetchLemmas.{text_fetches_none}
-use Rattle.call_answers.proofs.FileLemmas.{source_of, too_long_of}
-use Rattle.top_call.proofs.FileLemmas.{no_code, on_err, on_ok}
+use Rattle.top_call.proofs.FileLemmas.{no_code, unfetched, unfetched_not_put}
 use Rattle.top_call.proofs.fetches.code_of_file.Goals as goal
 
-pub returns-in-Whole-clause-code : goal.returns-in-Whole-clause-code
-returns-in-Whole-clause-code g c = λ words.
+pub code_of_text-requires : goal.code_of_text-requires
+code_of_text-requires g c =
+    subst (λ t. length t ≤ MOST_SOURCE) (sym c.as_slice.ensures.value)
+    (c.in-Ok.ensures {u = tt}).ok.short
+
+pub returns-in-Ok-clause-code : goal.returns-in-Ok-clause-code
+returns-in-Ok-clause-code g c = λ words.
     let call = call_of words (g.F.Files.tells c.args.files.now)
-    (g.F.Files.may_fail c.args.files.now) in
+    (g.F.Files.may_fail c.args.files.now) (g.F.Files.may_fail_later c.args.files.now) in
     let file = c.args.file.now in
-    let gains = subst (λ old. GainsWhole (call.tells file) MOST_SOURCE old c.fetch.new.into.items)
-    c.new-text.ensures.items (c.fetch.ensures.whole (search rules)) in
-    let source = source_of call file c.as_slice.result.now c.fetch.new.into.items gains
-    c.as_slice.ensures.value in
+    let whole = subst (IsWholeText (call.tells file) MOST_SOURCE) (sym c.as_slice.ensures.value)
+    (c.in-Ok.ensures {u = tt}).ok in
+    let source : Source call file =
+    record { text = c.as_slice.result.now; told = whole.told; short = whole.short } in
     on_ok c.code_of_text.result _ _ (λ code of_text. record { source = source; of_text = of_text })
     c.code_of_text.ensures.code
 
-pub returns-in-Whole-clause-none : goal.returns-in-Whole-clause-none
-returns-in-Whole-clause-none g c = λ words.
+pub returns-in-Ok-clause-none : goal.returns-in-Ok-clause-none
+returns-in-Ok-clause-none g c = λ words.
     let call = call_of words (g.F.Files.tells c.args.files.now)
-    (g.F.Files.may_fail c.args.files.now) in
+    (g.F.Files.may_fail c.args.files.now) (g.F.Files.may_fail_later c.args.files.now) in
     let file = c.args.file.now in
-    let gains = subst (λ old. GainsWhole (call.tells file) MOST_SOURCE old c.fetch.new.into.items)
-    c.new-text.ensures.items (c.fetch.ensures.whole (search rules)) in
-    let source = source_of call file c.as_slice.result.now c.fetch.new.into.items gains
-    c.as_slice.ensures.value in
-    let settings = settings_among (map string_bytes c.args.words.now) in
-    on_err c.code_of_text.result _ _ (λ a is. no_code call file settings source a is)
+    let whole = subst (IsWholeText (call.tells file) MOST_SOURCE) (sym c.as_slice.ensures.value)
+    (c.in-Ok.ensures {u = tt}).ok in
+    let source : Source call file =
+    record { text = c.as_slice.result.now; told = whole.told; short = whole.short } in
+    let build = build_of (asked_in c.args.asked) in
+    on_err c.code_of_text.result _ _ (λ a is. no_code call file build source a is)
     c.code_of_text.ensures.none
 
-pub returns-in-Whole-clause-fetches : goal.returns-in-Whole-clause-fetches
-returns-in-Whole-clause-fetches g c =
-    let whole : c.fetch.result ≡ Whole = search rules in
-    not_fetched _ _ _ _ (λ failed. let no : Whole ≡ Failed = sym whole ∙ failed in absurd cc)
-    (text_fetches_none c.as_slice.result.now (settings_among (map string_bytes c.args.words.now))
-    c.code_of_text.result c.code_of_text.ensures.none) c.fetch.ensures.counts
+pub returns-in-Ok-clause-fetches : goal.returns-in-Ok-clause-fetches
+returns-in-Ok-clause-fetches g c =
+    not_fetched _ _ _ _ (λ no. no)
+    (text_fetches_none c.as_slice.result.now (build_of (asked_in c.args.asked))
+    c.code_of_text.result c.code_of_text.ensures.none) (c.in-Ok.ensures {u = tt}).fetches
 
-pub returns-in-TooLong-clause-none : goal.returns-in-TooLong-clause-none
-returns-in-TooLong-clause-none g c = λ words d execution none.
+pub returns-in-Err-clause-none : goal.returns-in-Err-clause-none
+returns-in-Err-clause-none g c = λ words.
     let call = call_of words (g.F.Files.tells c.args.files.now)
-    (g.F.Files.may_fail c.args.files.now) in
-    let file = c.args.file.now in
-    let gains = subst (λ old. GainsTooMuch (call.tells file) MOST_SOURCE old c.fetch.new.into.items)
-    c.new-text.ensures.items (c.fetch.ensures.too_long (search rules)) in
-    too_long (too_long_of call file c.fetch.new.into.items gains) none
+    (g.F.Files.may_fail c.args.files.now) (g.F.Files.may_fail_later c.args.files.now) in
+    unfetched call c.args.file.now (build_of (asked_in c.args.asked))
+    c.in-Err.answer (c.in-Err.ensures {u = tt}).err
 
-pub returns-in-TooLong-clause-fetches : goal.returns-in-TooLong-clause-fetches
-returns-in-TooLong-clause-fetches g c =
-    let long : c.fetch.result ≡ TooLong = search rules in
-    not_fetched _ _ _ _ (λ failed. let no : TooLong ≡ Failed = sym long ∙ failed in absurd cc)
-    (λ e. absurd (omega (arith, e))) c.fetch.ensures.counts
-
-pub returns-in-Failed-clause-none : goal.returns-in-Failed-clause-none
-returns-in-Failed-clause-none g c = λ words d execution none.
-    unreadable (c.fetch.ensures.cause (search rules)) none
+pub returns-in-Err-clause-put : goal.returns-in-Err-clause-put
+returns-in-Err-clause-put g c =
+    unfetched_not_put _ _ MOST_SOURCE c.args.file.now c.in-Err.answer
+    (c.in-Err.ensures {u = tt}).err

@@ -1,5 +1,6 @@
-use Rattle.std.proofs.Common.{◌≢◌, map, string_bytes, sym, subst}
-use Rattle.call_claims.specs.Setting.{settings_among}
+use Rattle.std.proofs.Common.{◌≢◌, sym, subst}
+use Rattle.call_claims.specs.Command.{build_of}
+use Rattle.call_words.specs.Reading.{asked_in}
 use Rattle.top_call.specs.Work.{IsUncoded}
 use Rattle.call_answers.specs.declared.answers.Answer.TheVariants as answer
 use Rattle.top_call.proofs.FileLemmas.{refusal_not_put, uncoded}
@@ -7,16 +8,11 @@ use Rattle.top_call.proofs.fetches.code_of_text.Goals as goal
 
 pub returns-in-Err-clause-none : goal.returns-in-Err-clause-none
 returns-in-Err-clause-none c =
-    let settings = settings_among (map string_bytes c.args.words.now) in
-    subst (IsUncoded c.args.text.now settings) (sym c.of_refusal.ensures)
-    (uncoded c.args.text.now settings c.in-Err.refusal (c.in-Err.ensures {u = tt}).refused)
+    let build = build_of (asked_in c.args.asked) in
+    subst (IsUncoded c.args.text.now build) (sym c.of_refusal.ensures)
+    (uncoded c.args.text.now build c.in-Err.refusal (c.in-Err.ensures {u = tt}).refused)
 
 pub returns-in-Err-clause-put : goal.returns-in-Err-clause-put
 returns-in-Err-clause-put c =
     subst (λ a. a ≢ answer.PutFailed) (sym c.of_refusal.ensures)
-    (refusal_not_put c.args.text.now c.in-Err.refusal).1
-
-pub returns-in-Err-clause-done : goal.returns-in-Err-clause-done
-returns-in-Err-clause-done c =
-    subst (λ a. a ≢ answer.Done) (sym c.of_refusal.ensures)
-    (refusal_not_put c.args.text.now c.in-Err.refusal).0
+    (refusal_not_put c.args.text.now c.in-Err.refusal)

@@ -1,79 +1,97 @@
-use Rattle.std.proofs.Common.{◌≢◌, map, string_bytes, inl, inr, refl, sym, ◌∙◌, ap}
+use Rattle.std.proofs.Common.{◌≡◌, ◌≢◌, None, inl, inr, sym, ◌∙◌, ap, subst, arith}
 use Rattle.call_claims.specs.Call.{call_of}
-use Rattle.call_claims.specs.Cause.{Cause}
-use Rattle.call_claims.specs.Cause.Cause.{no_memory}
-use Rattle.call_answers.specs.Answers.{status_of, text_of}
+use Rattle.call_claims.specs.Cause.{Cause, Lists}
+use Rattle.call_claims.specs.Cause.Cause.{list, no_memory}
+use Rattle.call_claims.specs.Command.{build_of}
+use Rattle.call_claims.specs.Decided.{IsDecided}
+use Rattle.call_claims.specs.Execution.{IsMadeOf}
+use Rattle.call_answers.specs.Answers.{status_of, told_of}
+use Rattle.call_answers.specs.Work.{execution_in}
 use Rattle.call_answers.specs.declared.answers.Answer.TheVariants as answer
-use Rattle.top_call.specs.Work.{execution_in}
-use Rattle.call_answers.proofs.AnswerLemmas.{done_of, failed_of, failed_or}
-use Rattle.top_call.proofs.TopLemmas.{half_caused, not_done, status_has_cause, told_back}
+use Rattle.call_answers.proofs.CallLemmas.{answered, failed_put, fetches_counted}
+use Rattle.call_answers.proofs.CallLemmas.{puts_counted, status_caused, work_other}
+use Rattle.call_answers.proofs.CallLemmas.FailedPut.{in_work, in_telling}
+use Rattle.call_words.specs.Reading.{asked_in}
+use Rattle.top_call.specs.Call.{IsListed}
+use Rattle.top_call.proofs.FileLemmas.{on_some}
+use Rattle.top_call.proofs.KnownLemmas.{list_known}
+use Rattle.top_call.proofs.ListLemmas.{not_done, told_done}
 use Rattle.top_call.proofs.lists.list.Goals as goal
 
-pub returns-clause-list : goal.returns-clause-list
-returns-clause-list g c =
-    let words = map string_bytes c.args.words.now in
+pub returns-clause-listed : goal.returns-clause-listed
+returns-clause-listed g c = λ words given.
     let call = call_of words (g.F.Files.tells c.args.files.now)
-    (g.F.Files.may_fail c.args.files.now) in
-    let work = c.work_for-work in
-    let told = c.told-answer in
-    let status = c.status.result in
-    let cause = status_has_cause (Cause call (execution_in work.result)) no_memory
-    work.result.answer work.ensures.cause status told.result c.status.ensures
-    told.ensures.same (λ e. (told.ensures.kept e).0) in
-    record {
-      code = work.ensures.code;
-      no_counts = record { turns = refl; sends = refl; words = refl };
-      output = λ n.
-          let not_told : told.result ≢ answer.PutFailed =
-          λ e. n (c.status.ensures ∙ ap status_of e) in
-          record {
-            listed = λ done. work.ensures.listed (told_back work.result.answer told.result
-                told.ensures.same (done_of told.result (sym c.status.ensures ∙ done)));
-            not_listed = λ other. work.ensures.not_listed
-                (λ e. other (c.status.ensures ∙ ap status_of (told.ensures.done e)))
-                (λ e. not_told (told.ensures.kept e).0);
-          };
-      cause = λ n. record {
-        text = text_of told.result;
-        cause = cause n;
-        told = told.ensures.told (λ e. n (c.status.ensures ∙ ap status_of e));
+    (g.F.Files.may_fail c.args.files.now) (g.F.Files.may_fail_later c.args.files.now) in
+    let file = c.args.command.file.now in
+    let asked = asked_in c.args.command.asked in
+    let work = c.list_file-work in
+    let told = c.answered.ensures.told in
+    let status = c.answered.result.status in
+    let caused_by = Cause call (execution_in work.result) in
+    let has_cause : IsDecided (status_of work.result.answer)
+    → caused_by (status_of work.result.answer) (told_of work.result.answer) = λ d.
+    list (record {
+      file = file;
+      asked = asked;
+      given = given;
+      holds = work.ensures.cause words d;
+    }) in
+    let cause = status_caused work.result.answer status _ told caused_by no_memory has_cause in
+    subst (λ ran. IsListed call ran _ _) (sym c.answered.ensures.ran) (record {
+      code = on_some work.result.code (IsMadeOf call file (build_of asked))
+          (λ code. Lists call (λ file asked. IsMadeOf call file (build_of asked) code))
+          (λ code made. record { file = file; asked = asked; given = given; holds = made })
+          (work.ensures.code words);
+      no_counts = record {
+        turns = ap (λ counts. counts.turns) work.ensures.no_counts;
+        sends = ap (λ counts. counts.sends) work.ensures.no_counts;
+        words = ap (λ counts. counts.words) work.ensures.no_counts;
       };
+      output = λ n. record {
+        listed = λ done. work.ensures.listed
+            (told_done work.result.answer status _ told n done);
+        not_listed = λ other. work.ensures.not_listed
+            (λ e. other (told.is ∙ ap status_of (told.told.quiet e ∙ e)))
+            (work_other work.result.answer status _ told n);
+      };
+      cause = answered work.result.answer status _ told caused_by no_memory has_cause;
       exact = λ n. c.list_statuses_are_exact.ensures c.args.files.now words
-          (execution_in work.result) status (text_of told.result) (cause n);
+          (execution_in work.result) status (told_of told.answer) (cause n);
       put_failed = λ nine.
-          let failed = failed_of told.result (sym c.status.ensures ∙ nine) in
-          elim (failed_or work.result.answer) [
-            | inl out ↦ inl (
+          elim (failed_put work.result.answer status _ told caused_by no_memory has_cause nine) [
+            | in_work out same ↦ inl (
               work.ensures.cut_off out,
               work.ensures.puts.rises out,
-              (told.ensures.kept out).1,
+              same,
             )
-            | inr other ↦ inr (
-              work.ensures.not_listed (not_done work.result.answer told.result
-                  told.ensures.done failed) other,
-              told.ensures.counts.rises (other, failed),
-              (let half = half_caused (Cause call (execution_in work.result)) no_memory
-                  work.result.answer work.ensures.cause (g.E.Sink.tells c.args.errs.now)
-                  (g.E.Sink.tells told.new.errs) other (told.ensures.half other failed) in
-                  record {
-                    status = half.status;
-                    text = half.text;
-                    cause = half.cause;
-                    front = half.front;
-                  }),
+            | in_telling other failed rose half ↦ inr (
+              work.ensures.not_listed (not_done work.result.answer status _ told failed) other,
+              rose,
+              half,
             )
           ];
-    }
+    })
 
-pub returns-clause-usage : goal.returns-clause-usage
-returns-clause-usage g c = λ d.
-    let words = map string_bytes c.args.words.now in
+pub returns-clause-known : goal.returns-clause-known
+returns-clause-known g c = λ e.
+    let given = c.requires.given in
+    let words = given.0 in
     let call = call_of words (g.F.Files.tells c.args.files.now)
-    (g.F.Files.may_fail c.args.files.now) in
-    let work = c.work_for-work in
-    let told = c.told-answer in
-    (c.list_statuses_are_exact.ensures c.args.files.now words (execution_in work.result)
-    c.status.result (text_of told.result)
-    (status_has_cause (Cause call (execution_in work.result)) no_memory
-    work.result.answer work.ensures.cause c.status.result told.result c.status.ensures
-    told.ensures.same (λ e. (told.ensures.kept e).0) d.put)).usage d
+    (g.F.Files.may_fail c.args.files.now) (g.F.Files.may_fail_later c.args.files.now) in
+    let work = c.list_file-work in
+    list_known (status_caused work.result.answer c.answered.result.status _
+    c.answered.ensures.told (Cause call (execution_in work.result)) no_memory
+    (λ d. list (record {
+      file = c.args.command.file.now;
+      asked = asked_in c.args.command.asked;
+      given = given.1;
+      holds = work.ensures.cause words d;
+    })) (λ f. omega (arith, e, f))) e
+
+pub returns-clause-fetches : goal.returns-clause-fetches
+returns-clause-fetches g c =
+    fetches_counted c.list_file-work.result.answer _ _ c.answered.ensures.told _ _ c.list_file-work.ensures.fetches
+
+pub returns-clause-puts : goal.returns-clause-puts
+returns-clause-puts g c =
+    puts_counted c.list_file-work.result.answer _ _ c.answered.ensures.told _ _ c.list_file-work.ensures.puts

@@ -1,5 +1,5 @@
 use Rattle.call_claims.specs.Call.{call_of}
-use Rattle.call_words.specs.Asked.{asked_in}
+use Rattle.call_words.specs.Reading.{asked_in}
 use Rattle.top_call.proofs.ListLemmas.{list_caused, list_none, listing_cut}
 use Rattle.top_call.proofs.ListLemmas.{listing_taken}
 use Rattle.top_call.proofs.lists.list_file.Goals as goal
@@ -7,18 +7,18 @@ use Rattle.top_call.proofs.lists.list_file.Goals as goal
 pub returns-in-Ok-clause-cause : goal.returns-in-Ok-clause-cause
 returns-in-Ok-clause-cause g c = λ words.
     let call = call_of words (g.F.Files.tells c.args.files.now)
-    (g.F.Files.may_fail c.args.files.now) in
+    (g.F.Files.may_fail c.args.files.now) (g.F.Files.may_fail_later c.args.files.now) in
     list_caused call c.args.list.file.now (asked_in c.args.list.asked) c.list_code.result
     c.in-Ok.code ((c.in-Ok.ensures {u = tt}).code words) c.list_code.ensures.code
-    c.list_code.ensures.answer
+    c.list_code.ensures.no_counts c.list_code.ensures.answer
 
 pub returns-in-Err-clause-cause : goal.returns-in-Err-clause-cause
 returns-in-Err-clause-cause g c = λ words.
     let call = call_of words (g.F.Files.tells c.args.files.now)
-    (g.F.Files.may_fail c.args.files.now) in
-    list_none call c.args.list.file.now (asked_in c.args.list.asked) c.without_code.result
-    c.in-Err.answer ((c.in-Err.ensures {u = tt}).none words) c.without_code.ensures.answer
-    c.without_code.ensures.code
+    (g.F.Files.may_fail c.args.files.now) (g.F.Files.may_fail_later c.args.files.now) in
+    list_none call c.args.list.file.now (asked_in c.args.list.asked) c.without_turns.result
+    c.in-Err.answer ((c.in-Err.ensures {u = tt}).none words) c.without_turns.ensures.answer
+    c.without_turns.ensures.code c.without_turns.ensures.counts
 
 pub returns-in-Ok-clause-listed : goal.returns-in-Ok-clause-listed
 returns-in-Ok-clause-listed g c = λ done.

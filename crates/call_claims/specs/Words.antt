@@ -1,0 +1,57 @@
+-- The words that may stand behind the file of a command.
+use Rattle.std.specs.Prelude.{◌≡◌, ◌≢◌, ℕ, ◌≤◌, List, ◌++◌, length, codes, get_or, IsTrue}
+use Rattle.std.specs.List.{list_all}
+use Rattle.std.specs.Char.{is_ascii_digit}
+use Rattle.std.specs.Str.Parse.{digits_value}
+use Rattle.zpl_tokens.specs.declared.Kind.TheVariants.{Name}
+use Rattle.zpl_text.specs.Kinds.{IsToken}
+use Rattle.zpl_binding.specs.Settings.{Setting}
+use Rattle.call_claims.specs.declared.limits.TheConstants.{MOST_DIGITS, MOST_LINKS, MOST_TURNS}
+
+-- one to nineteen digits, with leading zeros allowed
+pub record IsNumber (text : List ℕ) (n : ℕ) : Type 0 where
+  pub some : 1 ≤ length text
+  pub few : length text ≤ MOST_DIGITS
+  pub digits : IsTrue (list_all is_ascii_digit text)
+  pub value : n ≡ digits_value 10 text
+
+-- the word is `turns=` and a number
+pub record IsTurnsWord (word : List ℕ) (n : ℕ) : Type 0 where
+  pub digits : List ℕ
+  pub split : word ≡ codes "turns=" ++ digits
+  pub number : IsNumber digits n
+  pub within : n ≤ MOST_TURNS
+
+-- a number from 1 on, in which no zero leads
+pub record IsCapacityText (digits : List ℕ) (capacity : ℕ) : Type 0 where
+  pub number : IsNumber digits capacity
+  pub no_zero : get_or digits 0 0 ≢ 48
+  pub some : 1 ≤ capacity
+  pub within : capacity ≤ MOST_LINKS
+
+-- the word is `links=` and such a number
+pub record IsLinksWord (word : List ℕ) (capacity : ℕ) : Type 0 where
+  pub digits : List ℕ
+  pub split : word ≡ codes "links=" ++ digits
+  pub links : IsCapacityText digits capacity
+
+-- the word is a name of the language, which is no keyword, then `:=` and any text
+pub record IsSettingWord (word : List ℕ) (setting : Setting) : Type 0 where
+  pub named : IsToken setting.name Name
+  pub split : word ≡ setting.name ++ (codes ":=" ++ setting.value)
+
+-- the file of the order of turns, whatever its name holds; how many turns may be given; that a report
+-- is wanted; how many messages a link holds; and what a config is set to
+pub data Word : Type 0 where
+  Order : (file : List ℕ) → Word
+  Turns : (n : ℕ) → Word
+  Report : Word
+  Links : (capacity : ℕ) → Word
+  Sets : (setting : Setting) → Word
+
+abbrev pub IsWord : List ℕ → Word → Type 0
+IsWord text (Order file) = text ≡ codes "order=" ++ file
+IsWord text (Turns n) = IsTurnsWord text n
+IsWord text Report = text ≡ codes "report"
+IsWord text (Links capacity) = IsLinksWord text capacity
+IsWord text (Sets setting) = IsSettingWord text setting

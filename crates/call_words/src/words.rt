@@ -1,0 +1,103 @@
+//! The words that may stand behind a file, besides settings.
+ghost use Rattle.std.specs.Prelude.{◌≡◌, ◌≢◌, ◌++◌, ℕ, List, codes, MatchOption};
+ghost use Rattle.zpl_binding.specs.Settings.{Setting};
+ghost use Rattle.call_claims.specs.Words.{IsCapacityText, IsLinksWord, IsSettingWord};
+ghost use Rattle.call_claims.specs.Words.{IsTurnsWord, IsWord};
+ghost use Rattle.call_claims.specs.Words.{Word as Claimed};
+ghost use Rattle.call_words.specs.Reading.{word_in};
+
+use crate::numbers::number_of;
+use call_claims::{MOST_LINKS, MOST_TURNS};
+
+/// A word behind a file.
+#[derive(Clone, Copy)]
+pub enum Word<'a> {
+    /// The file of the order of turns.
+    Order(&'a str),
+    /// The most turns.
+    Turns(u64),
+    /// A report is wanted.
+    Report,
+    /// The most messages on a link.
+    Links(u32),
+}
+
+/// The word that a text is, if it is one.
+pub fn word_of(text: &str) -> Option<Word<'_>>
+    requires unset { (setting : Setting) → ¬ IsSettingWord text.now setting }
+    ensures { MatchOption result
+        ((word : Claimed) → ¬ IsWord text.now word)
+        (λ word. IsWord text.now (word_in word)) }
+{
+    if text == "report" {
+        return Some(Word::Report);
+    }
+    if let Some(file) = order_of(text) {
+        return Some(Word::Order(file));
+    }
+    if let Some(turns) = turns_of(text.as_bytes()) {
+        return Some(Word::Turns(turns));
+    }
+    match links_of(text.as_bytes()) {
+        Some(links) => Some(Word::Links(links)),
+        None => None,
+    }
+}
+
+/// What stands behind `order=`.
+fn order_of(text: &str) -> Option<&str>
+    ensures { MatchOption result
+        ((file : List ℕ) → text.now ≢ codes "order=" ++ file)
+        (λ file. text.now ≡ codes "order=" ++ file.now) }
+{
+    text.strip_prefix("order=")
+}
+
+/// The number behind `turns=`.
+fn turns_of(text: &[u8]) -> Option<u64>
+    ensures { MatchOption result ((n : ℕ) → ¬ IsTurnsWord text.now n) (IsTurnsWord text.now) }
+{
+    let [b't', b'u', b'r', b'n', b's', b'=', digits @ ..] = text else {
+        return None;
+    };
+    let turns = number_of(digits)?;
+    if turns <= MOST_TURNS {
+        Some(turns)
+    } else {
+        None
+    }
+}
+
+/// The number behind `links=`.
+fn links_of(text: &[u8]) -> Option<u32>
+    ensures { MatchOption result
+        ((capacity : ℕ) → ¬ IsLinksWord text.now capacity) (IsLinksWord text.now) }
+{
+    let [b'l', b'i', b'n', b'k', b's', b'=', digits @ ..] = text else {
+        return None;
+    };
+    match capacity_of(digits) {
+        Some(capacity) => Some(capacity),
+        None => None,
+    }
+}
+
+/// The number that digits write, in which no zero leads, where a link may hold so many messages.
+fn capacity_of(digits: &[u8]) -> Option<u32>
+    ensures { MatchOption result
+        ((capacity : ℕ) → ¬ IsCapacityText digits.now capacity) (IsCapacityText digits.now) }
+{
+    if digits.is_empty() || digits[0] == b'0' {
+        return None;
+    }
+    match number_of(digits) {
+        Some(number) => {
+            if 1 <= number && number <= u64::from(MOST_LINKS) {
+                Some(number as u32)
+            } else {
+                None
+            }
+        }
+        None => None,
+    }
+}

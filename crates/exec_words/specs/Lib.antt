@@ -1,4 +1,0 @@
-pub mod Asked
-pub mod Met
-pub mod Reading
-pub mod Words

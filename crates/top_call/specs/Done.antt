@@ -1,0 +1,15 @@
+-- What came of a command.
+use Rattle.call_claims.specs.Call.{Call}
+use Rattle.call_claims.specs.Stream.{Stream}
+use Rattle.call_claims.specs.declared.ran.Ran.{Ran}
+use Rattle.call_words.specs.declared.commands.Command.{Command}
+use Rattle.call_words.specs.declared.commands.Command.TheVariants as command
+use Rattle.exec_call.specs.Call.{IsExecuted}
+use Rattle.mean_call.specs.Call.{IsMeant}
+use Rattle.top_call.specs.Call.{IsListed, IsRan}
+
+abbrev pub IsDone : Command → Call → Ran → Stream → Stream → Type 0
+IsDone (command.List of) call ran out errs = IsListed call ran out errs
+IsDone (command.Mean of) call ran out errs = IsMeant call ran out errs
+IsDone (command.Run of) call ran out errs = IsRan call ran out errs
+IsDone (command.Exec of) call ran out errs = IsExecuted call ran out errs

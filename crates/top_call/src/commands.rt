@@ -1,0 +1,54 @@
+//! The commands, one arm each.
+ghost use Rattle.std.specs.Prelude.{◌≡◌, ◌≢◌, ℕ, List};
+ghost use Rattle.zpl_io.specs.Files.{SameTexts};
+ghost use Rattle.call_claims.specs.Answer.{CountsFetches, CountsPuts};
+ghost use Rattle.call_claims.specs.Call.{call_of};
+ghost use Rattle.call_claims.specs.Stream.{stream_of};
+ghost use Rattle.call_claims.specs.declared.status.TheConstants.{USAGE};
+ghost use Rattle.call_words.specs.Reading.{IsRead};
+ghost use Rattle.top_call.specs.Done.{IsDone};
+
+use crate::lists::list;
+use crate::runs::run;
+use call_claims::Ran;
+use call_words::Command;
+use exec_call::exec;
+use mean_call::mean;
+use std::alloc::Global;
+use zpl_io::{Files, Sink};
+
+/// Does what a command asks for.
+pub fn perform<F: Files, O: Sink, E: Sink>(
+    alloc: Global,
+    command: Command<'_>,
+    files: &mut F,
+    out: &mut O,
+    errs: &mut E,
+) -> Ran
+    // Words give the command: what is said of the call holds of these.
+    requires given { (words : List (List ℕ)) × IsRead words command }
+
+    // What came of it, and why the status is what it is.
+    ensures done { (words : List (List ℕ)) → IsRead words command.entry →
+        IsDone command.entry (call_of words (F.tells files.old) (F.may_fail files.old)
+        (F.may_fail_later files.old)) result
+        (stream_of (O.tells out.old) (O.tells out.new) (O.faults out.old) (O.faults out.new)
+        (out.new ≡ out.old))
+        (stream_of (E.tells errs.old) (E.tells errs.new) (E.faults errs.old) (E.faults errs.new)
+        (errs.new ≡ errs.old)) }
+    ensures known { result.status ≢ USAGE }
+
+    // Files and counts after the call: the texts are the same, and a count of faults rises only
+    // with its status.
+    ensures texts { SameTexts (F.tells files.old) (F.tells files.new) }
+    ensures fetches { CountsFetches result.status (F.faults files.old) (F.faults files.new) }
+    ensures puts { CountsPuts result.status (O.faults out.old) (O.faults out.new) }
+    ensures told { CountsPuts result.status (E.faults errs.old) (E.faults errs.new) }
+{
+    match command {
+        Command::List(of) => list(alloc, of, files, out, errs),
+        Command::Mean(of) => mean(alloc, of, files, out, errs),
+        Command::Run(of) => run(alloc, of, files, out, errs),
+        Command::Exec(of) => exec(alloc, of, files, out, errs),
+    }
+}
