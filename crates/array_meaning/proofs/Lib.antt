@@ -1,1 +1,3 @@
+pub mod FitLemmas
+pub mod KnownLemmas
 pub mod MeanLemmas

@@ -4,7 +4,9 @@ use Rattle.zpl_nums.specs.declared.ends.End.{End}
 use Rattle.zpl_io.specs.Sink.{Takes, TakesFront}
 use Rattle.zpl_tree.specs.Syntax.{Program}
 use Rattle.zpl_binding.specs.Settings.{Setting}
-use Rattle.zpl_binding.specs.Bound.{Bound, Binds, IsAcceptedWith}
+use Rattle.zpl_binding.specs.Bound.{IsAcceptedWith}
+use Rattle.zpl_bind.specs.Bound.{IsBoundBy}
+use Rattle.zpl_bind.specs.declared.lists.Bound.{Bound}
 use Rattle.zpl_meaning.specs.Program.{Meaning}
 use Rattle.array_statements.specs.declared.faults.MeanFault.{MeanFault}
 
@@ -12,7 +14,7 @@ use Rattle.array_statements.specs.declared.faults.MeanFault.{MeanFault}
 pub record IsBound (program : Program) (bound : Bound) : Type 0 where
   pub settings : List Setting
   pub accepted : IsAcceptedWith program settings
-  pub binds : Binds program settings bound
+  pub binds : IsBoundBy program settings bound
 
 -- The sink took just the bytes of the meaning, and the answer is its end.
 pub record HasMeant (meaning : Meaning) (answer : End) (before after : List ℕ → Type 0) : Type 0

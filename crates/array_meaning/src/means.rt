@@ -9,6 +9,7 @@ ghost use Rattle.zpl_binding.specs.Settings.{Setting};
 ghost use Rattle.zpl_binding.specs.Declarations.{known_of};
 ghost use Rattle.zpl_bind.specs.Known.{known_in};
 ghost use Rattle.zpl_bind.specs.Lists.{bound_of};
+ghost use Rattle.rank_types.specs.Typed.{HasText};
 ghost use Rattle.zpl_meaning.specs.Program.{mean_of};
 ghost use Rattle.array_meaning.specs.Means.{IsBound, Means};
 ghost use Rattle.array_meaning.specs.Opened.{IsOpened};
@@ -18,17 +19,15 @@ use array_frames::{Head, Opening, opening_of};
 use array_places::{Currents, Setup, Things};
 use array_statements::{Buffers, MeanFault, Run, call};
 use array_store::Store;
-use bound_tables::{faultless_programs_are_fit, known_of};
-use bumpalo::Bump;
 use meaning_ranks::ranks_agree;
 use rank_types::Typed;
 use routine_walks::Text;
 use std::alloc::Global;
-use text_routines::text_of;
 use zpl_bind::{Bound, Known};
+use zpl_binding::bound_lists_follow_the_text;
 use zpl_io::Sink;
 use zpl_nums::End;
-use zpl_parts::{Part, parts_of_text};
+use zpl_parts::Part;
 use zpl_tree::Program;
 
 /// The most different procedures of a chain of calls.
@@ -36,17 +35,17 @@ const LONGEST_CHAIN: u32 = 32;
 
 /// Puts what a program prints under the settings that it was bound by, with at most so many turns
 /// of each loop that is entered, and answers how it ends: `End::More` just where a loop wanted a
-/// further turn. The arena is that of the tree; it keeps what is known of parameters.
+/// further turn.
 pub fn mean<'a, O: Sink>(
     alloc: Global,
-    arena: &'a Bump<Global>,
     typed: &Typed<'a>,
-    bound: &Bound,
+    bound: &Bound<'a>,
     loops: u64,
     out: &mut O,
 ) -> Result<End, MeanFault>
+    requires text { HasText typed.now }
     requires grammar { IsProgram (syntax_of typed.now.program.now) }
-    requires bound { IsBound (syntax_of typed.now.program.now) (bound_of bound.now) }
+    requires bound { IsBound (syntax_of typed.now.program.now) bound.now }
     requires short { length typed.now.program.now.source.now ≤ 1048576 }
     ensures means { (settings : List Setting) →
         Binds (syntax_of typed.now.program.now) settings (bound_of bound.now) →
@@ -56,24 +55,19 @@ pub fn mean<'a, O: Sink>(
     ensures stops { StopsAtFault (result ≡ Err SinkFailed)
         (O.has_failed out.old) (O.has_failed out.new) }
 {
-    faultless_programs_are_fit();
+    bound_lists_follow_the_text();
     let program = typed.program;
-    let Ok((text, _found)) = text_of(alloc, arena, program) else {
-        return Err(MeanFault::NoMemory);
-    };
-    let known = known_of(alloc, program, bound)?;
-    let parts = parts_of_text(alloc, program)?;
     let Opening {
         things,
         mut store,
         heads,
-    } = opening_of(alloc, &known, bound.storages.as_slice(), program)?;
+    } = opening_of(alloc, &bound.known, bound.storages.as_slice(), program)?;
     run_all(
         alloc,
         program,
-        &text,
-        &known,
-        parts.as_slice(),
+        typed.text,
+        &bound.known,
+        bound.parts.as_slice(),
         &things,
         &heads,
         &mut store,

@@ -1,14 +1,15 @@
 //! Texts, their tokens, their trees, and what is bound.
-ghost use Rattle.std.specs.Prelude.{◌≤◌, length, map, string_bytes, IfOk, IfErr, OnOk};
-ghost use Rattle.zpl_binding.specs.Bound.{Binds, IsAcceptedWith};
+ghost use Rattle.std.specs.Prelude.{◌≤◌, List, length, map, string_bytes, IfOk, IfErr, OnOk};
+ghost use Rattle.zpl_binding.specs.Bound.{IsAcceptedWith};
+ghost use Rattle.zpl_binding.specs.Settings.{Setting};
 ghost use Rattle.zpl_text.specs.Tokens.{IsTokens};
 ghost use Rattle.zpl_text.specs.declared.TheConstants.{MOST_SOURCE};
 ghost use Rattle.zpl_tree.specs.View.{syntax_of};
 ghost use Rattle.zpl_grammar.specs.Texts.{IsShallowTree};
-ghost use Rattle.zpl_bind.specs.Lists.{bound_of};
+ghost use Rattle.zpl_bind.specs.Bound.{IsBoundBy};
 ghost use Rattle.call_claims.specs.Setting.{settings_among};
 ghost use Rattle.call_claims.specs.Accepted.{IsAccepted};
-ghost use Rattle.bound_texts.specs.Accepted.{program_of};
+ghost use Rattle.bound_texts.specs.Accepted.{Carries, program_of};
 ghost use Rattle.bound_texts.specs.Refused.{IsOnlyTree, IsRefused, IsRejected, IsUnread};
 
 use crate::settings::settings_of;
@@ -25,10 +26,10 @@ use zpl_tree::Program;
 /// A text without faults, under settings without faults.
 #[derive(Drop)]
 pub struct Accepted<'a> {
-    /// Its program, with the global names.
+    /// Its program, with its names and procedures.
     pub typed: Typed<'a>,
-    /// What the settings bind it to.
-    pub bound: Bound,
+    /// What the settings bind it to, with what is known of its declarations.
+    pub bound: Bound<'a>,
 }
 
 /// The program of a text, bound by the settings among words. It fails exactly where the text has a
@@ -41,8 +42,7 @@ pub fn accepted_text<'a>(
 ) -> Result<Accepted<'a>, Refusal>
     requires { length text.now ≤ MOST_SOURCE }
     ensures accepted { IfOk result (λ found. IsAccepted text.entry.now (program_of found)) }
-    ensures bound { IfOk result (λ found. Binds (program_of found)
-        (settings_among (map string_bytes words.now)) (bound_of found.bound)) }
+    ensures carries { IfOk result (Carries (settings_among (map string_bytes words.now))) }
     ensures with_settings { IfOk result (λ found. IsAcceptedWith (program_of found)
         (settings_among (map string_bytes words.now))) }
     ensures refused { IfErr result
@@ -95,8 +95,7 @@ pub fn accepted_tree<'a>(
     requires tree { IsShallowTree text.now tokens.now (syntax_of program.now) }
     requires only { IsOnlyTree text.now tokens.now (syntax_of program.now) }
     ensures accepted { IfOk result (λ found. IsAccepted text.now (program_of found)) }
-    ensures bound { IfOk result (λ found. Binds (program_of found)
-        (settings_among (map string_bytes words.now)) (bound_of found.bound)) }
+    ensures carries { IfOk result (Carries (settings_among (map string_bytes words.now))) }
     ensures with_settings { IfOk result (λ found. IsAcceptedWith (program_of found)
         (settings_among (map string_bytes words.now))) }
     ensures refused { IfErr result
@@ -109,15 +108,15 @@ pub fn accepted_tree<'a>(
 }
 
 /// What the settings among words bind an accepted text to.
-fn bound_under(
+fn bound_under<'a>(
     alloc: Global,
     text: &[u8],
-    typed: &Typed<'_>,
+    typed: &Typed<'a>,
     words: &[String],
-) -> Result<Bound, Refusal>
+) -> Result<Bound<'a>, Refusal>
     requires { IsAccepted text.now (syntax_of typed.now.program.now) }
-    ensures bound { IfOk result (λ bound. Binds (syntax_of typed.now.program.now)
-        (settings_among (map string_bytes words.now)) (bound_of bound)) }
+    ensures bound { IfOk result (IsBoundBy (syntax_of typed.now.program.now)
+        (settings_among (map string_bytes words.now))) }
     ensures with_settings { OnOk result (IsAcceptedWith (syntax_of typed.now.program.now)
         (settings_among (map string_bytes words.now))) }
     ensures refused { IfErr result

@@ -6,9 +6,9 @@ ghost use Rattle.node_messages.specs.Reading.{IsRead};
 ghost use Rattle.zpl_arrays.specs.Border.{border_source};
 ghost use Rattle.zpl_region.specs.Region.{IsRegion, members};
 
-use move_plan::border_source;
 use node_local::Local;
 use std::alloc::AllocError;
+use zpl_arrays::border_source;
 use zpl_nums::Border;
 use zpl_region::{Region, Vec3};
 

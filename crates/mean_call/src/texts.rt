@@ -2,12 +2,11 @@
 ghost use Rattle.std.specs.Prelude.{◌≡◌, ◌≤◌, length};
 ghost use Rattle.zpl_io.specs.Faults.{CountsFaults};
 ghost use Rattle.zpl_text.specs.declared.TheConstants.{MOST_SOURCE};
-ghost use Rattle.zpl_bind.specs.Lists.{bound_of};
-ghost use Rattle.zpl_binding.specs.Bound.{Binds, IsAcceptedWith};
+ghost use Rattle.zpl_binding.specs.Bound.{IsAcceptedWith};
 ghost use Rattle.call_claims.specs.Command.{limit_of};
 ghost use Rattle.call_words.specs.Reading.{asked_in};
 ghost use Rattle.call_claims.specs.Accepted.{IsAccepted};
-ghost use Rattle.bound_texts.specs.Accepted.{program_of};
+ghost use Rattle.bound_texts.specs.Accepted.{Carries, program_of};
 ghost use Rattle.mean_call.specs.Work.{answer_in, MeansText};
 
 use array_meaning::{MeanFault, mean};
@@ -35,31 +34,29 @@ pub fn mean_text<'a, O: Sink>(
 {
     let arena = Bump::new(alloc);
     match accepted_text(alloc, &arena, text, asked.words) {
-        Ok(found) => put_meaning(alloc, &arena, text, &found, asked, out),
+        Ok(found) => put_meaning(alloc, text, &found, asked, out),
         Err(refusal) => Answer::of_refusal(text, refusal),
     }
 }
 
-/// Puts the meaning of an accepted text, whose tree lies in the arena.
-fn put_meaning<'a, 'b, O: Sink>(
+/// Puts the meaning of an accepted text.
+fn put_meaning<'a, O: Sink>(
     alloc: Global,
-    arena: &'b Bump<Global>,
     text: &[u8],
-    found: &Accepted<'b>,
+    found: &Accepted<'_>,
     asked: Asked<'_>,
     out: &mut O,
 ) -> Answer<'a>
     requires short { length text.now ≤ MOST_SOURCE }
     requires accepted { IsAccepted text.now (program_of found.now) }
-    requires bound { Binds (program_of found.now) (asked_in asked).settings
-        (bound_of found.now.bound) }
+    requires carries { Carries (asked_in asked).settings found.now }
     requires with_settings { IsAcceptedWith (program_of found.now) (asked_in asked).settings }
     ensures work { let all = asked_in asked.entry in
         MeansText text.now all.settings (limit_of all) (O.tells out.old) (O.tells out.new) result }
     ensures counts { CountsFaults (result ≡ Answer.PutFailed)
         (O.faults out.old) (O.faults out.new) }
 {
-    answer_of(mean(alloc, arena, &found.typed, &found.bound, asked.limit(), out))
+    answer_of(mean(alloc, &found.typed, &found.bound, asked.limit(), out))
 }
 
 /// The answer of a meaning's end, or of what cut it off.

@@ -11,7 +11,6 @@ use Rattle.zpl_region.specs.Dim.{IsUpTo, dim_outside_of}
 use Rattle.zpl_region.specs.Ends.{single_of}
 use Rattle.zpl_region.specs.Region.{components, each, outside_of}
 use Rattle.zpl_region.proofs.ListLemmas.{int_lt-false, int_lt-true}
-use Rattle.zpl_arrays.specs.Border.{dim_border_source, each_border_source}
 use Rattle.zpl_arrays.specs.Flood.{dim_flood_source, each_flood_source}
 use Rattle.grid_layout.specs.declared.blocks.Blocks.{Blocks}
 use Rattle.grid_layout.specs.Layout.{Arrangement, laid_out, own_first, own_last}
@@ -53,14 +52,6 @@ pub component_up_to : (v d : List ℤ) (rank i : ℕ) → v ≡ components rank 
 component_up_to v d rank i is each below = (subst (All (IsUpTo 31)) (sym is) (components_up_to rank d each)) i (pos 0) below
 
 -- ---- sources
-pub sources_told : (kind : Border) (v : List ℤ) (dims : List Dim) (t : List ℤ) (e : Dim) (x y z : ℤ) → length v ≡ 3 → length dims ≡ 3 → length t ≡ 3
-    → x ≡ dim_border_source kind (get_or v 0 (pos 0)) (get_or dims 0 e) (get_or t 0 (pos 0)) → y ≡ dim_border_source kind (get_or v 1 (pos 0)) (get_or dims 1 e) (get_or t 1 (pos 0))
-    → z ≡ dim_border_source kind (get_or v 2 (pos 0)) (get_or dims 2 e) (get_or t 2 (pos 0)) → x ∷ y ∷ z ∷ [] ≡ each_border_source kind v dims t
-sources_told kind v dims t e x y z lv ld lt p q r =
-    three_same x y z _ _ _ p q r
-    ∙ sym (ap (λ l. each_border_source kind l dims t) (rebuilt v (pos 0) lv)
-    ∙ (ap (λ l. each_border_source kind (three v (pos 0)) l t) (rebuilt dims e ld) ∙ ap (λ l. each_border_source kind (three v (pos 0)) (three dims e) l) (rebuilt t (pos 0) lt)))
-
 pub flood_sources_told : (dims : List Dim) (t : List ℤ) (e : Dim) (x y z : ℤ) → length dims ≡ 3 → length t ≡ 3
     → x ≡ dim_flood_source (get_or dims 0 e) (get_or t 0 (pos 0)) → y ≡ dim_flood_source (get_or dims 1 e) (get_or t 1 (pos 0)) → z ≡ dim_flood_source (get_or dims 2 e) (get_or t 2 (pos 0))
     → x ∷ y ∷ z ∷ [] ≡ each_flood_source dims t

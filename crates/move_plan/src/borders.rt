@@ -1,8 +1,7 @@
-//! Border statements: where their values come from.
-ghost use Rattle.std.specs.Prelude.{◌≡◌, ◌<◌, ◌≤◌, All};
+//! Border statements: which of a receiver's indices take their values from one owner.
+ghost use Rattle.std.specs.Prelude.{◌≡◌, ◌<◌, All};
 ghost use Rattle.zpl_region.specs.Dim.{IsDim, IsDimWithinLimit, IsUpTo, dim_outside_of};
 ghost use Rattle.zpl_region.specs.Region.{IsRegion, components, outside_of};
-ghost use Rattle.zpl_arrays.specs.Border.{border_source};
 ghost use Rattle.grid_layout.specs.Grid.{processors_of};
 ghost use Rattle.move_plan.specs.BorderPiece.{border_piece_of, dim_border_piece, target_bounds};
 
@@ -10,23 +9,6 @@ use grid_layout::{Layout, components, part};
 use zpl_arrays::border_coordinate;
 use zpl_nums::Border;
 use zpl_region::{Dim, Region, Vec3};
-
-/// The tuple from which a border statement takes the value at the tuple `x` of `d of R`. Components
-/// of `d` past the rank count as 0.
-pub fn border_source(kind: Border, region: &Region, d: Vec3, x: Vec3) -> Vec3
-    requires region { IsRegion region.now }
-    requires near { All (IsUpTo 41) x }
-    ensures { result ≡ border_source kind region.now d x }
-{
-    let [u, v, w] = components(region.rank, &d);
-    let [planes, rows, columns] = region.dims;
-    let [x, y, z] = x;
-    [
-        border_coordinate(kind, planes, u, x),
-        border_coordinate(kind, rows, v, y),
-        border_coordinate(kind, columns, w, z),
-    ]
-}
 
 /// The `d` positions beside the bounds of a dimension.
 fn outside(dim: Dim, d: i64) -> Dim

@@ -8,6 +8,6 @@ mod borders;
 mod floods;
 mod laws;
 
-pub use borders::{border_piece, border_source};
+pub use borders::border_piece;
 pub use floods::{flood_piece, flood_source};
 pub use laws::{border_pieces_go_by_sources, flood_pieces_go_by_sources};

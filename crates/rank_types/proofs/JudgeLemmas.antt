@@ -8,8 +8,7 @@ use Rattle.zpl_tree.specs.Syntax as plain
 use Rattle.zpl_tree.specs.Syntax.{Decl, Config, Constant, Regions, Directions, Vars, Defined, Program}
 use Rattle.zpl_names.specs.Scope.{Entry}
 use borrow.Author.Tests.{eqb-true}
-use Rattle.zpl_tree.specs.View.{base_type_of, param_of, syntax_of}
-use Rattle.zpl_tree.specs.declared.declarations.Program.{Program as CodeProgram}
+use Rattle.zpl_tree.specs.View.{base_type_of, param_of}
 use Rattle.zpl_tree.specs.declared.declarations.Base.{Base as CodeBase}
 use Rattle.zpl_tree.specs.declared.declarations.Param.{Param as CodeParam}
 use Rattle.routine_walks.specs.Texts.{routine_of}
@@ -30,7 +29,6 @@ use Rattle.text_names.specs.declared.stops.Stop.TheVariants as stop
 use Rattle.text_routines.specs.Routines.{StopsText, own_seconds}
 use Rattle.rank_types.specs.Calls.{HasHeights, HasNoTextFault, HasPairs}
 use Rattle.rank_types.specs.Faults.{Holds, fault_for, stop_for}
-use Rattle.rank_types.specs.Judges.{Judges}
 use Rattle.rank_types.specs.Names.{AreDistinct, IsSecond}
 use Rattle.rank_types.specs.declared.faults.Fault.{Fault}
 use Rattle.rank_types.specs.declared.faults.Fault.TheVariants.{UnknownName, TwiceNamed, UnknownType, TypeClash, RankClash, NoRegion, FloodClash, ShatterBody, NotAssignable, Arguments, Recursion, ReturnPlace, CallPlace, MaskPlace, BorderForm, NoEntry, RankUnknown, DeepCalls, NoMemory}
@@ -252,13 +250,10 @@ stop-holds program fault stop e h =
     let P : Fault → Type 0 = Holds program in subst P (sym e) (stops-hold program stop h)
 
 -- a text that can't be made
-pub judges-stop : (program : CodeProgram) (r : Result (Unit {0}) Fault) (stop : Stop) →
-    IsErrAnd r (λ f. f ≡ stop_for stop) → StopsText (syntax_of program) stop → Judges program r
-judges-stop program (Ok v) stop is h = absurd is
-judges-stop program (Err f) stop is h = record {
-  ok = tt;
-  err = stop-holds (syntax_of program) f stop is h;
-}
+pub stop-passed : {A : Type 0} (program : Program) (r : Result A Fault) (stop : Stop) →
+    IsErrAnd r (λ f. f ≡ stop_for stop) → StopsText program stop → IfErr r (Holds program)
+stop-passed program (Ok v) stop is h = absurd is
+stop-passed program (Err f) stop is h = stop-holds program f stop is h
 
 -- ---- no fault
 

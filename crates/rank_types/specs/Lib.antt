@@ -3,3 +3,4 @@ pub mod Faults
 pub mod Judges
 pub mod Names
 pub mod Symbols
+pub mod Typed

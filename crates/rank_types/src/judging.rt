@@ -1,10 +1,12 @@
 //! The judge of programs.
-ghost use Rattle.std.specs.Prelude.{◌≡◌, IfErr, IfOk};
+ghost use Rattle.std.specs.Prelude.{◌≡◌, IfErr, IfOk, OnOk};
 ghost use Rattle.zpl_tree.specs.View.{syntax_of};
+ghost use Rattle.zpl_names.specs.Accepted.{IsFaultless};
 ghost use Rattle.site_faults.specs.Found.{found_in};
 ghost use Rattle.routine_walks.specs.Texts.{IsText};
 ghost use Rattle.rank_types.specs.Faults.{Holds};
-ghost use Rattle.rank_types.specs.Judges.{HasDistinctNames, IsFoundDeclared, Judges};
+ghost use Rattle.rank_types.specs.Judges.{HasDistinctNames, IsFoundDeclared};
+ghost use Rattle.rank_types.specs.Typed.{HasText, IsTextOf};
 
 use crate::checks::check_found;
 use crate::faults::Fault;
@@ -17,38 +19,44 @@ use std::alloc::Global;
 use text_routines::text_of;
 use zpl_tree::Program;
 
-// Tests a text, which is kept in the arena meanwhile.
+// Tests a text, which is kept in the arena.
 fn check_kept<'a>(
     alloc: Global,
     arena: &'a Bump<Global>,
     text: Text<'a>,
     found: Option<Found>,
-) -> Result<(), Fault>
+) -> Result<&'a Text<'a>, Fault>
     requires text { IsText text }
     requires distinct { HasDistinctNames text.program.now }
     requires found { IsFoundDeclared text.program.now (found_in found) }
-    ensures { Judges text.entry.program.now result }
+    ensures kept { IfOk result (IsTextOf text.entry.program.now) }
+    ensures ok { OnOk result (IsFaultless (syntax_of text.entry.program.now)) }
+    ensures err { IfErr result (Holds (syntax_of text.entry.program.now)) }
 {
-    let kept = arena.try_alloc(text)?;
-    check_found(alloc, kept, found)
+    let kept: &'a Text<'a> = arena.try_alloc(text)?;
+    check_found(alloc, kept, found)?;
+    Ok(kept)
 }
 
-// Tests a program of whose global names none is a second one.
-fn check_program<'a>(
+// The names and the procedures of a program without faults, of whose global names none is a second
+// one.
+fn checked_text<'a>(
     alloc: Global,
     arena: &'a Bump<Global>,
     program: &'a Program<'a>,
-) -> Result<(), Fault>
+) -> Result<&'a Text<'a>, Fault>
     requires { HasDistinctNames program.now }
-    ensures { Judges program.entry.now result }
+    ensures kept { IfOk result (IsTextOf program.entry.now) }
+    ensures ok { OnOk result (IsFaultless (syntax_of program.entry.now)) }
+    ensures err { IfErr result (Holds (syntax_of program.entry.now)) }
 {
     let (text, found) = text_of(alloc, arena, program)?;
     check_kept(alloc, arena, text, found)
 }
 
 /// Judges the names, ranks and types of a program: one without faults is answered with its global
-/// names; else a fault that holds, at its place, or want of memory. The arena, which is that of the
-/// tree, keeps what is known of the text.
+/// names, and all its names and procedures; else a fault that holds, at its place, or want of
+/// memory. The arena, which is that of the tree, keeps what is known of the text.
 ///
 /// A second global name is told before all others; then a second own name of a procedure; then the
 /// fault of the text that comes first in it; then a missing entry procedure, calls that lead back
@@ -59,9 +67,14 @@ pub fn judge<'a>(
     program: &'a Program<'a>,
 ) -> Result<Typed<'a>, Fault>
     ensures ok { IfOk result (λ typed. typed.program.now ≡ program.entry.now) }
+    ensures text { IfOk result HasText }
     ensures err { IfErr result (Holds (syntax_of program.entry.now)) }
 {
     let globals = global_names(alloc, program)?;
-    check_program(alloc, arena, program)?;
-    Ok(Typed { program, globals })
+    let text = checked_text(alloc, arena, program)?;
+    Ok(Typed {
+        program,
+        globals,
+        text,
+    })
 }

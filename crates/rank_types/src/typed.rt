@@ -7,15 +7,18 @@ ghost use Rattle.zpl_names.specs.Accepted.{IsFaultless};
 ghost use Rattle.rank_types.specs.Symbols.{symbols_of};
 
 use crate::symbols::Symbols;
+use routine_walks::Text;
 use zpl_tree::Program;
 
-/// A program without faults, and its global names.
+/// A program without faults, its global names, and what was found of its text on the way.
 #[derive(Drop)]
 pub struct Typed<'a> {
     /// The program.
     pub program: &'a Program<'a>,
     /// Its global names with their kinds, in the order of the text.
     pub globals: Symbols<'a>,
+    /// All its names with what they stand for, and its procedures.
+    pub text: &'a Text<'a>,
     pub ghost faultless: { IsFaultless (syntax_of program.now) } by { Prim.hlevel props },
     pub ghost named: { globals ≡ symbols_of (syntax_of program.now) } by { Coded-set globals-code _ _ },
 }

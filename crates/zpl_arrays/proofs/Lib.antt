@@ -1,6 +1,7 @@
 pub mod AgreeLemmas
 pub mod AroundLemmas
 pub mod ArrayLemmas
+pub mod BorderCode
 pub mod BorderLemmas
 pub mod CheckLemmas
 mod Examples

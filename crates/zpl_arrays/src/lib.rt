@@ -19,4 +19,4 @@ pub use laws::{
     tuples_stand_at_their_places, updates_change_one_element,
 };
 pub use reductions::agrees;
-pub use sources::{around_coordinate, border_coordinate, flood_coordinate};
+pub use sources::{around_coordinate, border_coordinate, border_source, flood_coordinate};

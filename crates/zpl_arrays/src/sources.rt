@@ -1,16 +1,16 @@
 //! Where the values of borders, floods and reads that wrap round come from, coordinate by
-//! coordinate.
-ghost use Rattle.std.specs.Prelude.{◌≡◌, ◌<◌, ◌≤◌, ◌≤ℤ◌, pos};
+//! coordinate, and for borders tuple by tuple.
+ghost use Rattle.std.specs.Prelude.{◌≡◌, ◌<◌, ◌≤◌, ◌≤ℤ◌, All, pos};
 ghost use Rattle.std.specs.Int.{int_rem_euclid};
 ghost use Rattle.zpl_region.specs.Dim.{IsDim, IsUpTo};
 ghost use Rattle.zpl_region.specs.Ends.{coordinate_count};
 ghost use Rattle.zpl_region.specs.Region.{IsRegion, dim_at};
 ghost use Rattle.zpl_arrays.specs.Around.{dim_around};
-ghost use Rattle.zpl_arrays.specs.Border.{dim_border_source};
+ghost use Rattle.zpl_arrays.specs.Border.{border_source, dim_border_source};
 ghost use Rattle.zpl_arrays.specs.Flood.{dim_flood_source};
 
 use zpl_nums::Border;
-use zpl_region::{Dim, Region};
+use zpl_region::{Dim, Region, Vec3};
 
 /// The coordinate from which `A@^d` reads at `x`, in a dimension of A's home box that has
 /// coordinates: `x + d`, moved by extents into the box. In a flood dimension it is `x`.
@@ -59,6 +59,23 @@ pub fn border_coordinate(kind: Border, dim: Dim, d: i64, x: i64) -> i64
     } else {
         x
     }
+}
+
+/// The tuple from which a border statement takes the value at the tuple `x` of `d of R`. Components
+/// of `d` past the rank count as 0.
+pub fn border_source(kind: Border, region: &Region, d: Vec3, x: Vec3) -> Vec3
+    requires region { IsRegion region.now }
+    requires near { All (IsUpTo 41) x }
+    ensures { result ≡ border_source kind region.now d x }
+{
+    let [u, v, w] = region.components(d);
+    let [planes, rows, columns] = region.dims;
+    let [x, y, z] = x;
+    [
+        border_coordinate(kind, planes, u, x),
+        border_coordinate(kind, rows, v, y),
+        border_coordinate(kind, columns, w, z),
+    ]
 }
 
 /// The coordinate from which a flood takes the value at `x`, in the `k`-th dimension of its

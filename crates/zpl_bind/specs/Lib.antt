@@ -1,3 +1,4 @@
+pub mod Bound
 pub mod Fault
 pub mod Lists
 pub mod Tables

@@ -7,7 +7,8 @@ ghost use Rattle.zpl_binding.specs.Storages.{shaped_in};
 ghost use Rattle.zpl_binding.specs.Vectors.{vector_of};
 ghost use Rattle.zpl_tree.specs.View.{decl_of, syntax_of};
 ghost use Rattle.zpl_names.specs.Accepted.{IsFaultless};
-ghost use Rattle.zpl_parts.specs.View.{part_of};
+ghost use Rattle.zpl_parts.specs.View.{part_of, seen};
+ghost use Rattle.zpl_parts.specs.Walk.{text_parts};
 ghost use Rattle.zpl_bind.specs.Fault.{IsAmong};
 ghost use Rattle.zpl_bind.specs.Few.{IsFewDecl};
 ghost use Rattle.zpl_bind.specs.Known.{IsKnown, known_failures, known_in};
@@ -28,29 +29,22 @@ use zpl_parts::{Part, parts_of_text};
 use zpl_region::{Region, Vec3};
 use zpl_tree::{Decl, Program};
 
-/// What declarations come to.
-#[derive(Drop)]
-pub struct Declared<'a> {
-    /// What is known of their names.
-    pub known: Known<'a>,
-    /// What they are bound to.
-    pub bound: Bound,
-}
-
 /// What settings bind a program to: the values of configs and constants, the declared regions, the
-/// directions with the vectors in statements, and the storages of arrays. The copies that reads
-/// which wrap round need aren't looked at. Where a bracket of a declaration has a fourth dimension,
-/// as in no program without faults, the answer is `RegionLimit`.
+/// directions with the vectors in statements, and the storages of arrays; with what is known of the
+/// declared names, and the parts of the text. The copies that reads which wrap round need aren't
+/// looked at. Where a bracket of a declaration has a fourth dimension, as in no program without
+/// faults, the answer is `RegionLimit`.
 pub fn bind_declarations<'a>(
     alloc: Global,
     program: &Program<'a>,
     settings: &Settings,
-) -> Result<Declared<'a>, BindFault>
-    ensures known { IfOk result (λ declared. IsKnown declared.known) }
-    ensures computed { IfOk result (λ declared. known_in declared.known
+) -> Result<Bound<'a>, BindFault>
+    ensures known { IfOk result (λ bound. IsKnown bound.known) }
+    ensures computed { IfOk result (λ bound. known_in bound.known
         ≡ known_of (syntax_of program.now) (settings_of settings.now)) }
-    ensures bound { IfOk result (λ declared.
-        Binds (syntax_of program.now) (settings_of settings.now) (bound_of declared.bound)) }
+    ensures parts { IfOk result (λ bound. seen bound.parts ≡ text_parts (syntax_of program.now)) }
+    ensures bound { IfOk result (λ bound.
+        Binds (syntax_of program.now) (settings_of settings.now) (bound_of bound)) }
     ensures accepted { IsFaultless (syntax_of program.now) →
         OnOk result (faults_of (syntax_of program.now) (settings_of settings.now) ≡ []) }
     ensures err { IsFaultless (syntax_of program.now) → IfErr result (λ fault. IsAmong fault
@@ -65,13 +59,14 @@ pub fn bind_declarations<'a>(
     let storages = storages_of(alloc, &known, parts.as_slice(), program.decls)?;
     let values = known.values.values(alloc)?;
     let regions = known.regions.values(alloc)?;
-    let bound = Bound {
+    Ok(Bound {
         values: Values::of(values),
         regions: Regions::of(regions),
         vectors: Vectors::of(vectors),
         storages: Regions::of(storages),
-    };
-    Ok(Declared { known, bound })
+        known,
+        parts,
+    })
 }
 
 /// What the declarations of a program come to.

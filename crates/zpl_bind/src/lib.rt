@@ -16,7 +16,7 @@ mod texts;
 mod values;
 mod vectors;
 
-pub use bind::{Declared, bind_declarations};
+pub use bind::bind_declarations;
 pub use faults::BindFault;
 pub use known::Known;
 pub use lists::{Bound, Regions, Values, Vectors};

@@ -1,12 +1,15 @@
 //! What a program is bound to.
 ghost use Rattle.std.specs.Prelude.{◌≡◌};
 
+use crate::known::Known;
 use std::marker::Model;
+use zpl_parts::Parts;
 use zpl_region::{Region, Vec3};
 
-/// What a program is bound to by settings, each list in text order.
+/// What a program is bound to by settings: four lists, each in text order, and what they were made
+/// of.
 #[derive(Drop)]
-pub struct Bound {
+pub struct Bound<'a> {
     /// The values of configs and constants.
     pub values: Values,
     /// The declared regions.
@@ -15,6 +18,10 @@ pub struct Bound {
     pub vectors: Vectors,
     /// The storages of global arrays, and then those of local arrays.
     pub storages: Regions,
+    /// What is known of the declared names.
+    pub known: Known<'a>,
+    /// The parts of the text.
+    pub parts: Parts<'a>,
 }
 
 /// A list of values.

@@ -41,7 +41,7 @@ pub fn answer(rt: &impl Abort, alloc: Global, decls: &str, words: &[&str]) -> Re
     let mut shown = String::new(alloc);
     match parse(alloc, &arena, &tokens, text.as_bytes()) {
         Ok(program) => match bind_declarations(alloc, program, &settings) {
-            Ok(declared) => show(&mut shown, &declared.bound)?,
+            Ok(bound) => show(&mut shown, &bound)?,
             Err(fault) => shown.push_str(fault.name())?,
         },
         Err(_) => assert!(rt; false, "{decls}"),
@@ -50,7 +50,7 @@ pub fn answer(rt: &impl Abort, alloc: Global, decls: &str, words: &[&str]) -> Re
 }
 
 /// The four lists: values, regions, vectors and storages.
-fn show(into: &mut String, bound: &Bound) -> Result<(), AllocError> {
+fn show(into: &mut String, bound: &Bound<'_>) -> Result<(), AllocError> {
     for value in bound.values.as_slice() {
         write!(into, "{value} ")?;
     }

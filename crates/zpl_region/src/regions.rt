@@ -103,7 +103,7 @@ impl Region {
     }
 
     /// The components of a vector up to the rank, and 0 past it.
-    pub(crate) fn components(&self, v: Vec3) -> Vec3
+    pub fn components(&self, v: Vec3) -> Vec3
         requires { IsRegion self.now }
         ensures { result ≡ components self.now.rank v }
     {

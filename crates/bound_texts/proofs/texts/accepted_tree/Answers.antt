@@ -14,3 +14,9 @@ returns-in_err-typed-clause-refused c =
     (judge_refused text settings c.args.tokens.now (syntax_of c.args.program.now)
     c.text_is_cut_one_way.ensures.tokens c.requires.tokens c.requires.tree c.requires.only fault
     (c.in_err-typed.ensures {u = tt}).err)
+
+pub returns-clause-carries : goal.returns-clause-carries
+returns-clause-carries c = record {
+  text = (c.in_ok-typed.ensures {u = tt}).text;
+  bound = (c.in_ok-bound.ensures {u = tt}).bound;
+}

@@ -8,6 +8,9 @@ use Rattle.mean_call.specs.Work.{MeansText}
 use Rattle.mean_call.proofs.TextLemmas.{is_program, is_short, has_meant, put_failed}
 use Rattle.mean_call.proofs.texts.put_meaning.Goals as goal
 
+pub mean-requires-clause-text : goal.mean-requires-clause-text
+mean-requires-clause-text g c = c.requires.carries.text
+
 pub mean-requires-clause-grammar : goal.mean-requires-clause-grammar
 mean-requires-clause-grammar g c =
     is_program c.args.text.now (program_of c.args.found.now) c.requires.accepted
@@ -20,7 +23,7 @@ pub mean-requires-clause-bound : goal.mean-requires-clause-bound
 mean-requires-clause-bound g c = record {
   settings = (asked_in c.args.asked).settings;
   accepted = c.requires.with_settings;
-  binds = c.requires.bound;
+  binds = c.requires.carries.bound;
 }
 
 pub returns-clause-work : goal.returns-clause-work
@@ -34,7 +37,7 @@ returns-clause-work g c =
     (has_meant c.args.text.now all.settings (limit_of all) program before after c.mean.result
     c.requires.accepted c.requires.with_settings
     (subst (λ n. Means c.mean.result (mean_of program all.settings n) before after) c.limit.ensures
-    (c.mean.ensures.means all.settings c.requires.bound)))
+    (c.mean.ensures.means all.settings c.requires.carries.bound.lists)))
 
 pub returns-clause-counts : goal.returns-clause-counts
 returns-clause-counts g c =

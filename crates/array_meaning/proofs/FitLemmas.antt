@@ -14,7 +14,15 @@ use Rattle.zpl_bind.proofs.FaultlessLemmas.{faultless-bindable}
 use Rattle.array_regions.specs.Fit.{IsFitInner}
 use Rattle.array_frames.specs.Heads.{IsFitDecl}
 use Rattle.array_frames.specs.Variables.{IsFitShape}
-use Rattle.bound_tables.specs.Fit.{HasFitRegions}
+
+-- declared regions whose brackets have one to three dimensions
+abbrev pub HasFitRegions : Decl → Type 0
+HasFitRegions (Regions regions) = All (λ region. IsFitInner region.body) regions
+HasFitRegions (Config configs) = Unit {0}
+HasFitRegions (Constant constants) = Unit {0}
+HasFitRegions (Directions directions) = Unit {0}
+HasFitRegions (Vars vars) = Unit {0}
+HasFitRegions (Defined procedure) = Unit {0}
 
 both-true : (a b : Bool) → a && b ≡ true → (a ≡ true) × (b ≡ true)
 both-true true b h = (refl, h)

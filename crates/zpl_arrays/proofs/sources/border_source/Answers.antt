@@ -2,8 +2,8 @@ use Rattle.std.proofs.Common.{◌≡◌, get_or, to_z, of_z, w64, pos, ◌∙◌
 use Rattle.std.proofs.lemmas.Int.{ints}
 use Rattle.zpl_region.specs.declared.dims.Dim.TheVariants.{Range}
 use Rattle.zpl_arrays.specs.Border.{each_border_source}
-use Rattle.move_plan.proofs.CodeLemmas.{sources_told}
-use Rattle.move_plan.proofs.borders.border_source.Goals as goal
+use Rattle.zpl_arrays.proofs.BorderCode.{sources_told}
+use Rattle.zpl_arrays.proofs.sources.border_source.Goals as goal
 
 pub returns : goal.returns
 returns c =
