@@ -1,16 +1,13 @@
 -- What adding a move asks, and what comes of it.
-use Rattle.std.proofs.Common.{◌≡◌, ◌⊎◌, ℕ, ◌+◌, ◌^◌, ◌<◌, ◌≤◌, List, [], ◌∷◌, ◌++◌, length, Option, Some, None, refl, sym, ◌∙◌, ap, subst, inl, inr, arith, length-append}
-use Rattle.std.proofs.lemmas.Option.{slice_get-get_or}
-use Rattle.std.specs.List.{slice_get}
+use Rattle.std.proofs.Common.{◌≡◌, ℕ, ◌<◌, length, Option, Some, None, sym, ◌∙◌, ap, subst, arith}
 use Rattle.grid_timetable.specs.declared.places.Place.{Place}
 use Rattle.grid_timetable.specs.declared.places.Stretch.{Stretch}
-use Rattle.grid_timetable.specs.Run.{Move, Run, sent_at, taken_at}
 use Rattle.grid_timetable.specs.History.{History, run_of, with_move, CanMove, HasMessage, IsBelow}
-use Rattle.grid_timetable.specs.Mail.{Post, HasLink, head, link}
-use Rattle.grid_timetable.specs.Ledger.{Ledger, stretch_at, tick_at, lane_at, next_place, opened, place_in, stretches_with, with_stretch, mail_sent, with_mail, settled, moved}
-use Rattle.grid_timetable.specs.Table.{IsPlaceOf, IsLink, IsLedgerOf}
+use Rattle.grid_timetable.specs.Mail.{Post, head}
+use Rattle.grid_timetable.specs.Ledger.{Ledger, opened, place_in, with_stretch, mail_sent, with_mail, settled}
+use Rattle.grid_timetable.specs.Table.{IsLedgerOf}
 use Rattle.grid_timetable.specs.Adding.{move_of}
-use Rattle.grid_timetable.specs.Reading.{CanRead, CanReadNext, CanTake, CanSend, CanOpen, CanSettle}
+use Rattle.grid_timetable.specs.Reading.{CanRead, CanTake, CanSend, CanOpen, CanSettle}
 use Rattle.grid_timetable.proofs.LedgerLemmas.{count-sent}
 use Rattle.grid_timetable.proofs.FirstLemmas.{read_place, read_next, few_moves, short_enough}
 use Rattle.grid_timetable.proofs.StepLemmas.{chosen_behind, chosen_there, chosen_at, soon_enough, ledger_moved}

@@ -1,5 +1,5 @@
 -- Rows of small runs.
-use Rattle.std.proofs.Common.{◌≡◌, ℕ, ◌-◌, ◌*◌, List, get_or, [], ◌∷◌, Option, Some, None, refl}
+use Rattle.std.proofs.Common.{◌≡◌, ℕ, ◌-◌, ◌*◌, List, get_or, [], ◌∷◌, Some, None, refl}
 use Rattle.grid_timetable.specs.declared.segments.Segment.{Segment}
 use Rattle.grid_timetable.specs.Run.{Move, Run, sent_at, taken_at, length_of}
 use Rattle.grid_timetable.specs.Chain.{chain_length, IsTimed, Joined, Follows}

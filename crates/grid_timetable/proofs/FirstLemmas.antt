@@ -1,5 +1,5 @@
 -- The table without moves; and what the steps of a table ask of it.
-use Rattle.std.proofs.Common.{◌≡◌, ◌⊎◌, ℕ, zero, suc, ◌+◌, ◌*◌, ◌^◌, ◌<◌, ◌≤◌, ◌==◌, List, [], ◌∷◌, ◌++◌, length, get_or, replicate, Option, Some, None, refl, sym, ◌∙◌, ap, subst, inl, inr, arith, length-append}
+use Rattle.std.proofs.Common.{◌≡◌, ◌⊎◌, ℕ, zero, suc, ◌+◌, ◌*◌, ◌^◌, ◌<◌, ◌≤◌, ◌==◌, List, [], ◌∷◌, ◌++◌, length, Some, refl, sym, ◌∙◌, ap, subst, inl, inr, arith, length-append}
 use Rattle.std.proofs.lemmas.Bool.{cases_lt}
 use Rattle.std.proofs.lemmas.List.Sums.{length-filter, count_by-le-length}
 use Rattle.std.proofs.lemmas.List.{get_or-replicate, length-replicate, get_or_push}
@@ -9,13 +9,12 @@ use Rattle.std.specs.List.{slice_get}
 use Rattle.grid_timetable.specs.declared.places.Place.{Place}
 use Rattle.grid_timetable.specs.declared.places.Stretch.{Stretch}
 use Rattle.grid_timetable.specs.declared.places.Lane.{Lane}
-use Rattle.grid_timetable.specs.Run.{Move, Run, sent_at, taken_at, IsTimetable, IsEarliest, IsLeastLength, greatest, length_of, end_of_last}
-use Rattle.grid_timetable.specs.History.{History, run_of, moves_by, no_moves, CanMove, IsBelow}
-use Rattle.grid_timetable.specs.Mail.{Post, IsPost, HasLink, head, link, no_mail}
-use Rattle.grid_timetable.specs.Ledger.{Ledger, stretch_at, tick_in, tick_at, lane_at, next_place, no_stretch, no_lane}
-use Rattle.grid_timetable.specs.Table.{IsPlaceOf, IsCaused, IsStretch, IsLane, IsLink, IsLedgerOf}
-use Rattle.grid_timetable.specs.Adding.{move_of}
-use Rattle.grid_timetable.specs.Reading.{CanRead, CanReadNext, CanTake, CanSend, CanOpen, AreFirstLanes, first_lane, AreFirstStretches, first_stretch}
+use Rattle.grid_timetable.specs.Run.{Run, IsTimetable, IsLeastLength, greatest}
+use Rattle.grid_timetable.specs.History.{History, run_of, moves_by, no_moves}
+use Rattle.grid_timetable.specs.Mail.{no_mail}
+use Rattle.grid_timetable.specs.Ledger.{Ledger, stretch_at, tick_in, lane_at, no_stretch, no_lane}
+use Rattle.grid_timetable.specs.Table.{IsPlaceOf, IsCaused, IsLane, IsLink, IsLedgerOf}
+use Rattle.grid_timetable.specs.Reading.{CanRead, CanReadNext, AreFirstLanes, first_lane, AreFirstStretches, first_stretch}
 use Rattle.grid_timetable.proofs.MailLemmas.{number-below}
 use Rattle.grid_timetable.proofs.LengthLemmas.{earliest-least, end-within, tick-within}
 

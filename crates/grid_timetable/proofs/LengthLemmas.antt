@@ -1,7 +1,7 @@
 -- Lengths of timetables.
-use Rattle.std.proofs.Common.{◌≡◌, ◌≢◌, ◌⊎◌, ℕ, zero, suc, ◌+◌, ◌-◌, ◌*◌, ◌<◌, ◌≤◌, max, List, [], ◌∷◌, ◌++◌, length, Option, Some, None, refl, sym, ◌∙◌, ap, ap₂, subst, inl, inr, arith}
+use Rattle.std.proofs.Common.{◌≡◌, ◌≢◌, ◌⊎◌, ℕ, zero, suc, ◌+◌, ◌<◌, ◌≤◌, max, length, refl, sym, ◌∙◌, ap, ap₂, subst, inl, inr, arith}
 use Rattle.std.proofs.Math.Nat.{max-eq_right}
-use Rattle.std.proofs.lemmas.Bool.{cases_lt, cases_eq}
+use Rattle.std.proofs.lemmas.Bool.{cases_eq}
 use Rattle.grid_timetable.specs.Run.{Move, Run, IsTimetable, IsEarliest, IsLeastLength, end_of, greatest, length_of, behind, end_of_last}
 use Rattle.grid_timetable.proofs.RunLemmas.{HasMore, length-made, length-others, with_tick, with_tick-new, with_tick-other, with_tick-before, next_number}
 

@@ -1,5 +1,5 @@
 -- One link changes, and the others stay; and what stands for the queues where one is changed.
-use Rattle.std.proofs.Common.{◌≡◌, ◌≢◌, ◌⊎◌, ℕ, ◌+◌, ◌*◌, ◌<◌, ◌≤◌, List, [], ◌∷◌, ◌++◌, length, set, get_or, drop, refl, sym, ◌∙◌, ap, subst, inl, inr, arith, length-set, get_or-set_same, append-nil}
+use Rattle.std.proofs.Common.{◌≡◌, ◌≢◌, ℕ, ◌+◌, ◌*◌, ◌<◌, ◌≤◌, List, [], length, set, get_or, sym, ◌∙◌, ap, subst, arith, length-set, get_or-set_same}
 use Rattle.std.proofs.lemmas.List.{get_or-map, map-set, set-get_or, length-map, get_or-set_other}
 use Rattle.std.proofs.Math.Nat.{mul-le-mul_right}
 use Rattle.std.specs.Vec.{with_item}
@@ -7,7 +7,7 @@ use Rattle.std.specs.declared.collections.VecDeque.{VecDeque}
 use Rattle.std.specs.declared.alloc.Global.{Global}
 use Rattle.grid_timetable.specs.declared.places.Place.{Place}
 use Rattle.grid_timetable.specs.declared.mail.Mail.TheInside.{Inside}
-use Rattle.grid_timetable.specs.Mail.{Links, Post, IsPost, HasLink, link, link_of, link_number, with_link, sending, taking}
+use Rattle.grid_timetable.specs.Mail.{Links, Post, IsPost, HasLink, link, link_of, link_number, with_link}
 use Rattle.grid_timetable.specs.Post.{post_of}
 
 -- ---- numbers of links

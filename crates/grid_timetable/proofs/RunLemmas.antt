@@ -1,12 +1,12 @@
 -- A run with one move more, and the tick that the move stands at.
-use Rattle.std.proofs.Common.{◌≡◌, ◌⊎◌, ℕ, zero, suc, ◌+◌, ◌-◌, ◌<◌, ◌≤◌, ◌==◌, ◌&&◌, max, Bool, true, false, cond, List, [], ◌∷◌, ◌++◌, length, Option, Some, None, refl, sym, ◌∙◌, ap, ap₂, subst, inl, inr, arith, append-nil, length-append, eqb-true}
-use Rattle.std.proofs.lemmas.Bool.{cases_lt, cases_eq, eqb-false, ne_eqb, eq-eqb, cond-true, cond-false}
+use Rattle.std.proofs.Common.{◌≡◌, ◌⊎◌, ℕ, zero, suc, ◌+◌, ◌<◌, ◌≤◌, ◌==◌, ◌&&◌, Bool, true, false, cond, List, [], ◌∷◌, ◌++◌, length, Option, Some, None, refl, sym, ◌∙◌, ap, subst, inl, inr, arith, append-nil, length-append, eqb-true}
+use Rattle.std.proofs.lemmas.Bool.{cases_lt, cases_eq, ne_eqb, eq-eqb, cond-true, cond-false}
 use Rattle.std.proofs.lemmas.List.Elements.{filter-append}
 use Rattle.std.proofs.lemmas.Option.{slice_get_within, slice_get-get_or}
 use Rattle.std.specs.List.{slice_get}
-use Rattle.grid_timetable.specs.Run.{Move, Run, is_named, sends_to, takes_from, numbers_from, sent_at, taken_at, IsTimetable, IsEarliest, end_of, greatest, length_of, behind, end_of_last}
-use Rattle.grid_timetable.specs.History.{History, run_of, with_move, moves_by}
-use Rattle.grid_timetable.proofs.NumberLemmas.{IsBetween, numbers-within, IsLastNumber, numbers-cases, numbers-kept, numbers-last}
+use Rattle.grid_timetable.specs.Run.{Move, Run, is_named, sends_to, takes_from, numbers_from, sent_at, taken_at, IsTimetable, IsEarliest, behind, end_of_last}
+use Rattle.grid_timetable.specs.History.{History, run_of, with_move}
+use Rattle.grid_timetable.proofs.NumberLemmas.{numbers-within, IsLastNumber, numbers-cases, numbers-kept, numbers-last}
 
 -- the other run has this move more
 pub record HasMore (run other : Run) (move : Move) : Type 0 where

@@ -1,21 +1,21 @@
 -- The ledger of the moves so far with a move more is the ledger of all.
-use Rattle.std.proofs.Common.{◌≡◌, ◌⊎◌, ℕ, zero, suc, ◌+◌, ◌-◌, ◌*◌, ◌<◌, ◌≤◌, ◌==◌, ◌&&◌, max, nat_lt, Bool, true, false, cond, List, [], ◌∷◌, ◌++◌, length, drop, get_or, set, Option, Some, None, refl, sym, ◌∙◌, ap, ap₂, subst, inl, inr, arith, append-nil, length-append, length-set, length-drop, ltb-true, ltb-false, eqb-true, get_or-set_same}
-use Rattle.std.proofs.lemmas.Bool.{cases_lt, cases_eq, cases_Bool, eqb-false, ne_eqb, eq-eqb, and_parts, and_right, and_left}
+use Rattle.std.proofs.Common.{◌≡◌, ◌⊎◌, ℕ, zero, suc, ◌+◌, ◌-◌, ◌<◌, ◌≤◌, ◌==◌, max, nat_lt, Bool, true, false, cond, List, [], ◌∷◌, ◌++◌, length, drop, get_or, set, Option, Some, None, refl, sym, ◌∙◌, ap, ap₂, subst, inl, inr, arith, length-append, length-set, length-drop, ltb-true, ltb-false, eqb-true, get_or-set_same}
+use Rattle.std.proofs.lemmas.Bool.{cases_lt, cases_eq, and_parts}
 use Rattle.std.proofs.lemmas.List.{get_or-set_other, get_or-append_right}
 use Rattle.std.proofs.Math.ListN.{get_or-append}
-use Rattle.std.proofs.lemmas.Option.{slice_get_within, slice_get-get_or}
+use Rattle.std.proofs.lemmas.Option.{slice_get-get_or}
 use Rattle.std.specs.List.{slice_get}
 use Rattle.grid_timetable.specs.declared.places.Place.{Place}
 use Rattle.grid_timetable.specs.declared.places.Stretch.{Stretch}
 use Rattle.grid_timetable.specs.declared.places.Lane.{Lane}
-use Rattle.grid_timetable.specs.Run.{Move, Run, is_named, sends_to, takes_from, numbers_from, sent_at, taken_at, IsEarliest, length_of, behind, end_of_last}
+use Rattle.grid_timetable.specs.Run.{Move, Run, is_named, sends_to, takes_from, sent_at, taken_at, behind, end_of_last}
 use Rattle.grid_timetable.specs.History.{History, run_of, with_move, CanMove, HasMessage, IsBelow}
-use Rattle.grid_timetable.specs.Mail.{Post, IsPost, Links, link, head, sending, taking, link_of}
-use Rattle.grid_timetable.specs.Ledger.{Ledger, stretch_at, tick_in, tick_at, lane_at, next_in, next_place, arrival, stretch_behind, where_late, late, opened, place_in, stretches_with, with_stretch, mail_sent, mail_taken, with_mail, settled, moved, no_stretch, no_lane}
+use Rattle.grid_timetable.specs.Mail.{link, head}
+use Rattle.grid_timetable.specs.Ledger.{Ledger, stretch_at, tick_in, tick_at, lane_at, next_place, arrival, stretch_behind, where_late, late, opened, place_in, stretches_with, mail_sent, mail_taken, moved, no_stretch, no_lane}
 use Rattle.grid_timetable.specs.Table.{IsPlaceOf, IsJoined, IsCaused, IsStretch, IsLane, IsLetter, IsLink, IsLedgerOf}
 use Rattle.grid_timetable.specs.Adding.{move_of}
-use Rattle.grid_timetable.proofs.NumberLemmas.{slice_get-append, slice_get-behind, slice_get-drop, number_where, numbers-push, numbers-within}
-use Rattle.grid_timetable.proofs.RunLemmas.{HasMore, HasMore-with_move, at-kept, length-made, length-others, length-grows, with_tick, with_tick-new, with_tick-other, with_tick-old, next_number, Takes, IsFit, earliest-more, new_number}
+use Rattle.grid_timetable.proofs.NumberLemmas.{slice_get-append, slice_get-behind, slice_get-drop, number_where, numbers-within}
+use Rattle.grid_timetable.proofs.RunLemmas.{HasMore, HasMore-with_move, at-kept, length-made, length-others, length-grows, with_tick, with_tick-new, with_tick-old, next_number, Takes, IsFit, earliest-more, new_number}
 use Rattle.grid_timetable.proofs.LengthLemmas.{end-within, tick-within, length-more}
 use Rattle.grid_timetable.proofs.LedgerLemmas.{letter_where, is_sent, is_taken, link-moved, IsPost-sent, IsPost-taken, count-sent, count-taken, numbers-moved, length-moved}
 

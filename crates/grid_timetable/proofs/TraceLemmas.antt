@@ -1,19 +1,18 @@
 -- From a chain's last move back to its first one.
-use Rattle.std.proofs.Common.{◌≡◌, ◌≢◌, ◌⊎◌, ℕ, zero, suc, ◌+◌, ◌-◌, ◌*◌, ◌^◌, ◌<◌, ◌≤◌, List, [], ◌∷◌, ◌++◌, length, reverse, sum_by, All, Option, Some, None, refl, sym, ◌∙◌, ap, ap₂, subst, inl, inr, arith, append_assoc, append-nil, length-append}
+use Rattle.std.proofs.Common.{◌≡◌, ◌≢◌, ℕ, zero, suc, ◌+◌, ◌-◌, ◌<◌, ◌≤◌, List, [], ◌∷◌, ◌++◌, length, reverse, sum_by, All, Option, Some, None, refl, sym, ◌∙◌, ap, subst, arith, append_assoc, append-nil, length-append}
 use Rattle.std.proofs.lemmas.List.Sums.{sum_by-append}
 use Rattle.std.proofs.lemmas.List.Elements.{All-append, All-from_recursion}
 use Rattle.std.proofs.lemmas.Grind.{reverse_onto}
 use Rattle.std.specs.List.{slice_get}
 use Rattle.grid_timetable.specs.declared.places.Place.{Place}
 use Rattle.grid_timetable.specs.declared.places.Stretch.{Stretch}
-use Rattle.grid_timetable.specs.declared.places.Lane.{Lane}
 use Rattle.grid_timetable.specs.declared.segments.Segment.{Segment}
-use Rattle.grid_timetable.specs.Run.{Run, sent_at, taken_at, IsEarliest, behind, end_of_last, length_of}
+use Rattle.grid_timetable.specs.Run.{Run, sent_at, taken_at, behind, end_of_last}
 use Rattle.grid_timetable.specs.History.{History, run_of}
 use Rattle.grid_timetable.specs.Chain.{IsSegment, Follows, Joined, IsChain, moves_in, chain_length, StandsBehind, BeginsAtZero, IsTimed, AtLast, IsEnd, IsLongestChain}
-use Rattle.grid_timetable.specs.Ledger.{Ledger, stretch_at, tick_in, tick_at, lane_at, next_in, next_place}
-use Rattle.grid_timetable.specs.Table.{IsPlaceOf, IsJoined, IsCaused, IsStretch, IsLane, IsLedgerOf}
-use Rattle.grid_timetable.specs.Trace.{segment_to, cause_of, IsTrace, Begins, Waits, IsTraceOf, AreCaused, IsLastProcessor, last_place, IsLastPlace}
+use Rattle.grid_timetable.specs.Ledger.{Ledger, stretch_at, tick_at, lane_at, next_place}
+use Rattle.grid_timetable.specs.Table.{IsPlaceOf, IsJoined, IsCaused, IsStretch, IsLedgerOf}
+use Rattle.grid_timetable.specs.Trace.{segment_to, cause_of, IsTrace, Begins, Waits, IsTraceOf, AreCaused, last_place, IsLastPlace}
 use Rattle.grid_timetable.proofs.LengthLemmas.{no_last}
 use Rattle.grid_timetable.proofs.FirstLemmas.{least_length}
 

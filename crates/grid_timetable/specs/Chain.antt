@@ -10,7 +10,7 @@
 --   IsTimed         the first segment is at tick 0, and each later one stands behind the one before
 --   IsEnd           the last move of the least processor whose last move ends at so many ticks
 --   IsLongestChain  a chain as long as the shortest timetable
-use Rattle.std.specs.Prelude.{◌≡◌, ◌≢◌, ℕ, ◌+◌, ◌-◌, ◌*◌, ◌<◌, ◌≤◌, List, [], ◌∷◌, ◌++◌, length, All, sum_by}
+use Rattle.std.specs.Prelude.{◌≡◌, ◌≢◌, ℕ, ◌+◌, ◌-◌, ◌*◌, ◌<◌, ◌≤◌, List, [], ◌∷◌, length, All, sum_by}
 use Rattle.grid_timetable.specs.declared.segments.Segment.{Segment}
 use Rattle.grid_timetable.specs.Run.{Run, sent_at, taken_at, IsEarliest, IsLeastLength, end_of_last}
 use Rattle.std.specs.Prelude.{Some, slice_get}

@@ -5,7 +5,7 @@
 --   run_of      the run that they are
 --   CanMove     the processors of a move are there, and the message that it takes was sent
 --   with_move   the move more
-use Rattle.std.specs.Prelude.{ℕ, ◌<◌, ◌≤◌, ◌==◌, List, [], ◌∷◌, ◌++◌, length, Option, Some, None}
+use Rattle.std.specs.Prelude.{ℕ, ◌<◌, ◌==◌, List, [], ◌∷◌, ◌++◌, length, Option, Some, None}
 use Rattle.std.specs.List.{filter}
 use Rattle.grid_timetable.specs.Run.{Move, Run, sent_at, taken_at}
 

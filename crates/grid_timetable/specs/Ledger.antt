@@ -7,7 +7,7 @@
 --   opened      the stretch that a move opens, where it takes a message that comes too late to go
 --               on
 --   moved       the ledger with a move more
-use Rattle.std.specs.Prelude.{ℕ, ◌+◌, ◌-◌, max, Bool, true, false, nat_lt, List, [], ◌∷◌, ◌++◌, length, replicate, Option, Some, None, slice_index_or, slice_set}
+use Rattle.std.specs.Prelude.{ℕ, ◌+◌, ◌-◌, max, Bool, true, false, nat_lt, List, [], ◌∷◌, ◌++◌, length, Option, Some, None, slice_index_or, slice_set}
 use Rattle.grid_timetable.specs.declared.places.Place.{Place}
 use Rattle.grid_timetable.specs.declared.places.Stretch.{Stretch}
 use Rattle.grid_timetable.specs.declared.places.Lane.{Lane}

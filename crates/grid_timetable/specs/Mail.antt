@@ -6,7 +6,7 @@
 --   link_of           what is on a link
 --   with_link         that one link anew, all others as they were
 --   sending, taking   a message more at the end of a link; the oldest one gone
-use Rattle.std.specs.Prelude.{◌≡◌, ℕ, ◌+◌, ◌*◌, ◌<◌, List, [], ◌∷◌, ◌++◌, length, drop, replicate, Option, Some, None, slice_get, slice_index_or, slice_set}
+use Rattle.std.specs.Prelude.{◌≡◌, ℕ, ◌+◌, ◌*◌, ◌<◌, List, [], ◌∷◌, ◌++◌, length, drop, replicate, Option, slice_get, slice_index_or, slice_set}
 use Rattle.grid_timetable.specs.declared.places.Place.{Place}
 
 abbrev pub Links : Type 0

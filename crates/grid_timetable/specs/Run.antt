@@ -12,7 +12,7 @@
 --   IsLeastLength    the length of some timetable, no timetable being shorter
 --   IsEarliest       a timetable in which no move stands later than in any other one
 --   end_of_last      the tick behind the last move of a processor, or 0 where it has none
-use Rattle.std.specs.Prelude.{◌≡◌, ℕ, zero, suc, ◌+◌, ◌<◌, ◌≤◌, ◌==◌, max, Bool, true, false, cond, List, [], ◌∷◌, length, Option, Some, None, slice_get}
+use Rattle.std.specs.Prelude.{◌≡◌, ℕ, zero, suc, ◌+◌, ◌<◌, ◌≤◌, ◌==◌, max, Bool, false, cond, List, [], ◌∷◌, length, Option, Some, None, slice_get}
 
 pub record Move : Type 0 where
   pub processor : ℕ

@@ -8,17 +8,15 @@
 --   IsLane      how many moves a processor has made, and where the next one may stand
 --   IsLetter    the message at a place of a link was sent by that move
 --   IsTableOf   the table of these moves
-use Rattle.std.specs.Prelude.{◌≡◌, ℕ, ◌+◌, ◌*◌, ◌<◌, ◌≤◌, ◌^◌, List, length, Option, Some, None, Result, Ok, Err, slice_get}
+use Rattle.std.specs.Prelude.{◌≡◌, ℕ, ◌+◌, ◌*◌, ◌<◌, ◌≤◌, List, length, Option, Some, None, slice_get}
 use Rattle.grid_timetable.specs.declared.places.Place.{Place}
 use Rattle.grid_timetable.specs.declared.places.Stretch.{Stretch}
 use Rattle.grid_timetable.specs.declared.places.Lane.{Lane}
 use Rattle.grid_timetable.specs.declared.table.Table.{Table}
-use Rattle.grid_timetable.specs.declared.table.TableFault.{TableFault}
-use Rattle.grid_timetable.specs.declared.table.TableFault.TheVariants.{TooManyMoves, NoMemory}
-use Rattle.grid_timetable.specs.Run.{Move, Run, sent_at, taken_at, IsEarliest, length_of, end_of_last}
-use Rattle.grid_timetable.specs.History.{History, run_of, with_move, CanMove}
+use Rattle.grid_timetable.specs.Run.{Run, sent_at, taken_at, IsEarliest, length_of, end_of_last}
+use Rattle.grid_timetable.specs.History.{History, run_of}
 use Rattle.grid_timetable.specs.Mail.{IsPost, link}
-use Rattle.grid_timetable.specs.Ledger.{Ledger, ledger_of, stretch_at, tick_in, tick_at, lane_at, next_in, next_place}
+use Rattle.grid_timetable.specs.Ledger.{Ledger, ledger_of, stretch_at, tick_at, lane_at, next_in}
 
 -- ---- places and stretches, by the tick of each move
 pub record IsPlaceOf (run : Run) (tick : ℕ → ℕ → ℕ) (stretches : List Stretch) (p : ℕ)

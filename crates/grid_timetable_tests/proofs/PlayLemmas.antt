@@ -1,5 +1,5 @@
 -- Moves that may be added one after another.
-use Rattle.std.proofs.Common.{◌≡◌, ℕ, suc, ◌+◌, ◌<◌, ◌&&◌, nat_lt, Bool, true, List, [], ◌∷◌, ◌++◌, length, map, drop, get_or, Option, Some, None, refl, sym, ◌∙◌, ap, subst, arith, ltb-true}
+use Rattle.std.proofs.Common.{◌≡◌, ℕ, true, List, ◌∷◌, Option, Some, None, ltb-true}
 use Rattle.std.proofs.lemmas.Bool.{and_parts}
 use Rattle.grid_timetable.specs.declared.table.Table.{Table}
 use Rattle.grid_timetable.specs.Run.{Move, Run}
@@ -7,7 +7,7 @@ use Rattle.grid_timetable.specs.History.{History, run_of, with_move, CanMove, Is
 use Rattle.grid_timetable.specs.Table.{IsTableOf}
 use Rattle.grid_timetable.specs.Adding.{MayAdd}
 use Rattle.grid_timetable_tests.specs.declared.adding.Told.{Told}
-use Rattle.grid_timetable_tests.specs.Playing.{move_of, is_below, has_message, may_come, plays, MayPlay, IsFilled}
+use Rattle.grid_timetable_tests.specs.Playing.{move_of, is_below, has_message, may_come, MayPlay, IsFilled}
 
 below_is : (count : ℕ) (p : Option ℕ) → is_below count p ≡ true → IsBelow count p
 below_is count None e = tt

@@ -1,5 +1,5 @@
 -- Moves that may be added one after another, as a test that computes.
-use Rattle.std.specs.Prelude.{◌≡◌, ℕ, ◌<◌, ◌&&◌, nat_lt, Bool, true, false, List, [], ◌∷◌, length, map, Option, Some, None}
+use Rattle.std.specs.Prelude.{◌≡◌, ℕ, ◌<◌, ◌&&◌, nat_lt, Bool, true, List, [], ◌∷◌, length, map, Option, Some, None}
 use Rattle.grid_timetable.specs.declared.table.Table.{Table}
 use Rattle.grid_timetable.specs.Run.{Move, Run, sent_at, taken_at}
 use Rattle.grid_timetable.specs.History.{History, run_of, with_move}

@@ -1,4 +1,4 @@
-use Rattle.std.proofs.Common.{◌≡◌, ◌+◌, ◌∷◌, suc, None, drop, get_or, sym, subst, arith}
+use Rattle.std.proofs.Common.{◌≡◌, ◌+◌, ◌∷◌, suc, None, drop, get_or, subst, arith}
 use Rattle.std.proofs.Math.Seq.{drop-cons}
 use Rattle.grid_timetable_tests.specs.declared.adding.Told.{Told}
 use Rattle.grid_timetable_tests.specs.Playing.{MayPlay}

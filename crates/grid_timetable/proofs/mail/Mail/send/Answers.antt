@@ -1,5 +1,5 @@
-use Rattle.std.proofs.Common.{◌≡◌, [], ◌∷◌, ◌++◌, drop, sym, ◌∙◌, ap, subst}
-use Rattle.grid_timetable.specs.Mail.{Post, HasLink, link_number, sending, taking}
+use Rattle.std.proofs.Common.{◌≡◌, [], ◌∷◌, ◌++◌, sym, ◌∙◌, ap, subst}
+use Rattle.grid_timetable.specs.Mail.{Post, HasLink, link_number, sending}
 use Rattle.grid_timetable.specs.Post.{post_of}
 use Rattle.grid_timetable.proofs.MailLemmas.{post_of-changed, putting_same}
 use Rattle.grid_timetable.proofs.mail.Mail.send.Goals as goal

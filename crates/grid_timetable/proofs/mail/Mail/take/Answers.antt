@@ -1,7 +1,7 @@
-use Rattle.std.proofs.Common.{◌≡◌, [], ◌∷◌, ◌++◌, drop, sym, ◌∙◌, ap, subst}
-use Rattle.grid_timetable.specs.Mail.{Post, HasLink, link_number, sending, taking}
+use Rattle.std.proofs.Common.{◌≡◌, drop, sym, ◌∙◌, ap, subst}
+use Rattle.grid_timetable.specs.Mail.{Post, HasLink, link_number, taking}
 use Rattle.grid_timetable.specs.Post.{post_of}
-use Rattle.grid_timetable.proofs.MailLemmas.{post_of-changed, putting_same}
+use Rattle.grid_timetable.proofs.MailLemmas.{post_of-changed}
 use Rattle.grid_timetable.proofs.mail.Mail.take.Goals as goal
 
 pub returns : goal.returns

@@ -1,0 +1,4 @@
+//! The timetable of a run of node code.
+#![tactic(auto)]
+
+pub mod laws;
