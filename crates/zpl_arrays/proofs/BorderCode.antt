@@ -1,5 +1,5 @@
 -- What the code of borders answers, dimension by dimension.
-use Rattle.std.proofs.Common.{◌≡◌, refl, sym, ◌∙◌, ap, List, [], ◌∷◌, length, get_or, ℤ, pos}
+use Rattle.std.proofs.Common.{◌≡◌, refl, ◌∙◌, ap, List, [], ◌∷◌, length, get_or, ℤ, pos}
 use Rattle.zpl_nums.specs.declared.ends.Border.{Border}
 use Rattle.zpl_region.specs.declared.dims.Dim.{Dim}
 use Rattle.zpl_region.proofs.ListLemmas.{cons_same}

@@ -1,11 +1,8 @@
-use Rattle.std.proofs.Common.{sym, subst}
+use Rattle.std.proofs.Common.{subst}
 use Rattle.zpl_tree.specs.View.{syntax_of}
 use Rattle.zpl_names.specs.Accepted.{IsFaultless}
-use Rattle.site_faults.specs.Found.{found_in}
-use Rattle.routine_walks.specs.Texts.{IsText}
 use Rattle.routine_walks.specs.declared.texts.Text.{Text}
 use Rattle.rank_types.specs.Faults.{Holds}
-use Rattle.rank_types.specs.Judges.{HasDistinctNames, IsFoundDeclared}
 use Rattle.rank_types.proofs.JudgeLemmas.{passed}
 use Rattle.rank_types.proofs.judging.check_kept.Goals as goal
 
