@@ -11,3 +11,4 @@ pub mod StepLemmas
 pub mod ChangeLemmas
 pub mod ReadLemmas
 pub mod WholeLemmas
+pub mod InlineLemmas

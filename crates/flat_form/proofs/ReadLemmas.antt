@@ -44,12 +44,12 @@ drop_front [] ys = refl
 drop_front (x ∷ xs) ys = drop_front xs ys
 
 -- behind the first of two parts
-drop_part : {X : Type 0} (xs : List X) (n : ℕ) (ps rest : List X) → drop n xs ≡ ps ++ rest
+pub drop_part : {X : Type 0} (xs : List X) (n : ℕ) (ps rest : List X) → drop n xs ≡ ps ++ rest
     → drop (n + length ps) xs ≡ rest
 drop_part xs n ps rest e =
     drop_more xs n (length ps) ∙ (ap (drop (length ps)) e ∙ drop_front ps rest)
 
-drop_second : {X : Type 0} (xs : List X) (n : ℕ) (x : X) (rest : List X) → drop n xs ≡ x ∷ rest
+pub drop_second : {X : Type 0} (xs : List X) (n : ℕ) (x : X) (rest : List X) → drop n xs ≡ x ∷ rest
     → drop (n + 1) xs ≡ rest
 drop_second xs n x rest e = drop_more xs n 1 ∙ ap (drop 1) e
 

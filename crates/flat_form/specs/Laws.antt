@@ -6,8 +6,10 @@ use Rattle.node_form.specs.declared.tables.Tables.{Tables}
 use Rattle.node_form.specs.Fits.{Fits}
 use Rattle.row_runs.specs.Growth.{GoesOnTo}
 use Rattle.row_runs.specs.Straight.{Every}
-use Rattle.flat_form.specs.Act.{flat_run}
-use Rattle.flat_form.specs.Row.{Row, Plain, all_inlined, patched, row_with_goal, with_rows}
+use Rattle.node_form.specs.Control.{control}
+use Rattle.flat_form.specs.Act.{control_of, flat_run}
+use Rattle.flat_form.specs.Whole.{Whole, registers_of}
+use Rattle.flat_form.specs.Row.{Row, Plain, all_inlined, inlined, patched, row_with_goal, with_rows}
 
 -- A run that may make more jumps, and more turns within groups, goes on from a shorter one.
 abbrev pub Grow : Type 0
@@ -47,3 +49,9 @@ Patch =
     (tables : Tables) (row : Row) (rows : List Row) (goal : ℕ)
     → patched (with_rows tables (row ∷ rows)) (length tables.code) goal
     ≡ with_rows tables (row_with_goal goal row ∷ rows)
+
+-- Rows that need scalars and slots alone do inline what they do in their tables.
+abbrev pub ControlInline : Type 0
+ControlInline =
+    (tables : Tables) (row : Instr) (whole : Whole)
+    → control_of tables (inlined tables row) whole ≡ control tables (registers_of whole) row
