@@ -12,3 +12,4 @@ pub mod ChangeLemmas
 pub mod ReadLemmas
 pub mod WholeLemmas
 pub mod InlineLemmas
+pub mod TreeLemmas

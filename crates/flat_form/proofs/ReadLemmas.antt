@@ -24,7 +24,7 @@ use Rattle.flat_form.specs.Row.{part_inlined, part_words, patched, row_groups, r
 use Rattle.flat_form.specs.Row.{row_with_goal, row_words, with_goal, with_row, with_rows, words_at}
 
 -- ---- lists from a place on
-index_drop : {X : Type 0} (xs : List X) (n : ℕ) (x d : X) (rest : List X) → drop n xs ≡ x ∷ rest
+pub index_drop : {X : Type 0} (xs : List X) (n : ℕ) (x d : X) (rest : List X) → drop n xs ≡ x ∷ rest
     → slice_index_or xs n d ≡ x
 index_drop [] zero x d rest e = cc
 index_drop [] (suc n) x d rest e = cc
