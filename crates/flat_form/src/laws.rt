@@ -2,7 +2,8 @@
 //!
 //! Each law is the contract of a function that does nothing: a call brings the law into a proof.
 //! The statements stand in `specs/Laws`, `specs/States` and `specs/Touches`.
-ghost use Rattle.flat_form.specs.Laws.{AreInline, ControlInline, GroupsInline, Grow, Patch, ReadAgain};
+ghost use Rattle.flat_form.specs.Laws.{AreInline, ControlInline, GroupsInline, Grow};
+ghost use Rattle.flat_form.specs.Laws.{Patch, ReadAgain};
 ghost use Rattle.flat_form.specs.States.{BeginWhole, StayWhole};
 ghost use Rattle.flat_form.specs.Touches.{ChangeWritten, GoByNames};
 
