@@ -7,3 +7,4 @@ pub mod TurnLemmas
 pub mod ComeLemmas
 pub mod PartLemmas
 mod Examples
+pub mod JoinLemmas

@@ -13,28 +13,11 @@ use Rattle.nest_meaning.specs.Tree.{Reading}
 use Rattle.nest_meaning.specs.Tree.{reading, else_read, if_read, while_read, repeat_read}
 use Rattle.nest_meaning.specs.Tree.{member_read}
 use Rattle.nest_meaning.specs.Tree.{members_read, whole_tree}
+use Rattle.nest_meaning.specs.Units.{followed_by}
 use Rattle.nest_meaning.specs.Laws.{ReadsAgain, ReadsOnly}
 use Rattle.nest_meaning.proofs.Spelled.{spelled, spelled_is}
 
--- a tree with another one behind it
-abbrev followed : Nest → Nest → Nest
-followed Nothing behind = behind
-followed (Putting array expr mask line after) behind =
-    Putting array expr mask line (followed after behind)
-followed (Keeping cell expr mask line after) behind =
-    Keeping cell expr mask line (followed after behind)
-followed (Joining scalar fold expr mask line after) behind =
-    Joining scalar fold expr mask line (followed after behind)
-followed (Choosing expr mask line body after) behind =
-    Choosing expr mask line body (followed after behind)
-followed (ChoosingElse expr mask line body otherwise after) behind =
-    ChoosingElse expr mask line body otherwise (followed after behind)
-followed (Looping expr mask line body after) behind =
-    Looping expr mask line body (followed after behind)
-followed (Repeating mask line body until after) behind =
-    Repeating mask line body until (followed after behind)
-
-followed_none : (nest : Nest) → followed nest Nothing ≡ nest
+followed_none : (nest : Nest) → followed_by nest Nothing ≡ nest
 followed_none Nothing = refl
 followed_none (Putting array expr mask line after) =
     ap (Putting array expr mask line) (followed_none after)
@@ -54,7 +37,7 @@ followed_none (Repeating mask line body until after) =
 -- a tree's members in front of those that were read
 tree_read : (nest : Nest) (rest : List Member) (tree : Nest) (closings : List Closing)
     → members_read rest ≡ Some (reading tree closings)
-    → members_read (spelled nest rest) ≡ Some (reading (followed nest tree) closings)
+    → members_read (spelled nest rest) ≡ Some (reading (followed_by nest tree) closings)
 tree_read Nothing rest tree closings e = e
 tree_read (Putting array expr mask line after) rest tree closings e =
     ap (option_and_then (member_read (Put array expr mask line)))
@@ -70,40 +53,41 @@ tree_read (Choosing expr mask line body after) rest tree closings e =
     ap (option_and_then (member_read CloseIf)) (tree_read after rest tree closings e) in
     ap (option_and_then (member_read (OpenIf expr mask line)))
     (tree_read body (CloseIf ∷ spelled after rest) Nothing
-    (ClosesIf (followed after tree) ∷ closings) behind)
-    ∙ ap (λ body. Some (reading (Choosing expr mask line body (followed after tree)) closings))
+    (ClosesIf (followed_by after tree) ∷ closings) behind)
+    ∙ ap (λ body. Some (reading (Choosing expr mask line body (followed_by after tree)) closings))
     (followed_none body)
 tree_read (ChoosingElse expr mask line body otherwise after) rest tree closings e =
     let behind =
     ap (option_and_then (member_read CloseIf)) (tree_read after rest tree closings e) in
     let other = tree_read otherwise (CloseIf ∷ spelled after rest) Nothing
-    (ClosesIf (followed after tree) ∷ closings) behind in
+    (ClosesIf (followed_by after tree) ∷ closings) behind in
     let middle = ap (option_and_then (member_read Otherwise)) other in
     ap (option_and_then (member_read (OpenIf expr mask line)))
     (tree_read body (Otherwise ∷ spelled otherwise (CloseIf ∷ spelled after rest)) Nothing
-    (ClosesElse (followed otherwise Nothing) (followed after tree) ∷ closings) middle)
+    (ClosesElse (followed_by otherwise Nothing) (followed_by after tree) ∷ closings) middle)
     ∙ (ap (λ body. Some (reading
-    (ChoosingElse expr mask line body (followed otherwise Nothing) (followed after tree)) closings))
+    (ChoosingElse expr mask line body (followed_by otherwise Nothing) (followed_by after tree))
+    closings))
     (followed_none body)
     ∙ ap (λ other. Some
-    (reading (ChoosingElse expr mask line body other (followed after tree)) closings))
+    (reading (ChoosingElse expr mask line body other (followed_by after tree)) closings))
     (followed_none otherwise))
 tree_read (Looping expr mask line body after) rest tree closings e =
     let behind =
     ap (option_and_then (member_read CloseWhile)) (tree_read after rest tree closings e) in
     ap (option_and_then (member_read (OpenWhile expr mask line)))
     (tree_read body (CloseWhile ∷ spelled after rest) Nothing
-    (ClosesWhile (followed after tree) ∷ closings)
+    (ClosesWhile (followed_by after tree) ∷ closings)
     behind)
-    ∙ ap (λ body. Some (reading (Looping expr mask line body (followed after tree)) closings))
+    ∙ ap (λ body. Some (reading (Looping expr mask line body (followed_by after tree)) closings))
     (followed_none body)
 tree_read (Repeating mask line body until after) rest tree closings e =
     let behind =
     ap (option_and_then (member_read (Until until))) (tree_read after rest tree closings e) in
     ap (option_and_then (member_read (OpenRepeat mask line)))
     (tree_read body (Until until ∷ spelled after rest) Nothing
-    (ClosesRepeat until (followed after tree) ∷ closings) behind)
-    ∙ ap (λ body. Some (reading (Repeating mask line body until (followed after tree)) closings))
+    (ClosesRepeat until (followed_by after tree) ∷ closings) behind)
+    ∙ ap (λ body. Some (reading (Repeating mask line body until (followed_by after tree)) closings))
     (followed_none body)
 
 pub reads_again : ReadsAgain

@@ -1,5 +1,5 @@
 -- Two trees that do alike, each by its own ways, from like states to like ones.
-use Rattle.std.specs.Prelude.{◌≡◌, ℕ, ℤ, Option, Some, None, ⊤}
+use Rattle.std.specs.Prelude.{◌≡◌, ℕ, ℤ, Option, Some, None, List, [], ◌∷◌, ⊤}
 use Rattle.std.specs.Option.{IfSome}
 use Rattle.zpl_nums.specs.declared.folds.Fold.{Fold}
 use Rattle.node_form.specs.Nest.{Nest, Nothing, Putting, Keeping, Joining, Choosing, ChoosingElse}
@@ -33,39 +33,44 @@ way_of ways (KeepLeaf cell) = ways.keep cell
 way_of ways (JoinLeaf scalar fold) = ways.join scalar fold
 
 module _ {P Q : Type 0} (IsLike : P → Q → Type 0) (a : Ways P) (b : Ways Q) where
-  pub record AreValues (expr fxpr : ℕ) : Type 0 where
-    pub same : (p : P) (q : Q) → IsLike p q → a.value p expr ≡ b.value q fxpr
+  pub record AreValues (expr expr' : ℕ) : Type 0 where
+    pub same : (p : P) (q : Q) → IsLike p q → a.value p expr ≡ b.value q expr'
 
   pub data AreMasks : Option ℕ → Option ℕ → Type 0 where
     NoMasks : AreMasks None None
-    Masks : {expr fxpr : ℕ} → AreValues expr fxpr → AreMasks (Some expr) (Some fxpr)
+    Masks : {expr expr' : ℕ} → AreValues expr expr' → AreMasks (Some expr) (Some expr')
 
-  pub record AreLeaves (leaf meaf : Leaf) : Type 0 where
+  pub record AreLeaves (leaf leaf' : Leaf) : Type 0 where
     pub steps : (v : ℤ) (p : P) (q : Q) → IsLike p q
-        → AreBoth IsLike (way_of a leaf v p) (way_of b meaf v q)
+        → AreBoth IsLike (way_of a leaf v p) (way_of b leaf' v q)
 
   -- trees of the same shape; a leaf may be of another kind than its partner, as a cell that is kept
   -- where an array was put
   pub data AreNests : Nest → Nest → Type 0 where
     BothNothing : AreNests Nothing Nothing
-    Leaves : {leaf meaf : Leaf} {expr fxpr : ℕ} {mask nask : Option ℕ} (line mine : ℕ)
-        {after bfter : Nest} → AreMasks mask nask → AreValues expr fxpr → AreLeaves leaf meaf
-        → AreNests after bfter
-        → AreNests (leafed leaf expr mask line after) (leafed meaf fxpr nask mine bfter)
-    Ifs : {expr fxpr line mine : ℕ} {mask nask : Option ℕ} {body cody after bfter : Nest}
-        → AreMasks mask nask → AreValues expr fxpr → AreNests body cody → AreNests after bfter
-        → AreNests (Choosing expr mask line body after) (Choosing fxpr nask mine cody bfter)
-    Elses : {expr fxpr line mine : ℕ} {mask nask : Option ℕ}
-        {body cody other pther after bfter : Nest} → AreMasks mask nask → AreValues expr fxpr
-        → AreNests body cody → AreNests other pther → AreNests after bfter
+    Leaves : {leaf leaf' : Leaf} {expr expr' : ℕ} {mask mask' : Option ℕ} (line line' : ℕ)
+        {after after' : Nest} → AreMasks mask mask' → AreValues expr expr' → AreLeaves leaf leaf'
+        → AreNests after after'
+        → AreNests (leafed leaf expr mask line after) (leafed leaf' expr' mask' line' after')
+    Ifs : {expr expr' line line' : ℕ} {mask mask' : Option ℕ} {body body' after after' : Nest}
+        → AreMasks mask mask' → AreValues expr expr' → AreNests body body' → AreNests after after'
+        → AreNests (Choosing expr mask line body after) (Choosing expr' mask' line' body' after')
+    Elses : {expr expr' line line' : ℕ} {mask mask' : Option ℕ}
+        {body body' other other' after after' : Nest} → AreMasks mask mask' → AreValues expr expr'
+        → AreNests body body' → AreNests other other' → AreNests after after'
         → AreNests (ChoosingElse expr mask line body other after)
-        (ChoosingElse fxpr nask mine cody pther bfter)
-    Whiles : {expr fxpr line mine : ℕ} {mask nask : Option ℕ} {body cody after bfter : Nest}
-        → AreMasks mask nask → AreValues expr fxpr → AreNests body cody → AreNests after bfter
-        → AreNests (Looping expr mask line body after) (Looping fxpr nask mine cody bfter)
-    Repeats : {expr fxpr line mine : ℕ} {mask nask : Option ℕ} {body cody after bfter : Nest}
-        → AreMasks mask nask → AreValues expr fxpr → AreNests body cody → AreNests after bfter
-        → AreNests (Repeating mask line body expr after) (Repeating nask mine cody fxpr bfter)
+        (ChoosingElse expr' mask' line' body' other' after')
+    Whiles : {expr expr' line line' : ℕ} {mask mask' : Option ℕ} {body body' after after' : Nest}
+        → AreMasks mask mask' → AreValues expr expr' → AreNests body body' → AreNests after after'
+        → AreNests (Looping expr mask line body after) (Looping expr' mask' line' body' after')
+    Repeats : {expr expr' line line' : ℕ} {mask mask' : Option ℕ} {body body' after after' : Nest}
+        → AreMasks mask mask' → AreValues expr expr' → AreNests body body' → AreNests after after'
+        → AreNests (Repeating mask line body expr after) (Repeating mask' line' body' expr' after')
+
+  pub data AreUnits : List Nest → List Nest → Type 0 where
+    NoUnits : AreUnits [] []
+    MoreUnits : {unit unit' : Nest} {units units' : List Nest} → AreNests unit unit'
+        → AreUnits units units' → AreUnits (unit ∷ units) (unit' ∷ units')
 
   -- ---- one tree by two ways: what is read and written in it is alike
   abbrev pub IsSame : ℕ → Type 0

@@ -1,12 +1,12 @@
 -- The laws of trees of members.
-use Rattle.std.specs.Prelude.{◌≡◌, ℕ, suc, ◌^◌, ◌≤◌, Some, List, map}
+use Rattle.std.specs.Prelude.{◌≡◌, ◌≢◌, ℕ, suc, ◌^◌, ◌≤◌, Some, List, ◌++◌, map}
 use Rattle.node_form.specs.declared.members.Member.{Member}
 use Rattle.node_form.specs.declared.tables.Tables.{Tables}
 use Rattle.node_form.specs.Nest.{Nest, members_of}
 use Rattle.node_form.specs.Group.{Access, Point, ran_from, units}
-use Rattle.nest_meaning.specs.Nested.{Ways, Wants, nested, ways_of}
-use Rattle.nest_meaning.specs.Units.{units_of, units_told, told_of}
-use Rattle.nest_meaning.specs.Alike.{AreTold, AreNests, IsNestSame}
+use Rattle.nest_meaning.specs.Nested.{Ways, Wants, then_do, nested, ways_of}
+use Rattle.nest_meaning.specs.Units.{units_of, units_told, told_of, followed_by}
+use Rattle.nest_meaning.specs.Alike.{AreTold, AreNests, AreUnits, IsNestSame}
 use Rattle.nest_meaning.specs.Tree.{nest_of}
 use Rattle.nest_meaning.specs.Turns.{Come, firsts, loops_in}
 
@@ -24,13 +24,19 @@ Grow {P = P} ways =
 module _ {P Q : Type 0} (IsLike : P → Q → Type 0) where
   abbrev pub DoAlike : Type 0
   DoAlike =
-      (a : Ways P) (b : Ways Q) (n : ℕ) (nest oest : Nest) → AreNests IsLike a b nest oest
-      → (p : P) (q : Q) → IsLike p q → AreTold IsLike (nested a n nest p) (nested b n oest q)
+      (a : Ways P) (b : Ways Q) (n : ℕ) (nest nest' : Nest) → AreNests IsLike a b nest nest'
+      → (p : P) (q : Q) → IsLike p q → AreTold IsLike (nested a n nest p) (nested b n nest' q)
 
   abbrev pub DoesAlike : Type 0
   DoesAlike =
       (a : Ways P) (b : Ways Q) (n : ℕ) (nest : Nest) → IsNestSame IsLike a b nest
       → (p : P) (q : Q) → IsLike p q → AreTold IsLike (nested a n nest p) (nested b n nest q)
+
+-- the units of two trees are alike
+abbrev pub HaveLikeUnits : {P Q : Type 0} → (P → Q → Type 0) → Type 0
+HaveLikeUnits {P = P} {Q = Q} IsLike =
+    (a : Ways P) (b : Ways Q) (nest nest' : Nest) → AreNests IsLike a b nest nest'
+    → AreUnits IsLike a b (units_of nest) (units_of nest')
 
 -- a tree does what its units do, one after another
 abbrev pub DoUnits : {P : Type 0} → Ways P → Type 0
@@ -58,3 +64,25 @@ ReadsOnly =
 -- the units of a tree are spelled as the units of its members
 abbrev pub UnitsAreSpelled : Type 0
 UnitsAreSpelled = (nest : Nest) → units (members_of nest) ≡ map members_of (units_of nest)
+
+-- ---- a tree with another one behind it: what it does, its members and its units
+abbrev pub DoBoth : {P : Type 0} → Ways P → Type 0
+DoBoth {P = P} ways =
+    (n : ℕ) (first second : Nest) (p : P)
+    → nested ways n (followed_by first second) p
+    ≡ then_do (nested ways n second) (nested ways n first p)
+
+abbrev pub JoinMembers : Type 0
+JoinMembers =
+    (first second : Nest)
+    → members_of (followed_by first second) ≡ members_of first ++ members_of second
+
+abbrev pub JoinUnits : Type 0
+JoinUnits =
+    (first second : Nest)
+    → units_of (followed_by first second) ≡ units_of first ++ units_of second
+
+-- ---- without loops a tree wants nothing, whatever the bound is
+abbrev pub WantNothing : {P : Type 0} → Ways P → Type 0
+WantNothing {P = P} ways =
+    (n : ℕ) (nest : Nest) (p : P) → loops_in nest ≡ 0 → nested ways n nest p ≢ Wants

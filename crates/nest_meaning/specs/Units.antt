@@ -49,3 +49,21 @@ abbrev pub told_of : {P : Type 0} → UnitsTold P → Told P
 told_of (UnitsDone p flag) = flag_told p flag
 told_of UnitsWant = Wants
 told_of UnitsLost = Lost
+
+-- ---- a tree with another one behind it
+abbrev pub followed_by : Nest → Nest → Nest
+followed_by Nothing behind = behind
+followed_by (Putting array expr mask line after) behind =
+    Putting array expr mask line (followed_by after behind)
+followed_by (Keeping cell expr mask line after) behind =
+    Keeping cell expr mask line (followed_by after behind)
+followed_by (Joining scalar fold expr mask line after) behind =
+    Joining scalar fold expr mask line (followed_by after behind)
+followed_by (Choosing expr mask line body after) behind =
+    Choosing expr mask line body (followed_by after behind)
+followed_by (ChoosingElse expr mask line body otherwise after) behind =
+    ChoosingElse expr mask line body otherwise (followed_by after behind)
+followed_by (Looping expr mask line body after) behind =
+    Looping expr mask line body (followed_by after behind)
+followed_by (Repeating mask line body until after) behind =
+    Repeating mask line body until (followed_by after behind)

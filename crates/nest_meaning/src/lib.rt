@@ -9,5 +9,5 @@ mod laws;
 
 pub use laws::{
     like_trees_do_alike, members_are_read_as_trees, members_come_to_the_same, more_turns_go_on,
-    trees_do_their_units,
+    trees_do_both, trees_do_their_units,
 };

@@ -86,48 +86,48 @@ module _ {Row : Type 0} (ends : Row → Bool) (is_goal : ℕ → Bool) where
       by false false f (suc h) start same = later_start row (cut ends is_goal (at + 1) rows) h start
 
 -- ---- passes
-module _ {S T Old New : Type 0} (act : Old → S → Effect S) (bct : New → T → Effect T)
+module _ {S T Old New : Type 0} (act : Old → S → Effect S) (act' : New → T → Effect T)
     (IsLike : S → T → Type 0)
     (rewrite : List Old → List New) (retarget : (ℕ → ℕ) → Old → New) where
-  stretch_alike : (moved : ℕ → ℕ) (IsGoal : ℕ → ℕ → Type 0) (stretch : Stretch Old) (at bt : ℕ)
-      → IsRewritten act bct IsLike rewrite retarget moved IsGoal stretch
+  stretch_alike : (moved : ℕ → ℕ) (IsGoal : ℕ → ℕ → Type 0) (stretch : Stretch Old) (at at' : ℕ)
+      → IsRewritten act act' IsLike rewrite retarget moved IsGoal stretch
       → IsGoal (at + length (rows_of stretch))
-      (bt + length (rewritten_by rewrite retarget moved stretch).new)
-      → AreAlike act bct IsLike IsGoal (rewritten_by rewrite retarget moved stretch) at bt
-  stretch_alike moved IsGoal stretch at bt is next = by stretch.last refl
+      (at' + length (rewritten_by rewrite retarget moved stretch).new)
+      → AreAlike act act' IsLike IsGoal (rewritten_by rewrite retarget moved stretch) at at'
+  stretch_alike moved IsGoal stretch at at' is next = by stretch.last refl
     where
       by : (last : Option Old) → stretch.last ≡ last
-          → AreAlike act bct IsLike IsGoal (rewritten_by rewrite retarget moved stretch) at bt
+          → AreAlike act act' IsLike IsGoal (rewritten_by rewrite retarget moved stretch) at at'
       by None e =
-          subst (λ l. AreAlike act bct IsLike IsGoal
+          subst (λ l. AreAlike act act' IsLike IsGoal
           (record {
             old = stretch.front ++ as_list l;
             new = rewrite stretch.front ++ as_list
                 (option_map (retarget moved) l);
-          }) at bt) (sym e)
-          (straight_alike act bct IsLike IsGoal _ at bt
+          }) at at') (sym e)
+          (straight_alike act act' IsLike IsGoal _ at at'
           (subst (Every (IsStraight act)) (sym (no_more stretch.front)) is.old)
-          (subst (Every (IsStraight bct)) (sym (no_more (rewrite stretch.front))) is.new)
+          (subst (Every (IsStraight act')) (sym (no_more (rewrite stretch.front))) is.new)
           (λ s t like. subst
-          (λ r. Tied IsLike (through act r s) (through bct (rewrite stretch.front ++ []) t))
+          (λ r. Tied IsLike (through act r s) (through act' (rewrite stretch.front ++ []) t))
           (sym (no_more stretch.front))
-          (subst (λ r. Tied IsLike (through act stretch.front s) (through bct r t))
+          (subst (λ r. Tied IsLike (through act stretch.front s) (through act' r t))
           (sym (no_more (rewrite stretch.front))) (is.ties s t like))))
         where
           no_more : {X : Type 0} (xs : List X) → xs ++ [] ≡ xs
           no_more [] = refl
           no_more (x ∷ xs) = ap (λ r. x ∷ r) (no_more xs)
       by (Some row) e =
-          subst (λ l. AreAlike act bct IsLike IsGoal
+          subst (λ l. AreAlike act act' IsLike IsGoal
           (record {
             old = stretch.front ++ as_list l;
             new = rewrite stretch.front ++ as_list
                 (option_map (retarget moved) l);
-          }) at bt) (sym e)
-          (ended_alike act bct IsLike IsGoal stretch.front (rewrite stretch.front) row
-          (retarget moved row) at bt is.old is.new is.ties
+          }) at at') (sym e)
+          (ended_alike act act' IsLike IsGoal stretch.front (rewrite stretch.front) row
+          (retarget moved row) at at' is.old is.new is.ties
           (λ s t like. is.last row e (at + length stretch.front)
-          (bt + length (rewrite stretch.front)) goal s t like))
+          (at' + length (rewrite stretch.front)) goal s t like))
         where
           one_more : {X : Type 0} (n : ℕ) (xs : List X) (l : Option X) (x : X) → l ≡ Some x
               → n + length (xs ++ as_list l) ≡ n + length xs + 1
@@ -136,45 +136,46 @@ module _ {S T Old New : Type 0} (act : Old → S → Effect S) (bct : New → T 
               ap (λ o. length (xs ++ as_list o)) f ∙ length-append xs (x ∷ []) in
               omega (arith, long)
 
-          goal : IsGoal (at + length stretch.front + 1) (bt + length (rewrite stretch.front) + 1)
+          goal : IsGoal (at + length stretch.front + 1) (at' + length (rewrite stretch.front) + 1)
           goal =
-              subst (λ n. IsGoal n (bt + length (rewrite stretch.front) + 1))
+              subst (λ n. IsGoal n (at' + length (rewrite stretch.front) + 1))
               (one_more at stretch.front stretch.last row e)
               (subst (λ n. IsGoal (at + length (rows_of stretch)) n)
-              (one_more bt (rewrite stretch.front) (option_map (retarget moved) stretch.last)
+              (one_more at' (rewrite stretch.front) (option_map (retarget moved) stretch.last)
               (retarget moved row) (ap (option_map (retarget moved)) e)) next)
 
-  all_alike : (moved : ℕ → ℕ) (IsGoal : ℕ → ℕ → Type 0) (stretches : List (Stretch Old)) (at bt : ℕ)
-      → Every (IsRewritten act bct IsLike rewrite retarget moved IsGoal) stretches
+  all_alike : (moved : ℕ → ℕ) (IsGoal : ℕ → ℕ → Type 0) (stretches : List (Stretch Old))
+      (at at' : ℕ)
+      → Every (IsRewritten act act' IsLike rewrite retarget moved IsGoal) stretches
       → ((g h : ℕ) → IsStart (segments_by rewrite retarget moved stretches) g h
-      → IsGoal (at + g) (bt + h))
-      → AllAlike act bct IsLike IsGoal (segments_by rewrite retarget moved stretches) at bt
-  all_alike moved IsGoal [] at bt are within = tt
-  all_alike moved IsGoal (stretch ∷ stretches) at bt are within =
+      → IsGoal (at + g) (at' + h))
+      → AllAlike act act' IsLike IsGoal (segments_by rewrite retarget moved stretches) at at'
+  all_alike moved IsGoal [] at at' are within = tt
+  all_alike moved IsGoal (stretch ∷ stretches) at at' are within =
       let a = length (rows_of stretch) in
       let b = length (rewritten_by rewrite retarget moved stretch).new in (
-        stretch_alike moved IsGoal stretch at bt are.0
+        stretch_alike moved IsGoal stretch at at' are.0
             (let e : at + (a + 0) ≡ at + a = omega arith in
-            let f : bt + (b + 0) ≡ bt + b = omega arith in
-            subst (λ n. IsGoal n (bt + b)) e
+            let f : at' + (b + 0) ≡ at' + b = omega arith in
+            subst (λ n. IsGoal n (at' + b)) e
             (subst (λ n. IsGoal (at + (a + 0)) n) f (within (a + 0) (b + 0) (Behind Here)))),
-        all_alike moved IsGoal stretches (at + a) (bt + b) are.1
+        all_alike moved IsGoal stretches (at + a) (at' + b) are.1
             (λ g h start. let e : at + (a + g) ≡ at + a + g = omega arith in
-            let f : bt + (b + h) ≡ bt + b + h = omega arith in
-            subst (λ n. IsGoal n (bt + b + h)) e
+            let f : at' + (b + h) ≡ at' + b + h = omega arith in
+            subst (λ n. IsGoal n (at' + b + h)) e
             (subst (λ n. IsGoal (at + (a + g)) n) f (within (a + g) (b + h) (Behind start)))),
       )
 
   -- the pass keeps the runs from each start
   pub pass_keeps : (moved : ℕ → ℕ) (stretches : List (Stretch Old))
-      → Every (IsRewritten act bct IsLike rewrite retarget moved
+      → Every (IsRewritten act act' IsLike rewrite retarget moved
       (IsStart (segments_by rewrite retarget moved stretches))) stretches
       → (more g h : ℕ) (s : S) (t : T) → IsStart (segments_by rewrite retarget moved stretches) g h
       → IsLike s t
       → Keeps (runs act (olds (segments_by rewrite retarget moved stretches)) more g s)
-      (runs bct (news (segments_by rewrite retarget moved stretches)) more h t)
+      (runs act' (news (segments_by rewrite retarget moved stretches)) more h t)
   pass_keeps moved stretches are more g h s t start like =
-      keeps_runs act bct IsLike (segments_by rewrite retarget moved stretches)
+      keeps_runs act act' IsLike (segments_by rewrite retarget moved stretches)
       (all_alike moved (IsStart (segments_by rewrite retarget moved stretches)) stretches 0 0 are
       (λ g h start. let e : g ≡ 0 + g = omega arith in let f : h ≡ 0 + h = omega arith in
       subst (λ n. IsStart (segments_by rewrite retarget moved stretches) n (0 + h)) e
@@ -260,16 +261,16 @@ module _ {Row : Type 0} (ends : Row → Bool) (is_goal : ℕ → Bool) where
       by false false [] all = (omega arith, tt)
       by false false (stretch ∷ stretches) all = (omega arith, all.1)
 
-pub passes_keep_runs : {S T Old New : Type 0} (act : Old → S → Effect S) (bct : New → T → Effect T)
-    (IsLike : S → T → Type 0) → PassesKeepRuns act bct IsLike
-passes_keep_runs {S} {T} {Old} {New} act bct IsLike rewrite retarget ends is_goal code are left s t
+pub passes_keep_runs : {S T Old New : Type 0} (act : Old → S → Effect S) (act' : New → T → Effect T)
+    (IsLike : S → T → Type 0) → PassesKeepRuns act act' IsLike
+passes_keep_runs {S} {T} {Old} {New} act act' IsLike rewrite retarget ends is_goal code are left s t
     like =
     let stretches = cut ends is_goal 0 code in
     let moved = moved_by rewrite retarget stretches in
     let new = passed rewrite retarget stretches in
-    subst (λ rows. Keeps (runs act rows left 0 s) (runs bct new left 0 t))
-    (olds_are act bct IsLike rewrite retarget moved stretches ∙ cut_rows ends is_goal 0 code)
-    (pass_keeps act bct IsLike rewrite retarget moved stretches are left 0 0 s t Here like)
+    subst (λ rows. Keeps (runs act rows left 0 s) (runs act' new left 0 t))
+    (olds_are act act' IsLike rewrite retarget moved stretches ∙ cut_rows ends is_goal 0 code)
+    (pass_keeps act act' IsLike rewrite retarget moved stretches are left 0 0 s t Here like)
 
 pub goals_are_starts : (Old New : Type 0) → GoalsAreStarts Old New
 goals_are_starts Old New rewrite retarget ends is_goal code g goal within =

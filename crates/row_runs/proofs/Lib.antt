@@ -6,5 +6,6 @@ pub mod CutLemmas
 pub mod PlaceLemmas
 pub mod CodeLemmas
 pub mod WantLemmas
+pub mod TurnLemmas
 pub mod CounterLemmas
 mod Examples

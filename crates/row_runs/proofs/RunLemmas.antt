@@ -55,40 +55,40 @@ module _ {S Row : Type 0} (act : Row → S → Effect S) where
   grown_step (Goes bytes next) f g more = grown_printed bytes (f next) (g next) (more next)
   grown_step (Stops stop) f g more = StaysSo refl
 
-  module _ (bct : Row → S → Effect S) (further : AreFurther act bct) where
-    grown_went : (leap meap : ℕ → S → Result) (at : ℕ) (s : S) (e f : Effect S)
-        (rest sest : S → Result)
-        → ((goal : ℕ) (s : S) → GoesOnTo (leap goal s) (meap goal s))
-        → ((s : S) → GoesOnTo (rest s) (sest s)) → IsFurther e f
-        → GoesOnTo (went leap at s e rest) (went meap at s f sest)
-    grown_went leap meap at s e f rest sest leaps more (SameEffect {effect = effect}) = by effect
+  module _ (act' : Row → S → Effect S) (further : AreFurther act act') where
+    grown_went : (leap leap' : ℕ → S → Result) (at : ℕ) (s : S) (e f : Effect S)
+        (rest rest' : S → Result)
+        → ((goal : ℕ) (s : S) → GoesOnTo (leap goal s) (leap' goal s))
+        → ((s : S) → GoesOnTo (rest s) (rest' s)) → IsFurther e f
+        → GoesOnTo (went leap at s e rest) (went leap' at s f rest')
+    grown_went leap leap' at s e f rest rest' leaps more (SameEffect {effect = effect}) = by effect
       where
         by : (effect : Effect S)
-            → GoesOnTo (went leap at s effect rest) (went meap at s effect sest)
-        by (Does step) = grown_step step rest sest more
+            → GoesOnTo (went leap at s effect rest) (went leap' at s effect rest')
+        by (Does step) = grown_step step rest rest' more
         by (Leaps goal) = leaps goal s
         by Passes = leaps (at + 1) s
-    grown_went leap meap at s e f rest sest leaps more (WantedMore {effect = effect}) =
-        WasCutOff refl (record { rest = (went meap at s effect sest).bytes; joins = refl })
+    grown_went leap leap' at s e f rest rest' leaps more (WantedMore {effect = effect}) =
+        WasCutOff refl (record { rest = (went leap' at s effect rest').bytes; joins = refl })
 
-    grown_walk : (leap meap : ℕ → S → Result)
-        → ((goal : ℕ) (s : S) → GoesOnTo (leap goal s) (meap goal s))
+    grown_walk : (leap leap' : ℕ → S → Result)
+        → ((goal : ℕ) (s : S) → GoesOnTo (leap goal s) (leap' goal s))
         → (at : ℕ) (rows : List Row) (s : S)
         → GoesOnTo (walked act leap (λ _. stopped (Ends Done)) at rows s)
-        (walked bct meap (λ _. stopped (Ends Done)) at rows s)
-    grown_walk leap meap leaps at [] s = StaysSo refl
-    grown_walk leap meap leaps at (row ∷ rows) s =
-        grown_went leap meap at s (act row s) (bct row s)
+        (walked act' leap' (λ _. stopped (Ends Done)) at rows s)
+    grown_walk leap leap' leaps at [] s = StaysSo refl
+    grown_walk leap leap' leaps at (row ∷ rows) s =
+        grown_went leap leap' at s (act row s) (act' row s)
         (walked act leap (λ _. stopped (Ends Done)) (at + 1) rows)
-        (walked bct meap (λ _. stopped (Ends Done)) (at + 1) rows) leaps
-        (grown_walk leap meap leaps (at + 1) rows) (further.further row s)
+        (walked act' leap' (λ _. stopped (Ends Done)) (at + 1) rows) leaps
+        (grown_walk leap leap' leaps (at + 1) rows) (further.further row s)
 
-    pub grow : Grow act bct
+    pub grow : Grow act act'
     grow code zero more fewer at s =
-        WasCutOff refl (record { rest = (runs bct code more at s).bytes; joins = refl })
+        WasCutOff refl (record { rest = (runs act' code more at s).bytes; joins = refl })
     grow code (suc less) zero fewer at s = absurd (omega (arith, fewer))
     grow code (suc less) (suc more) fewer at s =
-        grown_walk (runs act code less) (runs bct code more)
+        grown_walk (runs act code less) (runs act' code more)
         (λ goal s. grow code less more (omega (arith, fewer)) goal s) at (drop at code) s
 
   pub grow_alone : Grow act act

@@ -15,15 +15,15 @@ drop_over (x ∷ xs) ys g =
     let e : length (x ∷ xs) + g ≡ suc (length xs + g) = omega arith in
     ap (λ n. drop n (x ∷ xs ++ ys)) e ∙ drop_over xs ys g
 
-module _ {S T Old New : Type 0} (act : Old → S → Effect S) (bct : New → T → Effect T)
+module _ {S T Old New : Type 0} (act : Old → S → Effect S) (act' : New → T → Effect T)
     (IsLike : S → T → Type 0) where
   record Found (IsGoal : ℕ → ℕ → Type 0) (segments : List (Segment Old New))
       (g h : ℕ) : Type 0 where
     rest : List (Segment Old New)
     old : drop g (olds segments) ≡ olds rest
     new : drop h (news segments) ≡ news rest
-    alike : (at bt : ℕ) → AllAlike act bct IsLike IsGoal segments at bt
-        → AllAlike act bct IsLike IsGoal rest (at + g) (bt + h)
+    alike : (at at' : ℕ) → AllAlike act act' IsLike IsGoal segments at at'
+        → AllAlike act act' IsLike IsGoal rest (at + g) (at' + h)
 
   found : (IsGoal : ℕ → ℕ → Type 0) (segments : List (Segment Old New)) (g h : ℕ)
       → IsStart segments g h
@@ -32,23 +32,24 @@ module _ {S T Old New : Type 0} (act : Old → S → Effect S) (bct : New → T 
     rest = segments;
     old = refl;
     new = refl;
-    alike = λ at bt all.
+    alike = λ at at' all.
         let e : at ≡ at + 0 = omega arith in
-        let f : bt ≡ bt + 0 = omega arith in
-        subst (λ n. AllAlike act bct IsLike IsGoal segments n (bt + 0)) e
-        (subst (λ n. AllAlike act bct IsLike IsGoal segments at n) f all);
+        let f : at' ≡ at' + 0 = omega arith in
+        subst (λ n. AllAlike act act' IsLike IsGoal segments n (at' + 0)) e
+        (subst (λ n. AllAlike act act' IsLike IsGoal segments at n) f all);
   }
   found IsGoal segments g h (Behind {segment = first} {segments = others} {g = i} {h = j} start) =
       let more = found IsGoal others i j start in record {
         rest = more.rest;
         old = drop_over first.old (olds others) i ∙ more.old;
         new = drop_over first.new (news others) j ∙ more.new;
-        alike = λ at bt all.
+        alike = λ at at' all.
             let e : at + length first.old + i ≡ at + (length first.old + i) = omega arith in
-            let f : bt + length first.new + j ≡ bt + (length first.new + j) = omega arith in
-            subst (λ n. AllAlike act bct IsLike IsGoal more.rest n (bt + (length first.new + j))) e
-            (subst (λ n. AllAlike act bct IsLike IsGoal more.rest (at + length first.old + i) n) f
-            (more.alike (at + length first.old) (bt + length first.new) all.1));
+            let f : at' + length first.new + j ≡ at' + (length first.new + j) = omega arith in
+            subst (λ n. AllAlike act act' IsLike IsGoal more.rest n (at' + (length first.new + j)))
+            e
+            (subst (λ n. AllAlike act act' IsLike IsGoal more.rest (at + length first.old + i) n) f
+            (more.alike (at + length first.old) (at' + length first.new) all.1));
       }
 
   abbrev old_end : S → Result
@@ -57,46 +58,46 @@ module _ {S T Old New : Type 0} (act : Old → S → Effect S) (bct : New → T 
   abbrev new_end : T → Result
   new_end _ = stopped (Ends Done)
 
-  walk_all : (IsGoal : ℕ → ℕ → Type 0) (leap : ℕ → S → Result) (meap : ℕ → T → Result)
-      → ((g h : ℕ) (s : S) (t : T) → IsGoal g h → IsLike s t → Keeps (leap g s) (meap h t))
-      → (segments : List (Segment Old New)) (at bt : ℕ)
-      → AllAlike act bct IsLike IsGoal segments at bt
+  walk_all : (IsGoal : ℕ → ℕ → Type 0) (leap : ℕ → S → Result) (leap' : ℕ → T → Result)
+      → ((g h : ℕ) (s : S) (t : T) → IsGoal g h → IsLike s t → Keeps (leap g s) (leap' h t))
+      → (segments : List (Segment Old New)) (at at' : ℕ)
+      → AllAlike act act' IsLike IsGoal segments at at'
       → (s : S) (t : T) → IsLike s t
       → Keeps (walked act leap old_end at (olds segments) s)
-      (walked bct meap new_end bt (news segments) t)
-  walk_all IsGoal leap meap leaps [] at bt all s t like = Same refl
-  walk_all IsGoal leap meap leaps (first ∷ others) at bt all s t like =
+      (walked act' leap' new_end at' (news segments) t)
+  walk_all IsGoal leap leap' leaps [] at at' all s t like = Same refl
+  walk_all IsGoal leap leap' leaps (first ∷ others) at at' all s t like =
       let old_rest : S → Result =
       λ s. walked act leap old_end (at + length first.old) (olds others) s in
       let new_rest : T → Result =
-      λ t. walked bct meap new_end (bt + length first.new) (news others) t in
-      subst (λ r. Keeps r (walked bct meap new_end bt (news (first ∷ others)) t))
+      λ t. walked act' leap' new_end (at' + length first.new) (news others) t in
+      subst (λ r. Keeps r (walked act' leap' new_end at' (news (first ∷ others)) t))
       (sym (walked_append act leap old_end at first.old (olds others) s))
       (subst (λ r. Keeps (walked act leap old_rest at first.old s) r)
-      (sym (walked_append bct meap new_end bt first.new (news others) t))
-      (all.0.alike leap meap old_rest new_rest s t leaps
+      (sym (walked_append act' leap' new_end at' first.new (news others) t))
+      (all.0.alike leap leap' old_rest new_rest s t leaps
       (λ s t like.
-      walk_all IsGoal leap meap leaps others (at + length first.old)
-      (bt + length first.new) all.1 s t like)
+      walk_all IsGoal leap leap' leaps others (at + length first.old)
+      (at' + length first.new) all.1 s t like)
       like))
 
   -- from each start, and for each number of leaps and tests
-  pub keeps_runs : KeepRuns act bct IsLike
+  pub keeps_runs : KeepRuns act act' IsLike
   keeps_runs segments all zero g h s t start like = Same refl
   keeps_runs segments all (suc more) g h s t start like =
       let there = found (IsStart segments) segments g h start in
       let leap = runs act (olds segments) more in
-      let meap = runs bct (news segments) more in
+      let leap' = runs act' (news segments) more in
       let e : 0 + g ≡ g = omega arith in
       let f : 0 + h ≡ h = omega arith in
       subst (λ rows. Keeps (walked act leap old_end g rows s)
-      (runs bct (news segments) (suc more) h t))
+      (runs act' (news segments) (suc more) h t))
       (sym there.old)
       (subst (λ rows. Keeps (walked act leap old_end g (olds there.rest) s)
-      (walked bct meap new_end h rows t))
+      (walked act' leap' new_end h rows t))
       (sym there.new)
-      (walk_all (IsStart segments) leap meap
+      (walk_all (IsStart segments) leap leap'
       (λ g h s t goal like. keeps_runs segments all more g h s t goal like) there.rest g h
-      (subst (λ n. AllAlike act bct IsLike (IsStart segments) there.rest n h) e
-      (subst (λ n. AllAlike act bct IsLike (IsStart segments) there.rest (0 + g) n) f
+      (subst (λ n. AllAlike act act' IsLike (IsStart segments) there.rest n h) e
+      (subst (λ n. AllAlike act act' IsLike (IsStart segments) there.rest (0 + g) n) f
       (there.alike 0 0 all))) s t like))

@@ -84,13 +84,13 @@ module _ {S Row : Type 0} (act : Row → S → Effect S) where
 
 module _ {S T : Type 0} where
   pub tied_keeps : (IsLike : S → T → Type 0) (f : Flow S) (g : Flow T) (rest : S → Result)
-      (sest : T → Result)
-      → Tied IsLike f g → ((s : S) (t : T) → IsLike s t → Keeps (rest s) (sest t))
-      → Keeps (flowed f rest) (flowed g sest)
-  tied_keeps IsLike f g rest sest TiedWrong rests = WasWrong refl
-  tied_keeps IsLike f g rest sest (TiedOn {bytes = bytes} {s = s} {t = t} like) rests =
-      keeps_printed bytes (rest s) (sest t) (rests s t like)
-  tied_keeps IsLike f g rest sest TiedHalt rests = Same refl
+      (rest' : T → Result)
+      → Tied IsLike f g → ((s : S) (t : T) → IsLike s t → Keeps (rest s) (rest' t))
+      → Keeps (flowed f rest) (flowed g rest')
+  tied_keeps IsLike f g rest rest' TiedWrong rests = WasWrong refl
+  tied_keeps IsLike f g rest rest' (TiedOn {bytes = bytes} {s = s} {t = t} like) rests =
+      keeps_printed bytes (rest s) (rest' t) (rests s t like)
+  tied_keeps IsLike f g rest rest' TiedHalt rests = Same refl
 
   tied_more : (IsLike : S → T → Type 0) (bytes : List ℕ) (f : Flow S) (g : Flow T) → Tied IsLike f g
       → Tied IsLike (flow_behind bytes f) (flow_behind bytes g)
@@ -98,92 +98,94 @@ module _ {S T : Type 0} where
   tied_more IsLike bytes f g (TiedOn like) = TiedOn like
   tied_more IsLike bytes f g TiedHalt = TiedHalt
 
-  module _ {Old New : Type 0} (act : Old → S → Effect S) (bct : New → T → Effect T) where
+  module _ {Old New : Type 0} (act : Old → S → Effect S) (act' : New → T → Effect T) where
     -- a segment of straight rows alone
     pub straight_alike : (IsLike : S → T → Type 0) (IsGoal : ℕ → ℕ → Type 0)
-        (segment : Segment Old New) (at bt : ℕ)
-        → Every (IsStraight act) segment.old → Every (IsStraight bct) segment.new
+        (segment : Segment Old New) (at at' : ℕ)
+        → Every (IsStraight act) segment.old → Every (IsStraight act') segment.new
         → ((s : S) (t : T) → IsLike s t
-        → Tied IsLike (through act segment.old s) (through bct segment.new t))
-        → AreAlike act bct IsLike IsGoal segment at bt
-    straight_alike IsLike IsGoal segment at bt olds news tied = record {
-      alike = λ leap meap rest sest s t leaps rests like.
-          subst (λ r. Keeps r (walked bct meap sest bt segment.new t))
+        → Tied IsLike (through act segment.old s) (through act' segment.new t))
+        → AreAlike act act' IsLike IsGoal segment at at'
+    straight_alike IsLike IsGoal segment at at' olds news tied = record {
+      alike = λ leap leap' rest rest' s t leaps rests like.
+          subst (λ r. Keeps r (walked act' leap' rest' at' segment.new t))
           (sym (walked_straight act leap rest at segment.old s olds))
           (subst (λ r. Keeps (flowed (through act segment.old s) rest) r)
-          (sym (walked_straight bct meap sest bt segment.new t news))
-          (tied_keeps IsLike (through act segment.old s) (through bct segment.new t) rest sest
+          (sym (walked_straight act' leap' rest' at' segment.new t news))
+          (tied_keeps IsLike (through act segment.old s) (through act' segment.new t) rest rest'
           (tied s t like) rests));
     }
 
     -- ---- and with a last row that leaps or tests or stops
-    last_keeps : (IsLike : S → T → Type 0) (IsGoal : ℕ → ℕ → Type 0) (at bt : ℕ)
-        (leap : ℕ → S → Result) (meap : ℕ → T → Result) (rest : S → Result) (sest : T → Result)
+    last_keeps : (IsLike : S → T → Type 0) (IsGoal : ℕ → ℕ → Type 0) (at at' : ℕ)
+        (leap : ℕ → S → Result) (leap' : ℕ → T → Result) (rest : S → Result) (rest' : T → Result)
         (s : S) (t : T) (e : Effect S) (f : Effect T)
-        → ((g h : ℕ) (s : S) (t : T) → IsGoal g h → IsLike s t → Keeps (leap g s) (meap h t))
-        → IsLike s t → LastAlike IsGoal at bt e f
-        → Keeps (went leap at s e rest) (went meap bt t f sest)
-    last_keeps IsLike IsGoal at bt leap meap rest sest s t e f leaps like
+        → ((g h : ℕ) (s : S) (t : T) → IsGoal g h → IsLike s t → Keeps (leap g s) (leap' h t))
+        → IsLike s t → LastAlike IsGoal at at' e f
+        → Keeps (went leap at s e rest) (went leap' at' t f rest')
+    last_keeps IsLike IsGoal at at' leap leap' rest rest' s t e f leaps like
         (BothLeap {g = g} {h = h} goal) =
         leaps g h s t goal like
-    last_keeps IsLike IsGoal at bt leap meap rest sest s t e f leaps like (BothPass goal) =
-        leaps (at + 1) (bt + 1) s t goal like
-    last_keeps IsLike IsGoal at bt leap meap rest sest s t e f leaps like BothStop = Same refl
-    last_keeps IsLike IsGoal at bt leap meap rest sest s t e f leaps like LastWrong = WasWrong refl
+    last_keeps IsLike IsGoal at at' leap leap' rest rest' s t e f leaps like (BothPass goal) =
+        leaps (at + 1) (at' + 1) s t goal like
+    last_keeps IsLike IsGoal at at' leap leap' rest rest' s t e f leaps like BothStop = Same refl
+    last_keeps IsLike IsGoal at at' leap leap' rest rest' s t e f leaps like LastWrong =
+        WasWrong refl
 
     pub ended_alike : (IsLike : S → T → Type 0) (IsGoal : ℕ → ℕ → Type 0)
-        (front : List Old) (gront : List New) (row : Old) (sow : New) (at bt : ℕ)
-        → Every (IsStraight act) front → Every (IsStraight bct) gront
-        → ((s : S) (t : T) → IsLike s t → Tied IsLike (through act front s) (through bct gront t))
+        (front : List Old) (front' : List New) (row : Old) (row' : New) (at at' : ℕ)
+        → Every (IsStraight act) front → Every (IsStraight act') front'
+        → ((s : S) (t : T) → IsLike s t → Tied IsLike (through act front s) (through act' front' t))
         → ((s : S) (t : T) → IsLike s t
-        → LastAlike IsGoal (at + length front) (bt + length gront) (act row s) (bct sow t))
-        → AreAlike act bct IsLike IsGoal
-        (record { old = front ++ row ∷ []; new = gront ++ sow ∷ [] }) at bt
-    ended_alike IsLike IsGoal front gront row sow at bt olds news tied last = record {
-      alike = λ leap meap rest sest s t leaps rests like.
+        → LastAlike IsGoal (at + length front) (at' + length front') (act row s) (act' row' t))
+        → AreAlike act act' IsLike IsGoal
+        (record { old = front ++ row ∷ []; new = front' ++ row' ∷ [] }) at at'
+    ended_alike IsLike IsGoal front front' row row' at at' olds news tied last = record {
+      alike = λ leap leap' rest rest' s t leaps rests like.
           let last_old : S → Result = λ s. walked act leap rest (at + length front) (row ∷ []) s in
-          let last_new : T → Result = λ t. walked bct meap sest (bt + length gront) (sow ∷ []) t in
-          subst (λ r. Keeps r (walked bct meap sest bt (gront ++ sow ∷ []) t))
+          let last_new : T → Result =
+          λ t. walked act' leap' rest' (at' + length front') (row' ∷ []) t in
+          subst (λ r. Keeps r (walked act' leap' rest' at' (front' ++ row' ∷ []) t))
           (sym (walked_append act leap rest at front (row ∷ []) s
           ∙ walked_straight act leap last_old at front s olds))
           (subst (λ r. Keeps (flowed (through act front s) last_old) r)
-          (sym (walked_append bct meap sest bt gront (sow ∷ []) t
-          ∙ walked_straight bct meap last_new bt gront t news))
-          (tied_keeps IsLike (through act front s) (through bct gront t) last_old last_new
+          (sym (walked_append act' leap' rest' at' front' (row' ∷ []) t
+          ∙ walked_straight act' leap' last_new at' front' t news))
+          (tied_keeps IsLike (through act front s) (through act' front' t) last_old last_new
           (tied s t like)
           (λ s t like.
-          last_keeps IsLike IsGoal (at + length front) (bt + length gront) leap meap
+          last_keeps IsLike IsGoal (at + length front) (at' + length front') leap leap'
           (λ s. walked act leap rest (at + length front + 1) [] s)
-          (λ t. walked bct meap sest (bt + length gront + 1) [] t)
-          s t (act row s) (bct sow t) leaps like (last s t like))));
+          (λ t. walked act' leap' rest' (at' + length front' + 1) [] t)
+          s t (act row s) (act' row' t) leaps like (last s t like))));
     }
 
     -- ---- rows rewritten by what is known
     module _ {F : Type 0} (rewrite : F → Old → List New) (learn : F → Old → F)
         (IsLike : S → T → Type 0)
         (Knows : F → S → T → Type 0) where
-      step_ties : (facts : F) (f : Flow S) (g : Flow T) (next : S → Flow S) (mext : T → Flow T)
+      step_ties : (facts : F) (f : Flow S) (g : Flow T) (next : S → Flow S) (next' : T → Flow T)
           → Tied (λ s t. IsLike s t × Knows facts s t) f g
-          → ((s : S) (t : T) → Knows facts s t → IsLike s t → Tied IsLike (next s) (mext t))
-          → Tied IsLike (flow_then f next) (flow_then g mext)
-      step_ties facts f g next mext TiedWrong more = TiedWrong
-      step_ties facts f g next mext (TiedOn {bytes = bytes} {s = s} {t = t} like) more =
-          tied_more IsLike bytes (next s) (mext t) (more s t like.1 like.0)
-      step_ties facts f g next mext TiedHalt more = TiedHalt
+          → ((s : S) (t : T) → Knows facts s t → IsLike s t → Tied IsLike (next s) (next' t))
+          → Tied IsLike (flow_then f next) (flow_then g next')
+      step_ties facts f g next next' TiedWrong more = TiedWrong
+      step_ties facts f g next next' (TiedOn {bytes = bytes} {s = s} {t = t} like) more =
+          tied_more IsLike bytes (next s) (next' t) (more s t like.1 like.0)
+      step_ties facts f g next next' TiedHalt more = TiedHalt
 
       pub rewritten_ties : (facts : F) (rows : List Old) (s : S) (t : T)
-          → Every (IsRewriting act bct rewrite learn IsLike Knows) rows → Knows facts s t
+          → Every (IsRewriting act act' rewrite learn IsLike Knows) rows → Knows facts s t
           → IsLike s t
-          → Tied IsLike (through act rows s) (through bct (rewritten rewrite learn facts rows) t)
+          → Tied IsLike (through act rows s) (through act' (rewritten rewrite learn facts rows) t)
       rewritten_ties facts [] s t all knows like = TiedOn like
       rewritten_ties facts (row ∷ rows) s t all knows like =
           let others = rewritten rewrite learn (learn facts row) rows in
           subst (λ flow. Tied IsLike (through act (row ∷ rows) s) flow)
-          (sym (through_append bct (rewrite facts row) others t))
+          (sym (through_append act' (rewrite facts row) others t))
           (subst (λ flow. Tied IsLike flow
-          (flow_then (through bct (rewrite facts row) t) (through bct others)))
+          (flow_then (through act' (rewrite facts row) t) (through act' others)))
           (sym (through_append act (row ∷ []) rows s))
           (step_ties (learn facts row) (through act (row ∷ []) s)
-          (through bct (rewrite facts row) t)
-          (through act rows) (through bct others) (all.0.ties facts s t knows like)
+          (through act' (rewrite facts row) t)
+          (through act rows) (through act' others) (all.0.ties facts s t knows like)
           (λ s t knows like. rewritten_ties (learn facts row) rows s t all.1 knows like)))

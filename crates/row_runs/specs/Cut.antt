@@ -70,22 +70,22 @@ module _ {Old New : Type 0} (rewrite : List Old → List New) (retarget : (ℕ �
   passed stretches = news (segments_of stretches)
 
 -- ---- what a pass owes of a stretch
-module _ {S T : Type 0} (IsGoal : ℕ → ℕ → Type 0) (at bt : ℕ) where
+module _ {S T : Type 0} (IsGoal : ℕ → ℕ → Type 0) (at at' : ℕ) where
   -- the rows that end a stretch, with these numbers, do alike, unless the old one is wrong
   pub data LastAlike : Effect S → Effect T → Type 0 where
     BothLeap : {g h : ℕ} → IsGoal g h → LastAlike (Leaps g) (Leaps h)
-    BothPass : IsGoal (at + 1) (bt + 1) → LastAlike Passes Passes
+    BothPass : IsGoal (at + 1) (at' + 1) → LastAlike Passes Passes
     BothStop : {stop : Stop} → LastAlike (Does (Stops stop)) (Does (Stops stop))
     LastWrong : {effect : Effect T} → LastAlike (Does (Stops Wrong)) effect
 
-module _ {S T Old New : Type 0} (act : Old → S → Effect S) (bct : New → T → Effect T)
+module _ {S T Old New : Type 0} (act : Old → S → Effect S) (act' : New → T → Effect T)
     (IsLike : S → T → Type 0) (rewrite : List Old → List New) (retarget : (ℕ → ℕ) → Old → New) where
   pub record IsRewritten (moved : ℕ → ℕ) (IsGoal : ℕ → ℕ → Type 0) (stretch : Stretch Old)
       : Type 0 where
     pub old : Every (IsStraight act) stretch.front
-    pub new : Every (IsStraight bct) (rewrite stretch.front)
+    pub new : Every (IsStraight act') (rewrite stretch.front)
     pub ties : (s : S) (t : T) → IsLike s t
-        → Tied IsLike (through act stretch.front s) (through bct (rewrite stretch.front) t)
-    pub last : (row : Old) → stretch.last ≡ Some row → (at bt : ℕ) → IsGoal (at + 1) (bt + 1)
+        → Tied IsLike (through act stretch.front s) (through act' (rewrite stretch.front) t)
+    pub last : (row : Old) → stretch.last ≡ Some row → (at at' : ℕ) → IsGoal (at + 1) (at' + 1)
         → (s : S) (t : T) → IsLike s t
-        → LastAlike IsGoal at bt (act row s) (bct (retarget moved row) t)
+        → LastAlike IsGoal at at' (act row s) (act' (retarget moved row) t)

@@ -16,5 +16,5 @@ pub data IsFurther {S : Type 0} : Effect S → Effect S → Type 0 where
   SameEffect : {effect : Effect S} → IsFurther effect effect
   WantedMore : {effect : Effect S} → IsFurther (Does (Stops (Ends More))) effect
 
-pub record AreFurther {S Row : Type 0} (act bct : Row → S → Effect S) : Type 0 where
-  pub further : (row : Row) (s : S) → IsFurther (act row s) (bct row s)
+pub record AreFurther {S Row : Type 0} (act act' : Row → S → Effect S) : Type 0 where
+  pub further : (row : Row) (s : S) → IsFurther (act row s) (act' row s)

@@ -11,13 +11,13 @@ use Rattle.row_runs.specs.Rows.{AreLikeRows}
 use Rattle.row_runs.specs.Cut.{Stretch, IsRewritten, cut, passed, segments_of, moved_by}
 use Rattle.row_runs.specs.Code.{CodeRow, Decision, code_act}
 use Rattle.row_runs.specs.Structured.{Piece, Wants, StandsAt, doing, size, flattened}
-use Rattle.row_runs.specs.Structured.{left_before, shown_by}
+use Rattle.row_runs.specs.Structured.{left_before, shown_by, TurnsOn}
 
 -- a run that may make more jumps goes on from a shorter one, also where its rows go further
-abbrev pub Grow : {S Row : Type 0} → (act bct : Row → S → Effect S) → Type 0
-Grow {S = S} {Row = Row} act bct =
+abbrev pub Grow : {S Row : Type 0} → (act act' : Row → S → Effect S) → Type 0
+Grow {S = S} {Row = Row} act act' =
     (code : List Row) (less more : ℕ) → less ≤ more → (at : ℕ) (state : S)
-    → GoesOnTo (runs act code less at state) (runs bct code more at state)
+    → GoesOnTo (runs act code less at state) (runs act' code more at state)
 
 -- what is kept is kept by two passes one after the other
 abbrev pub KeepsThrough : Type 0
@@ -30,22 +30,22 @@ FlowOn {S = S} {Row = Row} act =
     → Every (IsStraight act) rows
     → walked act leap rest at rows state ≡ flowed (through act rows state) rest
 
-module _ {S T Old New : Type 0} (act : Old → S → Effect S) (bct : New → T → Effect T)
+module _ {S T Old New : Type 0} (act : Old → S → Effect S) (act' : New → T → Effect T)
     (IsLike : S → T → Type 0) where
   -- Code whose segments are alike keeps its runs: from each place where a segment starts, and for
   -- every number of jumps.
   abbrev pub KeepRuns : Type 0
   KeepRuns =
-      (segments : List (Segment Old New)) → AllAlike act bct IsLike (IsStart segments) segments 0 0
+      (segments : List (Segment Old New)) → AllAlike act act' IsLike (IsStart segments) segments 0 0
       → (left g h : ℕ) (s : S) (t : T) → IsStart segments g h → IsLike s t
-      → Keeps (runs act (olds segments) left g s) (runs bct (news segments) left h t)
+      → Keeps (runs act (olds segments) left g s) (runs act' (news segments) left h t)
 
   -- Code of as many rows, each of which does alike, keeps its runs from each row on.
   abbrev pub RowsKeepRuns : Type 0
   RowsKeepRuns =
-      (olds : List Old) (news : List New) → AreLikeRows act bct IsLike olds news
+      (olds : List Old) (news : List New) → AreLikeRows act act' IsLike olds news
       → (left at : ℕ) (s : S) (t : T) → IsLike s t
-      → Keeps (runs act olds left at s) (runs bct news left at t)
+      → Keeps (runs act olds left at s) (runs act' news left at t)
 
   -- So does code that is cut into stretches, each of which is rewritten.
   abbrev pub PassesKeepRuns : Type 0
@@ -53,18 +53,18 @@ module _ {S T Old New : Type 0} (act : Old → S → Effect S) (bct : New → T 
       (rewrite : List Old → List New) (retarget : (ℕ → ℕ) → Old → New) (ends : Old → Bool)
       (is_goal : ℕ → Bool) (code : List Old)
       → (let stretches : List (Stretch Old) = cut ends is_goal 0 code in
-      Every (IsRewritten act bct IsLike rewrite retarget (moved_by rewrite retarget stretches)
+      Every (IsRewritten act act' IsLike rewrite retarget (moved_by rewrite retarget stretches)
       (IsStart (segments_of rewrite retarget stretches))) stretches
       → (left : ℕ) (s : S) (t : T) → IsLike s t
-      → Keeps (runs act code left 0 s) (runs bct (passed rewrite retarget stretches) left 0 t))
+      → Keeps (runs act code left 0 s) (runs act' (passed rewrite retarget stretches) left 0 t))
 
   -- Straight rows that are rewritten one by one, by what is known in front of each, are tied.
   abbrev pub RewrittenAreTied : {F : Type 0} → (F → S → T → Type 0) → Type 0
   RewrittenAreTied {F = F} Knows =
       (rewrite : F → Old → List New) (learn : F → Old → F) (facts : F) (rows : List Old)
-      (s : S) (t : T) → Every (IsRewriting act bct rewrite learn IsLike Knows) rows
+      (s : S) (t : T) → Every (IsRewriting act act' rewrite learn IsLike Knows) rows
       → Knows facts s t → IsLike s t
-      → Tied IsLike (through act rows s) (through bct (rewritten rewrite learn facts rows) t)
+      → Tied IsLike (through act rows s) (through act' (rewritten rewrite learn facts rows) t)
 
 -- A goal of the old code, or its end, is a place where a segment starts, and the new code's goal is
 -- where it does there.
@@ -101,3 +101,9 @@ module _ {R T S : Type 0} (step : R → S → Step S) (decide : T → S → Deci
   WantBehindTurns =
       (n : ℕ) (piece : Piece R T) (state : S) → (doing step decide n piece state).close ≡ Wants
       → n ≤ (doing step decide n piece state).jumps
+
+  -- where loops may make more turns, code goes on
+  abbrev pub GrowByTurns : Type 0
+  GrowByTurns =
+      (fewer more : ℕ) → fewer ≤ more → (piece : Piece R T) (state : S)
+      → TurnsOn (doing step decide fewer piece state) (doing step decide more piece state)

@@ -11,10 +11,10 @@ pub data AreEffects {S T : Type 0} (IsLike : S → T → Type 0) : Effect S → 
   BothPass : AreEffects IsLike Passes Passes
   OldWrong : {effect : Effect T} → AreEffects IsLike (Does (Stops Wrong)) effect
 
-module _ {S T Old New : Type 0} (act : Old → S → Effect S) (bct : New → T → Effect T)
+module _ {S T Old New : Type 0} (act : Old → S → Effect S) (act' : New → T → Effect T)
     (IsLike : S → T → Type 0) where
   pub record AreLike (old : Old) (new : New) : Type 0 where
-    pub like : (s : S) (t : T) → IsLike s t → AreEffects IsLike (act old s) (bct new t)
+    pub like : (s : S) (t : T) → IsLike s t → AreEffects IsLike (act old s) (act' new t)
 
   pub data AreLikeRows : List Old → List New → Type 0 where
     NoRows : AreLikeRows [] []

@@ -27,20 +27,20 @@ pub data IsStart {Old New : Type 0} : List (Segment Old New) → ℕ → ℕ →
       → IsStart segments g h
       → IsStart (segment ∷ segments) (length segment.old + g) (length segment.new + h)
 
-module _ {S T Old New : Type 0} (act : Old → S → Effect S) (bct : New → T → Effect T)
+module _ {S T Old New : Type 0} (act : Old → S → Effect S) (act' : New → T → Effect T)
     (IsLike : S → T → Type 0) (IsGoal : ℕ → ℕ → Type 0) where
   -- The new rows of a segment do as the old ones do, from like states to like states, whatever is
   -- behind them, where what is leapt or passed to does so.
-  pub record AreAlike (segment : Segment Old New) (at bt : ℕ) : Type 0 where
-    pub alike : (leap : ℕ → S → Result) (meap : ℕ → T → Result)
-        → (rest : S → Result) (sest : T → Result) (s : S) (t : T)
-        → ((g h : ℕ) (s : S) (t : T) → IsGoal g h → IsLike s t → Keeps (leap g s) (meap h t))
-        → ((s : S) (t : T) → IsLike s t → Keeps (rest s) (sest t))
+  pub record AreAlike (segment : Segment Old New) (at at' : ℕ) : Type 0 where
+    pub alike : (leap : ℕ → S → Result) (leap' : ℕ → T → Result)
+        → (rest : S → Result) (rest' : T → Result) (s : S) (t : T)
+        → ((g h : ℕ) (s : S) (t : T) → IsGoal g h → IsLike s t → Keeps (leap g s) (leap' h t))
+        → ((s : S) (t : T) → IsLike s t → Keeps (rest s) (rest' t))
         → IsLike s t
-        → Keeps (walked act leap rest at segment.old s) (walked bct meap sest bt segment.new t)
+        → Keeps (walked act leap rest at segment.old s) (walked act' leap' rest' at' segment.new t)
 
   abbrev pub AllAlike : List (Segment Old New) → ℕ → ℕ → Type 0
-  AllAlike [] at bt = ⊤
-  AllAlike (segment ∷ segments) at bt =
-      AreAlike segment at bt
-      × AllAlike segments (at + length segment.old) (bt + length segment.new)
+  AllAlike [] at at' = ⊤
+  AllAlike (segment ∷ segments) at at' =
+      AreAlike segment at at'
+      × AllAlike segments (at + length segment.old) (at' + length segment.new)

@@ -59,10 +59,10 @@ module _ {F Old New : Type 0} (rewrite : F → Old → List New) (learn : F → 
 
 -- What a rewriting owes of a row: from like states, of which the facts hold, the new rows are tied
 -- to the old one, and the facts that are learnt hold behind them.
-module _ {S T Old New F : Type 0} (act : Old → S → Effect S) (bct : New → T → Effect T)
+module _ {S T Old New F : Type 0} (act : Old → S → Effect S) (act' : New → T → Effect T)
     (rewrite : F → Old → List New) (learn : F → Old → F) (IsLike : S → T → Type 0)
     (Knows : F → S → T → Type 0) where
   pub record IsRewriting (row : Old) : Type 0 where
     pub ties : (facts : F) (s : S) (t : T) → Knows facts s t → IsLike s t
         → Tied (λ s t. IsLike s t × Knows (learn facts row) s t)
-        (flow_step (act row s) (λ s. OnTo [] s)) (through bct (rewrite facts row) t)
+        (flow_step (act row s) (λ s. OnTo [] s)) (through act' (rewrite facts row) t)

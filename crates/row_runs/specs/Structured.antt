@@ -1,6 +1,7 @@
 -- Structured code: what it does with a bound on the turns of each loop, and how it is laid out.
 use Rattle.std.specs.Prelude.{ℕ, zero, suc, ◌+◌, true, false, List, [], ◌∷◌, ◌++◌, map}
 use Rattle.std.specs.Prelude.{◌≡◌, drop, length}
+use Rattle.zpl_lists.specs.Front.{IsFrontOf}
 use Rattle.zpl_nums.specs.declared.ends.End.TheVariants.{More}
 use Rattle.row_runs.specs.Run.{Stop, Ends, Result, Step, Goes, Stops, printed}
 use Rattle.row_runs.specs.Code.{CodeRow, Straight, Jump, Unless, Decision, Says, Fails}
@@ -116,6 +117,12 @@ module _ {R T S : Type 0} (step : R → S → Step S) (decide : T → S → Deci
       (λ inside. jumping (doing n other inside)) state
   doing n (While head test body) state = while_turns n head test (doing n body) state
   doing n (Repeat body head test) state = repeat_turns n (doing n body) head test state
+
+-- The same where loops may make more turns; or a turn was wanted, and what was printed up to there
+-- begins what is printed then.
+pub data TurnsOn {S : Type 0} (fewer more : Course S) : Type 0 where
+  SameCourse : fewer ≡ more → TurnsOn fewer more
+  WantedTurns : fewer.close ≡ Wants → IsFrontOf fewer.bytes more.bytes → TurnsOn fewer more
 
 -- ---- how it is laid out
 

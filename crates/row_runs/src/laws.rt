@@ -6,6 +6,7 @@ ghost use Rattle.row_runs.specs.Code.{Decision};
 ghost use Rattle.row_runs.specs.Counter.{TellTheirEnd};
 ghost use Rattle.row_runs.specs.Growth.{AreFurther};
 ghost use Rattle.row_runs.specs.Laws.{FlowOn, Follow, FollowWhole, GoalsAreStarts, Grow};
+ghost use Rattle.row_runs.specs.Laws.{GrowByTurns};
 ghost use Rattle.row_runs.specs.Laws.{KeepRuns, KeepsThrough, PassesKeepRuns, RewrittenAreTied};
 ghost use Rattle.row_runs.specs.Laws.{RowsKeepRuns, WantBehindTurns};
 ghost use Rattle.row_runs.specs.Run.{Effect, Step};
@@ -17,7 +18,8 @@ use crate::likeness::{Knowledge, Likeness};
 /// further too.
 pub fn longer_runs_go_on<Row, State>()
     ensures jumps { (act : Row → State → Effect State) → Grow act act }
-    ensures rows { (act bct : Row → State → Effect State) → AreFurther act bct → Grow act bct }
+    ensures rows { (act further : Row → State → Effect State) → AreFurther act further →
+        Grow act further }
 {}
 
 /// Rows that only go on or stop are run as one flow.
@@ -33,30 +35,30 @@ pub fn passes_compose()
 /// Code of as many rows, each of which does as the old one from like states to like states, has
 /// the same runs, unless an old one is wrong.
 pub fn like_rows_keep_runs<Old, New, L: Likeness>()
-    ensures { (act : Old → L.Old → Effect L.Old) (bct : New → L.New → Effect L.New) →
-        RowsKeepRuns act bct L.IsLike }
+    ensures { (old : Old → L.Old → Effect L.Old) (new : New → L.New → Effect L.New) →
+        RowsKeepRuns old new L.IsLike }
 {}
 
 /// So has code whose segments do alike, from each place where a segment starts, and for every
 /// number of jumps.
 pub fn like_segments_keep_runs<Old, New, L: Likeness>()
-    ensures { (act : Old → L.Old → Effect L.Old) (bct : New → L.New → Effect L.New) →
-        KeepRuns act bct L.IsLike }
+    ensures { (old : Old → L.Old → Effect L.Old) (new : New → L.New → Effect L.New) →
+        KeepRuns old new L.IsLike }
 {}
 
 /// So has code that is cut into stretches, each of which is rewritten, with the goals of its last
 /// row moved to where the new rows stand.
 pub fn passes_keep_runs<Old, New, L: Likeness>()
-    ensures runs { (act : Old → L.Old → Effect L.Old) (bct : New → L.New → Effect L.New) →
-        PassesKeepRuns act bct L.IsLike }
+    ensures runs { (old : Old → L.Old → Effect L.Old) (new : New → L.New → Effect L.New) →
+        PassesKeepRuns old new L.IsLike }
     ensures goals { GoalsAreStarts Old New }
 {}
 
 /// Straight rows that are rewritten one by one, by the facts that are known in front of each, do
 /// alike.
 pub fn rewritten_rows_are_tied<Old, New, K: Knowledge>()
-    ensures { (act : Old → K.Old → Effect K.Old) (bct : New → K.New → Effect K.New) →
-        RewrittenAreTied act bct K.IsLike K.Knows }
+    ensures { (old : Old → K.Old → Effect K.Old) (new : New → K.New → Effect K.New) →
+        RewrittenAreTied old new K.IsLike K.Knows }
 {}
 
 /// Where structured code is laid out, the run does what it does, for every number of jumps that
@@ -68,10 +70,13 @@ pub fn laid_out_code_does_the_same<Row, Test, State>()
         FollowWhole step decide }
 {}
 
-/// Structured code that wants a turn more than each loop may make has made at least as many jumps.
+/// Structured code that wants a turn more than each loop may make has made at least as many jumps;
+/// and where loops may make more turns, all else stays, and bytes that were printed are printed.
 pub fn wanting_takes_jumps<Row, Test, State>()
-    ensures { (step : Row → State → Step State) (decide : Test → State → Decision) →
+    ensures jumps { (step : Row → State → Step State) (decide : Test → State → Decision) →
         WantBehindTurns step decide }
+    ensures turns { (step : Row → State → Step State) (decide : Test → State → Decision) →
+        GrowByTurns step decide }
 {}
 
 /// Whether the next value of a counter is behind the last one is told in integers that wrap: for a

@@ -4,7 +4,7 @@ use Rattle.row_runs.proofs.laws.passes_keep_runs.Goals as goal
 pub returns : goal.returns
 returns g c =
     record {
-      runs = λ act bct. passes_keep_runs act bct
+      runs = λ act act'. passes_keep_runs act act'
           (g.L.Likeness.IsLike);
       goals = goals_are_starts _ _;
     }

@@ -3,5 +3,5 @@ use Rattle.row_runs.proofs.laws.rewritten_rows_are_tied.Goals as goal
 
 pub returns : goal.returns
 returns g c =
-    λ act bct rewrite learn. rewritten_ties act bct rewrite learn (g.K.Knowledge.IsLike)
+    λ act act' rewrite learn. rewritten_ties act act' rewrite learn (g.K.Knowledge.IsLike)
     (g.K.Knowledge.Knows)
