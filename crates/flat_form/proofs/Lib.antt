@@ -11,3 +11,5 @@ pub mod StepLemmas
 pub mod ChangeLemmas
 pub mod ReadLemmas
 pub mod WholeLemmas
+pub mod InlineLemmas
+pub mod TreeLemmas

@@ -24,7 +24,7 @@ use Rattle.flat_form.specs.Row.{part_inlined, part_words, patched, row_groups, r
 use Rattle.flat_form.specs.Row.{row_with_goal, row_words, with_goal, with_row, with_rows, words_at}
 
 -- ---- lists from a place on
-index_drop : {X : Type 0} (xs : List X) (n : ℕ) (x d : X) (rest : List X) → drop n xs ≡ x ∷ rest
+pub index_drop : {X : Type 0} (xs : List X) (n : ℕ) (x d : X) (rest : List X) → drop n xs ≡ x ∷ rest
     → slice_index_or xs n d ≡ x
 index_drop [] zero x d rest e = cc
 index_drop [] (suc n) x d rest e = cc
@@ -44,12 +44,12 @@ drop_front [] ys = refl
 drop_front (x ∷ xs) ys = drop_front xs ys
 
 -- behind the first of two parts
-drop_part : {X : Type 0} (xs : List X) (n : ℕ) (ps rest : List X) → drop n xs ≡ ps ++ rest
+pub drop_part : {X : Type 0} (xs : List X) (n : ℕ) (ps rest : List X) → drop n xs ≡ ps ++ rest
     → drop (n + length ps) xs ≡ rest
 drop_part xs n ps rest e =
     drop_more xs n (length ps) ∙ (ap (drop (length ps)) e ∙ drop_front ps rest)
 
-drop_second : {X : Type 0} (xs : List X) (n : ℕ) (x : X) (rest : List X) → drop n xs ≡ x ∷ rest
+pub drop_second : {X : Type 0} (xs : List X) (n : ℕ) (x : X) (rest : List X) → drop n xs ≡ x ∷ rest
     → drop (n + 1) xs ≡ rest
 drop_second xs n x rest e = drop_more xs n 1 ∙ ap (drop 1) e
 

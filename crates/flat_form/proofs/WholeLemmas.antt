@@ -101,7 +101,8 @@ module _ (tables : Tables) where
           zip_set tables.arrays whole.stores k (zeros_at region) (λ other old r o fine. record {
             filled = zeros_filled region;
             placed = λ stored. false_true other.stored
-                (ap (λ (a : ArrayRow). a.stored) (some_same (slice_get tables.arrays k) other row r e)
+                (ap (λ (a : ArrayRow). a.stored)
+                (some_same (slice_get tables.arrays k) other row r e)
                 ∙ temporary) stored;
           }) is.stores;
     };

@@ -2,7 +2,8 @@
 //!
 //! Each law is the contract of a function that does nothing: a call brings the law into a proof.
 //! The statements stand in `specs/Laws`, `specs/States` and `specs/Touches`.
-ghost use Rattle.flat_form.specs.Laws.{AreInline, Grow, Patch, ReadAgain};
+ghost use Rattle.flat_form.specs.Laws.{AreInline, ControlInline, GroupsInline, Grow};
+ghost use Rattle.flat_form.specs.Laws.{Patch, ReadAgain};
 ghost use Rattle.flat_form.specs.States.{BeginWhole, StayWhole};
 ghost use Rattle.flat_form.specs.Touches.{ChangeWritten, GoByNames};
 
@@ -17,6 +18,17 @@ pub fn longer_flat_runs_go_on()
 /// that is named, and leave what was the same the same.
 pub fn rows_go_by_names()
     ensures { GoByNames }
+{}
+
+/// Rows that need scalars and slots alone do inline what they do in their tables.
+pub fn inline_rows_are_controlled_alike()
+    ensures { ControlInline }
+{}
+
+/// The tree of a group that is seen inline is the tree of its members in the tables, with the same
+/// words in the place of each expression.
+pub fn inline_groups_have_the_same_trees()
+    ensures { GroupsInline }
 {}
 
 /// What a row doesn't write stays as it was.

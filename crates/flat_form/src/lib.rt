@@ -10,6 +10,7 @@ mod laws;
 
 pub use flat::Flat;
 pub use laws::{
-    added_rows_are_read_again, goals_may_be_patched, longer_flat_runs_go_on,
-    rows_change_what_they_write, rows_go_by_names, states_stay_whole,
+    added_rows_are_read_again, goals_may_be_patched, inline_groups_have_the_same_trees,
+    inline_rows_are_controlled_alike, longer_flat_runs_go_on, rows_change_what_they_write,
+    rows_go_by_names, states_stay_whole,
 };
