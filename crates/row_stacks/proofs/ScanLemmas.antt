@@ -1,5 +1,7 @@
 -- Scans of a row that are read at any tuple.
-use Rattle.std.proofs.Common.{◌≡◌, ℕ, zero, suc, ◌<◌, ◌≤◌, Bool, true, false, ◌&&◌, ◌||◌, All, Contains, List, [], ◌∷◌, length, map, get_or, ℤ, pos, int_le, int_lt, Option, Some, None, nat_eq, refl, sym, ◌∙◌, ap, arith}
+use Rattle.std.proofs.Common.{◌≡◌, ℕ, zero, suc, ◌<◌, ◌≤◌, Bool, true, false, ◌&&◌, ◌||◌, All}
+use Rattle.std.proofs.Common.{Contains, List, [], ◌∷◌, length, map, get_or, ℤ, pos, int_le, int_lt}
+use Rattle.std.proofs.Common.{Option, Some, None, nat_eq, refl, sym, ◌∙◌, ap, arith}
 use Rattle.std.specs.Prelude.{fold, if◌then◌else◌}
 use Rattle.std.specs.Ordering.{int_eq}
 use Rattle.std.proofs.lemmas.Bool.{and_parts}
@@ -36,7 +38,8 @@ three_is (a ∷ b ∷ c ∷ d ∷ xs) long = absurd (omega arith)
 
 on_threes : (f : List ℤ → List ℤ → Bool) (xs ts : List ℤ) → length xs ≡ 3 → length ts ≡ 3 →
     f xs ts ≡ f (three xs) (three ts)
-on_threes f xs ts long same = ap (λ v. f v ts) (three_is xs long) ∙ ap (f (three xs)) (three_is ts same)
+on_threes f xs ts long same =
+    ap (λ v. f v ts) (three_is xs long) ∙ ap (f (three xs)) (three_is ts same)
 
 pub three_before : {columns rows answer : Bool} (x y z a b c : ℤ) (xs ts : List ℤ) →
     columns ≡ (int_lt z c || (int_eq z c && false)) →
@@ -64,7 +67,20 @@ pub three_up : {columns rows answer : Bool} (x y z a b c : ℤ) (k : ℕ) (xs ts
     x ≡ at xs 0 → y ≡ at xs 1 → z ≡ at xs 2 → a ≡ at ts 0 → b ≡ at ts 1 → c ≡ at ts 2 →
     answer ≡ is_up_along k xs ts
 three_up x y z a b c k xs ts few low middle high long same ex ey ez ea eb ec =
-    rw (on_threes (is_up_along k) xs ts long same, up_three k (at xs 0) (at xs 1) (at xs 2) (at ts 0) (at ts 1) (at ts 2) few, high, middle, low, ex, ey, ez, ea, eb, ec) refl
+    rw (
+      on_threes (is_up_along k) xs ts long same,
+      up_three k (at xs 0) (at xs 1) (at xs 2) (at ts 0) (at ts 1) (at ts 2) few,
+      high,
+      middle,
+      low,
+      ex,
+      ey,
+      ez,
+      ea,
+      eb,
+      ec,
+    )
+    refl
 
 never : (p q r : Bool) → false ≡ (p && (q && (r && false)))
 never true true true = refl
@@ -72,13 +88,15 @@ never true true false = refl
 never true false r = refl
 never false q r = refl
 
-up_past : (k : ℕ) (x y z a b c : ℤ) → 2 < k → false ≡ is_up_along k (x ∷ y ∷ z ∷ []) (a ∷ b ∷ c ∷ [])
+up_past : (k : ℕ) (x y z a b c : ℤ) → 2 < k →
+    false ≡ is_up_along k (x ∷ y ∷ z ∷ []) (a ∷ b ∷ c ∷ [])
 up_past zero x y z a b c more = absurd (omega arith)
 up_past (suc zero) x y z a b c more = absurd (omega arith)
 up_past (suc (suc zero)) x y z a b c more = absurd (omega arith)
 up_past (suc (suc (suc k))) x y z a b c more = never (int_eq a x) (int_eq b y) (int_eq c z)
 
-pub up_none : (k : ℕ) (xs ts : List ℤ) → length xs ≡ 3 → length ts ≡ 3 → 2 < k → false ≡ is_up_along k xs ts
+pub up_none : (k : ℕ) (xs ts : List ℤ) → length xs ≡ 3 → length ts ≡ 3 → 2 < k →
+    false ≡ is_up_along k xs ts
 up_none k xs ts long same more =
     up_past k (at xs 0) (at xs 1) (at xs 2) (at ts 0) (at ts 1) (at ts 2) more
     ∙ sym (on_threes (is_up_along k) xs ts long same)
@@ -89,7 +107,8 @@ fold_over : (operator : Fold) (own : Region) (is_in goes : List ℤ → Bool) (t
     All HasStep own.dims →
     folded_row operator (map total.value (members own)) (map (λ t. is_in t && goes t) (members own))
     ≡ kept_fold operator (λ t. is_in t && goes t)
-    (element (record { storage = own; values = kept_values is_in total (members own) })) (members own)
+    (element (record { storage = own; values = kept_values is_in total (members own) }))
+    (members own)
 fold_over operator own is_in goes total steps =
     let ts = members own in
     let f : List ℤ → ℤ = λ t. kept_value (is_in t) (total.value t) in
@@ -118,7 +137,8 @@ pub mask_at : (is_in : List ℤ → Bool) (ts : List (List ℤ)) (kept : List Bo
     kept ≡ map is_in ts → i < length ts → get_or kept i d ≡ is_in (get_or ts i [])
 mask_at is_in ts kept i d same less = ap (λ k. get_or k i d) same ∙ by ts i less
   where
-    by : (us : List (List ℤ)) (j : ℕ) → j < length us → get_or (map is_in us) j d ≡ is_in (get_or us j [])
+    by : (us : List (List ℤ)) (j : ℕ) → j < length us →
+        get_or (map is_in us) j d ≡ is_in (get_or us j [])
     by [] j h = absurd (omega arith)
     by (u ∷ us) zero h = refl
     by (u ∷ us) (suc j) h = by us j (omega arith)

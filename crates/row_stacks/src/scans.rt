@@ -1,7 +1,7 @@
 //! Scans of a row that are read at the tuples of another region than the row's.
-ghost use Rattle.std.specs.Prelude.{◌≡◌, ◌≤◌, ◌<◌, ◌+◌, ◌^◌, ◌++◌, ◌&&◌, ◌||◌, [], Bool, ℤ, List, map};
-ghost use Rattle.std.specs.Prelude.{false, true, int_le, int_lt, length, slice_index_or, IfOk, OnOk, vec_len};
-ghost use Rattle.std.specs.Prelude.{if◌then◌else◌};
+ghost use Rattle.std.specs.Prelude.{◌≡◌, ◌≤◌, ◌<◌, ◌+◌, ◌^◌, ◌++◌, ◌&&◌, ◌||◌, [], Bool, ℤ, List};
+ghost use Rattle.std.specs.Prelude.{false, true, int_le, int_lt, length, map, slice_index_or};
+ghost use Rattle.std.specs.Prelude.{IfOk, OnOk, vec_len, if◌then◌else◌};
 ghost use Rattle.std.specs.Ordering.{int_eq};
 ghost use Rattle.zpl_region.specs.Ends.{tuple_count};
 ghost use Rattle.zpl_region.specs.Region.{IsRegion, is_before, members};
@@ -33,8 +33,8 @@ fn is_before(x: &Vec3, t: &Vec3) -> bool
     is_below_or(x[0], t[0], rows)
 }
 
-/// Whether a coordinate is at most another one, along the dimension of a scan, or else the same, and
-/// what follows holds too.
+/// Whether a coordinate is at most another one, along the dimension of a scan, or else the same,
+/// and what follows holds too.
 fn is_up_to(along: bool, y: i64, x: i64, follows: bool) -> bool
     ensures { result ≡ ((if along then int_le y x else int_eq y x) && follows) }
 {
@@ -161,9 +161,9 @@ fn push_scans(
     Ok(())
 }
 
-/// Puts in the place of the row that begins at a place its scan at the tuples of another region. The
-/// row has the values of a term at the tuples of a region of its own. For want of memory nothing is
-/// said of the row.
+/// Puts in the place of the row that begins at a place its scan at the tuples of another region.
+/// The row has the values of a term at the tuples of a region of its own. For want of memory
+/// nothing is said of the row.
 pub fn scan_elsewhere(
     alloc: Global,
     fold: Fold,

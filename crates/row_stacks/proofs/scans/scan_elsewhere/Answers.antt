@@ -1,4 +1,5 @@
-use Rattle.std.proofs.Common.{◌≡◌, ◌++◌, ◌-◌, ℤ, List, length, map, take, drop, sym, ◌∙◌, ap, ap₂, arith}
+use Rattle.std.proofs.Common.{◌≡◌, ◌++◌, ◌-◌, ℤ, List, length, map, take, drop}
+use Rattle.std.proofs.Common.{sym, ◌∙◌, ap, ap₂, arith}
 use Rattle.std.proofs.lemmas.List.{length-map, take_all}
 use Rattle.zpl_region.specs.Region.{members}
 use Rattle.array_totals.specs.Total.{kept_values, scan_total}
@@ -20,7 +21,12 @@ returns c before is_in total begin kept_are values_are =
     let cut : take all (drop c.args.begin c.deref.result.now) ≡ row =
     ap (take all) behind
     ∙ take_all all row
-    (omega (arith, ap length c.deref.ensures.value, c.requires.long, length-map (members own) total.value)) in
+    (omega (
+      arith,
+      ap length c.deref.ensures.value,
+      c.requires.long,
+      length-map (members own) total.value,
+    )) in
     let front : take c.args.begin c.args.out.now.items ≡ before =
     ap (take c.args.begin) values_are
     ∙ (ap (λ n. take n (before ++ row)) (sym begin) ∙ take_front before row) in
