@@ -9,7 +9,7 @@ ghost use Rattle.array_values.specs.Row.{row_with};
 
 use array_stops::Stop;
 use array_terms::Over;
-use row_stacks::scan_behind;
+use row_stacks::{scan_behind, scan_elsewhere};
 use std::alloc::Global;
 use zpl_nums::Fold;
 use zpl_region::{Dim, Region};
@@ -93,6 +93,7 @@ pub fn scan_last(
         scan_behind(scan.fold, scan.along, &scan.over.region, begin, kept, out);
         return Ok(false);
     }
-    // no expression of a program without faults comes here
-    Err(Stop::NoMemory)
+    let own = &scan.over.region;
+    scan_elsewhere(alloc, scan.fold, scan.along, own, begin, kept, region, out)?;
+    Ok(false)
 }

@@ -2,11 +2,11 @@
 use Rattle.std.proofs.Common.{◌≡◌, ℕ, ◌+◌, List, [], ◌∷◌, ◌++◌, length, take, drop, refl, sym, ◌∙◌, ap, append_assoc}
 use Rattle.std.proofs.lemmas.List.{length-append}
 
-take_front : {X : Type 0} (a b : List X) → take (length a) (a ++ b) ≡ a
+pub take_front : {X : Type 0} (a b : List X) → take (length a) (a ++ b) ≡ a
 take_front [] b = refl
 take_front (x ∷ a) b = ap (λ l. x ∷ l) (take_front a b)
 
-drop_front : {X : Type 0} (a b : List X) → drop (length a) (a ++ b) ≡ b
+pub drop_front : {X : Type 0} (a b : List X) → drop (length a) (a ++ b) ≡ b
 drop_front [] b = refl
 drop_front (x ∷ a) b = drop_front a b
 

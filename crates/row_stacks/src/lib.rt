@@ -3,5 +3,7 @@
 #![tactic(auto)]
 
 mod rows;
+mod scans;
 
 pub use rows::{apply_behind, clear_behind, fold_behind, pair_behind, scan_behind};
+pub use scans::scan_elsewhere;

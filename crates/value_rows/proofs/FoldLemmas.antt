@@ -54,7 +54,7 @@ fold_is operator so_far is_in value (t ∷ ts) = by (λ so. fold_is operator so 
     by rest false e = rw e (rest so_far)
 
 -- functions that agree where tuples are kept have the same values there
-same_kept : (P : List ℤ → Type 0) (is_in : List ℤ → Bool) (f g : List ℤ → ℤ) (ts : List (List ℤ)) → All P ts → ((t : List ℤ) → P t → is_in t ≡ true → f t ≡ g t)
+pub same_kept : (P : List ℤ → Type 0) (is_in : List ℤ → Bool) (f g : List ℤ → ℤ) (ts : List (List ℤ)) → All P ts → ((t : List ℤ) → P t → is_in t ≡ true → f t ≡ g t)
     → map f (filter is_in ts) ≡ map g (filter is_in ts)
 same_kept P is_in f g [] h same = refl
 same_kept P is_in f g (t ∷ ts) h same = by (same_kept P is_in f g ts (All-tail P t ts h) same) (is_in t) refl

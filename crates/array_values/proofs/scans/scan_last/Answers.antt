@@ -12,3 +12,8 @@ returns-then-are_same c before is_in total begin kept_are values_are =
     (ap (λ ms. before ++ map (scan_total c.args.scan.now.fold c.args.scan.now.along own is_in (record { storage = own; values = kept_values is_in total (members own) })).value ms)
     (c.are_same.ensures c.if-are_same.true)
     ∙ sym (c.scan_behind.ensures before is_in total begin kept_are values_are))
+
+pub returns : goal.returns
+returns c before is_in total begin kept_are values_are =
+    ap (λ l. Gives (row_with l false))
+    (sym (c.in_ok-scan_elsewhere.ensures before is_in total begin kept_are values_are))
