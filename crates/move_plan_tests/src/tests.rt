@@ -5,9 +5,10 @@ ghost use Rattle.zpl_region.specs.Region.{IsRegion};
 ghost use Rattle.grid_layout.specs.Grid.{processors_of};
 
 use grid_layout::{ArrayBox, Grid, Layout};
-use move_plan::{border_piece, border_source, flood_piece, flood_source};
+use move_plan::{border_piece, flood_piece, flood_source};
 use std::alloc::Global;
 use std::process::Abort;
+use zpl_arrays::border_source;
 use zpl_nums::Border;
 use zpl_region::{Dim, Region, Vec3};
 /// What stands for a dimension past the rank.

@@ -21,10 +21,10 @@ use crate::remaps::held_in_remap;
 use crate::scans::held_in_scan;
 use crate::slots::region_in;
 use grid_layout::Layout;
-use move_plan::border_source;
 use node_form::{Instr, Item, NodeProgram};
 use node_local::Local;
 use node_stages::{edge_piece, item_piece, own_tuples};
+use zpl_arrays::border_source;
 use zpl_nums::Border;
 use zpl_region::{Region, Vec3};
 
