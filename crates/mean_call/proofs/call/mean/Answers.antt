@@ -1,5 +1,6 @@
 use Rattle.std.proofs.Common.{◌≡◌, inl, inr, sym, ◌∙◌, ap, subst, arith}
 use Rattle.call_claims.specs.Call.{call_of}
+use Rattle.call_claims.specs.Stream.{stream_of}
 use Rattle.zpl_io.specs.Faults.{CountsFaults}
 use Rattle.call_claims.specs.declared.status.TheConstants.{UNREADABLE}
 use Rattle.call_answers.specs.Answers.{status_of, told_of}
@@ -28,7 +29,13 @@ returns-clause-meant g c = λ words given.
     let wanting = wanting_comes call a before after work in
     let has_cause = work_comes call a before after work in
     let caused = status_caused a status _ told comes wanting has_cause in
-    subst (λ ran. IsMeant call ran _ _) (sym c.answered.ensures.ran) (record {
+    let out = stream_of (g.O.Sink.tells c.args.out.now) (g.O.Sink.tells c.mean_file-answer.new.out)
+    (g.O.Sink.faults c.args.out.now) (g.O.Sink.faults c.mean_file-answer.new.out)
+    (c.mean_file-answer.new.out ≡ c.args.out.now) in
+    let errs = stream_of (g.E.Sink.tells c.args.errs.now) (g.E.Sink.tells c.answered.new.errs)
+    (g.E.Sink.faults c.args.errs.now) (g.E.Sink.faults c.answered.new.errs)
+    (c.answered.new.errs ≡ c.args.errs.now) in
+    subst (λ ran. IsMeant call ran out errs) (sym c.answered.ensures.ran) (record {
       code = c.without_turns.ensures.code;
       no_counts = record {
         turns = ap (λ counts. counts.turns) c.without_turns.ensures.counts;
@@ -41,9 +48,9 @@ returns-clause-meant g c = λ words given.
       exact = λ settled. c.mean_statuses_are_exact.ensures c.args.files.now words status
           (told_of told.answer) (caused settled.decided.put).0 settled;
       put_failed = λ nine. elim (failed_put a status _ told comes wanting has_cause nine) [
-        | in_work out same ↦ inl (
-          work.cut out,
-          c.mean_file-answer.ensures.puts.rises (sym c.without_turns.ensures.answer ∙ out),
+        | in_work cut_off same ↦ inl (
+          work.cut cut_off,
+          c.mean_file-answer.ensures.puts.rises (sym c.without_turns.ensures.answer ∙ cut_off),
           same,
         )
         | in_telling other failed rose half ↦ inr (
