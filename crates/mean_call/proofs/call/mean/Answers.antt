@@ -82,12 +82,16 @@ returns-clause-known g c = λ e.
 
 pub returns-clause-fetches : goal.returns-clause-fetches
 returns-clause-fetches g c =
-    fetches_counted c.without_turns.result.answer _ _ c.answered.ensures.told _ _
-    (subst (λ a. CountsFaults (status_of a ≡ UNREADABLE) _ _) (sym c.without_turns.ensures.answer)
+    fetches_counted c.without_turns.result.answer _ _ c.answered.ensures.told
+    (g.F.Files.faults c.args.files.now) (g.F.Files.faults c.mean_file-answer.new.files)
+    (subst (λ a. CountsFaults (status_of a ≡ UNREADABLE) (g.F.Files.faults c.args.files.now)
+    (g.F.Files.faults c.mean_file-answer.new.files)) (sym c.without_turns.ensures.answer)
     c.mean_file-answer.ensures.fetches)
 
 pub returns-clause-puts : goal.returns-clause-puts
 returns-clause-puts g c =
-    puts_counted c.without_turns.result.answer _ _ c.answered.ensures.told _ _
-    (subst (λ a. CountsFaults (a ≡ answer.PutFailed) _ _) (sym c.without_turns.ensures.answer)
+    puts_counted c.without_turns.result.answer _ _ c.answered.ensures.told
+    (g.O.Sink.faults c.args.out.now) (g.O.Sink.faults c.mean_file-answer.new.out)
+    (subst (λ a. CountsFaults (a ≡ answer.PutFailed) (g.O.Sink.faults c.args.out.now)
+    (g.O.Sink.faults c.mean_file-answer.new.out)) (sym c.without_turns.ensures.answer)
     c.mean_file-answer.ensures.puts)
