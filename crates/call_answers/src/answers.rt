@@ -87,7 +87,7 @@ impl<'a> Answer<'a> {
 impl Stop {
     /// The status that the program ends with.
     fn status(self) -> u8
-        ensures { result ≡ stop_status self.entry }
+        ensures { result ≡ stop_status self }
     {
         match self {
             Stop::Done => common::DONE,

@@ -45,8 +45,8 @@ impl<'a> Work<'a> {
 
 /// Tells of the answer of work, and answers the call.
 pub fn answered<E: Sink>(alloc: Global, work: Work<'_>, errs: &mut E) -> Ran
-    ensures ran { result ≡ ran_of result.status work }
-    ensures told { IsAnswerOf work.answer result.status
+    ensures ran { result ≡ ran_of result.status work.entry }
+    ensures told { IsAnswerOf work.entry.answer result.status
         (stream_of (E.tells errs.old) (E.tells errs.new) (E.faults errs.old) (E.faults errs.new)
         (errs.new ≡ errs.old)) }
     ensures counts { CountsPuts result.status (E.faults errs.old) (E.faults errs.new) }

@@ -14,7 +14,7 @@ use Rattle.call_claims.specs.Texts.{too_long_text, unreadable_text}
 use Rattle.call_claims.specs.declared.status.TheConstants.{TOO_LONG, UNREADABLE}
 use Rattle.call_claims.specs.Command.{Asked}
 use Rattle.exec_claims.specs.Answer.{HasCounts, Runs}
-use Rattle.exec_claims.specs.Cause.{OrderCause, OrderFileCause, RunCause, Source, TextCause, run_of}
+use Rattle.exec_claims.specs.Cause.{OrderFileCause, RunCause, Source, run_of}
 use Rattle.exec_claims.specs.Cause.RunCause.{done, trap, turn_limit, stuck, idle}
 use Rattle.exec_claims.specs.Cause.OrderCause.{bad_item, ran as under_order}
 use Rattle.exec_claims.specs.Cause.TextCause.{too_long, unreadable, work as of_text}
@@ -30,7 +30,7 @@ use Rattle.call_answers.specs.declared.answers.Answer.TheVariants as answer
 use Rattle.call_answers.specs.declared.work.Work.{Work}
 
 -- ---- files
-pub source_of : (call : Call) (file text : List ℕ)
+abbrev pub source_of : (call : Call) (file text : List ℕ)
     → IsWholeText (call.tells file) MOST_LISTING text → Source call file
 source_of call file text is = record { text = text; told = is.told; short = is.short }
 
@@ -55,11 +55,10 @@ pub unfetched_order : (call : Call) (code : Tables) (file : List ℕ) (a : Answe
     → IsNoText (call.tells file) (call.may_fail_later file) MOST_LISTING file a
     → OrderFails call code (Some file) a
 unfetched_order call code file (answer.Unreadable name) is = λ d asked.
-    subst (λ f. TextCause call file (call.may_fail_later file) (0 ≡ 0) (OrderCause code asked 0) UNREADABLE
-    (unreadable_text f)) (sym is.0) (unreadable is.1 refl)
+    subst (λ f. OrderFileCause call code asked 0 (Some file) UNREADABLE (unreadable_text f))
+    (sym is.0) (unreadable is.1 refl)
 unfetched_order call code file (answer.TooLong name) is = λ d asked.
-    subst (λ f. TextCause call file (call.may_fail_later file) (0 ≡ 0) (OrderCause code asked 0) TOO_LONG
-    (too_long_text f)) (sym is.0)
+    subst (λ f. OrderFileCause call code asked 0 (Some file) TOO_LONG (too_long_text f)) (sym is.0)
     (too_long (record { text = is.1.text; told = is.1.told; long = is.1.long }) refl)
 unfetched_order call code file answer.NoMemory is = λ d. absurd (d.memory refl)
 unfetched_order call code file answer.Usage is = elim is [ ]

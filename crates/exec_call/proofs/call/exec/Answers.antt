@@ -1,5 +1,6 @@
-use Rattle.std.proofs.Common.{inl, inr, sym, subst, arith}
+use Rattle.std.proofs.Common.{◌≡◌, inl, inr, sym, subst, arith}
 use Rattle.call_claims.specs.Call.{call_of}
+use Rattle.call_claims.specs.Stream.{stream_of}
 use Rattle.call_claims.proofs.MetLemmas.{is_met}
 use Rattle.call_answers.specs.Answers.{told_of}
 use Rattle.call_answers.specs.Work.{execution_in}
@@ -35,7 +36,13 @@ returns-clause-executed g c = λ words given.
     let all = c.exec_statuses_are_exact.ensures in
     let at = execution_in work.result in
     let text = told_of told.answer in
-    subst (λ ran. IsExecuted call ran _ _) (sym c.answered.ensures.ran) (record {
+    let out = stream_of (g.O.Sink.tells c.args.out.now) (g.O.Sink.tells c.work_for-work.new.out)
+    (g.O.Sink.faults c.args.out.now) (g.O.Sink.faults c.work_for-work.new.out)
+    (c.work_for-work.new.out ≡ c.args.out.now) in
+    let errs = stream_of (g.E.Sink.tells c.args.errs.now) (g.E.Sink.tells c.answered.new.errs)
+    (g.E.Sink.faults c.args.errs.now) (g.E.Sink.faults c.answered.new.errs)
+    (c.answered.new.errs ≡ c.args.errs.now) in
+    subst (λ ran. IsExecuted call ran out errs) (sym c.answered.ensures.ran) (record {
       code = read_for status call file asked work.result before after given is;
       output = λ n. printed_for status call file asked work.result before after given is
           (work_other work.result.answer status _ told n);
@@ -56,9 +63,9 @@ returns-clause-executed g c = λ words given.
           (cause settled.decided.put) settled;
       put_failed = λ nine.
           elim (failed_put work.result.answer status _ told caused_by no_memory has_cause nine) [
-            | in_work out same ↦ inl (
-              cut_for status call file asked work.result before after given is out,
-              work.ensures.puts.rises out,
+            | in_work cut_off same ↦ inl (
+              cut_for status call file asked work.result before after given is cut_off,
+              work.ensures.puts.rises cut_off,
               same,
             )
             | in_telling other failed rose half ↦ inr (

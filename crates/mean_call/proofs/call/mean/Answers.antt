@@ -1,5 +1,6 @@
 use Rattle.std.proofs.Common.{◌≡◌, inl, inr, sym, ◌∙◌, ap, subst, arith}
 use Rattle.call_claims.specs.Call.{call_of}
+use Rattle.call_claims.specs.Stream.{stream_of}
 use Rattle.zpl_io.specs.Faults.{CountsFaults}
 use Rattle.call_claims.specs.declared.status.TheConstants.{UNREADABLE}
 use Rattle.call_answers.specs.Answers.{status_of, told_of}
@@ -28,7 +29,13 @@ returns-clause-meant g c = λ words given.
     let wanting = wanting_comes call a before after work in
     let has_cause = work_comes call a before after work in
     let caused = status_caused a status _ told comes wanting has_cause in
-    subst (λ ran. IsMeant call ran _ _) (sym c.answered.ensures.ran) (record {
+    let out = stream_of (g.O.Sink.tells c.args.out.now) (g.O.Sink.tells c.mean_file-answer.new.out)
+    (g.O.Sink.faults c.args.out.now) (g.O.Sink.faults c.mean_file-answer.new.out)
+    (c.mean_file-answer.new.out ≡ c.args.out.now) in
+    let errs = stream_of (g.E.Sink.tells c.args.errs.now) (g.E.Sink.tells c.answered.new.errs)
+    (g.E.Sink.faults c.args.errs.now) (g.E.Sink.faults c.answered.new.errs)
+    (c.answered.new.errs ≡ c.args.errs.now) in
+    subst (λ ran. IsMeant call ran out errs) (sym c.answered.ensures.ran) (record {
       code = c.without_turns.ensures.code;
       no_counts = record {
         turns = ap (λ counts. counts.turns) c.without_turns.ensures.counts;
@@ -41,9 +48,9 @@ returns-clause-meant g c = λ words given.
       exact = λ settled. c.mean_statuses_are_exact.ensures c.args.files.now words status
           (told_of told.answer) (caused settled.decided.put).0 settled;
       put_failed = λ nine. elim (failed_put a status _ told comes wanting has_cause nine) [
-        | in_work out same ↦ inl (
-          work.cut out,
-          c.mean_file-answer.ensures.puts.rises (sym c.without_turns.ensures.answer ∙ out),
+        | in_work cut_off same ↦ inl (
+          work.cut cut_off,
+          c.mean_file-answer.ensures.puts.rises (sym c.without_turns.ensures.answer ∙ cut_off),
           same,
         )
         | in_telling other failed rose half ↦ inr (
@@ -75,12 +82,16 @@ returns-clause-known g c = λ e.
 
 pub returns-clause-fetches : goal.returns-clause-fetches
 returns-clause-fetches g c =
-    fetches_counted c.without_turns.result.answer _ _ c.answered.ensures.told _ _
-    (subst (λ a. CountsFaults (status_of a ≡ UNREADABLE) _ _) (sym c.without_turns.ensures.answer)
+    fetches_counted c.without_turns.result.answer _ _ c.answered.ensures.told
+    (g.F.Files.faults c.args.files.now) (g.F.Files.faults c.mean_file-answer.new.files)
+    (subst (λ a. CountsFaults (status_of a ≡ UNREADABLE) (g.F.Files.faults c.args.files.now)
+    (g.F.Files.faults c.mean_file-answer.new.files)) (sym c.without_turns.ensures.answer)
     c.mean_file-answer.ensures.fetches)
 
 pub returns-clause-puts : goal.returns-clause-puts
 returns-clause-puts g c =
-    puts_counted c.without_turns.result.answer _ _ c.answered.ensures.told _ _
-    (subst (λ a. CountsFaults (a ≡ answer.PutFailed) _ _) (sym c.without_turns.ensures.answer)
+    puts_counted c.without_turns.result.answer _ _ c.answered.ensures.told
+    (g.O.Sink.faults c.args.out.now) (g.O.Sink.faults c.mean_file-answer.new.out)
+    (subst (λ a. CountsFaults (a ≡ answer.PutFailed) (g.O.Sink.faults c.args.out.now)
+    (g.O.Sink.faults c.mean_file-answer.new.out)) (sym c.without_turns.ensures.answer)
     c.mean_file-answer.ensures.puts)

@@ -1,5 +1,5 @@
-use Rattle.std.proofs.Common.{map, string_bytes, refl, ap, sym, subst, arith}
-use Rattle.call_claims.specs.Call.{call_of}
+use Rattle.std.proofs.Common.{◌≡◌, map, string_bytes, refl, ap, sym, subst, arith}
+use Rattle.call_claims.specs.Stream.{stream_of}
 use Rattle.top_call.specs.Call.{IsUnknown}
 use Rattle.top_call.proofs.UnknownLemmas.{tells_usage, usage_read}
 use Rattle.top_call.proofs.WordLemmas.{is_some, of_exec, of_list, of_mean, of_run}
@@ -63,7 +63,13 @@ returns-in-None-clause-mean g c = λ asks.
 
 pub returns-in-None-clause-unknown : goal.returns-in-None-clause-unknown
 returns-in-None-clause-unknown g c = λ none.
-    subst (λ ran. IsUnknown ran _ _) (sym c.answered.ensures.ran) (record {
+    let out = stream_of (g.O.Sink.tells c.args.out.now) (g.O.Sink.tells c.args.out.now)
+    (g.O.Sink.faults c.args.out.now) (g.O.Sink.faults c.args.out.now)
+    (c.args.out.now ≡ c.args.out.now) in
+    let errs = stream_of (g.E.Sink.tells c.args.errs.now) (g.E.Sink.tells c.answered.new.errs)
+    (g.E.Sink.faults c.args.errs.now) (g.E.Sink.faults c.answered.new.errs)
+    (c.answered.new.errs ≡ c.args.errs.now) in
+    subst (λ ran. IsUnknown ran out errs) (sym c.answered.ensures.ran) (record {
       code = c.without_turns.ensures.code;
       no_counts = record {
         turns = ap (λ counts. counts.turns) c.without_turns.ensures.counts;

@@ -1,5 +1,6 @@
 use Rattle.std.proofs.Common.{◌≡◌, ◌≢◌, None, inl, inr, sym, ◌∙◌, ap, subst, arith}
 use Rattle.call_claims.specs.Call.{call_of}
+use Rattle.call_claims.specs.Stream.{stream_of}
 use Rattle.call_claims.specs.Cause.{Cause, Lists}
 use Rattle.call_claims.specs.Cause.Cause.{list, no_memory}
 use Rattle.call_claims.specs.Command.{build_of}
@@ -37,7 +38,13 @@ returns-clause-listed g c = λ words given.
       holds = work.ensures.cause words d;
     }) in
     let cause = status_caused work.result.answer status _ told caused_by no_memory has_cause in
-    subst (λ ran. IsListed call ran _ _) (sym c.answered.ensures.ran) (record {
+    let out = stream_of (g.O.Sink.tells c.args.out.now) (g.O.Sink.tells c.list_file-work.new.out)
+    (g.O.Sink.faults c.args.out.now) (g.O.Sink.faults c.list_file-work.new.out)
+    (c.list_file-work.new.out ≡ c.args.out.now) in
+    let errs = stream_of (g.E.Sink.tells c.args.errs.now) (g.E.Sink.tells c.answered.new.errs)
+    (g.E.Sink.faults c.args.errs.now) (g.E.Sink.faults c.answered.new.errs)
+    (c.answered.new.errs ≡ c.args.errs.now) in
+    subst (λ ran. IsListed call ran out errs) (sym c.answered.ensures.ran) (record {
       code = on_some work.result.code (IsMadeOf call file (build_of asked))
           (λ code. Lists call (λ file asked. IsMadeOf call file (build_of asked) code))
           (λ code made. record { file = file; asked = asked; given = given; holds = made })
@@ -59,9 +66,9 @@ returns-clause-listed g c = λ words given.
           (execution_in work.result) status (told_of told.answer) (cause n);
       put_failed = λ nine.
           elim (failed_put work.result.answer status _ told caused_by no_memory has_cause nine) [
-            | in_work out same ↦ inl (
-              work.ensures.cut_off out,
-              work.ensures.puts.rises out,
+            | in_work cut_off same ↦ inl (
+              work.ensures.cut_off cut_off,
+              work.ensures.puts.rises cut_off,
               same,
             )
             | in_telling other failed rose half ↦ inr (
