@@ -9,8 +9,10 @@ ghost use Rattle.call_answers.specs.Refusals.{refusal_text};
 ghost use Rattle.call_answers.specs.Told.{IsHalfTold, IsTold};
 
 use crate::answers::{Answer, Stop};
-use crate::lines::{fault_line, file_line, listing_line, order_line, report_line, settings_line};
-use crate::lines::{stuck_line, trap_line};
+use crate::lines::{
+    fault_line, file_line, listing_line, order_line, report_line, settings_line, stuck_line,
+    trap_line,
+};
 use crate::refusals::Refusal;
 use grid_sim::Counts;
 use std::alloc::{AllocError, Global};

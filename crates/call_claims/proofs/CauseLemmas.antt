@@ -84,7 +84,7 @@ module _ (call : Call) (ex : Execution) where
       → ((file : List ℕ) (asked : Asked) → ListCause call file asked ex n told
       → Holds file asked → n ≡ wanted) → Cause call ex n told → Lists call Holds → n ≡ wanted
   back wanted Holds d to no_memory h = absurd (d.memory refl)
-  back wanted Holds d to (list l) h = to l.file l.asked l.holds 
+  back wanted Holds d to (list l) h = to l.file l.asked l.holds
       (as_asked (codes "list") ListTakes call.words l h)
 
 pub exactly : (call : Call) (ex : Execution) (n : ℕ) (told : List ℕ) → Cause call ex n told

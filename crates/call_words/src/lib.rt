@@ -11,4 +11,4 @@ mod words;
 
 pub use asked::Asked;
 pub use commands::{Command, FileCommand, command_of};
-pub use settings::{setting_in, sets_nothing};
+pub use settings::{sets_nothing, setting_in};

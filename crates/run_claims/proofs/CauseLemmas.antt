@@ -227,7 +227,7 @@ module _ (call : Call) (ex : Execution) where
       → RunFileCause call file asked ex n told → Holds file asked → n ≡ m)
       → Cause call ex n told → Runs call Holds → n ≡ m
   back m Holds d to no_memory h = absurd (d.memory refl)
-  back m Holds d to (run r) h = to r.file r.asked r.given r.holds 
+  back m Holds d to (run r) h = to r.file r.asked r.given r.holds
       (as_asked (codes "run") RunTakes call.words r h)
 
   -- ---- runs

@@ -144,8 +144,8 @@ module _ (text : List ℕ) (asked : Asked) where
 
   -- a text that isn't accepted has no fault of what it is built for
   not_wrong : {told : List ℕ} → IsFaulty text → ¬ IsSetWrong text build told
-  not_wrong faulty (bad_shape none) = none one_is_grid
-  not_wrong faulty (declared program fault accepted holds) = faulty program accepted
+  not_wrong is (bad_shape none) = none one_is_grid
+  not_wrong is (declared program fault accepted holds) = is program accepted
 
   -- and none that is accepted with its settings
   none_wrong : {told : List ℕ} (program : Program)

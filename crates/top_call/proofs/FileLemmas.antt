@@ -16,7 +16,7 @@ use Rattle.call_claims.specs.Decided.{IsDecided}
 use Rattle.call_claims.specs.Execution.{Execution, HasNoRun}
 use Rattle.call_claims.specs.Source.{Source}
 use Rattle.call_claims.specs.Texts.{too_long_text, unreadable_text}
-use Rattle.call_claims.specs.declared.status.TheConstants.{TOO_LONG, UNREADABLE}
+use Rattle.call_claims.specs.declared.status.TheConstants.{DONE, TOO_LONG, UNREADABLE}
 use Rattle.zpl_text.specs.declared.TheConstants.{MOST_SOURCE}
 use Rattle.call_answers.specs.Answers.{status_of, told_of, answer_of}
 use Rattle.call_answers.specs.Fetched.{IsNoText}
@@ -105,6 +105,27 @@ fault_read (unbound told is) = λ e. omega arith
 pub uncoded_read : (text : List ℕ) (build : Build) (a : Answer)
     → IsUncoded text build a → status_of a ≢ UNREADABLE
 uncoded_read text build a is e = fault_read (is (unread_is_decided e)) e
+
+-- nor is anything done
+fault_not_done : {text told : List ℕ} {build : Build} {n : ℕ} → TextFault text build n told
+    → n ≢ DONE
+fault_not_done (refused told is) = λ e. omega arith
+fault_not_done (unbound told is) = λ e. omega arith
+
+file_not_done : {call : Call} {file told : List ℕ} {build : Build} {execution : Execution} {n : ℕ}
+    → FileCause call file execution (λ text. TextFault text build) n told → n ≢ DONE
+file_not_done (unreadable may none) = λ e. omega arith
+file_not_done (too_long long none) = λ e. omega arith
+file_not_done (work source fault) = fault_not_done fault
+
+done_is_decided : {status : ℕ} → status ≡ DONE → IsDecided status
+done_is_decided e = record { put = λ f. omega (arith, e, f); memory = λ f. omega (arith, e, f) }
+
+pub none_not_done : (call : Call) (file : List ℕ) (build : Build) (a : Answer)
+    → HasNoCode call file build a → status_of a ≢ DONE
+none_not_done call file build a is e =
+    file_not_done (is (done_is_decided e) (record { code = None; turns = 0 })
+    (record { no_code = refl; no_turns = refl })) e
 
 -- so a command on the file has that cause, whatever it does with code
 as_program : {call : Call} {file told : List ℕ} {build : Build}

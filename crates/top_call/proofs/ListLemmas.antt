@@ -15,7 +15,7 @@ use Rattle.call_claims.specs.Execution.{HasNoRun, IsMadeOf, TakesListing, TakesL
 use Rattle.call_claims.specs.Stream.{Stream}
 use Rattle.call_claims.specs.declared.status.TheConstants.{DONE, PUT_FAILED, UNREADABLE}
 use Rattle.call_answers.specs.Told.{IsAnswerOf}
-use Rattle.call_answers.proofs.CallLemmas.{told_as, work_other}
+use Rattle.call_answers.proofs.CallLemmas.{told_as}
 use Rattle.call_answers.specs.Answers.{status_of, told_of}
 use Rattle.call_answers.specs.Work.{execution_in, no_counts}
 use Rattle.top_call.specs.Work.{HasNoCode, IsListOn, IsOfListing}
@@ -53,7 +53,7 @@ pub list_none : (call : Call) (file : List ℕ) (asked : Asked) (work : Work) (a
 list_none call file asked work a is same none zero =
     subst (λ b. IsDecided (status_of b)
     → ListCause call file asked (execution_in work) (status_of b) (told_of b)) (sym same)
-    (λ d. none_caused call file (build_of asked) a (execution_in work) 
+    (λ d. none_caused call file (build_of asked) a (execution_in work)
     (λ code. IsListed (execution_in work).turns) is (no_run work none zero) d)
 
 -- ---- what out took of the listing of code
@@ -86,23 +86,25 @@ listing_read a is = elim is [
   ]
 ]
 
+pub listing_done : (a : Answer) → IsOfListing a → status_of a ≡ DONE
+    → a ≡ answer.Stopped stop.Done None
+listing_done a is done = elim is [
+  | inl e ↦ e
+  | inr other ↦ elim other [
+    | inl e ↦ absurd (omega (arith, ap status_of e, done))
+    | inr e ↦ absurd (omega (arith, ap status_of e, done))
+  ]
+]
+
 -- ---- what was told of a listing
 module _ (a : Answer) (status : ℕ) (errs : Stream) (is : IsAnswerOf a status errs) where
-  -- where the status is that of work that was done, that is the answer
-  pub told_done : IsOfListing a → status ≢ PUT_FAILED → status ≡ DONE
-      → a ≡ answer.Stopped stop.Done None
-  told_done of n done = elim of [
-    | inl e ↦ e
-    | inr other ↦ elim other [
-      | inl e ↦ absurd (work_other a status errs is n e)
-      | inr e ↦ absurd (wanting_told e (told_as a status errs is n) done)
-    ]
-  ]
-    where
-      wanting_told : a ≡ answer.NoMemory
-          → (is.answer ≡ a) ⊎ (is.answer ≡ answer.NoMemory) → status ≡ DONE → ⊥
-      wanting_told e (inl same) d = omega (arith, is.is, ap status_of (same ∙ e), d)
-      wanting_told e (inr none) d = omega (arith, is.is, ap status_of none, d)
+  -- where the status is that of work that was done, so is that of the answer
+  done_of : status ≡ DONE → (is.answer ≡ a) ⊎ (is.answer ≡ answer.NoMemory) → status_of a ≡ DONE
+  done_of done (inl same) = sym (ap status_of same) ∙ (sym is.is ∙ done)
+  done_of done (inr none) = absurd (omega (arith, is.is, ap status_of none, done))
+
+  pub told_done : status ≢ PUT_FAILED → status ≡ DONE → status_of a ≡ DONE
+  told_done n done = done_of done (told_as a status errs is n)
 
   -- where a put of errs failed, the work wasn't done: nothing is told of that
   pub not_done : is.answer ≡ answer.PutFailed → a ≢ answer.Stopped stop.Done None

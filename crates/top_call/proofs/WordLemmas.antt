@@ -102,4 +102,3 @@ module _ (one : AreOne) (words : List (List ℕ)) where
   is_some (command.Mean of) is none = none.no_mean of.file.now (asked_in of.asked) is
   is_some (command.Run of) is none = none.no_run of.file.now (asked_in of.asked) is
   is_some (command.Exec of) is none = none.no_exec of.file.now (asked_in of.asked) is
-

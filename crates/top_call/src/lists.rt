@@ -9,7 +9,7 @@ ghost use Rattle.call_claims.specs.Call.{call_of};
 ghost use Rattle.call_claims.specs.Command.{IsList, build_of};
 ghost use Rattle.call_claims.specs.Execution.{IsMadeOf, TakesListing, TakesListingFront};
 ghost use Rattle.call_claims.specs.Stream.{stream_of};
-ghost use Rattle.call_claims.specs.declared.status.TheConstants.{UNREADABLE, USAGE};
+ghost use Rattle.call_claims.specs.declared.status.TheConstants.{DONE, UNREADABLE, USAGE};
 ghost use Rattle.call_answers.specs.Answers.{status_of};
 ghost use Rattle.call_answers.specs.Work.{execution_in, no_counts};
 ghost use Rattle.call_words.specs.Reading.{asked_in};
@@ -81,6 +81,8 @@ fn list_file<'a, F: Files, O: Sink>(
         (F.may_fail_later files.old))
         list.entry.file.now (build_of (asked_in list.entry.asked))) }
     ensures no_counts { result.counts ≡ no_counts }
+    ensures done { status_of result.answer ≡ DONE →
+        result.answer ≡ Answer.Stopped Stop.Done None }
     ensures listed { result.answer ≡ Answer.Stopped Stop.Done None →
         TakesListing (execution_in result) (O.tells out.old) (O.tells out.new) }
     ensures not_listed { result.answer ≢ Answer.Stopped Stop.Done None →

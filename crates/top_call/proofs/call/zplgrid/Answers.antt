@@ -82,11 +82,15 @@ returns-in-None-clause-unknown g c = λ none.
     })
 
 pub returns-in-None-clause-fetches : goal.returns-in-None-clause-fetches
-returns-in-None-clause-fetches g c = record {
-  rises = λ e. absurd (usage_read c.answered.result.status _
-      (tells_usage c.without_turns.result.answer c.answered.result.status _
-      c.without_turns.ensures.answer c.answered.ensures.told) e);
-  only = λ less. absurd (omega (arith, less));
-  never_falls = omega arith;
-  bounded = λ h. h;
-}
+returns-in-None-clause-fetches g c =
+    let errs = stream_of (g.E.Sink.tells c.args.errs.now) (g.E.Sink.tells c.answered.new.errs)
+    (g.E.Sink.faults c.args.errs.now) (g.E.Sink.faults c.answered.new.errs)
+    (c.answered.new.errs ≡ c.args.errs.now) in
+    record {
+      rises = λ e. absurd (usage_read c.answered.result.status errs
+          (tells_usage c.without_turns.result.answer c.answered.result.status errs
+          c.without_turns.ensures.answer c.answered.ensures.told) e);
+      only = λ less. absurd (omega (arith, less));
+      never_falls = omega arith;
+      bounded = λ h. h;
+    }

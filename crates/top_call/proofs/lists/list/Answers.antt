@@ -56,7 +56,7 @@ returns-clause-listed g c = λ words given.
       };
       output = λ n. record {
         listed = λ done. work.ensures.listed
-            (told_done work.result.answer status _ told n done);
+            (work.ensures.done (told_done work.result.answer status _ told n done));
         not_listed = λ other. work.ensures.not_listed
             (λ e. other (told.is ∙ ap status_of (told.told.quiet e ∙ e)))
             (work_other work.result.answer status _ told n);

@@ -1,7 +1,11 @@
+use Rattle.std.proofs.Common.{[], sym, ◌∙◌, ap}
 use Rattle.call_claims.specs.Call.{call_of}
+use Rattle.call_claims.specs.Command.{build_of}
+use Rattle.call_answers.specs.Answers.{status_of}
 use Rattle.call_words.specs.Reading.{asked_in}
 use Rattle.top_call.proofs.ListLemmas.{list_caused, list_none, listing_cut}
-use Rattle.top_call.proofs.ListLemmas.{listing_taken}
+use Rattle.top_call.proofs.ListLemmas.{listing_done, listing_taken}
+use Rattle.top_call.proofs.FileLemmas.{none_not_done}
 use Rattle.top_call.proofs.lists.list_file.Goals as goal
 
 pub returns-in-Ok-clause-cause : goal.returns-in-Ok-clause-cause
@@ -30,3 +34,23 @@ returns-in-Ok-clause-cut_off g c = λ failed.
     listing_cut c.list_code.result c.in-Ok.code (g.O.Sink.tells c.args.out.now)
     (g.O.Sink.tells c.list_code.new.out) c.list_code.ensures.code
     (c.list_code.ensures.cut_off failed)
+
+pub returns-in-Ok-clause-done : goal.returns-in-Ok-clause-done
+returns-in-Ok-clause-done g c = λ done.
+    listing_done c.list_code.result.answer c.list_code.ensures.answer done
+
+pub returns-in-Err-clause-done : goal.returns-in-Err-clause-done
+returns-in-Err-clause-done g c = λ done.
+    let call = call_of [] (g.F.Files.tells c.args.files.now)
+    (g.F.Files.may_fail c.args.files.now) (g.F.Files.may_fail_later c.args.files.now) in
+    absurd (none_not_done call c.args.list.file.now (build_of (asked_in c.args.list.asked))
+    c.in-Err.answer ((c.in-Err.ensures {u = tt}).none [])
+    (sym (ap status_of c.without_turns.ensures.answer) ∙ done))
+
+pub returns-in-Err-clause-listed : goal.returns-in-Err-clause-listed
+returns-in-Err-clause-listed g c = λ done.
+    let call = call_of [] (g.F.Files.tells c.args.files.now)
+    (g.F.Files.may_fail c.args.files.now) (g.F.Files.may_fail_later c.args.files.now) in
+    absurd (none_not_done call c.args.list.file.now (build_of (asked_in c.args.list.asked))
+    c.in-Err.answer ((c.in-Err.ensures {u = tt}).none [])
+    (sym (ap status_of c.without_turns.ensures.answer) ∙ ap status_of done))
