@@ -9,3 +9,4 @@ pub mod WantLemmas
 pub mod TurnLemmas
 pub mod CounterLemmas
 mod Examples
+pub mod StopLemmas

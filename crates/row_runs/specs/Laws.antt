@@ -1,9 +1,9 @@
 -- The laws of bounded runs.
 use Rattle.std.specs.Prelude.{◌≡◌, ℕ, suc, ◌+◌, ◌≤◌, List}
-use Rattle.std.specs.Prelude.{Bool, true, length}
-use Rattle.zpl_nums.specs.declared.ends.End.TheVariants.{Done}
+use Rattle.std.specs.Prelude.{Bool, true, false, length}
+use Rattle.zpl_nums.specs.declared.ends.End.TheVariants.{Done, More}
 use Rattle.row_runs.specs.Run.{Ends, Result, Step, Effect, stopped, walked, runs}
-use Rattle.row_runs.specs.Growth.{GoesOnTo}
+use Rattle.row_runs.specs.Growth.{GoesOnTo, stops_itself}
 use Rattle.row_runs.specs.Straight.{Every, IsStraight, Tied, IsRewriting, through, flowed}
 use Rattle.row_runs.specs.Straight.{rewritten}
 use Rattle.row_runs.specs.Segments.{Keeps, Segment, IsStart, AllAlike, olds, news}
@@ -18,6 +18,20 @@ abbrev pub Grow : {S Row : Type 0} → (act act' : Row → S → Effect S) → T
 Grow {S = S} {Row = Row} act act' =
     (code : List Row) (less more : ℕ) → less ≤ more → (at : ℕ) (state : S)
     → GoesOnTo (runs act code less at state) (runs act' code more at state)
+
+-- A run that stops by itself is the same however many more jumps it may make, and one that doesn't
+-- wanted more jumps.
+abbrev pub StopForGood : {S Row : Type 0} → (Row → S → Effect S) → Type 0
+StopForGood {S = S} {Row = Row} act =
+    (code : List Row) (less more : ℕ) → less ≤ more → (at : ℕ) (state : S)
+    → stops_itself act code less at state ≡ true
+    → runs act code less at state ≡ runs act code more at state
+
+abbrev pub WantElse : {S Row : Type 0} → (Row → S → Effect S) → Type 0
+WantElse {S = S} {Row = Row} act =
+    (code : List Row) (left at : ℕ) (state : S)
+    → stops_itself act code left at state ≡ false
+    → (runs act code left at state).stop ≡ Ends More
 
 -- what is kept is kept by two passes one after the other
 abbrev pub KeepsThrough : Type 0

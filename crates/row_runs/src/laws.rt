@@ -8,7 +8,7 @@ ghost use Rattle.row_runs.specs.Growth.{AreFurther};
 ghost use Rattle.row_runs.specs.Laws.{FlowOn, Follow, FollowWhole, GoalsAreStarts, Grow};
 ghost use Rattle.row_runs.specs.Laws.{GrowByTurns};
 ghost use Rattle.row_runs.specs.Laws.{KeepRuns, KeepsThrough, PassesKeepRuns, RewrittenAreTied};
-ghost use Rattle.row_runs.specs.Laws.{RowsKeepRuns, WantBehindTurns};
+ghost use Rattle.row_runs.specs.Laws.{RowsKeepRuns, StopForGood, WantBehindTurns, WantElse};
 ghost use Rattle.row_runs.specs.Run.{Effect, Step};
 
 use crate::likeness::{Knowledge, Likeness};
@@ -20,6 +20,10 @@ pub fn longer_runs_go_on<Row, State>()
     ensures jumps { (act : Row → State → Effect State) → Grow act act }
     ensures rows { (act further : Row → State → Effect State) → AreFurther act further →
         Grow act further }
+    // One that comes to its end, or to a row that stops it, is the same from there on; else it
+    // wanted more jumps.
+    ensures for_good { (act : Row → State → Effect State) → StopForGood act }
+    ensures wants { (act : Row → State → Effect State) → WantElse act }
 {}
 
 /// Rows that only go on or stop are run as one flow.
