@@ -9,3 +9,4 @@ pub mod Flat
 pub mod Laws
 pub mod Touches
 pub mod States
+pub mod Static

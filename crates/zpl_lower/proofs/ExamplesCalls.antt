@@ -17,7 +17,11 @@ use Rattle.row_runs.specs.Code.{CodeRow, Straight, Jump, Unless}
 use Rattle.row_runs.specs.Structured.{flattened}
 use Rattle.flat_form.specs.Row as row
 use Rattle.node_form.specs.declared.instructions.Instr.TheVariants as instr
+use Rattle.std.specs.Prelude.{not}
+use Rattle.std.specs.List.{list_all, list_any}
+use Rattle.flat_form.specs.Static.{word_has_fringe, has_one_unit, keeps_from, has_shift, mask_of, all_members}
 use Rattle.zpl_lower.specs.Program.{lowered_program}
+use Rattle.zpl_lower.specs.Tables.{flat_tables}
 
 abbrev name : List ℕ → ℕ → Name
 name text at = record { text = text; at = at }
@@ -179,4 +183,20 @@ scalars = refl
 slots : (lowered_program example ([])).slots ≡ (1 ∷ 1 ∷ 1 ∷ 1 ∷ 1 ∷ 1 ∷ 1 ∷ 1 ∷ 1 ∷ 1 ∷ 1 ∷ 1 ∷ 1 ∷ 1 ∷ 1 ∷ 1 ∷ 1 ∷ 1 ∷ 1 ∷ 1 ∷ 1 ∷ 1 ∷ 1 ∷ 1 ∷ 1 ∷ 1 ∷ [])
 unfolding longest_chain int_wrap digits
 slots = refl
+
+has_fringes : list_all (λ words. list_all (word_has_fringe (flat_tables (1 ∷ 0 ∷ 0 ∷ []) example [])) words) (flat_tables (1 ∷ 0 ∷ 0 ∷ []) example []).exprs ≡ true
+unfolding longest_chain int_wrap digits
+has_fringes = refl
+
+has_one_unit_a_loop : list_all has_one_unit (flat_tables (1 ∷ 0 ∷ 0 ∷ []) example []).groups ≡ true
+unfolding longest_chain int_wrap digits
+has_one_unit_a_loop = refl
+
+keeps_cells : list_all (keeps_from (flat_tables (1 ∷ 0 ∷ 0 ∷ []) example []) 0 []) (flat_tables (1 ∷ 0 ∷ 0 ∷ []) example []).groups ≡ true
+unfolding longest_chain int_wrap digits
+keeps_cells = refl
+
+shifts_once : list_all (λ one. not (list_any (has_shift (flat_tables (1 ∷ 0 ∷ 0 ∷ []) example [])) (mask_of one))) (all_members (flat_tables (1 ∷ 0 ∷ 0 ∷ []) example [])) ≡ true
+unfolding longest_chain int_wrap digits
+shifts_once = refl
 
