@@ -1,5 +1,5 @@
--- Conditions on the tables of a flat program alone. No run is wrong where one of them fails, so each
--- pass owes them of its result.
+-- Conditions on the tables of a flat program alone. No run is wrong where one of them fails, so
+-- each pass owes them of its result.
 --
 --   HasFringes           each shift at which an array is read is within its fringe
 --   HasOneUnitALoop      a group with `while` or `repeat` has one outermost member
@@ -86,7 +86,8 @@ RunsGroupsOnce tables =
 
 -- ---- expressions with shifts
 abbrev pub has_shift : Tables → ℕ → Bool
-has_shift tables expr = list_any (λ one. list_any (λ array. true) (shifted_in one)) (words_of tables expr)
+has_shift tables expr =
+    list_any (λ one. list_any (λ array. true) (shifted_in one)) (words_of tables expr)
 
 abbrev pub mask_of : Member → List ℕ
 mask_of (member.Put array expr mask line) = as_list mask
@@ -119,7 +120,8 @@ pub record ShiftsOnce (tables : Tables) : Type 0 where
 abbrev pub puts_apart : Tables → List Member → Bool
 puts_apart tables group =
     nat_le (length group) 1
-    || not (share (flat_map put_by group) (flat_map shifted_in (flat_map (member_words tables) group)))
+    || not (share (flat_map put_by group)
+    (flat_map shifted_in (flat_map (member_words tables) group)))
 
 abbrev pub PutsApart : Tables → Type 0
 PutsApart tables = All (λ group. puts_apart tables group ≡ true) tables.groups
