@@ -65,7 +65,7 @@ line = record {
       ∷ (word.Here 2 ∷ word.Here 1 ∷ word.Pair op.Mul ∷ [])
       ∷ (word.Here 0 ∷ word.Const (pos 3) ∷ word.Pair op.Gt ∷ [])
       ∷ (word.Shifted 0 (at (pos 1) (pos 0) (pos 0))
-        ∷ word.Shifted 0 (at (negsuc 0) (pos 0) (pos 0)) ∷ word.Pair op.Add ∷ [])
+      ∷ word.Shifted 0 (at (negsuc 0) (pos 0) (pos 0)) ∷ word.Pair op.Add ∷ [])
       ∷ (word.Const (pos 2) ∷ [])
       ∷ (word.Scalar 0 ∷ word.Const (pos 0) ∷ word.Pair op.Gt ∷ [])
       ∷ (word.Here 1 ∷ [])
@@ -192,14 +192,14 @@ sheet = record {
   slots = 2 ∷ 2 ∷ 2 ∷ 2 ∷ 2 ∷ 2 ∷ [];
   arrays =
       stored 2 (axis.Range (pos 1) (pos 3) (pos 1) (pos 1)) (axis.Range (pos 1) (pos 3) (pos 0)
-        (pos 0)) unused
+      (pos 0)) unused
       ∷ stored 2 (axis.Range (pos 1) (pos 3) (pos 0) (pos 0)) (axis.Range (pos 1) (pos 3) (pos 0)
-        (pos 0)) unused
+      (pos 0)) unused
       ∷ stored 2 (axis.Range (pos 1) (pos 3) (pos 0) (pos 0)) (axis.Range (pos 1) (pos 3) (pos 0)
-        (pos 0)) unused
+      (pos 0)) unused
       ∷ stored 2 (axis.Range (pos 1) (pos 3) (pos 0) (pos 1)) axis.Star unused
       ∷ stored 2 (axis.Range (pos 1) (pos 3) (pos 0) (pos 0)) (axis.Range (pos 1) (pos 3) (pos 0)
-        (pos 0)) unused
+      (pos 0)) unused
       ∷ temporary 2 unused unused unused
       ∷ temporary 2 unused axis.Star unused
       ∷ [];

@@ -1,13 +1,12 @@
 -- The code gets no longer, and its jumps and tests stay.
-use Rattle.std.proofs.Common.{◌≡◌, refl, ap, ◌∙◌, subst, arith, ℕ, ◌+◌, ◌≤◌, Bool, true, false}
-use Rattle.std.proofs.Common.{List, [], ◌∷◌, length, length-append, true≢false}
+use Rattle.std.proofs.Common.{◌≡◌, refl, ◌∙◌, subst, arith, ℕ, ◌≤◌, Bool, true, false}
+use Rattle.std.proofs.Common.{List, [], ◌∷◌, length, length-append}
 use Rattle.std.specs.Prelude.{cond, filter, count_by, Option, Some, None}
 use Rattle.std.specs.Option.{option_map}
 use Rattle.std.specs.List.{AllByRecursion}
 use Rattle.row_runs.specs.Cut.{Stretch, as_list, moved_by}
 use Rattle.row_runs.proofs.CutLemmas.{cut_rows}
 use Rattle.node_form.specs.declared.instructions.Instr.{Instr}
-use Rattle.node_form.specs.declared.instructions.Instr.TheVariants as instr
 use Rattle.node_form.specs.declared.tables.Tables.{Tables}
 use Rattle.code_parts.specs.Counts.{code_size, count_of}
 use Rattle.code_parts.specs.Stretch.{ends_stretch, is_goal}
@@ -41,9 +40,10 @@ module _ (tables : Tables) where
       (λ xs ys. length-append xs ys) (λ xs ys. length-append xs ys) refl
       (filter (stays tables)) with_moved_goal moved) stretches
   all_shorter [] = tt
-  all_shorter (stretch ∷ stretches) =
-      (record { front = filtered_length stretch.front; last = one_length stretch.last }
-      , all_shorter stretches)
+  all_shorter (stretch ∷ stretches) = (
+    record { front = filtered_length stretch.front; last = one_length stretch.last },
+    all_shorter stretches,
+  )
 
   pub no_longer : length (checked tables).code ≤ length tables.code
   no_longer =
@@ -75,15 +75,16 @@ module _ (tables : Tables) where
       → AllByRecursion (AsMuch (count_by has_goal) (count_by has_goal) (count_append has_goal)
       (count_append has_goal) refl (filter (stays tables)) with_moved_goal moved) stretches
   all_as_many [] all = tt
-  all_as_many (stretch ∷ stretches) all =
-      (record {
-        front =
-            straight_count (filter (stays tables) stretch.front)
-            (filtered_straight stretch.front all.0.straight)
-            ∙ omega (arith, straight_count stretch.front all.0.straight);
-        last = same_goals moved stretch.last;
-      }
-      , all_as_many stretches all.1)
+  all_as_many (stretch ∷ stretches) all = (
+    record {
+      front =
+          straight_count (filter (stays tables) stretch.front)
+          (filtered_straight stretch.front all.0.straight)
+          ∙ omega (arith, straight_count stretch.front all.0.straight);
+      last = same_goals moved stretch.last;
+    },
+    all_as_many stretches all.1,
+  )
 
   pub as_many_goals : count_of has_goal (checked tables) ≡ count_of has_goal tables
   as_many_goals =

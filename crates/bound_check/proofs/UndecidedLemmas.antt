@@ -1,20 +1,20 @@
 -- No `need` is left that always passes.
-use Rattle.std.proofs.Common.{◌≡◌, refl, sym, ap, ◌∙◌, subst, ℕ, Bool, true, false, true≢false}
-use Rattle.std.proofs.Common.{ℤ, List, [], ◌∷◌, ◌++◌, All}
+use Rattle.std.proofs.Common.{◌≡◌, refl, sym, ap, ◌∙◌, ℕ, Bool, true, false, true≢false}
+use Rattle.std.proofs.Common.{ℤ, List, [], ◌∷◌, ◌++◌}
 use Rattle.std.specs.Prelude.{◌&&◌, cond, filter, not, Option, Some, None}
 use Rattle.std.specs.Option.{option_map}
 use Rattle.std.specs.List.{AllByRecursion, list_all}
 use Rattle.std.proofs.lemmas.List.Elements.{All-from_recursion}
 use Rattle.std.proofs.lemmas.List.Folds.{list_all-append}
 use Rattle.row_runs.specs.Segments.{news}
-use Rattle.row_runs.specs.Cut.{Stretch, all_rows, as_list, moved_by, rows_of, segments_by}
+use Rattle.row_runs.specs.Cut.{Stretch, all_rows, as_list, moved_by, segments_by}
 use Rattle.row_runs.proofs.CutLemmas.{cut_rows}
 use Rattle.node_form.specs.declared.instructions.Instr.{Instr}
 use Rattle.node_form.specs.declared.instructions.Instr.TheVariants as instr
 use Rattle.node_form.specs.declared.tables.Tables.{Tables}
 use Rattle.code_parts.specs.Needs.{IsUndecided, is_decided, leaves_passing}
 use Rattle.code_parts.specs.Stretch.{ends_stretch, is_goal}
-use Rattle.flat_passes.specs.Rewritten.{rewritten_code, stretches_of, with_moved_goal}
+use Rattle.flat_passes.specs.Rewritten.{stretches_of, with_moved_goal}
 use Rattle.flat_passes.proofs.StretchLemmas.{HoldsOf, IsCut, all_cut, news_hold}
 use Rattle.bound_check.specs.Checked.{checked, stays}
 
@@ -105,7 +105,8 @@ module _ (tables : Tables) where
   new = (checked tables).code
 
   -- ---- a `need` that is decided now was so before
-  was_decided : (row : Instr) → is_decided (checked tables) row ≡ true → is_decided tables row ≡ true
+  was_decided : (row : Instr) → is_decided (checked tables) row ≡ true
+      → is_decided tables row ≡ true
   was_decided (instr.Need slot array shift line) e =
       sym (ap (list_all (leaves_passing tables slot array shift))
       (cut_rows ends_stretch (is_goal tables.code) 0 tables.code))
@@ -136,7 +137,8 @@ module _ (tables : Tables) where
   all_stayed [] = tt
   all_stayed (row ∷ rows) = by (all_stayed rows) (stays tables row) refl
     where
-      by : AllByRecursion (λ row. is_decided (checked tables) row ≡ false) (filter (stays tables) rows)
+      by : AllByRecursion (λ row. is_decided (checked tables) row ≡ false)
+          (filter (stays tables) rows)
           → (b : Bool) → stays tables row ≡ b
           → AllByRecursion (λ row. is_decided (checked tables) row ≡ false)
           (cond b (row ∷ filter (stays tables) rows) (filter (stays tables) rows))
@@ -155,12 +157,13 @@ module _ (tables : Tables) where
       → AllByRecursion (HoldsOf (λ row. is_decided (checked tables) row ≡ false)
       (filter (stays tables)) with_moved_goal moved) stretches
   all_hold moved [] all = tt
-  all_hold moved (stretch ∷ stretches) all =
-      (record {
-        front = all_stayed stretch.front;
-        last = λ row is. end_stays moved row (all.0.last row is);
-      }
-      , all_hold moved stretches all.1)
+  all_hold moved (stretch ∷ stretches) all = (
+    record {
+      front = all_stayed stretch.front;
+      last = λ row is. end_stays moved row (all.0.last row is);
+    },
+    all_hold moved stretches all.1,
+  )
 
   pub undecided : IsUndecided (checked tables)
   undecided =

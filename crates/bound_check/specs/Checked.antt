@@ -1,5 +1,5 @@
 -- Checks of places that always pass are left out.
-use Rattle.std.specs.Prelude.{Bool, not, List, filter}
+use Rattle.std.specs.Prelude.{Bool, not, filter}
 use Rattle.node_form.specs.declared.instructions.Instr.{Instr}
 use Rattle.node_form.specs.declared.tables.Tables.{Tables}
 use Rattle.code_parts.specs.Needs.{is_decided}

@@ -49,11 +49,14 @@ module _ {Row : Type 0} (ends : Row → Bool) (is_goal : ℕ → Bool) where
 
       by : (e : Bool) → ends row ≡ e → (g : Bool) (rest : List (Stretch Row))
           → AllByRecursion IsCut rest → AllByRecursion IsCut (cut_row e g row rest)
-      by true is g rest all =
-          (record { straight = tt; last = λ other same. ap ends (sym (some_is row other same)) ∙ is }
-          , all)
-      by false is true rest all =
-          (record { straight = straight_one is; last = λ other same. absurd (none other same) }, all)
+      by true is g rest all = (
+        record { straight = tt; last = λ other same. ap ends (sym (some_is row other same)) ∙ is },
+        all,
+      )
+      by false is true rest all = (
+        record { straight = straight_one is; last = λ other same. absurd (none other same) },
+        all,
+      )
         where
           none : (other : Row) → (let n : Option Row = None in n) ≡ Some other → ⊥
           none other same = cc
@@ -100,12 +103,13 @@ module _ {Old New : Type 0} (old_sum : List Old → ℕ) (new_sum : List New →
       omega (
         arith,
         new_adds (rewrite stretch.front ++ as_list (option_map (retarget moved) stretch.last))
-        (news (segments_by rewrite retarget moved stretches)),
+            (news (segments_by rewrite retarget moved stretches)),
         new_adds (rewrite stretch.front) (as_list (option_map (retarget moved) stretch.last)),
         old_adds (rows_of stretch) (all_rows stretches),
         old_adds stretch.front (as_list stretch.last),
-        all.0.front, all.0.last,
-        at_most stretches all.1
+        all.0.front,
+        all.0.last,
+        at_most stretches all.1,
       )
 
   pub record AsMuch (stretch : Stretch Old) : Type 0 where
@@ -120,12 +124,13 @@ module _ {Old New : Type 0} (old_sum : List Old → ℕ) (new_sum : List New →
       omega (
         arith,
         new_adds (rewrite stretch.front ++ as_list (option_map (retarget moved) stretch.last))
-        (news (segments_by rewrite retarget moved stretches)),
+            (news (segments_by rewrite retarget moved stretches)),
         new_adds (rewrite stretch.front) (as_list (option_map (retarget moved) stretch.last)),
         old_adds (rows_of stretch) (all_rows stretches),
         old_adds stretch.front (as_list stretch.last),
-        all.0.front, all.0.last,
-        as_much old_none stretches all.1
+        all.0.front,
+        all.0.last,
+        as_much old_none stretches all.1,
       )
 
 -- ---- jumps and tests

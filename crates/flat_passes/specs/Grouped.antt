@@ -1,5 +1,5 @@
 -- Rows with their groups inline: a loop has its members, and expressions have their numbers.
-use Rattle.std.specs.Prelude.{ℕ, ◌+◌, List, [], ◌∷◌, ◌++◌, flat_map, length, map, sum_by}
+use Rattle.std.specs.Prelude.{ℕ, ◌+◌, List, [], ◌∷◌, flat_map, length, map, sum_by}
 use Rattle.row_runs.specs.Cut.{passed}
 use Rattle.node_form.specs.declared.members.Member.{Member}
 use Rattle.node_form.specs.declared.instructions.Instr.{Instr}

@@ -1,5 +1,5 @@
 -- Cells take the place of arrays: at most one for each.
-use Rattle.std.proofs.Common.{◌≡◌, refl, sym, ap, ◌∙◌, arith, ℕ, zero, suc, ◌+◌, ◌≤◌, Bool, true}
+use Rattle.std.proofs.Common.{◌≡◌, refl, ◌∙◌, arith, ℕ, zero, suc, ◌+◌, ◌≤◌, Bool, true}
 use Rattle.std.proofs.Common.{false, List, [], ◌∷◌, ◌++◌, length}
 use Rattle.std.proofs.lemmas.List.{length-map}
 use Rattle.std.specs.Prelude.{cond, map, sum_by}
@@ -31,8 +31,12 @@ as_long : {X Y : Type 0} (change : X → Y) (lists : List (List X))
 as_long change [] = refl
 as_long change (list ∷ lists) =
     sum_by-cons (λ list. length list) (map change list) (map (map change) lists)
-    ∙ omega (arith, length-map list change, as_long change lists,
-    sum_by-cons (λ list. length list) list lists)
+    ∙ omega (
+      arith,
+      length-map list change,
+      as_long change lists,
+      sum_by-cons (λ list. length list) list lists,
+    )
 
 pub size_with_cells : (tables : Tables)
     → code_size (contracted tables) ≤ code_size tables + length tables.arrays
@@ -41,5 +45,6 @@ size_with_cells tables =
       arith,
       few_cells tables,
       as_long (word_contracted (cell_among tables.cells (contracted_arrays tables))) tables.exprs,
-      as_long (member_contracted (cell_among tables.cells (contracted_arrays tables))) tables.groups
+      as_long (member_contracted (cell_among tables.cells (contracted_arrays tables)))
+          tables.groups,
     )

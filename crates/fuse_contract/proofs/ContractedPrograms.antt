@@ -65,7 +65,7 @@ line = record {
       ∷ (word.Here 2 ∷ word.Here 1 ∷ word.Pair op.Mul ∷ [])
       ∷ (word.Here 0 ∷ word.Const (pos 3) ∷ word.Pair op.Gt ∷ [])
       ∷ (word.Shifted 0 (at (pos 1) (pos 0) (pos 0))
-        ∷ word.Shifted 0 (at (negsuc 0) (pos 0) (pos 0)) ∷ word.Pair op.Add ∷ [])
+      ∷ word.Shifted 0 (at (negsuc 0) (pos 0) (pos 0)) ∷ word.Pair op.Add ∷ [])
       ∷ (word.Const (pos 2) ∷ [])
       ∷ (word.Scalar 0 ∷ word.Const (pos 0) ∷ word.Pair op.Gt ∷ [])
       ∷ (word.Here 1 ∷ [])
@@ -80,7 +80,7 @@ line = record {
       ∷ [];
   groups =
       (member.Put 1 0 None 10 ∷ member.Put 2 1 None 11 ∷ member.Put 0 2 None 12
-        ∷ member.Put 3 3 None 13 ∷ [])
+      ∷ member.Put 3 3 None 13 ∷ [])
       ∷ (member.Put 6 4 None 14 ∷ [])
       ∷ (member.Put 0 15 None 14 ∷ [])
       ∷ (member.Put 4 7 None 17 ∷ [])
@@ -131,7 +131,7 @@ line_contracted = record line {
       ∷ (word.Cell 0 ∷ word.Here 1 ∷ word.Pair op.Mul ∷ [])
       ∷ (word.Here 0 ∷ word.Const (pos 3) ∷ word.Pair op.Gt ∷ [])
       ∷ (word.Shifted 0 (at (pos 1) (pos 0) (pos 0))
-        ∷ word.Shifted 0 (at (negsuc 0) (pos 0) (pos 0)) ∷ word.Pair op.Add ∷ [])
+      ∷ word.Shifted 0 (at (negsuc 0) (pos 0) (pos 0)) ∷ word.Pair op.Add ∷ [])
       ∷ (word.Const (pos 2) ∷ [])
       ∷ (word.Scalar 0 ∷ word.Const (pos 0) ∷ word.Pair op.Gt ∷ [])
       ∷ (word.Here 1 ∷ [])
@@ -146,7 +146,7 @@ line_contracted = record line {
       ∷ [];
   groups =
       (member.Put 1 0 None 10 ∷ member.Cell 0 1 None 11 ∷ member.Put 0 2 None 12
-        ∷ member.Put 3 3 None 13 ∷ [])
+      ∷ member.Put 3 3 None 13 ∷ [])
       ∷ (member.Put 6 4 None 14 ∷ [])
       ∷ (member.Put 0 15 None 14 ∷ [])
       ∷ (member.Put 4 7 None 17 ∷ [])
@@ -169,14 +169,14 @@ sheet = record {
   slots = 2 ∷ 2 ∷ 2 ∷ 2 ∷ 2 ∷ 2 ∷ [];
   arrays =
       stored 2 (axis.Range (pos 1) (pos 3) (pos 1) (pos 1)) (axis.Range (pos 1) (pos 3) (pos 0)
-        (pos 0)) unused
+      (pos 0)) unused
       ∷ stored 2 (axis.Range (pos 1) (pos 3) (pos 0) (pos 0)) (axis.Range (pos 1) (pos 3) (pos 0)
-        (pos 0)) unused
+      (pos 0)) unused
       ∷ stored 2 (axis.Range (pos 1) (pos 3) (pos 0) (pos 0)) (axis.Range (pos 1) (pos 3) (pos 0)
-        (pos 0)) unused
+      (pos 0)) unused
       ∷ stored 2 (axis.Range (pos 1) (pos 3) (pos 0) (pos 1)) axis.Star unused
       ∷ stored 2 (axis.Range (pos 1) (pos 3) (pos 0) (pos 0)) (axis.Range (pos 1) (pos 3) (pos 0)
-        (pos 0)) unused
+      (pos 0)) unused
       ∷ temporary 2 unused unused unused
       ∷ temporary 2 unused axis.Star unused
       ∷ [];

@@ -104,7 +104,9 @@ too_early : groups_of (join (need 1 unmoved ∷ need 2 unmoved ∷ computed ∷ 
 too_early = refl
 
 -- ---- loops that stay apart: a goal, another slot, a read with a shift, an accumulated scalar
-goal : (fused (with_groups three (fixed ∷ instr.Loop 0 0 ∷ instr.Loop 0 1 ∷ instr.Jump 2 ∷ []))).code
+goal :
+    rows_of (fused (with_groups three
+    (fixed ∷ instr.Loop 0 0 ∷ instr.Loop 0 1 ∷ instr.Jump 2 ∷ [])))
     ≡ fixed ∷ instr.Loop 0 0 ∷ instr.Loop 0 1 ∷ instr.Jump 2 ∷ []
 goal = refl
 

@@ -28,7 +28,8 @@ pub fn loops_are_joined()
 /// gets larger.
 pub fn arrays_become_cells()
     ensures cells { (code : Code) → (contracted code).cells ≤ code.cells + length code.arrays }
-    ensures size { (code : Code) → code_size (contracted code) ≤ code_size code + length code.arrays }
+    ensures size { (code : Code) →
+        code_size (contracted code) ≤ code_size code + length code.arrays }
     ensures rest { (code : Code) →
         record (contracted code) { cells = code.cells; groups = code.groups; exprs = code.exprs }
         ≡ code }

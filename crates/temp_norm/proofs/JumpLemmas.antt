@@ -1,22 +1,20 @@
 -- Jumps and tests stay.
-use Rattle.std.proofs.Common.{◌≡◌, refl, sym, ap, ◌∙◌, subst, arith, ℕ, ◌+◌, Bool, true, false}
-use Rattle.std.proofs.Common.{List, [], ◌∷◌, ◌++◌, length}
-use Rattle.std.specs.Prelude.{cond, count_by, flat_map, map, if◌then◌else◌, Option, Some, None}
+use Rattle.std.proofs.Common.{◌≡◌, refl, sym, ◌∙◌, subst, arith, ℕ, ◌+◌}
+use Rattle.std.proofs.Common.{List, [], ◌∷◌, length}
+use Rattle.std.specs.Prelude.{cond, count_by, flat_map, map}
 use Rattle.std.specs.Prelude.{slice_get}
-use Rattle.std.specs.Option.{option_map}
 use Rattle.std.specs.List.{AllByRecursion}
-use Rattle.std.proofs.lemmas.List.Sums.{sum_by-append, sum_by-cons}
-use Rattle.row_runs.specs.Cut.{Stretch, as_list, moved_by}
+use Rattle.std.proofs.lemmas.List.Sums.{sum_by-cons}
+use Rattle.row_runs.specs.Cut.{Stretch, moved_by}
 use Rattle.row_runs.proofs.CutLemmas.{cut_rows}
 use Rattle.node_form.specs.declared.arrays.ArrayRow.{ArrayRow}
 use Rattle.node_form.specs.declared.members.Member.{Member}
 use Rattle.node_form.specs.declared.members.Member.TheVariants as member
 use Rattle.node_form.specs.declared.instructions.Instr.{Instr}
-use Rattle.node_form.specs.declared.instructions.Instr.TheVariants as instr
 use Rattle.node_form.specs.declared.tables.Tables.{Tables}
 use Rattle.code_parts.specs.Counts.{count_of}
 use Rattle.code_parts.specs.Stretch.{ends_stretch, is_goal}
-use Rattle.flat_passes.specs.Rewritten.{has_goal, stretches_of, with_moved_goal}
+use Rattle.flat_passes.specs.Rewritten.{has_goal, stretches_of}
 use Rattle.flat_passes.specs.Grouped.{Grouped, Runs, Plain, ended_by, grouped, rewritten_rows}
 use Rattle.flat_passes.proofs.GroupedLemmas.{all_ended_lead, all_grouped_lead, leads}
 use Rattle.flat_passes.proofs.GroupedLemmas.{numbered_goals}
@@ -63,14 +61,15 @@ module _ (tables : Tables) where
       → AllByRecursion (AsMuch (count_by has_goal) (count_by leads) (count_append has_goal)
       (count_append leads) refl rewrite ended_by moved) stretches
   all_goals [] = tt
-  all_goals (stretch ∷ stretches) =
-      (record {
-        front =
-            front_leads (map (grouped tables) stretch.front)
-            ∙ all_grouped_lead tables stretch.front;
-        last = all_ended_lead moved stretch.last;
-      }
-      , all_goals stretches)
+  all_goals (stretch ∷ stretches) = (
+    record {
+      front =
+          front_leads (map (grouped tables) stretch.front)
+          ∙ all_grouped_lead tables stretch.front;
+      last = all_ended_lead moved stretch.last;
+    },
+    all_goals stretches,
+  )
 
   pub same_goals : count_of has_goal (normalised tables) ≡ count_of has_goal tables
   same_goals =

@@ -1,2 +1,3 @@
 pub mod JumpLemmas
+pub mod NormalLemmas
 mod Programs

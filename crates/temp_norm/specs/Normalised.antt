@@ -1,10 +1,10 @@
 -- No group reads with a shift what it puts: its values go through a temporary.
 use Rattle.std.specs.Prelude.{ℕ, ◌+◌, ◌==◌, Bool, true, false, ◌&&◌, pos, Option, Some, None}
 use Rattle.std.specs.Prelude.{List, [], ◌∷◌, ◌++◌, flat_map, fold, length, map, slice_get}
-use Rattle.std.specs.Prelude.{if◌then◌else◌}
+use Rattle.std.specs.Prelude.{◌≡◌, All, if◌then◌else◌}
 use Rattle.std.specs.List.{list_any, position_or_len}
 use Rattle.std.specs.Cmp.Lexicographic.{pointwise}
-use Rattle.row_runs.specs.Cut.{as_list}
+use Rattle.row_runs.specs.Cut.{as_list as found_list}
 use Rattle.node_form.specs.declared.words.ExprOp.{ExprOp}
 use Rattle.node_form.specs.declared.words.ExprOp.TheVariants as word
 use Rattle.node_form.specs.declared.arrays.ArrayDim.{ArrayDim}
@@ -15,7 +15,7 @@ use Rattle.node_form.specs.declared.members.Member.TheVariants as member
 use Rattle.node_form.specs.declared.instructions.Instr.{Instr}
 use Rattle.node_form.specs.declared.instructions.Instr.TheVariants as instr
 use Rattle.node_form.specs.declared.tables.Tables.{Tables}
-use Rattle.code_parts.specs.Uses.{member_words, put_by, share, shifted_in}
+use Rattle.code_parts.specs.Uses.{as_list, member_words, put_by, share, shifted_in, words_of}
 use Rattle.flat_passes.specs.Grouped.{Grouped, Runs, Plain, grouped, rewritten_rows, with_grouped}
 
 -- ---- which groups
@@ -59,7 +59,7 @@ with_one_like rows row =
 
 abbrev pub rows_through : Tables → Instr → List ArrayRow
 rows_through tables row =
-    flat_map (λ array. as_list (slice_get tables.arrays array))
+    flat_map (λ array. found_list (slice_get tables.arrays array))
     (array_through tables (grouped tables row))
 
 -- in the order in which the code wants them
@@ -119,3 +119,23 @@ normalised tables =
     let rows = temporaries tables in
     with_grouped (with_temporaries tables rows)
     (rewritten_rows tables (flat_map (row_through tables rows)))
+
+-- ---- what the pass is for
+-- the arrays that expressions read with a shift
+abbrev pub shifted_by : Tables → List ℕ → List ℕ
+shifted_by tables exprs = flat_map shifted_in (flat_map (words_of tables) exprs)
+
+-- the group has one member, whose mask doesn't read with a shift the array that it puts
+pub data PutsAlone (tables : Tables) : List Member → Type 0 where
+  puts_alone : (array expr : ℕ) (mask : Option ℕ) (line : ℕ)
+      → share (array ∷ []) (shifted_by tables (as_list mask)) ≡ false
+      → PutsAlone tables (member.Put array expr mask line ∷ [])
+
+-- groups that read themselves are such ones: so they are when a program is lowered
+abbrev pub ReadThemselvesAlone : Tables → Type 0
+ReadThemselvesAlone tables =
+    All (λ group. reads_itself tables group ≡ true → PutsAlone tables group) tables.groups
+
+-- no group reads with a shift what it puts
+abbrev pub IsNormal : Tables → Type 0
+IsNormal tables = All (λ group. reads_itself tables group ≡ false) tables.groups

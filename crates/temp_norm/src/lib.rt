@@ -2,14 +2,18 @@
 #![tactic(auto)]
 
 ghost use Rattle.std.specs.Prelude.{◌≡◌};
+ghost use Rattle.node_form.specs.Fits.{Fits};
 ghost use Rattle.node_form.specs.declared.tables.Tables.{Tables as Code};
 ghost use Rattle.code_parts.specs.Counts.{count_of};
 ghost use Rattle.flat_passes.specs.Rewritten.{has_goal};
-ghost use Rattle.temp_norm.specs.Normalised.{normalised};
+ghost use Rattle.temp_norm.specs.Normalised.{IsNormal, ReadThemselvesAlone, normalised};
 
-/// Where values go through temporaries, the code has as many jumps and tests, and nothing but its
-/// rows, groups, arrays and expressions changes.
+/// No group reads with a shift what it puts, where each that did had one member, with a mask that
+/// doesn't. The code has as many jumps and tests, and nothing but its rows, groups, arrays and
+/// expressions changes.
 pub fn values_go_through_temporaries()
+    ensures normal { (code : Code) → Fits code → ReadThemselvesAlone code →
+        IsNormal (normalised code) }
     ensures jumps { (code : Code) → count_of has_goal (normalised code) ≡ count_of has_goal code }
     ensures rest { (code : Code) →
         record (normalised code) {
