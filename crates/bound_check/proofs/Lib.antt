@@ -1,0 +1,3 @@
+mod Programs
+pub mod SizeLemmas
+pub mod UndecidedLemmas

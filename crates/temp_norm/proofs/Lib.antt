@@ -1,0 +1,3 @@
+pub mod JumpLemmas
+pub mod NormalLemmas
+mod Programs
