@@ -1,0 +1,2 @@
+//! Exchanges that start early.
+#![tactic(auto)]

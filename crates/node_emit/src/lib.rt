@@ -1,0 +1,2 @@
+//! From plans to node code.
+#![tactic(auto)]
