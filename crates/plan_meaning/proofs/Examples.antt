@@ -107,11 +107,13 @@ shifted_plan = record shifted {
       ∷ [];
 }
 
-shifted_plan_runs : plan_run shifted_plan None 1 0 ≡ flat_run shifted 1 0
+shifted_plan_runs :
+    plan_run shifted_plan None 1 0 ≡ record { bytes = codes "2 3 4"; stop = Ends Done }
 unfolding int_wrap digits
 shifted_plan_runs = refl
 
-shifted_plan_runs_in_turn : plan_run shifted_plan (Some 1) 1 0 ≡ flat_run shifted 1 0
+shifted_plan_runs_in_turn :
+    plan_run shifted_plan (Some 1) 1 0 ≡ record { bytes = codes "2 3 4"; stop = Ends Done }
 unfolding int_wrap digits
 shifted_plan_runs_in_turn = refl
 
@@ -146,7 +148,7 @@ looping = record {
       ∷ (word.Scalar 0 ∷ [])
       ∷ (word.Scalar 2 ∷ [])
       ∷ (word.Const (pos 7) ∷ word.Shifted 0 (along (pos 1)) ∷ word.Const (pos 5)
-          ∷ word.Pair op.Sub ∷ word.Pair op.Div ∷ [])
+      ∷ word.Pair op.Sub ∷ word.Pair op.Div ∷ [])
       ∷ [];
   groups =
       (member.Put 0 0 None 8 ∷ [])
@@ -185,8 +187,11 @@ looping = record {
 }
 
 looping_shows :
-    flat_run looping 9 0 ≡ record { bytes = codes "s\ns\n20\n"; stop = Ends (Trap trap.DivideByZero
-        18) }
+    flat_run looping 9 0 ≡ record {
+      bytes = codes "s\ns\n20\n";
+      stop = Ends (Trap trap.DivideByZero
+          18);
+    }
 unfolding int_wrap digits
 looping_shows = refl
 
@@ -236,11 +241,17 @@ looping_plan = record looping {
       ∷ [];
 }
 
-looping_plan_runs : plan_run looping_plan None 9 0 ≡ flat_run looping 9 0
+looping_plan_runs :
+    plan_run looping_plan None 9 0 ≡ record {
+      bytes = codes "s\ns\n20\n";
+      stop = Ends (Trap
+          trap.DivideByZero 18);
+    }
 unfolding int_wrap digits
 looping_plan_runs = refl
 
-looping_plan_stops : plan_run looping_plan None 4 0 ≡ flat_run looping 4 0
+looping_plan_stops :
+    plan_run looping_plan None 4 0 ≡ record { bytes = codes "s\ns\n"; stop = Ends More }
 unfolding int_wrap digits
 looping_plan_stops = refl
 
@@ -285,11 +296,17 @@ looping_early = record looping {
       ∷ [];
 }
 
-looping_early_runs : plan_run looping_early None 9 0 ≡ flat_run looping 9 0
+looping_early_runs :
+    plan_run looping_early None 9 0 ≡ record {
+      bytes = codes "s\ns\n20\n";
+      stop = Ends (Trap
+          trap.DivideByZero 18);
+    }
 unfolding int_wrap digits
 looping_early_runs = refl
 
-looping_early_stops : plan_run looping_early None 4 0 ≡ flat_run looping 4 0
+looping_early_stops :
+    plan_run looping_early None 4 0 ≡ record { bytes = codes "s\ns\n"; stop = Ends More }
 unfolding int_wrap digits
 looping_early_stops = refl
 
@@ -370,11 +387,13 @@ shattered_plan = record shattered {
       ∷ [];
 }
 
-shattered_plan_runs : plan_run shattered_plan None 1 5 ≡ flat_run shattered 1 5
+shattered_plan_runs :
+    plan_run shattered_plan None 1 5 ≡ record { bytes = codes "5 8 11"; stop = Ends Done }
 unfolding int_wrap digits
 shattered_plan_runs = refl
 
-shattered_plan_wants : plan_run shattered_plan None 1 0 ≡ flat_run shattered 1 0
+shattered_plan_wants :
+    plan_run shattered_plan None 1 0 ≡ record { bytes = []; stop = Ends More }
 unfolding int_wrap digits
 shattered_plan_wants = refl
 
@@ -461,7 +480,8 @@ several_merged = record several {
       ∷ [];
 }
 
-several_merged_runs : plan_run several_merged (Some 1) 1 0 ≡ flat_run several 1 0
+several_merged_runs :
+    plan_run several_merged (Some 1) 1 0 ≡ record { bytes = codes "on\n11 7 4"; stop = Ends Done }
 unfolding int_wrap digits
 several_merged_runs = refl
 
@@ -500,11 +520,13 @@ several_early = record several {
       ∷ [];
 }
 
-several_early_runs : plan_run several_early None 1 0 ≡ flat_run several 1 0
+several_early_runs :
+    plan_run several_early None 1 0 ≡ record { bytes = codes "on\n11 7 4"; stop = Ends Done }
 unfolding int_wrap digits
 several_early_runs = refl
 
-several_early_runs_in_room : plan_run several_early (Some 2) 1 0 ≡ flat_run several 1 0
+several_early_runs_in_room :
+    plan_run several_early (Some 2) 1 0 ≡ record { bytes = codes "on\n11 7 4"; stop = Ends Done }
 unfolding int_wrap digits
 several_early_runs_in_room = refl
 
@@ -549,7 +571,8 @@ several_in_turn = record several {
       ∷ [];
 }
 
-several_in_turn_runs : plan_run several_in_turn (Some 1) 1 0 ≡ flat_run several 1 0
+several_in_turn_runs :
+    plan_run several_in_turn (Some 1) 1 0 ≡ record { bytes = codes "on\n11 7 4"; stop = Ends Done }
 unfolding int_wrap digits
 several_in_turn_runs = refl
 
@@ -577,7 +600,7 @@ moving = record {
       ∷ (word.Here 3 ∷ [])
       ∷ (word.Const (pos 5) ∷ word.Coord 1 ∷ word.Pair op.Sub ∷ [])
       ∷ (word.Here 4 ∷ word.Const (pos 0) ∷ word.Pair op.Lt ∷ word.Here 4 ∷ word.Const (pos 5)
-          ∷ word.Pair op.Gt ∷ word.Pair op.Or ∷ [])
+      ∷ word.Pair op.Gt ∷ word.Pair op.Or ∷ [])
       ∷ (word.Const (pos 0) ∷ [])
       ∷ (word.Scalar 0 ∷ [])
       ∷ (word.Here 5 ∷ [])
@@ -674,6 +697,7 @@ moving_plan = record moving {
       ∷ [];
 }
 
-moving_plan_runs : plan_run moving_plan (Some 1) 2 0 ≡ flat_run moving 2 0
+moving_plan_runs :
+    plan_run moving_plan (Some 1) 2 0 ≡ record { bytes = codes "0 30 27 15 6 0"; stop = Ends Done }
 unfolding int_wrap digits
 moving_plan_runs = refl

@@ -140,7 +140,7 @@ module _ (code : Tables) (all : Abreast) where
   abbrev pub folded : ℕ → Fold → Step Abreast
   folded scalar f =
       let value : ℤ =
-          joined_over (processors code) (joined f) (scalar_at scalar) (locals_of all) in
+      joined_over (processors code) (joined f) (scalar_at scalar) (locals_of all) in
       go_where (is_quiet all) []
       (record all {
         shares = λ p. record (all.shares p) {

@@ -470,8 +470,12 @@ early_in_turn = refl
 
 -- all of these, and agreements along the tree
 all :
-    node_code_of (built_with (record no_options { redundant = true; merge = true; early = true;
-        tree = true }) None) flat ≡ record flat {
+    node_code_of (built_with (record no_options {
+      redundant = true;
+      merge = true;
+      early = true;
+      tree = true;
+    }) None) flat ≡ record flat {
       grid = two;
       exchanges =
           (item 0 1 (along (pos 1)) ∷ item 0 1 (along (negsuc 0)) ∷ [])
