@@ -1,0 +1,2 @@
+//! Checks of places that always pass are left out.
+#![tactic(auto)]

@@ -1,0 +1,314 @@
+-- Flat programs of whole texts, with loops joined.
+use Rattle.std.proofs.Common.{◌≡◌, refl, ℕ, ℤ, pos, negsuc, codes}
+use Rattle.std.proofs.Common.{true, false, List, [], ◌∷◌, Some, None}
+use Rattle.zpl_region.specs.declared.dims.Dim.{Dim}
+use Rattle.zpl_region.specs.declared.regions.Region.{Region}
+use Rattle.zpl_region.specs.Region.{padding}
+use Rattle.node_form.specs.declared.arrays.ArrayDim.{ArrayDim}
+use Rattle.node_form.specs.declared.arrays.ArrayRow.{ArrayRow}
+use Rattle.node_form.specs.declared.tables.Tables.{Tables}
+use Rattle.fuse_contract.specs.Fusing.{fused}
+use Rattle.zpl_nums.specs.declared.operators.Op.TheVariants as op
+use Rattle.zpl_nums.specs.declared.folds.Fold.TheVariants as fold
+use Rattle.zpl_nums.specs.declared.ends.Border.TheVariants as border
+use Rattle.zpl_region.specs.declared.dims.Dim.TheVariants as dim
+use Rattle.node_form.specs.declared.words.ExprOp.TheVariants as word
+use Rattle.node_form.specs.declared.arrays.ArrayDim.TheVariants as axis
+use Rattle.node_form.specs.declared.members.Member.TheVariants as member
+use Rattle.node_form.specs.declared.instructions.RegionForm.TheVariants as form
+use Rattle.node_form.specs.declared.instructions.DimRow.TheVariants as part
+use Rattle.node_form.specs.declared.instructions.Instr.TheVariants as instr
+
+-- ---- words for regions and arrays
+abbrev at : ℤ → ℤ → ℤ → List ℤ
+at a b c = a ∷ b ∷ c ∷ []
+
+abbrev span : ℤ → ℤ → Dim
+span lo hi = dim.Range lo hi (pos 1) lo
+
+abbrev over : ℕ → Dim → Dim → Dim → Region
+over rank one two three = record { rank = rank; dims = one ∷ two ∷ three ∷ [] }
+
+abbrev unused : ArrayDim
+unused = axis.Range (pos 0) (pos 0) (pos 0) (pos 0)
+
+abbrev stored : ℕ → ArrayDim → ArrayDim → ArrayDim → ArrayRow
+stored rank one two three =
+    record { rank = rank; stored = true; dims = one ∷ two ∷ three ∷ [] }
+
+abbrev temporary : ℕ → ArrayDim → ArrayDim → ArrayDim → ArrayRow
+temporary rank one two three =
+    record { rank = rank; stored = false; dims = one ∷ two ∷ three ∷ [] }
+
+-- ---- a program over a line
+abbrev line : Tables
+line = record {
+  grid = 1 ∷ 0 ∷ 0 ∷ [];
+  scalars = 1;
+  cells = 0;
+  slots = 1 ∷ 1 ∷ 1 ∷ 1 ∷ 1 ∷ 1 ∷ [];
+  arrays =
+      stored 1 (axis.Range (pos 1) (pos 4) (pos 1) (pos 1)) unused unused
+      ∷ stored 1 (axis.Range (pos 1) (pos 4) (pos 0) (pos 0)) unused unused
+      ∷ stored 1 (axis.Range (pos 1) (pos 4) (pos 0) (pos 0)) unused unused
+      ∷ stored 1 (axis.Range (pos 1) (pos 4) (pos 0) (pos 0)) unused unused
+      ∷ stored 1 (axis.Range (pos 1) (pos 5) (pos 0) (pos 1)) unused unused
+      ∷ temporary 1 unused unused unused
+      ∷ temporary 1 unused unused unused
+      ∷ [];
+  texts =
+      codes "\n"
+      ∷ [];
+  exprs =
+      (word.Coord 1 ∷ [])
+      ∷ (word.Here 1 ∷ word.Const (pos 1) ∷ word.Pair op.Add ∷ [])
+      ∷ (word.Here 2 ∷ word.Here 1 ∷ word.Pair op.Mul ∷ [])
+      ∷ (word.Here 0 ∷ word.Const (pos 3) ∷ word.Pair op.Gt ∷ [])
+      ∷ (word.Shifted 0 (at (pos 1) (pos 0) (pos 0))
+        ∷ word.Shifted 0 (at (negsuc 0) (pos 0) (pos 0)) ∷ word.Pair op.Add ∷ [])
+      ∷ (word.Const (pos 2) ∷ [])
+      ∷ (word.Scalar 0 ∷ word.Const (pos 0) ∷ word.Pair op.Gt ∷ [])
+      ∷ (word.Here 1 ∷ [])
+      ∷ (word.Shifted 4 (at (pos 1) (pos 0) (pos 0)) ∷ [])
+      ∷ (word.Here 3 ∷ [])
+      ∷ (word.Const (pos 1) ∷ [])
+      ∷ (word.Scalar 0 ∷ [])
+      ∷ (word.Shifted 0 (at (pos 1) (pos 0) (pos 0)) ∷ word.Here 1 ∷ word.Pair op.Div ∷ [])
+      ∷ (word.Scalar 0 ∷ word.Const (pos 1) ∷ word.Pair op.Sub ∷ [])
+      ∷ (word.Here 0 ∷ [])
+      ∷ (word.Here 6 ∷ [])
+      ∷ [];
+  groups =
+      (member.Put 1 0 None 10 ∷ [])
+      ∷ (member.Put 2 1 None 11 ∷ [])
+      ∷ (member.Put 0 2 None 12 ∷ [])
+      ∷ (member.Put 3 3 None 13 ∷ [])
+      ∷ (member.Put 6 4 None 14 ∷ [])
+      ∷ (member.Put 0 15 None 14 ∷ [])
+      ∷ (member.Put 4 7 None 17 ∷ [])
+      ∷ (member.Put 1 8 (Some 9) 17 ∷ [])
+      ∷ (member.Put 6 12 None 18 ∷ [])
+      ∷ (member.Put 0 15 None 18 ∷ [])
+      ∷ (member.Put 5 14 None 21 ∷ [])
+      ∷ [];
+  exchanges = [];
+  code =
+      instr.Fix 0 (over 1 (span (pos 1) (pos 4)) padding padding)
+      ∷ instr.Fix 1 (over 1 (span (pos 2) (pos 3)) padding padding)
+      ∷ instr.Loop 0 0
+      ∷ instr.Loop 0 1
+      ∷ instr.Loop 0 2
+      ∷ instr.Loop 0 3
+      ∷ instr.Room 6 1
+      ∷ instr.Loop 1 4
+      ∷ instr.Loop 1 5
+      ∷ instr.Set 0 5 15
+      ∷ instr.Unless 6 26 16
+      ∷ instr.Fix 2 (over 1 (span (pos 1) (pos 4)) padding padding)
+      ∷ instr.Loop 2 6
+      ∷ instr.Formed form.Of 3 2 (at (pos 1) (pos 0) (pos 0)) 17
+      ∷ instr.Formed form.Inside 4 2 (at (negsuc 0) (pos 0) (pos 0)) 17
+      ∷ instr.Edge border.Wrap 4 2 (at (pos 1) (pos 0) (pos 0))
+      ∷ instr.Loop 0 7
+      ∷ instr.Dims 5 (part.Span 10 11 ∷ part.Star ∷ part.Star ∷ []) 18
+      ∷ instr.Need 5 0 (at (pos 0) (pos 0) (pos 0)) 18
+      ∷ instr.Need 5 0 (at (pos 1) (pos 0) (pos 0)) 18
+      ∷ instr.Need 5 1 (at (pos 0) (pos 0) (pos 0)) 18
+      ∷ instr.Room 6 5
+      ∷ instr.Loop 5 8
+      ∷ instr.Loop 5 9
+      ∷ instr.Set 0 13 19
+      ∷ instr.Jump 10
+      ∷ instr.Room 5 0
+      ∷ instr.Loop 0 10
+      ∷ instr.Gather false 5 0
+      ∷ instr.Print 0
+      ∷ instr.End
+      ∷ [];
+}
+
+abbrev line_fused : Tables
+line_fused = record line {
+  groups =
+      (member.Put 1 0 None 10 ∷ member.Put 2 1 None 11 ∷ member.Put 0 2 None 12
+        ∷ member.Put 3 3 None 13 ∷ [])
+      ∷ (member.Put 6 4 None 14 ∷ [])
+      ∷ (member.Put 0 15 None 14 ∷ [])
+      ∷ (member.Put 4 7 None 17 ∷ [])
+      ∷ (member.Put 1 8 (Some 9) 17 ∷ [])
+      ∷ (member.Put 6 12 None 18 ∷ [])
+      ∷ (member.Put 0 15 None 18 ∷ [])
+      ∷ (member.Put 5 14 None 21 ∷ [])
+      ∷ [];
+  code =
+      instr.Fix 0 (over 1 (span (pos 1) (pos 4)) padding padding)
+      ∷ instr.Fix 1 (over 1 (span (pos 2) (pos 3)) padding padding)
+      ∷ instr.Loop 0 0
+      ∷ instr.Room 6 1
+      ∷ instr.Loop 1 1
+      ∷ instr.Loop 1 2
+      ∷ instr.Set 0 5 15
+      ∷ instr.Unless 6 23 16
+      ∷ instr.Fix 2 (over 1 (span (pos 1) (pos 4)) padding padding)
+      ∷ instr.Loop 2 3
+      ∷ instr.Formed form.Of 3 2 (at (pos 1) (pos 0) (pos 0)) 17
+      ∷ instr.Formed form.Inside 4 2 (at (negsuc 0) (pos 0) (pos 0)) 17
+      ∷ instr.Edge border.Wrap 4 2 (at (pos 1) (pos 0) (pos 0))
+      ∷ instr.Loop 0 4
+      ∷ instr.Dims 5 (part.Span 10 11 ∷ part.Star ∷ part.Star ∷ []) 18
+      ∷ instr.Need 5 0 (at (pos 0) (pos 0) (pos 0)) 18
+      ∷ instr.Need 5 0 (at (pos 1) (pos 0) (pos 0)) 18
+      ∷ instr.Need 5 1 (at (pos 0) (pos 0) (pos 0)) 18
+      ∷ instr.Room 6 5
+      ∷ instr.Loop 5 5
+      ∷ instr.Loop 5 6
+      ∷ instr.Set 0 13 19
+      ∷ instr.Jump 7
+      ∷ instr.Room 5 0
+      ∷ instr.Loop 0 7
+      ∷ instr.Gather false 5 0
+      ∷ instr.Print 0
+      ∷ instr.End
+      ∷ [];
+}
+
+line_is_fused : fused line ≡ line_fused
+line_is_fused = refl
+
+-- ---- a program over a sheet, with arrays that are flood in one dimension
+abbrev sheet : Tables
+sheet = record {
+  grid = 1 ∷ 0 ∷ 0 ∷ [];
+  scalars = 3;
+  cells = 0;
+  slots = 2 ∷ 2 ∷ 2 ∷ 2 ∷ 2 ∷ 2 ∷ [];
+  arrays =
+      stored 2 (axis.Range (pos 1) (pos 3) (pos 1) (pos 1)) (axis.Range (pos 1) (pos 3) (pos 0)
+        (pos 0)) unused
+      ∷ stored 2 (axis.Range (pos 1) (pos 3) (pos 0) (pos 0)) (axis.Range (pos 1) (pos 3) (pos 0)
+        (pos 0)) unused
+      ∷ stored 2 (axis.Range (pos 1) (pos 3) (pos 0) (pos 0)) (axis.Range (pos 1) (pos 3) (pos 0)
+        (pos 0)) unused
+      ∷ stored 2 (axis.Range (pos 1) (pos 3) (pos 0) (pos 1)) axis.Star unused
+      ∷ stored 2 (axis.Range (pos 1) (pos 3) (pos 0) (pos 0)) (axis.Range (pos 1) (pos 3) (pos 0)
+        (pos 0)) unused
+      ∷ temporary 2 unused unused unused
+      ∷ temporary 2 unused axis.Star unused
+      ∷ [];
+  texts =
+      codes "\n"
+      ∷ [];
+  exprs =
+      (word.Coord 1 ∷ word.Coord 2 ∷ word.Pair op.Sub ∷ [])
+      ∷ (word.Here 0 ∷ word.Here 0 ∷ word.Pair op.Mul ∷ [])
+      ∷ (word.Here 1 ∷ word.Const (pos 0) ∷ word.Pair op.Eq ∷ [])
+      ∷ (word.Shifted 0 (at (pos 1) (pos 0) (pos 0)) ∷ [])
+      ∷ (word.Here 4 ∷ [])
+      ∷ (word.Shifted 0 (at (negsuc 0) (pos 0) (pos 0)) ∷ word.Here 1 ∷ word.Pair op.Add ∷ [])
+      ∷ (word.Coord 1 ∷ [])
+      ∷ (word.Shifted 3 (at (pos 1) (pos 0) (pos 0)) ∷ [])
+      ∷ (word.Const (pos 0) ∷ [])
+      ∷ (word.Here 0 ∷ word.Here 3 ∷ word.Pair op.Add ∷ [])
+      ∷ (word.Scalar 1 ∷ [])
+      ∷ (word.Scalar 0 ∷ word.Const (pos 0) ∷ word.Pair op.Gt ∷ [])
+      ∷ (word.Const (pos 1) ∷ word.Here 3 ∷ word.Pair op.Add ∷ [])
+      ∷ (word.Scalar 0 ∷ [])
+      ∷ (word.Scalar 2 ∷ [])
+      ∷ (word.Here 5 ∷ [])
+      ∷ (word.Here 6 ∷ [])
+      ∷ [];
+  groups =
+      (member.Put 0 0 None 12 ∷ [])
+      ∷ (member.Put 1 1 None 13 ∷ [])
+      ∷ (member.Put 4 2 None 14 ∷ [])
+      ∷ (member.Put 5 3 (Some 4) 16 ∷ [])
+      ∷ (member.Put 0 15 (Some 4) 16 ∷ [])
+      ∷ (member.Put 5 5 None 17 ∷ [])
+      ∷ (member.Put 0 15 None 17 ∷ [])
+      ∷ (member.Put 3 6 None 18 ∷ [])
+      ∷ (member.Put 6 7 None 19 ∷ [])
+      ∷ (member.Put 3 16 None 19 ∷ [])
+      ∷ (member.Acc 1 fold.Sum 9 None 20 ∷ [])
+      ∷ (member.Put 2 12 None 22 ∷ [])
+      ∷ [];
+  exchanges = [];
+  code =
+      instr.Fix 0 (over 2 (span (pos 1) (pos 3)) (span (pos 1) (pos 3)) padding)
+      ∷ instr.Fix 1 (over 2 (span (pos 1) (pos 3)) dim.Flood padding)
+      ∷ instr.Loop 0 0
+      ∷ instr.Loop 0 1
+      ∷ instr.Loop 0 2
+      ∷ instr.Fix 2 (over 2 (span (pos 1) (pos 2)) (span (pos 1) (pos 3)) padding)
+      ∷ instr.Room 5 2
+      ∷ instr.Loop 2 3
+      ∷ instr.Loop 2 4
+      ∷ instr.Fix 3 (over 2 (span (pos 2) (pos 3)) (span (pos 1) (pos 3)) padding)
+      ∷ instr.Room 5 3
+      ∷ instr.Loop 3 5
+      ∷ instr.Loop 3 6
+      ∷ instr.Fix 4 (over 2 (span (pos 1) (pos 3)) dim.Flood padding)
+      ∷ instr.Loop 4 7
+      ∷ instr.Fix 5 (over 2 (span (pos 1) (pos 2)) dim.Flood padding)
+      ∷ instr.Room 6 5
+      ∷ instr.Loop 5 8
+      ∷ instr.Loop 5 9
+      ∷ instr.Set 1 8 20
+      ∷ instr.Loop 0 10
+      ∷ instr.Fold 1 fold.Sum
+      ∷ instr.Set 0 10 20
+      ∷ instr.Unless 11 25 21
+      ∷ instr.Loop 0 11
+      ∷ instr.Set 2 13 24
+      ∷ instr.Number 14
+      ∷ instr.Print 0
+      ∷ instr.End
+      ∷ [];
+}
+
+abbrev sheet_fused : Tables
+sheet_fused = record sheet {
+  groups =
+      (member.Put 0 0 None 12 ∷ member.Put 1 1 None 13 ∷ member.Put 4 2 None 14 ∷ [])
+      ∷ (member.Put 5 3 (Some 4) 16 ∷ [])
+      ∷ (member.Put 0 15 (Some 4) 16 ∷ [])
+      ∷ (member.Put 5 5 None 17 ∷ [])
+      ∷ (member.Put 0 15 None 17 ∷ [])
+      ∷ (member.Put 3 6 None 18 ∷ [])
+      ∷ (member.Put 6 7 None 19 ∷ [])
+      ∷ (member.Put 3 16 None 19 ∷ [])
+      ∷ (member.Acc 1 fold.Sum 9 None 20 ∷ [])
+      ∷ (member.Put 2 12 None 22 ∷ [])
+      ∷ [];
+  code =
+      instr.Fix 0 (over 2 (span (pos 1) (pos 3)) (span (pos 1) (pos 3)) padding)
+      ∷ instr.Fix 1 (over 2 (span (pos 1) (pos 3)) dim.Flood padding)
+      ∷ instr.Loop 0 0
+      ∷ instr.Fix 2 (over 2 (span (pos 1) (pos 2)) (span (pos 1) (pos 3)) padding)
+      ∷ instr.Room 5 2
+      ∷ instr.Loop 2 1
+      ∷ instr.Loop 2 2
+      ∷ instr.Fix 3 (over 2 (span (pos 2) (pos 3)) (span (pos 1) (pos 3)) padding)
+      ∷ instr.Room 5 3
+      ∷ instr.Loop 3 3
+      ∷ instr.Loop 3 4
+      ∷ instr.Fix 4 (over 2 (span (pos 1) (pos 3)) dim.Flood padding)
+      ∷ instr.Loop 4 5
+      ∷ instr.Fix 5 (over 2 (span (pos 1) (pos 2)) dim.Flood padding)
+      ∷ instr.Room 6 5
+      ∷ instr.Loop 5 6
+      ∷ instr.Loop 5 7
+      ∷ instr.Set 1 8 20
+      ∷ instr.Loop 0 8
+      ∷ instr.Fold 1 fold.Sum
+      ∷ instr.Set 0 10 20
+      ∷ instr.Unless 11 23 21
+      ∷ instr.Loop 0 9
+      ∷ instr.Set 2 13 24
+      ∷ instr.Number 14
+      ∷ instr.Print 0
+      ∷ instr.End
+      ∷ [];
+}
+
+sheet_is_fused : fused sheet ≡ sheet_fused
+sheet_is_fused = refl

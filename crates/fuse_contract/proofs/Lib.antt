@@ -1,0 +1,3 @@
+mod ContractedPrograms
+mod Examples
+mod FusedPrograms

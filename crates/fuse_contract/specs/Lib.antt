@@ -1,0 +1,2 @@
+pub mod Contracting
+pub mod Fusing
