@@ -16,7 +16,7 @@ use Rattle.node_form.specs.declared.members.Member.TheVariants as member
 use Rattle.node_form.specs.declared.tables.Tables.{Tables}
 use Rattle.node_form.specs.declared.words.ExprOp.TheVariants as word
 use Rattle.zpl_claims.specs.Build.{Build, Options, no_options, plain_build}
-use Rattle.zpl_compile.specs.Compile.{node_code_of}
+use Rattle.zpl_compile.specs.Compile.{emitted_for, plan_of, settled}
 
 abbrev no_range : ArrayDim
 no_range = axis.Range (pos 0) (pos 0) (pos 0) (pos 0)
@@ -108,9 +108,12 @@ flat = record {
       ∷ [];
 }
 
+abbrev code_of : Build → Tables
+code_of build = emitted_for build (plan_of build (settled build flat))
+
 -- without optimisations
 plain :
-    node_code_of (built_with no_options None) flat ≡ record flat {
+    code_of (built_with no_options None) ≡ record flat {
       grid = two;
       exchanges =
           (item 0 1 (along (pos 1)) ∷ [])
@@ -172,7 +175,7 @@ plain = refl
 
 -- without redundant exchanges
 fewer :
-    node_code_of (built_with (record no_options { redundant = true }) None) flat ≡ record flat {
+    code_of (built_with (record no_options { redundant = true }) None) ≡ record flat {
       grid = two;
       exchanges =
           (item 0 1 (along (pos 1)) ∷ [])
@@ -231,7 +234,7 @@ fewer = refl
 
 -- neighbours merged
 merged :
-    node_code_of (built_with (record no_options { merge = true }) None) flat ≡ record flat {
+    code_of (built_with (record no_options { merge = true }) None) ≡ record flat {
       grid = two;
       exchanges =
           (item 0 1 (along (pos 1)) ∷ item 0 1 (along (negsuc 0)) ∷ [])
@@ -284,7 +287,7 @@ merged = refl
 
 -- early, over links that hold any number of messages
 early :
-    node_code_of (built_with (record no_options { early = true }) None) flat ≡ record flat {
+    code_of (built_with (record no_options { early = true }) None) ≡ record flat {
       grid = two;
       exchanges =
           (item 0 1 (along (pos 1)) ∷ [])
@@ -346,7 +349,7 @@ early = refl
 
 -- early, over links that hold two messages
 early_in_room :
-    node_code_of (built_with (record no_options { early = true }) (Some 2)) flat ≡ record flat {
+    code_of (built_with (record no_options { early = true }) (Some 2)) ≡ record flat {
       grid = two;
       exchanges =
           (item 0 1 (along (pos 1)) ∷ [])
@@ -408,7 +411,7 @@ early_in_room = refl
 
 -- early, over links that hold one
 early_in_turn :
-    node_code_of (built_with (record no_options { early = true }) (Some 1)) flat ≡ record flat {
+    code_of (built_with (record no_options { early = true }) (Some 1)) ≡ record flat {
       grid = two;
       exchanges =
           (item 0 1 (along (pos 1)) ∷ [])
@@ -470,12 +473,13 @@ early_in_turn = refl
 
 -- all of these, and agreements along the tree
 all :
-    node_code_of (built_with (record no_options {
+    code_of (built_with (record no_options {
       redundant = true;
       merge = true;
       early = true;
-      tree = true;
-    }) None) flat ≡ record flat {
+      tree =
+          true;
+    }) None) ≡ record flat {
       grid = two;
       exchanges =
           (item 0 1 (along (pos 1)) ∷ item 0 1 (along (negsuc 0)) ∷ [])
