@@ -1,7 +1,7 @@
 -- Exchanges that stand directly one behind the other are one.
 --
 -- Code keeps a map of the items of the exchange at hand: each item is looked at once.
-use Rattle.std.specs.Prelude.{List, [], ◌∷◌, ◌++◌, fold}
+use Rattle.std.specs.Prelude.{List, [], ◌∷◌, fold}
 use Rattle.node_form.specs.declared.arrays.Item.{Item}
 use Rattle.node_form.specs.declared.tables.Tables.{Tables}
 use Rattle.plan_form.specs.Units.{PlanUnit, Exchange, Single, with_item}

@@ -1,1 +1,2 @@
 mod ExamplesPlan
+mod ExamplesRuns
