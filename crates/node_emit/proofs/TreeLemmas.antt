@@ -1,9 +1,9 @@
 -- Rows with their forms along the tree: what they are told apart by stays, but that they agree along
 -- the tree.
-use Rattle.std.proofs.Common.{◌≡◌, ◌↔◌, refl, ap, ◌∙◌, ℕ, ◌+◌, Bool, true, false, List, []}
+use Rattle.std.proofs.Common.{◌≡◌, refl, sym, ap, ◌∙◌, ℕ, ◌+◌, Bool, true, false, List, []}
 use Rattle.std.proofs.Common.{◌∷◌, arith, get_or, length}
-use Rattle.std.specs.Prelude.{◌||◌, ◌&&◌, All, cond, count_by, fold, map, if◌then◌else◌, Option, Some, None}
-use Rattle.std.specs.List.{list_any}
+use Rattle.std.specs.Prelude.{◌||◌, ◌&&◌, not, All, cond, count_by, fold, map, if◌then◌else◌, Option, Some, None}
+use Rattle.std.specs.Option.{option_map}
 use Rattle.std.proofs.lemmas.List.{length-map}
 use Rattle.std.proofs.lemmas.List.Elements.{All-map}
 use Rattle.zpl_nums.specs.declared.folds.Fold.{Fold}
@@ -13,11 +13,14 @@ use Rattle.node_form.specs.declared.instructions.Instr.TheVariants as instr
 use Rattle.node_form.specs.declared.tables.Tables.{Tables}
 use Rattle.code_parts.specs.Counts.{GoesByTrees, code_size, count_of, is_counted, is_loop, is_star}
 use Rattle.code_parts.specs.Counts.{is_vote}
-use Rattle.code_parts.specs.Exchanged.{HasNoRepeats, IsMerged, fresh_behind, has_no_repeats}
-use Rattle.code_parts.specs.Exchanged.{is_apart, is_behind_finish, is_merged, starts_new}
-use Rattle.code_parts.specs.Fused.{IsFused, begins_anew, is_fused, last_loop}
-use Rattle.code_parts.specs.Stretch.{ends_stretch, is_goal, known_at, known_behind, leads_to}
+use Rattle.code_parts.specs.Early.{IsEarly, Passed, crosses_last, is_in_time, may_cross, none_passed}
+use Rattle.code_parts.specs.Early.{open_behind, passed_by}
+use Rattle.code_parts.specs.Exchanged.{HasNoRepeats, IsMerged, fresh_behind}
+use Rattle.code_parts.specs.Exchanged.{is_apart, is_behind_finish, starts_new}
+use Rattle.code_parts.specs.Fused.{IsFused, begins_anew, last_loop}
+use Rattle.code_parts.specs.Stretch.{ends_stretch, is_goal, leads_to}
 use Rattle.code_parts.specs.Stretch.{right_from}
+use Rattle.code_parts.proofs.EarlyLemmas.{early_either_way}
 use Rattle.code_parts.proofs.FusedLemmas.{fused_either_way}
 use Rattle.code_parts.proofs.MergedLemmas.{merged_either_way}
 use Rattle.code_parts.proofs.RepeatLemmas.{repeats_either_way}
@@ -143,46 +146,54 @@ pub by_trees : (grid : List ℕ) (plan : Tables) → GoesByTrees (emitted true g
 by_trees grid plan =
     All-map (λ row. is_star row ≡ false) along_tree plan.code (all_starless plan.code)
 
--- ---- walks: what is known and what is asked don't tell a row from its form along the tree
+-- ---- walks: from what is known of rows follows what is known of them along the tree, and what is
+-- asked comes out the same
 module _ {F : Type 0} (nothing : F) (learn : F → Instr → F) (is_right : F → Instr → Bool)
-    (same_learn : (facts : F) (row : Instr) → learn facts (along_tree row) ≡ learn facts row)
-    (same_right : (facts : F) (row : Instr) → is_right facts (along_tree row) ≡ is_right facts row)
+    (seen : F → F) (same_nothing : seen nothing ≡ nothing)
+    (same_learn : (facts : F) (row : Instr)
+    → learn (seen facts) (along_tree row) ≡ seen (learn facts row))
+    (same_right : (facts : F) (row : Instr)
+    → is_right (seen facts) (along_tree row) ≡ is_right facts row)
     (code : List Instr) where
   abbrev walk : List Instr → ℕ → F → List Instr → Bool
   walk code = right_from nothing learn is_right code
 
+  forgotten : (goal : Bool) (facts : F)
+      → (if goal then nothing else seen facts) ≡ seen (if goal then nothing else facts)
+  forgotten true facts = sym same_nothing
+  forgotten false facts = refl
+
+  abbrev step : Bool → F → Instr → (F → Bool) → Bool
+  step ends known row next =
+      (ends || is_right known row) && next (if ends then nothing else learn known row)
+
+  same_step : (ends : Bool) (known : F) (row : Instr) (next next' : F → Bool)
+      → ((facts : F) → next (seen facts) ≡ next' facts)
+      → step ends (seen known) (along_tree row) next ≡ step ends known row next'
+  same_step true known row next next' same =
+      ap next (sym same_nothing) ∙ same nothing
+  same_step false known row next next' same =
+      ap (λ b. b && next (learn (seen known) (along_tree row))) (same_right known row)
+      ∙ ap (λ facts. is_right known row && next facts) (same_learn known row)
+      ∙ ap (λ b. is_right known row && b) (same (learn known row))
+
   same_walk : (at : ℕ) (facts : F) (rows : List Instr)
-      → walk (map along_tree code) at facts (map along_tree rows) ≡ walk code at facts rows
+      → walk (map along_tree code) at (seen facts) (map along_tree rows) ≡ walk code at facts rows
   same_walk at facts [] = refl
   same_walk at facts (row ∷ rows) =
-      ap (λ goal. step goal (ends_stretch (along_tree row)) (along_tree row)
+      ap (λ goal. step (ends_stretch (along_tree row)) (if goal then nothing else seen facts)
+      (along_tree row)
       (λ facts. walk (map along_tree code) (at + 1) facts (map along_tree rows)))
       (same_goals at code)
-      ∙ ap (λ ends. step (is_goal code at) ends (along_tree row)
+      ∙ ap (λ known. step (ends_stretch (along_tree row)) known (along_tree row)
+      (λ facts. walk (map along_tree code) (at + 1) facts (map along_tree rows)))
+      (forgotten (is_goal code at) facts)
+      ∙ ap (λ ends. step ends (seen (if is_goal code at then nothing else facts)) (along_tree row)
       (λ facts. walk (map along_tree code) (at + 1) facts (map along_tree rows)))
       (same_ends row (treed row))
-      ∙ same_step (is_goal code at) (ends_stretch row) (λ facts. same_walk (at + 1) facts rows)
-    where
-      step : Bool → Bool → Instr → (F → Bool) → Bool
-      step goal ends row next =
-          (ends || is_right (if goal then nothing else facts) row)
-          && next (if ends then nothing else learn (if goal then nothing else facts) row)
-
-      same_step : (goal ends : Bool)
-          → ((facts : F) → walk (map along_tree code) (at + 1) facts (map along_tree rows)
-          ≡ walk code (at + 1) facts rows)
-          → step goal ends (along_tree row)
-          (λ facts. walk (map along_tree code) (at + 1) facts (map along_tree rows))
-          ≡ step goal ends row (λ facts. walk code (at + 1) facts rows)
-      same_step goal ends rest =
-          ap (λ b. (ends || b) && walk (map along_tree code) (at + 1)
-          (if ends then nothing else learn (if goal then nothing else facts) (along_tree row))
-          (map along_tree rows)) (same_right (if goal then nothing else facts) row)
-          ∙ ap (λ known. (ends || is_right (if goal then nothing else facts) row)
-          && walk (map along_tree code) (at + 1) (if ends then nothing else known)
-          (map along_tree rows)) (same_learn (if goal then nothing else facts) row)
-          ∙ ap (λ b. (ends || is_right (if goal then nothing else facts) row) && b)
-          (rest (if ends then nothing else learn (if goal then nothing else facts) row))
+      ∙ same_step (ends_stretch row) (if is_goal code at then nothing else facts) row
+      (λ facts. walk (map along_tree code) (at + 1) facts (map along_tree rows))
+      (λ facts. walk code (at + 1) facts rows) (λ facts. same_walk (at + 1) facts rows)
 
 -- ---- the parts of tidy code
 fused_learn : (plan : Tables) (facts : Option (ℕ × ℕ)) (row : Instr) → Treed row
@@ -200,7 +211,7 @@ fused_right plan facts row (StaysRow same none) = ap (λ row. begins_anew plan f
 pub fused_stay : (tree : Bool) (grid : List ℕ) (plan : Tables) → IsFused plan → IsFused (emitted tree grid plan)
 fused_stay true grid plan is =
     (fused_either_way (emitted true grid plan)).0
-    (same_walk None (last_loop) (begins_anew plan) (λ facts row. fused_learn plan facts row (treed row))
+    (same_walk None (last_loop) (begins_anew plan) (λ facts. facts) refl (λ facts row. fused_learn plan facts row (treed row))
     (λ facts row. fused_right plan facts row (treed row)) plan.code 0 None plan.code
     ∙ (fused_either_way plan).1 is)
 fused_stay false grid plan is =
@@ -221,7 +232,7 @@ repeats_right plan facts row (StaysRow same none) = ap (λ row. starts_new plan 
 pub repeats_stay : (tree : Bool) (grid : List ℕ) (plan : Tables) → HasNoRepeats plan → HasNoRepeats (emitted tree grid plan)
 repeats_stay true grid plan is =
     (repeats_either_way (emitted true grid plan)).0
-    (same_walk [] (fresh_behind plan) (starts_new plan) (λ facts row. repeats_learn plan facts row (treed row))
+    (same_walk [] (fresh_behind plan) (starts_new plan) (λ facts. facts) refl (λ facts row. repeats_learn plan facts row (treed row))
     (λ facts row. repeats_right plan facts row (treed row)) plan.code 0 [] plan.code
     ∙ (repeats_either_way plan).1 is)
 repeats_stay false grid plan is =
@@ -242,8 +253,86 @@ merged_right plan facts row (StaysRow same none) = ap (λ row. is_apart facts ro
 pub merged_stay : (tree : Bool) (grid : List ℕ) (plan : Tables) → IsMerged plan → IsMerged (emitted tree grid plan)
 merged_stay true grid plan is =
     (merged_either_way (emitted true grid plan)).0
-    (same_walk false (is_behind_finish) (is_apart) (λ facts row. merged_learn plan facts row (treed row))
+    (same_walk false (is_behind_finish) (is_apart) (λ facts. facts) refl (λ facts row. merged_learn plan facts row (treed row))
     (λ facts row. merged_right plan facts row (treed row)) plan.code 0 false plan.code
     ∙ (merged_either_way plan).1 is)
 merged_stay false grid plan is =
     (merged_either_way (emitted false grid plan)).0 ((merged_either_way plan).1 is)
+
+-- ---- early starts: the last row is known, along the tree
+abbrev along_last : Passed → Passed
+along_last passed = record passed { last = option_map along_tree passed.last }
+
+open_alike : (numbers : List ℕ) (row : Instr) → Treed row
+    → open_behind numbers (along_tree row) ≡ open_behind numbers row
+open_alike numbers _ (VoteRow group) = refl
+open_alike numbers _ (FoldRow scalar fold) = refl
+open_alike numbers row (StaysRow same none) = ap (λ row. open_behind numbers row) same
+
+early_learn : (passed : Passed) (row : Instr)
+    → passed_by (along_last passed) (along_tree row) ≡ along_last (passed_by passed row)
+early_learn passed row =
+    ap (λ numbers. record {
+      last = Some (along_tree row);
+      open_before = passed.open_now;
+      open_now = numbers;
+    }) (open_alike passed.open_now row (treed row))
+
+module _ (plan : Tables) (links : Option ℕ) where
+  cross_alike : (count exchange : ℕ) (row : Instr) → Treed row
+      → may_cross plan links count (along_tree row) exchange
+      ≡ may_cross plan links count row exchange
+  cross_alike count exchange _ (VoteRow group) = refl
+  cross_alike count exchange _ (FoldRow scalar fold) = refl
+  cross_alike count exchange row (StaysRow same none) =
+      ap (λ row. may_cross plan links count row exchange) same
+
+  last_alike : (count exchange : ℕ) (last : Option Instr)
+      → crosses_last plan links count (option_map along_tree last) exchange
+      ≡ crosses_last plan links count last exchange
+  last_alike count exchange None = refl
+  last_alike count exchange (Some row) = cross_alike count exchange row (treed row)
+
+  early_right : (passed : Passed) (row : Instr)
+      → is_in_time plan links (along_last passed) (along_tree row)
+      ≡ is_in_time plan links passed row
+  early_right passed (instr.Start exchange) =
+      ap (λ b. not b) (last_alike (length passed.open_before) exchange passed.last)
+  early_right passed (instr.Set scalar expr line) = refl
+  early_right passed (instr.Fix slot region) = refl
+  early_right passed (instr.Dims slot parts line) = refl
+  early_right passed (instr.Formed form slot from shift line) = refl
+  early_right passed (instr.Need slot array shift line) = refl
+  early_right passed (instr.Same target source kind line) = refl
+  early_right passed (instr.Fits slot shift line) = refl
+  early_right passed (instr.Room array slot) = refl
+  early_right passed (instr.Clear array) = refl
+  early_right passed (instr.Loop slot group) = refl
+  early_right passed (instr.Finish exchange) = refl
+  early_right passed (instr.Edge kind array slot shift) = refl
+  early_right passed (instr.Flood array target from source) = refl
+  early_right passed (instr.Part array target fold from source) = refl
+  early_right passed (instr.Scan array slot fold along from mask) = refl
+  early_right passed (instr.Vote group) = refl
+  early_right passed (instr.Fold scalar fold) = refl
+  early_right passed (instr.TreeVote group) = refl
+  early_right passed (instr.TreeFold scalar fold) = refl
+  early_right passed (instr.Print text) = refl
+  early_right passed (instr.Number expr) = refl
+  early_right passed (instr.Truth expr) = refl
+  early_right passed (instr.Gather truth array slot) = refl
+  early_right passed (instr.Jump goal) = refl
+  early_right passed (instr.Unless expr goal line) = refl
+  early_right passed (instr.Trap kind line) = refl
+  early_right passed instr.End = refl
+  early_right passed (instr.Remap array slot from parts) = refl
+
+pub early_stay : (links : Option ℕ) (tree : Bool) (grid : List ℕ) (plan : Tables)
+    → IsEarly links plan → IsEarly links (emitted tree grid plan)
+early_stay links true grid plan is =
+    (early_either_way links (emitted true grid plan)).0
+    (same_walk none_passed passed_by (is_in_time plan links) along_last refl early_learn
+    (early_right plan links) plan.code 0 none_passed plan.code
+    ∙ (early_either_way links plan).1 is)
+early_stay links false grid plan is =
+    (early_either_way links (emitted false grid plan)).0 ((early_either_way links plan).1 is)
