@@ -1,1 +1,3 @@
 mod Programs
+pub mod SizeLemmas
+pub mod UndecidedLemmas

@@ -1,0 +1,2 @@
+pub mod GroupedLemmas
+pub mod StretchLemmas

@@ -1,5 +1,5 @@
 -- Rows with their groups inline: a loop has its members, and expressions have their numbers.
-use Rattle.std.specs.Prelude.{ℕ, ◌+◌, List, [], ◌∷◌, ◌++◌, flat_map, length, map}
+use Rattle.std.specs.Prelude.{ℕ, ◌+◌, List, [], ◌∷◌, ◌++◌, flat_map, length, map, sum_by}
 use Rattle.row_runs.specs.Cut.{passed}
 use Rattle.node_form.specs.declared.members.Member.{Member}
 use Rattle.node_form.specs.declared.instructions.Instr.{Instr}
@@ -45,3 +45,11 @@ ended_by moved row = Plain (with_moved_goal moved row)
 abbrev pub rewritten_rows : Tables → (List Grouped → List Grouped) → List Grouped
 rewritten_rows tables rewrite =
     passed (λ rows. rewrite (map (grouped tables) rows)) ended_by (stretches_of tables.code)
+
+-- ---- how many members a row runs, and the loops of a program
+abbrev pub members_run : Grouped → ℕ
+members_run (Runs slot group) = length group
+members_run (Plain row) = 0
+
+abbrev pub loop_members : Tables → ℕ
+loop_members tables = sum_by (λ row. members_run (grouped tables row)) tables.code

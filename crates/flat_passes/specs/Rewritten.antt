@@ -1,5 +1,5 @@
 -- Code rewritten stretch by stretch.
-use Rattle.std.specs.Prelude.{ℕ, List}
+use Rattle.std.specs.Prelude.{ℕ, Bool, true, false, List}
 use Rattle.row_runs.specs.Cut.{Stretch, cut, passed}
 use Rattle.node_form.specs.declared.instructions.Instr.{Instr}
 use Rattle.node_form.specs.declared.instructions.Instr.TheVariants as instr
@@ -21,3 +21,9 @@ stretches_of code = cut ends_stretch (is_goal code) 0 code
 -- code, which notes the new number of each row.
 abbrev pub rewritten_code : (List Instr → List Instr) → List Instr → List Instr
 rewritten_code rewrite code = passed rewrite with_moved_goal (stretches_of code)
+
+-- the row is a jump or a test, which may lead elsewhere
+abbrev pub has_goal : Instr → Bool
+has_goal (instr.Jump goal) = true
+has_goal (instr.Unless expr goal line) = true
+has_goal row = false

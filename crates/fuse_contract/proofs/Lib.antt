@@ -1,3 +1,5 @@
+pub mod CellLemmas
 mod ContractedPrograms
 mod Examples
 mod FusedPrograms
+pub mod JoinLemmas

@@ -1,2 +1,35 @@
 //! Neighbouring loops become one, and arrays that one loop alone names become cells.
 #![tactic(auto)]
+
+ghost use Rattle.std.specs.Prelude.{◌≡◌, ◌+◌, ◌≤◌, length, sum_by};
+ghost use Rattle.node_form.specs.declared.tables.Tables.{Tables as Code};
+ghost use Rattle.code_parts.specs.Counts.{code_size, count_of};
+ghost use Rattle.flat_passes.specs.Grouped.{loop_members};
+ghost use Rattle.flat_passes.specs.Rewritten.{has_goal};
+ghost use Rattle.fuse_contract.specs.Contracting.{contracted};
+ghost use Rattle.fuse_contract.specs.Fusing.{fused};
+
+/// Where loops are joined, the code gets no longer, its groups have no more members than its loops
+/// ran before, and it has as many jumps and tests. Where no group is run by two loops, it gets no
+/// larger. Nothing but rows and groups changes.
+pub fn loops_are_joined()
+    ensures rows { (code : Code) → length (fused code).code ≤ length code.code }
+    ensures members { (code : Code) →
+        sum_by (λ group. length group) (fused code).groups ≤ loop_members code }
+    ensures size { (code : Code) → loop_members code ≤ sum_by (λ group. length group) code.groups →
+        code_size (fused code) ≤ code_size code }
+    ensures jumps { (code : Code) → count_of has_goal (fused code) ≡ count_of has_goal code }
+    ensures rest { (code : Code) →
+        record (fused code) { groups = code.groups; code = code.code } ≡ code }
+{}
+
+/// Where arrays become cells, every row of the code and every array stays, and nothing but cells,
+/// groups and expressions changes. There is at most one cell more for each array, and nothing else
+/// gets larger.
+pub fn arrays_become_cells()
+    ensures cells { (code : Code) → (contracted code).cells ≤ code.cells + length code.arrays }
+    ensures size { (code : Code) → code_size (contracted code) ≤ code_size code + length code.arrays }
+    ensures rest { (code : Code) →
+        record (contracted code) { cells = code.cells; groups = code.groups; exprs = code.exprs }
+        ≡ code }
+{}

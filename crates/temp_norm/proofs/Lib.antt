@@ -1,1 +1,2 @@
+pub mod JumpLemmas
 mod Programs
