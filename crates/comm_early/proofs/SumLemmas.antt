@@ -1,10 +1,11 @@
 -- Rows change places alone.
-use Rattle.std.proofs.Common.{◌≡◌, refl, sym, ap, ◌∙◌, subst, arith, ℕ, ◌+◌, Bool, true, false}
+use Rattle.std.proofs.Common.{◌≡◌, refl, ap, ◌∙◌, subst, arith, ℕ, ◌+◌, Bool, true, false}
 use Rattle.std.proofs.Common.{List, [], ◌∷◌, ◌++◌, length, length-append}
 use Rattle.std.specs.Prelude.{count_by, fold, if◌then◌else◌, reverse, Option, Some, None}
 use Rattle.std.specs.Option.{option_map}
+use Rattle.std.proofs.lemmas.List.{reverse-append}
 use Rattle.std.specs.List.{AllByRecursion}
-use Rattle.row_runs.specs.Cut.{Stretch, all_rows, as_list, moved_by}
+use Rattle.row_runs.specs.Cut.{Stretch, as_list, moved_by}
 use Rattle.row_runs.proofs.CutLemmas.{cut_rows}
 use Rattle.node_form.specs.declared.instructions.Instr.{Instr}
 use Rattle.node_form.specs.declared.instructions.Instr.TheVariants as instr
@@ -59,7 +60,8 @@ module _ (tables : Tables) (links : Option ℕ) (sum : List Instr → ℕ)
   reversed_sum : (rows : List Instr) → sum (reverse rows) ≡ sum rows
   reversed_sum [] = refl
   reversed_sum (row ∷ rows) =
-      omega (arith, adds (reverse rows) (row ∷ []), one_more row rows, reversed_sum rows)
+      ap sum (reverse-append (row ∷ []) rows)
+      ∙ omega (arith, adds (reverse rows) (row ∷ []), one_more row rows, reversed_sum rows)
 
   early_sum : (rows : List Instr) → sum (rows_early tables links rows) ≡ sum rows
   early_sum rows =
@@ -79,9 +81,10 @@ module _ (tables : Tables) (links : Option ℕ) (sum : List Instr → ℕ)
       → AllByRecursion (AsMuch sum sum adds adds none (rows_early tables links)
       (λ moved row. row) moved) stretches
   all_early moved [] = tt
-  all_early moved (stretch ∷ stretches) =
-      (record { front = early_sum stretch.front; last = same_last stretch.last }
-      , all_early moved stretches)
+  all_early moved (stretch ∷ stretches) = (
+    record { front = early_sum stretch.front; last = same_last stretch.last },
+    all_early moved stretches,
+  )
 
   same_sum : sum (sent_early links tables).code ≡ sum tables.code
   same_sum =

@@ -1,5 +1,5 @@
 -- A plan on two processors, row by row, and the flat program that it is made of.
-use Rattle.std.proofs.Common.{◌≡◌, ℕ, ℤ, true, false, List, [], ◌∷◌, Some, None, Option}
+use Rattle.std.proofs.Common.{◌≡◌, ℕ, ℤ, true, false, List, [], ◌∷◌, Some, None}
 use Rattle.std.proofs.Common.{pos, negsuc, codes, refl}
 use Rattle.std.specs.Fmt.{digits}
 use Rattle.std.specs.Int.{int_wrap}
@@ -21,7 +21,7 @@ use Rattle.node_form.specs.declared.instructions.RegionForm.TheVariants as form
 use Rattle.node_form.specs.declared.members.Member.TheVariants as member
 use Rattle.node_form.specs.declared.tables.Tables.{Tables}
 use Rattle.node_form.specs.declared.words.ExprOp.TheVariants as word
-use Rattle.row_runs.specs.Run.{Ends, Result, Wrong}
+use Rattle.row_runs.specs.Run.{Ends, Wrong}
 use Rattle.flat_form.specs.Act.{flat_run}
 use Rattle.plan_meaning.specs.Act.{plan_run}
 

@@ -1,7 +1,6 @@
 -- What each row of node code does on all processors in lock step, and bounded runs of plans.
-use Rattle.std.specs.Prelude.{ℕ, ◌==◌, Bool, true, false, ◌&&◌, not, ℤ, List, [], ◌∷◌, ◌++◌, Option}
-use Rattle.std.specs.Prelude.{Some, None, is_some, slice_get, slice_set, unwrap_or}
-use Rattle.std.specs.Fmt.{signed_decimal}
+use Rattle.std.specs.Prelude.{ℕ, ◌==◌, Bool, true, false, ◌&&◌, ℤ, List, [], ◌∷◌, ◌++◌, Option}
+use Rattle.std.specs.Prelude.{Some, None, slice_get, slice_set}
 use Rattle.std.specs.List.{filter_map}
 use Rattle.zpl_nums.specs.declared.ends.End.{End}
 use Rattle.zpl_nums.specs.declared.ends.End.TheVariants.{Done, Trap}
@@ -9,8 +8,6 @@ use Rattle.zpl_nums.specs.declared.ends.TrapKind.{TrapKind}
 use Rattle.zpl_nums.specs.declared.ends.TrapKind.TheVariants as kind
 use Rattle.zpl_nums.specs.declared.folds.Fold.{Fold}
 use Rattle.zpl_nums.specs.Fold.{joined}
-use Rattle.zpl_region.specs.declared.regions.Region.{Region}
-use Rattle.zpl_arrays.specs.ArrayText.{truth_text}
 use Rattle.node_form.specs.declared.instructions.Instr.{Instr}
 use Rattle.node_form.specs.declared.instructions.Instr.TheVariants as instr
 use Rattle.node_form.specs.declared.tables.Tables.{Tables}
@@ -22,7 +19,7 @@ use Rattle.grid_meaning.specs.Collective.{flag_word, group_line, least_flag, sca
 use Rattle.grid_meaning.specs.Delivery as delivery
 use Rattle.grid_meaning.specs.Exchange as exchange
 use Rattle.grid_meaning.specs.Gather as gather
-use Rattle.grid_meaning.specs.Local.{Local, processors}
+use Rattle.grid_meaning.specs.Local.{processors}
 use Rattle.grid_meaning.specs.Remap as remap
 use Rattle.grid_meaning.specs.Scan as scan
 use Rattle.grid_meaning.specs.Turn as turn
@@ -179,12 +176,10 @@ is_vote_of group next = false
 
 -- over links that hold so many messages, with at most n turns of each loop within a group
 module _ (code : Tables) (links : Option ℕ) (n : ℕ) where
-  -- the regions of slots are the same on all processors: that of processor 0 is read
   abbrev pub loop_does : ℕ → ℕ → Option Instr → Abreast → Step Abreast
   loop_does slot group next all =
-      found (slice_get (all.shares 0).slots slot) (λ region.
       found (slice_get code.groups group) (λ members.
-      looped code n (is_vote_of group next) region members all))
+      looped code n (is_vote_of group next) slot members all)
 
   abbrev pub row_does : Instr → Option Instr → Abreast → Effect Abreast
   row_does (instr.Loop slot group) next all = Does (loop_does slot group next all)

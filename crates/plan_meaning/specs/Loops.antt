@@ -17,7 +17,7 @@ use Rattle.nest_meaning.specs.Nested.{Told, Fine, Zero, Wants, Lost, nested, way
 use Rattle.nest_meaning.specs.Tree.{nest_of}
 use Rattle.nest_meaning.specs.Units.{units_of}
 use Rattle.row_runs.specs.Run.{Step, Goes, Stops, Ends, Wrong}
-use Rattle.plan_meaning.specs.Abreast.{Abreast, Share, every, go_where}
+use Rattle.plan_meaning.specs.Abreast.{Abreast, Share, every}
 
 -- what a processor comes to: a state, and the member that met a zero divisor, if one did; or it
 -- wants a further turn; or a place isn't held
@@ -61,10 +61,15 @@ module _ (code : Tables) (n : ℕ) where
   point_of share =
       record { scalars = share.scalars; cells = share.cells; store = share.stores }
 
-  abbrev pub shared : List Nest → Region → Abreast → ℕ → Shared
-  shared units region all p =
-      tuples_shared units (members (own_part code p region)) (all.shares p).flag
-      (point_of (all.shares p))
+  -- by the processor's own region of the slot
+  abbrev pub part_shared : List Nest → Share → ℕ → Option Region → Shared
+  part_shared units share p (Some region) =
+      tuples_shared units (members (own_part code p region)) share.flag (point_of share)
+  part_shared units share p None = LacksPlace
+
+  abbrev pub shared : List Nest → ℕ → Abreast → ℕ → Shared
+  shared units slot all p =
+      part_shared units (all.shares p) p (slice_get (all.shares p).slots slot)
 
   -- ---- all processors
   abbrev pub lacks : Shared → Bool
@@ -95,10 +100,10 @@ module _ (code : Tables) (n : ℕ) where
       else (if is_vote_next then Stops (Ends More) else Stops Wrong))
       else Stops Wrong
 
-  abbrev pub tree_looped : Bool → Region → Option Nest → Abreast → Step Abreast
-  tree_looped is_vote_next region (Some nest) all =
-      all_shared (shared (units_of nest) region all) is_vote_next all
-  tree_looped is_vote_next region None all = Stops Wrong
+  abbrev pub tree_looped : Bool → ℕ → Option Nest → Abreast → Step Abreast
+  tree_looped is_vote_next slot (Some nest) all =
+      all_shared (shared (units_of nest) slot all) is_vote_next all
+  tree_looped is_vote_next slot None all = Stops Wrong
 
-  abbrev pub looped : Bool → Region → List Member → Abreast → Step Abreast
-  looped is_vote_next region group all = tree_looped is_vote_next region (nest_of group) all
+  abbrev pub looped : Bool → ℕ → List Member → Abreast → Step Abreast
+  looped is_vote_next slot group all = tree_looped is_vote_next slot (nest_of group) all
