@@ -1,0 +1,2 @@
+//! Fewer exchanges: those that bring nothing new are left out, and neighbours are one.
+#![tactic(auto)]

@@ -1,0 +1,19 @@
+//! Exchanges that start early.
+#![tactic(auto)]
+
+ghost use Rattle.std.specs.Prelude.{◌≡◌, ℕ, Bool, Option};
+ghost use Rattle.node_form.specs.declared.instructions.Instr.{Instr as Row};
+ghost use Rattle.node_form.specs.declared.tables.Tables.{Tables as Code};
+ghost use Rattle.code_parts.specs.Counts.{code_size, count_of};
+ghost use Rattle.comm_early.specs.Send.{sent_early};
+
+/// The plan is as large as it was, and has as many rows that pass a test, whichever it is: rows
+/// change places alone. Nothing but its rows changes.
+pub fn rows_stay()
+    ensures size { (links : Option ℕ) (plan : Code) →
+        code_size (sent_early links plan) ≡ code_size plan }
+    ensures rows { (links : Option ℕ) (plan : Code) (test : Row → Bool) →
+        count_of test (sent_early links plan) ≡ count_of test plan }
+    ensures rest { (links : Option ℕ) (plan : Code) →
+        record (sent_early links plan) { code = plan.code } ≡ plan }
+{}

@@ -1,0 +1,48 @@
+-- What the processors need of each other in front of loops, and what they agree on behind them.
+--
+-- Code keeps, for the group at hand, a map of the items found so far: each word of a group is looked
+-- at once.
+use Rattle.std.specs.Prelude.{ℕ, Bool, true, false, ◌||◌, List, [], ◌∷◌, ◌++◌, flat_map, fold, map}
+use Rattle.std.specs.List.{list_any}
+use Rattle.node_form.specs.declared.arrays.Item.{Item}
+use Rattle.node_form.specs.declared.instructions.Instr.TheVariants as instr
+use Rattle.node_form.specs.declared.tables.Tables.{Tables}
+use Rattle.node_form.specs.declared.words.ExprOp.{ExprOp}
+use Rattle.node_form.specs.declared.words.ExprOp.TheVariants as word
+use Rattle.code_parts.specs.Uses.{divides_in, group_words, has_loops}
+use Rattle.plan_form.specs.Units.{PlanUnit, Exchange, Single, with_item}
+use Rattle.plan_form.specs.Rewrite.{with_units}
+
+-- ---- exchanges
+-- the items that a loop over the slot needs for a word: the places that a shifted read reads
+abbrev pub needed_by : ℕ → ExprOp → List Item
+needed_by slot (word.Shifted array shift) =
+    record { array = array; slot = slot; shift = shift } ∷ []
+needed_by slot other = []
+
+-- each different one, in the order of the group's members
+abbrev pub needs_of : Tables → ℕ → ℕ → List Item
+needs_of tables slot group =
+    fold with_item [] (flat_map (needed_by slot) (group_words tables group))
+
+-- ---- votes
+-- a group may divide by zero, or has `while` or `repeat`
+abbrev pub is_voted_on : Tables → ℕ → Bool
+is_voted_on tables group =
+    list_any divides_in (group_words tables group) || has_loops tables group
+
+abbrev pub vote_if : Bool → ℕ → List PlanUnit
+vote_if true group = Single (instr.Vote group) ∷ []
+vote_if false group = []
+
+-- ---- the plan of a flat program
+-- directly in front of a loop an exchange of one item for each that it needs, and directly behind
+-- it its vote
+abbrev pub with_needs : Tables → PlanUnit → List PlanUnit
+with_needs tables (Single (instr.Loop slot group)) =
+    map (λ item. Exchange (item ∷ [])) (needs_of tables slot group)
+    ++ Single (instr.Loop slot group) ∷ vote_if (is_voted_on tables group) group
+with_needs tables unit = unit ∷ []
+
+abbrev pub planned : Tables → Tables
+planned tables = with_units (flat_map (with_needs tables)) tables

@@ -1,0 +1,2 @@
+//! From flat programs to plans: what processors need of each other.
+#![tactic(auto)]

@@ -1,0 +1,80 @@
+-- All processors between two rows, and what becomes of them in one.
+--
+--   Share     what a processor has there
+--   Abreast   all of them, and the exchanges that are open
+--   standing  a processor's state in front of a row: of which one, no row looks at
+use Rattle.std.specs.Prelude.{ℕ, Bool, true, false, ℤ, List, [], ◌∷◌, Option, None}
+use Rattle.std.specs.List.{list_all}
+use Rattle.zpl_region.specs.declared.regions.Region.{Region}
+use Rattle.zpl_arrays.specs.Array.{Array}
+use Rattle.node_form.specs.declared.tables.Tables.{Tables}
+use Rattle.grid_meaning.specs.Local.{Local, processor_numbers, start_local}
+use Rattle.row_orders.specs.Rows.{Flight}
+use Rattle.row_runs.specs.Run.{Step, Goes, Stops, Wrong}
+
+-- its scalars, the regions of its slots, its cells, the places of arrays that it holds, and the
+-- least member that met a zero divisor, until a vote
+pub record Share : Type 0 where
+  pub scalars : List ℤ
+  pub slots : List Region
+  pub cells : List ℤ
+  pub stores : List Array
+  pub flag : Option ℕ
+
+-- open exchanges stand in the order of their starts
+pub record Abreast : Type 0 where
+  pub shares : ℕ → Share
+  pub flights : List Flight
+
+abbrev pub standing : Share → Local
+standing share = record {
+  at = 0;
+  made = 0;
+  index = 0;
+  member = 0;
+  flag = share.flag;
+  ended = None;
+  scalars = share.scalars;
+  slots = share.slots;
+  cells = share.cells;
+  stores = share.stores;
+  kept = [];
+}
+
+abbrev pub share_of : Local → Share
+share_of local = record {
+  scalars = local.scalars;
+  slots = local.slots;
+  cells = local.cells;
+  stores = local.stores;
+  flag = local.flag;
+}
+
+abbrev pub locals_of : Abreast → ℕ → Local
+locals_of all p = standing (all.shares p)
+
+-- in front of the first row
+abbrev pub start_abreast : Tables → Abreast
+start_abreast code = record { shares = λ p. share_of (start_local code p); flights = [] }
+
+-- ---- tests
+-- of each processor, and of each two
+abbrev pub every : Tables → (ℕ → Bool) → Bool
+every code test = list_all test (processor_numbers code)
+
+abbrev pub every_two : Tables → (ℕ → ℕ → Bool) → Bool
+every_two code test = every code (λ p. every code (test p))
+
+-- no exchange is open
+abbrev pub are_none : List Flight → Bool
+are_none [] = true
+are_none (flight ∷ flights) = false
+
+abbrev pub is_quiet : Abreast → Bool
+is_quiet all = are_none all.flights
+
+-- ---- steps
+-- they go on where a test is passed: what fails it may not stand there
+abbrev pub go_where : Bool → List ℕ → Abreast → Step Abreast
+go_where true bytes next = Goes bytes next
+go_where false bytes next = Stops Wrong

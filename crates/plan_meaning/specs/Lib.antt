@@ -1,0 +1,4 @@
+pub mod Abreast
+pub mod Act
+pub mod Loops
+pub mod Messages

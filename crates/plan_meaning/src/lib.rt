@@ -1,0 +1,2 @@
+//! What plans mean: what all processors do in lock step.
+#![tactic(auto)]

@@ -1,0 +1,2 @@
+//! From a program to node code: all passes.
+#![tactic(auto)]
