@@ -279,7 +279,8 @@ pub edge-limited : (place : Place) (store : Store) (current : Region) (inner : I
     IfSome (edge_in place.setup.known current inner) IsLimited
 edge-limited place store current (Rexpr [] base post) given is = tt
 edge-limited place store current (Rexpr (pre ∷ []) (NamedRegion name) NoPost) given is =
-    by pre.outside (given-of (before place.setup.known (pre ∷ []) (region_named place.setup.known name)) given is)
+    by pre.outside (given-of (before place.setup.known (pre ∷ [])
+    (region_named place.setup.known name)) given is)
   where
     by : (b : Bool) → before place.setup.known (record pre { outside = b } ∷ [])
         (region_named place.setup.known name) ≡ Gives given →
