@@ -1,5 +1,7 @@
 -- Regions within the limit, and forms of regions one after the other.
-use Rattle.std.proofs.Common.{◌≡◌, ℕ, suc, ◌+◌, ◌-◌, ◌<◌, ◌≤◌, true, false, ◌==◌, None, if◌then◌else◌, List, [], ◌∷◌, ◌++◌, map, length, take, drop, drop-cons, get_or, All, refl, sym, ap, ◌∙◌, subst, arith, ℤ}
+use Rattle.std.proofs.Common.{◌≡◌, ℕ, suc, ◌+◌, ◌-◌, ◌<◌, ◌≤◌, Bool, true, false, ◌==◌, Option, Some, None, if◌then◌else◌, List, [], ◌∷◌, ◌++◌, map, length, take, drop, drop-cons, get_or, All, refl, sym, ap, ◌∙◌, subst, arith, ℤ}
+use Rattle.std.specs.Prelude.{IfSome}
+use Rattle.std.specs.Option.{option_map}
 use Rattle.std.proofs.lemmas.List.{take_more, map-append}
 use Rattle.std.proofs.lemmas.List.Elements.{All-from_recursion, recursion_from_All}
 use Rattle.zpl_nums.specs.declared.ends.TrapKind.{TrapKind}
@@ -9,19 +11,27 @@ use Rattle.zpl_region.specs.Dim.{HasStep}
 use Rattle.zpl_region.specs.Region.{IsRegion, IsWithinLimit, outside_of, inside_of, moved, strided}
 use Rattle.zpl_region.proofs.EndLemmas.{length-tuple_count}
 use Rattle.zpl_region.proofs.HullLemmas.{has_steps}
-use Rattle.zpl_tree.specs.Syntax.{Pre, RegionBase, Rexpr, Posts}
+use Rattle.zpl_region.specs.Tests.{is_within_limit}
+use Rattle.zpl_region.proofs.TestLemmas.{is_within_limit_iff}
+use Rattle.zpl_tree.specs.Syntax.{Pre, RegionBase, NamedRegion, Ditto, Inner, Rexpr, Dims, Posts, NoPost, ThenPost}
 use Rattle.zpl_tree.specs.View.{dir_of as seen_dir, posts_of, pre_of}
 use Rattle.zpl_tree.specs.declared.regions.Post.{Post}
 use Rattle.zpl_tree.specs.declared.regions.Pre.{Pre as Arena}
-use Rattle.zpl_binding.specs.Outcome.{BindFault, UnknownConfig, ConfigType, TwiceSet, BadConstant, RegionLimit, DirectionLimit, Outcome, Gives, Fails, and_then, outcome_of}
+use Rattle.zpl_binding.specs.Outcome.{value_or, BindFault, UnknownConfig, ConfigType, TwiceSet, BadConstant, RegionLimit, DirectionLimit, Outcome, Gives, Fails, and_then, outcome_of}
 use Rattle.zpl_binding.specs.Vectors.{dir_of, three_components}
-use Rattle.zpl_binding.specs.Regions.{Known, limited, behind, before}
+use Rattle.zpl_binding.specs.Regions.{Known, limited, behind, before, formed_by, no_region, region_named}
 use Rattle.zpl_binding.proofs.KeptLemmas.{Formed, formed-kept}
 use Rattle.zpl_bind.proofs.RegionLemmas.{limited-within, limited-past, behind-fails, before-fails, before-push, before-more}
 use Rattle.zpl_meaning.specs.Computed.{Traps}
 use Rattle.zpl_meaning.specs.Computed as computed
-use Rattle.zpl_meaning.specs.Regions.{computed_of, edge_in, fault_trap}
-use Rattle.array_terms.specs.Sound.{IsSmall}
+use Rattle.zpl_meaning.specs.Regions.{computed_of, edge_in, fault_trap, inner_over}
+use Rattle.zpl_meaning.specs.Context.{Place}
+use Rattle.zpl_meaning.specs.Store.{Store}
+use Rattle.array_terms.specs.Sound.{IsNear, IsSmall}
+use Rattle.array_places.specs.declared.places.Edge.{Edge}
+use Rattle.array_places.specs.Sound.{IsEdge}
+use Rattle.array_places.specs.View.{edge_of}
+use Rattle.array_regions.specs.Fit.{IsLimited}
 
 -- ---- the limit
 
@@ -245,3 +255,67 @@ edge-behind known current [] base post h = refl
 edge-behind known current (pre ∷ []) base [] h = absurd (false-true (sym h))
 edge-behind known current (pre ∷ []) base (post ∷ rest) h = refl
 edge-behind known current (pre ∷ second ∷ rest) base post h = refl
+
+-- what a form gives is within the limit
+limited-given : (r given : Region) → limited r ≡ Gives given → is_within_limit r ≡ true
+limited-given r given is = by (is_within_limit r) is
+  where
+    by : (b : Bool) → (if b then Gives r else Fails RegionLimit) ≡ Gives given → b ≡ true
+    by true is = refl
+    by false is = cc
+
+formed-limited : (form : List ℤ → Region → Region) (vector : Outcome (List ℤ))
+    (region : Outcome Region) (given : Region) → formed_by form vector region ≡ Gives given →
+    is_within_limit (form (value_or (three_components []) vector) (value_or no_region region))
+    ≡ true
+formed-limited form (Gives d) (Gives r) given is = limited-given (form d r) given is
+formed-limited form (Gives d) (Fails fault) given is = cc
+formed-limited form (Fails fault) (Gives r) given is = cc
+formed-limited form (Fails fault) (Fails other) given is = cc
+
+-- the region of the border that a bracket is, where the bracket has a region
+pub edge-limited : (place : Place) (store : Store) (current : Region) (inner : Inner)
+    (given : Region) → inner_over place store current inner ≡ computed.Gives given →
+    IfSome (edge_in place.setup.known current inner) IsLimited
+edge-limited place store current (Rexpr [] base post) given is = tt
+edge-limited place store current (Rexpr (pre ∷ []) (NamedRegion name) NoPost) given is =
+    by pre.outside (given-of (before place.setup.known (pre ∷ [])
+    (region_named place.setup.known name)) given is)
+  where
+    by : (b : Bool) → before place.setup.known (record pre { outside = b } ∷ [])
+        (region_named place.setup.known name) ≡ Gives given →
+        IfSome (edge_in place.setup.known current
+        (Rexpr (record pre { outside = b } ∷ []) (NamedRegion name) NoPost)) IsLimited
+    by true gives =
+        formed-limited outside_of
+        (outcome_of (three_components []) place.setup.known.directions pre.dir.text)
+        (region_named place.setup.known name) given gives
+    by false gives = tt
+edge-limited place store current (Rexpr (pre ∷ []) (Ditto at) NoPost) given is =
+    by pre.outside (given-of (before place.setup.known (pre ∷ []) (Gives current)) given is)
+  where
+    by : (b : Bool) → before place.setup.known (record pre { outside = b } ∷ [])
+        (Gives current) ≡ Gives given →
+        IfSome (edge_in place.setup.known current
+        (Rexpr (record pre { outside = b } ∷ []) (Ditto at) NoPost)) IsLimited
+    by true gives =
+        formed-limited outside_of
+        (outcome_of (three_components []) place.setup.known.directions pre.dir.text)
+        (Gives current) given gives
+    by false gives = tt
+edge-limited place store current (Rexpr (pre ∷ []) base (ThenPost stride dir rest)) given is = tt
+edge-limited place store current (Rexpr (pre ∷ second ∷ rest) base post) given is = tt
+edge-limited place store current (Dims dims) given is = tt
+
+-- a border is sound by its parts
+pub edge-sound : (edge : Option Edge) → IfSome edge (λ e. IsRegion e.region) →
+    IfSome edge (λ e. IsNear e.shift) → IfSome (option_map edge_of edge) IsLimited →
+    IfSome (option_map edge_of edge) IsEdge
+edge-sound None region near limited = tt
+edge-sound (Some edge) region near limited = record {
+  region = region;
+  near = near;
+  limit =
+      (is_within_limit_iff (outside_of edge.shift edge.region)
+      (outside-steps edge.shift edge.region region)).0 limited;
+}

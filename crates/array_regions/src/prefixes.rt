@@ -1,6 +1,7 @@
 //! Prefixes, and what is in reach under them.
-ghost use Rattle.std.specs.Prelude.{◌≡◌, IfOk, map};
+ghost use Rattle.std.specs.Prelude.{◌≡◌, IfOk, IfSome, map};
 ghost use Rattle.std.specs.Option.{option_map};
+ghost use Rattle.zpl_region.specs.Region.{IsRegion};
 ghost use Rattle.zpl_names.specs.Ranks as ranks;
 ghost use Rattle.zpl_tree.specs.Syntax.{Rexpr};
 ghost use Rattle.zpl_tree.specs.View.{base_of, inner_of, mask_of as seen_mask, posts_of, pre_of};
@@ -8,12 +9,12 @@ ghost use Rattle.zpl_tree.specs.View.{prefix_of};
 ghost use Rattle.name_kinds.specs.Reach.{scope_of};
 ghost use Rattle.zpl_bind.specs.Known.{known_in};
 ghost use Rattle.zpl_meaning.specs.Regions as regions;
-ghost use Rattle.array_terms.specs.Sound.{IsSmall};
+ghost use Rattle.array_terms.specs.Sound.{IsNear, IsSmall};
 ghost use Rattle.array_terms.specs.View.{mask_of, over_of};
 ghost use Rattle.array_stops.specs.Answer.{ComputesAs};
 ghost use Rattle.array_places.specs.Sound.{IsPlace, IsRanked};
 ghost use Rattle.array_places.specs.View.{edge_of, environment_of, place_of};
-ghost use Rattle.array_regions.specs.Fit.{IsFitInner};
+ghost use Rattle.array_regions.specs.Fit.{IsFitInner, IsLimited};
 
 use crate::brackets::{current_for, region_in};
 use crate::forms::region_named;
@@ -54,13 +55,15 @@ pub fn mask_in(environment: &Environment<'_, '_>, mask: &Option<MaskText<'_>>) -
     }
 }
 
-/// The region and the mask of a prefix.
+/// The region and the mask of a prefix. A border that the prefix is then is within the limit.
 pub fn over_in(place: &Place<'_, '_>, store: &Store, prefix: &Prefix<'_>) -> Result<Over, TrapKind>
     requires place { IsPlace place.now }
     requires fit { IsFitInner (inner_of prefix.now.region) }
     ensures computes { ComputesAs result over_of
         (regions.over_in (place_of place.now) store.now (prefix_of prefix.now)) }
     ensures small { IfOk result (λ over. IsSmall over.region) }
+    ensures edge { IfOk result (λ over. IfSome (regions.under_prefix (place_of place.now)
+        (prefix_of prefix.now) (over_of over)).edge IsLimited) }
 {
     let hint = mask_rank(&place.scope, &prefix.mask);
     let region = region_in(place, store, hint, &prefix.region)?;
@@ -70,8 +73,10 @@ pub fn over_in(place: &Place<'_, '_>, store: &Store, prefix: &Prefix<'_>) -> Res
 
 /// The region that a border is around.
 fn base_in(known: &Known<'_>, current: &Region, base: &RegionBase<'_>) -> Region
-    requires { IsRanked known.now }
-    ensures { result ≡ regions.base_in (known_in known.now) current.now (base_of base.now) }
+    requires known { IsRanked known.now }
+    requires current { IsSmall current.now }
+    ensures base { result ≡ regions.base_in (known_in known.now) current.now (base_of base.now) }
+    ensures small { IsSmall result }
 {
     match base {
         RegionBase::Named(name) => region_named(known, name),
@@ -87,9 +92,12 @@ fn rexpr_edge(
     base: &RegionBase<'_>,
     post: &[Post<'_>],
 ) -> Option<Edge>
-    requires { IsRanked known.now }
-    ensures { option_map edge_of result ≡ regions.edge_in (known_in known.now) current.now
+    requires known { IsRanked known.now }
+    requires current { IsSmall current.now }
+    ensures edge { option_map edge_of result ≡ regions.edge_in (known_in known.now) current.now
         (Rexpr (map pre_of pre.now) (base_of base.now) (posts_of post.now)) }
+    ensures region { IfSome result (λ edge. IsRegion edge.region) }
+    ensures near { IfSome result (λ edge. IsNear edge.shift) }
 {
     let [pre] = pre else {
         return None;
@@ -108,9 +116,12 @@ fn rexpr_edge(
 
 /// The border that a prefix is, where it is written directly as `d of R` or `d of "`.
 fn edge_in(known: &Known<'_>, current: &Region, inner: &Inner<'_>) -> Option<Edge>
-    requires { IsRanked known.now }
-    ensures { option_map edge_of result
+    requires known { IsRanked known.now }
+    requires current { IsSmall current.now }
+    ensures edge { option_map edge_of result
         ≡ regions.edge_in (known_in known.now) current.now (inner_of inner.now) }
+    ensures region { IfSome result (λ edge. IsRegion edge.region) }
+    ensures near { IfSome result (λ edge. IsNear edge.shift) }
 {
     match inner {
         Inner::Rexpr(rexpr) => rexpr_edge(known, current, rexpr.pre, &rexpr.base, rexpr.post),
@@ -118,10 +129,13 @@ fn edge_in(known: &Known<'_>, current: &Region, inner: &Inner<'_>) -> Option<Edg
     }
 }
 
-/// What is in reach under a prefix, which has this region and mask.
+/// What is in reach under a prefix, which has this region and mask. Where it is a border, its
+/// region is within the limit, as `over_in` tells of it.
 pub fn under_prefix<'a, 'n>(place: &Place<'a, 'n>, prefix: &Prefix<'_>, over: Over) -> Place<'a, 'n>
     requires place { IsPlace place.now }
     requires over { IsSmall over.region }
+    requires edge { IfSome (regions.under_prefix (place_of place.now) (prefix_of prefix.now)
+        (over_of over)).edge IsLimited }
     ensures under { place_of result
         ≡ regions.under_prefix (place_of place.now) (prefix_of prefix.now) (over_of over) }
     ensures place { IsPlace result }

@@ -1,7 +1,6 @@
 //! Borders.
-ghost use Rattle.std.specs.Prelude.{◌≡◌, ◌&&◌, ◌++◌, IfOk, IfSome, OkIff, OnOk, map};
-ghost use Rattle.zpl_region.specs.declared.regions.Region.{Region as Tuples};
-ghost use Rattle.zpl_region.specs.Region.{IsRegion, IsWithinLimit, members, outside_of};
+ghost use Rattle.std.specs.Prelude.{◌≡◌, ◌&&◌, ◌++◌, IfOk, OnOk, map};
+ghost use Rattle.zpl_region.specs.Region.{IsRegion, members, outside_of};
 ghost use Rattle.zpl_arrays.specs.Array.{element};
 ghost use Rattle.zpl_arrays.specs.Border.{border_source, border_sources};
 ghost use Rattle.zpl_arrays.specs.Reference.{lies_in};
@@ -10,12 +9,12 @@ ghost use Rattle.zpl_meaning.specs.Statement as statement;
 ghost use Rattle.zpl_meaning.specs.Store.{array_at, thing_of};
 ghost use Rattle.array_terms.specs.Sound.{IsSmall};
 ghost use Rattle.array_stops.specs.Answer.{Answers};
-ghost use Rattle.array_places.specs.Sound.{IsPlace};
+ghost use Rattle.array_places.specs.Sound.{IsEdge, IsPlace};
 ghost use Rattle.array_places.specs.View.{edge_of, place_of};
 ghost use Rattle.array_steps.specs.Edges.{bordered};
 ghost use Rattle.array_steps.specs.Steps.{Does};
 
-use crate::edges::{is_region, opposite};
+use crate::edges::{inside, opposite};
 use array_places::{Edge, Place, Thing};
 use array_stops::Stop;
 use array_store::{Array, Store};
@@ -26,46 +25,26 @@ use scalar_steps::Buffers;
 use std::alloc::{AllocError, Global};
 use zpl_arrays::{border_conforms, border_source};
 use zpl_nums::{Border, TrapKind};
-use zpl_region::{Region, RegionLimit};
+use zpl_region::Region;
 use zpl_tree::Name;
 
-/// A region, where it is within the limit.
-fn within_limit(made: Result<Region, RegionLimit>) -> Option<Region>
-    requires { IfOk made IsRegion }
-    ensures region { (plain : Tuples) → OkIff made (IsWithinLimit plain) plain →
-        IfSome result (λ region. region ≡ plain) }
-    ensures small { (plain : Tuples) → OkIff made (IsWithinLimit plain) plain →
-        IfSome result IsSmall }
+/// The region of a border.
+fn outside(edge: &Edge) -> Region
+    requires { IsEdge (edge_of edge.now) }
+    ensures region { result ≡ outside_of edge.now.shift edge.now.region }
+    ensures small { IsSmall result }
 {
-    match made {
-        Ok(region) => Some(region),
-        Err(_) => None,
-    }
+    edge.region.of(edge.shift).unwrap()
 }
 
-/// The region of a border, where it is within the limit.
-fn outside(edge: &Edge) -> Option<Region>
-    requires { IsRegion edge.now.region }
-    ensures region { IfSome result (λ region.
-        region ≡ outside_of edge.now.shift edge.now.region) }
-    ensures small { IfSome result IsSmall }
-{
-    within_limit(edge.region.of(edge.shift))
-}
-
-/// That of the sources of a border, where it is within the limit.
-fn sources(kind: Border, edge: &Edge) -> Option<Region>
-    requires { IsRegion edge.now.region }
-    ensures region { IfSome result (λ region.
-        region ≡ border_sources kind edge.now.region edge.now.shift) }
-    ensures small { IfSome result IsSmall }
+/// That of the sources of a border.
+fn sources(kind: Border, edge: &Edge) -> Region
+    requires { IsEdge (edge_of edge.now) }
+    ensures { result ≡ border_sources kind edge.now.region edge.now.shift }
 {
     match kind {
-        Border::Wrap => {
-            let shift = opposite(&edge.shift)?;
-            within_limit(edge.region.inside(shift))
-        }
-        Border::Reflect => within_limit(edge.region.inside(edge.shift)),
+        Border::Wrap => inside(opposite(&edge.shift), &edge.region),
+        Border::Reflect => inside(edge.shift, &edge.region),
     }
 }
 
@@ -142,8 +121,7 @@ fn lie_in(store: &Store, border: &Region, sources: &Region, target: usize) -> bo
     is_within(store, border, target) && is_within(store, sources, target)
 }
 
-/// The array that a border statement makes of one, or its trap. A border that no prefix makes, by
-/// what is no region or past the limit, is answered by want of memory.
+/// The array that a border statement makes of one, or its trap.
 fn bordered(
     alloc: Global,
     store: &Store,
@@ -152,21 +130,15 @@ fn bordered(
     edge: &Edge,
     values: &mut Vec<i64>,
 ) -> Result<Array, Stop>
+    requires { IsEdge (edge_of edge.now) }
     ensures { Answers result (λ array. array)
         (bordered kind (edge_of edge.now) (array_at store.now target)) }
 {
-    if !is_region(&edge.region) {
-        return Err(Stop::NoMemory);
-    }
     if !border_conforms(&edge.shift, &edge.region) {
         return Err(Stop::Trap(TrapKind::RegionMismatch));
     }
-    let Some(border) = outside(edge) else {
-        return Err(Stop::NoMemory);
-    };
-    let Some(sources) = sources(kind, edge) else {
-        return Err(Stop::NoMemory);
-    };
+    let border = outside(edge);
+    let sources = sources(kind, edge);
     if !lie_in(store, &border, &sources, target) {
         return Err(Stop::Trap(TrapKind::OutsideStorage));
     }

@@ -1,22 +1,17 @@
-//! Regions and vectors of borders, as the calls below take them.
-ghost use Rattle.std.specs.Prelude.{◌≡◌, IfSome, IsTrue, map, neg_ℤ};
-ghost use Rattle.zpl_region.specs.Dim.{IsDim};
-ghost use Rattle.zpl_region.specs.Region.{IsRegion, padding};
+//! The inner parts of regions, and opposite vectors.
+ghost use Rattle.std.specs.Prelude.{◌≡◌, map, neg_ℤ};
+ghost use Rattle.zpl_region.specs.Dim.{IsDim, IsUpTo, dim_inside_of};
+ghost use Rattle.zpl_region.specs.Region.{IsRegion, inside_of};
+ghost use Rattle.array_terms.specs.Sound.{IsNear};
 
 use zpl_region::{Dim, Region, Vec3};
 
-/// 2^40, the largest bound of a dimension.
-const LARGEST_BOUND: i64 = 1099511627776;
-
-/// 2^41, the largest component of a vector.
-const LARGEST_SHIFT: i64 = 2199023255552;
-
-/// 2^42, the largest alignment of a dimension.
-const LARGEST_ALIGNMENT: i64 = 4398046511104;
-
-/// Whether a dimension is as the calls of regions ask.
-fn is_dim(dim: Dim) -> bool
-    ensures { IsTrue result → IsDim dim }
+/// The last positions of a dimension, so many as a component says, or the first ones for a negative
+/// component.
+fn inside_dim(d: i64, dim: Dim) -> Dim
+    requires near { IsUpTo 41 d }
+    requires dim { IsDim dim }
+    ensures { result ≡ dim_inside_of d dim }
 {
     let Dim::Range {
         lo,
@@ -25,72 +20,50 @@ fn is_dim(dim: Dim) -> bool
         align,
     } = dim
     else {
-        return true;
+        return Dim::Flood;
     };
-    if step < 1 {
-        return false;
+    if d > 0 {
+        return Dim::Range {
+            lo: hi - d + 1,
+            hi,
+            step,
+            align,
+        };
     }
-    if lo < -LARGEST_BOUND || lo > LARGEST_BOUND {
-        return false;
+    if d < 0 {
+        return Dim::Range {
+            lo,
+            hi: lo - d - 1,
+            step,
+            align,
+        };
     }
-    if hi < -LARGEST_BOUND || hi > LARGEST_BOUND {
-        return false;
-    }
-    -LARGEST_ALIGNMENT <= align && align <= LARGEST_ALIGNMENT
+    dim
 }
 
-/// Whether a dimension is one past the rank.
-fn is_padding(dim: Dim) -> bool
-    ensures { IsTrue result → dim ≡ padding }
+/// `d in R`. It may pass the limit.
+pub fn inside(d: Vec3, region: &Region) -> Region
+    requires near { IsNear d }
+    requires region { IsRegion region.now }
+    ensures { result ≡ inside_of d region.now }
 {
-    let Dim::Range {
-        lo,
-        hi,
-        step,
-        align,
-    } = dim
-    else {
-        return false;
-    };
-    if lo != 0 || hi != 0 {
-        return false;
-    }
-    step == 1 && align == 0
-}
-
-/// Whether a region is as the calls of regions ask.
-pub fn is_region(region: &Region) -> bool
-    ensures { IsTrue result → IsRegion region.now }
-{
+    let [x, y, z] = region.components(d);
     let [planes, rows, columns] = region.dims;
-    if !is_dim(planes) || !is_dim(rows) || !is_dim(columns) {
-        return false;
-    }
-    match region.rank {
-        1 => is_padding(rows) && is_padding(columns),
-        2 => is_padding(columns),
-        3 => true,
-        _ => false,
+    Region {
+        rank: region.rank,
+        dims: [
+            inside_dim(x, planes),
+            inside_dim(y, rows),
+            inside_dim(z, columns),
+        ],
     }
 }
 
-/// A component of the opposite vector, unless it is far off.
-fn negated(component: i64) -> Option<i64>
-    ensures { IfSome result (λ opposite. opposite ≡ neg_ℤ component) }
-{
-    if component < -LARGEST_SHIFT || component > LARGEST_SHIFT {
-        return None;
-    }
-    Some(-component)
-}
-
-/// The opposite vector, unless it is far off.
-pub fn opposite(shift: &Vec3) -> Option<Vec3>
-    ensures { IfSome result (λ opposite. opposite ≡ map neg_ℤ shift.now) }
+/// The opposite vector.
+pub fn opposite(shift: &Vec3) -> Vec3
+    requires { IsNear shift.now }
+    ensures { result ≡ map neg_ℤ shift.now }
 {
     let [planes, rows, columns] = *shift;
-    let planes = negated(planes)?;
-    let rows = negated(rows)?;
-    let columns = negated(columns)?;
-    Some([planes, rows, columns])
+    [-planes, -rows, -columns]
 }

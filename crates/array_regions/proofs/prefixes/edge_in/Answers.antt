@@ -7,11 +7,11 @@ use Rattle.zpl_bind.specs.Known.{known_in}
 use Rattle.zpl_meaning.specs.Regions.{edge_in}
 use Rattle.array_regions.proofs.prefixes.edge_in.Goals as goal
 
-pub returns-in-Rexpr : goal.returns-in-Rexpr
-returns-in-Rexpr c =
+pub returns-in-Rexpr-clause-edge : goal.returns-in-Rexpr-clause-edge
+returns-in-Rexpr-clause-edge c =
     let parts = out-Rexpr c.in-Rexpr.rexpr in
     let is : inner_of c.args.inner.now ≡ plain.Rexpr (map pre_of parts.pre.now)
     (base_of parts.base) (posts_of parts.post.now) =
     ap inner_of c.in-Rexpr.is ∙ rexpr_of-parts c.in-Rexpr.rexpr in
-    c.rexpr_edge.ensures
+    c.rexpr_edge.ensures.edge
     ∙ sym (ap (edge_in (known_in c.args.known.now) c.args.current.now) is)

@@ -4,7 +4,7 @@ use Rattle.zpl_bind.specs.Known.{known_in}
 use Rattle.array_regions.proofs.RegionLemmas.{edge-behind}
 use Rattle.array_regions.proofs.prefixes.rexpr_edge.Goals as goal
 
-pub returns-then-not-is_empty : goal.returns-then-not-is_empty
-returns-then-not-is_empty c =
+pub returns-then-not-is_empty-clause-edge : goal.returns-then-not-is_empty-clause-edge
+returns-then-not-is_empty-clause-edge c =
     sym (edge-behind (known_in c.args.known.now) c.args.current.now c.args.pre.now
     (base_of c.args.base.now) c.args.post.now (sym c.is_empty.ensures ∙ c.if-not-is_empty.true))
