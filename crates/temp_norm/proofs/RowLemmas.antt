@@ -101,5 +101,6 @@ module _ (tables : Tables) where
         arith,
         numbered_length 0 (rewritten_rows tables (flat_map (row_through tables extra))),
         at_most allowed (λ new. length new) allowed_adds (λ xs ys. length-append xs ys) refl
-            rewrite ended_by moved (stretches_of tables.code) (all_lengths (stretches_of tables.code)),
+            rewrite ended_by moved (stretches_of tables.code)
+            (all_lengths (stretches_of tables.code)),
       ))
