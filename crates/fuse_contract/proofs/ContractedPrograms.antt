@@ -7,7 +7,7 @@ use Rattle.zpl_region.specs.Region.{padding}
 use Rattle.node_form.specs.declared.arrays.ArrayDim.{ArrayDim}
 use Rattle.node_form.specs.declared.arrays.ArrayRow.{ArrayRow}
 use Rattle.node_form.specs.declared.tables.Tables.{Tables}
-use Rattle.fuse_contract.specs.Contracting.{contracted}
+use Rattle.fuse_contract.specs.Contracting.{contracted, contracted_arrays}
 use Rattle.zpl_nums.specs.declared.operators.Op.TheVariants as op
 use Rattle.zpl_nums.specs.declared.folds.Fold.TheVariants as fold
 use Rattle.zpl_nums.specs.declared.ends.Border.TheVariants as border
@@ -265,3 +265,10 @@ sheet_contracted = record sheet {
 
 sheet_is_contracted : contracted sheet ≡ sheet_contracted
 sheet_is_contracted = refl
+
+-- ---- no array is left that becomes a cell
+line_is_tidy : contracted_arrays (contracted line) ≡ []
+line_is_tidy = refl
+
+sheet_is_tidy : contracted_arrays (contracted sheet) ≡ []
+sheet_is_tidy = refl

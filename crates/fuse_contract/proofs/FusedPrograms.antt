@@ -7,6 +7,7 @@ use Rattle.zpl_region.specs.Region.{padding}
 use Rattle.node_form.specs.declared.arrays.ArrayDim.{ArrayDim}
 use Rattle.node_form.specs.declared.arrays.ArrayRow.{ArrayRow}
 use Rattle.node_form.specs.declared.tables.Tables.{Tables}
+use Rattle.code_parts.specs.Fused.{is_fused}
 use Rattle.fuse_contract.specs.Fusing.{fused}
 use Rattle.zpl_nums.specs.declared.operators.Op.TheVariants as op
 use Rattle.zpl_nums.specs.declared.folds.Fold.TheVariants as fold
@@ -312,3 +313,10 @@ sheet_fused = record sheet {
 
 sheet_is_fused : fused sheet ≡ sheet_fused
 sheet_is_fused = refl
+
+-- ---- no neighbouring loops are left that could be one
+line_is_tidy : is_fused (fused line) ≡ true
+line_is_tidy = refl
+
+sheet_is_tidy : is_fused (fused sheet) ≡ true
+sheet_is_tidy = refl

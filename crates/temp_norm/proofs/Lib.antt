@@ -1,3 +1,5 @@
 pub mod JumpLemmas
 pub mod NormalLemmas
 mod Programs
+pub mod RowLemmas
+pub mod SizeLemmas

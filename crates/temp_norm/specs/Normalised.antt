@@ -1,7 +1,7 @@
 -- No group reads with a shift what it puts: its values go through a temporary.
 use Rattle.std.specs.Prelude.{ℕ, ◌+◌, ◌==◌, Bool, true, false, ◌&&◌, pos, Option, Some, None}
 use Rattle.std.specs.Prelude.{List, [], ◌∷◌, ◌++◌, flat_map, fold, length, map, slice_get}
-use Rattle.std.specs.Prelude.{◌≡◌, All, if◌then◌else◌}
+use Rattle.std.specs.Prelude.{◌≡◌, All, count_by, if◌then◌else◌}
 use Rattle.std.specs.List.{list_any, position_or_len}
 use Rattle.std.specs.Cmp.Lexicographic.{pointwise}
 use Rattle.row_runs.specs.Cut.{as_list as found_list}
@@ -24,6 +24,16 @@ use Rattle.flat_passes.specs.Grouped.{Grouped, Runs, Plain, grouped, rewritten_r
 abbrev pub reads_itself : Tables → List Member → Bool
 reads_itself tables group =
     share (flat_map put_by group) (flat_map shifted_in (flat_map (member_words tables) group))
+
+-- the row is a loop whose group does
+abbrev pub loops_on_itself : Tables → Grouped → Bool
+loops_on_itself tables (Runs slot group) = reads_itself tables group
+loops_on_itself tables (Plain row) = false
+
+-- how many loops do
+abbrev pub loops_on_themselves : Tables → ℕ
+loops_on_themselves tables =
+    count_by (λ row. loops_on_itself tables (grouped tables row)) tables.code
 
 -- the array that a group of one member puts
 abbrev pub put_alone : List Member → List ℕ
