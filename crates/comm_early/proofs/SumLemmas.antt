@@ -38,7 +38,12 @@ module _ (tables : Tables) (links : Option ℕ) (sum : List Instr → ℕ)
           else instr.Start exchange ∷ last ∷ before)
           ≡ sum (instr.Start exchange ∷ []) + sum (last ∷ before)
       by true rest =
-          omega (arith, one_more last (put_early tables links exchange before), one_more last before, rest)
+          omega (
+            arith,
+            one_more last (put_early tables links exchange before),
+            one_more last before,
+            rest,
+          )
       by false rest = one_more (instr.Start exchange) (last ∷ before)
 
   row_sum : (before : List Instr) (row : Instr)

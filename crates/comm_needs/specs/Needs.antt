@@ -1,7 +1,7 @@
 -- What the processors need of each other in front of loops, and what they agree on behind them.
 --
--- Code keeps, for the group at hand, a map of the items found so far: each word of a group is looked
--- at once.
+-- Code keeps, for the group at hand, a map of the items found so far: each word of a group is
+-- looked at once.
 use Rattle.std.specs.Prelude.{ℕ, Bool, true, false, ◌||◌, List, [], ◌∷◌, ◌++◌, flat_map, fold, map}
 use Rattle.std.specs.List.{list_any}
 use Rattle.node_form.specs.declared.arrays.Item.{Item}

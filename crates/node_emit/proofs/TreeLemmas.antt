@@ -1,8 +1,9 @@
--- Rows with their forms along the tree: what they are told apart by stays, but that they agree along
--- the tree.
+-- Rows with their forms along the tree: what they are told apart by stays, but that they agree
+-- along the tree.
 use Rattle.std.proofs.Common.{◌≡◌, refl, sym, ap, ◌∙◌, ℕ, ◌+◌, Bool, true, false, List, []}
 use Rattle.std.proofs.Common.{◌∷◌, arith, get_or, length}
-use Rattle.std.specs.Prelude.{◌||◌, ◌&&◌, not, All, cond, count_by, fold, map, if◌then◌else◌, Option, Some, None}
+use Rattle.std.specs.Prelude.{◌||◌, ◌&&◌, not, All, cond, count_by, fold, map, if◌then◌else◌}
+use Rattle.std.specs.Prelude.{Option, Some, None}
 use Rattle.std.specs.Option.{option_map}
 use Rattle.std.proofs.lemmas.List.{length-map}
 use Rattle.std.proofs.lemmas.List.Elements.{All-map}
@@ -13,7 +14,8 @@ use Rattle.node_form.specs.declared.instructions.Instr.TheVariants as instr
 use Rattle.node_form.specs.declared.tables.Tables.{Tables}
 use Rattle.code_parts.specs.Counts.{GoesByTrees, code_size, count_of, is_counted, is_loop, is_star}
 use Rattle.code_parts.specs.Counts.{is_vote}
-use Rattle.code_parts.specs.Early.{IsEarly, Passed, crosses_last, is_in_time, may_cross, none_passed}
+use Rattle.code_parts.specs.Early.{IsEarly, Passed, crosses_last, is_in_time, may_cross}
+use Rattle.code_parts.specs.Early.{none_passed}
 use Rattle.code_parts.specs.Early.{open_behind, passed_by}
 use Rattle.code_parts.specs.Exchanged.{HasNoRepeats, IsMerged, fresh_behind}
 use Rattle.code_parts.specs.Exchanged.{is_apart, is_behind_finish, starts_new}
@@ -86,7 +88,9 @@ same_goals at (row ∷ code) = by (same_leads at row (treed row)) (same_goals at
         → is_goal (map along_tree code) at ≡ is_goal code at
         → (leads_to at (along_tree row) || is_goal (map along_tree code) at)
         ≡ (leads_to at row || is_goal code at)
-    by one rest = ap (λ b. b || is_goal (map along_tree code) at) one ∙ ap (λ b. leads_to at row || b) rest
+    by one rest =
+        ap (λ b. b || is_goal (map along_tree code) at) one
+        ∙ ap (λ b. leads_to at row || b) rest
 
 one_counted : (row : Instr) → Treed row → is_counted (along_tree row) ≡ is_counted row
 one_counted _ (VoteRow group) = refl
@@ -110,7 +114,8 @@ same_sum : (test : Instr → Bool) → ((row : Instr) → test (along_tree row) 
     ≡ fold (λ n row. n + cond (test row) 1 0) n rows
 same_sum test alike n [] = refl
 same_sum test alike n (row ∷ rows) =
-    ap (λ b. fold (λ n row. n + cond (test row) 1 0) (n + cond b 1 0) (map along_tree rows)) (alike row)
+    ap (λ b. fold (λ n row. n + cond (test row) 1 0) (n + cond b 1 0) (map along_tree rows))
+    (alike row)
     ∙ same_sum test alike (n + cond (test row) 1 0) rows
 
 same_count : (test : Instr → Bool) → ((row : Instr) → test (along_tree row) ≡ test row)
@@ -208,10 +213,12 @@ fused_right plan facts _ (VoteRow group) = refl
 fused_right plan facts _ (FoldRow scalar fold) = refl
 fused_right plan facts row (StaysRow same none) = ap (λ row. begins_anew plan facts row) same
 
-pub fused_stay : (tree : Bool) (grid : List ℕ) (plan : Tables) → IsFused plan → IsFused (emitted tree grid plan)
+pub fused_stay : (tree : Bool) (grid : List ℕ) (plan : Tables)
+    → IsFused plan → IsFused (emitted tree grid plan)
 fused_stay true grid plan is =
     (fused_either_way (emitted true grid plan)).0
-    (same_walk None (last_loop) (begins_anew plan) (λ facts. facts) refl (λ facts row. fused_learn plan facts row (treed row))
+    (same_walk None (last_loop) (begins_anew plan) (λ facts. facts) refl
+    (λ facts row. fused_learn plan facts row (treed row))
     (λ facts row. fused_right plan facts row (treed row)) plan.code 0 None plan.code
     ∙ (fused_either_way plan).1 is)
 fused_stay false grid plan is =
@@ -229,10 +236,12 @@ repeats_right plan facts _ (VoteRow group) = refl
 repeats_right plan facts _ (FoldRow scalar fold) = refl
 repeats_right plan facts row (StaysRow same none) = ap (λ row. starts_new plan facts row) same
 
-pub repeats_stay : (tree : Bool) (grid : List ℕ) (plan : Tables) → HasNoRepeats plan → HasNoRepeats (emitted tree grid plan)
+pub repeats_stay : (tree : Bool) (grid : List ℕ) (plan : Tables)
+    → HasNoRepeats plan → HasNoRepeats (emitted tree grid plan)
 repeats_stay true grid plan is =
     (repeats_either_way (emitted true grid plan)).0
-    (same_walk [] (fresh_behind plan) (starts_new plan) (λ facts. facts) refl (λ facts row. repeats_learn plan facts row (treed row))
+    (same_walk [] (fresh_behind plan) (starts_new plan) (λ facts. facts) refl
+    (λ facts row. repeats_learn plan facts row (treed row))
     (λ facts row. repeats_right plan facts row (treed row)) plan.code 0 [] plan.code
     ∙ (repeats_either_way plan).1 is)
 repeats_stay false grid plan is =
@@ -250,10 +259,12 @@ merged_right plan facts _ (VoteRow group) = refl
 merged_right plan facts _ (FoldRow scalar fold) = refl
 merged_right plan facts row (StaysRow same none) = ap (λ row. is_apart facts row) same
 
-pub merged_stay : (tree : Bool) (grid : List ℕ) (plan : Tables) → IsMerged plan → IsMerged (emitted tree grid plan)
+pub merged_stay : (tree : Bool) (grid : List ℕ) (plan : Tables)
+    → IsMerged plan → IsMerged (emitted tree grid plan)
 merged_stay true grid plan is =
     (merged_either_way (emitted true grid plan)).0
-    (same_walk false (is_behind_finish) (is_apart) (λ facts. facts) refl (λ facts row. merged_learn plan facts row (treed row))
+    (same_walk false (is_behind_finish) (is_apart) (λ facts. facts) refl
+    (λ facts row. merged_learn plan facts row (treed row))
     (λ facts row. merged_right plan facts row (treed row)) plan.code 0 false plan.code
     ∙ (merged_either_way plan).1 is)
 merged_stay false grid plan is =

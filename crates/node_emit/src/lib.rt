@@ -11,9 +11,9 @@ ghost use Rattle.code_parts.specs.Fused.{IsFused};
 ghost use Rattle.node_emit.specs.Emit.{emitted};
 
 /// Where that is asked for no vote and no fold goes by the first processor. The code is as large as
-/// the plan, with as many rows that count, votes and loops, and what the plan was free of it is free of:
-/// loops that could be one, repeated exchanges, exchanges that could be one, and starts that could be
-/// earlier.
+/// the plan, with as many rows that count, votes and loops; and what the plan was free of, the code
+/// is free of: loops that could be one, repeated exchanges, exchanges that could be one, and starts
+/// that could be earlier.
 pub fn rows_go_along_the_tree()
     ensures by_trees { (grid : List ℕ) (plan : Code) → GoesByTrees (emitted true grid plan) }
     ensures size { (tree : Bool) (grid : List ℕ) (plan : Code) →

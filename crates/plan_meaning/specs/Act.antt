@@ -29,7 +29,8 @@ use Rattle.row_runs.specs.Run.{runs}
 use Rattle.plan_meaning.specs.Abreast.{Abreast, Share, every, go_where, is_quiet, locals_of}
 use Rattle.plan_meaning.specs.Abreast.{share_of, start_abreast}
 use Rattle.plan_meaning.specs.Loops.{looped}
-use Rattle.plan_meaning.specs.Messages.{delivered, finished, leaves_row, next_or, remapped, shown_of}
+use Rattle.plan_meaning.specs.Messages.{delivered, finished, leaves_row, next_or, remapped}
+use Rattle.plan_meaning.specs.Messages.{shown_of}
 use Rattle.plan_meaning.specs.Messages.{started}
 
 -- what isn't there may not be named

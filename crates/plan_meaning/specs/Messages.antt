@@ -6,7 +6,8 @@
 --              in which they are sent
 --   remapped   a remap read: requests from each to each other, and then answers
 use Rattle.std.specs.Prelude.{ℕ, ◌+◌, ◌-◌, ◌*◌, ◌==◌, nat_le, Bool, true, false, ◌&&◌, ℤ}
-use Rattle.std.specs.Prelude.{List, [], ◌∷◌, ◌++◌, drop, Option, Some, None, is_some, length, unwrap_or}
+use Rattle.std.specs.Prelude.{List, [], ◌∷◌, ◌++◌, drop, Option, Some, None, is_some, length}
+use Rattle.std.specs.Prelude.{unwrap_or}
 use Rattle.std.specs.Prelude.{is_none}
 use Rattle.std.specs.List.{filter_map, list_all}
 use Rattle.grid_links.specs.Machine.{Goes as Moves}
@@ -142,9 +143,9 @@ module _ (code : Tables) (row : ℕ → Collective) (all : Abreast) where
   abbrev pub finished : ℕ → Step Abreast
   finished exchange = finished_in exchange all.flights
 
--- ---- A remap read: each acts alone, and requests go from each to each other one. What it has heard
--- says to whom it answers, and what it wants from whom it takes answers: these stand behind the
--- others in its stages.
+-- ---- A remap read: each acts alone, and requests go from each to each other one. What it has
+-- heard says to whom it answers, and what it wants from whom it takes answers: these stand behind
+-- the others in its stages.
 module _ (code : Tables) (row : ℕ → Collective) (all : Abreast) where
   abbrev pub asked : ℕ → Option Local
   asked p = (row p).alone (locals_of all p)

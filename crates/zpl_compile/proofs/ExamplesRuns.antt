@@ -1,11 +1,11 @@
 -- Programs compiled for two processors and four: their plans show what the programs mean.
-use Rattle.std.proofs.Common.{◌≡◌, ℕ, ℤ, Bool, true, false, List, [], ◌∷◌, Some, None, pos, negsuc, codes, refl}
+use Rattle.std.proofs.Common.{◌≡◌, ℕ, true, false, List, [], ◌∷◌, Some, None, pos, codes, refl}
 use Rattle.std.specs.Fmt.{digits}
 use Rattle.std.specs.Int.{int_wrap}
 use Rattle.zpl_nums.specs.declared.operators.Op.TheVariants as op
 use Rattle.zpl_nums.specs.declared.folds.Fold.TheVariants as fold
 use Rattle.zpl_nums.specs.declared.ends.Border.TheVariants as border
-use Rattle.zpl_tree.specs.Syntax.{Name, NamedRegion, Ditto, Number, Truth, Coord, Named, Shifted, Around, Remap, Call, Paren, Neg, Not, Abs, Pair, Reduce, Scan, Flood, NoExpr, ThenExpr, NamedDir, Vector, Rexpr, Dims, NoBracket, Bracketed, NoPost, ThenPost, Blank, Star, One, Span, NoDim, ThenDim, Str, Value, Prefixed, NoStmt, ThenStmt, Assign, Invoke, Block, If, While, Repeat, For, Border, Write, Return, Tested, NoArm, ThenArm, NoElse, Else, Integer, Boolean, Config, Constant, Regions, Directions, Vars, Defined, Program}
+use Rattle.zpl_tree.specs.Syntax.{Name, NamedRegion, Number, Coord, Named, Shifted, Paren, Pair, Reduce, Flood, NoExpr, ThenExpr, NamedDir, Rexpr, Dims, NoBracket, Bracketed, NoPost, Star, One, Span, NoDim, ThenDim, Str, Value, Prefixed, NoStmt, ThenStmt, Assign, Block, Border, Write, Integer, Boolean, Regions, Directions, Vars, Defined, Program}
 use Rattle.zpl_names.specs.Reached.{longest_chain}
 use Rattle.row_runs.specs.Run.{Ends, Result}
 use Rattle.zpl_nums.specs.declared.ends.End.TheVariants.{Done}
