@@ -1,13 +1,16 @@
--- From the cause of the answer of work, and what was told of it, to what is said of the call, whatever
--- a cause is.
-use Rattle.std.proofs.Common.{◌≡◌, ◌≢◌, ℕ, ◌⊎◌, List, None, refl, sym, ◌∙◌, ap, subst, inl, inr, arith}
+-- From the cause of the answer of work, and what was told of it, to what is said of the call,
+-- whatever a cause is.
+use Rattle.std.proofs.Common.{◌≡◌, ◌≢◌, ℕ, ◌⊎◌, List, None, refl, sym, ◌∙◌, ap, subst}
+use Rattle.std.proofs.Common.{inl, inr, arith}
 use Rattle.zpl_io.specs.Faults.{CountsFaults, Rose}
+use Rattle.zpl_io.specs.Sink.{StopsAtFault}
 use Rattle.call_claims.specs.Answer.{CountsFetches, CountsPuts, IsAnswered, IsHalfAnswered}
 use Rattle.call_claims.specs.Decided.{IsDecided}
 use Rattle.call_claims.specs.Stream.{Stream}
 use Rattle.call_claims.specs.Texts.{no_memory_text}
 use Rattle.call_claims.specs.declared.status.TheConstants.{NO_MEMORY, PUT_FAILED, UNREADABLE, USAGE}
 use Rattle.call_answers.specs.Answers.{status_of, told_of}
+use Rattle.call_answers.specs.Stops.{CallStopsAtFault}
 use Rattle.call_answers.specs.Told.{IsAnswerOf, IsHalfTold}
 use Rattle.call_answers.specs.declared.answers.Answer.{Answer}
 use Rattle.call_answers.specs.declared.answers.Answer.TheVariants as answer
@@ -64,6 +67,19 @@ module _ (a : Answer) (status : ℕ) (errs : Stream) (is : IsAnswerOf a status e
     only = λ less. is.is ∙ ap status_of (is.told.failed (counts.only less)).0;
     never_falls = counts.never_falls;
     bounded = counts.bounded;
+  }
+
+  -- the sinks of the call, from what its work puts on out, and what is told on errs
+  pub call_stops : (before after errs_before errs_after : Type 0)
+      → StopsAtFault (a ≡ answer.PutFailed) before after
+      → StopsAtFault ((a ≢ answer.PutFailed) × (status ≡ PUT_FAILED)) errs_before errs_after
+      → CallStopsAtFault status before after errs_before errs_after errs.same
+  call_stops before after errs_before errs_after work telling = record {
+    fails = λ nine. elim (failed_or a) [
+      | inl failed ↦ inl (work.fails failed, (is.told.failed failed).1)
+      | inr other ↦ inr (work.goes_on other, telling.fails (other, nine))
+    ];
+    goes_on = λ n. (work.goes_on (work_other n), telling.goes_on (λ both. n both.1));
   }
 
   module _ (Caused : ℕ → List ℕ → Type 0) (wanting : Caused NO_MEMORY no_memory_text)

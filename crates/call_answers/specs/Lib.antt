@@ -1,5 +1,6 @@
 pub mod Answers
 pub mod Fetched
 pub mod Refusals
+pub mod Stops
 pub mod Told
 pub mod Work

@@ -1,7 +1,7 @@
 //! What is told of an answer on the stream for errors.
 ghost use Rattle.std.specs.Prelude.{◌≡◌, ◌≢◌, ◌⊎◌, ◌++◌, [], IfOk, IsErr, IsOk, None, OnErr, OnOk};
 ghost use Rattle.zpl_io.specs.Faults.{CountsFaults};
-ghost use Rattle.zpl_io.specs.Sink.{Takes, TakesFront};
+ghost use Rattle.zpl_io.specs.Sink.{StopsAtFault, Takes, TakesFront};
 ghost use Rattle.call_claims.specs.Stream.{stream_of};
 ghost use Rattle.call_answers.specs.Answers.{bytes_of, counts_text, report_of, stop_text, text_of};
 ghost use Rattle.call_answers.specs.Answers.{told_of, NeedsNoMemory, StopNeedsNoMemory};
@@ -19,14 +19,16 @@ use std::alloc::{AllocError, Global};
 use zpl_io::{PutFailed, Sink, put_piece, puts_join};
 use zpl_parse::ParseFault;
 
-/// Tells of an answer. After a failed put there is nothing to tell. Where memory is wanting for what
-/// is told, that is told of.
+/// Tells of an answer. After a failed put there is nothing to tell. Where memory is wanting for
+/// what is told, that is told of.
 pub fn told<'a, E: Sink>(alloc: Global, answer: Answer<'a>, errs: &mut E) -> Answer<'a>
     ensures told { IsTold answer.entry result
         (stream_of (E.tells errs.old) (E.tells errs.new) (E.faults errs.old) (E.faults errs.new)
         (errs.new ≡ errs.old)) }
     ensures counts { CountsFaults ((answer.entry ≢ Answer.PutFailed) × (result ≡ Answer.PutFailed))
         (E.faults errs.old) (E.faults errs.new) }
+    ensures stops { StopsAtFault ((answer.entry ≢ Answer.PutFailed) × (result ≡ Answer.PutFailed))
+        (E.has_failed errs.old) (E.has_failed errs.new) }
 {
     match answer {
         Answer::PutFailed => Answer::PutFailed,
@@ -51,6 +53,8 @@ fn tell<'a, E: Sink>(alloc: Global, answer: Answer<'a>, errs: &mut E) -> Answer<
         TakesFront (E.tells errs.old) (told_of answer.entry) (E.tells errs.new) }
     ensures counts { CountsFaults (result ≡ Answer.PutFailed)
         (E.faults errs.old) (E.faults errs.new) }
+    ensures stops { StopsAtFault (result ≡ Answer.PutFailed)
+        (E.has_failed errs.old) (E.has_failed errs.new) }
 {
     match pieces_of(alloc, answer) {
         Ok((text, report)) => put_answer(answer, text.as_slice(), report.as_slice(), errs),
@@ -76,6 +80,8 @@ fn put_answer<'a, E: Sink>(
         TakesFront (E.tells errs.old) (told_of answer.entry) (E.tells errs.new) }
     ensures counts { CountsFaults (result ≡ Answer.PutFailed)
         (E.faults errs.old) (E.faults errs.new) }
+    ensures stops { StopsAtFault (result ≡ Answer.PutFailed)
+        (E.has_failed errs.old) (E.has_failed errs.new) }
 {
     match put_both(text, report, errs) {
         Ok(()) => answer,
@@ -91,6 +97,7 @@ fn put_both<E: Sink>(first: &[u8], second: &[u8], errs: &mut E) -> Result<(), Pu
         (TakesFront (E.tells errs.old) (first.now ++ second.now) (E.tells errs.new)) }
     ensures nothing { first.now ≡ [] → second.now ≡ [] → IsOk result }
     ensures counts { CountsFaults (IsErr result) (E.faults errs.old) (E.faults errs.new) }
+    ensures stops { StopsAtFault (IsErr result) (E.has_failed errs.old) (E.has_failed errs.new) }
 {
     puts_join::<E>();
     put_piece(errs, first)?;

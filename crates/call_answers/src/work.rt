@@ -1,7 +1,9 @@
 //! What comes of the work of a call, and what the call answers.
-ghost use Rattle.std.specs.Prelude.{◌≡◌};
+ghost use Rattle.std.specs.Prelude.{◌≡◌, ◌≢◌};
+ghost use Rattle.zpl_io.specs.Sink.{StopsAtFault};
 ghost use Rattle.call_claims.specs.Answer.{CountsPuts};
 ghost use Rattle.call_claims.specs.Stream.{stream_of};
+ghost use Rattle.call_claims.specs.declared.status.TheConstants.{PUT_FAILED};
 ghost use Rattle.call_answers.specs.Work.{no_counts, ran_of};
 ghost use Rattle.call_answers.specs.Told.{IsAnswerOf};
 
@@ -50,6 +52,9 @@ pub fn answered<E: Sink>(alloc: Global, work: Work<'_>, errs: &mut E) -> Ran
         (stream_of (E.tells errs.old) (E.tells errs.new) (E.faults errs.old) (E.faults errs.new)
         (errs.new ≡ errs.old)) }
     ensures counts { CountsPuts result.status (E.faults errs.old) (E.faults errs.new) }
+    ensures stops { StopsAtFault
+        ((work.entry.answer ≢ Answer.PutFailed) × (result.status ≡ PUT_FAILED))
+        (E.has_failed errs.old) (E.has_failed errs.new) }
 {
     let answer = told(alloc, work.answer, errs);
     Ran {

@@ -2,6 +2,7 @@
 ghost use Rattle.std.specs.Prelude.{◌≡◌, ℕ, List, Some};
 ghost use Rattle.zpl_io.specs.Faults.{CountsFaults};
 ghost use Rattle.zpl_io.specs.Files.{SameTexts};
+ghost use Rattle.zpl_io.specs.Sink.{StopsAtFault};
 ghost use Rattle.code_layout.specs.Room.{HasRoom};
 ghost use Rattle.call_claims.specs.Call.{call_of};
 ghost use Rattle.call_claims.specs.declared.status.TheConstants.{UNREADABLE};
@@ -40,6 +41,8 @@ pub fn run_code<'a, F: Files, O: Sink>(
         (F.faults files.old) (F.faults files.new) }
     ensures puts { CountsFaults (result.answer ≡ Answer.PutFailed)
         (O.faults out.old) (O.faults out.new) }
+    ensures stops { StopsAtFault (result.answer ≡ Answer.PutFailed)
+        (O.has_failed out.old) (O.has_failed out.new) }
 {
     orders_have_their_bounds();
     match fetch_order(alloc, asked.order, &code, files) {

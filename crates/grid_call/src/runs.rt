@@ -1,6 +1,7 @@
 //! Runs of code.
 ghost use Rattle.std.specs.Prelude.{◌≡◌, ◌≢◌, ◌+◌, ◌≤◌, ◌^◌, None, Some, IfErr, IfOk, Ok, length};
 ghost use Rattle.zpl_io.specs.Faults.{CountsFaults};
+ghost use Rattle.zpl_io.specs.Sink.{StopsAtFault};
 ghost use Rattle.zpl_nums.specs.declared.ends.End.TheVariants.{More};
 ghost use Rattle.code_layout.specs.Room.{HasRoom};
 ghost use Rattle.grid_meaning.specs.Grid.{IsCapacity};
@@ -40,6 +41,8 @@ pub fn run<'a, O: Sink>(
         result.answer result.counts (O.tells out.old) (O.tells out.new) }
     ensures puts { CountsFaults (result.answer ≡ Answer.PutFailed)
         (O.faults out.old) (O.faults out.new) }
+    ensures stops { StopsAtFault (result.answer ≡ Answer.PutFailed)
+        (O.has_failed out.old) (O.has_failed out.new) }
 {
     match sim_over(alloc, code, asked.links) {
         Ok(sim) => run_sim(alloc, sim, order, asked, out),
@@ -77,6 +80,8 @@ fn run_sim<'a, O: Sink>(
         asked.entry.report result.answer result.counts (O.tells out.old) (O.tells out.new) }
     ensures puts { CountsFaults (result.answer ≡ Answer.PutFailed)
         (O.faults out.old) (O.faults out.new) }
+    ensures stops { StopsAtFault (result.answer ≡ Answer.PutFailed)
+        (O.has_failed out.old) (O.has_failed out.new) }
 {
     turns_count();
     endings_are_final();

@@ -7,6 +7,7 @@ ghost use Rattle.call_claims.specs.Command.{IsMean};
 ghost use Rattle.call_claims.specs.Stream.{stream_of};
 ghost use Rattle.call_claims.specs.declared.status.TheConstants.{USAGE};
 ghost use Rattle.call_words.specs.Reading.{asked_in};
+ghost use Rattle.call_answers.specs.Stops.{CallStopsAtFault};
 ghost use Rattle.mean_call.specs.Call.{IsMeant};
 
 use crate::files::mean_file;
@@ -46,11 +47,13 @@ pub fn mean<F: Files, O: Sink, E: Sink>(
     ensures known { result.status ≢ USAGE }
 
     // Files and counts after the call: the texts are the same, and a count of faults rises only
-    // with its status.
+    // with its status. Behind a put that failed nothing is put.
     ensures texts { SameTexts (F.tells files.old) (F.tells files.new) }
     ensures fetches { CountsFetches result.status (F.faults files.old) (F.faults files.new) }
     ensures puts { CountsPuts result.status (O.faults out.old) (O.faults out.new) }
     ensures told { CountsPuts result.status (E.faults errs.old) (E.faults errs.new) }
+    ensures stops { CallStopsAtFault result.status (O.has_failed out.old) (O.has_failed out.new)
+        (E.has_failed errs.old) (E.has_failed errs.new) (errs.new ≡ errs.old) }
 {
     mean_statuses_are_exact::<F>();
     let answer = mean_file(alloc, command, files, out);

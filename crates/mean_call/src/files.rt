@@ -2,6 +2,7 @@
 ghost use Rattle.std.specs.Prelude.{◌≡◌, ℕ, List};
 ghost use Rattle.zpl_io.specs.Faults.{CountsFaults};
 ghost use Rattle.zpl_io.specs.Files.{SameTexts};
+ghost use Rattle.zpl_io.specs.Sink.{StopsAtFault};
 ghost use Rattle.call_claims.specs.Call.{call_of};
 ghost use Rattle.call_claims.specs.declared.status.TheConstants.{UNREADABLE};
 ghost use Rattle.call_words.specs.Reading.{asked_in};
@@ -32,6 +33,8 @@ pub fn mean_file<'a, F: Files, O: Sink>(
         (F.faults files.old) (F.faults files.new) }
     ensures puts { CountsFaults (result ≡ Answer.PutFailed)
         (O.faults out.old) (O.faults out.new) }
+    ensures stops { StopsAtFault (result ≡ Answer.PutFailed)
+        (O.has_failed out.old) (O.has_failed out.new) }
 {
     match text_of_file(alloc, command.file, MOST_SOURCE, files) {
         Ok(text) => mean_text(alloc, text.as_slice(), command.asked, out),

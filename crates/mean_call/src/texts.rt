@@ -1,6 +1,7 @@
 //! The meaning of a text.
 ghost use Rattle.std.specs.Prelude.{◌≡◌, ◌≤◌, length};
 ghost use Rattle.zpl_io.specs.Faults.{CountsFaults};
+ghost use Rattle.zpl_io.specs.Sink.{StopsAtFault};
 ghost use Rattle.zpl_text.specs.declared.TheConstants.{MOST_SOURCE};
 ghost use Rattle.zpl_binding.specs.Bound.{IsAcceptedWith};
 ghost use Rattle.call_claims.specs.Command.{limit_of};
@@ -31,6 +32,8 @@ pub fn mean_text<'a, O: Sink>(
         MeansText text.now all.settings (limit_of all) (O.tells out.old) (O.tells out.new) result }
     ensures counts { CountsFaults (result ≡ Answer.PutFailed)
         (O.faults out.old) (O.faults out.new) }
+    ensures stops { StopsAtFault (result ≡ Answer.PutFailed)
+        (O.has_failed out.old) (O.has_failed out.new) }
 {
     let arena = Bump::new(alloc);
     match accepted_text(alloc, &arena, text, asked.words) {
@@ -55,6 +58,8 @@ fn put_meaning<'a, O: Sink>(
         MeansText text.now all.settings (limit_of all) (O.tells out.old) (O.tells out.new) result }
     ensures counts { CountsFaults (result ≡ Answer.PutFailed)
         (O.faults out.old) (O.faults out.new) }
+    ensures stops { StopsAtFault (result ≡ Answer.PutFailed)
+        (O.has_failed out.old) (O.has_failed out.new) }
 {
     answer_of(mean(alloc, &found.typed, &found.bound, asked.limit(), out))
 }

@@ -6,6 +6,7 @@ ghost use Rattle.call_claims.specs.Call.{call_of};
 ghost use Rattle.call_claims.specs.Command.{IsNoCommand};
 ghost use Rattle.call_claims.specs.Stream.{stream_of};
 ghost use Rattle.call_claims.specs.declared.status.TheConstants.{USAGE};
+ghost use Rattle.call_answers.specs.Stops.{CallStopsAtFault};
 ghost use Rattle.exec_call.specs.Call.{IsExecuted};
 ghost use Rattle.mean_call.specs.Call.{IsMeant};
 ghost use Rattle.top_call.specs.Call.{AsksExec, AsksList, AsksMean, AsksRun, IsListed, IsRan};
@@ -76,11 +77,13 @@ pub fn zplgrid<F: Files, O: Sink, E: Sink>(
     ensures usage { result.status ≡ USAGE → IsNoCommand (map string_bytes words.now) }
 
     // Files and counts after the call: the texts are the same, and a count of faults rises only
-    // with its status.
+    // with its status. Behind a put that failed nothing is put.
     ensures texts { SameTexts (F.tells files.old) (F.tells files.new) }
     ensures fetches { CountsFetches result.status (F.faults files.old) (F.faults files.new) }
     ensures puts { CountsPuts result.status (O.faults out.old) (O.faults out.new) }
     ensures told { CountsPuts result.status (E.faults errs.old) (E.faults errs.new) }
+    ensures stops { CallStopsAtFault result.status (O.has_failed out.old) (O.has_failed out.new)
+        (E.has_failed errs.old) (E.has_failed errs.new) (errs.new ≡ errs.old) }
 {
     commands_are_one();
     match command_of(words) {

@@ -2,7 +2,7 @@
 ghost use Rattle.std.specs.Prelude.{◌≡◌, ◌≢◌, ℕ, List, [], None, Some, IfSome};
 ghost use Rattle.zpl_io.specs.Faults.{CountsFaults};
 ghost use Rattle.zpl_io.specs.Files.{SameTexts};
-ghost use Rattle.zpl_io.specs.Sink.{Takes, TakesFront};
+ghost use Rattle.zpl_io.specs.Sink.{StopsAtFault, Takes, TakesFront};
 ghost use Rattle.listing_rows.specs.Listing.{listing_of};
 ghost use Rattle.call_claims.specs.Answer.{CountsFetches, CountsPuts};
 ghost use Rattle.call_claims.specs.Call.{call_of};
@@ -12,6 +12,7 @@ ghost use Rattle.call_claims.specs.Stream.{stream_of};
 ghost use Rattle.call_claims.specs.declared.status.TheConstants.{DONE, UNREADABLE, USAGE};
 ghost use Rattle.call_answers.specs.Answers.{status_of};
 ghost use Rattle.call_answers.specs.Work.{execution_in, no_counts};
+ghost use Rattle.call_answers.specs.Stops.{CallStopsAtFault};
 ghost use Rattle.call_words.specs.Reading.{asked_in};
 ghost use Rattle.top_call.specs.Call.{IsListed};
 ghost use Rattle.top_call.specs.Work.{IsListOn, IsOfListing};
@@ -53,11 +54,13 @@ pub fn list<F: Files, O: Sink, E: Sink>(
     ensures known { result.status ≢ USAGE }
 
     // Files and counts after the call: the texts are the same, and a count of faults rises only
-    // with its status.
+    // with its status. Behind a put that failed nothing is put.
     ensures texts { SameTexts (F.tells files.old) (F.tells files.new) }
     ensures fetches { CountsFetches result.status (F.faults files.old) (F.faults files.new) }
     ensures puts { CountsPuts result.status (O.faults out.old) (O.faults out.new) }
     ensures told { CountsPuts result.status (E.faults errs.old) (E.faults errs.new) }
+    ensures stops { CallStopsAtFault result.status (O.has_failed out.old) (O.has_failed out.new)
+        (E.has_failed errs.old) (E.has_failed errs.new) (errs.new ≡ errs.old) }
 {
     list_statuses_are_exact::<F>();
     let work = list_file(alloc, command, files, out);
@@ -94,6 +97,8 @@ fn list_file<'a, F: Files, O: Sink>(
         (F.faults files.old) (F.faults files.new) }
     ensures puts { CountsFaults (result.answer ≡ Answer.PutFailed)
         (O.faults out.old) (O.faults out.new) }
+    ensures stops { StopsAtFault (result.answer ≡ Answer.PutFailed)
+        (O.has_failed out.old) (O.has_failed out.new) }
 {
     match code_of_file(alloc, list.file, list.asked, files) {
         Ok(code) => list_code(alloc, code, out),
@@ -113,6 +118,8 @@ fn list_code<'a, O: Sink>(alloc: Global, code: NodeProgram, out: &mut O) -> Work
         TakesFront (O.tells out.old) (listing_of code) (O.tells out.new) }
     ensures counts { CountsFaults (result.answer ≡ Answer.PutFailed)
         (O.faults out.old) (O.faults out.new) }
+    ensures stops { StopsAtFault (result.answer ≡ Answer.PutFailed)
+        (O.has_failed out.old) (O.has_failed out.new) }
 {
     let answer = put_listing(alloc, &code, out);
     Work::without_turns(Some(code), answer)
@@ -128,6 +135,8 @@ fn put_listing<'a, O: Sink>(alloc: Global, code: &NodeProgram, out: &mut O) -> A
         TakesFront (O.tells out.old) (listing_of code.now) (O.tells out.new) }
     ensures counts { CountsFaults (result ≡ Answer.PutFailed)
         (O.faults out.old) (O.faults out.new) }
+    ensures stops { StopsAtFault (result ≡ Answer.PutFailed)
+        (O.has_failed out.old) (O.has_failed out.new) }
 {
     let mut listing = Vec::new(alloc);
     if write_listing(alloc, code, &mut listing).is_err() {

@@ -3,6 +3,7 @@
 ghost use Rattle.std.specs.Prelude.{◌≡◌, ◌≢◌, ℕ, List};
 ghost use Rattle.zpl_io.specs.Faults.{CountsFaults};
 ghost use Rattle.zpl_io.specs.Files.{SameTexts};
+ghost use Rattle.zpl_io.specs.Sink.{StopsAtFault};
 ghost use Rattle.call_claims.specs.Answer.{CountsFetches, CountsPuts};
 ghost use Rattle.call_claims.specs.Call.{call_of};
 ghost use Rattle.call_claims.specs.Command.{IsRun};
@@ -10,6 +11,7 @@ ghost use Rattle.call_claims.specs.Met.{CanBeMet};
 ghost use Rattle.call_claims.specs.Stream.{stream_of};
 ghost use Rattle.call_claims.specs.declared.status.TheConstants.{UNREADABLE, USAGE};
 ghost use Rattle.call_answers.specs.Answers.{status_of};
+ghost use Rattle.call_answers.specs.Stops.{CallStopsAtFault};
 ghost use Rattle.call_words.specs.Reading.{asked_in};
 ghost use Rattle.top_call.specs.Call.{IsRan};
 ghost use Rattle.top_call.specs.Work.{IsRunWork};
@@ -52,11 +54,13 @@ pub fn run<F: Files, O: Sink, E: Sink>(
     ensures known { result.status ≢ USAGE }
 
     // Files and counts after the call: the texts are the same, and a count of faults rises only
-    // with its status.
+    // with its status. Behind a put that failed nothing is put.
     ensures texts { SameTexts (F.tells files.old) (F.tells files.new) }
     ensures fetches { CountsFetches result.status (F.faults files.old) (F.faults files.new) }
     ensures puts { CountsPuts result.status (O.faults out.old) (O.faults out.new) }
     ensures told { CountsPuts result.status (E.faults errs.old) (E.faults errs.new) }
+    ensures stops { CallStopsAtFault result.status (O.has_failed out.old) (O.has_failed out.new)
+        (E.has_failed errs.old) (E.has_failed errs.new) (errs.new ≡ errs.old) }
 {
     run_causes_are_exact::<F>();
     let work = work_for(alloc, command, files, out);
@@ -81,6 +85,8 @@ fn work_for<'a, F: Files, O: Sink>(
         (F.faults files.old) (F.faults files.new) }
     ensures puts { CountsFaults (result.answer ≡ Answer.PutFailed)
         (O.faults out.old) (O.faults out.new) }
+    ensures stops { StopsAtFault (result.answer ≡ Answer.PutFailed)
+        (O.has_failed out.old) (O.has_failed out.new) }
 {
     match code_of_file(alloc, command.file, command.asked, files) {
         Ok(code) => run_code(alloc, code, command.asked, files, out),

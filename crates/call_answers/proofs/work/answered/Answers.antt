@@ -1,5 +1,6 @@
-use Rattle.std.proofs.Common.{◌∙◌, ap}
+use Rattle.std.proofs.Common.{sym, ◌∙◌, ap}
 use Rattle.call_answers.specs.Answers.{status_of}
+use Rattle.call_answers.proofs.AnswerLemmas.{failed_of}
 use Rattle.call_answers.proofs.work.answered.Goals as goal
 
 pub returns-clause-told : goal.returns-clause-told
@@ -16,4 +17,14 @@ returns-clause-counts g c =
       only = λ less. c.status.ensures ∙ ap status_of (counts.only less).1;
       never_falls = counts.never_falls;
       bounded = counts.bounded;
+    }
+
+pub returns-clause-stops : goal.returns-clause-stops
+returns-clause-stops g c =
+    let stops = c.told-answer.ensures.stops in
+    record {
+      fails = λ both. stops.fails
+          (both.0, failed_of c.told-answer.result (sym c.status.ensures ∙ both.1));
+      goes_on = λ none has. stops.goes_on
+          (λ both. none (both.0, c.status.ensures ∙ ap status_of both.1)) has;
     }

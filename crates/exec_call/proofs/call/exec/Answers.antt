@@ -4,7 +4,7 @@ use Rattle.call_claims.specs.Stream.{stream_of}
 use Rattle.call_claims.proofs.MetLemmas.{is_met}
 use Rattle.call_answers.specs.Answers.{told_of}
 use Rattle.call_answers.specs.Work.{execution_in}
-use Rattle.call_answers.proofs.CallLemmas.{answered, failed_put, fetches_counted}
+use Rattle.call_answers.proofs.CallLemmas.{answered, call_stops, failed_put, fetches_counted}
 use Rattle.call_answers.proofs.CallLemmas.{puts_counted, status_caused, work_other}
 use Rattle.call_answers.proofs.CallLemmas.FailedPut.{in_work, in_telling}
 use Rattle.call_words.specs.Reading.{asked_in}
@@ -90,8 +90,15 @@ returns-clause-known g c = λ e.
 
 pub returns-clause-fetches : goal.returns-clause-fetches
 returns-clause-fetches g c =
-    fetches_counted c.work_for-work.result.answer _ _ c.answered.ensures.told _ _ c.work_for-work.ensures.fetches
+    fetches_counted c.work_for-work.result.answer _ _ c.answered.ensures.told _ _
+    c.work_for-work.ensures.fetches
 
 pub returns-clause-puts : goal.returns-clause-puts
 returns-clause-puts g c =
-    puts_counted c.work_for-work.result.answer _ _ c.answered.ensures.told _ _ c.work_for-work.ensures.puts
+    puts_counted c.work_for-work.result.answer _ _ c.answered.ensures.told _ _
+    c.work_for-work.ensures.puts
+
+pub returns-clause-stops : goal.returns-clause-stops
+returns-clause-stops g c =
+    call_stops c.work_for-work.result.answer _ _ c.answered.ensures.told _ _ _ _
+    c.work_for-work.ensures.stops c.answered.ensures.stops

@@ -2,10 +2,11 @@ use Rattle.std.proofs.Common.{◌≡◌, inl, inr, sym, ◌∙◌, ap, subst, ar
 use Rattle.call_claims.specs.Call.{call_of}
 use Rattle.call_claims.specs.Stream.{stream_of}
 use Rattle.zpl_io.specs.Faults.{CountsFaults}
+use Rattle.zpl_io.specs.Sink.{StopsAtFault}
 use Rattle.call_claims.specs.declared.status.TheConstants.{UNREADABLE}
 use Rattle.call_answers.specs.Answers.{status_of, told_of}
 use Rattle.call_answers.specs.declared.answers.Answer.TheVariants as answer
-use Rattle.call_answers.proofs.CallLemmas.{answered, failed_put, fetches_counted}
+use Rattle.call_answers.proofs.CallLemmas.{answered, call_stops, failed_put, fetches_counted}
 use Rattle.call_answers.proofs.CallLemmas.{puts_counted, status_caused}
 use Rattle.call_answers.proofs.CallLemmas.FailedPut.{in_work, in_telling}
 use Rattle.mean_claims.proofs.KnownLemmas.{cause_known}
@@ -95,3 +96,11 @@ returns-clause-puts g c =
     (subst (λ a. CountsFaults (a ≡ answer.PutFailed) (g.O.Sink.faults c.args.out.now)
     (g.O.Sink.faults c.mean_file-answer.new.out)) (sym c.without_turns.ensures.answer)
     c.mean_file-answer.ensures.puts)
+
+pub returns-clause-stops : goal.returns-clause-stops
+returns-clause-stops g c =
+    call_stops c.without_turns.result.answer _ _ c.answered.ensures.told
+    (g.O.Sink.has_failed c.args.out.now) (g.O.Sink.has_failed c.mean_file-answer.new.out) _ _
+    (subst (λ a. StopsAtFault (a ≡ answer.PutFailed) (g.O.Sink.has_failed c.args.out.now)
+    (g.O.Sink.has_failed c.mean_file-answer.new.out)) (sym c.without_turns.ensures.answer)
+    c.mean_file-answer.ensures.stops) c.answered.ensures.stops

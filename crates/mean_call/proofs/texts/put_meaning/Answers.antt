@@ -49,3 +49,13 @@ returns-clause-counts g c =
       never_falls = counts.never_falls;
       bounded = counts.bounded;
     }
+
+pub returns-clause-stops : goal.returns-clause-stops
+returns-clause-stops g c =
+    let stops = c.mean.ensures.stops in
+    let failed = put_failed c.mean.result in
+    record {
+      fails = λ e. stops.fails (failed.0 (sym c.answer_of.ensures ∙ e));
+      goes_on = λ none has. stops.goes_on
+          (λ f. none (c.answer_of.ensures ∙ failed.1 f)) has;
+    }

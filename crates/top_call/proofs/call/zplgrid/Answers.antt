@@ -1,5 +1,7 @@
-use Rattle.std.proofs.Common.{◌≡◌, map, string_bytes, refl, ap, sym, subst, arith}
+use Rattle.std.proofs.Common.{◌≡◌, map, string_bytes, refl, ap, sym, ◌∙◌, subst, arith}
 use Rattle.call_claims.specs.Stream.{stream_of}
+use Rattle.call_answers.specs.declared.answers.Answer.TheVariants as answer
+use Rattle.call_answers.proofs.CallLemmas.{call_stops}
 use Rattle.top_call.specs.Call.{IsUnknown}
 use Rattle.top_call.proofs.UnknownLemmas.{tells_usage, usage_read}
 use Rattle.top_call.proofs.WordLemmas.{is_some, of_exec, of_list, of_mean, of_run}
@@ -94,3 +96,12 @@ returns-in-None-clause-fetches g c =
       never_falls = omega arith;
       bounded = λ h. h;
     }
+
+pub returns-in-None-clause-stops : goal.returns-in-None-clause-stops
+returns-in-None-clause-stops g c =
+    call_stops c.without_turns.result.answer _ _ c.answered.ensures.told
+    (g.O.Sink.has_failed c.args.out.now) (g.O.Sink.has_failed c.args.out.now) _ _ (record {
+      fails = λ failed. let no : answer.Usage ≡ answer.PutFailed =
+          sym c.without_turns.ensures.answer ∙ failed in cc;
+      goes_on = λ none has. has;
+    }) c.answered.ensures.stops

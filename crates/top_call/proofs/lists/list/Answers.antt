@@ -9,7 +9,7 @@ use Rattle.call_claims.specs.Execution.{IsMadeOf}
 use Rattle.call_answers.specs.Answers.{status_of, told_of}
 use Rattle.call_answers.specs.Work.{execution_in}
 use Rattle.call_answers.specs.declared.answers.Answer.TheVariants as answer
-use Rattle.call_answers.proofs.CallLemmas.{answered, failed_put, fetches_counted}
+use Rattle.call_answers.proofs.CallLemmas.{answered, call_stops, failed_put, fetches_counted}
 use Rattle.call_answers.proofs.CallLemmas.{puts_counted, status_caused, work_other}
 use Rattle.call_answers.proofs.CallLemmas.FailedPut.{in_work, in_telling}
 use Rattle.call_words.specs.Reading.{asked_in}
@@ -97,8 +97,15 @@ returns-clause-known g c = λ e.
 
 pub returns-clause-fetches : goal.returns-clause-fetches
 returns-clause-fetches g c =
-    fetches_counted c.list_file-work.result.answer _ _ c.answered.ensures.told _ _ c.list_file-work.ensures.fetches
+    fetches_counted c.list_file-work.result.answer _ _ c.answered.ensures.told _ _
+    c.list_file-work.ensures.fetches
 
 pub returns-clause-puts : goal.returns-clause-puts
 returns-clause-puts g c =
-    puts_counted c.list_file-work.result.answer _ _ c.answered.ensures.told _ _ c.list_file-work.ensures.puts
+    puts_counted c.list_file-work.result.answer _ _ c.answered.ensures.told _ _
+    c.list_file-work.ensures.puts
+
+pub returns-clause-stops : goal.returns-clause-stops
+returns-clause-stops g c =
+    call_stops c.list_file-work.result.answer _ _ c.answered.ensures.told _ _ _ _
+    c.list_file-work.ensures.stops c.answered.ensures.stops

@@ -1,0 +1,12 @@
+-- How a call leaves the sinks that it puts on.
+use Rattle.std.specs.Prelude.{◌≡◌, ◌≢◌, ◌⊎◌, ℕ}
+use Rattle.call_claims.specs.declared.status.TheConstants.{PUT_FAILED}
+
+-- Of out and of errs, `before` and `after` say that the last put failed, and `same` says that errs
+-- is as it was. With the status of a failed put, a put of one of them failed and was its last one:
+-- of out, and errs is as it was, or of errs, and no put of out failed. With another status no put
+-- failed.
+pub record CallStopsAtFault (status : ℕ) (before after errs_before errs_after same : Type 0)
+    : Type 0 where
+  pub fails : status ≡ PUT_FAILED → (after × same) ⊎ ((after → before) × errs_after)
+  pub goes_on : status ≢ PUT_FAILED → (after → before) × (errs_after → errs_before)
