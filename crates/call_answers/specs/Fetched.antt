@@ -16,8 +16,8 @@ pub record IsLongText (Tells : List ℕ → Type 0) (limit : ℕ) : Type 0 where
   pub told : Tells text
   pub long : limit < length text
 
--- There is no text: the fetch failed, where it may, or the text is too long, of the file in question;
--- or memory was wanting.
+-- There is no text: the fetch failed, where it may, or the text is too long, of the file in
+-- question; or memory was wanting.
 abbrev pub IsNoText : (List ℕ → Type 0) → Type 0 → ℕ → List ℕ → Answer → Type 0
 IsNoText Tells May limit file (answer.Unreadable name) = (name.now ≡ file) × May
 IsNoText Tells May limit file (answer.TooLong name) = (name.now ≡ file) × IsLongText Tells limit

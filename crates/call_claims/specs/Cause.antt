@@ -1,5 +1,5 @@
--- Why a call has its status, and what is told of it: the parts that are common to commands on the text
--- of a program, and the causes of `list`.
+-- Why a call has its status, and what is told of it: the parts that are common to commands on the
+-- text of a program, and the causes of `list`.
 --
 --   TextFault            why a text has no code
 --   CodeCause            it has none, or some, of which this is done

@@ -14,9 +14,9 @@ use Rattle.call_claims.specs.Words.{Word, Order, Turns, Report, Links, Sets, IsW
 use Rattle.call_claims.specs.declared.limits.TheConstants.{MOST_TURNS}
 
 -- ---- what the words behind the file ask for
--- The file of an order of turns, how many turns may be given (round the processors behind the order,
--- or in each loop of the meaning), and how many messages a link holds, each where a word tells it;
--- whether a report is wanted; and what configs are set to, in the order of the words.
+-- The file of an order of turns, how many turns may be given (round the processors behind the
+-- order, or in each loop of the meaning), and how many messages a link holds, each where a word
+-- tells it; whether a report is wanted; and what configs are set to, in the order of the words.
 pub record Asked : Type 0 where
   pub order : Option (List ℕ)
   pub turns : Option ℕ
@@ -37,8 +37,8 @@ abbrev pub first_report : Bool → Option Bool
 first_report false = Some true
 first_report true = None
 
--- What is asked for with one word more; nothing where it asks again. Settings may be any, and a name
--- may be set again: what is wrong with them is told of the text.
+-- What is asked for with one word more; nothing where it asks again. Settings may be any, and a
+-- name may be set again: what is wrong with them is told of the text.
 abbrev pub asked_more : Asked → Word → Option Asked
 asked_more asked (Order file) =
     option_map (λ order. record asked { order = order }) (once asked.order file)
@@ -74,14 +74,14 @@ most_turns (Some n) = n
 abbrev pub limit_of : Asked → ℕ
 limit_of asked = most_turns asked.turns
 
--- What the words have code built for. No word tells of a grid or of optimisations yet: it is for one
--- processor, without any.
+-- What the words have code built for. No word tells of a grid or of optimisations yet: it is for
+-- one processor, without any.
 abbrev pub build_of : Asked → Build
 build_of asked = plain_build asked.links asked.settings
 
 -- ---- a command
--- The first word is its name, the second names the file, whatever it holds, and the words behind ask
--- for this.
+-- The first word is its name, the second names the file, whatever it holds, and the words behind
+-- ask for this.
 pub record IsWorded (words : List (List ℕ)) (name file : List ℕ) (asked : Asked) : Type 0 where
   pub more : List (List ℕ)
   pub split : words ≡ name ∷ file ∷ more

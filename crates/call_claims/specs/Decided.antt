@@ -22,14 +22,14 @@ pub record IsSettled (call : Call) (status : ℕ) : Type 0 where
   pub one : (file text other : List ℕ) → call.tells file text → call.tells file other → text ≡ other
 
 -- ---- a program's file
--- it tells a text that isn't too long, and that has no small program for the build and no fault of what
--- it is built for to be told
+-- it tells a text that isn't too long, and that has no small program for the build and no fault of
+-- what it is built for to be told
 abbrev pub HasNoProgramIn : Call → List ℕ → Build → Type 0
 HasNoProgramIn call file build =
     (source : Source call file) × IsRefused source.text build
 
--- it tells a text that isn't too long, has no small program for the build, and has a fault of what it is
--- built for
+-- it tells a text that isn't too long, has no small program for the build, and has a fault of what
+-- it is built for
 abbrev pub HasUnboundIn : Call → List ℕ → Build → Type 0
 HasUnboundIn call file build =
     (source : Source call file) × HasUnbound source.text build

@@ -28,8 +28,8 @@ placed_text text name at = fault_text name (line_at text at) at
 
 -- ---- a text
 -- Something is wrong with the text, and this is told of it: a byte, comment, string or number that
--- no token is; tokens that no tree has, or none that isn't too deep; or a tree with a fault of names,
--- ranks or types.
+-- no token is; tokens that no tree has, or none that isn't too deep; or a tree with a fault of
+-- names, ranks or types.
 pub data IsFault (text : List ℕ) : List ℕ → Type 0 where
   lexical : (found : List Token) (fault : LexFault) → HasFault text found fault
       → IsFault text (placed_text text (lexical_name fault) (lexical_offset fault))
@@ -42,9 +42,9 @@ pub data IsFault (text : List ℕ) : List ℕ → Type 0 where
       → IsFault text (placed_text text (judged_name kind) at)
 
 -- ---- a text that is to be built
--- It has no code, and this is told of it: it is faulty; or it isn't, nor are its settings, and it is
--- too much to compile; or no code can be built of it so far. A text that is too much, or whose arrays
--- have no room, may be told to have no code so far.
+-- It has no code, and this is told of it: it is faulty; or it isn't, nor are its settings, and it
+-- is too much to compile; or no code can be built of it so far. A text that is too much, or whose
+-- arrays have no room, may be told to have no code so far.
 pub data IsCodeless (text : List ℕ) (build : Build) : List ℕ → Type 0 where
   faulty : {told : List ℕ} → IsFault text told → IsCodeless text build told
   many_statements : (program : Program) → IsAcceptedUnder text build.settings program
@@ -55,9 +55,9 @@ pub data IsCodeless (text : List ℕ) (build : Build) : List ℕ → Type 0 wher
   not_built : (program : Program) → IsAcceptedUnder text build.settings program
       → IsCodeless text build (placed_text text (codes "NotBuilt") 0)
 
--- Something is wrong with what it is built for, and this is told of it: the grid is none; or the text
--- is accepted, and its settings, or its declarations under them, have a fault. That its arrays have no
--- room isn't told so far.
+-- Something is wrong with what it is built for, and this is told of it: the grid is none; or the
+-- text is accepted, and its settings, or its declarations under them, have a fault. That its arrays
+-- have no room isn't told so far.
 pub data IsSetWrong (text : List ℕ) (build : Build) : List ℕ → Type 0 where
   bad_shape : ¬ IsGrid build.grid → IsSetWrong text build bad_shape_text
   declared : (program : Program) (fault : BindFault) → IsAccepted text program

@@ -40,8 +40,8 @@ pub record IsSettingWord (word : List ℕ) (setting : Setting) : Type 0 where
   pub named : IsToken setting.name Name
   pub split : word ≡ setting.name ++ (codes ":=" ++ setting.value)
 
--- the file of the order of turns, whatever its name holds; how many turns may be given; that a report
--- is wanted; how many messages a link holds; and what a config is set to
+-- the file of the order of turns, whatever its name holds; how many turns may be given; that a
+-- report is wanted; how many messages a link holds; and what a config is set to
 pub data Word : Type 0 where
   Order : (file : List ℕ) → Word
   Turns : (n : ℕ) → Word

@@ -1,5 +1,5 @@
--- Why a call of `exec` has its status, and what is told of it: by the command, the files, the listing,
--- the order, and the run.
+-- Why a call of `exec` has its status, and what is told of it: by the command, the files, the
+-- listing, the order, and the run.
 use Rattle.std.specs.Prelude.{◌≡◌, ℕ, ◌<◌, ◌≤◌, Bool, true, false, List, [], ◌++◌, length, Option, Some, None, Ok, Err, codes}
 use Rattle.zpl_nums.specs.declared.ends.End.TheVariants.{Done, Trap}
 use Rattle.zpl_nums.specs.declared.ends.TrapKind.{TrapKind}

@@ -55,7 +55,8 @@ IsStuckOrIdleAt run k =
 -- ---- the listing
 -- 11: the words run a file that tells a text, not too long, that is no listing
 abbrev pub HasNoListing : Call → List ℕ → Type 0
-HasNoListing call file = (source : Source call file) × ((code : Tables) → ¬ IsListing source.text code)
+HasNoListing call file =
+    (source : Source call file) × ((code : Tables) → ¬ IsListing source.text code)
 
 abbrev pub ExecsNoListing : Call → Type 0
 ExecsNoListing call = Execs call (λ file asked. HasNoListing call file)
@@ -79,8 +80,8 @@ abbrev pub HasLongOrder : Call → Option (List ℕ) → Type 0
 HasLongOrder call None = ⊥
 HasLongOrder call (Some file) = IsTooLong call file
 
--- 3: the words run a file that tells a text that is too long; or one with a listing, and the file of
--- the order tells such a text
+-- 3: the words run a file that tells a text that is too long; or one with a listing, and the file
+-- of the order tells such a text
 abbrev pub ExecsTooLong : Call → Type 0
 ExecsTooLong call = Execs call (λ file asked. IsTooLong call file
     ⊎ HasListing call file (λ code. HasLongOrder call asked.order))

@@ -26,8 +26,8 @@ pub record IsMeant (call : Call) (answered : Ran) (out errs : Stream) : Type 0 w
   -- Each status comes just where its own cause is, where no put or fetch failed, the files tell one
   -- text a name, and memory wasn't wanting.
   pub exact : IsSettled call answered.status → IsExact call answered.status
-  -- A put failed: one of out, which took a front of the bytes, and errs took nothing; or one of errs,
-  -- once out had taken all.
+  -- A put failed: one of out, which took a front of the bytes, and errs took nothing; or one of
+  -- errs, once out had taken all.
   pub put_failed : answered.status ≡ PUT_FAILED
       → (TakesPart call out.before out.after
       × Rose out.faults out.faults_after × errs.same)

@@ -20,8 +20,8 @@ pub record AreFurther {S Row : Type 0} (act act' : Row → S → Effect S) : Typ
   pub further : (row : Row) (s : S) → IsFurther (act row s) (act' row s)
 
 -- ---- runs that stop by themselves
--- Whether the run of code from the row with a number on comes to the end, or to a row that stops it,
--- before it has made so many leaps and passed tests.
+-- Whether the run of code from the row with a number on comes to the end, or to a row that stops
+-- it, before it has made so many leaps and passed tests.
 module _ {S Row : Type 0} (act : Row → S → Effect S) where
   abbrev pub step_stops : Step S → (S → Bool) → Bool
   step_stops (Goes bytes next) rest = rest next

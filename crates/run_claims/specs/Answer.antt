@@ -13,9 +13,9 @@ use Rattle.run_claims.specs.Cause.{Runs}
 
 -- ---- the code and the counts
 -- The code is made of the file's text, for the build: over links of every capacity it is right
--- after every order of turns, some order brings it in step to each bound of the meaning, and it comes
--- to its end in time; and it is tidy. It was not run, or it was run under the order that the words
--- ask for, and the counts are those of its grid after the given turns.
+-- after every order of turns, some order brings it in step to each bound of the meaning, and it
+-- comes to its end in time; and it is tidy. It was not run, or it was run under the order that the
+-- words ask for, and the counts are those of its grid after the given turns.
 pub record IsMade (call : Call) (ran : Ran) (file : List ℕ) (asked : Asked) (code : Tables)
     : Type 0 where
   pub made : IsMadeOf call file (build_of asked) code

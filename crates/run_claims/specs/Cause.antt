@@ -1,5 +1,5 @@
--- Why a call of `run` has its status, and what is told of it. What is done with the code is said as it
--- is for `exec`: an order is read, and the code is run under it.
+-- Why a call of `run` has its status, and what is told of it. What is done with the code is said as
+-- it is for `exec`: an order is read, and the code is run under it.
 use Rattle.std.specs.Prelude.{ℕ, List}
 use Rattle.call_claims.specs.Call.{Call}
 use Rattle.call_claims.specs.Cause.{ProgramCause}

@@ -1,5 +1,5 @@
--- What is said of a call of `run` and of `list`, and of words that are no command; and which words are
--- which command. Of `exec` it is said by `IsExecuted` of `exec_call`, of `mean` by `IsMeant` of
+-- What is said of a call of `run` and of `list`, and of words that are no command; and which words
+-- are which command. Of `exec` it is said by `IsExecuted` of `exec_call`, of `mean` by `IsMeant` of
 -- `mean_call`.
 use Rattle.std.specs.Prelude.{◌≡◌, ◌≢◌, ◌⊎◌, ℕ, List, [], IfSome, MatchOption, None}
 use Rattle.zpl_io.specs.Faults.{Rose}
@@ -36,9 +36,9 @@ AsksExec words = (file : List ℕ) × (asked : Asked) × IsExec words file asked
 pub record IsRan (call : Call) (answered : Ran) (out errs : Stream) : Type 0 where
   -- The code is made of the text that the file of the words tells, under their settings: over links
   -- of every capacity it is right after every order of turns, some order brings it in step to each
-  -- bound of the meaning, and it comes to its end in time; and it is tidy. It was not run, or it was
-  -- under the order that the words ask for, and the counts are those of the grid after the given
-  -- turns, before which it is neither over nor idle.
+  -- bound of the meaning, and it comes to its end in time; and it is tidy. It was not run, or it
+  -- was under the order that the words ask for, and the counts are those of the grid after the
+  -- given turns, before which it is neither over nor idle.
   pub code : MatchOption answered.code (HasNoCounts answered) (IsMadeFor call answered)
   -- Out took what that grid has printed.
   pub output : answered.status ≢ PUT_FAILED
@@ -60,8 +60,8 @@ pub record IsRan (call : Call) (answered : Ran) (out errs : Stream) : Type 0 whe
 
 -- ---- list
 pub record IsListed (call : Call) (answered : Ran) (out errs : Stream) : Type 0 where
-  -- The code is made of the text that the file of the words tells, under their settings, and was not
-  -- run.
+  -- The code is made of the text that the file of the words tells, under their settings, and was
+  -- not run.
   pub code : IfSome answered.code
       (λ code. Lists call (λ file asked. IsMadeOf call file (build_of asked) code))
   pub no_counts : HasNoCounts answered

@@ -41,8 +41,8 @@ IsOfListing a = (a ≡ answer.Stopped stop.Done None)
     ⊎ ((a ≡ answer.PutFailed) ⊎ (a ≡ answer.NoMemory))
 
 -- ---- run
--- No code was made, and why; or the code is made of the text that the file tells, and this came of the
--- work on it.
+-- No code was made, and why; or the code is made of the text that the file tells, and this came of
+-- the work on it.
 pub data IsRunWork (call : Call) (file : List ℕ) (asked : Asked) (work : Work)
     (before after : List ℕ → Type 0) : Type 0 where
   unmade : work.code ≡ None → HasNoCode call file (build_of asked) work.answer

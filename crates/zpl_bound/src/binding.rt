@@ -14,8 +14,9 @@ use zpl_copies::copies_within;
 
 /// What settings bind a program to: the values of configs and constants, the declared regions, the
 /// directions with the vectors in statements, and the storages of arrays, each in the order of the
-/// text; with what is known of its declarations, and the parts of its text. It fails exactly where some fault of the settings or of the declarations under them
-/// holds, and tells one that does; or where memory is wanting.
+/// text; with what is known of its declarations, and the parts of its text. It fails exactly where
+/// some fault of the settings or of the declarations under them holds, and tells one that does; or
+/// where memory is wanting.
 pub fn bind<'a>(
     alloc: Global,
     typed: &Typed<'a>,

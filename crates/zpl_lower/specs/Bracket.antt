@@ -33,8 +33,8 @@ abbrev pub both : {A : Type 0} → Option ℤ → Option ℤ → (ℤ → ℤ �
 both left right next =
     option_and_then (λ a. option_and_then (λ b. next a b) right) left
 
--- The value of numbers, configs and constants; there is none of a variable, and none where a divisor
--- is 0.
+-- The value of numbers, configs and constants; there is none of a variable, and none where a
+-- divisor is 0.
 abbrev pub constant_of : Environment → Expr → Option ℤ
 constant_of environment (Number at value) = Some value
 constant_of environment (Truth at value) = Some (truth value)

@@ -95,7 +95,7 @@ lowered_scalar w line next value target =
 abbrev pub lowered_array : Where → ℕ → Next → Slotted → Placed → Option Stored → Lowered
 lowered_array w line next over value target =
     let phases = phased_with w line next (refer_to over.slot [] target)
-        (over_reference w.numbers over) (value ∷ []) in
+    (over_reference w.numbers over) (value ∷ []) in
     then_rows phases (put_row w line over (first_left phases.left) target)
 
 -- no accepted program assigns to anything else
@@ -304,7 +304,7 @@ lowered_under borders context next [] rest = rest context next
 lowered_under borders context next (prefix ∷ prefixes) rest =
     let w = context.place in
     let opened = prefix_opened (is_last borders prefixes) w next.slots (line_of w prefix.at)
-        (current_for w prefix) prefix.region in
+    (current_for w prefix) prefix.region in
     followed next (of_opened opened)
     (λ after.
     lowered_under borders (record context { place = under_prefix w prefix opened }) after prefixes
