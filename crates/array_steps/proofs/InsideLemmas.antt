@@ -82,17 +82,19 @@ inside-dim d (Range lo hi step align) is e = by (int_lt (pos 0) d) refl (int_lt 
     by true up b down =
         let above = test-less (pos 0) d up in
         let wide = wide_enough d lo hi step align e (λ z. omega (arith, ints, above, z)) in
-        let within = above-within d lo hi above wide in
-        (is.0,
-        ((omega (arith, ints, within, is.1.0.0), omega (arith, ints, above, is.1.1.1)), is.1.1),
-        is.2)
+        let within = above-within d lo hi above wide in (
+          is.0,
+          ((omega (arith, ints, within, is.1.0.0), omega (arith, ints, above, is.1.1.1)), is.1.1),
+          is.2,
+        )
     by false up true down =
         let below = test-less d (pos 0) down in
         let wide = wide_enough d lo hi step align e (λ z. omega (arith, ints, below, z)) in
-        let within = below-within d lo hi below wide in
-        (is.0,
-        (is.1.0, (omega (arith, ints, below, is.1.0.0), omega (arith, ints, within, is.1.1.1))),
-        is.2)
+        let within = below-within d lo hi below wide in (
+          is.0,
+          (is.1.0, (omega (arith, ints, below, is.1.0.0), omega (arith, ints, within, is.1.1.1))),
+          is.2,
+        )
     by false up false down = is
 
 inside-dims : (v : List ℤ) (dims : List Dim) → All IsDim dims →
