@@ -1,9 +1,9 @@
 #!/usr/bin/env python3
-"""Each example prints, or is refused with, what the comment at its head says.
+"""Each example prints, is refused with, or traps with what the comment at its head says.
 
 Run it at the top of the repository: .ci/checks/examples.py. The program is built once, by `rt try`, and run for each example.
-A comment has a line `Prints:` or `Refused:`, and below it, indented by two more, what is told, line by line. The command, where it
-isn't `run`, stands in a line `Command: WORD` before that, and words behind the file in a line `Words: WORD ..`.
+A comment has a line `Prints:`, `Refused:` or `Traps:`, and below it, indented by two more, what is told, line by line. The command,
+where it isn't `run`, stands in a line `Command: WORD` before that, and words behind the file in a line `Words: WORD ..`.
 
 A run of a listing is a text in examples/listings, with such lines and `Listing: FILE`; a line `Order: ITEM ..` has the text of its order,
 and a line `Status: N` the status where that isn't 0.
@@ -17,21 +17,22 @@ import sys
 import tempfile
 
 CRATE = "crates/zplgrid"
+STATUSES = {"Prints:": 0, "Refused:": 4, "Traps:": 7}
 
 
 def told_in(text):
-    """The lines that the comment at the head of a text says are told, and whether it is a refusal."""
-    wanted, refused, begun, indent = [], False, False, 0
+    """The lines that the comment at the head of a text says are told, and the status that goes with the word above them."""
+    wanted, status, indent = [], None, 0
     for line in text.splitlines():
         body = re.sub(r"^(--|/\*)?", "", line)
-        if not begun and body.strip() in ("Prints:", "Refused:"):
-            begun, refused = True, body.strip() == "Refused:"
+        if status is None and body.strip() in STATUSES:
+            status = STATUSES[body.strip()]
             indent = len(body) - len(body.lstrip()) + 2
-        elif begun and body.startswith(" " * indent):
+        elif status is not None and body.startswith(" " * indent):
             wanted.append(body[indent:])
-        elif begun:
+        elif status is not None:
             break
-    return wanted, refused
+    return wanted, status
 
 
 def line_in(text, name):
@@ -43,6 +44,11 @@ def line_in(text, name):
 def words_in(text, command):
     """The words with which the example is run; its file stands in place of the braces."""
     return [line_in(text, "Command") or command, "{}"] + (line_in(text, "Words") or "").split()
+
+
+def case_of(path):
+    """The name of an example's case: no two examples have one."""
+    return os.path.relpath(path, "examples").replace("/", "-")
 
 
 def sections(output):
@@ -71,17 +77,17 @@ def add_program(place, path):
     """Adds the case of a program, and says what it has to tell, and its status."""
     with open(path, encoding="utf-8") as file:
         text = file.read()
-    add_case(place, os.path.basename(path), path, words_in(text, "run"))
-    wanted, refused = told_in(text)
+    add_case(place, case_of(path), path, words_in(text, "run"))
+    wanted, status = told_in(text)
     settings = wanted[:1] and wanted[0].startswith("settings refused: ")
-    return wanted, 5 if settings else 4 if refused else 0
+    return wanted, 5 if settings else status
 
 
 def add_listing(place, data, path):
     """The same of a run of a listing, whose order goes into the folder of data."""
     with open(path, encoding="utf-8") as file:
         text = file.read()
-    name, order = os.path.basename(path), line_in(text, "Order")
+    name, order = case_of(path), line_in(text, "Order")
     words = words_in(text, "exec")
     if order is not None:
         with open(f"{data}/{name}.order", "w", encoding="utf-8") as file:
@@ -92,7 +98,7 @@ def add_listing(place, data, path):
 
 
 def main():
-    programs = sorted(glob.glob("examples/*.zpl") + glob.glob("examples/refused/*.zpl"))
+    programs = sorted(glob.glob("examples/**/*.zpl", recursive=True))
     runs = sorted(glob.glob("examples/listings/*.txt"))
     place, data = tempfile.mkdtemp(), tempfile.mkdtemp()
     try:
@@ -106,7 +112,7 @@ def main():
         shutil.rmtree(data)
     found, wrong = sections(ran.stdout), 0
     for path, (lines, status) in wanted.items():
-        told, ended = found.get(os.path.basename(path), ([], None))
+        told, ended = found.get(case_of(path), ([], None))
         if told != lines or ended != status:
             wrong += 1
             print(f"{path}: told {told} with status {ended}, its comment says {lines} and {status}")
