@@ -12,6 +12,8 @@ sentence says no more than its clause is for readers.
 - Each other name of what is proved is one of the sources of the crate, of a crate below it, or of one that is
   named beside it.
 - The tables of `README.md` and `docs/ARCHITECTURE.md` have each library.
+- What `docs/TUTORIAL.md` shows of a primer stands in its program, line by line; `examples/README.md` names each
+  program, and what it names is there.
 """
 import glob
 import os
@@ -192,10 +194,32 @@ def wrong_tables(of):
     return told
 
 
+def lines_of(path):
+    return {line.strip() for line in read(path).splitlines()}
+
+
+def wrong_primers():
+    """The lines of primers that their programs don't have, and the examples that are left out or aren't there."""
+    told, primers, page = [], set(), read("examples/README.md")
+    for part in re.split(r"(?m)^## ", read("docs/TUTORIAL.md"))[1:]:
+        program = re.search(r"\A.*\n\n`(\w+)\.zpl`", part)
+        if program:
+            primers.add(f"examples/primers/{program[1]}.zpl")
+            there = lines_of(f"examples/primers/{program[1]}.zpl") | {".."}
+            shown = re.findall(r"(?m)^ {4}(.+)$", part)
+            told += [f"docs/TUTORIAL.md: {program[1]}.zpl has no line {line.strip()}" for line in shown if line.strip() not in there]
+    left = set(glob.glob("examples/primers/*.zpl")) - primers
+    told += [f"docs/TUTORIAL.md leaves out {path}" for path in sorted(left)]
+    paths = glob.glob("examples/*.zpl") + glob.glob("examples/primers/*.zpl")
+    told += [f"examples/README.md leaves out {path}" for path in sorted(paths) if f"`{path[len('examples/'):]}`" not in page]
+    named = quoted(page, r"[\w/]+\.zpl")
+    return told + [f"examples/README.md: {name} isn't there" for name in named if not os.path.exists(f"examples/{name}")]
+
+
 def main():
     of = libraries()
     names = {crate: names_of(crate) for crate in of}
-    told = wrong_tables(of) + [f"docs/DEFINITIONS.md: {wrong}" for wrong in wrong_definitions()]
+    told = wrong_tables(of) + [f"docs/DEFINITIONS.md: {wrong}" for wrong in wrong_definitions()] + wrong_primers()
     for crate in of:
         told += [f"crates/{crate}/README.md: {wrong}" for wrong in wrong_in(crate, of, names, clauses_of(crate))]
     for wrong in told:
