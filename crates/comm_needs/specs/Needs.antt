@@ -44,5 +44,7 @@ with_needs tables (Single (instr.Loop slot group)) =
     ++ Single (instr.Loop slot group) ∷ vote_if (is_voted_on tables group) group
 with_needs tables unit = unit ∷ []
 
-abbrev pub planned : Tables → Tables
-planned tables = with_units (flat_map (with_needs tables)) tables
+-- for a grid
+abbrev pub planned : List ℕ → Tables → Tables
+planned grid tables =
+    record (with_units (flat_map (with_needs tables)) tables) { grid = grid }

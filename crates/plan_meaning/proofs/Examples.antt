@@ -397,6 +397,26 @@ shattered_plan_wants :
 unfolding int_wrap digits
 shattered_plan_wants = refl
 
+-- a turn is wanted while an exchange is open
+abbrev wanting_while_open : Tables
+wanting_while_open = record shattered_plan {
+  code =
+      instr.Fix 0 (line (dim.Range (pos 1) (pos 4) (pos 1) (pos 1)))
+      ∷ instr.Loop 0 0
+      ∷ instr.Fix 1 (line (dim.Range (pos 1) (pos 3) (pos 1) (pos 1)))
+      ∷ instr.Start 0
+      ∷ instr.Loop 1 2
+      ∷ instr.Vote 2
+      ∷ instr.Finish 0
+      ∷ instr.End
+      ∷ [];
+}
+
+wanting_while_open_is_wrong :
+    plan_run wanting_while_open None 1 0 ≡ record { bytes = []; stop = Wrong }
+unfolding int_wrap digits
+wanting_while_open_is_wrong = refl
+
 -- ---- several exchanges
 abbrev several : Tables
 several = record {

@@ -1,7 +1,7 @@
 -- A loop, on each processor over its own part of the region: tuple by tuple, all units of the group
 -- at each. A unit that meets a zero divisor leaves out what is behind it at its tuple; the least
 -- number of such a unit's member is kept for the vote. Cells stay from one tuple to the next.
-use Rattle.std.specs.Prelude.{ℕ, ◌+◌, Bool, true, false, not, ℤ, List, [], ◌∷◌, Option, Some}
+use Rattle.std.specs.Prelude.{ℕ, ◌+◌, Bool, true, false, not, ◌&&◌, ℤ, List, [], ◌∷◌, Option, Some}
 use Rattle.std.specs.Prelude.{None, length, if◌then◌else◌, slice_get}
 use Rattle.zpl_nums.specs.declared.ends.End.TheVariants.{More}
 use Rattle.zpl_region.specs.declared.regions.Region.{Region}
@@ -17,7 +17,7 @@ use Rattle.nest_meaning.specs.Nested.{Told, Fine, Zero, Wants, Lost, nested, way
 use Rattle.nest_meaning.specs.Tree.{nest_of}
 use Rattle.nest_meaning.specs.Units.{units_of}
 use Rattle.row_runs.specs.Run.{Step, Goes, Stops, Ends, Wrong}
-use Rattle.plan_meaning.specs.Abreast.{Abreast, Share, every}
+use Rattle.plan_meaning.specs.Abreast.{Abreast, Share, every, is_quiet}
 
 -- what a processor comes to: a state, and the member that met a zero divisor, if one did; or it
 -- wants a further turn; or a place isn't held
@@ -90,14 +90,14 @@ module _ (code : Tables) (n : ℕ) where
   share_behind share other = share
 
   -- Where one wants a further turn, so does the run; then all others must come to wait for it, and
-  -- show nothing before: the group's vote is next.
+  -- show nothing before: the group's vote is next, and no exchange is open.
   abbrev pub all_shared : (ℕ → Shared) → Bool → Abreast → Step Abreast
   all_shared shares is_vote_next all =
       if every code (λ p. not (lacks (shares p))) then
       (if every code (λ p. not (wants (shares p)))
       then Goes []
       (record all { shares = λ p. share_behind (all.shares p) (shares p) })
-      else (if is_vote_next then Stops (Ends More) else Stops Wrong))
+      else (if is_vote_next && is_quiet all then Stops (Ends More) else Stops Wrong))
       else Stops Wrong
 
   abbrev pub tree_looped : Bool → ℕ → Option Nest → Abreast → Step Abreast

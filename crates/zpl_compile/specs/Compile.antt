@@ -31,7 +31,7 @@ abbrev pub plan_of : Build → Tables → Tables
 plan_of build flat =
     if_asked build.options.early (sent_early build.links)
     (if_asked build.options.merge neighbours_merged
-    (if_asked build.options.redundant repeats_dropped (planned flat)))
+    (if_asked build.options.redundant repeats_dropped (planned build.grid flat)))
 
 -- node code of a plan
 abbrev pub emitted_for : Build → Tables → Tables
@@ -41,4 +41,4 @@ emitted_for build plan = emitted build.options.tree build.grid plan
 abbrev pub compiled : Build → Program → Tables
 compiled build program =
     emitted_for build
-    (plan_of build (settled build (flat_tables build.grid program build.settings)))
+    (plan_of build (settled build (flat_tables program build.settings)))

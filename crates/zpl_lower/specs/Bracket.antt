@@ -1,5 +1,5 @@
 -- The regions that stand in statements, as rows.
-use Rattle.std.specs.Prelude.{ℕ, suc, ◌+◌, ◌-◌, Bool, true, false, ℤ, List, [], ◌∷◌, ◌++◌, length, Option, Some, None, option_map, option_and_then, get_or, position}
+use Rattle.std.specs.Prelude.{ℕ, zero, suc, ◌+◌, ◌-◌, Bool, true, false, ℤ, List, [], ◌∷◌, ◌++◌, length, Option, Some, None, option_map, option_and_then, get_or, position}
 use Rattle.std.specs.Str.{bytes_eq}
 use Rattle.zpl_nums.specs.Integer.{truth, negated, denied, absolute}
 use Rattle.zpl_nums.specs.Op.{applied}
@@ -142,9 +142,16 @@ dims_flood current k NoDim = []
 dims_flood current k (ThenDim first rest) =
     dim_flood current k first ∷ dims_flood current (suc k) rest
 
+-- past the rank a part is a flood dimension
+abbrev pub three_parts : ℕ → List Part → List Part
+three_parts zero parts = []
+three_parts (suc count) [] = row.Star ∷ three_parts count []
+three_parts (suc count) (part ∷ parts) = part ∷ three_parts count parts
+
 abbrev pub spanned : Where → ℕ → ℕ → Slotted → DimTexts → Opened
 spanned w next line current dims =
-    filled next (dims_flood current 0 dims) (row.Dims next (parts_of w current.slot dims) line)
+    filled next (dims_flood current 0 dims)
+    (row.Dims next (three_parts 3 (parts_of w current.slot dims)) line)
 
 -- forms, from the one next to the region on: `at` and `by` first, and of `of` and `in` the last
 pub record Form : Type 0 where

@@ -110,6 +110,6 @@ rows_of lowered = map flat_row (flattened 0 lowered.code) ++ row.Plain instr.End
 abbrev pub tables_of : List ℕ → Lowered → Tables
 tables_of grid lowered = with_rows (empty_tables grid lowered) (rows_of lowered)
 
--- the flat program of a program under settings
-abbrev pub flat_tables : List ℕ → Program → List Setting → Tables
-flat_tables grid program settings = tables_of grid (lowered_program program settings)
+-- the flat program of a program under settings: it is for one processor, before it is planned
+abbrev pub flat_tables : Program → List Setting → Tables
+flat_tables program settings = tables_of (1 ∷ 0 ∷ 0 ∷ []) (lowered_program program settings)

@@ -408,6 +408,9 @@ exec_form-returns-in-Return g t c =
 
 -- ---- loops
 
+pub exec_while-loop-ending-init : goal.exec_while-loop-ending-init
+exec_while-loop-ending-init g t c = goes_begin _ _ _
+
 pub exec_while-returns-in-False : goal.exec_while-returns-in-False
 exec_while-returns-in-False g t c =
     let context = context_of c.args.run.now c.args.place.now in
@@ -460,6 +463,9 @@ exec_while-loop-ending-preserved g t c =
     c.loop-ending.left _ _ _ _ c.loop-ending.invariant c.in_ok-truth_of.field-0
     c.in_ok-truth_of.ensures c.in-True.is c.if-left-eq0.false c.exec_all.new.store _ _
     c.in_ok-ending.ending (sym c.is_done.ensures ∙ c.if-not-is_done.false) c.in_ok-ending.ensures
+
+pub exec_repeat-loop-left-init : goal.exec_repeat-loop-left-init
+exec_repeat-loop-left-init g t c = goes_begin _ _ _
 
 pub exec_repeat-returns-in_err-ending : goal.exec_repeat-returns-in_err-ending
 exec_repeat-returns-in_err-ending g t c =
