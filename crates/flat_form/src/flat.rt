@@ -2,6 +2,7 @@
 ghost use Rattle.std.specs.Prelude.{◌≡◌, Ok, OnOk, OnErr, [], ◌∷◌, slice_get};
 ghost use Rattle.node_form.specs.Touch.{IsTouch};
 ghost use Rattle.flat_form.specs.Flat.{IsFlat, with_step};
+ghost use Rattle.flat_form.specs.Row.{patched};
 
 use node_form::{Grid3, Instr, Tables, Thing, Touch};
 use std::alloc::{AllocError, Global};
@@ -79,6 +80,23 @@ impl Flat {
     {
         self.tables.code.push(alloc, step)?;
         Ok(())
+    }
+
+    /// Gives the jump or `unless` with number `at` another goal. All else is as it was.
+    pub fn patch(&mut self, at: u32, goal: u32)
+        requires { IsFlat (patched self.old at goal) }
+        ensures patched { self.new ≡ patched self.old at goal }
+    {
+        let patched = match self.tables.code.get(at as u64) {
+            Some(Instr::Jump { .. }) => Instr::Jump { goal },
+            Some(Instr::Unless { expr, line, .. }) => Instr::Unless {
+                expr: *expr,
+                goal,
+                line: *line,
+            },
+            _ => return,
+        };
+        self.tables.code.set(at as u64, patched);
     }
 
     /// What the row with number `at` does with the thing, as [`Tables::touches`] says.
