@@ -2,6 +2,7 @@
 ghost use Rattle.std.specs.Prelude.{◌≡◌, Ok, OnOk, OnErr, [], ◌∷◌, slice_get};
 ghost use Rattle.node_form.specs.Touch.{IsTouch};
 ghost use Rattle.flat_form.specs.Flat.{IsFlat, with_step};
+ghost use Rattle.flat_form.specs.Row as flat;
 ghost use Rattle.flat_form.specs.Row.{patched};
 
 use node_form::{Grid3, Instr, Tables, Thing, Touch};
@@ -26,6 +27,17 @@ impl Model for Flat {
     ghost view = { λ flat. flat.tables };
 
     ghost invariant = { λ flat. IsFlat flat.tables };
+}
+
+/// The row with another goal, where it has one.
+fn with_goal(row: Instr, goal: u32) -> Instr
+    ensures { result ≡ flat.with_goal goal row }
+{
+    match row {
+        Instr::Jump { .. } => Instr::Jump { goal },
+        Instr::Unless { expr, line, .. } => Instr::Unless { expr, goal, line },
+        other => other,
+    }
 }
 
 impl Flat {
@@ -87,16 +99,10 @@ impl Flat {
         requires { IsFlat (patched self.old at goal) }
         ensures patched { self.new ≡ patched self.old at goal }
     {
-        let patched = match self.tables.code.get(at as u64) {
-            Some(Instr::Jump { .. }) => Instr::Jump { goal },
-            Some(Instr::Unless { expr, line, .. }) => Instr::Unless {
-                expr: *expr,
-                goal,
-                line: *line,
-            },
-            _ => return,
-        };
-        self.tables.code.set(at as u64, patched);
+        if let Some(row) = self.tables.code.get(at as u64) {
+            let patched = with_goal(*row, goal);
+            self.tables.code.set(at as u64, patched);
+        }
     }
 
     /// What the row with number `at` does with the thing, as [`Tables::touches`] says.
