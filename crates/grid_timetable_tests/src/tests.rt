@@ -131,6 +131,64 @@ const PIPELINE: [Told; 8] = [
     },
 ];
 
+/// Which processor's turns decide how long each of the three runs takes.
+const TOTAL_CHAIN: [Segment; 3] = [
+    Segment {
+        processor: 1,
+        first: 1,
+        last: 1,
+        tick: 0,
+    },
+    Segment {
+        processor: 0,
+        first: 1,
+        last: 2,
+        tick: 6,
+    },
+    Segment {
+        processor: 1,
+        first: 2,
+        last: 4,
+        tick: 13,
+    },
+];
+
+const RING_CHAIN: [Segment; 2] = [
+    Segment {
+        processor: 2,
+        first: 1,
+        last: 1,
+        tick: 0,
+    },
+    Segment {
+        processor: 0,
+        first: 2,
+        last: 2,
+        tick: 3,
+    },
+];
+
+const PIPELINE_CHAIN: [Segment; 3] = [
+    Segment {
+        processor: 0,
+        first: 1,
+        last: 1,
+        tick: 0,
+    },
+    Segment {
+        processor: 1,
+        first: 1,
+        last: 4,
+        tick: 2,
+    },
+    Segment {
+        processor: 2,
+        first: 2,
+        last: 2,
+        tick: 7,
+    },
+];
+
 /// Adds the moves, and compares the ticks and the chain.
 fn expect(
     rt: &impl Abort,
@@ -155,63 +213,9 @@ fn expect(
 
 #[test]
 fn tells_ticks_and_chains(rt: HostRuntime) -> Result<(), Fail> {
-    let total = [
-        Segment {
-            processor: 1,
-            first: 1,
-            last: 1,
-            tick: 0,
-        },
-        Segment {
-            processor: 0,
-            first: 1,
-            last: 2,
-            tick: 6,
-        },
-        Segment {
-            processor: 1,
-            first: 2,
-            last: 4,
-            tick: 13,
-        },
-    ];
-    expect(&rt, rt.alloc(), 2, 5, &TOTAL, 16, &total)?;
-    let ring = [
-        Segment {
-            processor: 2,
-            first: 1,
-            last: 1,
-            tick: 0,
-        },
-        Segment {
-            processor: 0,
-            first: 2,
-            last: 2,
-            tick: 3,
-        },
-    ];
-    expect(&rt, rt.alloc(), 3, 2, &RING, 4, &ring)?;
-    let pipeline = [
-        Segment {
-            processor: 0,
-            first: 1,
-            last: 1,
-            tick: 0,
-        },
-        Segment {
-            processor: 1,
-            first: 1,
-            last: 4,
-            tick: 2,
-        },
-        Segment {
-            processor: 2,
-            first: 2,
-            last: 2,
-            tick: 7,
-        },
-    ];
-    expect(&rt, rt.alloc(), 3, 1, &PIPELINE, 8, &pipeline)
+    expect(&rt, rt.alloc(), 2, 5, &TOTAL, 16, &TOTAL_CHAIN)?;
+    expect(&rt, rt.alloc(), 3, 2, &RING, 4, &RING_CHAIN)?;
+    expect(&rt, rt.alloc(), 3, 1, &PIPELINE, 8, &PIPELINE_CHAIN)
 }
 
 /// As many moves as a table takes, and one more.
