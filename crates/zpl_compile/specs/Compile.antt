@@ -2,7 +2,7 @@
 use Rattle.std.specs.Prelude.{Bool, true, false}
 use Rattle.zpl_tree.specs.Syntax.{Program}
 use Rattle.node_form.specs.declared.tables.Tables.{Tables}
-use Rattle.zpl_lower.specs.Tables.{flat_tables}
+use Rattle.zpl_lowering.specs.Tables.{flat_tables}
 use Rattle.temp_norm.specs.Normalised.{normalised}
 use Rattle.bound_check.specs.Checked.{checked}
 use Rattle.fuse_contract.specs.Fusing.{fused}

@@ -20,8 +20,8 @@ use Rattle.node_form.specs.declared.instructions.Instr.TheVariants as instr
 use Rattle.std.specs.Prelude.{not}
 use Rattle.std.specs.List.{list_all, list_any}
 use Rattle.flat_form.specs.Static.{word_has_fringe, has_one_unit, keeps_from, has_shift, mask_of, all_members}
-use Rattle.zpl_lower.specs.Program.{lowered_program}
-use Rattle.zpl_lower.specs.Tables.{flat_tables}
+use Rattle.zpl_lowering.specs.Program.{lowered_program}
+use Rattle.zpl_lowering.specs.Tables.{flat_tables}
 
 abbrev name : List ℕ → ℕ → Name
 name text at = record { text = text; at = at }

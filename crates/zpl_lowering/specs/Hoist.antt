@@ -23,12 +23,12 @@ use Rattle.row_runs.specs.Structured.{Piece}
 use Rattle.node_form.specs.declared.instructions.Instr.TheVariants as instr
 use Rattle.flat_form.specs.Row as row
 use Rattle.flat_form.specs.Row.{Row, Member, Words}
-use Rattle.zpl_lower.specs.Check.{Check}
-use Rattle.zpl_lower.specs.Where.{Stored, Numbers, Slotted}
-use Rattle.zpl_lower.specs.Words.{variable_code}
-use Rattle.zpl_lower.specs.Reference.{is_unmoved, vector_over}
-use Rattle.zpl_lower.specs.Slate as slate
-use Rattle.zpl_lower.specs.Slate.{Slate, Slates, NoSlate, ThenSlate}
+use Rattle.zpl_lowering.specs.Check.{Check}
+use Rattle.zpl_lowering.specs.Where.{Stored, Numbers, Slotted}
+use Rattle.zpl_lowering.specs.Words.{variable_code}
+use Rattle.zpl_lowering.specs.Reference.{is_unmoved, vector_over}
+use Rattle.zpl_lowering.specs.Slate as slate
+use Rattle.zpl_lowering.specs.Slate.{Slate, Slates, NoSlate, ThenSlate}
 
 -- an array of the tables that is read with a shift
 pub record Shifted : Type 0 where

@@ -5,12 +5,12 @@ use Rattle.node_form.specs.Expression.{Expression, words_of}
 use Rattle.row_runs.specs.Structured as piece
 use Rattle.row_runs.specs.Structured.{Piece}
 use Rattle.flat_form.specs.Row.{Row}
-use Rattle.zpl_lower.specs.Check.{Check}
-use Rattle.zpl_lower.specs.Where.{Where, Next}
-use Rattle.zpl_lower.specs.Reference.{Reference, needs, all_conforming, all_referred}
-use Rattle.zpl_lower.specs.Slate.{Slates, Settled, Placed, settled_each}
-use Rattle.zpl_lower.specs.Slate as settle
-use Rattle.zpl_lower.specs.Hoist.{Shifted, Hoisted, Free, all_hoisted}
+use Rattle.zpl_lowering.specs.Check.{Check}
+use Rattle.zpl_lowering.specs.Where.{Where, Next}
+use Rattle.zpl_lowering.specs.Reference.{Reference, needs, all_conforming, all_referred}
+use Rattle.zpl_lowering.specs.Slate.{Slates, Settled, Placed, settled_each}
+use Rattle.zpl_lowering.specs.Slate as settle
+use Rattle.zpl_lowering.specs.Hoist.{Shifted, Hoisted, Free, all_hoisted}
 
 -- ---- code
 

@@ -20,8 +20,8 @@ use Rattle.node_form.specs.declared.instructions.RegionForm.TheVariants as form
 use Rattle.node_form.specs.declared.instructions.Instr.TheVariants as instr
 use Rattle.flat_form.specs.Row as row
 use Rattle.flat_form.specs.Row.{Row, Part}
-use Rattle.zpl_lower.specs.Where.{Slotted, Where, flood_of}
-use Rattle.zpl_lower.specs.Words.{scalar_code}
+use Rattle.zpl_lowering.specs.Where.{Slotted, Where, flood_of}
+use Rattle.zpl_lowering.specs.Words.{scalar_code}
 
 -- ---- brackets that are known before the run
 

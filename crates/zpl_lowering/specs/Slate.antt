@@ -15,8 +15,8 @@ use Rattle.zpl_names.specs.Ranks.{own_rank, operand_rank, inner_rank}
 use Rattle.zpl_meaning.specs.Store.{Thing, Scalar, ArrayAt, Fixed, thing_of}
 use Rattle.zpl_meaning.specs.Regions.{vector_in}
 use Rattle.flat_form.specs.Row.{Row}
-use Rattle.zpl_lower.specs.Where.{Slotted, slotted_at, with_slotted, Where, Next}
-use Rattle.zpl_lower.specs.Bracket.{Opened, bracket}
+use Rattle.zpl_lowering.specs.Where.{Slotted, slotted_at, with_slotted, Where, Next}
+use Rattle.zpl_lowering.specs.Bracket.{Opened, bracket}
 
 -- Variables and arrays by their places in the store. A read that wraps round has the number of the
 -- copy from which it is made, and the first of the slots that the copy is filled with.

@@ -14,10 +14,10 @@ use Rattle.node_form.specs.declared.tables.Tables.{Tables}
 use Rattle.row_runs.specs.Structured.{flattened}
 use Rattle.flat_form.specs.Row as row
 use Rattle.flat_form.specs.Row.{Row, with_rows}
-use Rattle.zpl_lower.specs.Check.{flat_row}
-use Rattle.zpl_lower.specs.Hoist.{Shifted}
-use Rattle.zpl_lower.specs.Lowered.{Lowered}
-use Rattle.zpl_lower.specs.Program.{lowered_program}
+use Rattle.zpl_lowering.specs.Check.{flat_row}
+use Rattle.zpl_lowering.specs.Hoist.{Shifted}
+use Rattle.zpl_lowering.specs.Lowered.{Lowered}
+use Rattle.zpl_lowering.specs.Program.{lowered_program}
 
 -- ---- fringes: the greatest shifts downward and upward, dimension by dimension
 

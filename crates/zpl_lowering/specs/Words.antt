@@ -4,7 +4,7 @@ use Rattle.zpl_nums.specs.Integer.{truth}
 use Rattle.zpl_tree.specs.Syntax.{Expr, Number, Truth, Coord, Named, Shifted, Around, Remap, Call, Paren, Neg, Not, Abs, Pair, Reduce, Scan, Flood}
 use Rattle.zpl_meaning.specs.Store.{Thing, Scalar, ArrayAt, Fixed, thing_of}
 use Rattle.node_form.specs.Expression.{Expression, Constant, Variable, Operation, Negation, Denial, Absolute}
-use Rattle.zpl_lower.specs.Where.{Numbers, Where}
+use Rattle.zpl_lowering.specs.Where.{Numbers, Where}
 
 -- one that has no number, as none of an accepted program, counts as 0
 abbrev pub variable_code : Option ℕ → Expression

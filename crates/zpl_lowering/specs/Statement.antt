@@ -26,13 +26,13 @@ use Rattle.row_runs.specs.Structured as piece
 use Rattle.node_form.specs.declared.instructions.Instr.TheVariants as instr
 use Rattle.flat_form.specs.Row as row
 use Rattle.flat_form.specs.Row.{Row, Member, Words}
-use Rattle.zpl_lower.specs.Check.{Check}
-use Rattle.zpl_lower.specs.Where.{Stored, Numbers, Slotted, SlotCurrents, slotted_at, with_slotted, SlotEdge, Where, Next, reach_of, rank_in, rank_for, line_of}
-use Rattle.zpl_lower.specs.Bracket.{Opened, bracket, computed, region_slot}
-use Rattle.zpl_lower.specs.Slate.{Placed, Slate, Slates, settled, Settled}
-use Rattle.zpl_lower.specs.Reference.{Reference, at_place, refer_to, over_reference, needs, referred}
-use Rattle.zpl_lower.specs.Hoist.{mask_code, array_code, hoisted, Free, kept_rows}
-use Rattle.zpl_lower.specs.Lowered.{Lowered, coded, rows_alone, behind, joined, both, followed, Phased, phased_with, phased, first_left, then_rows, check_of}
+use Rattle.zpl_lowering.specs.Check.{Check}
+use Rattle.zpl_lowering.specs.Where.{Stored, Numbers, Slotted, SlotCurrents, slotted_at, with_slotted, SlotEdge, Where, Next, reach_of, rank_in, rank_for, line_of}
+use Rattle.zpl_lowering.specs.Bracket.{Opened, bracket, computed, region_slot}
+use Rattle.zpl_lowering.specs.Slate.{Placed, Slate, Slates, settled, Settled}
+use Rattle.zpl_lowering.specs.Reference.{Reference, at_place, refer_to, over_reference, needs, referred}
+use Rattle.zpl_lowering.specs.Hoist.{mask_code, array_code, hoisted, Free, kept_rows}
+use Rattle.zpl_lowering.specs.Lowered.{Lowered, coded, rows_alone, behind, joined, both, followed, Phased, phased_with, phased, first_left, then_rows, check_of}
 
 -- ---- where statements are lowered
 

@@ -17,7 +17,7 @@ use Rattle.row_runs.specs.Code.{CodeRow, Straight, Jump, Unless}
 use Rattle.row_runs.specs.Structured.{flattened}
 use Rattle.flat_form.specs.Row as row
 use Rattle.node_form.specs.declared.instructions.Instr.TheVariants as instr
-use Rattle.zpl_lower.specs.Tables.{flat_tables}
+use Rattle.zpl_lowering.specs.Tables.{flat_tables}
 use Rattle.row_runs.specs.Run.{Ends, Result}
 use Rattle.flat_form.specs.Act.{flat_run}
 use Rattle.zpl_meaning.specs.Program.{Meaning, mean_of}

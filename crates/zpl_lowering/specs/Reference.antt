@@ -13,8 +13,8 @@ use Rattle.node_form.specs.declared.instructions.SameKind.TheVariants as same
 use Rattle.node_form.specs.declared.instructions.Instr.TheVariants as instr
 use Rattle.flat_form.specs.Row as row
 use Rattle.flat_form.specs.Row.{Row}
-use Rattle.zpl_lower.specs.Where.{Stored, Numbers, Slotted}
-use Rattle.zpl_lower.specs.Slate.{Slate, Constant, Variable, Coordinate, Element, Wrapped, Unary, Binary, Folded, PartFolded, Scanned, Flooded, Remapped, Slates, NoSlate, ThenSlate}
+use Rattle.zpl_lowering.specs.Where.{Stored, Numbers, Slotted}
+use Rattle.zpl_lowering.specs.Slate.{Slate, Constant, Variable, Coordinate, Element, Wrapped, Unary, Binary, Folded, PartFolded, Scanned, Flooded, Remapped, Slates, NoSlate, ThenSlate}
 
 -- ---- conformity, in text order
 abbrev mutual

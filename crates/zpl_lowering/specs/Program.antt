@@ -22,9 +22,9 @@ use Rattle.row_runs.specs.Structured as piece
 use Rattle.node_form.specs.declared.instructions.Instr.TheVariants as instr
 use Rattle.flat_form.specs.Row as row
 use Rattle.flat_form.specs.Row.{Row}
-use Rattle.zpl_lower.specs.Where.{Stored, Numbers, no_slots, Where, Next, flood_of}
-use Rattle.zpl_lower.specs.Lowered.{Lowered, rows_alone, behind, followed, both}
-use Rattle.zpl_lower.specs.Statement.{Given, Valued, Copied, Referring, Calling, Lowering, lowered}
+use Rattle.zpl_lowering.specs.Where.{Stored, Numbers, no_slots, Where, Next, flood_of}
+use Rattle.zpl_lowering.specs.Lowered.{Lowered, rows_alone, behind, followed, both}
+use Rattle.zpl_lowering.specs.Statement.{Given, Valued, Copied, Referring, Calling, Lowering, lowered}
 
 -- ---- a procedure's variables
 
