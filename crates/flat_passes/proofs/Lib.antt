@@ -1,2 +1,3 @@
 pub mod GroupedLemmas
+pub mod PassLemmas
 pub mod StretchLemmas
