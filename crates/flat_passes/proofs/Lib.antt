@@ -1,3 +1,4 @@
+pub mod FlatRowLemmas
 pub mod GroupedLemmas
 pub mod PassLemmas
 pub mod StretchLemmas
