@@ -1,3 +1,4 @@
 mod Programs
+pub mod KeptLemmas
 pub mod SizeLemmas
 pub mod UndecidedLemmas

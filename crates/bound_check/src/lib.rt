@@ -1,10 +1,13 @@
 //! Checks of places that always pass are left out.
 #![tactic(auto)]
 
-ghost use Rattle.std.specs.Prelude.{◌≡◌, ◌≤◌};
+ghost use Rattle.std.specs.Prelude.{◌≡◌, ℕ, ◌≤◌};
 ghost use Rattle.node_form.specs.declared.tables.Tables.{Tables as Code};
 ghost use Rattle.code_parts.specs.Counts.{code_size, count_of};
 ghost use Rattle.code_parts.specs.Needs.{IsUndecided};
+ghost use Rattle.node_form.specs.Fits.{Fits};
+ghost use Rattle.row_runs.specs.Segments.{Keeps};
+ghost use Rattle.flat_form.specs.Act.{flat_run};
 ghost use Rattle.flat_passes.specs.Rewritten.{has_goal};
 ghost use Rattle.bound_check.specs.Checked.{checked};
 
@@ -15,4 +18,11 @@ pub fn checks_are_left_out()
     ensures size { (code : Code) → code_size (checked code) ≤ code_size code }
     ensures jumps { (code : Code) → count_of has_goal (checked code) ≡ count_of has_goal code }
     ensures rest { (code : Code) → record (checked code) { code = code.code } ≡ code }
+{}
+
+/// A flat program shows without these checks what it shows with them, for every bound on its jumps
+/// and on the turns of loops in its groups, unless it comes to a row that may not stand there.
+pub fn checks_left_out_keep_runs()
+    ensures { (code : Code) → Fits code → (a n : ℕ) →
+        Keeps (flat_run code a n) (flat_run (checked code) a n) }
 {}

@@ -111,7 +111,7 @@ settled_steps true effect steps = steps
 settled_steps false effect steps = Stepping
 
 module _ (tables : Tables) (n : ℕ) where
-  abbrev does : Instr → Whole → Effect Whole
+  abbrev pub does : Instr → Whole → Effect Whole
   does row whole = act tables n (inlined tables row) whole
 
   abbrev settled : Instr → Whole → Bool
@@ -125,7 +125,7 @@ module _ (tables : Tables) (n : ℕ) where
       (no_leap (with_row (without_rows tables) row) (registers_of whole)
       (coded (without_rows tables) row) e)
 
-  steps_in : (row : Instr) → ends_stretch row ≡ false → (whole : Whole) → IsStep (does row whole)
+  pub steps_in : (row : Instr) → ends_stretch row ≡ false → (whole : Whole) → IsStep (does row whole)
   steps_in (instr.Set scalar expr line) e whole =
       settled_steps (settled (instr.Set scalar expr line) whole)
       (controlled whole (control_of tables (inlined tables (instr.Set scalar expr line)) whole))
