@@ -1,2 +1,4 @@
 pub mod GroupedLemmas
+pub mod InPlaceLemmas
+pub mod NumberLemmas
 pub mod StretchLemmas

@@ -1,2 +1,4 @@
+pub mod Draft
 pub mod Grouped
+pub mod Numbers
 pub mod Rewritten
