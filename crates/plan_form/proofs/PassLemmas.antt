@@ -63,10 +63,10 @@ laid_one rows numbers (Exchange items) =
     let first : 0 + count ≡ count = omega arith in
     let last : (0 + count) + 1 - 1 ≡ count = omega arith in
     let code : numbered_from 0 (rows ++ more)
-        ≡ numbered_from 0 rows ++ (instr.Start count ∷ instr.Finish count ∷ []) =
-        numbered_both 0 rows more
-        ∙ (ap (λ k. numbered_from 0 rows ++ (instr.Start k ∷ instr.Finish ((0 + count) + 1 - 1) ∷ [])) first
-        ∙ ap (λ k. numbered_from 0 rows ++ (instr.Start count ∷ instr.Finish k ∷ [])) last) in
+    ≡ numbered_from 0 rows ++ (instr.Start count ∷ instr.Finish count ∷ []) =
+    numbered_both 0 rows more
+    ∙ (ap (λ k. numbered_from 0 rows ++ (instr.Start k ∷ instr.Finish ((0 + count) + 1 - 1) ∷ [])) first
+    ∙ ap (λ k. numbered_from 0 rows ++ (instr.Start count ∷ instr.Finish k ∷ [])) last) in
     ap (λ l. record { code = l; exchanges = exchanges_in rows ++ items ∷ []; numbers = numbers })
     (sym code)
     ∙ ap (λ l. record { code = numbered_from 0 (rows ++ more); exchanges = l; numbers = numbers })
@@ -227,8 +227,8 @@ module _ {F : Type 0} (tables : Tables) (nothing : F) (step : F → Instr → Li
       → slice_get tables.code at ≡ Some row → (b : Bool) → is_goal tables.code at ≡ b
       → IsWalked draft facts at
       → IsWalked (written (with_number (written draft (front_units b facts)))
-          (put_units (ends_stretch row) (known b facts) row))
-          (learnt (ends_stretch row) (known b facts) row) (at + 1)
+      (put_units (ends_stretch row) (known b facts) row))
+      (learnt (ends_stretch row) (known b facts) row) (at + 1)
   walk_steps draft facts at row there b goal w = record {
     rows = (w.rows ++ front) ++ behind;
     so_far = w.so_far ++ length (w.rows ++ front) ∷ [];
@@ -267,8 +267,8 @@ module _ {F : Type 0} (tables : Tables) (nothing : F) (step : F → Instr → Li
       first =
           ap (walk (λ g. g) facts at) (dropped tables.code at row there)
           ∙ (ap (λ b. in_front b facts ++ (put (ends_stretch row) (λ g. g) (known b facts) row
-              ++ walk (λ g. g) (learnt (ends_stretch row) (known b facts) row) (at + 1)
-              (drop (at + 1) tables.code))) goal
+          ++ walk (λ g. g) (learnt (ends_stretch row) (known b facts) row) (at + 1)
+          (drop (at + 1) tables.code))) goal
           ∙ (ap (λ l. l ++ (put (ends_stretch row) (λ g. g) (known b facts) row ++ rest))
           (front_is b facts)
           ∙ ap (λ l. front ++ (l ++ rest)) (put_is (ends_stretch row) (known b facts) row)))
@@ -279,17 +279,17 @@ module _ {F : Type 0} (tables : Tables) (nothing : F) (step : F → Instr → Li
       first_number =
           ap (numbers facts at (length w.rows)) (dropped tables.code at row there)
           ∙ (ap (λ b. (length w.rows + length (in_front b facts))
-              ∷ numbers (learnt (ends_stretch row) (known b facts) row) (at + 1)
-              ((length w.rows + length (in_front b facts))
-              + length (put (ends_stretch row) (λ g. g) (known b facts) row))
-              (drop (at + 1) tables.code)) goal
+          ∷ numbers (learnt (ends_stretch row) (known b facts) row) (at + 1)
+          ((length w.rows + length (in_front b facts))
+          + length (put (ends_stretch row) (λ g. g) (known b facts) row))
+          (drop (at + 1) tables.code)) goal
           ∙ (ap (λ l. (length w.rows + length l)
-              ∷ numbers next (at + 1) ((length w.rows + length l)
-              + length (put (ends_stretch row) (λ g. g) (known b facts) row))
-              (drop (at + 1) tables.code)) (front_is b facts)
+          ∷ numbers next (at + 1) ((length w.rows + length l)
+          + length (put (ends_stretch row) (λ g. g) (known b facts) row))
+          (drop (at + 1) tables.code)) (front_is b facts)
           ∙ (ap (λ l. (length w.rows + length front)
-              ∷ numbers next (at + 1) ((length w.rows + length front) + length l)
-              (drop (at + 1) tables.code)) (put_is (ends_stretch row) (known b facts) row)
+          ∷ numbers next (at + 1) ((length w.rows + length front) + length l)
+          (drop (at + 1) tables.code)) (put_is (ends_stretch row) (known b facts) row)
           ∙ (ap (λ n. n ∷ numbers next (at + 1) (n + length behind) (drop (at + 1) tables.code))
           (sym (length-append w.rows front))
           ∙ ap (λ n. length (w.rows ++ front) ∷ numbers next (at + 1) n (drop (at + 1) tables.code))

@@ -52,8 +52,8 @@ module _ {F Old New : Type 0} (ends : Old → Bool) (is_goal : ℕ → Bool) (no
   numbers facts at n (row ∷ rows) =
       (n + length (in_front (is_goal at) facts))
       ∷ numbers (facts_behind facts at row) (at + 1)
-          ((n + length (in_front (is_goal at) facts))
-          + length (put (ends row) (λ g. g) (known (is_goal at) facts) row)) rows
+      ((n + length (in_front (is_goal at) facts))
+      + length (put (ends row) (λ g. g) (known (is_goal at) facts) row)) rows
 
   -- ---- the same without a look at whether the first row is a goal
   abbrev walk_on : (ℕ → ℕ) → F → ℕ → List Old → List New
@@ -65,7 +65,7 @@ module _ {F Old New : Type 0} (ends : Old → Bool) (is_goal : ℕ → Bool) (no
   numbers_on facts at n [] = []
   numbers_on facts at n (row ∷ rows) =
       n ∷ numbers (learnt (ends row) facts row) (at + 1)
-          (n + length (put (ends row) (λ g. g) facts row)) rows
+      (n + length (put (ends row) (λ g. g) facts row)) rows
 
   module _ (none : close nothing ≡ []) where
     in_front_none : (b : Bool) → in_front b nothing ≡ []
@@ -144,14 +144,14 @@ module _ {F Old New : Type 0} (ends : Old → Bool) (is_goal : ℕ → Bool) (no
             ∙ ap (λ l. step facts row ++ l)
             (ap (λ l. close (learn facts row) ++ l) (news_from_none moved rest ∙ later nothing)
             ∙ (ap (λ b. in_front b (learn facts row)
-                ++ walk_on moved (known b (learn facts row)) (at + 1) rows) (sym is)
+            ++ walk_on moved (known b (learn facts row)) (at + 1) rows) (sym is)
             ∙ sym (walks_on moved (learn facts row) (at + 1) rows))))
         by false false is rest later =
             joined rest
             ∙ ap (λ l. step facts row ++ l)
             (later (learn facts row)
             ∙ (ap (λ b. in_front b (learn facts row)
-                ++ walk_on moved (known b (learn facts row)) (at + 1) rows) (sym is)
+            ++ walk_on moved (known b (learn facts row)) (at + 1) rows) (sym is)
             ∙ sym (walks_on moved (learn facts row) (at + 1) rows)))
 
     pub passed_walk : (code : List Old)
@@ -175,9 +175,9 @@ module _ {F Old New : Type 0} (ends : Old → Bool) (is_goal : ℕ → Bool) (no
     placed_from facts (stretch ∷ stretches) zero = 0
     placed_from facts (stretch ∷ stretches) (suc g) =
         length (closed facts stretch.front
-            ++ as_list (option_map (last (λ g. g)) stretch.last))
+        ++ as_list (option_map (last (λ g. g)) stretch.last))
         + relocated (segments_by (closed nothing) last (λ g. g) stretches)
-            (suc g - length (rows_of stretch))
+        (suc g - length (rows_of stretch))
 
     placed_none : (stretches : List (Stretch Old)) (g : ℕ)
         → relocated (segments_by (closed nothing) last (λ g. g) stretches) g
@@ -231,7 +231,7 @@ module _ {F Old New : Type 0} (ends : Old → Bool) (is_goal : ℕ → Bool) (no
 
     placed : (facts : F) (at n : ℕ) (rows : List Old) (g : ℕ) → (g ≡ 0) ⊎ IsPlace at rows g
         → number_among (numbers_on facts at n rows)
-            (n + length (walk_on (λ g. g) facts at rows)) g
+        (n + length (walk_on (λ g. g) facts at rows)) g
         ≡ n + placed_from facts (cut ends is_goal at rows) g
     placed facts at n [] g place = refl
     placed facts at n (row ∷ rows) zero place =
@@ -294,9 +294,9 @@ module _ {F Old New : Type 0} (ends : Old → Bool) (is_goal : ℕ → Bool) (no
             ≡ n + placed_from facts (cut_row e b row rest) (suc g)
         by true b is rest first =
             ap (λ l. ((n + length (close facts ++ last (λ g. g) row ∷ [])) + length l)
-                + placed_from (known b nothing) rest g) (in_front_none b)
+            + placed_from (known b nothing) rest g) (in_front_none b)
             ∙ (ap (λ f. ((n + length (close facts ++ last (λ g. g) row ∷ [])) + 0)
-                + placed_from f rest g) (known_none b)
+            + placed_from f rest g) (known_none b)
             ∙ omega (
               arith,
               ap (λ k. relocated (segments_by (closed nothing) last (λ g. g) rest) k) one,
