@@ -1,6 +1,10 @@
 //! Loops that read with a shift what they put go through a temporary.
 #![tactic(auto)]
 
+mod loops;
+
+pub use loops::normalise;
+
 ghost use Rattle.std.specs.Prelude.{◌≡◌, ◌+◌, ◌*◌, ◌≤◌, length, sum_by};
 ghost use Rattle.node_form.specs.Fits.{Fits};
 ghost use Rattle.node_form.specs.declared.tables.Tables.{Tables as Code};
