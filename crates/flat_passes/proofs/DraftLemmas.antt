@@ -82,8 +82,14 @@ module _ (step : Instr → List Grouped) (code : List Instr) where
     pub places : numbers ++ numbers_from steps (length draft.code) (drop at code)
         ≡ numbers_from steps 0 code
 
-  pub ahead_first : IsAhead 0 empty_draft []
-  ahead_first = record { rows = refl; places = refl }
+  pub ahead_first : (draft : Draft) (numbers : List ℕ) → draft ≡ empty_draft → numbers ≡ []
+      → IsAhead 0 draft numbers
+  ahead_first draft numbers no_draft no_numbers = record {
+    rows = ap (λ d. with_rows d (flat_map step code)) no_draft;
+    places =
+        ap (λ n. n ++ numbers_from steps (length draft.code) code) no_numbers
+        ∙ ap (λ (d : Draft). numbers_from steps (length d.code) code) no_draft;
+  }
 
   pub ahead_more : (at : ℕ) (row : Instr) (draft after : Draft) (numbers noted : List ℕ)
       → slice_get code at ≡ Some row → IsAhead at draft numbers
@@ -92,11 +98,11 @@ module _ (step : Instr → List Grouped) (code : List Instr) where
   ahead_more at row draft after numbers noted here ahead written note =
       let left : drop at code ≡ row ∷ drop (at + 1) code = rest_at code at row here in
       let rows : with_rows draft (step row ++ flat_map step (drop (at + 1) code))
-          ≡ with_rows empty_draft (flat_map step code) =
+      ≡ with_rows empty_draft (flat_map step code) =
       ap (λ rest. with_rows draft (flat_map step rest)) (sym left) ∙ ahead.rows in
       let places : numbers ++ (length draft.code
-          ∷ numbers_from steps (length draft.code + steps row) (drop (at + 1) code))
-          ≡ numbers_from steps 0 code =
+      ∷ numbers_from steps (length draft.code + steps row) (drop (at + 1) code))
+      ≡ numbers_from steps 0 code =
       ap (λ rest. numbers ++ numbers_from steps (length draft.code) rest) (sym left)
       ∙ ahead.places in
       let long : length after.code ≡ length draft.code + steps row =

@@ -2,8 +2,8 @@
 #![tactic(auto)]
 
 mod loops;
-
-pub use loops::normalise;
+mod reads;
+mod temporaries;
 
 ghost use Rattle.std.specs.Prelude.{◌≡◌, ◌+◌, ◌*◌, ◌≤◌, length, sum_by};
 ghost use Rattle.node_form.specs.Fits.{Fits};
@@ -13,6 +13,8 @@ ghost use Rattle.flat_passes.specs.Grouped.{loop_members};
 ghost use Rattle.flat_passes.specs.Rewritten.{has_goal};
 ghost use Rattle.temp_norm.specs.Normalised.{IsNormal, ReadThemselvesAlone, loops_on_themselves};
 ghost use Rattle.temp_norm.specs.Normalised.{normalised, temporaries};
+
+pub use loops::normalise;
 
 /// No group reads with a shift what it puts, where each that did had one member, with a mask that
 /// doesn't. There are at most two rows more for each loop whose group did. Where no group is run by
