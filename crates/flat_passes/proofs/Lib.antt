@@ -1,3 +1,4 @@
+pub mod DraftLemmas
 pub mod GroupedLemmas
 pub mod InPlaceLemmas
 pub mod NumberLemmas
