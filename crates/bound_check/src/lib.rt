@@ -1,6 +1,10 @@
 //! Checks of places that always pass are left out.
 #![tactic(auto)]
 
+mod checks;
+
+pub use checks::place_checks;
+
 ghost use Rattle.std.specs.Prelude.{◌≡◌, ℕ, ◌≤◌};
 ghost use Rattle.node_form.specs.declared.tables.Tables.{Tables as Code};
 ghost use Rattle.code_parts.specs.Counts.{code_size, count_of};

@@ -1,5 +1,5 @@
 //! The layout of a program's stored arrays.
-ghost use Rattle.std.specs.Prelude.{◌≡◌, IfOk};
+ghost use Rattle.std.specs.Prelude.{◌≡◌, ◌↔◌, IfOk, IsTrue};
 ghost use Rattle.grid_meaning.specs.Stored.{arrangement_of};
 ghost use Rattle.code_layout.specs.Room.{HasRoom};
 
@@ -20,5 +20,18 @@ pub fn layout_of(alloc: Global, code: &NodeProgram) -> Result<Layout, AllocError
         Ok(layout) => Ok(layout),
         Err(LayoutFault::NoMemory) => Err(AllocError),
         Err(LayoutFault::TooMuchStorage) => unreachable!(),
+    }
+}
+
+/// Whether the processors of the grid have room for the program's stored arrays.
+pub fn has_room(alloc: Global, code: &NodeProgram) -> Result<bool, AllocError>
+    ensures { IfOk result (λ room. IsTrue room ↔ HasRoom code.now) }
+{
+    let tables = code.tables();
+    let boxes = boxes_of(alloc, tables)?;
+    match Layout::new(alloc, grid_of(&tables.grid), &boxes) {
+        Ok(_) => Ok(true),
+        Err(LayoutFault::TooMuchStorage) => Ok(false),
+        Err(LayoutFault::NoMemory) => Err(AllocError),
     }
 }

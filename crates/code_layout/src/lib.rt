@@ -5,4 +5,4 @@ mod boxes;
 mod grids;
 mod layouts;
 
-pub use layouts::layout_of;
+pub use layouts::{has_room, layout_of};

@@ -5,12 +5,13 @@
 use Rattle.std.specs.Prelude.{ℕ, Bool, true, false, ◌||◌, List, [], ◌∷◌, ◌++◌, flat_map, fold, map}
 use Rattle.std.specs.List.{list_any}
 use Rattle.node_form.specs.declared.arrays.Item.{Item}
+use Rattle.node_form.specs.declared.instructions.Instr.{Instr}
 use Rattle.node_form.specs.declared.instructions.Instr.TheVariants as instr
 use Rattle.node_form.specs.declared.tables.Tables.{Tables}
 use Rattle.node_form.specs.declared.words.ExprOp.{ExprOp}
 use Rattle.node_form.specs.declared.words.ExprOp.TheVariants as word
 use Rattle.code_parts.specs.Uses.{divides_in, group_words, has_loops}
-use Rattle.plan_form.specs.Units.{PlanUnit, Exchange, Single, with_item}
+use Rattle.plan_form.specs.Units.{PlanUnit, Exchange, Single, unit_of, with_item}
 use Rattle.plan_form.specs.Rewrite.{with_units}
 
 -- ---- exchanges
@@ -20,10 +21,17 @@ needed_by slot (word.Shifted array shift) =
     record { array = array; slot = slot; shift = shift } ∷ []
 needed_by slot other = []
 
+-- items with those that words need, each once
+abbrev pub with_needed : ℕ → List Item → List ExprOp → List Item
+with_needed slot items words = fold with_item items (flat_map (needed_by slot) words)
+
 -- each different one, in the order of the group's members
 abbrev pub needs_of : Tables → ℕ → ℕ → List Item
-needs_of tables slot group =
-    fold with_item [] (flat_map (needed_by slot) (group_words tables group))
+needs_of tables slot group = with_needed slot [] (group_words tables group)
+
+-- an exchange of one item
+abbrev pub needed_alone : Item → PlanUnit
+needed_alone item = Exchange (item ∷ [])
 
 -- ---- votes
 -- a group may divide by zero, or has `while` or `repeat`
@@ -38,11 +46,17 @@ vote_if false group = []
 -- ---- the plan of a flat program
 -- directly in front of a loop an exchange of one item for each that it needs, and directly behind
 -- it its vote
-abbrev pub with_needs : Tables → PlanUnit → List PlanUnit
-with_needs tables (Single (instr.Loop slot group)) =
-    map (λ item. Exchange (item ∷ [])) (needs_of tables slot group)
+abbrev pub loop_with_needs : Tables → ℕ → ℕ → List PlanUnit
+loop_with_needs tables slot group =
+    map needed_alone (needs_of tables slot group)
     ++ Single (instr.Loop slot group) ∷ vote_if (is_voted_on tables group) group
+
+abbrev pub with_needs : Tables → PlanUnit → List PlanUnit
+with_needs tables (Single (instr.Loop slot group)) = loop_with_needs tables slot group
 with_needs tables unit = unit ∷ []
+
+abbrev pub row_with_needs : Tables → Instr → List PlanUnit
+row_with_needs tables row = flat_map (with_needs tables) (unit_of tables row)
 
 -- for a grid
 abbrev pub planned : List ℕ → Tables → Tables

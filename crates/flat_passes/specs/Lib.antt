@@ -1,3 +1,5 @@
+pub mod Draft
 pub mod Grouped
 pub mod Kept
+pub mod Numbers
 pub mod Rewritten

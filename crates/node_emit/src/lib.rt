@@ -1,6 +1,8 @@
 //! From plans to node code.
 #![tactic(auto)]
 
+mod rows;
+
 ghost use Rattle.std.specs.Prelude.{◌≡◌, ℕ, true, Bool, List, Option};
 ghost use Rattle.node_form.specs.declared.tables.Tables.{Tables as Code};
 ghost use Rattle.code_parts.specs.Counts.{GoesByTrees, code_size, count_of, is_counted, is_loop};
@@ -9,6 +11,8 @@ ghost use Rattle.code_parts.specs.Early.{IsEarly};
 ghost use Rattle.code_parts.specs.Exchanged.{HasNoRepeats, IsMerged};
 ghost use Rattle.code_parts.specs.Fused.{IsFused};
 ghost use Rattle.node_emit.specs.Emit.{emitted};
+
+pub use rows::emit;
 
 /// Where that is asked for no vote and no fold goes by the first processor. The code is as large as
 /// the plan, with as many rows that count, votes and loops; and what the plan was free of, the code

@@ -1,3 +1,5 @@
+pub mod Draft
+pub mod Items
 pub mod Plan
 pub mod Rewrite
 pub mod Units

@@ -1,5 +1,6 @@
 pub mod JumpLemmas
 pub mod NormalLemmas
+pub mod PieceLemmas
 mod Programs
 pub mod RowLemmas
 pub mod SizeLemmas

@@ -1,1 +1,2 @@
 pub mod Normalised
+pub mod Pieces

@@ -1,6 +1,10 @@
 //! Loops that read with a shift what they put go through a temporary.
 #![tactic(auto)]
 
+mod loops;
+mod reads;
+mod temporaries;
+
 ghost use Rattle.std.specs.Prelude.{◌≡◌, ◌+◌, ◌*◌, ◌≤◌, length, sum_by};
 ghost use Rattle.node_form.specs.Fits.{Fits};
 ghost use Rattle.node_form.specs.declared.tables.Tables.{Tables as Code};
@@ -9,6 +13,8 @@ ghost use Rattle.flat_passes.specs.Grouped.{loop_members};
 ghost use Rattle.flat_passes.specs.Rewritten.{has_goal};
 ghost use Rattle.temp_norm.specs.Normalised.{IsNormal, ReadThemselvesAlone, loops_on_themselves};
 ghost use Rattle.temp_norm.specs.Normalised.{normalised, temporaries};
+
+pub use loops::normalise;
 
 /// No group reads with a shift what it puts, where each that did had one member, with a mask that
 /// doesn't. There are at most two rows more for each loop whose group did. Where no group is run by

@@ -1,0 +1,45 @@
+//! The node code of a flat program.
+ghost use Rattle.std.specs.Prelude.{◌≡◌, IfErr, IfOk, OnOk};
+ghost use Rattle.node_form.specs.Fits.{Fits};
+ghost use Rattle.code_layout.specs.Room.{HasRoom};
+ghost use Rattle.flat_code.specs.Passes.{Refuses, node_tables};
+
+use crate::faults::FlatFault;
+use bound_check::place_checks;
+use code_layout::has_room;
+use comm_needs::add_needs;
+use node_emit::emit;
+use node_form::{Grid3, NodeProgram, Tables};
+use std::alloc::Global;
+use temp_norm::normalise;
+
+/// The node code of a flat program, for a grid: its passes one behind the other. They take a time
+/// linear in the program.
+pub fn code_of(alloc: Global, flat: Tables, grid: &Grid3) -> Result<NodeProgram, FlatFault>
+    ensures code { IfOk result (λ code. code ≡ node_tables grid.now flat) }
+    ensures fits { OnOk result (Fits (node_tables grid.now flat)) }
+    ensures room { OnOk result (HasRoom (node_tables grid.now flat)) }
+    ensures refused { IfErr result (Refuses (node_tables grid.now flat)) }
+{
+    let normal = normalise(alloc, flat)?;
+    let checked = place_checks(alloc, normal)?;
+    let plan = add_needs(alloc, checked, grid)?;
+    program_of(alloc, emit(plan, grid, false))
+}
+
+// The program of tables that fit, and for whose arrays there is room.
+fn program_of(alloc: Global, tables: Tables) -> Result<NodeProgram, FlatFault>
+    ensures code { IfOk result (λ code. code ≡ tables) }
+    ensures fits { OnOk result (Fits tables) }
+    ensures room { OnOk result (HasRoom tables) }
+    ensures refused { IfErr result (Refuses tables) }
+{
+    if !tables.fits_tables() {
+        return Err(FlatFault::NotBuilt);
+    }
+    let code = NodeProgram::of(tables);
+    if !has_room(alloc, &code)? {
+        return Err(FlatFault::TooMuchStorage);
+    }
+    Ok(code)
+}

