@@ -14,9 +14,9 @@ use Rattle.zpl_lowering.specs.Hoist.{Shifted}
 use Rattle.zpl_lowering.specs.Lowered.{Lowered, both, joined, rows_alone}
 use Rattle.zpl_lowering.specs.Program.{out_of_call}
 use Rattle.zpl_lowering.specs.Tables.{empty_tables, tables_of}
-use Rattle.lower_draft.specs.Drafted.{Drafted, all_pushed, begun, closed, empty, finished, grown, looped, no_rows, opened, rows_from, turned, until, with_array, with_scalars, with_shift, with_slot, with_temp}
+use Rattle.lower_draft.specs.Drafted.{Drafted, all_pushed, begun, closed, empty, finished, grown, looped, no_rows, opened, pushed, rows_from, turned, until, with_array, with_scalars, with_shift, with_slot, with_temp}
 use Rattle.lower_draft.specs.Call.{call_at, entered, left}
-use Rattle.lower_draft.proofs.LaidLemmas.{laid, laid_choose, laid_length, laid_repeat, laid_rows, laid_then, laid_when, laid_while, rows_behind}
+use Rattle.lower_draft.proofs.LaidLemmas.{laid, laid_choose, laid_for, laid_length, laid_repeat, laid_rows, laid_then, laid_when, laid_while, rows_behind}
 
 -- ---- equal parts
 
@@ -136,6 +136,18 @@ repeat_grown draft body head check =
     (laid_repeat draft.tables body.code head.code check)
     ∙ owned_by_both draft body head (piece.Repeat body.code head.code check)
     (laid draft.tables (piece.Repeat body.code head.code check))
+
+-- such a loop within a test, where each turn ends with a row, as a `for` has it
+pub for_grown : (draft : Drafted) (enters done : Check) (inside : Lowered) (step : Row) →
+    closed (until (pushed (grown (begun (opened draft enters)) inside) step)
+    (length (opened draft enters).tables.code + 1) done) (length draft.tables.code)
+    ≡ grown draft (record inside {
+      code = piece.When enters (piece.Repeat
+          (piece.Then inside.code (piece.Rows (step ∷ []))) (piece.Rows []) done);
+    })
+for_grown draft enters done inside step =
+    ap (λ (t : Tables). record (grown draft inside) { tables = t })
+    (laid_for draft.tables enters done inside.code step)
 
 -- ---- rows
 

@@ -31,7 +31,7 @@ rows_length tables (one ∷ rows) =
 
 -- ---- code
 
-map_length : {A B : Type 0} (f : A → B) (xs : List A) → length (map f xs) ≡ length xs
+pub map_length : {A B : Type 0} (f : A → B) (xs : List A) → length (map f xs) ≡ length xs
 map_length f [] = refl
 map_length f (x ∷ xs) = ap suc (map_length f xs)
 
@@ -151,11 +151,11 @@ laid_choose tables check one other =
     let rows = test check from ∷ map flat_row first in
     let side = with_rows tables rows in
     let here : length side.code ≡ at + 1 + size one =
-      rows_length tables rows ∙ omega (arith, code_length (at + 1) one) in
+    rows_length tables rows ∙ omega (arith, code_length (at + 1) one) in
     let there : length (laid begun one).code ≡ length side.code =
-      omega (arith, laid_length begun one, row_length tables (test check 0), here) in
+    omega (arith, laid_length begun one, row_length tables (test check 0), here) in
     let turn : closing (with_row (laid begun one) (jump 0)) at ≡ with_row side (jump 0) =
-      laid_turn tables check one 0 ∙ sym (rows_behind tables rows (jump 0 ∷ [])) in
+    laid_turn tables check one 0 ∙ sym (rows_behind tables rows (jump 0 ∷ [])) in
     ap (λ t. closing (laid t other) (length (laid begun one).code)) turn
     ∙ ap (closing (laid (with_row side (jump 0)) other)) there
     ∙ closing_to (laid (with_row side (jump 0)) other) (length side.code) goal
@@ -181,11 +181,33 @@ laid_repeat tables body head check =
     (laid_at begun (at + 1) body (row_length tables (jump (at + 1))))
     ∙ ap (λ t. with_row t (test check (at + 1)))
     (laid_at (with_rows begun (rows_from (at + 1) body)) (at + size body + 1) head
-    (omega (arith, rows_length begun (rows_from (at + 1) body), code_length (at + 1) body,
-    row_length tables (jump (at + 1)))))
+    (omega (
+      arith,
+      rows_length begun (rows_from (at + 1) body),
+      code_length (at + 1) body,
+      row_length tables (jump (at + 1)),
+    )))
     ∙ ap (λ t. with_row t (test check (at + 1)))
     (rows_behind begun (map flat_row inside) (map flat_row before))
     ∙ rows_behind begun (map flat_row inside ++ map flat_row before) (map flat_row back)
     ∙ ap (with_rows begun) (append_assoc (map flat_row inside) (map flat_row before) (map flat_row back))
     ∙ sym (ap (λ rows. with_rows begun (map flat_row inside ++ rows)) (map_append flat_row before back))
     ∙ sym (ap (with_rows begun) (map_append flat_row inside (before ++ back)))
+
+-- a loop that tests behind its turns within a test, where each turn ends with a row
+pub laid_for : (tables : Tables) (enters done : Check) (inside : Piece Row Check) (step : Row) →
+    closing (with_row (with_row (laid (with_row (with_row tables (test enters 0))
+    (jump (length (with_row tables (test enters 0)).code + 1))) inside) step)
+    (test done (length (with_row tables (test enters 0)).code + 1))) (length tables.code)
+    ≡ laid tables (When enters (Repeat (Then inside (Rows (step ∷ []))) (Rows []) done))
+laid_for tables enters done inside step =
+    let begun = with_row tables (test enters 0) in
+    let from = with_row begun (jump (length begun.code + 1)) in
+    let turn : Piece Row Check = Then inside (Rows (step ∷ [])) in
+    let ended : laid (laid from turn) (Rows []) ≡ with_row (laid from inside) step =
+    laid_rows (laid from turn) [] ∙ sym (laid_then from inside (Rows (step ∷ [])))
+    ∙ laid_rows (laid from inside) (step ∷ []) in
+    ap (λ (t : Tables). closing t (length tables.code))
+    (sym (ap (λ (t : Tables). with_row t (test done (length begun.code + 1))) ended)
+    ∙ laid_repeat begun turn (Rows []) done)
+    ∙ laid_when tables enters (Repeat turn (Rows []) done)
