@@ -1,10 +1,12 @@
 -- Fringes, and the dimensions of stored arrays.
-use Rattle.std.proofs.Common.{◌≡◌, ℕ, zero, suc, ◌+◌, ◌≤◌, ℤ, pos, neg_ℤ, List, [], ◌∷◌, get_or, length, refl, sym, ap, ◌∙◌, arith}
+use Rattle.std.proofs.Common.{◌≡◌, ℕ, zero, suc, ◌≤◌, ℤ, pos, neg_ℤ, List, [], ◌∷◌, get_or, length}
+use Rattle.std.proofs.Common.{refl, sym, ap, ◌∙◌, arith}
 use Rattle.std.specs.Int.{int_max}
 use Rattle.zpl_region.specs.declared.dims.Dim.{Dim}
 use Rattle.zpl_region.specs.declared.dims.Dim.TheVariants as dim
 use Rattle.node_form.specs.declared.arrays.ArrayDim.{ArrayDim}
-use Rattle.zpl_lowering.specs.Tables.{Fringe, all_wider, no_fringe, no_range, stored_dim, stored_dims, wider}
+use Rattle.zpl_lowering.specs.Tables.{Fringe, all_wider, no_fringe, no_range, stored_dim}
+use Rattle.zpl_lowering.specs.Tables.{stored_dims, wider}
 use Rattle.lower_draft.proofs.PushLemmas.{three_of}
 
 pub stored_all : (rank : ℕ) (a b c : Dim) (x y z : Fringe) → 3 ≤ rank →
@@ -73,7 +75,8 @@ pub two_listed : (rank : ℕ) (dims : List Dim) (fringes : List Fringe) (one two
     one ∷ two ∷ no_range ∷ [] ≡ stored_dims rank dims fringes
 two_listed rank dims fringes one two a b x y wide long is one-is two-is =
     ap (λ (d : ArrayDim). d ∷ two ∷ no_range ∷ []) one-is
-    ∙ ap (λ (d : ArrayDim). stored_dim (get_or dims 0 a) (get_or fringes 0 x) ∷ d ∷ no_range ∷ []) two-is
+    ∙ ap (λ (d : ArrayDim). stored_dim (get_or dims 0 a) (get_or fringes 0 x) ∷ d ∷ no_range ∷ [])
+    two-is
     ∙ sym (spelled rank dims fringes a b b x y y wide long
     ∙ stored_two rank (get_or dims 0 a) (get_or dims 1 b) (get_or dims 2 b)
     (get_or fringes 0 x) (get_or fringes 1 y) (get_or fringes 2 y) is)
@@ -85,7 +88,8 @@ pub wider_by : (fringe : Fringe) (low high d lower upper : ℤ) →
     upper ≡ int_max high d → record { low = lower; high = upper } ≡ wider fringe d
 wider_by fringe low high d lower upper is lower-is upper-is =
     ap (λ (x : ℤ). let made : Fringe = record { low = x; high = upper } in made) lower-is
-    ∙ ap (λ (x : ℤ). let made : Fringe = record { low = int_max low (neg_ℤ d); high = x } in made) upper-is
+    ∙ ap (λ (x : ℤ). let made : Fringe = record { low = int_max low (neg_ℤ d); high = x } in made)
+    upper-is
     ∙ ap (λ (one : Fringe). wider one d) is
 
 pub each_wider : (fringes : List Fringe) (shift : List ℤ) (x y z : Fringe) (d e f : ℤ)
@@ -93,15 +97,25 @@ pub each_wider : (fringes : List Fringe) (shift : List ℤ) (x y z : Fringe) (d 
     d ≡ get_or shift 0 (pos 0) → e ≡ get_or shift 1 (pos 0) → f ≡ get_or shift 2 (pos 0) →
     a ≡ wider (get_or fringes 0 x) d → b ≡ wider (get_or fringes 1 y) e →
     c ≡ wider (get_or fringes 2 z) f → a ∷ b ∷ c ∷ [] ≡ all_wider fringes shift
-each_wider (p ∷ q ∷ r ∷ []) (u ∷ v ∷ w ∷ []) x y z d e f a b c wide long d-is e-is f-is a-is b-is c-is =
+each_wider (p ∷ q ∷ r ∷ []) (u ∷ v ∷ w ∷ []) x y z d e f a b c wide long d-is e-is f-is a-is b-is
+    c-is =
     ap (λ (one : Fringe). one ∷ b ∷ c ∷ []) (a-is ∙ ap (wider p) d-is)
     ∙ ap (λ (one : Fringe). wider p u ∷ one ∷ c ∷ []) (b-is ∙ ap (wider q) e-is)
     ∙ ap (λ (one : Fringe). wider p u ∷ wider q v ∷ one ∷ []) (c-is ∙ ap (wider r) f-is)
-each_wider [] shift x y z d e f a b c wide long d-is e-is f-is a-is b-is c-is = absurd (omega (arith, wide))
-each_wider (p ∷ []) shift x y z d e f a b c wide long d-is e-is f-is a-is b-is c-is = absurd (omega (arith, wide))
-each_wider (p ∷ q ∷ []) shift x y z d e f a b c wide long d-is e-is f-is a-is b-is c-is = absurd (omega (arith, wide))
-each_wider (p ∷ q ∷ r ∷ s ∷ t) shift x y z d e f a b c wide long d-is e-is f-is a-is b-is c-is = absurd (omega (arith, wide))
-each_wider (p ∷ q ∷ r ∷ []) [] x y z d e f a b c wide long d-is e-is f-is a-is b-is c-is = absurd (omega (arith, long))
-each_wider (p ∷ q ∷ r ∷ []) (u ∷ []) x y z d e f a b c wide long d-is e-is f-is a-is b-is c-is = absurd (omega (arith, long))
-each_wider (p ∷ q ∷ r ∷ []) (u ∷ v ∷ []) x y z d e f a b c wide long d-is e-is f-is a-is b-is c-is = absurd (omega (arith, long))
-each_wider (p ∷ q ∷ r ∷ []) (u ∷ v ∷ w ∷ s ∷ t) x y z d e f a b c wide long d-is e-is f-is a-is b-is c-is = absurd (omega (arith, long))
+each_wider [] shift x y z d e f a b c wide long d-is e-is f-is a-is b-is c-is =
+    absurd (omega (arith, wide))
+each_wider (p ∷ []) shift x y z d e f a b c wide long d-is e-is f-is a-is b-is c-is =
+    absurd (omega (arith, wide))
+each_wider (p ∷ q ∷ []) shift x y z d e f a b c wide long d-is e-is f-is a-is b-is c-is =
+    absurd (omega (arith, wide))
+each_wider (p ∷ q ∷ r ∷ s ∷ t) shift x y z d e f a b c wide long d-is e-is f-is a-is b-is c-is =
+    absurd (omega (arith, wide))
+each_wider (p ∷ q ∷ r ∷ []) [] x y z d e f a b c wide long d-is e-is f-is a-is b-is c-is =
+    absurd (omega (arith, long))
+each_wider (p ∷ q ∷ r ∷ []) (u ∷ []) x y z d e f a b c wide long d-is e-is f-is a-is b-is c-is =
+    absurd (omega (arith, long))
+each_wider (p ∷ q ∷ r ∷ []) (u ∷ v ∷ []) x y z d e f a b c wide long d-is e-is f-is a-is b-is c-is
+    = absurd (omega (arith, long))
+each_wider (p ∷ q ∷ r ∷ []) (u ∷ v ∷ w ∷ s ∷ t) x y z d e f a b c wide long d-is e-is f-is a-is
+    b-is c-is =
+    absurd (omega (arith, long))

@@ -1,5 +1,6 @@
 -- Drafts that grow part by part are drafts that have grown by the whole.
-use Rattle.std.proofs.Common.{◌≡◌, ℕ, zero, suc, ◌+◌, Bool, List, [], ◌∷◌, ◌++◌, length, take, drop, map, refl, sym, ap, ◌∙◌, arith, append_assoc, append-nil, length-append}
+use Rattle.std.proofs.Common.{◌≡◌, ℕ, ◌+◌, Bool, List, [], ◌∷◌, ◌++◌, length, take, drop, refl, sym}
+use Rattle.std.proofs.Common.{ap, ◌∙◌, arith, append_assoc, append-nil, length-append}
 use Rattle.zpl_region.specs.declared.regions.Region.{Region}
 use Rattle.node_form.specs.declared.instructions.Instr.TheVariants as instr
 use Rattle.node_form.specs.declared.arrays.ArrayRow.{ArrayRow}
@@ -14,9 +15,12 @@ use Rattle.zpl_lowering.specs.Hoist.{Shifted}
 use Rattle.zpl_lowering.specs.Lowered.{Lowered, both, joined, rows_alone}
 use Rattle.zpl_lowering.specs.Program.{out_of_call}
 use Rattle.zpl_lowering.specs.Tables.{empty_tables, tables_of}
-use Rattle.lower_draft.specs.Drafted.{Drafted, all_pushed, begun, closed, empty, finished, grown, looped, no_rows, opened, pushed, rows_from, turned, until, with_array, with_scalars, with_shift, with_slot, with_temp}
+use Rattle.lower_draft.specs.Drafted.{Drafted, all_pushed, begun, closed, empty, finished, grown}
+use Rattle.lower_draft.specs.Drafted.{looped, no_rows, opened, pushed, rows_from, turned, until}
+use Rattle.lower_draft.specs.Drafted.{with_array, with_scalars, with_slot, with_temp}
 use Rattle.lower_draft.specs.Call.{call_at, entered, left}
-use Rattle.lower_draft.proofs.LaidLemmas.{laid, laid_choose, laid_for, laid_length, laid_repeat, laid_rows, laid_then, laid_when, laid_while, rows_behind}
+use Rattle.lower_draft.proofs.LaidLemmas.{laid, laid_choose, laid_for, laid_length, laid_repeat}
+use Rattle.lower_draft.proofs.LaidLemmas.{laid_rows, laid_then, laid_when, laid_while, rows_behind}
 
 -- ---- equal parts
 
@@ -242,7 +246,8 @@ call_grown draft reads body =
     (grown draft (out_of_call body)) refl
     (same_next (left (grown (entered draft reads) body) (call_at draft)).next
     (grown draft (out_of_call body)).next refl refl refl
-    (no_more draft.next.copies) (ap (λ (xs : List Region). draft.next.later + length xs) moved) refl)
+    (no_more draft.next.copies) (ap (λ (xs : List Region). draft.next.later + length xs) moved)
+    refl)
     refl refl
     (take_front draft.copies body.copies ∙ none draft.copies)
     (ap (λ (xs : List Region). xs ++ (drop (length draft.copies) (draft.copies ++ body.copies)

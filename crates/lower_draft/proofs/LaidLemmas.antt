@@ -1,10 +1,11 @@
 -- Code that is laid out behind the rows of tables, part by part.
-use Rattle.std.proofs.Common.{◌≡◌, ℕ, zero, suc, ◌+◌, List, [], ◌∷◌, ◌++◌, length, map, refl, sym, ap, ◌∙◌, arith, append_assoc, append-nil, length-append}
-use Rattle.std.specs.Prelude.{fold}
+use Rattle.std.proofs.Common.{◌≡◌, ℕ, suc, ◌+◌, List, [], ◌∷◌, ◌++◌, length, map, refl, sym, ap}
+use Rattle.std.proofs.Common.{◌∙◌, arith, append_assoc, length-append}
 use Rattle.node_form.specs.declared.instructions.Instr.TheVariants as instr
 use Rattle.node_form.specs.declared.tables.Tables.{Tables}
 use Rattle.row_runs.specs.Code.{CodeRow, Straight, Jump, Unless}
-use Rattle.row_runs.specs.Structured.{Piece, Rows, Then, When, Choose, While, Repeat, size, flattened}
+use Rattle.row_runs.specs.Structured.{Piece, Rows, Then, When, Choose, While, Repeat, size}
+use Rattle.row_runs.specs.Structured.{flattened}
 use Rattle.row_runs.proofs.PlaceLemmas.{flat_length}
 use Rattle.flat_form.specs.Row as row
 use Rattle.flat_form.specs.Row.{Row, coded, patched, with_row, with_rows}
@@ -56,7 +57,8 @@ straight_rows : (rows : List Row) → map flat_row (map Straight rows) ≡ rows
 straight_rows [] = refl
 straight_rows (one ∷ rows) = ap (λ others. one ∷ others) (straight_rows rows)
 
-pub laid_rows : (tables : Tables) (rows : List Row) → laid tables (Rows rows) ≡ with_rows tables rows
+pub laid_rows : (tables : Tables) (rows : List Row) → laid tables (Rows rows) ≡ with_rows tables
+    rows
 laid_rows tables rows = ap (with_rows tables) (straight_rows rows)
 
 -- code behind rows whose number is known
@@ -111,13 +113,20 @@ laid_turn tables check body goal =
     let begun = with_row tables (test check 0) in
     let rows = rows_from (at + 1) body in
     closing_to (with_row (laid begun body) (jump goal)) at (at + size body + 2)
-    (omega (arith, laid_length begun body, row_length tables (test check 0), row_length (laid begun body) (jump goal)))
+    (omega (
+      arith,
+      laid_length begun body,
+      row_length tables (test check 0),
+      row_length (laid begun
+          body) (jump goal),
+    ))
     ∙ ap (λ t. patched (with_row t (jump goal)) at (at + size body + 2))
     (laid_at begun (at + 1) body (row_length tables (test check 0)))
     ∙ ap (λ t. patched t at (at + size body + 2)) (rows_behind begun rows (jump goal ∷ []))
     ∙ patch tables (test check 0) (rows ++ jump goal ∷ []) (at + size body + 2)
 
-pub laid_while : (tables : Tables) (head : Piece Row Check) (check : Check) (body : Piece Row Check) →
+pub laid_while : (tables : Tables) (head : Piece Row Check) (check : Check) (body : Piece Row
+    Check) →
     closing (with_row (laid (with_row (laid tables head) (test check 0)) body)
     (jump (length tables.code))) (length (laid tables head).code)
     ≡ laid tables (While head check body)
@@ -190,8 +199,10 @@ laid_repeat tables body head check =
     ∙ ap (λ t. with_row t (test check (at + 1)))
     (rows_behind begun (map flat_row inside) (map flat_row before))
     ∙ rows_behind begun (map flat_row inside ++ map flat_row before) (map flat_row back)
-    ∙ ap (with_rows begun) (append_assoc (map flat_row inside) (map flat_row before) (map flat_row back))
-    ∙ sym (ap (λ rows. with_rows begun (map flat_row inside ++ rows)) (map_append flat_row before back))
+    ∙ ap (with_rows begun) (append_assoc (map flat_row inside) (map flat_row before) (map flat_row
+    back))
+    ∙ sym (ap (λ rows. with_rows begun (map flat_row inside ++ rows)) (map_append flat_row before
+    back))
     ∙ sym (ap (with_rows begun) (map_append flat_row inside (before ++ back)))
 
 -- a loop that tests behind its turns within a test, where each turn ends with a row

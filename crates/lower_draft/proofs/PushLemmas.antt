@@ -1,12 +1,15 @@
 -- Rows that are pushed part by part.
-use Rattle.std.proofs.Common.{◌≡◌, ℕ, zero, suc, ◌+◌, List, [], ◌∷◌, ◌++◌, length, map, get_or, refl, sym, ap, ◌∙◌, arith, append_assoc, append-nil, length-append}
+use Rattle.std.proofs.Common.{◌≡◌, ℕ, suc, ◌+◌, List, [], ◌∷◌, ◌++◌, length, map, get_or, refl, sym}
+use Rattle.std.proofs.Common.{ap, ◌∙◌, arith, append_assoc, append-nil, length-append}
 use Rattle.std.specs.Prelude.{flat_map}
 use Rattle.node_form.specs.declared.members.Member as number
 use Rattle.node_form.specs.declared.instructions.DimRow.{DimRow}
 use Rattle.node_form.specs.declared.instructions.Instr.{Instr}
 use Rattle.node_form.specs.declared.instructions.Instr.TheVariants as instr
 use Rattle.flat_form.specs.Row as row
-use Rattle.flat_form.specs.Row.{Row, Words, Member, all_coded, coded, group_coded, member_coded, member_words, part_coded, part_words, row_groups, row_texts, row_words}
+use Rattle.flat_form.specs.Row.{Row, Words, Member, all_coded, coded, group_coded, member_coded}
+use Rattle.flat_form.specs.Row.{member_words, part_coded, part_words, row_groups, row_texts}
+use Rattle.flat_form.specs.Row.{row_words}
 use Rattle.lower_draft.specs.declared.rows.FlatPart.{FlatPart}
 use Rattle.lower_draft.specs.Inline.{part_of}
 use Rattle.lower_draft.proofs.LaidLemmas.{map_length}
@@ -52,7 +55,8 @@ module _ {X Y : Type 0} (words_of : X → List Words) (coding : ℕ → X → Y)
       coded_behind (before ++ row ∷ []) middle rest ≡ goal
   next_coded draft middle before goal one rest row middle-is row-is left =
       ap (λ (d : Drafted). coded_behind (before ++ row ∷ []) d rest) middle-is
-      ∙ ap (λ (y : Y). coded_behind (before ++ y ∷ []) (with_exprs draft (words_of one)) rest) row-is
+      ∙ ap (λ (y : Y). coded_behind (before ++ y ∷ []) (with_exprs draft (words_of one)) rest)
+      row-is
       ∙ one_coded before draft one rest ∙ left
 
   pub next_with : (draft middle goal : Drafted) (one : X) (rest : List X) →
@@ -117,7 +121,8 @@ built draft behind new one coding groups texts behind-is coding-is new-is =
         groups = gs;
         code = draft.tables.code ++ coded draft.tables one ∷ [];
       };
-    }) (sym (ap (λ (gs : List (List number.Member)). draft.tables.groups ++ gs) groups ∙ append-nil draft.tables.groups))
+    }) (sym (ap (λ (gs : List (List number.Member)). draft.tables.groups ++ gs) groups ∙ append-nil
+    draft.tables.groups))
     ∙ ap (λ (ts : List (List ℕ)). record draft {
       tables = record draft.tables {
         exprs = draft.tables.exprs ++ row_words one;
@@ -125,7 +130,8 @@ built draft behind new one coding groups texts behind-is coding-is new-is =
         texts = ts;
         code = draft.tables.code ++ coded draft.tables one ∷ [];
       };
-    }) (sym (ap (λ (ts : List (List ℕ)). draft.tables.texts ++ ts) texts ∙ append-nil draft.tables.texts))
+    }) (sym (ap (λ (ts : List (List ℕ)). draft.tables.texts ++ ts) texts ∙ append-nil
+    draft.tables.texts))
 
 pub plain_built : (draft new : Drafted) (one : Instr) → new ≡ with_code draft one →
     new ≡ pushed draft (row.Plain one)
@@ -156,12 +162,15 @@ pub loop_built : (draft middle behind new : Drafted) (slot : ℕ) (group : List 
     middle ≡ with_exprs draft (flat_map member_words group) → behind ≡ with_group middle members →
     at ≡ length middle.tables.groups → new ≡ with_code behind (instr.Loop slot at) →
     new ≡ pushed draft (row.Loop slot group)
-loop_built draft middle behind new slot group members at members-is middle-is behind-is at-is new-is =
+loop_built draft middle behind new slot group members at members-is middle-is behind-is at-is
+    new-is =
     new-is
     ∙ ap (λ (d : Drafted). with_code d (instr.Loop slot at)) behind-is
     ∙ ap (λ (n : ℕ). with_code (with_group middle members) (instr.Loop slot n)) at-is
-    ∙ ap (λ (d : Drafted). with_code (with_group d members) (instr.Loop slot (length d.tables.groups))) middle-is
-    ∙ ap (λ (ms : List number.Member). with_code (with_group (with_exprs draft (flat_map member_words group)) ms)
+    ∙ ap (λ (d : Drafted). with_code (with_group d members) (instr.Loop slot (length
+    d.tables.groups))) middle-is
+    ∙ ap (λ (ms : List number.Member). with_code (with_group (with_exprs draft (flat_map
+    member_words group)) ms)
     (instr.Loop slot (length draft.tables.groups))) members-is
     ∙ ap (λ (ts : List (List ℕ)). record draft {
       tables = record draft.tables {

@@ -1,12 +1,15 @@
 -- Fringes of all arrays in one walk are those of each array.
-use Rattle.std.proofs.Common.{◌≡◌, ℕ, zero, suc, ◌+◌, ◌<◌, ◌≤◌, ◌≢◌, ◌==◌, Bool, true, false, cond, List, [], ◌∷◌, ◌++◌, length, map, filter, refl, sym, ap, ◌∙◌, arith, append_assoc, set, replicate}
+use Rattle.std.proofs.Common.{◌≡◌, ℕ, zero, suc, ◌+◌, ◌<◌, ◌≤◌, ◌≢◌, ◌==◌, Bool, true, false, cond}
+use Rattle.std.proofs.Common.{List, [], ◌∷◌, length, filter, refl, sym, ap, ◌∙◌, arith, set}
+use Rattle.std.proofs.Common.{replicate}
 use Rattle.std.specs.Prelude.{slice_index_or}
 use Rattle.std.proofs.lemmas.Bool.Decides.{nat_tests}
 use Rattle.zpl_region.specs.declared.regions.Region.{Region}
 use Rattle.node_form.specs.declared.arrays.ArrayRow.{ArrayRow}
 use Rattle.zpl_lowering.specs.Hoist.{Shifted}
 use Rattle.zpl_lowering.specs.Tables.{Fringe, all_wider, fringes_of, stored_rows, widened}
-use Rattle.lower_draft.specs.Spread.{fringed_row, fringed_rows, no_fringes, spread, spread_over, widened_at}
+use Rattle.lower_draft.specs.Spread.{fringed_row, fringed_rows, no_fringes, spread, spread_over}
+use Rattle.lower_draft.specs.Spread.{widened_at}
 
 set_same : {X : Type 0} (xs : List X) (k : ℕ) (v d : X) → k < length xs →
     slice_index_or (set xs k v) k d ≡ v
@@ -40,7 +43,12 @@ spread_at : (table : List (List Fringe)) (shifts : List Shifted) (k : ℕ) → k
     ≡ widened (slice_index_or table k no_fringes) (filter (λ one. one.array == k) shifts)
 spread_at table [] k inside = refl
 spread_at table (one ∷ shifts) k inside =
-    spread_at (widened_at table one) shifts k (omega (arith, inside, length_set table one.array wide))
+    spread_at (widened_at table one) shifts k (omega (
+      arith,
+      inside,
+      length_set table one.array
+          wide,
+    ))
     ∙ by (one.array == k) refl
   where
     wide : List Fringe
@@ -57,7 +65,8 @@ spread_at table (one ∷ shifts) k inside =
         ≡ all_wider (slice_index_or table k no_fringes) one.shift =
         ap (λ (j : ℕ). slice_index_or (set table j (all_wider (slice_index_or table j no_fringes)
         one.shift)) k no_fringes) same
-        ∙ set_same table k (all_wider (slice_index_or table k no_fringes) one.shift) no_fringes inside in
+        ∙ set_same table k (all_wider (slice_index_or table k no_fringes) one.shift) no_fringes
+        inside in
         ap (λ (fs : List Fringe). widened fs (filter (λ other. other.array == k) shifts)) here
         ∙ sym (ap (λ (b : Bool). widened (slice_index_or table k no_fringes)
         (cond b (one ∷ filter (λ other. other.array == k) shifts)
@@ -87,7 +96,12 @@ spread_over_length count shifts =
 fringes_at : (count k : ℕ) (shifts : List Shifted) → k < count →
     slice_index_or (spread_over count shifts) k no_fringes ≡ fringes_of k shifts
 fringes_at count k shifts inside =
-    spread_at (replicate count no_fringes) shifts k (omega (arith, inside, length_replicate count no_fringes))
+    spread_at (replicate count no_fringes) shifts k (omega (
+      arith,
+      inside,
+      length_replicate count
+          no_fringes,
+    ))
     ∙ ap (λ (fs : List Fringe). widened fs (filter (λ one. one.array == k) shifts))
     (at_replicate count k no_fringes)
 

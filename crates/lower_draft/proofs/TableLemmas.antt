@@ -1,5 +1,6 @@
 -- The tables that a draft becomes.
-use Rattle.std.proofs.Common.{◌≡◌, List, [], ◌∷◌, ◌++◌, ℕ, map, refl, sym, ap, ◌∙◌, append-nil, append_assoc}
+use Rattle.std.proofs.Common.{◌≡◌, List, [], ◌∷◌, ◌++◌, ℕ, map, sym, ap, ◌∙◌, append-nil}
+use Rattle.std.proofs.Common.{append_assoc}
 use Rattle.zpl_region.specs.declared.regions.Region.{Region}
 use Rattle.node_form.specs.declared.arrays.ArrayRow.{ArrayRow}
 use Rattle.node_form.specs.declared.instructions.Instr.{Instr}
@@ -41,7 +42,8 @@ pub finished_by : (draft : Drafted) (slots : List ℕ) (storages : List Region)
       arrays = arrays;
       code = code;
     } ≡ finished draft
-finished_by draft slots storages stored arrays code slots-is storages-is stored-is arrays-is code-is =
+finished_by draft slots storages stored arrays code slots-is storages-is stored-is arrays-is
+    code-is =
     ap (λ (xs : List ℕ). record draft.tables {
       scalars = draft.next.scalars;
       slots = xs;

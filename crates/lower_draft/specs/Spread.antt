@@ -1,5 +1,5 @@
 -- Fringes of all arrays in one walk over the shifts.
-use Rattle.std.specs.Prelude.{ℕ, zero, suc, true, List, [], ◌∷◌, map, set, replicate, slice_index_or}
+use Rattle.std.specs.Prelude.{ℕ, suc, true, List, [], ◌∷◌, set, replicate, slice_index_or}
 use Rattle.zpl_region.specs.declared.regions.Region.{Region}
 use Rattle.node_form.specs.declared.arrays.ArrayRow.{ArrayRow}
 use Rattle.zpl_lowering.specs.Hoist.{Shifted}

@@ -35,7 +35,8 @@ impl Model for Flood {
 
     ghost inverse = { λ flags. record { flags = flags_of flags } };
 
-    ghost inverse_ok = { λ flood h. ap (λ flags. record { flags = flags }) (flags_back flood.flags) };
+    ghost inverse_ok = { λ flood h.
+        ap (λ flags. record { flags = flags }) (flags_back flood.flags) };
 }
 
 impl Flood {

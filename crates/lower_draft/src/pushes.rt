@@ -1,8 +1,8 @@
 //! Rows that are pushed with their expressions, groups and texts.
 ghost use Rattle.std.specs.Prelude.{◌≡◌, ◌+◌, ◌∷◌, IfOk, OnOk, length, flat_map, map};
 ghost use Rattle.flat_form.specs.Row as row;
-ghost use Rattle.flat_form.specs.Row.{all_coded, group_coded, mask_words, member_coded, member_words};
-ghost use Rattle.flat_form.specs.Row.{numbered, part_coded, part_words};
+ghost use Rattle.flat_form.specs.Row.{all_coded, group_coded, mask_words, member_coded};
+ghost use Rattle.flat_form.specs.Row.{member_words, numbered, part_coded, part_words};
 ghost use Rattle.lower_draft.specs.Drafted.{pushed, with_exprs};
 ghost use Rattle.lower_draft.specs.Inline.{member_of, part_of, row_of};
 

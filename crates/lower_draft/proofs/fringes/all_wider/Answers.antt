@@ -1,4 +1,5 @@
-use Rattle.std.proofs.Common.{rules, ◌≡◌, ◌<◌, pos, get_or, length, subst, sym, refl, arith, w64, to_z, of_z}
+use Rattle.std.proofs.Common.{rules, ◌≡◌, ◌<◌, pos, get_or, length, subst, sym, arith, w64, to_z}
+use Rattle.std.proofs.Common.{of_z}
 use Rattle.zpl_region.specs.Dim.{IsUpTo}
 use Rattle.lower_draft.proofs.FringeLemmas.{each_wider}
 use Rattle.lower_draft.proofs.fringes.all_wider.Goals as goal
@@ -15,11 +16,14 @@ pub returns : goal.returns
 returns c =
     let wide : length c.args.fringes ≡ 3 = omega arith in
     let long : length c.args.shift ≡ 3 = omega arith in
-    let first : to_z w64 (of_z w64 (get_or c.args.shift 0 (pos 0))) ≡ get_or c.args.shift 0 (pos 0) =
+    let first : to_z w64 (of_z w64 (get_or c.args.shift 0 (pos 0))) ≡ get_or c.args.shift 0 (pos 0)
+    =
     search rules in
-    let second : to_z w64 (of_z w64 (get_or c.args.shift 1 (pos 0))) ≡ get_or c.args.shift 1 (pos 0) =
+    let second : to_z w64 (of_z w64 (get_or c.args.shift 1 (pos 0))) ≡ get_or c.args.shift 1 (pos
+    0) =
     search rules in
-    let third : to_z w64 (of_z w64 (get_or c.args.shift 2 (pos 0))) ≡ get_or c.args.shift 2 (pos 0) =
+    let third : to_z w64 (of_z w64 (get_or c.args.shift 2 (pos 0))) ≡ get_or c.args.shift 2 (pos 0)
+    =
     search rules in
     each_wider c.args.fringes c.args.shift _ _ _ _ _ _ _ _ _ wide long first second third
     c.wider.ensures c.wider-2.ensures c.wider-3.ensures

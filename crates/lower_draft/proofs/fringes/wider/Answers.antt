@@ -1,7 +1,6 @@
-use Rattle.std.proofs.Common.{rules, ◌≡◌, ℤ, pos, neg_ℤ, ◌-ℤ◌, ap, ◌∙◌, sym, arith, w64, to_z, of_z}
+use Rattle.std.proofs.Common.{rules, ◌≡◌, ℤ, pos, neg_ℤ, ◌-ℤ◌, ap, ◌∙◌, arith, w64, to_z, of_z}
 use Rattle.std.specs.Int.{int_max}
 use Rattle.std.proofs.lemmas.Int.{ints}
-use Rattle.zpl_lowering.specs.Tables.{Fringe, wider}
 use Rattle.lower_draft.proofs.FringeLemmas.{wider_by}
 use Rattle.lower_draft.proofs.fringes.wider.Goals as goal
 

@@ -1,4 +1,4 @@
-use Rattle.std.proofs.Common.{◌≡◌, List, length, ap, ◌∙◌, sym, arith}
+use Rattle.std.proofs.Common.{List, length, ap, ◌∙◌, sym, arith}
 use Rattle.zpl_lowering.specs.Tables.{Fringe}
 use Rattle.lower_draft.specs.Spread.{fringed_rows}
 use Rattle.lower_draft.proofs.SpreadLemmas.{rows_fringed, spread_over_length}
@@ -14,4 +14,5 @@ returns c =
     c.in_ok-rows.ensures
     ∙ ap (λ (table : List (List Fringe)). fringed_rows table 0 c.args.storages.now)
     (c.as_slice.ensures.value ∙ c.in_ok-fringes.ensures)
-    ∙ rows_fringed (length c.args.storages.now) 0 c.args.shifts.now c.args.storages.now (omega arith)
+    ∙ rows_fringed (length c.args.storages.now) 0 c.args.shifts.now c.args.storages.now (omega
+    arith)

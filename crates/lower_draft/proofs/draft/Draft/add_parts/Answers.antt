@@ -1,10 +1,11 @@
-use Rattle.std.proofs.Common.{rules, ◌≡◌, ◌∷◌, [], ◌++◌, List, length, map, refl, sym, ap, ◌∙◌, arith}
+use Rattle.std.proofs.Common.{rules, ◌≡◌, ◌∷◌, [], ◌++◌, List, length, map, sym, ap, ◌∙◌, arith}
 use Rattle.std.specs.Vec.Iter.{into_iter_items}
 use Rattle.flat_form.specs.Row.{part_coded, part_words}
 use Rattle.lower_draft.specs.Inline.{part_of}
 use Rattle.lower_draft.specs.declared.rows.FlatPart.{FlatPart}
 use Rattle.node_form.specs.declared.instructions.DimRow.{DimRow}
-use Rattle.lower_draft.proofs.PushLemmas.{coded_behind, end_coded, end_with, next_coded, next_with, nothing_left, with_all}
+use Rattle.lower_draft.proofs.PushLemmas.{coded_behind, end_coded, end_with, next_coded, next_with}
+use Rattle.lower_draft.proofs.PushLemmas.{nothing_left, with_all}
 use Rattle.lower_draft.proofs.draft.Draft.add_parts.Goals as goal
 
 pub loop-part-preserved : goal.loop-part-preserved
@@ -37,7 +38,8 @@ pub returns-clause-parts : goal.returns-clause-parts
 returns-clause-parts c =
     let at = c.loop-part in
     let none = c.in-None.ensures.steps in
-    let empty : into_iter_items at.part-iterator ≡ [] = nothing_left _ (sym at.invariant.2 ∙ none.0) in
+    let empty : into_iter_items at.part-iterator ≡ [] = nothing_left _ (sym at.invariant.2 ∙
+    none.0) in
     end_coded part_words part_coded at.self at.rows.items _
     (map part_of (into_iter_items at.part-iterator))
     (ap (λ (xs : List FlatPart). map part_of xs) empty) at.invariant.0
@@ -48,7 +50,8 @@ pub returns-clause-added : goal.returns-clause-added
 returns-clause-added c =
     let at = c.loop-part in
     let none = c.in-None.ensures.steps in
-    let empty : into_iter_items at.part-iterator ≡ [] = nothing_left _ (sym at.invariant.2 ∙ none.0) in
+    let empty : into_iter_items at.part-iterator ≡ [] = nothing_left _ (sym at.invariant.2 ∙
+    none.0) in
     end_with part_words part_coded at.self _
     (map part_of (into_iter_items at.part-iterator))
     (ap (λ (xs : List FlatPart). map part_of xs) empty) at.invariant.1

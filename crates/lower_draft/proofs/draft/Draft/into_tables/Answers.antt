@@ -1,6 +1,5 @@
-use Rattle.std.proofs.Common.{rules, ◌≡◌, ◌++◌, List, ap, ◌∙◌, sym}
-use Rattle.zpl_region.specs.declared.regions.Region.{Region}
-use Rattle.zpl_lowering.specs.Tables.{stored_rows, temp_row}
+use Rattle.std.proofs.Common.{rules, ◌≡◌, ◌++◌, ap, ◌∙◌}
+use Rattle.zpl_lowering.specs.Tables.{stored_rows}
 use Rattle.lower_draft.specs.Drafted.{finished, next_of}
 use Rattle.lower_draft.proofs.TableLemmas.{finished_by}
 use Rattle.lower_draft.proofs.draft.Draft.into_tables.Goals as goal
