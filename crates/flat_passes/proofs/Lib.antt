@@ -2,4 +2,5 @@ pub mod DraftLemmas
 pub mod GroupedLemmas
 pub mod InPlaceLemmas
 pub mod NumberLemmas
+pub mod RowLemmas
 pub mod StretchLemmas
