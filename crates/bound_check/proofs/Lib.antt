@@ -1,3 +1,5 @@
 mod Programs
+pub mod RegionLemmas
 pub mod SizeLemmas
 pub mod UndecidedLemmas
+pub mod WriteLemmas

@@ -2,8 +2,7 @@
 #![tactic(auto)]
 
 mod checks;
-
-pub use checks::place_checks;
+mod writes;
 
 ghost use Rattle.std.specs.Prelude.{◌≡◌, ◌≤◌};
 ghost use Rattle.node_form.specs.declared.tables.Tables.{Tables as Code};
@@ -11,6 +10,8 @@ ghost use Rattle.code_parts.specs.Counts.{code_size, count_of};
 ghost use Rattle.code_parts.specs.Needs.{IsUndecided};
 ghost use Rattle.flat_passes.specs.Rewritten.{has_goal};
 ghost use Rattle.bound_check.specs.Checked.{checked};
+
+pub use checks::place_checks;
 
 /// No check is left whose slot `fix` rows alone write, and which passes for each of their regions.
 /// The code gets no larger, has as many jumps and tests, and nothing but its rows changes.

@@ -41,8 +41,8 @@ module _ (step : Instr → List Instr) (code : List Instr) where
       let all : rows ++ (step row ++ flat_map step (drop (at + 1) code)) ≡ flat_map step code =
       ap (λ rest. rows ++ flat_map step rest) (sym left) ∙ is.all in
       let places : numbers
-          ++ (length rows ∷ numbers_from steps (length rows + steps row) (drop (at + 1) code))
-          ≡ numbers_from steps 0 code =
+      ++ (length rows ∷ numbers_from steps (length rows + steps row) (drop (at + 1) code))
+      ≡ numbers_from steps 0 code =
       ap (λ rest. numbers ++ numbers_from steps (length rows) rest) (sym left) ∙ is.places in
       let long : length after ≡ length rows + steps row =
       ap length written ∙ length-append rows (step row) in
