@@ -1,4 +1,5 @@
 pub mod DraftLemmas
+pub mod FitLemmas
 pub mod GroupedLemmas
 pub mod InPlaceLemmas
 pub mod NumberLemmas
