@@ -41,7 +41,7 @@ any_words array (word.Shifted other shift ∷ words) =
     ap (λ b. (array == other) || b) (any_words array words)
 any_words array (one ∷ words) = any_words array words
 
-any_both : {X : Type 0} (test : X → Bool) (xs ys : List X)
+pub any_both : {X : Type 0} (test : X → Bool) (xs ys : List X)
     → list_any test (xs ++ ys) ≡ (list_any test xs || list_any test ys)
 any_both test [] ys = refl
 any_both test (x ∷ xs) ys = by (test x) (any_both test xs ys)

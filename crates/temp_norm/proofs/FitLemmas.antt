@@ -1,0 +1,231 @@
+-- The tables fit.
+use Rattle.std.proofs.Common.{◌≡◌, refl, sym, ap, ◌∙◌, subst, arith, ℕ, zero, suc, ◌+◌, ◌<◌, ◌≤◌}
+use Rattle.std.proofs.Common.{Bool, true, false, true≢false, List, [], ◌∷◌, ◌++◌, length, drop}
+use Rattle.std.proofs.Common.{append-nil, append_assoc, eq-eqb, eqb-true, length-append}
+use Rattle.std.specs.Prelude.{◌==◌, ◌&&◌, ◌||◌, not, cond, if◌then◌else◌, flat_map, map, take}
+use Rattle.std.specs.Prelude.{All, Option, Some, None, slice_get}
+use Rattle.std.specs.Option.{IfSome, IsSomeAnd}
+use Rattle.std.specs.List.{AllByRecursion, list_any, position_or_len}
+use Rattle.std.specs.Cmp.Lexicographic.{pointwise}
+use Rattle.std.proofs.lemmas.List.Elements.{All-append, All-cons, All-from_recursion, All-nil}
+use Rattle.std.proofs.lemmas.List.Elements.{recursion_from_All}
+use Rattle.node_form.specs.declared.words.ExprOp.{ExprOp}
+use Rattle.node_form.specs.declared.words.ExprOp.TheVariants as word
+use Rattle.node_form.specs.declared.arrays.ArrayDim.{ArrayDim}
+use Rattle.node_form.specs.declared.arrays.ArrayDim.TheVariants as axis
+use Rattle.node_form.specs.declared.arrays.ArrayRow.{ArrayRow}
+use Rattle.node_form.specs.declared.members.Member.{Member}
+use Rattle.node_form.specs.declared.members.Member.TheVariants as member
+use Rattle.node_form.specs.declared.instructions.Instr.{Instr}
+use Rattle.node_form.specs.declared.instructions.Instr.TheVariants as instr
+use Rattle.node_form.specs.declared.tables.Tables.{Tables}
+use Rattle.node_form.specs.Fits.{Fits, FitsArray, FitsInstr, IsUnused, IsUnusedOrStar}
+use Rattle.temp_norm.specs.Normalised.{is_like, is_same_kind, temporaries, temporary_like}
+use Rattle.temp_norm.specs.Normalised.{with_one_like, without_storage}
+use Rattle.temp_norm.specs.Pieces.{kind_put, kind_through, self_put, with_kind}
+use Rattle.node_form.proofs.GrowthLemmas.{Fits-array-row}
+use Rattle.code_parts.specs.Uses.{members_of}
+use Rattle.flat_passes.proofs.StretchLemmas.{every_append}
+use Rattle.temp_norm.specs.declared.reads.Put.{Put}
+use Rattle.temp_norm.proofs.PieceLemmas.{any_both, temporaries_are, with_all}
+
+-- ---- a temporary is as a row may have it
+pub record IsKind (row : ArrayRow) : Type 0 where
+  pub fits : FitsArray row
+  pub temporary : row.stored ≡ false
+
+unused : (d : ArrayDim) → IsUnused d → IsUnused (without_storage d)
+unused (axis.Range lo hi low high) is = (refl, refl, refl, refl)
+unused axis.Star is = absurd is
+
+all_unused : (rank : ℕ) (dims : List ArrayDim) → AllByRecursion IsUnused (drop rank dims)
+    → AllByRecursion IsUnused (drop rank (map without_storage dims))
+all_unused zero [] is = tt
+all_unused zero (d ∷ dims) is = (unused d is.0, all_unused zero dims is.1)
+all_unused (suc rank) [] is = tt
+all_unused (suc rank) (d ∷ dims) is = all_unused rank dims is
+
+one_bare : (d : ArrayDim) → IsUnusedOrStar (without_storage d)
+one_bare (axis.Range lo hi low high) = (refl, refl, refl, refl)
+one_bare axis.Star = tt
+
+all_bare : (dims : List ArrayDim) → AllByRecursion IsUnusedOrStar (map without_storage dims)
+all_bare [] = tt
+all_bare (d ∷ dims) = (one_bare d, all_bare dims)
+
+temporary_fits : (row : ArrayRow) → FitsArray row → IsKind (temporary_like row)
+temporary_fits row fits = record {
+  fits = record {
+    rank = fits.rank;
+    padded =
+        All-from_recursion IsUnused (drop row.rank (map without_storage row.dims))
+        (all_unused row.rank row.dims
+        (recursion_from_All IsUnused (drop row.rank row.dims) fits.padded));
+    limit = λ stored. absurd (true≢false (sym stored));
+    fringes = λ stored. absurd (true≢false (sym stored));
+    without_storage = λ stored.
+        All-from_recursion IsUnusedOrStar (map without_storage row.dims) (all_bare row.dims);
+  };
+  temporary = refl;
+}
+
+-- ---- it is of the array's kind
+dims_like : (dims : List ArrayDim) → pointwise is_same_kind dims (map without_storage dims) ≡ true
+dims_like [] = refl
+dims_like (axis.Range lo hi low high ∷ dims) = dims_like dims
+dims_like (axis.Star ∷ dims) = dims_like dims
+
+like_own : (row : ArrayRow) → is_like row (temporary_like row) ≡ true
+like_own row =
+    ap (λ b. b && pointwise is_same_kind row.dims (map without_storage row.dims))
+    (eq-eqb row.rank row.rank refl)
+    ∙ dims_like row.dims
+
+like_rank : (row other : ArrayRow) → is_like row other ≡ true → row.rank ≡ other.rank
+like_rank row other e = eqb-true row.rank other.rank (left (row.rank == other.rank) _ e)
+  where
+    left : (a b : Bool) → (a && b) ≡ true → a ≡ true
+    left true b e = refl
+    left false b e = e
+
+-- ---- adding one
+kinds_with_one : (rows : List ArrayRow) (row : ArrayRow) → AllByRecursion IsKind rows
+    → FitsArray row → AllByRecursion IsKind (with_one_like rows row)
+kinds_with_one rows row all fits = by (list_any (is_like row) rows)
+  where
+    by : (b : Bool)
+        → AllByRecursion IsKind (if b then rows else rows ++ temporary_like row ∷ [])
+    by true = all
+    by false = every_append IsKind rows (temporary_like row ∷ []) all (temporary_fits row fits, tt)
+
+or_left : (a b : Bool) → a ≡ true → (a || b) ≡ true
+or_left true b e = refl
+or_left false b e = absurd (true≢false (sym e))
+
+kept_with_one : (test : ArrayRow → Bool) (rows : List ArrayRow) (row : ArrayRow)
+    → list_any test rows ≡ true → list_any test (with_one_like rows row) ≡ true
+kept_with_one test rows row e = by (list_any (is_like row) rows)
+  where
+    by : (b : Bool)
+        → list_any test (if b then rows else rows ++ temporary_like row ∷ []) ≡ true
+    by true = e
+    by false =
+        any_both test rows (temporary_like row ∷ [])
+        ∙ or_left (list_any test rows) (list_any test (temporary_like row ∷ [])) e
+
+there_with_one : (rows : List ArrayRow) (row : ArrayRow)
+    → list_any (is_like row) (with_one_like rows row) ≡ true
+there_with_one rows row = by (list_any (is_like row) rows) refl
+  where
+    last : (a b : Bool) → b ≡ true → (a || (b || false)) ≡ true
+    last true b e = refl
+    last false true e = refl
+    last false false e = e
+
+    by : (b : Bool) → list_any (is_like row) rows ≡ b
+        → list_any (is_like row) (if b then rows else rows ++ temporary_like row ∷ []) ≡ true
+    by true e = e
+    by false e =
+        any_both (is_like row) rows (temporary_like row ∷ [])
+        ∙ last (list_any (is_like row) rows) (is_like row (temporary_like row)) (like_own row)
+
+-- ---- the one that is found
+record Found (test : ArrayRow → Bool) (rows : List ArrayRow) : Type 0 where
+  pub row : ArrayRow
+  pub at : slice_get rows (position_or_len test rows) ≡ Some row
+  pub like : test row ≡ true
+  pub kind : IsKind row
+
+found : (test : ArrayRow → Bool) (rows : List ArrayRow) → AllByRecursion IsKind rows
+    → list_any test rows ≡ true → Found test rows
+found test [] all e = absurd (true≢false (sym e))
+found test (row ∷ rows) all e = by (test row) refl e (found test rows all.1)
+  where
+    by : (b : Bool) → test row ≡ b → (b || list_any test rows) ≡ true
+        → (list_any test rows ≡ true → Found test rows) → Found test (row ∷ rows)
+    by true is e more = record {
+      row = row;
+      at = ap (λ b. slice_get (row ∷ rows) (cond (not b) (1 + position_or_len test rows) 0)) is;
+      like = is;
+      kind = all.0;
+    }
+    by false is e more =
+        let one : Found test rows = more e in
+        let next : 1 + position_or_len test rows ≡ suc (position_or_len test rows) = omega arith in
+        record {
+          row = one.row;
+          at =
+              ap (λ b. slice_get (row ∷ rows) (cond (not b) (1 + position_or_len test rows) 0)) is
+              ∙ (ap (slice_get (row ∷ rows)) next ∙ one.at);
+          like = one.like;
+          kind = one.kind;
+        }
+
+module _ (tables : Tables) (fits : Fits tables) where
+  -- ---- all of them
+  kind_fits : (put : Option Put) (row : ArrayRow) → kind_put tables put ≡ Some row → FitsArray row
+  kind_fits None row e = absurd (none row e)
+    where
+      none : (row : ArrayRow) → (let n : Option ArrayRow = None in n) ≡ Some row → ⊥
+      none row e = cc
+  kind_fits (Some put) row e = Fits-array-row tables put.array row fits e
+
+  row_kind_fits : (one : Instr) (row : ArrayRow) → kind_through tables one ≡ Some row
+      → FitsArray row
+  row_kind_fits (instr.Loop slot group) row e =
+      kind_fits (self_put tables (members_of tables group)) row e
+  row_kind_fits one row e = absurd (none row e)
+    where
+      none : (row : ArrayRow) → (let n : Option ArrayRow = None in n) ≡ Some row → ⊥
+      none row e = cc
+
+  kinds_with : (rows : List ArrayRow) (kind : Option ArrayRow)
+      → ((row : ArrayRow) → kind ≡ Some row → FitsArray row) → AllByRecursion IsKind rows
+      → AllByRecursion IsKind (with_kind rows kind)
+  kinds_with rows None fit all = all
+  kinds_with rows (Some row) fit all = kinds_with_one rows row all (fit row refl)
+
+  all_kinds_fit : (rows : List ArrayRow) (code : List Instr) → AllByRecursion IsKind rows
+      → AllByRecursion IsKind (with_all tables rows code)
+  all_kinds_fit rows [] all = all
+  all_kinds_fit rows (row ∷ code) all =
+      all_kinds_fit (with_kind rows (kind_through tables row)) code
+      (kinds_with rows (kind_through tables row) (row_kind_fits row) all)
+
+  pub temporaries_fit : AllByRecursion IsKind (temporaries tables)
+  temporaries_fit =
+      subst (AllByRecursion IsKind) (temporaries_are tables) (all_kinds_fit [] tables.code tt)
+
+  kept_with : (test : ArrayRow → Bool) (rows : List ArrayRow) (kind : Option ArrayRow)
+      → list_any test rows ≡ true → list_any test (with_kind rows kind) ≡ true
+  kept_with test rows None e = e
+  kept_with test rows (Some row) e = kept_with_one test rows row e
+
+  kept_all : (test : ArrayRow → Bool) (rows : List ArrayRow) (code : List Instr)
+      → list_any test rows ≡ true → list_any test (with_all tables rows code) ≡ true
+  kept_all test rows [] e = e
+  kept_all test rows (row ∷ code) e =
+      kept_all test (with_kind rows (kind_through tables row)) code
+      (kept_with test rows (kind_through tables row) e)
+
+  -- each row of the code has one of its kind
+  abbrev HasKind : List ArrayRow → Instr → Type 0
+  HasKind rows one =
+      (kind : ArrayRow) → kind_through tables one ≡ Some kind
+      → list_any (is_like kind) rows ≡ true
+
+  all_have : (rows : List ArrayRow) (code : List Instr)
+      → AllByRecursion (HasKind (with_all tables rows code)) code
+  all_have rows [] = tt
+  all_have rows (row ∷ code) = (
+    λ kind e.
+    kept_all (is_like kind) (with_kind rows (kind_through tables row)) code
+        (subst (λ k. list_any (is_like kind) (with_kind rows k) ≡ true) (sym e)
+        (there_with_one rows kind)),
+    all_have (with_kind rows (kind_through tables row)) code,
+  )
+
+  pub all_have_one : AllByRecursion (HasKind (temporaries tables)) tables.code
+  all_have_one =
+      subst (λ rows. AllByRecursion (HasKind rows) tables.code) (temporaries_are tables)
+      (all_have [] tables.code)
