@@ -19,11 +19,18 @@ use Rattle.node_form.specs.declared.members.Member.TheVariants as member
 use Rattle.node_form.specs.declared.instructions.Instr.{Instr}
 use Rattle.node_form.specs.declared.instructions.Instr.TheVariants as instr
 use Rattle.node_form.specs.declared.tables.Tables.{Tables}
-use Rattle.node_form.specs.Fits.{Fits, FitsArray, FitsInstr, IsUnused, IsUnusedOrStar}
+use Rattle.node_form.specs.Expression.{Element}
+use Rattle.node_form.specs.Fits.{Fits, FitsArray, FitsExchange, FitsExpr, FitsGroup, FitsInstr}
+use Rattle.node_form.specs.Fits.{FitsMember, FitsWord, Grows, HasArray, HasExpr, HasSlot, IsRank}
+use Rattle.node_form.specs.Fits.{IsTemporary, IsUnused, IsUnusedOrStar}
+use Rattle.node_form.specs.Nest.{IsNest, Nothing, Putting}
+use Rattle.flat_passes.specs.Grouped.{Plain, Runs}
+use Rattle.flat_passes.proofs.FitLemmas.{FitsAlone, FitsGrouped, FitsInline}
 use Rattle.temp_norm.specs.Normalised.{is_like, is_same_kind, temporaries, temporary_like}
-use Rattle.temp_norm.specs.Normalised.{with_one_like, without_storage}
-use Rattle.temp_norm.specs.Pieces.{kind_put, kind_through, self_put, with_kind}
-use Rattle.node_form.proofs.GrowthLemmas.{Fits-array-row}
+use Rattle.temp_norm.specs.Normalised.{read_each, with_one_like, with_temporaries, without_storage}
+use Rattle.temp_norm.specs.Pieces.{kind_put, kind_through, mask_reads, put_rows, reads_shifted}
+use Rattle.temp_norm.specs.Pieces.{self_put, with_kind}
+use Rattle.node_form.proofs.GrowthLemmas.{Fits-Appends, Fits-array-row, Keeps-append, Keeps-same}
 use Rattle.code_parts.specs.Uses.{members_of}
 use Rattle.flat_passes.proofs.StretchLemmas.{every_append}
 use Rattle.temp_norm.specs.declared.reads.Put.{Put}
@@ -229,3 +236,228 @@ module _ (tables : Tables) (fits : Fits tables) where
   all_have_one =
       subst (λ rows. AllByRecursion (HasKind rows) tables.code) (temporaries_are tables)
       (all_have [] tables.code)
+
+-- ---- rows by their numbers
+slice_behind : {X : Type 0} (xs ys : List X) (n : ℕ)
+    → slice_get (xs ++ ys) (length xs + n) ≡ slice_get ys n
+slice_behind [] ys n = let e : 0 + n ≡ n = omega arith in ap (slice_get ys) e
+slice_behind (x ∷ xs) ys n =
+    let e : length (x ∷ xs) + n ≡ suc (length xs + n) = omega arith in
+    ap (slice_get (x ∷ (xs ++ ys))) e ∙ slice_behind xs ys n
+
+stands_behind : {X : Type 0} (before : List X) (x : X) (after : List X)
+    → slice_get (before ++ x ∷ after) (length before) ≡ Some x
+stands_behind [] x after = refl
+stands_behind (y ∷ before) x after = stands_behind before x after
+
+read_behind : (first : ℕ) (rows : List ArrayRow) (n : ℕ) (row : ArrayRow)
+    → slice_get rows n ≡ Some row
+    → slice_get (read_each first rows) n ≡ Some (word.Here (first + n) ∷ [])
+read_behind first [] n row e = absurd (none row e)
+  where
+    none : (row : ArrayRow) → (let n : Option ArrayRow = None in n) ≡ Some row → ⊥
+    none row e = cc
+read_behind first (one ∷ rows) zero row e =
+    let same : first ≡ first + 0 = omega arith in
+    ap (λ k. Some (word.Here k ∷ [])) same
+read_behind first (one ∷ rows) (suc n) row e =
+    let same : first + 1 + n ≡ first + suc n = omega arith in
+    read_behind (first + 1) rows n row e ∙ ap (λ k. Some (word.Here k ∷ [])) same
+
+one_put : (array expr : ℕ) (mask : Option ℕ) (line : ℕ)
+    → IsNest (member.Put array expr mask line ∷ [])
+one_put array expr mask line = record {
+  tree = Putting array expr mask line Nothing;
+  spelled = refl;
+}
+
+all_one : {X : Type 0} (P : X → Type 0) (x : X) → P x → All P (x ∷ [])
+all_one P x holds = All-cons P x [] holds (All-nil P)
+
+self_is : (tables : Tables) (members : List Member) (put : Put)
+    → self_put tables members ≡ Some put
+    → members ≡ member.Put put.array put.expr put.mask put.line ∷ []
+self_is tables [] put e = absurd (none put e)
+  where
+    none : (put : Put) → (let n : Option Put = None in n) ≡ Some put → ⊥
+    none put e = cc
+self_is tables (member.Put array expr mask line ∷ []) put e =
+    by (reads_shifted tables array expr || mask_reads tables array mask) e
+  where
+    by : (b : Bool)
+        → (if b then Some (record { array = array; expr = expr; mask = mask; line = line })
+        else None) ≡ Some put
+        → member.Put array expr mask line ∷ []
+        ≡ member.Put put.array put.expr put.mask put.line ∷ []
+    by true e =
+        let is : (let one : Put = record { array = array; expr = expr; mask = mask; line = line }
+        in one) ≡ put = cc in
+        ap (λ (p : Put). member.Put p.array p.expr p.mask p.line ∷ []) is
+    by false e = absurd (none e)
+      where
+        none : (let n : Option Put = None in n) ≡ Some put → ⊥
+        none e = cc
+self_is tables (member.Put array expr mask line ∷ two ∷ members) put e = absurd (none put e)
+  where
+    none : (put : Put) → (let n : Option Put = None in n) ≡ Some put → ⊥
+    none put e = cc
+self_is tables (one ∷ members) put e = absurd (none put e)
+  where
+    none : (put : Put) → self_put tables (one ∷ members) ≡ Some put → ⊥
+    none put e = cc
+
+module _ (tables : Tables) (fits : Fits tables) where
+  abbrev extra : List ArrayRow
+  extra = temporaries tables
+
+  abbrev mid : Tables
+  mid = with_temporaries tables extra
+
+  grows : Grows tables mid
+  grows = record {
+    scalars = omega arith;
+    cells = omega arith;
+    slots = Keeps-same tables.slots;
+    arrays = Keeps-append tables.arrays extra;
+    texts = omega arith;
+    exprs = Keeps-append tables.exprs (read_each (length tables.arrays) extra);
+    groups = Keeps-same tables.groups;
+    exchanges = omega arith;
+    code = omega arith;
+  }
+
+  here_fits : (rank array : ℕ) → IsRank rank → HasArray mid rank array
+      → FitsExpr mid (word.Here array ∷ [])
+  here_fits rank array is has = record {
+    stack = record { tree = Element array; spelled = refl };
+    rank = rank;
+    is_rank = is;
+    fit = all_one (FitsWord mid rank) (word.Here array) has;
+  }
+
+  has_at : (before after : List ArrayRow) (row : ArrayRow) → extra ≡ before ++ row ∷ after
+      → HasArray mid row.rank (length tables.arrays + length before)
+  has_at before after row is =
+      let at : slice_get mid.arrays (length tables.arrays + length before) ≡ Some row =
+      slice_behind tables.arrays extra (length before)
+      ∙ (ap (λ l. slice_get l (length before)) is ∙ stands_behind before row after) in
+      subst (λ o. IsSomeAnd o (λ (r : ArrayRow). r.rank ≡ row.rank)) (sym at) refl
+
+  reads_fit : (before after : List ArrayRow) → extra ≡ before ++ after
+      → AllByRecursion IsKind after
+      → AllByRecursion (FitsExpr mid) (read_each (length tables.arrays + length before) after)
+  reads_fit before [] is all = tt
+  reads_fit before (row ∷ after) is all =
+      let next : length tables.arrays + length (before ++ row ∷ [])
+          ≡ length tables.arrays + length before + 1 =
+      omega (arith, length-append before (row ∷ [])) in (
+        here_fits row.rank (length tables.arrays + length before) all.0.fits.rank
+            (has_at before after row is),
+        subst (λ n. AllByRecursion (FitsExpr mid) (read_each n after)) next
+            (reads_fit (before ++ row ∷ []) after
+            (is ∙ sym (append_assoc before (row ∷ []) after)) all.1),
+      )
+
+  -- the tables with their temporaries, before any loop is rewritten
+  pub mid_fits : Fits mid
+  mid_fits =
+      let first : length tables.arrays + 0 ≡ length tables.arrays = omega arith in
+      Fits-Appends tables mid fits (record {
+        grows = grows;
+        grid = refl;
+        slots = fits.slots;
+        arrays =
+            All-append FitsArray tables.arrays extra fits.arrays
+            (All-from_recursion FitsArray extra
+            (kinds_are extra (temporaries_fit tables fits)));
+        more_exprs = read_each (length tables.arrays) extra;
+        exprs = refl;
+        exprs_fit =
+            All-from_recursion (FitsExpr mid) (read_each (length tables.arrays) extra)
+            (subst (λ n. AllByRecursion (FitsExpr mid) (read_each n extra)) first
+            (reads_fit [] extra refl (temporaries_fit tables fits)));
+        more_groups = [];
+        groups = sym (append-nil tables.groups);
+        groups_fit = All-nil (FitsGroup mid);
+        more_exchanges = [];
+        exchanges = sym (append-nil tables.exchanges);
+        exchanges_fit = All-nil (FitsExchange mid);
+        more_code = [];
+        code = sym (append-nil tables.code);
+        code_fit = All-nil (FitsInstr mid);
+      })
+    where
+      kinds_are : (rows : List ArrayRow) → AllByRecursion IsKind rows
+          → AllByRecursion FitsArray rows
+      kinds_are [] all = tt
+      kinds_are (row ∷ rows) all = (all.0.fits, kinds_are rows all.1)
+
+  -- ---- the rows of a loop whose values go through a temporary
+  through_fits : (end rank slot : ℕ) (put : Put) (kind : ArrayRow) → HasSlot mid rank slot
+      → FitsMember mid rank (member.Put put.array put.expr put.mask put.line)
+      → slice_get tables.arrays put.array ≡ Some kind → list_any (is_like kind) extra ≡ true
+      → AllByRecursion (FitsGrouped mid end)
+      (put_rows (length tables.arrays + position_or_len (is_like kind) extra)
+      (length tables.exprs + position_or_len (is_like kind) extra) slot put)
+  through_fits end rank slot put kind over fit there any = (
+    record { rank = rank; fit = (over, has_temporary, is_temporary) },
+    (
+      record {
+        rank = rank;
+        over = over;
+        nest = one_put (length tables.arrays + position_or_len (is_like kind) extra) put.expr put.mask
+            put.line;
+        fit =
+            all_one (FitsMember mid rank) (member.Put
+            (length tables.arrays + position_or_len (is_like kind) extra) put.expr put.mask put.line)
+            (has_temporary, fit.1, fit.2);
+      },
+      (
+        record {
+          rank = rank;
+          over = over;
+          nest = one_put put.array (length tables.exprs + position_or_len (is_like kind) extra)
+              put.mask put.line;
+          fit =
+              all_one (FitsMember mid rank) (member.Put put.array
+              (length tables.exprs + position_or_len (is_like kind) extra) put.mask put.line)
+              (fit.0, has_read, fit.2);
+        },
+        tt,
+      ),
+    ),
+  )
+    where
+      one : Found (is_like kind) extra
+      one = found (is_like kind) extra (temporaries_fit tables fits) any
+
+      kind_rank : kind.rank ≡ rank
+      kind_rank =
+          subst (λ o. IsSomeAnd o (λ (r : ArrayRow). r.rank ≡ rank))
+          (Keeps-append tables.arrays extra put.array kind there) fit.0
+
+      at : slice_get mid.arrays (length tables.arrays + position_or_len (is_like kind) extra)
+          ≡ Some one.row
+      at = slice_behind tables.arrays extra (position_or_len (is_like kind) extra) ∙ one.at
+
+      has_temporary : HasArray mid rank
+          (length tables.arrays + position_or_len (is_like kind) extra)
+      has_temporary =
+          subst (λ o. IsSomeAnd o (λ (r : ArrayRow). r.rank ≡ rank)) (sym at)
+          (sym (like_rank kind one.row one.like) ∙ kind_rank)
+
+      is_temporary : IsTemporary mid
+          (length tables.arrays + position_or_len (is_like kind) extra)
+      is_temporary =
+          subst (λ o. IsSomeAnd o (λ (r : ArrayRow). r.stored ≡ false)) (sym at)
+          one.kind.temporary
+
+      has_read : HasExpr mid rank (length tables.exprs + position_or_len (is_like kind) extra)
+      has_read =
+          subst (λ o. IsSomeAnd o (All (FitsWord mid rank)))
+          (sym (slice_behind tables.exprs (read_each (length tables.arrays) extra)
+          (position_or_len (is_like kind) extra)
+          ∙ read_behind (length tables.arrays) extra (position_or_len (is_like kind) extra)
+          one.row one.at))
+          (all_one (FitsWord mid rank)
+          (word.Here (length tables.arrays + position_or_len (is_like kind) extra)) has_temporary)
