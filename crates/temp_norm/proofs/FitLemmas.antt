@@ -7,7 +7,8 @@ use Rattle.std.specs.Prelude.{All, Option, Some, None, slice_get}
 use Rattle.std.specs.Option.{IfSome, IsSomeAnd}
 use Rattle.std.specs.List.{AllByRecursion, list_any, position_or_len}
 use Rattle.std.specs.Cmp.Lexicographic.{pointwise}
-use Rattle.std.proofs.lemmas.List.Elements.{All-append, All-cons, All-from_recursion, All-nil}
+use Rattle.std.proofs.lemmas.List.Elements.{All-append, All-cons, All-from_recursion, All-head}
+use Rattle.std.proofs.lemmas.List.Elements.{All-nil}
 use Rattle.std.proofs.lemmas.List.Elements.{recursion_from_All}
 use Rattle.node_form.specs.declared.words.ExprOp.{ExprOp}
 use Rattle.node_form.specs.declared.words.ExprOp.TheVariants as word
@@ -24,17 +25,25 @@ use Rattle.node_form.specs.Fits.{Fits, FitsArray, FitsExchange, FitsExpr, FitsGr
 use Rattle.node_form.specs.Fits.{FitsMember, FitsWord, Grows, HasArray, HasExpr, HasSlot, IsRank}
 use Rattle.node_form.specs.Fits.{IsTemporary, IsUnused, IsUnusedOrStar}
 use Rattle.node_form.specs.Nest.{IsNest, Nothing, Putting}
-use Rattle.flat_passes.specs.Grouped.{Plain, Runs}
-use Rattle.flat_passes.proofs.FitLemmas.{FitsAlone, FitsGrouped, FitsInline}
-use Rattle.temp_norm.specs.Normalised.{is_like, is_same_kind, temporaries, temporary_like}
+use Rattle.code_parts.specs.Counts.{is_vote}
+use Rattle.code_parts.specs.Stretch.{ends_stretch, leads_to}
+use Rattle.flat_passes.specs.Grouped.{Grouped, Plain, Runs, ended_by, grouped, rewritten_rows}
+use Rattle.flat_passes.specs.Numbers.{number_among, numbers_from}
+use Rattle.flat_passes.proofs.NumberLemmas.{becomes, by_number, counted, new_length}
+use Rattle.flat_passes.proofs.NumberLemmas.{passed_by_rows, rows_become, same_moved_goal}
+use Rattle.flat_passes.proofs.FitLemmas.{FitsAlone, FitsGrouped, FitsInline, laid_fits}
+use Rattle.temp_norm.specs.Normalised.{is_like, is_same_kind, normalised, place_among}
+use Rattle.temp_norm.specs.Normalised.{row_through, temporaries, temporary_like}
 use Rattle.temp_norm.specs.Normalised.{read_each, with_one_like, with_temporaries, without_storage}
 use Rattle.temp_norm.specs.Pieces.{kind_put, kind_through, mask_reads, put_rows, reads_shifted}
-use Rattle.temp_norm.specs.Pieces.{self_put, with_kind}
-use Rattle.node_form.proofs.GrowthLemmas.{Fits-Appends, Fits-array-row, Keeps-append, Keeps-same}
-use Rattle.code_parts.specs.Uses.{members_of}
+use Rattle.temp_norm.specs.Pieces.{row_written, self_put, through_rows, with_kind}
+use Rattle.node_form.proofs.GrowthLemmas.{Fits-Appends, Fits-array-row, Fits-group-row}
+use Rattle.node_form.proofs.GrowthLemmas.{Keeps-append, Keeps-same}
+use Rattle.code_parts.specs.Uses.{members_of, rows_or_none}
 use Rattle.flat_passes.proofs.StretchLemmas.{every_append}
 use Rattle.temp_norm.specs.declared.reads.Put.{Put}
-use Rattle.temp_norm.proofs.PieceLemmas.{any_both, temporaries_are, with_all}
+use Rattle.temp_norm.proofs.PieceLemmas.{any_both, by_steps, one_for_one, temporaries_are}
+use Rattle.temp_norm.proofs.PieceLemmas.{with_all}
 
 -- ---- a temporary is as a row may have it
 pub record IsKind (row : ArrayRow) : Type 0 where
@@ -226,7 +235,7 @@ module _ (tables : Tables) (fits : Fits tables) where
   all_have rows [] = tt
   all_have rows (row ∷ code) = (
     λ kind e.
-    kept_all (is_like kind) (with_kind rows (kind_through tables row)) code
+        kept_all (is_like kind) (with_kind rows (kind_through tables row)) code
         (subst (λ k. list_any (is_like kind) (with_kind rows k) ≡ true) (sym e)
         (there_with_one rows kind)),
     all_have (with_kind rows (kind_through tables row)) code,
@@ -263,6 +272,18 @@ read_behind first (one ∷ rows) zero row e =
 read_behind first (one ∷ rows) (suc n) row e =
     let same : first + 1 + n ≡ first + suc n = omega arith in
     read_behind (first + 1) rows n row e ∙ ap (λ k. Some (word.Here k ∷ [])) same
+
+same_end : (one other : ℕ → ℕ) (row : Instr)
+    → ((g : ℕ) → leads_to g row ≡ true → one g ≡ other g) → ended_by one row ≡ ended_by other row
+same_end one other row same = ap (λ r. Plain r) (same_moved_goal one other row same)
+
+-- new numbers are none past the end
+number_less : (count : Instr → ℕ) (rows : List Instr) (from end g : ℕ)
+    → from + counted count rows ≤ end → number_among (numbers_from count from rows) end g ≤ end
+number_less count [] from end g less = omega arith
+number_less count (row ∷ rows) from end zero less = omega (arith, less)
+number_less count (row ∷ rows) from end (suc g) less =
+    number_less count rows (from + count row) end g (omega (arith, less))
 
 one_put : (array expr : ℕ) (mask : Option ℕ) (line : ℕ)
     → IsNest (member.Put array expr mask line ∷ [])
@@ -349,7 +370,7 @@ module _ (tables : Tables) (fits : Fits tables) where
   reads_fit before [] is all = tt
   reads_fit before (row ∷ after) is all =
       let next : length tables.arrays + length (before ++ row ∷ [])
-          ≡ length tables.arrays + length before + 1 =
+      ≡ length tables.arrays + length before + 1 =
       omega (arith, length-append before (row ∷ [])) in (
         here_fits row.rank (length tables.arrays + length before) all.0.fits.rank
             (has_at before after row is),
@@ -461,3 +482,133 @@ module _ (tables : Tables) (fits : Fits tables) where
           one.row one.at))
           (all_one (FitsWord mid rank)
           (word.Here (length tables.arrays + position_or_len (is_like kind) extra)) has_temporary)
+
+  -- ---- the rows of any loop
+  loop_rows : (end rank old_rank slot : ℕ) (members : List Member) → HasSlot mid rank slot
+      → IsNest members → All (FitsMember mid rank) members
+      → All (FitsMember tables old_rank) members → (put : Option Put)
+      → self_put tables members ≡ put
+      → ((kind : ArrayRow) → kind_put tables put ≡ Some kind
+      → list_any (is_like kind) extra ≡ true)
+      → AllByRecursion (FitsGrouped mid end) (through_rows tables extra slot members put)
+  loop_rows end rank old_rank slot members over nest fit old_fit None e has =
+      (record { rank = rank; over = over; nest = nest; fit = fit }, tt)
+  loop_rows end rank old_rank slot members over nest fit old_fit (Some put) e has =
+      let is : members ≡ member.Put put.array put.expr put.mask put.line ∷ [] =
+      self_is tables members put e in
+      let one : FitsMember mid rank (member.Put put.array put.expr put.mask put.line) =
+      All-head (FitsMember mid rank) (member.Put put.array put.expr put.mask put.line) []
+      (subst (All (FitsMember mid rank)) is fit) in
+      let old_one : FitsMember tables old_rank
+      (member.Put put.array put.expr put.mask put.line) =
+      All-head (FitsMember tables old_rank) (member.Put put.array put.expr put.mask put.line) []
+      (subst (All (FitsMember tables old_rank)) is old_fit) in
+      by one (slice_get tables.arrays put.array) refl old_one.0
+    where
+      by : FitsMember mid rank (member.Put put.array put.expr put.mask put.line)
+          → (o : Option ArrayRow) → slice_get tables.arrays put.array ≡ o
+          → IsSomeAnd o (λ (r : ArrayRow). r.rank ≡ old_rank)
+          → AllByRecursion (FitsGrouped mid end)
+          (through_rows tables extra slot members (Some put))
+      by one None there h = absurd h
+      by one (Some kind) there h =
+          subst (λ o. AllByRecursion (FitsGrouped mid end)
+          (put_rows (length tables.arrays + place_among extra o)
+          (length tables.exprs + place_among extra o) slot put)) (sym there)
+          (through_fits end rank slot put kind over one there (has kind there))
+
+  loop_fits : (end slot group : ℕ) → FitsInstr mid (instr.Loop slot group)
+      → FitsInstr tables (instr.Loop slot group)
+      → ((kind : ArrayRow) → kind_through tables (instr.Loop slot group) ≡ Some kind
+      → list_any (is_like kind) extra ≡ true)
+      → AllByRecursion (FitsGrouped mid end) (row_written tables extra (instr.Loop slot group))
+  loop_fits end slot group fit old_fit has =
+      by (slice_get tables.groups group) refl fit.fit.1 old_fit.fit.1 has
+    where
+      by : (o : Option (List Member)) → slice_get tables.groups group ≡ o
+          → IsSomeAnd o (All (FitsMember mid fit.rank))
+          → IsSomeAnd o (All (FitsMember tables old_fit.rank))
+          → ((kind : ArrayRow) → kind_put tables (self_put tables (rows_or_none o)) ≡ Some kind
+          → list_any (is_like kind) extra ≡ true)
+          → AllByRecursion (FitsGrouped mid end)
+          (through_rows tables extra slot (rows_or_none o) (self_put tables (rows_or_none o)))
+      by None e one old h = absurd one
+      by (Some members) e one old h =
+          loop_rows end fit.rank old_fit.rank slot members fit.fit.0
+          (Fits-group-row mid group members mid_fits e).nest one old (self_put tables members)
+          refl h
+
+  -- ---- all rows
+  abbrev inline : List Instr → List Grouped
+  inline rows = flat_map (row_through tables extra) (map (grouped tables) rows)
+
+  abbrev row_becomes : (ℕ → ℕ) → Instr → List Grouped
+  row_becomes moved row =
+      becomes (row_written tables extra) inline ended_by (by_steps tables extra)
+      (one_for_one tables extra) same_end tables.code moved (ends_stretch row) row
+
+  abbrev all_become : (ℕ → ℕ) → List Instr → List Grouped
+  all_become moved rows =
+      rows_become (row_written tables extra) inline ended_by (by_steps tables extra)
+      (one_for_one tables extra) same_end tables.code moved rows
+
+  row_fits : (end : ℕ) (moved : ℕ → ℕ) → ((g : ℕ) → moved g ≤ end) → (row : Instr)
+      → is_vote row ≡ false → FitsInstr tables row → FitsInstr mid row
+      → HasKind tables fits extra row
+      → AllByRecursion (FitsGrouped mid end) (row_becomes moved row)
+  row_fits end moved less (instr.Jump goal) vote old fit has = (less goal, tt)
+  row_fits end moved less (instr.Unless expr goal line) vote old fit has =
+      ((fit.fit.0, less goal), tt)
+  row_fits end moved less (instr.Loop slot group) vote old fit has =
+      loop_fits end slot group fit old has
+  row_fits end moved less (instr.Vote group) vote old fit has = absurd (true≢false vote)
+  row_fits end moved less (instr.TreeVote group) vote old fit has = absurd (true≢false vote)
+  row_fits end moved less row vote old fit has = (fit, tt)
+
+  rows_fit : (end : ℕ) (moved : ℕ → ℕ) → ((g : ℕ) → moved g ≤ end) → (rows : List Instr)
+      → AllByRecursion (λ row. is_vote row ≡ false) rows
+      → AllByRecursion (FitsInstr tables) rows → AllByRecursion (FitsInstr mid) rows
+      → AllByRecursion (HasKind tables fits extra) rows
+      → AllByRecursion (FitsGrouped mid end) (all_become moved rows)
+  rows_fit end moved less [] votes old fit has = tt
+  rows_fit end moved less (row ∷ rows) votes old fit has =
+      every_append (FitsGrouped mid end) (row_becomes moved row) (all_become moved rows)
+      (row_fits end moved less row votes.0 old.0 fit.0 has.0)
+      (rows_fit end moved less rows votes.1 old.1 fit.1 has.1)
+
+  abbrev places : ℕ → ℕ
+  places =
+      by_number (row_written tables extra) inline ended_by (by_steps tables extra)
+      (one_for_one tables extra) same_end tables.code
+
+  passed_is : rewritten_rows tables (flat_map (row_through tables extra))
+      ≡ all_become places tables.code
+  passed_is =
+      passed_by_rows (row_written tables extra) inline ended_by (by_steps tables extra)
+      (one_for_one tables extra) same_end tables.code
+
+  places_less : (g : ℕ) → places g ≤ length (all_become places tables.code)
+  places_less g =
+      let long : length (all_become places tables.code)
+      ≡ counted (λ row. length (row_written tables extra row)) tables.code =
+      ap length (sym passed_is)
+      ∙ new_length (row_written tables extra) inline ended_by (by_steps tables extra)
+      (one_for_one tables extra) same_end tables.code in
+      omega (
+        arith,
+        long,
+        number_less (λ row. length (row_written tables extra row)) tables.code 0
+            (counted (λ row. length (row_written tables extra row)) tables.code) g
+            (omega arith),
+      )
+
+  -- tables that fit, and where nobody votes, fit when they are normalised
+  pub normalised_fits : All (λ row. is_vote row ≡ false) tables.code → Fits (normalised tables)
+  normalised_fits unvoted =
+      laid_fits mid (rewritten_rows tables (flat_map (row_through tables extra))) mid_fits
+      (subst (λ rows. AllByRecursion (FitsGrouped mid (length rows)) rows) (sym passed_is)
+      (rows_fit (length (all_become places tables.code)) places places_less tables.code
+      (recursion_from_All (λ row. is_vote row ≡ false) tables.code unvoted)
+      (recursion_from_All (FitsInstr tables) tables.code fits.code)
+      (recursion_from_All (FitsInstr mid) tables.code mid_fits.code)
+      (all_have_one tables fits)))
