@@ -1,5 +1,5 @@
 -- Checks of places that always pass are left out.
-use Rattle.std.specs.Prelude.{Bool, not, filter}
+use Rattle.std.specs.Prelude.{Bool, not, filter, if◌then◌else◌, List, [], ◌∷◌}
 use Rattle.node_form.specs.declared.instructions.Instr.{Instr}
 use Rattle.node_form.specs.declared.tables.Tables.{Tables}
 use Rattle.code_parts.specs.Needs.{is_decided}
@@ -13,3 +13,7 @@ stays tables row = not (is_decided tables row)
 
 abbrev pub checked : Tables → Tables
 checked tables = record tables { code = rewritten_code (filter (stays tables)) tables.code }
+
+-- the rows that take the place of one
+abbrev pub rows_stayed : Tables → Instr → List Instr
+rows_stayed tables row = if stays tables row then row ∷ [] else []

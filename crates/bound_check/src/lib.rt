@@ -2,8 +2,7 @@
 #![tactic(auto)]
 
 mod checks;
-
-pub use checks::place_checks;
+mod writes;
 
 ghost use Rattle.std.specs.Prelude.{◌≡◌, ℕ, ◌≤◌};
 ghost use Rattle.node_form.specs.declared.tables.Tables.{Tables as Code};
@@ -14,6 +13,8 @@ ghost use Rattle.row_runs.specs.Segments.{Keeps};
 ghost use Rattle.flat_form.specs.Act.{flat_run};
 ghost use Rattle.flat_passes.specs.Rewritten.{has_goal};
 ghost use Rattle.bound_check.specs.Checked.{checked};
+
+pub use checks::place_checks;
 
 /// No check is left whose slot `fix` rows alone write, and which passes for each of their regions.
 /// The code gets no larger, has as many jumps and tests, and nothing but its rows changes.

@@ -39,4 +39,3 @@ module _ {Row Other S : Type 0} (act : Other → S → Effect S) (f : Row → Ot
       (drop_seen at code)
       ∙ walked_seen (runs act (map f code) left) (runs seen code left)
       (λ g s. runs_seen code left g s) (λ _. stopped (Ends Done)) at (drop at code) s
-

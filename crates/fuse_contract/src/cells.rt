@@ -6,6 +6,7 @@ use node_form::Tables;
 use std::alloc::{AllocError, Global};
 
 /// The tables in which arrays that one group alone names are cells, where they can be.
+/// The body is to come: today it always answers that memory is wanting.
 pub fn contract(_alloc: Global, _tables: Tables) -> Result<Tables, AllocError>
     ensures { IfOk result (λ made. made ≡ contracted _tables) }
 {

@@ -1,3 +1,4 @@
+pub mod FitLemmas
 pub mod JumpLemmas
 pub mod NormalLemmas
 pub mod PieceLemmas

@@ -41,7 +41,7 @@ any_words array (word.Shifted other shift ∷ words) =
     ap (λ b. (array == other) || b) (any_words array words)
 any_words array (one ∷ words) = any_words array words
 
-any_both : {X : Type 0} (test : X → Bool) (xs ys : List X)
+pub any_both : {X : Type 0} (test : X → Bool) (xs ys : List X)
     → list_any test (xs ++ ys) ≡ (list_any test xs || list_any test ys)
 any_both test [] ys = refl
 any_both test (x ∷ xs) ys = by (test x) (any_both test xs ys)
@@ -154,7 +154,7 @@ module _ (tables : Tables) where
       ∙ put_is rows slot members (only_put members) refl
   row_is rows row = refl
 
-  by_steps : (rows : List ArrayRow) (code : List Instr)
+  pub by_steps : (rows : List ArrayRow) (code : List Instr)
       → flat_map (row_through tables rows) (map (grouped tables) code)
       ≡ flat_map (row_written tables rows) code
   by_steps rows [] = refl
@@ -163,7 +163,7 @@ module _ (tables : Tables) where
       (row_is rows row)
       ∙ ap (λ more. row_written tables rows row ++ more) (by_steps rows code)
 
-  one_for_one : (rows : List ArrayRow) (row : Instr) → ends_stretch row ≡ true
+  pub one_for_one : (rows : List ArrayRow) (row : Instr) → ends_stretch row ≡ true
       → length (row_written tables rows row) ≡ 1
   one_for_one rows (instr.Loop slot group) e = absurd (true≢false (sym e))
   one_for_one rows row e = refl

@@ -5,10 +5,10 @@ mod loops;
 mod reads;
 mod temporaries;
 
-ghost use Rattle.std.specs.Prelude.{◌≡◌, ◌+◌, ◌*◌, ◌≤◌, length, sum_by};
+ghost use Rattle.std.specs.Prelude.{◌≡◌, ◌+◌, ◌*◌, ◌≤◌, All, false, length, sum_by};
 ghost use Rattle.node_form.specs.Fits.{Fits};
 ghost use Rattle.node_form.specs.declared.tables.Tables.{Tables as Code};
-ghost use Rattle.code_parts.specs.Counts.{code_size, count_of};
+ghost use Rattle.code_parts.specs.Counts.{code_size, count_of, is_vote};
 ghost use Rattle.flat_passes.specs.Grouped.{loop_members};
 ghost use Rattle.flat_passes.specs.Rewritten.{has_goal};
 ghost use Rattle.temp_norm.specs.Normalised.{IsNormal, ReadThemselvesAlone, loops_on_themselves};
@@ -37,4 +37,10 @@ pub fn values_go_through_temporaries()
           groups = code.groups;
           code = code.code;
         } ≡ code }
+{}
+
+/// Tables that fit, and whose code has no vote, fit when they are normalised.
+pub fn normal_tables_fit()
+    ensures { (code : Code) → Fits code → All (λ row. is_vote row ≡ false) code.code →
+        Fits (normalised code) }
 {}

@@ -1,0 +1,66 @@
+-- Regions of rows that fit, and the places of stored arrays, are regions.
+use Rattle.std.proofs.Common.{◌≡◌, ℕ, zero, suc, ◌+◌, ◌-◌, List, [], ◌∷◌, length, map, drop}
+use Rattle.std.proofs.Common.{replicate, refl, ap, ◌∙◌, subst, pos, arith, get_or, true}
+use Rattle.std.specs.Prelude.{Option, Some, All}
+use Rattle.std.specs.Option.{IsSomeAnd}
+use Rattle.std.proofs.lemmas.Int.{ints}
+use Rattle.std.proofs.lemmas.List.Elements.{All-nil, All-cons, All-head, All-tail}
+use Rattle.zpl_region.specs.declared.dims.Dim.TheVariants as dim
+use Rattle.zpl_region.specs.declared.regions.Region.{Region}
+use Rattle.zpl_region.specs.Dim.{HasStep, IsDim, IsDimWithinLimit}
+use Rattle.zpl_region.specs.Region.{IsRegion, padding}
+use Rattle.zpl_region.proofs.RegionLemmas.{within_is_dim}
+use Rattle.node_form.specs.declared.arrays.ArrayDim.{ArrayDim}
+use Rattle.node_form.specs.declared.arrays.ArrayDim.TheVariants.{Range, Star}
+use Rattle.node_form.specs.declared.arrays.ArrayRow.{ArrayRow}
+use Rattle.node_form.specs.Fits.{FitsArray, FitsRegion, IsUnused, storage_dim, storage_of}
+
+pub region_fits : (region : Region) → FitsRegion region → IsRegion region
+region_fits region fits = record {
+  rank_above = fits.rank.0;
+  rank_below = fits.rank.1;
+  dims = λ k d here.
+      within_is_dim (get_or region.dims k d) (fits.steps k d here) (fits.limit.dims k d here);
+  padded = fits.padded;
+}
+
+one_step : (d : ArrayDim) → HasStep (storage_dim d)
+one_step (Range lo hi low high) = omega (arith, ints)
+one_step Star = tt
+
+all_dims : (dims : List ArrayDim) → All IsDimWithinLimit (map storage_dim dims)
+    → All IsDim (map storage_dim dims)
+all_dims [] within = All-nil IsDim
+all_dims (d ∷ dims) within =
+    All-cons IsDim (storage_dim d) (map storage_dim dims)
+    (within_is_dim (storage_dim d) (one_step d)
+    (All-head IsDimWithinLimit (storage_dim d) (map storage_dim dims) within))
+    (all_dims dims (All-tail IsDimWithinLimit (storage_dim d) (map storage_dim dims) within))
+
+unused_dim : (d : ArrayDim) → IsUnused d → storage_dim d ≡ padding
+unused_dim (Range lo hi low high) unused =
+    ap (λ l. dim.Range l hi (pos 1) l) unused.0
+    ∙ ap (λ h. dim.Range (pos 0) h (pos 1) (pos 0)) unused.1
+unused_dim Star unused = absurd unused
+
+padded : (rank k : ℕ) (dims : List ArrayDim) → length dims ≡ rank + k
+    → All IsUnused (drop rank dims) → drop rank (map storage_dim dims) ≡ replicate k padding
+padded zero zero [] many unused = refl
+padded zero (suc k) [] many unused = absurd (omega arith)
+padded zero zero (d ∷ dims) many unused = absurd (omega arith)
+padded zero (suc k) (d ∷ dims) many unused =
+    ap (λ first. first ∷ map storage_dim dims) (unused_dim d (All-head IsUnused d dims unused))
+    ∙ ap (λ rest. padding ∷ rest)
+    (padded zero k dims (omega arith) (All-tail IsUnused d dims unused))
+padded (suc rank) zero [] many unused = absurd (omega arith)
+padded (suc rank) (suc k) [] many unused = absurd (omega arith)
+padded (suc rank) k (d ∷ dims) many unused = padded rank k dims (omega arith) unused
+
+pub storage_fits : (row : ArrayRow) → length row.dims ≡ 3 → FitsArray row → row.stored ≡ true
+    → IsRegion (storage_of row)
+storage_fits row many fits stored = record {
+  rank_above = fits.rank.0;
+  rank_below = fits.rank.1;
+  dims = all_dims row.dims (fits.limit stored).dims;
+  padded = padded row.rank (3 - row.rank) row.dims (omega (arith, many, fits.rank)) fits.padded;
+}

@@ -1,0 +1,13 @@
+use Rattle.std.proofs.Common.{sym, subst}
+use Rattle.zpl_region.specs.Region.{IsRegion}
+use Rattle.bound_check.proofs.RegionLemmas.{region_fits, storage_fits}
+use Rattle.bound_check.proofs.checks.is_within.Goals as goal
+
+pub is_reference-requires-clause-region : goal.is_reference-requires-clause-region
+is_reference-requires-clause-region c = region_fits c.args.region.now c.requires.region
+
+pub is_reference-requires-clause-storage : goal.is_reference-requires-clause-storage
+is_reference-requires-clause-storage c =
+    subst IsRegion (sym c.storage_of-storage.ensures.places)
+    (storage_fits c.args.row.now c.storage_of-storage.ensures.many c.requires.row
+    c.requires.stored)
