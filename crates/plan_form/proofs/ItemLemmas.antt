@@ -4,6 +4,13 @@ use Rattle.std.proofs.Common.{List, [], ◌∷◌, ◌++◌, map, take}
 use Rattle.std.specs.Prelude.{if◌then◌else◌, ◌||◌, Option, Some, None, slice_get}
 use Rattle.std.specs.List.{list_any}
 use Rattle.std.proofs.lemmas.List.{map-append}
+use Rattle.std.specs.Prelude.{◌&&◌, ◌==◌}
+use Rattle.std.specs.Bool.{Decides}
+use Rattle.std.specs.Cmp.Lexicographic.{pointwise}
+use Rattle.std.specs.Ordering.{int_eq}
+use Rattle.std.proofs.lemmas.Bool.Decides.{Decides-eqb, Decides-int_eq}
+use Rattle.std.proofs.lemmas.Slice.Eq.{slice_eq-Decides}
+use Rattle.code_parts.proofs.WalkLemmas.{both_left, both_right}
 use Rattle.indexmap.specs.IndexSet.{insert_key}
 use Rattle.node_form.specs.declared.arrays.Item.{Item}
 use Rattle.code_parts.specs.Uses.{is_item}
@@ -45,3 +52,35 @@ taken_more xs k x there = ap (λ n. take n xs) (add-one k) ∙ step xs k there
         let e : y ≡ x = cc in
         ap (λ z. z ∷ []) e
     step (y ∷ ys) (suc k) there = ap (λ rest. y ∷ rest) (step ys k there)
+
+-- ---- equal items
+same_parts : (one other : Item) → one.array ≡ other.array → one.slot ≡ other.slot
+    → one.shift ≡ other.shift → one ≡ other
+same_parts one other array slot shift =
+    ap (λ n. record one { array = n }) array
+    ∙ ap (λ n. record one { array = other.array; slot = n }) slot
+    ∙ ap (λ d. record other { shift = d }) shift
+
+pub is_item-Decides : (one other : Item) → Decides (is_item one other) (one ≡ other)
+is_item-Decides one other = (same, itself)
+  where
+    shifts : Decides (pointwise int_eq one.shift other.shift) (one.shift ≡ other.shift)
+    shifts = slice_eq-Decides Decides-int_eq one.shift other.shift _ refl
+
+    same : is_item one other ≡ true → one ≡ other
+    same is =
+        let front = both_left ((one.array == other.array) && (one.slot == other.slot)) _ is in
+        same_parts one other
+        ((Decides-eqb one.array other.array).0
+        (both_left (one.array == other.array) _ front))
+        ((Decides-eqb one.slot other.slot).0
+        (both_right (one.array == other.array) _ front))
+        (shifts.0 (both_right ((one.array == other.array) && (one.slot == other.slot)) _ is))
+
+    itself : one ≡ other → is_item one other ≡ true
+    itself is =
+        ap (λ b. b && (one.slot == other.slot) && pointwise int_eq one.shift other.shift)
+        ((Decides-eqb one.array other.array).1 (ap (λ (item : Item). item.array) is))
+        ∙ ap (λ b. b && pointwise int_eq one.shift other.shift)
+        ((Decides-eqb one.slot other.slot).1 (ap (λ (item : Item). item.slot) is))
+        ∙ shifts.1 (ap (λ (item : Item). item.shift) is)

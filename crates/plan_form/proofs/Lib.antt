@@ -1,3 +1,4 @@
+pub mod GoalLemmas
 pub mod ItemLemmas
 pub mod PassLemmas
 pub mod WalkLemmas

@@ -168,8 +168,11 @@ module _ {F : Type 0} (tables : Tables) (nothing : F) (step : F → Instr → Li
   abbrev pub close_rows : F → List PlanRow
   close_rows facts = flat_map unit_rows (close facts)
 
+  abbrev pub closed_from : F → List Instr → List PlanRow
+  closed_from = walks.closed {F = F} {Old = Instr} {New = PlanRow} ends_stretch (is_goal tables.code) nothing step_rows learn close_rows ended_by
+
   abbrev pub closed_rows : List Instr → List PlanRow
-  closed_rows = walks.closed {F = F} {Old = Instr} {New = PlanRow} ends_stretch (is_goal tables.code) nothing step_rows learn close_rows ended_by nothing
+  closed_rows = closed_from nothing
 
   abbrev pub walk : (ℕ → ℕ) → F → ℕ → List Instr → List PlanRow
   walk moved facts at rows = walks.walk {F = F} {Old = Instr} {New = PlanRow} ends_stretch (is_goal tables.code) nothing step_rows learn close_rows ended_by moved facts at rows

@@ -1,4 +1,5 @@
 pub mod Draft
+pub mod Goals
 pub mod Items
 pub mod Plan
 pub mod Rewrite

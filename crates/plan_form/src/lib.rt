@@ -6,9 +6,11 @@
 #![tactic(auto)]
 
 mod draft;
+mod goals;
 mod items;
 mod lists;
 
 pub use draft::PlanDraft;
+pub use goals::goals_of;
 pub use items::ItemSet;
 pub use lists::{items_of, members_of, words_of};
