@@ -1,0 +1,4 @@
+pub mod Flags
+pub mod Inline
+pub mod Drafted
+pub mod Call
