@@ -19,7 +19,7 @@ drop_at : {A : Type 0} (xs : List A) (i : ℕ) (d : A) → i < length xs →
     drop i xs ≡ get_or xs i d ∷ drop (i + 1) xs
 drop_at xs i d less = drop-cons xs i d less ∙ ap (λ n. get_or xs i d ∷ drop n xs) (sym (add-one i))
 
-drop_past : {A : Type 0} (xs : List A) (i : ℕ) → length xs ≤ i → drop i xs ≡ []
+pub drop_past : {A : Type 0} (xs : List A) (i : ℕ) → length xs ≤ i → drop i xs ≡ []
 drop_past [] zero past = refl
 drop_past [] (suc i) past = refl
 drop_past (x ∷ xs) zero past = absurd (omega (arith, past))

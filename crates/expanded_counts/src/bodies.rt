@@ -65,7 +65,8 @@ fn calls_of<'a>(
     let mut findings = Findings::new(alloc, false);
     let unknown = Shapes::all(Current::Unknown);
     walk_under(&mut findings, &text.globals, routine, unknown)?;
-    numbers_of(alloc, text, findings.calls())
+    let numbers = numbers_of(alloc, text, findings.calls())?;
+    Ok(numbers)
 }
 
 /// A procedure as it is counted.

@@ -1,4 +1,4 @@
-use Rattle.std.proofs.Common.{◌≡◌, [], ◌++◌, None, false, ap, map, ◌∙◌}
+use Rattle.std.proofs.Common.{◌≡◌, List, [], ◌++◌, None, false, ap, map, ◌∙◌}
 use Rattle.std.specs.List.{filter_map, fold}
 use Rattle.zpl_tree.specs.View.{syntax_of}
 use Rattle.zpl_names.specs.Shapes.{unknown_shapes}
@@ -22,7 +22,7 @@ pub returns : goal.returns
 returns c =
     let text = c.args.text.now in
     let routine = routine_of c.args.routine.now in
-    c.numbers_of.ensures
+    c.in_ok-numbers.ensures
     ∙ ap (map (λ call. node_of (names_in text) call.name.text))
     (calls_are (state_of c.new-findings.result) (state_of c.walk_under.new.findings)
     (sites_over text.globals unknown_shapes routine) _ c.new-findings.ensures

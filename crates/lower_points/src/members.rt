@@ -1,0 +1,33 @@
+//! Members that are collected one by one.
+ghost use Rattle.std.specs.Prelude.{◌≡◌, ◌∷◌, ◌++◌, [], OnOk, length};
+ghost use Rattle.flat_form.specs.Row as row;
+ghost use Rattle.flat_form.specs.Row.{Member};
+ghost use Rattle.zpl_lowering.specs.Statement.{otherwise_members};
+ghost use Rattle.lower_draft.specs.Inline.{member_of};
+ghost use Rattle.lower_points.specs.Inside.{members_in};
+
+use lower_draft::FlatMember;
+use std::alloc::AllocError;
+
+/// Appends a member.
+pub fn push(members: &mut Vec<FlatMember>, member: FlatMember) -> Result<(), AllocError>
+    ensures { OnOk result (members_in members.new.items
+        ≡ members_in members.old.items ++ member_of member ∷ []) }
+{
+    members.push(member)?;
+    Ok(())
+}
+
+/// Closes an `OpenIf` whose other branch began behind so many members. An empty one is left out.
+pub fn close_if(members: &mut Vec<FlatMember>, before: usize) -> Result<(), AllocError>
+    ensures { (opened last : List Member) → before ≡ length opened
+        → members_in members.old.items ≡ opened ++ row.Otherwise ∷ last
+        → OnOk result (members_in members.new.items
+        ≡ opened ++ (otherwise_members last ++ row.CloseIf ∷ [])) }
+{
+    if members.len() == before + 1 {
+        members.truncate(before);
+    }
+    members.push(FlatMember::CloseIf)?;
+    Ok(())
+}

@@ -1,0 +1,5 @@
+pub mod Tests
+pub mod Values
+pub mod Prefixes
+pub mod Writes
+pub mod Counters

@@ -1,0 +1,200 @@
+//! Prints: all values are computed before the first of them is printed.
+ghost use Rattle.std.specs.Prelude.{◌≡◌, ◌++◌, IfOk, OnOk, List, map};
+ghost use Rattle.std.specs.Option.{option_map};
+ghost use Rattle.zpl_tree.specs.Syntax as plain;
+ghost use Rattle.zpl_tree.specs.View.{base_type_of, expr_of, item_of};
+ghost use Rattle.zpl_names.specs.Types.{type_of};
+ghost use Rattle.node_form.specs.Expression.{Expression, words_of};
+ghost use Rattle.zpl_lowering.specs.Lowered.{rows_alone};
+ghost use Rattle.zpl_lowering.specs.Statement.{is_truth, items_of, lowered_write, newline};
+ghost use Rattle.zpl_lowering.specs.Statement.{printed_exprs, shown_of};
+ghost use Rattle.lower_draft.specs.Drafted.{grown};
+ghost use Rattle.lower_draft.specs.Inline.{row_of};
+ghost use Rattle.lower_places.specs.Sound.{IsPlace};
+ghost use Rattle.lower_places.specs.View.{where_of};
+ghost use Rattle.lower_operators.specs.Sound.{AreFitPlaced};
+ghost use Rattle.lower_operators.specs.View.{placed_of};
+ghost use Rattle.lower_points.specs.Fit.{AreFitItems};
+ghost use Rattle.lower_statements.specs.Writes.{rows_in, shown_alone, values_of};
+
+use lower_draft::{Draft, FlatMember, FlatRow};
+use lower_operators::{Placed, phases};
+use lower_places::{Place, Slotted};
+use name_kinds::{BaseType, part_of};
+use node_form::{ExprOp, ExprRow, Instr, TextRow};
+use std::alloc::{AllocError, Global};
+use zpl_text::unescape;
+use zpl_tree::{Expr, Item};
+
+/// The expressions that are printed, with their ranks.
+fn printed<'a>(
+    alloc: Global,
+    place: &Place<'_, '_>,
+    items: &[Item<'a>],
+) -> Result<Vec<Placed<'a>>, AllocError>
+    requires place { IsPlace place.now }
+    requires fit { AreFitItems (map item_of items.now) }
+    ensures exprs { IfOk result (λ exprs. map placed_of exprs.items
+        ≡ printed_exprs (where_of place.now) (map item_of items.now)) }
+    ensures fit { IfOk result (λ exprs. AreFitPlaced exprs.items) }
+{
+    let mut exprs = Vec::new(alloc);
+    for item in items {
+        if let Item::Value(expr) = item {
+            let rank = place.rank_in(expr);
+            exprs.push(Placed { rank, expr: *expr })?;
+        }
+    }
+    Ok(exprs)
+}
+
+/// Whether an expression is printed as a truth value.
+fn prints_truth(place: &Place<'_, '_>, expr: &Expr<'_>) -> bool
+    ensures { result ≡ is_truth (type_of (where_of place.now).scope (expr_of expr.now)) }
+{
+    match part_of(&place.scope, place.prefix, expr).base {
+        Some(BaseType::Boolean) => true,
+        _ => false,
+    }
+}
+
+/// Appends the value of a scalar, and gives the row that prints it.
+fn push_scalar(
+    draft: &mut Draft,
+    line: u32,
+    truth: bool,
+    expr: ExprRow,
+) -> Result<FlatRow, AllocError> {
+    let scalar = draft.add_scalar()?;
+    let mut words = Vec::new(draft.alloc());
+    words.push(ExprOp::Scalar(scalar))?;
+    let shown = ExprRow::of(words);
+    draft.push(FlatRow::Set { scalar, expr, line })?;
+    if truth {
+        Ok(FlatRow::Truth { expr: shown })
+    } else {
+        Ok(FlatRow::Number { expr: shown })
+    }
+}
+
+/// Appends the values of an array over the current region, and gives the row that prints them.
+fn push_array(
+    draft: &mut Draft,
+    line: u32,
+    truth: bool,
+    over: &Slotted,
+    expr: ExprRow,
+) -> Result<FlatRow, AllocError> {
+    let array = draft.add_temp(over.flood)?;
+    let slot = over.slot;
+    draft.push(FlatRow::Plain(Instr::Room { array, slot }))?;
+    let mut group = Vec::new(draft.alloc());
+    group.push(FlatMember::Put {
+        array,
+        expr,
+        mask: None,
+        line,
+    })?;
+    draft.push(FlatRow::Loop { slot, group })?;
+    Ok(FlatRow::Plain(Instr::Gather { truth, array, slot }))
+}
+
+/// Appends the rows of a value that is printed, and gives the row that prints it.
+fn push_value(
+    draft: &mut Draft,
+    place: &Place<'_, '_>,
+    line: u32,
+    expr: &Expr<'_>,
+    words: ExprRow,
+) -> Result<FlatRow, AllocError>
+    requires { IsPlace place.now }
+    ensures code { (left : Expression) → words ≡ words_of left → OnOk result (draft.new
+        ≡ grown draft.old (shown_alone (shown_of (where_of place.now) line
+        draft.old.next.scalars draft.old.next.temps (expr_of expr.now) left))) }
+    ensures print { (left : Expression) → words ≡ words_of left → IfOk result (λ row. row_of row
+        ≡ (shown_of (where_of place.now) line draft.old.next.scalars draft.old.next.temps
+        (expr_of expr.now) left).print) }
+{
+    let truth = prints_truth(place, expr);
+    let rank = place.rank_in(expr);
+    match rank {
+        None | Some(0) => push_scalar(draft, line, truth, words),
+        _ => {
+            let over = place.current(rank);
+            push_array(draft, line, truth, &over, words)
+        }
+    }
+}
+
+/// The row that prints a text.
+fn text_row(alloc: Global, string: &[u8]) -> Result<FlatRow, AllocError> {
+    let text = unescape(alloc, string)?;
+    Ok(FlatRow::Print {
+        text: TextRow::of(text),
+    })
+}
+
+/// Appends the rows of all values that are printed, and gives the rows that print items.
+fn push_items(
+    draft: &mut Draft,
+    place: &Place<'_, '_>,
+    line: u32,
+    ends: bool,
+    items: &[Item<'_>],
+    left: Vec<ExprRow>,
+) -> Result<Vec<FlatRow>, AllocError>
+    requires { IsPlace place.now }
+    ensures code { (exprs : List Expression) → left.items ≡ map words_of exprs → OnOk result
+        (draft.new ≡ grown draft.old (values_of (items_of (where_of place.now) line
+        draft.old.next.scalars draft.old.next.temps ends (map item_of items.now) exprs))) }
+    ensures prints { (exprs : List Expression) → left.items ≡ map words_of exprs → IfOk result
+        (λ rows. rows_in rows.items ≡ (items_of (where_of place.now) line
+        draft.old.next.scalars draft.old.next.temps ends (map item_of items.now) exprs).prints) }
+{
+    let alloc = draft.alloc();
+    let mut prints = Vec::new(alloc);
+    let mut left = left.into_iter();
+    for item in items {
+        match item {
+            Item::Str(string) => prints.push(text_row(alloc, string)?)?,
+            Item::Value(expr) => {
+                if let Some(words) = left.next() {
+                    prints.push(push_value(draft, place, line, expr, words)?)?;
+                }
+            }
+        }
+    }
+    if ends {
+        prints.push(text_row(alloc, b"\n")?)?;
+    }
+    Ok(prints)
+}
+
+/// Appends rows that are there.
+fn push_rows(draft: &mut Draft, rows: Vec<FlatRow>) -> Result<(), AllocError>
+    ensures { OnOk result (draft.new ≡ grown draft.old (rows_alone (rows_in rows.items))) }
+{
+    for row in rows {
+        draft.push(row)?;
+    }
+    Ok(())
+}
+
+/// Appends a print of items, with or without the end of a line.
+pub fn lower_write(
+    draft: &mut Draft,
+    place: &Place<'_, '_>,
+    line: u32,
+    ends: bool,
+    items: &[Item<'_>],
+) -> Result<(), AllocError>
+    requires place { IsPlace place.now }
+    requires fit { AreFitItems (map item_of items.now) }
+    ensures { OnOk result (draft.new ≡ grown draft.old (lowered_write (where_of place.now) line
+        draft.old.next ends (map item_of items.now))) }
+{
+    let exprs = printed(draft.alloc(), place, items)?;
+    let left = phases(draft, place, line, None, None, &exprs)?;
+    let prints = push_items(draft, place, line, ends, items, left)?;
+    push_rows(draft, prints)
+}
