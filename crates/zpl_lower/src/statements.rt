@@ -1,0 +1,441 @@
+//! Statements, and calls of procedures.
+ghost use Rattle.std.specs.Prelude.{◌≡◌, None, OnOk, drop, false, map};
+ghost use Rattle.zpl_tree.specs.Syntax as plain;
+ghost use Rattle.zpl_tree.specs.View.{arms_of, else_of, expr_of, exprs_of, head_of, name_of};
+ghost use Rattle.zpl_tree.specs.View.{statement_of, stmt_of, stmts_of};
+ghost use Rattle.zpl_names.specs.Sites.{is_shattered};
+ghost use Rattle.zpl_lowering.specs.Program.{body_code, call_code};
+ghost use Rattle.zpl_lowering.specs.Statement as statement;
+ghost use Rattle.zpl_lowering.specs.Where.{line_of, reach_of};
+ghost use Rattle.array_places.specs.Sound.{IsRanked};
+ghost use Rattle.array_places.specs.View.{setup_of};
+ghost use Rattle.array_settling.specs.Fit.{AreFit, IsFit};
+ghost use Rattle.routine_walks.specs.Texts.{routine_of};
+ghost use Rattle.lower_draft.specs.Drafted.{grown};
+ghost use Rattle.lower_places.specs.Sound.{IsPlace};
+ghost use Rattle.lower_places.specs.View.{where_of};
+ghost use Rattle.lower_points.specs.Fit.{AreFitArms, AreFitStmts, IsFitElse, IsFitForm};
+ghost use Rattle.lower_points.specs.Fit.{IsFitHead, IsFitStmt};
+ghost use Rattle.zpl_lower.specs.Frames.{given_in};
+ghost use Rattle.zpl_lower.specs.Runs.{IsRunning, calling_of, context_of};
+
+use crate::calls::{push_actuals, target_of};
+use crate::frames::{Entry, Frame, Given, with_all_given, with_locals};
+use crate::runs::{Calling, Run, body_place};
+use array_places::{Setup, Things};
+use lower_draft::Draft;
+use lower_places::{Numbers, Place};
+use lower_points::{lower_shattered, tests_rank};
+use lower_statements::{
+    Counter, begin_count, behind_prefixes, done_words, enters_words, lower_borders, lower_return,
+    lower_to, lower_write, open_test, push_step, set_counter, test_words,
+};
+use name_kinds::is_above_zero;
+use routine_walks::Routine;
+use std::alloc::AllocError;
+use zpl_nums::Op;
+use zpl_tree::{Arm, Expr, ExprForm, ForHead, Form, Name, Stmt, nodes_are_seen_with_their_lists};
+
+/// Whether a form is a border statement.
+fn is_border(form: &Form<'_>) -> bool
+    ensures { result ≡ statement.is_border (statement_of form.now) }
+{
+    match form {
+        Form::Border(_, _) => true,
+        _ => false,
+    }
+}
+
+/// Where an arm stands, or 0 behind the last one.
+fn arm_at(arms: &[Arm<'_>], number: usize) -> u32
+    ensures { result ≡ arms_at (arms_of (drop number arms.now)) }
+{
+    match arms.get(number) {
+        Some(arm) => arm.at,
+        None => 0,
+    }
+}
+
+/// Whether nothing stands behind an arm.
+fn ends_arms(arms: &[Arm<'_>], number: usize, otherwise: &Option<&[Stmt<'_>]>) -> bool
+    ensures { result ≡ statement.ends_arms (arms_of (drop number arms.now))
+        (else_of otherwise.now) }
+{
+    number >= arms.len() && otherwise.is_none()
+}
+
+/// Appends the code of a statement.
+#[cycle(lower)]
+pub fn lower_stmt(
+    draft: &mut Draft,
+    run: &Run<'_, '_>,
+    place: &Place<'_, '_>,
+    stmt: &Stmt<'_>,
+) -> Result<(), AllocError>
+    requires running { IsRunning run.now (where_of place.now).setup }
+    requires place { IsPlace place.now }
+    requires fit { IsFitStmt (stmt_of stmt.now) }
+    ensures { OnOk result (draft.new ≡ grown draft.old
+        (statement.lowered (context_of run.now place.now) draft.old.next (stmt_of stmt.now))) }
+{
+    let inner = behind_prefixes(draft, place, is_border(&stmt.form), stmt.prefixes)?;
+    lower_behind(draft, run, &inner, stmt)
+}
+
+/// Appends the code of statements, one after another.
+#[cycle(lower)]
+fn lower_stmts(
+    draft: &mut Draft,
+    run: &Run<'_, '_>,
+    place: &Place<'_, '_>,
+    stmts: &[Stmt<'_>],
+) -> Result<(), AllocError>
+    requires running { IsRunning run.now (where_of place.now).setup }
+    requires place { IsPlace place.now }
+    requires fit { AreFitStmts (stmts_of stmts.now) }
+    ensures { OnOk result (draft.new ≡ grown draft.old
+        (statement.lowered_all (context_of run.now place.now) draft.old.next
+        (stmts_of stmts.now))) }
+{
+    for stmt in stmts {
+        lower_stmt(draft, run, place, stmt)?;
+    }
+    Ok(())
+}
+
+/// Appends the code of a statement behind its prefixes.
+#[cycle(lower)]
+fn lower_behind(
+    draft: &mut Draft,
+    run: &Run<'_, '_>,
+    place: &Place<'_, '_>,
+    stmt: &Stmt<'_>,
+) -> Result<(), AllocError>
+    requires running { IsRunning run.now (where_of place.now).setup }
+    requires place { IsPlace place.now }
+    requires fit { IsFitForm (statement_of stmt.now.form) }
+    ensures { OnOk result (draft.new ≡ grown draft.old
+        (statement.lowered_form (context_of run.now place.now) draft.old.next stmt.now.at
+        (statement_of stmt.now.form))) }
+{
+    if is_above_zero(tests_rank(place, &stmt.form)) {
+        let line = place.line_of(stmt.at);
+        lower_shattered(draft, place, line, &stmt.form)
+    } else {
+        lower_form(draft, run, place, stmt)
+    }
+}
+
+/// Appends the code of a statement behind its prefixes that isn't shattered.
+#[cycle(lower)]
+fn lower_form(
+    draft: &mut Draft,
+    run: &Run<'_, '_>,
+    place: &Place<'_, '_>,
+    stmt: &Stmt<'_>,
+) -> Result<(), AllocError>
+    requires running { IsRunning run.now (where_of place.now).setup }
+    requires place { IsPlace place.now }
+    requires fit { IsFitForm (statement_of stmt.now.form) }
+    requires whole { is_shattered (reach_of (where_of place.now)) (statement_of stmt.now.form)
+        ≡ false }
+    ensures { OnOk result (draft.new ≡ grown draft.old
+        (statement.lowered_form (context_of run.now place.now) draft.old.next stmt.now.at
+        (statement_of stmt.now.form))) }
+{
+    nodes_are_seen_with_their_lists();
+    let line = place.line_of(stmt.at);
+    match &stmt.form {
+        Form::Assign(name, op, value) => lower_assign(draft, run, place, line, name, *op, value),
+        Form::Call(name, actuals) => lower_invoke(draft, run, place, line, name, actuals, 0),
+        Form::Block(body) => lower_stmts(draft, run, place, body),
+        Form::If(arms, otherwise) => {
+            lower_arms(draft, run, place, stmt.at, arms, 0, otherwise)
+        }
+        Form::While(test, body) => lower_while(draft, run, place, line, test, body),
+        Form::Repeat(body, until, test) => lower_repeat(draft, run, place, *until, body, test),
+        Form::For(head, body) => lower_for(draft, run, place, line, head, body),
+        Form::Border(kind, names) => lower_borders(draft, place, line, *kind, names),
+        Form::Write(ends, items) => lower_write(draft, place, line, *ends, items),
+        Form::Return(value) => lower_return(draft, place, line, value),
+    }
+}
+
+/// Appends the code of a choice between the arms from one on, whose test is at this offset, and what
+/// stands behind `else`.
+#[cycle(lower)]
+fn lower_arms(
+    draft: &mut Draft,
+    run: &Run<'_, '_>,
+    place: &Place<'_, '_>,
+    at: u32,
+    arms: &[Arm<'_>],
+    from: usize,
+    otherwise: &Option<&[Stmt<'_>]>,
+) -> Result<(), AllocError>
+    requires running { IsRunning run.now (where_of place.now).setup }
+    requires place { IsPlace place.now }
+    requires arms { AreFitArms (arms_of (drop from arms.now)) }
+    requires otherwise { IsFitElse (else_of otherwise.now) }
+    ensures { OnOk result (draft.new ≡ grown draft.old
+        (statement.lowered_arms (context_of run.now place.now) draft.old.next at
+        (arms_of (drop from arms.now)) (else_of otherwise.now)
+        (λ after. statement.lowered_otherwise (context_of run.now place.now) after
+        (else_of otherwise.now)))) }
+{
+    if from >= arms.len() {
+        return match otherwise {
+            Some(body) => lower_stmts(draft, run, place, body),
+            None => Ok(()),
+        };
+    }
+    let arm = &arms[from];
+    let test = open_test(draft, place, place.line_of(at), arm.test)?;
+    lower_stmts(draft, run, place, arm.body)?;
+    if ends_arms(arms, from + 1, otherwise) {
+        return draft.close(test);
+    }
+    let jump = draft.turn(test)?;
+    let next = arm_at(arms, from + 1);
+    lower_arms(draft, run, place, next, arms, from + 1, otherwise)?;
+    draft.close(jump)
+}
+
+/// Appends the code of a `while`, which tests before each turn.
+#[cycle(lower)]
+fn lower_while(
+    draft: &mut Draft,
+    run: &Run<'_, '_>,
+    place: &Place<'_, '_>,
+    line: u32,
+    test: &Expr<'_>,
+    body: &[Stmt<'_>],
+) -> Result<(), AllocError>
+    requires running { IsRunning run.now (where_of place.now).setup }
+    requires place { IsPlace place.now }
+    requires test { IsFit (expr_of test.now) }
+    requires body { AreFitStmts (stmts_of body.now) }
+    ensures { OnOk result (draft.new ≡ grown draft.old (statement.while_code draft.old.next
+        (test_at (where_of place.now) line draft.old.next (expr_of test.now))
+        (λ after. statement.lowered_all (context_of run.now place.now) after
+        (stmts_of body.now)))) }
+{
+    let start = draft.here()?;
+    let pending = open_test(draft, place, line, test)?;
+    lower_stmts(draft, run, place, body)?;
+    draft.close_loop(start, pending)
+}
+
+/// Appends the code of a `repeat`, which tests behind each turn.
+#[cycle(lower)]
+fn lower_repeat(
+    draft: &mut Draft,
+    run: &Run<'_, '_>,
+    place: &Place<'_, '_>,
+    until: u32,
+    body: &[Stmt<'_>],
+    test: &Expr<'_>,
+) -> Result<(), AllocError>
+    requires running { IsRunning run.now (where_of place.now).setup }
+    requires place { IsPlace place.now }
+    requires body { AreFitStmts (stmts_of body.now) }
+    requires test { IsFit (expr_of test.now) }
+    ensures { OnOk result (draft.new ≡ grown draft.old (statement.repeat_code draft.old.next
+        (statement.lowered_all (context_of run.now place.now) draft.old.next
+        (stmts_of body.now))
+        (λ after. statement.test_of (where_of place.now) after (expr_of test.now) until))) }
+{
+    let start = draft.begin_turns()?;
+    lower_stmts(draft, run, place, body)?;
+    let line = place.line_of(until);
+    let words = test_words(draft, place, line, test)?;
+    draft.until(start, words, line)
+}
+
+/// Appends the code of a `for`. Its first value, its last one and its step are computed once.
+#[cycle(lower)]
+fn lower_for(
+    draft: &mut Draft,
+    run: &Run<'_, '_>,
+    place: &Place<'_, '_>,
+    line: u32,
+    head: &ForHead<'_>,
+    body: &[Stmt<'_>],
+) -> Result<(), AllocError>
+    requires running { IsRunning run.now (where_of place.now).setup }
+    requires place { IsPlace place.now }
+    requires head { IsFitHead (head_of head.now) }
+    requires body { AreFitStmts (stmts_of body.now) }
+    ensures { OnOk result (draft.new ≡ grown draft.old (statement.lowered_for (where_of place.now)
+        line draft.old.next (head_of head.now)
+        (λ after. statement.lowered_all (context_of run.now place.now) after
+        (stmts_of body.now)))) }
+{
+    let counter = begin_count(draft, place, line, head)?;
+    let words = enters_words(draft.alloc(), head.down, counter)?;
+    let entered = draft.open(words, line)?;
+    lower_turns(draft, run, place, line, counter, head, body)?;
+    draft.close(entered)
+}
+
+/// Appends the turns of a `for`: each sets the variable first.
+#[cycle(lower)]
+fn lower_turns(
+    draft: &mut Draft,
+    run: &Run<'_, '_>,
+    place: &Place<'_, '_>,
+    line: u32,
+    counter: Counter,
+    head: &ForHead<'_>,
+    body: &[Stmt<'_>],
+) -> Result<(), AllocError>
+    requires running { IsRunning run.now (where_of place.now).setup }
+    requires place { IsPlace place.now }
+    requires body { AreFitStmts (stmts_of body.now) }
+    ensures { OnOk result (draft.new ≡ grown draft.old (turns_code head.now.down
+        (counter_of counter) line (target_in (where_of place.now) (name_of head.now.name))
+        draft.old.next (λ after. statement.lowered_all (context_of run.now place.now) after
+        (stmts_of body.now)))) }
+{
+    let start = draft.begin_turns()?;
+    set_counter(draft, place, line, counter, &head.name)?;
+    lower_stmts(draft, run, place, body)?;
+    push_step(draft, head.down, counter, line)?;
+    let words = done_words(draft.alloc(), head.down, counter)?;
+    draft.until(start, words, line)
+}
+
+/// Appends an assignment, of a call or of another expression. The procedure answers into the
+/// assigned scalar itself.
+#[cycle(lower)]
+fn lower_assign(
+    draft: &mut Draft,
+    run: &Run<'_, '_>,
+    place: &Place<'_, '_>,
+    line: u32,
+    name: &Name<'_>,
+    op: Option<Op>,
+    value: &Expr<'_>,
+) -> Result<(), AllocError>
+    requires running { IsRunning run.now (where_of place.now).setup }
+    requires place { IsPlace place.now }
+    requires fit { IsFitForm (plain.Assign (name_of name.now) op (expr_of value.now)) }
+    ensures { OnOk result (draft.new ≡ grown draft.old
+        (statement.lowered_assign (context_of run.now place.now) draft.old.next
+        (name_of name.now) op (expr_of value.now) line)) }
+{
+    nodes_are_seen_with_their_lists();
+    if let None = op {
+        if let ExprForm::Call(callee, actuals) = &value.form {
+            let target = target_of(place, name);
+            return lower_invoke(draft, run, place, line, callee, actuals, target);
+        }
+    }
+    lower_to(draft, place, line, name, op, value)
+}
+
+/// Appends a call, which answers into a scalar.
+#[cycle(lower)]
+fn lower_invoke(
+    draft: &mut Draft,
+    run: &Run<'_, '_>,
+    place: &Place<'_, '_>,
+    line: u32,
+    name: &Name<'_>,
+    actuals: &[Expr<'_>],
+    result: u32,
+) -> Result<(), AllocError>
+    requires running { IsRunning run.now (where_of place.now).setup }
+    requires place { IsPlace place.now }
+    requires fit { AreFit (exprs_of actuals.now) }
+    ensures { (answer : ℕ) → answer ≡ result → OnOk result (draft.new ≡ grown draft.old
+        (statement.lowered_invoke (context_of run.now place.now) draft.old.next
+        (name_of name.now) (exprs_of actuals.now) answer line)) }
+{
+    let givens = push_actuals(draft, place, line, name, actuals)?;
+    let calling = Calling {
+        currents: place.currents,
+        result,
+        line,
+    };
+    lower_call(draft, run, place.setup, place.numbers, name, &givens, calling)
+}
+
+/// Appends the body of a procedure that is called, if calls may go down one procedure more.
+#[cycle(lower)]
+pub fn lower_call(
+    draft: &mut Draft,
+    run: &Run<'_, '_>,
+    setup: &Setup<'_, '_>,
+    numbers: &Numbers,
+    name: &Name<'_>,
+    givens: &[Given],
+    calling: Calling,
+) -> Result<(), AllocError>
+    requires running { IsRunning run.now (setup_of setup.now) }
+    requires known { IsRanked setup.now.known.now }
+    ensures { OnOk result (draft.new ≡ grown draft.old (call_code (setup_of setup.now)
+        run.now.depth (calling_of name.now numbers.now givens.now calling) draft.old.next)) }
+{
+    if run.depth == 0 {
+        return Ok(());
+    }
+    let Some(number) = run.text.find(name.text) else {
+        return Ok(());
+    };
+    let call = draft.enter(run.reads[number])?;
+    let deeper = Run {
+        depth: run.depth - 1,
+        ..*run
+    };
+    let entry = Entry {
+        clears: true,
+        line: calling.line,
+    };
+    let frame = Frame {
+        things: Things::new(draft.alloc()),
+        numbers: numbers.copied(draft.alloc())?,
+    };
+    let head = &run.heads[number];
+    let frame = with_all_given(draft, calling.line, frame, &head.formals, givens)?;
+    let frame = with_locals(draft, entry, frame, &head.locals)?;
+    let routine = &run.text.routines[number];
+    lower_frame(draft, &deeper, setup, routine, &frame, calling)?;
+    draft.leave(call)
+}
+
+/// Lends all that the body of a procedure goes by.
+#[cycle(lower)]
+pub fn lower_frame(
+    draft: &mut Draft,
+    run: &Run<'_, '_>,
+    setup: &Setup<'_, '_>,
+    routine: &Routine<'_>,
+    frame: &Frame<'_>,
+    calling: Calling,
+) -> Result<(), AllocError> {
+    lower_body(
+        draft,
+        &*run,
+        &*setup,
+        &*routine,
+        &frame.things,
+        &frame.numbers,
+        calling,
+    )
+}
+
+/// Appends the body of a procedure with these parameters and local variables.
+#[cycle(lower)]
+fn lower_body<'a, 'n>(
+    draft: &mut Draft,
+    run: &'a Run<'a, 'n>,
+    setup: &'a Setup<'a, 'n>,
+    routine: &'a Routine<'n>,
+    own: &'a Things<'n>,
+    numbers: &'a Numbers,
+    calling: Calling,
+) -> Result<(), AllocError> {
+    let inner = body_place(run, setup, routine, own, numbers, calling);
+    lower_stmt(draft, run, &inner, &routine.procedure.body)
+}
