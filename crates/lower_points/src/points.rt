@@ -128,7 +128,8 @@ fn push_assign(
             mask: None,
             line: at.line,
         },
-    )
+    )?;
+    Ok(())
 }
 
 /// Appends the members of a form.
@@ -148,22 +149,33 @@ pub fn push_form(
 {
     nodes_are_seen_with_their_lists();
     match form {
-        Form::Assign(name, op, expr) => push_assign(members, references, at, name, *op, expr),
-        Form::Block(body) => push_stmts(members, references, at, body),
-        Form::If(arms, otherwise) => push_arms(members, references, at, arms, 0, otherwise),
+        Form::Assign(name, op, expr) => {
+            push_assign(members, references, at, name, *op, expr)?;
+            Ok(())
+        }
+        Form::Block(body) => {
+            push_stmts(members, references, at, body)?;
+            Ok(())
+        }
+        Form::If(arms, otherwise) => {
+            push_arms(members, references, at, arms, 0, otherwise)?;
+            Ok(())
+        }
         Form::While(test, body) => {
             let line = at.line;
             let expr = value(references, at, test)?;
             push(members, FlatMember::OpenWhile { expr, mask: None, line })?;
             push_stmts(members, references, at, body)?;
-            push(members, FlatMember::CloseWhile)
+            push(members, FlatMember::CloseWhile)?;
+            Ok(())
         }
         Form::Repeat(body, _, test) => {
             let line = at.line;
             let expr = value(references, at, test)?;
             push(members, FlatMember::OpenRepeat { mask: None, line })?;
             push_stmts(members, references, at, body)?;
-            push(members, FlatMember::Until { expr })
+            push(members, FlatMember::Until { expr })?;
+            Ok(())
         }
         Form::Call(_, _)
         | Form::For(_, _)
@@ -214,7 +226,10 @@ fn push_arms(
 {
     if from >= arms.len() {
         return match otherwise {
-            Some(body) => push_stmts(members, references, at, body),
+            Some(body) => {
+                push_stmts(members, references, at, body)?;
+                Ok(())
+            }
             None => Ok(()),
         };
     }
@@ -226,5 +241,6 @@ fn push_arms(
     let before = members.len();
     push(members, FlatMember::Otherwise)?;
     push_arms(members, references, at, arms, from + 1, otherwise)?;
-    close_if(members, before)
+    close_if(members, before)?;
+    Ok(())
 }

@@ -38,11 +38,15 @@ fn push_masked(
     let line = at.line;
     let mask = mask_words(at.draft.alloc(), at.place.numbers, over.mask)?;
     match mask {
-        None => push_form(members, references, at, form),
+        None => {
+            push_form(members, references, at, form)?;
+            Ok(())
+        }
         Some(expr) => {
             push(members, FlatMember::OpenIf { expr, mask: None, line })?;
             push_form(members, references, at, form)?;
-            push(members, FlatMember::CloseIf)
+            push(members, FlatMember::CloseIf)?;
+            Ok(())
         }
     }
 }
@@ -119,5 +123,6 @@ pub fn lower_shattered(
     draft.push(FlatRow::Loop {
         slot: over.slot,
         group: members,
-    })
+    })?;
+    Ok(())
 }

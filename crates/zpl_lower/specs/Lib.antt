@@ -1,2 +1,4 @@
 pub mod Frames
 pub mod Runs
+pub mod Turns
+pub mod Calls

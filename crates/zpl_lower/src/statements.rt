@@ -1,23 +1,26 @@
 //! Statements, and calls of procedures.
-ghost use Rattle.std.specs.Prelude.{◌≡◌, None, OnOk, drop, false, map};
+ghost use Rattle.std.specs.Prelude.{◌≡◌, ℕ, OnOk, drop, false};
 ghost use Rattle.zpl_tree.specs.Syntax as plain;
 ghost use Rattle.zpl_tree.specs.View.{arms_of, else_of, expr_of, exprs_of, head_of, name_of};
 ghost use Rattle.zpl_tree.specs.View.{statement_of, stmt_of, stmts_of};
 ghost use Rattle.zpl_names.specs.Sites.{is_shattered};
-ghost use Rattle.zpl_lowering.specs.Program.{body_code, call_code};
+ghost use Rattle.zpl_lowering.specs.Program.{call_code};
+ghost use Rattle.zpl_meaning.specs.Statement.{arms_at};
 ghost use Rattle.zpl_lowering.specs.Statement as statement;
-ghost use Rattle.zpl_lowering.specs.Where.{line_of, reach_of};
+ghost use Rattle.zpl_lowering.specs.Where.{reach_of};
 ghost use Rattle.array_places.specs.Sound.{IsRanked};
 ghost use Rattle.array_places.specs.View.{setup_of};
 ghost use Rattle.array_settling.specs.Fit.{AreFit, IsFit};
-ghost use Rattle.routine_walks.specs.Texts.{routine_of};
 ghost use Rattle.lower_draft.specs.Drafted.{grown};
 ghost use Rattle.lower_places.specs.Sound.{IsPlace};
 ghost use Rattle.lower_places.specs.View.{where_of};
 ghost use Rattle.lower_points.specs.Fit.{AreFitArms, AreFitStmts, IsFitElse, IsFitForm};
 ghost use Rattle.lower_points.specs.Fit.{IsFitHead, IsFitStmt};
-ghost use Rattle.zpl_lower.specs.Frames.{given_in};
-ghost use Rattle.zpl_lower.specs.Runs.{IsRunning, calling_of, context_of};
+ghost use Rattle.lower_statements.specs.Counters.{counter_of};
+ghost use Rattle.lower_statements.specs.Tests.{test_at};
+ghost use Rattle.zpl_lower.specs.Calls.{calling_of};
+ghost use Rattle.zpl_lower.specs.Runs.{IsRunning, context_of};
+ghost use Rattle.zpl_lower.specs.Turns.{target_in, turns_code};
 
 use crate::calls::{push_actuals, target_of};
 use crate::frames::{Entry, Frame, Given, with_all_given, with_locals};

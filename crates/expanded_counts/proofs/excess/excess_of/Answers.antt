@@ -9,6 +9,7 @@ use Rattle.expanded_counts.proofs.SizeLemmas.{all_right, exceeds}
 use Rattle.expanded_counts.proofs.excess.excess_of.Goals as goal
 
 pub returns : goal.returns
+unfolding longest_chain
 returns c =
     let program = syntax_of c.args.text.now.program.now in
     let names = names_in c.args.text.now in

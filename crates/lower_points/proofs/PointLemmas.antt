@@ -1,0 +1,106 @@
+-- Members and references, one part behind another.
+use Rattle.std.proofs.Common.{◌≡◌, ◌<◌, ◌≤◌, ℕ, ◌+◌, List, [], ◌∷◌, ◌++◌, drop, get_or, length, Option, Some, None, refl, sym, ◌∙◌, ap, subst, append_assoc, append-nil, add-one, drop-cons, arith}
+use Rattle.std.proofs.lemmas.List.Sums.{fold-append}
+use Rattle.std.proofs.lemmas.List.{at_drop_all}
+use Rattle.zpl_tree.specs.View.{arm_of, arms_of, statement_of, stmts_of}
+use Rattle.zpl_tree.specs.declared.statements.Arm.{Arm}
+use Rattle.zpl_tree.specs.declared.statements.Stmt.{Stmt}
+use Rattle.flat_form.specs.Row.{Member}
+use Rattle.zpl_meaning.specs.Store.{Thing, Scalar, ArrayAt, Fixed}
+use Rattle.zpl_lowering.specs.Reference.{Reference}
+use Rattle.zpl_lowering.specs.Statement.{Elementwise, put_member, put_thing}
+use Rattle.zpl_lowering.specs.Where.{Where}
+use Rattle.lower_operators.specs.Once.{with_reference, with_references}
+use Rattle.lower_points.specs.Fit.{AreFitArms, AreFitStmts, IsFitArm, IsFitForm}
+use Rattle.lower_points.specs.Inside.{form_at, stmts_at, stored_named}
+use Rattle.lower_points.specs.declared.points.Point.{Point}
+
+pub references_both : (old xs ys : List Reference) →
+    with_references (with_references old xs) ys ≡ with_references old (xs ++ ys)
+references_both old xs ys = sym (fold-append with_reference old xs ys)
+
+-- members between two others
+pub between : (old inside close : List Member) (m : Member) →
+    ((old ++ m ∷ []) ++ inside) ++ close ≡ old ++ (m ∷ (inside ++ close))
+between old inside close m =
+    append_assoc (old ++ m ∷ []) inside close ∙ append_assoc old (m ∷ []) (inside ++ close)
+
+pub dropped : {A : Type 0} (xs : List A) (i : ℕ) (d : A) → i < length xs →
+    drop i xs ≡ get_or xs i d ∷ drop (i + 1) xs
+dropped xs i d less = drop-cons xs i d less ∙ ap (λ n. get_or xs i d ∷ drop n xs) (sym (add-one i))
+
+pub dropped_all : {A : Type 0} (xs : List A) (i : ℕ) → length xs ≤ i → drop i xs ≡ []
+dropped_all xs i past = at_drop_all (λ rest. rest) xs i past
+
+-- ---- statements, one after another
+
+module _ (at : Point) (stmts : List Stmt) (i : ℕ) where
+  module _ (d : Stmt) (less : i < length stmts) where
+    pub members_on : (old new all : List Member) →
+        new ≡ old ++ (form_at at (statement_of (get_or stmts i d).form)).members →
+        old ++ (stmts_at at (stmts_of (drop i stmts))).members ≡ all →
+        new ++ (stmts_at at (stmts_of (drop (i + 1) stmts))).members ≡ all
+    members_on old new all is had =
+        let rest = (stmts_at at (stmts_of (drop (i + 1) stmts))).members in
+        ap (λ n. n ++ rest) is
+        ∙ append_assoc old (form_at at (statement_of (get_or stmts i d).form)).members rest
+        ∙ ap (λ s. old ++ (stmts_at at (stmts_of s)).members) (sym (dropped stmts i d less))
+        ∙ had
+
+    pub references_on : (old new all : List Reference) →
+        new ≡ with_references old (form_at at (statement_of (get_or stmts i d).form)).references →
+        with_references old (stmts_at at (stmts_of (drop i stmts))).references ≡ all →
+        with_references new (stmts_at at (stmts_of (drop (i + 1) stmts))).references ≡ all
+    references_on old new all is had =
+        let rest = (stmts_at at (stmts_of (drop (i + 1) stmts))).references in
+        ap (λ n. with_references n rest) is
+        ∙ references_both old (form_at at (statement_of (get_or stmts i d).form)).references rest
+        ∙ ap (λ s. with_references old (stmts_at at (stmts_of s)).references)
+        (sym (dropped stmts i d less))
+        ∙ had
+
+    pub fit_first : AreFitStmts (stmts_of (drop i stmts)) →
+        IsFitForm (statement_of (get_or stmts i d).form)
+    fit_first fit =
+        (subst (λ s. AreFitStmts (stmts_of s)) (dropped stmts i d less) fit).0.1
+
+    pub fit_rest : AreFitStmts (stmts_of (drop i stmts)) →
+        AreFitStmts (stmts_of (drop (i + 1) stmts))
+    fit_rest fit =
+        (subst (λ s. AreFitStmts (stmts_of s)) (dropped stmts i d less) fit).1
+
+  module _ (past : length stmts ≤ i) where
+    pub members_all : (old all : List Member) →
+        old ++ (stmts_at at (stmts_of (drop i stmts))).members ≡ all → old ≡ all
+    members_all old all had =
+        sym (append-nil old)
+        ∙ ap (λ s. old ++ (stmts_at at (stmts_of s)).members) (sym (dropped_all stmts i past))
+        ∙ had
+
+    pub references_all : (old all : List Reference) →
+        with_references old (stmts_at at (stmts_of (drop i stmts))).references ≡ all → old ≡ all
+    references_all old all had =
+        ap (λ s. with_references old (stmts_at at (stmts_of s)).references)
+        (sym (dropped_all stmts i past))
+        ∙ had
+
+-- ---- arms
+
+pub arms_here : (arms : List Arm) (i : ℕ) (d : Arm) → i < length arms →
+    AreFitArms (arms_of (drop i arms)) → IsFitArm (arm_of (get_or arms i d))
+arms_here arms i d less fit =
+    (subst (λ s. AreFitArms (arms_of s)) (dropped arms i d less) fit).0
+
+pub arms_later : (arms : List Arm) (i : ℕ) (d : Arm) → i < length arms →
+    AreFitArms (arms_of (drop i arms)) → AreFitArms (arms_of (drop (i + 1) arms))
+arms_later arms i d less fit =
+    (subst (λ s. AreFitArms (arms_of s)) (dropped arms i d less) fit).1
+
+-- ---- what is assigned to
+
+pub put_stored : (w : Where) (line slot : ℕ) (value : Elementwise) (thing : Option Thing) →
+    put_thing w line slot value thing ≡ put_member line slot value (stored_named w thing)
+put_stored w line slot value (Some (ArrayAt place home)) = refl
+put_stored w line slot value (Some (Scalar place)) = refl
+put_stored w line slot value (Some (Fixed number)) = refl
+put_stored w line slot value None = refl

@@ -1,0 +1,86 @@
+-- What a draft grows by where tests, choices and loops are pushed step by step.
+use Rattle.std.proofs.Common.{◌≡◌, ℕ, ◌+◌, List, [], ◌∷◌, length, refl, sym, ap, ap₂, ◌∙◌}
+use Rattle.row_runs.specs.Structured as piece
+use Rattle.zpl_lowering.specs.Check.{Check}
+use Rattle.zpl_lowering.specs.Where.{Next}
+use Rattle.zpl_lowering.specs.Lowered.{Lowered, behind, both, followed, joined, rows_alone}
+use Rattle.zpl_lowering.specs.Statement.{Testing, chosen, repeat_code, when, while_code}
+use Rattle.lower_draft.specs.Drafted.{Drafted, begun, closed, grown, looped, opened, turned, until}
+use Rattle.lower_draft.proofs.GrowthLemmas.{both_grown, choose_grown, repeat_grown, rows_grown, when_grown, while_grown}
+
+-- nothing was pushed
+pub nothing_grown : (draft : Drafted) → draft ≡ grown draft (rows_alone [])
+nothing_grown draft = rows_grown draft []
+
+-- one part behind another
+pub followed_grown : (d0 d1 d2 : Drafted) (first : Lowered) (rest : Next → Lowered) →
+    d1 ≡ grown d0 first → d2 ≡ grown d1 (rest d1.next) →
+    d2 ≡ grown d0 (followed d0.next first rest)
+followed_grown d0 d1 d2 first rest one two =
+    two ∙ ap (λ d. grown d (rest d.next)) one
+    ∙ both_grown d0 first (rest (behind d0.next first))
+
+module _ (d0 d1 : Drafted) (test : Testing) (at : ℕ)
+    (opens : d1 ≡ opened (grown d0 test.before) test.check)
+    (here : at ≡ length (grown d0 test.before).tables.code) where
+  inside_is : (d2 : Drafted) (one : Next → Lowered) → d2 ≡ grown d1 (one d1.next) →
+      d2 ≡ grown (opened (grown d0 test.before) test.check) (one (behind d0.next test.before))
+  inside_is d2 one is = is ∙ ap (λ d. grown d (one d.next)) opens
+
+  -- a test, and what is done where it is true
+  pub when_steps : (d2 d3 : Drafted) (one : Next → Lowered) → d2 ≡ grown d1 (one d1.next) →
+      d3 ≡ closed d2 at → d3 ≡ grown d0 (when d0.next test one)
+  when_steps d2 d3 one inside closes =
+      let after = behind d0.next test.before in
+      closes ∙ ap₂ closed (inside_is d2 one inside) here
+      ∙ when_grown (grown d0 test.before) test.check (one after)
+      ∙ both_grown d0 test.before
+      (record (one after) { code = piece.When test.check (one after).code })
+
+  -- a test, and one of two
+  pub chosen_steps : (d2 d3 d4 d5 : Drafted) (jump : ℕ) (one other : Next → Lowered) →
+      d2 ≡ grown d1 (one d1.next) → jump ≡ length d2.tables.code → d3 ≡ turned d2 at →
+      d4 ≡ grown d3 (other d3.next) → d5 ≡ closed d4 jump →
+      d5 ≡ grown d0 (chosen d0.next test one other)
+  chosen_steps d2 d3 d4 d5 jump one other inside jumps turns last closes =
+      let g = grown d0 test.before in
+      let after = behind d0.next test.before in
+      let first = one after in
+      let opening = grown (opened g test.check) first in
+      let two : d2 ≡ opening = inside_is d2 one inside in
+      let three : d3 ≡ turned opening (length g.tables.code) = turns ∙ ap₂ turned two here in
+      let four : d4 ≡ grown (turned opening (length g.tables.code)) (other (behind after first)) =
+      last ∙ ap (λ d. grown d (other d.next)) three in
+      closes ∙ ap₂ closed four (jumps ∙ ap (λ d. length d.tables.code) two)
+      ∙ choose_grown g test.check first (other (behind after first))
+      ∙ both_grown d0 test.before
+      (joined (piece.Choose test.check first.code (other (behind after first)).code) first
+      (other (behind after first)))
+
+  -- a loop that tests before its turns
+  pub while_steps : (d2 d3 : Drafted) (start : ℕ) (body : Next → Lowered) →
+      start ≡ length d0.tables.code → d2 ≡ grown d1 (body d1.next) → d3 ≡ looped d2 start at →
+      d3 ≡ grown d0 (while_code d0.next test body)
+  while_steps d2 d3 start body starts inside loops =
+      loops
+      ∙ ap (λ d. looped d start at) (inside_is d2 body inside)
+      ∙ ap₂ (λ s a. looped (grown (opened (grown d0 test.before) test.check)
+      (body (behind d0.next test.before))) s a) starts here
+      ∙ while_grown d0 test.before test.check (body (behind d0.next test.before))
+
+-- a loop that tests behind its turns
+pub repeat_steps : (d0 d1 d2 d3 d4 : Drafted) (start line : ℕ) (body : Next → Lowered)
+    (test : Next → Testing) →
+    start ≡ length d0.tables.code + 1 → d1 ≡ begun d0 → d2 ≡ grown d1 (body d1.next) →
+    d3 ≡ grown d2 (test d2.next).before → d4 ≡ until d3 start (test d2.next).check →
+    d4 ≡ grown d0 (repeat_code d0.next (body d0.next) test)
+repeat_steps d0 d1 d2 d3 d4 start line body test starts begins inside tests ends =
+    let b = body d0.next in
+    let t = test (behind d0.next b) in
+    let two : d2 ≡ grown (begun d0) b = inside ∙ ap (λ d. grown d (body d.next)) begins in
+    let three : d3 ≡ grown (grown (begun d0) b) t.before =
+    tests ∙ ap (λ d. grown d (test d.next).before) two in
+    ends
+    ∙ ap₂ (λ d check. until d start check) three (ap (λ d. (test d.next).check) two)
+    ∙ ap (λ s. until (grown (grown (begun d0) b) t.before) s t.check) starts
+    ∙ repeat_grown d0 b t.before t.check
