@@ -1,3 +1,4 @@
 pub mod PointLemmas
+pub mod FitLemmas
 pub mod FormLemmas
 pub mod RankLemmas

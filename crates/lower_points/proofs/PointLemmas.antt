@@ -1,9 +1,8 @@
 -- Members and references, one part behind another.
-use Rattle.std.proofs.Common.{◌≡◌, ◌<◌, ◌≤◌, ℕ, ◌+◌, List, [], ◌∷◌, ◌++◌, drop, get_or, length, Option, Some, None, refl, sym, ◌∙◌, ap, subst, append_assoc, append-nil, add-one, drop-cons, arith}
+use Rattle.std.proofs.Common.{◌≡◌, ◌<◌, ◌≤◌, ℕ, ◌+◌, List, [], ◌∷◌, ◌++◌, drop, get_or, length, Option, Some, None, refl, sym, ◌∙◌, ap, append_assoc, append-nil, add-one, drop-cons}
 use Rattle.std.proofs.lemmas.List.Sums.{fold-append}
 use Rattle.std.proofs.lemmas.List.{at_drop_all}
-use Rattle.zpl_tree.specs.View.{arm_of, arms_of, statement_of, stmts_of}
-use Rattle.zpl_tree.specs.declared.statements.Arm.{Arm}
+use Rattle.zpl_tree.specs.View.{statement_of, stmts_of}
 use Rattle.zpl_tree.specs.declared.statements.Stmt.{Stmt}
 use Rattle.flat_form.specs.Row.{Member}
 use Rattle.zpl_meaning.specs.Store.{Thing, Scalar, ArrayAt, Fixed}
@@ -11,7 +10,6 @@ use Rattle.zpl_lowering.specs.Reference.{Reference}
 use Rattle.zpl_lowering.specs.Statement.{Elementwise, put_member, put_thing}
 use Rattle.zpl_lowering.specs.Where.{Where}
 use Rattle.lower_operators.specs.Once.{with_reference, with_references}
-use Rattle.lower_points.specs.Fit.{AreFitArms, AreFitStmts, IsFitArm, IsFitForm}
 use Rattle.lower_points.specs.Inside.{form_at, stmts_at, stored_named}
 use Rattle.lower_points.specs.declared.points.Point.{Point}
 
@@ -59,16 +57,6 @@ module _ (at : Point) (stmts : List Stmt) (i : ℕ) where
         (sym (dropped stmts i d less))
         ∙ had
 
-    pub fit_first : AreFitStmts (stmts_of (drop i stmts)) →
-        IsFitForm (statement_of (get_or stmts i d).form)
-    fit_first fit =
-        (subst (λ s. AreFitStmts (stmts_of s)) (dropped stmts i d less) fit).0.1
-
-    pub fit_rest : AreFitStmts (stmts_of (drop i stmts)) →
-        AreFitStmts (stmts_of (drop (i + 1) stmts))
-    fit_rest fit =
-        (subst (λ s. AreFitStmts (stmts_of s)) (dropped stmts i d less) fit).1
-
   module _ (past : length stmts ≤ i) where
     pub members_all : (old all : List Member) →
         old ++ (stmts_at at (stmts_of (drop i stmts))).members ≡ all → old ≡ all
@@ -83,18 +71,6 @@ module _ (at : Point) (stmts : List Stmt) (i : ℕ) where
         ap (λ s. with_references old (stmts_at at (stmts_of s)).references)
         (sym (dropped_all stmts i past))
         ∙ had
-
--- ---- arms
-
-pub arms_here : (arms : List Arm) (i : ℕ) (d : Arm) → i < length arms →
-    AreFitArms (arms_of (drop i arms)) → IsFitArm (arm_of (get_or arms i d))
-arms_here arms i d less fit =
-    (subst (λ s. AreFitArms (arms_of s)) (dropped arms i d less) fit).0
-
-pub arms_later : (arms : List Arm) (i : ℕ) (d : Arm) → i < length arms →
-    AreFitArms (arms_of (drop i arms)) → AreFitArms (arms_of (drop (i + 1) arms))
-arms_later arms i d less fit =
-    (subst (λ s. AreFitArms (arms_of s)) (dropped arms i d less) fit).1
 
 -- ---- what is assigned to
 

@@ -14,6 +14,7 @@ ghost use Rattle.lower_points.specs.Inside.{arms_at, form_at, members_in, put_at
 ghost use Rattle.lower_points.specs.Inside.{stored_named, value_at};
 ghost use Rattle.lower_places.specs.Numbers.{stored_of};
 
+use crate::laws::parts_of_fit_statements_are_fit;
 use crate::members::{close_if, push};
 use array_places::Thing;
 use lower_draft::{Draft, FlatMember};
@@ -148,6 +149,7 @@ pub fn push_form(
         (form_at at.now (statement_of form.now)).references) }
 {
     nodes_are_seen_with_their_lists();
+    parts_of_fit_statements_are_fit();
     match form {
         Form::Assign(name, op, expr) => {
             push_assign(members, references, at, name, *op, expr)?;
@@ -200,6 +202,7 @@ fn push_stmts(
     ensures references { OnOk result (references.new ≡ with_references references.old
         (stmts_at at.now (stmts_of stmts.now)).references) }
 {
+    parts_of_fit_statements_are_fit();
     for stmt in stmts {
         push_form(members, references, at, &stmt.form)?;
     }
@@ -224,6 +227,7 @@ fn push_arms(
     ensures references { OnOk result (references.new ≡ with_references references.old
         (arms_at at.now (arms_of (drop from arms.now)) (else_of otherwise.now)).references) }
 {
+    parts_of_fit_statements_are_fit();
     if from >= arms.len() {
         return match otherwise {
             Some(body) => {

@@ -1,12 +1,16 @@
 -- What a draft grows by where tests, choices and loops are pushed step by step.
-use Rattle.std.proofs.Common.{◌≡◌, ℕ, ◌+◌, List, [], ◌∷◌, length, refl, sym, ap, ap₂, ◌∙◌}
+use Rattle.std.proofs.Common.{◌≡◌, ℕ, ◌+◌, Bool, List, [], ◌∷◌, Option, length, refl, sym, ap, ap₂, ◌∙◌, append-nil, arith}
 use Rattle.row_runs.specs.Structured as piece
+use Rattle.row_runs.specs.Structured.{Piece}
+use Rattle.node_form.specs.Expression.{Variable}
+use Rattle.flat_form.specs.Row.{Row}
 use Rattle.zpl_lowering.specs.Check.{Check}
 use Rattle.zpl_lowering.specs.Where.{Next}
-use Rattle.zpl_lowering.specs.Lowered.{Lowered, behind, both, followed, joined, rows_alone}
-use Rattle.zpl_lowering.specs.Statement.{Testing, chosen, repeat_code, when, while_code}
-use Rattle.lower_draft.specs.Drafted.{Drafted, begun, closed, grown, looped, opened, turned, until}
+use Rattle.zpl_lowering.specs.Lowered.{Lowered, behind, both, check_of, followed, joined, rows_alone}
+use Rattle.zpl_lowering.specs.Statement.{Counter, Testing, chosen, counted, enters, is_done, repeat_code, set_row, step_row, when, while_code}
+use Rattle.lower_draft.specs.Drafted.{Drafted, all_pushed, begun, closed, grown, looped, opened, pushed, turned, until}
 use Rattle.lower_draft.proofs.GrowthLemmas.{both_grown, choose_grown, repeat_grown, rows_grown, when_grown, while_grown}
+use Rattle.zpl_lower.specs.Turns.{turns_code}
 
 -- nothing was pushed
 pub nothing_grown : (draft : Drafted) → draft ≡ grown draft (rows_alone [])
@@ -84,3 +88,60 @@ repeat_steps d0 d1 d2 d3 d4 start line body test starts begins inside tests ends
     ∙ ap₂ (λ d check. until d start check) three (ap (λ d. (test d.next).check) two)
     ∙ ap (λ s. until (grown (grown (begun d0) b) t.before) s t.check) starts
     ∙ repeat_grown d0 b t.before t.check
+
+-- ---- the turns of a `for`
+
+-- rows have nothing of their own
+pub joined_alone : (code : Piece Row Check) (first : Lowered) (rows : List Row) →
+    joined code first (rows_alone rows) ≡ record first { code = code }
+joined_alone code first rows = record {
+  code = refl;
+  scalars = omega arith;
+  slots = append-nil first.slots;
+  arrays = append-nil first.arrays;
+  copies = append-nil first.copies;
+  later = append-nil first.later;
+  temps = append-nil first.temps;
+  shifts = append-nil first.shifts;
+}
+
+pub turns_steps : (d0 d1 d2 d3 d4 d5 : Drafted) (start line : ℕ) (down : Bool) (counter : Counter)
+    (target : Option ℕ) (body : Next → Lowered) →
+    start ≡ length d0.tables.code + 1 → d1 ≡ begun d0 →
+    d2 ≡ grown d1 (rows_alone (set_row line (Variable counter.at) target)) →
+    d3 ≡ grown d2 (body d2.next) → d4 ≡ pushed d3 (step_row down counter line) →
+    d5 ≡ until d4 start (check_of (is_done down counter) line) →
+    d5 ≡ grown d0 (turns_code down counter line target d0.next body)
+turns_steps d0 d1 d2 d3 d4 d5 start line down counter target body starts begins sets inside steps ends =
+    let first = rows_alone (set_row line (Variable counter.at) target) in
+    let all = followed d0.next first body in
+    let step = step_row down counter line ∷ [] in
+    let check = check_of (is_done down counter) line in
+    let whole = both all (rows_alone step) in
+    let three : d3 ≡ grown (begun d0) all =
+    followed_grown (begun d0) (grown (begun d0) first) d3 first body refl
+    (inside ∙ ap (λ d. grown d (body d.next)) (sets ∙ ap (λ d. grown d first) begins)) in
+    let four : d4 ≡ grown (begun d0) whole =
+    steps ∙ ap (λ d. all_pushed d step) three ∙ rows_grown (grown (begun d0) all) step
+    ∙ both_grown (begun d0) all (rows_alone step) in
+    ends
+    ∙ ap₂ (λ d s. until d s check) (four ∙ nothing_grown (grown (begun d0) whole)) starts
+    ∙ repeat_grown d0 whole (rows_alone []) check
+    ∙ ap (grown d0)
+    (joined_alone (piece.Repeat whole.code (piece.Rows []) check) whole []
+    ∙ ap (λ one. record one { code = piece.Repeat whole.code (piece.Rows []) check })
+    (joined_alone whole.code all step))
+
+-- a `for` behind its values
+pub counted_steps : (d0 d1 d2 d3 : Drafted) (at line : ℕ) (down : Bool) (counter : Counter)
+    (target : Option ℕ) (body : Next → Lowered) →
+    at ≡ length d0.tables.code → d1 ≡ opened d0 (check_of (enters down counter) line) →
+    d2 ≡ grown d1 (turns_code down counter line target d1.next body) → d3 ≡ closed d2 at →
+    d3 ≡ grown d0 (counted down counter line target d0.next body)
+counted_steps d0 d1 d2 d3 at line down counter target body here opens turns closes =
+    let check = check_of (enters down counter) line in
+    let all = turns_code down counter line target d0.next body in
+    closes
+    ∙ ap₂ closed (turns ∙ ap (λ d. grown d (turns_code down counter line target d.next body)) opens)
+    here
+    ∙ when_grown d0 check all

@@ -8,7 +8,6 @@ ghost use Rattle.zpl_lowering.specs.Program.{call_code};
 ghost use Rattle.zpl_meaning.specs.Statement.{arms_at};
 ghost use Rattle.zpl_lowering.specs.Statement as statement;
 ghost use Rattle.zpl_lowering.specs.Where.{reach_of};
-ghost use Rattle.array_places.specs.Sound.{IsRanked};
 ghost use Rattle.array_places.specs.View.{setup_of};
 ghost use Rattle.array_settling.specs.Fit.{AreFit, IsFit};
 ghost use Rattle.lower_draft.specs.Drafted.{grown};
@@ -18,14 +17,18 @@ ghost use Rattle.lower_points.specs.Fit.{AreFitArms, AreFitStmts, IsFitElse, IsF
 ghost use Rattle.lower_points.specs.Fit.{IsFitHead, IsFitStmt};
 ghost use Rattle.lower_statements.specs.Counters.{counter_of};
 ghost use Rattle.lower_statements.specs.Tests.{test_at};
-ghost use Rattle.zpl_lower.specs.Calls.{calling_of};
+ghost use Rattle.lower_places.specs.View.{currents_of};
+ghost use Rattle.lower_statements.specs.Prefixes.{in_place};
+ghost use Rattle.routine_walks.specs.Texts.{routine_of};
+ghost use Rattle.zpl_lower.specs.Calls.{IsSite, body_at, calling_of};
+ghost use Rattle.zpl_lower.specs.Frames.{framed};
 ghost use Rattle.zpl_lower.specs.Runs.{IsRunning, context_of};
 ghost use Rattle.zpl_lower.specs.Turns.{target_in, turns_code};
 
 use crate::calls::{push_actuals, target_of};
 use crate::frames::{Entry, Frame, Given, with_all_given, with_locals};
-use crate::runs::{Calling, Run, body_place};
-use array_places::{Setup, Things};
+use crate::runs::{Run, Site, body_place};
+use array_places::Things;
 use lower_draft::Draft;
 use lower_places::{Numbers, Place};
 use lower_points::{lower_shattered, tests_rank};
@@ -356,29 +359,32 @@ fn lower_invoke(
         (name_of name.now) (exprs_of actuals.now) answer line)) }
 {
     let givens = push_actuals(draft, place, line, name, actuals)?;
-    let calling = Calling {
+    let site = Site {
+        setup: place.setup,
+        index: place.index,
+        numbers: place.numbers,
         currents: place.currents,
         result,
         line,
     };
-    lower_call(draft, run, place.setup, place.numbers, name, &givens, calling)
+    lower_call(draft, run, &site, name, &givens)?;
+    Ok(())
 }
 
 /// Appends the body of a procedure that is called, if calls may go down one procedure more.
 #[cycle(lower)]
-pub fn lower_call(
+fn lower_call(
     draft: &mut Draft,
     run: &Run<'_, '_>,
-    setup: &Setup<'_, '_>,
-    numbers: &Numbers,
+    site: &Site<'_, '_>,
     name: &Name<'_>,
     givens: &[Given],
-    calling: Calling,
 ) -> Result<(), AllocError>
-    requires running { IsRunning run.now (setup_of setup.now) }
-    requires known { IsRanked setup.now.known.now }
-    ensures { OnOk result (draft.new ≡ grown draft.old (call_code (setup_of setup.now)
-        run.now.depth (calling_of name.now numbers.now givens.now calling) draft.old.next)) }
+    requires running { IsRunning run.now (setup_of site.now.setup.now) }
+    requires site { IsSite site.now }
+    ensures { OnOk result (draft.new ≡ grown draft.old (call_code
+        (setup_of site.now.setup.now) run.now.depth (calling_of site.now name.now givens.now)
+        draft.old.next)) }
 {
     if run.depth == 0 {
         return Ok(());
@@ -387,44 +393,63 @@ pub fn lower_call(
         return Ok(());
     };
     let call = draft.enter(run.reads[number])?;
+    lower_entered(draft, run, site, number, givens, true)?;
+    draft.leave(call)?;
+    Ok(())
+}
+
+/// Appends the parameters and local variables of the procedure with a number, and its body. They
+/// are cleared where it is called.
+#[cycle(lower)]
+pub fn lower_entered(
+    draft: &mut Draft,
+    run: &Run<'_, '_>,
+    site: &Site<'_, '_>,
+    number: usize,
+    givens: &[Given],
+    clears: bool,
+) -> Result<(), AllocError> {
+    let line = site.line;
+    let entry = Entry { clears, line };
+    let frame = Frame {
+        things: Things::new(draft.alloc()),
+        numbers: site.numbers.copied(draft.alloc())?,
+    };
+    let head = &run.heads[number];
+    let frame = with_all_given(draft, line, frame, &head.formals, givens)?;
+    let frame = with_locals(draft, entry, frame, &head.locals)?;
     let deeper = Run {
         depth: run.depth - 1,
         ..*run
     };
-    let entry = Entry {
-        clears: true,
-        line: calling.line,
-    };
-    let frame = Frame {
-        things: Things::new(draft.alloc()),
-        numbers: numbers.copied(draft.alloc())?,
-    };
-    let head = &run.heads[number];
-    let frame = with_all_given(draft, calling.line, frame, &head.formals, givens)?;
-    let frame = with_locals(draft, entry, frame, &head.locals)?;
-    let routine = &run.text.routines[number];
-    lower_frame(draft, &deeper, setup, routine, &frame, calling)?;
-    draft.leave(call)
+    lower_frame(draft, &deeper, site, &run.text.routines[number], &frame)
 }
 
 /// Lends all that the body of a procedure goes by.
 #[cycle(lower)]
-pub fn lower_frame(
+fn lower_frame(
     draft: &mut Draft,
     run: &Run<'_, '_>,
-    setup: &Setup<'_, '_>,
+    site: &Site<'_, '_>,
     routine: &Routine<'_>,
     frame: &Frame<'_>,
-    calling: Calling,
-) -> Result<(), AllocError> {
+) -> Result<(), AllocError>
+    requires running { IsRunning run.now (setup_of site.now.setup.now) }
+    requires site { IsSite site.now }
+    requires fit { IsFitStmt (stmt_of routine.now.procedure.now.body) }
+    ensures { OnOk result (draft.new ≡ grown draft.old (statement.lowered
+        (in_place (call_code (setup_of site.now.setup.now) run.now.depth)
+        (body_at (setup_of site.now.setup.now) (routine_of routine.now)
+        (currents_of site.now.currents) site.now.result (framed frame.now)))
+        draft.old.next (stmt_of routine.now.procedure.now.body))) }
+{
     lower_body(
         draft,
         &*run,
-        &*setup,
+        &*site,
         &*routine,
         &frame.things,
         &frame.numbers,
-        calling,
     )
 }
 
@@ -433,12 +458,21 @@ pub fn lower_frame(
 fn lower_body<'a, 'n>(
     draft: &mut Draft,
     run: &'a Run<'a, 'n>,
-    setup: &'a Setup<'a, 'n>,
+    site: &'a Site<'a, 'n>,
     routine: &'a Routine<'n>,
     own: &'a Things<'n>,
     numbers: &'a Numbers,
-    calling: Calling,
-) -> Result<(), AllocError> {
-    let inner = body_place(run, setup, routine, own, numbers, calling);
+) -> Result<(), AllocError>
+    requires running { IsRunning run.now (setup_of site.now.setup.now) }
+    requires site { IsSite site.now }
+    requires fit { IsFitStmt (stmt_of routine.now.procedure.now.body) }
+    ensures { OnOk result (draft.new ≡ grown draft.old (statement.lowered
+        (in_place (call_code (setup_of site.entry.now.setup.now) run.entry.now.depth)
+        (body_at (setup_of site.entry.now.setup.now) (routine_of routine.entry.now)
+        (currents_of site.entry.now.currents) site.entry.now.result
+        (record { names = own.entry.now; numbers = numbers.entry.now })))
+        draft.old.next (stmt_of routine.entry.now.procedure.now.body))) }
+{
+    let inner = body_place(run.text, site, routine, own, numbers);
     lower_stmt(draft, run, &inner, &routine.procedure.body)
 }
