@@ -18,15 +18,18 @@ pub record IsSite (site : Site) : Type 0 where
   pub known : IsRanked site.setup.now.known.now
   pub index : IsIndex site.setup.now site.index.now
 
-abbrev pub calling_of : Site → Name → List Given → statement.Calling
-calling_of site name givens = record {
-  name = name.text.now;
+abbrev pub calling_in : Site → List ℕ → List Given → statement.Calling
+calling_in site name givens = record {
+  name = name;
   actuals = map given_in givens;
   currents = currents_of site.currents;
   result = site.result;
   numbers = site.numbers.now;
   line = site.line;
 }
+
+abbrev pub calling_of : Site → Name → List Given → statement.Calling
+calling_of site name givens = calling_in site name.text.now givens
 
 -- where the body of a procedure is lowered
 abbrev pub body_at : Setup → Routine → SlotCurrents → ℕ → Framed → Where

@@ -2,3 +2,4 @@ pub mod Frames
 pub mod Runs
 pub mod Turns
 pub mod Calls
+pub mod Programs

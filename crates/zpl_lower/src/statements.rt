@@ -1,10 +1,10 @@
 //! Statements, and calls of procedures.
-ghost use Rattle.std.specs.Prelude.{◌≡◌, ℕ, OnOk, drop, false};
+ghost use Rattle.std.specs.Prelude.{◌≡◌, ◌<◌, ◌-◌, ℕ, List, OnOk, drop, false, get_or, length};
 ghost use Rattle.zpl_tree.specs.Syntax as plain;
 ghost use Rattle.zpl_tree.specs.View.{arms_of, else_of, expr_of, exprs_of, head_of, name_of};
 ghost use Rattle.zpl_tree.specs.View.{statement_of, stmt_of, stmts_of};
 ghost use Rattle.zpl_names.specs.Sites.{is_shattered};
-ghost use Rattle.zpl_lowering.specs.Program.{call_code};
+ghost use Rattle.zpl_lowering.specs.Program.{body_code, call_code};
 ghost use Rattle.zpl_meaning.specs.Statement.{arms_at};
 ghost use Rattle.zpl_lowering.specs.Statement as statement;
 ghost use Rattle.zpl_lowering.specs.Where.{reach_of};
@@ -20,7 +20,8 @@ ghost use Rattle.lower_statements.specs.Tests.{test_at};
 ghost use Rattle.lower_places.specs.View.{currents_of};
 ghost use Rattle.lower_statements.specs.Prefixes.{in_place};
 ghost use Rattle.routine_walks.specs.Texts.{routine_of};
-ghost use Rattle.zpl_lower.specs.Calls.{IsSite, body_at, calling_of};
+ghost use Rattle.routine_walks.specs.declared.texts.Routine.{Routine as CodeRoutine};
+ghost use Rattle.zpl_lower.specs.Calls.{IsSite, body_at, calling_in, calling_of};
 ghost use Rattle.zpl_lower.specs.Frames.{framed};
 ghost use Rattle.zpl_lower.specs.Runs.{IsRunning, context_of};
 ghost use Rattle.zpl_lower.specs.Turns.{target_in, turns_code};
@@ -408,7 +409,17 @@ pub fn lower_entered(
     number: usize,
     givens: &[Given],
     clears: bool,
-) -> Result<(), AllocError> {
+) -> Result<(), AllocError>
+    requires running { IsRunning run.now (setup_of site.now.setup.now) }
+    requires site { IsSite site.now }
+    requires depth { 0 < run.now.depth }
+    requires number { number < length run.now.text.now.routines.items }
+    ensures { (name : List ℕ) (routine : CodeRoutine)
+        → routine ≡ get_or run.now.text.now.routines.items number routine
+        → OnOk result (draft.new ≡ grown draft.old (body_code (setup_of site.now.setup.now)
+        (record { clears = clears; line = site.now.line })
+        (call_code (setup_of site.now.setup.now) (run.now.depth - 1)) (routine_of routine)
+        (calling_in site.now name givens.now) draft.old.next)) }
     let line = site.line;
     let entry = Entry { clears, line };
     let frame = Frame {
