@@ -2,3 +2,4 @@ pub mod PointLemmas
 pub mod FitLemmas
 pub mod FormLemmas
 pub mod RankLemmas
+pub mod CloseLemmas
