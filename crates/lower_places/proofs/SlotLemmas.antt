@@ -1,17 +1,17 @@
 -- Declared regions with their slots.
-use Rattle.std.proofs.Common.{◌≡◌, ℕ, suc, ◌+◌, ◌<◌, Bool, true, false, cond, List, [], ◌∷◌, ◌++◌, map, drop, drop-cons, length, get_or, Option, Some, None, refl, sym, ap, ◌∙◌, arith}
+use Rattle.std.proofs.Common.{◌≡◌, ℕ, suc, ◌+◌, ◌<◌, ◌≤◌, Bool, true, false, cond, List, [], ◌∷◌, ◌++◌, map, drop, drop-cons, length, get_or, Option, Some, None, refl, sym, ap, ◌∙◌, subst, arith, Bor}
+use Rattle.std.proofs.Math.ListN.{drop_of_length-le}
 use Rattle.std.specs.Prelude.{position, unwrap_or}
 use Rattle.std.specs.List.{position_from}
 use Rattle.std.specs.Str.{bytes_eq}
-use Rattle.std.proofs.lemmas.List.{append_assoc}
+use Rattle.std.proofs.lemmas.List.{append_assoc, append-nil}
 use Rattle.std.proofs.lemmas.Iterator.Adapters.{position_from-zero}
 use Rattle.zpl_tree.specs.Syntax.{Name}
-use Rattle.zpl_binding.specs.Regions.{Known}
 use Rattle.zpl_binding.specs.Outcome.{Computed}
-use Rattle.zpl_region.specs.declared.regions.Region.{Region}
-use Rattle.zpl_bind.specs.Tables.{found}
+use Rattle.zpl_binding.specs.Regions.{Known}
+use Rattle.zpl_bind.specs.Tables.{computed, found}
 use Rattle.zpl_lowering.specs.Bracket.{region_slot}
-use Rattle.lower_places.specs.RegionSlots.{region_names, slot_in, slot_or, slots_from}
+use Rattle.lower_places.specs.RegionSlots.{region_names, slot_in, slot_or, slots_from, texts_of}
 
 -- what is found of a name is where it first stands
 pub found-slots : (slot : ℕ) (names : List (List ℕ)) (text : List ℕ) →
@@ -23,7 +23,7 @@ found-slots slot (name ∷ names) text =
     by : (b : Bool) →
         found (slots_from (slot + 1) names) text
         ≡ position_from (λ name. bytes_eq name text) (slot + 1) names →
-        cond b (Some slot) (found (slots_from (suc slot) names) text)
+        cond b (Some slot) (found (slots_from (slot + 1) names) text)
         ≡ cond b (Some slot) (position_from (λ name. bytes_eq name text) (slot + 1) names)
     by true rest = refl
     by false rest = rest
@@ -35,19 +35,59 @@ unwrap-slot (Some slot) = refl
 pub slot-found : (names : List (List ℕ)) (text : List ℕ) →
     unwrap_or (found (slots_from 0 names) text) 0 ≡ slot_in names text
 slot-found names text =
-    unwrap-slot _ ∙ ap slot_or (found-slots 0 names text
+    unwrap-slot (found (slots_from 0 names) text) ∙ ap slot_or (found-slots 0 names text
     ∙ sym (position_from-zero (λ name. bytes_eq name text) names))
 
--- one name more
-pub slots-more : (names : List (List ℕ)) (i : ℕ) (name : List ℕ) →
-    (done : List (List ℕ × ℕ)) (slot : ℕ) (all : List (List ℕ × ℕ)) → i < length names →
-    done ++ slots_from slot (drop i names) ≡ all →
-    (done ++ (get_or names i name, slot) ∷ []) ++ slots_from (slot + 1) (drop (i + 1) names)
-    ≡ all
-slots-more names i name done slot all below rest =
-    append_assoc done _ _
-    ∙ ap (λ slots. done ++ slots) (sym (ap (slots_from slot) (drop-cons names i name below)))
+-- ---- one name after the other
+
+next-up : (i : ℕ) → suc i ≡ i + 1
+next-up i = omega arith
+
+pub slots-more : {T : Type 0} (entries : List (Bor (List ℕ) × T)) (i : ℕ)
+    (entry : Bor (List ℕ) × T) (old new all : List (List ℕ × ℕ)) (slot next : ℕ) →
+    i < length entries → next ≡ slot + 1 →
+    new ≡ old ++ ((get_or entries i entry).0.now, slot) ∷ [] →
+    old ++ slots_from slot (texts_of (drop i entries)) ≡ all →
+    new ++ slots_from next (texts_of (drop (i + 1) entries)) ≡ all
+slots-more {T} entries i entry old new all slot next below up added rest =
+    let name = (get_or entries i entry).0.now in
+    let P : ℕ → Type 0 = λ n. new ++ slots_from next (texts_of (drop n entries)) ≡ all in
+    subst P (next-up i)
+    (ap (λ (done : List (List ℕ × ℕ)). done ++ slots_from next (texts_of (drop (suc i) entries)))
+    added
+    ∙ ap (λ (k : ℕ).
+    (old ++ (name, slot) ∷ []) ++ slots_from k (texts_of (drop (suc i) entries))) up
+    ∙ append_assoc old ((name, slot) ∷ []) (slots_from (slot + 1) (texts_of (drop (suc i) entries)))
+    ∙ ap (λ (left : List (Bor (List ℕ) × T)). old ++ slots_from slot (texts_of left))
+    (sym (drop-cons entries i entry below))
+    ∙ rest)
+
+pub slots-end : {T : Type 0} (entries : List (Bor (List ℕ) × T)) (i : ℕ)
+    (done all : List (List ℕ × ℕ)) (slot : ℕ) → length entries ≤ i →
+    done ++ slots_from slot (texts_of (drop i entries)) ≡ all → done ≡ all
+slots-end {T} entries i done all slot past rest =
+    sym (append-nil done)
+    ∙ ap (λ (left : List (Bor (List ℕ) × T)). done ++ slots_from slot (texts_of left))
+    (sym (drop_of_length-le entries past))
     ∙ rest
+
+-- ---- names of what was listed
+
+pub listed-texts : {T : Type 0} (entries : List (Bor (List ℕ) × T)) →
+    texts_of entries ≡ map (λ (entry : List ℕ × T). entry.0)
+    (map (λ (entry : Bor (List ℕ) × T). (entry.0.now, entry.1)) entries)
+listed-texts [] = refl
+listed-texts (entry ∷ entries) = ap (λ names. entry.0.now ∷ names) (listed-texts entries)
+
+pub slot-names : (slot : ℕ) (names : List (List ℕ)) →
+    map (λ (entry : List ℕ × ℕ). entry.0) (slots_from slot names) ≡ names
+slot-names slot [] = refl
+slot-names slot (name ∷ names) = ap (λ others. name ∷ others) (slot-names (slot + 1) names)
+
+pub computed-names : {T : Type 0} (entries : List (List ℕ × T)) →
+    map (λ (entry : List ℕ × T). entry.0) entries ≡ map (λ (one : Computed T). one.name) (computed entries)
+computed-names [] = refl
+computed-names (entry ∷ entries) = ap (λ names. entry.0 ∷ names) (computed-names entries)
 
 -- ---- regions of what was computed
 

@@ -75,3 +75,16 @@ then_grown draft first second =
     ∙ ap (λ (d : Drafted). rows_with d second.rows second.slots) (sym (opened_grown draft first))
     ∙ rows_then draft first second
     ∙ opened_grown draft (opened_then first second)
+
+-- ---- one row, as it is pushed
+
+pub row_filled : (old middle new : Drafted) (flood : List Bool) (rank slot : ℕ) (row : ℕ → Row) →
+    rank ≡ length flood → slot ≡ old.next.slots → middle ≡ with_slot old rank →
+    new ≡ pushed middle (row slot) →
+    new ≡ with_opened old (filled old.next.slots flood (row old.next.slots))
+row_filled old middle new flood rank slot row ranked numbered added grown =
+    grown
+    ∙ ap (λ (k : ℕ). pushed middle (row k)) numbered
+    ∙ ap (λ (d : Drafted). pushed d (row old.next.slots)) added
+    ∙ ap (λ (k : ℕ). pushed (with_slot old k) (row old.next.slots)) ranked
+    ∙ filled_grown old flood (row old.next.slots)
