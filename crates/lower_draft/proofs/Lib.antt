@@ -1,1 +1,2 @@
-
+pub mod LaidLemmas
+pub mod GrowthLemmas

@@ -32,4 +32,4 @@ row_of (flat.Loop slot group) = row.Loop slot (map member_of group.items)
 row_of (flat.Print text) = row.Print text
 row_of (flat.Number expr) = row.Number expr
 row_of (flat.Truth expr) = row.Truth expr
-row_of (flat.Plain row) = row.Plain row
+row_of (flat.Plain one) = row.Plain one

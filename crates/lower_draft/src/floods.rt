@@ -22,7 +22,8 @@ pub struct Flood {
 }
 
 impl Model for Flood {
-    ghost use Rattle.std.specs.Prelude.{ap, Bool, List};
+    ghost use Rattle.std.specs.Prelude.{Bool, List};
+    ghost use Rattle.std.proofs.Common.{ap};
     ghost use Rattle.lower_draft.specs.Flags.{flags_back, flags_of, listed};
 
     ghost Value = { List Bool };

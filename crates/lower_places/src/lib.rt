@@ -18,4 +18,4 @@ pub use places::Place;
 pub use region_slots::RegionSlots;
 pub use slots::{SlotCurrents, SlotEdge, Slotted};
 pub use stored::Stored;
-pub use words::put_scalar_words;
+pub use words::{put_scalar_words, thing_word, variable_word};
