@@ -38,7 +38,10 @@ fn lower_scalar(
 {
     let expr = left_of(draft, place, line, None, None, value)?;
     match target {
-        Some(scalar) => draft.push(FlatRow::Set { scalar, expr, line }),
+        Some(scalar) => {
+            draft.push(FlatRow::Set { scalar, expr, line })?;
+            Ok(())
+        }
         None => Ok(()),
     }
 }
@@ -76,7 +79,8 @@ fn lower_array(
     draft.push(FlatRow::Loop {
         slot: over.slot,
         group,
-    })
+    })?;
+    Ok(())
 }
 
 /// Appends an assignment of an expression, whole with the operator.
@@ -99,11 +103,13 @@ fn lower_whole(
     let value = Placed { rank, expr };
     match place.find(name) {
         Some(Thing::Scalar(target)) => {
-            lower_scalar(draft, place, line, value, place.numbers.scalar(target))
+            lower_scalar(draft, place, line, value, place.numbers.scalar(target))?;
+            Ok(())
         }
         Some(Thing::Array(target, _)) => {
             let over = place.current(handed);
-            lower_array(draft, place, line, &over, value, place.numbers.array(target))
+            lower_array(draft, place, line, &over, value, place.numbers.array(target))?;
+            Ok(())
         }
         _ => Ok(()),
     }
@@ -126,7 +132,8 @@ pub fn lower_to(
         (thing_of (where_of place.now).environment (name_of name.now).text))) }
 {
     let Some(op) = op else {
-        return lower_whole(draft, place, line, name, value);
+        lower_whole(draft, place, line, name, value)?;
+        return Ok(());
     };
     let variable = Expr {
         at: name.at,
@@ -136,7 +143,8 @@ pub fn lower_to(
         at: name.at,
         form: ExprForm::Pair(op, &variable, value),
     };
-    lower_whole(draft, place, line, name, &whole)
+    lower_whole(draft, place, line, name, &whole)?;
+    Ok(())
 }
 
 /// Appends what a procedure answers: it goes into the scalar that takes it.
@@ -154,5 +162,6 @@ pub fn lower_return(
 {
     let rank = place.rank_in(value);
     let placed = Placed { rank, expr: value };
-    lower_scalar(draft, place, line, placed, Some(place.result))
+    lower_scalar(draft, place, line, placed, Some(place.result))?;
+    Ok(())
 }

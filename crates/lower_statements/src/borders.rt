@@ -71,7 +71,8 @@ fn push_border(
         array: stored.array,
         slot: edge.slot,
         shift: edge.shift,
-    }))
+    }))?;
+    Ok(())
 }
 
 /// Appends the borders of arrays.
@@ -132,7 +133,8 @@ fn lower_under(
         border: over.slot,
         source,
     };
-    push_borders(draft, place, line, kind, edge, ends, names)
+    push_borders(draft, place, line, kind, edge, ends, names)?;
+    Ok(())
 }
 
 /// Appends a border statement. No accepted program has one under another prefix than a border.
@@ -150,7 +152,8 @@ pub fn lower_borders(
     match &place.edge {
         Some(edge) => {
             let over = place.current(place.prefix);
-            lower_under(draft, place, line, kind, edge, &over, names)
+            lower_under(draft, place, line, kind, edge, &over, names)?;
+            Ok(())
         }
         None => Ok(()),
     }

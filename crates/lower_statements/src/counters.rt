@@ -138,7 +138,8 @@ pub fn push_step(
         scalar: counter.at,
         expr: ExprRow::of(words),
         line,
-    })
+    })?;
+    Ok(())
 }
 
 /// Appends that the variable becomes what counts, if it is a scalar with a number.
@@ -166,5 +167,6 @@ pub fn set_counter(
         scalar,
         expr: ExprRow::of(words),
         line,
-    })
+    })?;
+    Ok(())
 }

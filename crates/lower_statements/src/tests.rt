@@ -56,7 +56,8 @@ pub fn left_of(
     let mut exprs = Vec::new(alloc);
     exprs.push(placed)?;
     let left = phases(draft, place, line, own, last, &exprs)?;
-    first_words(alloc, left)
+    let words = first_words(alloc, left)?;
+    Ok(words)
 }
 
 /// Appends the rows of a test of rank 0, and gives its words.
@@ -74,7 +75,9 @@ pub fn test_words(
         ≡ (test_at (where_of place.now) line draft.old.next (expr_of test.now)).check.expr) }
 {
     let rank = place.rank_in(test);
-    left_of(draft, place, line, None, None, Placed { rank, expr: test })
+    let placed = Placed { rank, expr: test };
+    let words = left_of(draft, place, line, None, None, placed)?;
+    Ok(words)
 }
 
 /// Appends a test that has no goal yet, behind its rows.
@@ -94,5 +97,6 @@ pub fn open_test(
         (test_at (where_of place.now) line draft.old.next (expr_of test.now)).check) }
 {
     let words = test_words(draft, place, line, test)?;
-    draft.open(words, line)
+    let pending = draft.open(words, line)?;
+    Ok(pending)
 }

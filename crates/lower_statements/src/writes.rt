@@ -196,5 +196,6 @@ pub fn lower_write(
     let exprs = printed(draft.alloc(), place, items)?;
     let left = phases(draft, place, line, None, None, &exprs)?;
     let prints = push_items(draft, place, line, ends, items, left)?;
-    push_rows(draft, prints)
+    push_rows(draft, prints)?;
+    Ok(())
 }

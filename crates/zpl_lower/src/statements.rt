@@ -86,7 +86,8 @@ pub fn lower_stmt(
         (statement.lowered (context_of run.now place.now) draft.old.next (stmt_of stmt.now))) }
 {
     let inner = behind_prefixes(draft, place, is_border(&stmt.form), stmt.prefixes)?;
-    lower_behind(draft, run, &inner, stmt)
+    lower_behind(draft, run, &inner, stmt)?;
+    Ok(())
 }
 
 /// Appends the code of statements, one after another.
@@ -127,9 +128,11 @@ fn lower_behind(
 {
     if is_above_zero(tests_rank(place, &stmt.form)) {
         let line = place.line_of(stmt.at);
-        lower_shattered(draft, place, line, &stmt.form)
+        lower_shattered(draft, place, line, &stmt.form)?;
+        Ok(())
     } else {
-        lower_form(draft, run, place, stmt)
+        lower_form(draft, run, place, stmt)?;
+        Ok(())
     }
 }
 
@@ -153,18 +156,46 @@ fn lower_form(
     nodes_are_seen_with_their_lists();
     let line = place.line_of(stmt.at);
     match &stmt.form {
-        Form::Assign(name, op, value) => lower_assign(draft, run, place, line, name, *op, value),
-        Form::Call(name, actuals) => lower_invoke(draft, run, place, line, name, actuals, 0),
-        Form::Block(body) => lower_stmts(draft, run, place, body),
-        Form::If(arms, otherwise) => {
-            lower_arms(draft, run, place, stmt.at, arms, 0, otherwise)
+        Form::Assign(name, op, value) => {
+            lower_assign(draft, run, place, line, name, *op, value)?;
+            Ok(())
         }
-        Form::While(test, body) => lower_while(draft, run, place, line, test, body),
-        Form::Repeat(body, until, test) => lower_repeat(draft, run, place, *until, body, test),
-        Form::For(head, body) => lower_for(draft, run, place, line, head, body),
-        Form::Border(kind, names) => lower_borders(draft, place, line, *kind, names),
-        Form::Write(ends, items) => lower_write(draft, place, line, *ends, items),
-        Form::Return(value) => lower_return(draft, place, line, value),
+        Form::Call(name, actuals) => {
+            lower_invoke(draft, run, place, line, name, actuals, 0)?;
+            Ok(())
+        }
+        Form::Block(body) => {
+            lower_stmts(draft, run, place, body)?;
+            Ok(())
+        }
+        Form::If(arms, otherwise) => {
+            lower_arms(draft, run, place, stmt.at, arms, 0, otherwise)?;
+            Ok(())
+        }
+        Form::While(test, body) => {
+            lower_while(draft, run, place, line, test, body)?;
+            Ok(())
+        }
+        Form::Repeat(body, until, test) => {
+            lower_repeat(draft, run, place, *until, body, test)?;
+            Ok(())
+        }
+        Form::For(head, body) => {
+            lower_for(draft, run, place, line, head, body)?;
+            Ok(())
+        }
+        Form::Border(kind, names) => {
+            lower_borders(draft, place, line, *kind, names)?;
+            Ok(())
+        }
+        Form::Write(ends, items) => {
+            lower_write(draft, place, line, *ends, items)?;
+            Ok(())
+        }
+        Form::Return(value) => {
+            lower_return(draft, place, line, value)?;
+            Ok(())
+        }
     }
 }
 
@@ -192,7 +223,10 @@ fn lower_arms(
 {
     if from >= arms.len() {
         return match otherwise {
-            Some(body) => lower_stmts(draft, run, place, body),
+            Some(body) => {
+                lower_stmts(draft, run, place, body)?;
+                Ok(())
+            }
             None => Ok(()),
         };
     }
@@ -200,12 +234,14 @@ fn lower_arms(
     let test = open_test(draft, place, place.line_of(at), arm.test)?;
     lower_stmts(draft, run, place, arm.body)?;
     if ends_arms(arms, from + 1, otherwise) {
-        return draft.close(test);
+        draft.close(test)?;
+        return Ok(());
     }
     let jump = draft.turn(test)?;
     let next = arm_at(arms, from + 1);
     lower_arms(draft, run, place, next, arms, from + 1, otherwise)?;
-    draft.close(jump)
+    draft.close(jump)?;
+    Ok(())
 }
 
 /// Appends the code of a `while`, which tests before each turn.
@@ -230,7 +266,8 @@ fn lower_while(
     let start = draft.here()?;
     let pending = open_test(draft, place, line, test)?;
     lower_stmts(draft, run, place, body)?;
-    draft.close_loop(start, pending)
+    draft.close_loop(start, pending)?;
+    Ok(())
 }
 
 /// Appends the code of a `repeat`, which tests behind each turn.
@@ -256,7 +293,8 @@ fn lower_repeat(
     lower_stmts(draft, run, place, body)?;
     let line = place.line_of(until);
     let words = test_words(draft, place, line, test)?;
-    draft.until(start, words, line)
+    draft.until(start, words, line)?;
+    Ok(())
 }
 
 /// Appends the code of a `for`. Its first value, its last one and its step are computed once.
@@ -282,7 +320,8 @@ fn lower_for(
     let words = enters_words(draft.alloc(), head.down, counter)?;
     let entered = draft.open(words, line)?;
     lower_turns(draft, run, place, line, counter, head, body)?;
-    draft.close(entered)
+    draft.close(entered)?;
+    Ok(())
 }
 
 /// Appends the turns of a `for`: each sets the variable first.
@@ -309,7 +348,8 @@ fn lower_turns(
     lower_stmts(draft, run, place, body)?;
     push_step(draft, head.down, counter, line)?;
     let words = done_words(draft.alloc(), head.down, counter)?;
-    draft.until(start, words, line)
+    draft.until(start, words, line)?;
+    Ok(())
 }
 
 /// Appends an assignment, of a call or of another expression. The procedure answers into the
@@ -335,10 +375,12 @@ fn lower_assign(
     if let None = op {
         if let ExprForm::Call(callee, actuals) = &value.form {
             let target = target_of(place, name);
-            return lower_invoke(draft, run, place, line, callee, actuals, target);
+            lower_invoke(draft, run, place, line, callee, actuals, target)?;
+            return Ok(());
         }
     }
-    lower_to(draft, place, line, name, op, value)
+    lower_to(draft, place, line, name, op, value)?;
+    Ok(())
 }
 
 /// Appends a call, which answers into a scalar.
@@ -433,7 +475,8 @@ pub fn lower_entered(
         depth: run.depth - 1,
         ..*run
     };
-    lower_frame(draft, &deeper, site, &run.text.routines[number], &frame)
+    lower_frame(draft, &deeper, site, &run.text.routines[number], &frame)?;
+    Ok(())
 }
 
 /// Lends all that the body of a procedure goes by.
@@ -461,7 +504,8 @@ fn lower_frame(
         &*routine,
         &frame.things,
         &frame.numbers,
-    )
+    )?;
+    Ok(())
 }
 
 /// Appends the body of a procedure with these parameters and local variables.
@@ -485,5 +529,6 @@ fn lower_body<'a, 'n>(
         draft.old.next (stmt_of routine.entry.now.procedure.now.body))) }
 {
     let inner = body_place(run.text, site, routine, own, numbers);
-    lower_stmt(draft, run, &inner, &routine.procedure.body)
+    lower_stmt(draft, run, &inner, &routine.procedure.body)?;
+    Ok(())
 }
