@@ -71,14 +71,15 @@ pub fn count_stmt(count: &mut u32, stmt: &Stmt<'_>) -> Result<(), AllocError>
             count_stmts(count, body)?;
             Ok(())
         }
-        Form::If(arms, None) => {
+        Form::If(arms, otherwise) => {
             count_arms(count, arms)?;
-            Ok(())
-        }
-        Form::If(arms, Some(body)) => {
-            count_arms(count, arms)?;
-            count_stmts(count, body)?;
-            Ok(())
+            match otherwise {
+                Some(body) => {
+                    count_stmts(count, body)?;
+                    Ok(())
+                }
+                None => Ok(()),
+            }
         }
         Form::While(test, body) => {
             count_expr(count, test)?;
