@@ -80,3 +80,18 @@ put_stored w line slot value (Some (ArrayAt place home)) = refl
 put_stored w line slot value (Some (Scalar place)) = refl
 put_stored w line slot value (Some (Fixed number)) = refl
 put_stored w line slot value None = refl
+
+-- ---- choices
+
+pub choice_members : (old body rest close : List Member) (m : Member) →
+    ((old ++ m ∷ []) ++ body) ++ (rest ++ close) ≡ old ++ (m ∷ ((body ++ rest) ++ close))
+choice_members old body rest close m =
+    append_assoc (old ++ m ∷ []) body (rest ++ close)
+    ∙ append_assoc old (m ∷ []) (body ++ (rest ++ close))
+    ∙ ap (λ l. old ++ (m ∷ l)) (sym (append_assoc body rest close))
+
+pub references_three : (old v b l : List Reference) →
+    with_references (with_references (with_references old v) b) l ≡
+    with_references old (v ++ (b ++ l))
+references_three old v b l =
+    references_both (with_references old v) b l ∙ references_both old v (b ++ l)

@@ -1,10 +1,12 @@
 -- What a draft grows by where tests, choices and loops are pushed step by step.
-use Rattle.std.proofs.Common.{◌≡◌, ℕ, ◌+◌, Bool, List, [], ◌∷◌, Option, length, refl, sym, ap, ap₂, ◌∙◌, append-nil, arith}
+use Rattle.std.proofs.Common.{◌≡◌, ℕ, ◌+◌, Bool, List, [], ◌∷◌, ◌++◌, Option, length, refl, sym, ap, ap₂, ◌∙◌, append-nil, arith}
 use Rattle.row_runs.specs.Structured as piece
 use Rattle.row_runs.specs.Structured.{Piece}
 use Rattle.node_form.specs.Expression.{Variable}
 use Rattle.flat_form.specs.Row.{Row}
+use Rattle.zpl_region.specs.declared.regions.Region.{Region}
 use Rattle.zpl_lowering.specs.Check.{Check}
+use Rattle.zpl_lowering.specs.Hoist.{Shifted}
 use Rattle.zpl_lowering.specs.Where.{Next}
 use Rattle.zpl_lowering.specs.Lowered.{Lowered, behind, both, check_of, followed, joined, rows_alone}
 use Rattle.zpl_lowering.specs.Statement.{Counter, Testing, chosen, counted, enters, is_done, repeat_code, set_row, step_row, when, while_code}
@@ -91,19 +93,40 @@ repeat_steps d0 d1 d2 d3 d4 start line body test starts begins inside tests ends
 
 -- ---- the turns of a `for`
 
+abbrev made : Piece Row Check → ℕ → List ℕ → List Region → List Region → List Region →
+    List (List Bool) → List Shifted → Lowered
+made code scalars slots arrays copies later temps shifts = record {
+  code = code;
+  scalars = scalars;
+  slots = slots;
+  arrays = arrays;
+  copies = copies;
+  later = later;
+  temps = temps;
+  shifts = shifts;
+}
+
+nothing_more : (n : ℕ) → n + 0 ≡ n
+nothing_more n = omega arith
+
 -- rows have nothing of their own
 pub joined_alone : (code : Piece Row Check) (first : Lowered) (rows : List Row) →
     joined code first (rows_alone rows) ≡ record first { code = code }
-joined_alone code first rows = record {
-  code = refl;
-  scalars = omega arith;
-  slots = append-nil first.slots;
-  arrays = append-nil first.arrays;
-  copies = append-nil first.copies;
-  later = append-nil first.later;
-  temps = append-nil first.temps;
-  shifts = append-nil first.shifts;
-}
+joined_alone code first rows =
+    ap (λ n. made code n (first.slots ++ []) (first.arrays ++ []) (first.copies ++ [])
+    (first.later ++ []) (first.temps ++ []) (first.shifts ++ [])) (nothing_more first.scalars)
+    ∙ ap (λ l. made code first.scalars l (first.arrays ++ []) (first.copies ++ [])
+    (first.later ++ []) (first.temps ++ []) (first.shifts ++ [])) (append-nil first.slots)
+    ∙ ap (λ l. made code first.scalars first.slots l (first.copies ++ [])
+    (first.later ++ []) (first.temps ++ []) (first.shifts ++ [])) (append-nil first.arrays)
+    ∙ ap (λ l. made code first.scalars first.slots first.arrays l
+    (first.later ++ []) (first.temps ++ []) (first.shifts ++ [])) (append-nil first.copies)
+    ∙ ap (λ l. made code first.scalars first.slots first.arrays first.copies l
+    (first.temps ++ []) (first.shifts ++ [])) (append-nil first.later)
+    ∙ ap (λ l. made code first.scalars first.slots first.arrays first.copies first.later l
+    (first.shifts ++ [])) (append-nil first.temps)
+    ∙ ap (λ l. made code first.scalars first.slots first.arrays first.copies first.later
+    first.temps l) (append-nil first.shifts)
 
 pub turns_steps : (d0 d1 d2 d3 d4 d5 : Drafted) (start line : ℕ) (down : Bool) (counter : Counter)
     (target : Option ℕ) (body : Next → Lowered) →

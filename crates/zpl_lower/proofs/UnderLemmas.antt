@@ -17,17 +17,24 @@ pub behind_grown : (w inner : Where) (call : Calling → Next → Lowered) (old 
 behind_grown w inner call old mid new at prefixes form is made =
     made ∙ is call (λ context after. lowered_form context after at form)
 
+choose_true : (b : Bool) (one other : Lowered) → b ≡ true → choose_code b one other ≡ one
+choose_true true one other is = refl
+choose_true false one other is = absurd (true≢false (sym is))
+
 -- a shattered statement
 pub shattered_form : (context : Lowering) (next : Next) (at : ℕ) (form : Form) →
     is_shattered (reach_of context.place) form ≡ true →
     lowered_form context next at form ≡
     shattered context.place (line_of context.place at) next form
 shattered_form context next at (If arms otherwise) is =
-    ap (λ b. choose_code b (shattered context.place (line_of context.place at) next (If arms otherwise)) _) is
+    choose_true (is_shattered (reach_of context.place) (If arms otherwise))
+    (shattered context.place (line_of context.place at) next (If arms otherwise)) _ is
 shattered_form context next at (While test body) is =
-    ap (λ b. choose_code b (shattered context.place (line_of context.place at) next (While test body)) _) is
+    choose_true (is_shattered (reach_of context.place) (While test body))
+    (shattered context.place (line_of context.place at) next (While test body)) _ is
 shattered_form context next at (Repeat body until test) is =
-    ap (λ b. choose_code b (shattered context.place (line_of context.place at) next (Repeat body until test)) _) is
+    choose_true (is_shattered (reach_of context.place) (Repeat body until test))
+    (shattered context.place (line_of context.place at) next (Repeat body until test)) _ is
 shattered_form context next at (Assign name op value) is = absurd (true≢false (sym is))
 shattered_form context next at (Invoke name actuals) is = absurd (true≢false (sym is))
 shattered_form context next at (Block body) is = absurd (true≢false (sym is))
