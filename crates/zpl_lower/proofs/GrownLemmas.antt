@@ -152,7 +152,7 @@ turns_steps d0 d1 d2 d3 d4 d5 start line down counter target body starts begins 
     ∙ repeat_grown d0 whole (rows_alone []) check
     ∙ ap (grown d0)
     (joined_alone (piece.Repeat whole.code (piece.Rows []) check) whole []
-    ∙ ap (λ one. record one { code = piece.Repeat whole.code (piece.Rows []) check })
+    ∙ ap (λ (one : Lowered). record one { code = piece.Repeat whole.code (piece.Rows []) check })
     (joined_alone whole.code all step))
 
 -- a `for` behind its values
