@@ -1,5 +1,5 @@
 -- How an `OpenIf` is closed behind its other branch.
-use Rattle.std.proofs.Common.{◌≡◌, ◌≢◌, ℕ, zero, suc, ◌+◌, List, [], ◌∷◌, ◌++◌, drop, get_or, take, length, map, refl, sym, ◌∙◌, ap, ap₂, subst, append_assoc, length-append, arith}
+use Rattle.std.proofs.Common.{◌≡◌, ◌≢◌, ℕ, zero, suc, ◌+◌, ◌-◌, List, [], ◌∷◌, ◌++◌, drop, get_or, take, length, map, refl, sym, ◌∙◌, ap, ap₂, subst, append_assoc, length-append, arith}
 use Rattle.std.proofs.lemmas.List.{length-map}
 use Rattle.flat_form.specs.Row as row
 use Rattle.flat_form.specs.Row.{Member}
@@ -25,25 +25,26 @@ front (x ∷ old) (one ∷ opened) m is =
     ap₂ (λ y ys. y ∷ ys) (ap (λ l. get_or l 0 one) is) (front old opened m (ap (drop 1) is))
 
 -- the branch is empty
-pub closed_empty : (old : List FlatMember) (opened last : List Member) (before : ℕ) →
-    before ≡ length opened → members_in old ≡ opened ++ row.Otherwise ∷ last →
-    length old ≡ before + 1 →
-    members_in (take before old) ++ row.CloseIf ∷ [] ≡
+pub closed_empty : (old : List FlatMember) (opened last : List Member) (behind n : ℕ) →
+    behind ≡ length opened + 1 → members_in old ≡ opened ++ row.Otherwise ∷ last →
+    length old ≡ behind → n ≡ behind - 1 →
+    members_in (take n old) ++ row.CloseIf ∷ [] ≡
     opened ++ (otherwise_members last ++ row.CloseIf ∷ [])
-closed_empty old opened [] before at is long =
-    ap (λ n. members_in (take n old) ++ row.CloseIf ∷ []) at
+closed_empty old opened [] behind n at is long less =
+    ap (λ n. members_in (take n old) ++ row.CloseIf ∷ [])
+    (let e : n ≡ length opened = omega (arith, at, less) in e)
     ∙ ap (λ l. l ++ row.CloseIf ∷ []) (front old opened row.Otherwise is)
-closed_empty old opened (m ∷ last) before at is long =
-    absurd (let n = count old opened (m ∷ last) is in omega (arith, n, at, long))
+closed_empty old opened (m ∷ last) behind n at is long less =
+    absurd (let k = count old opened (m ∷ last) is in omega (arith, k, at, long))
 
 -- it isn't
-pub closed_kept : (old : List FlatMember) (opened last : List Member) (before : ℕ) →
-    before ≡ length opened → members_in old ≡ opened ++ row.Otherwise ∷ last →
-    length old ≢ before + 1 →
+pub closed_kept : (old : List FlatMember) (opened last : List Member) (behind : ℕ) →
+    behind ≡ length opened + 1 → members_in old ≡ opened ++ row.Otherwise ∷ last →
+    length old ≢ behind →
     members_in old ++ row.CloseIf ∷ [] ≡
     opened ++ (otherwise_members last ++ row.CloseIf ∷ [])
-closed_kept old opened [] before at is long =
-    absurd (long (let n = count old opened [] is in omega (arith, n, at)))
-closed_kept old opened (m ∷ last) before at is long =
+closed_kept old opened [] behind at is long =
+    absurd (long (let k = count old opened [] is in omega (arith, k, at)))
+closed_kept old opened (m ∷ last) behind at is long =
     ap (λ l. l ++ row.CloseIf ∷ []) is
     ∙ append_assoc opened (row.Otherwise ∷ m ∷ last) (row.CloseIf ∷ [])

@@ -242,9 +242,9 @@ fn push_arms(
     let expr = value(references, at, arm.test)?;
     push(members, FlatMember::OpenIf { expr, mask: None, line })?;
     push_stmts(members, references, at, arm.body)?;
-    let before = members.len();
     push(members, FlatMember::Otherwise)?;
+    let behind = members.len();
     push_arms(members, references, at, arms, from + 1, otherwise)?;
-    close_if(members, before)?;
+    close_if(members, behind)?;
     Ok(())
 }
