@@ -1,5 +1,0 @@
-pub mod Tests
-pub mod Values
-pub mod Prefixes
-pub mod Writes
-pub mod Counters

@@ -1,5 +1,0 @@
-pub mod Frames
-pub mod Runs
-pub mod Turns
-pub mod Calls
-pub mod Programs
