@@ -1,0 +1,15 @@
+use Rattle.std.proofs.Common.{◌≡◌, ◌++◌, drop, map}
+use Rattle.zpl_tree.specs.View.{syntax_of}
+use Rattle.zpl_names.specs.Declared.{routines_of}
+use Rattle.routine_walks.specs.Texts.{names_in, routine_of}
+use Rattle.expanded_counts.specs.Bodies.{body_in, counted_body}
+use Rattle.expanded_counts.proofs.bodies.bodies_of.Given as goal
+
+-- the bodies so far, and those of the rest
+abbrev pub invariant-loop-routine : goal.invariant-loop-routine
+invariant-loop-routine l =
+    map body_in l.bodies.items
+    ++ map (λ routine. counted_body (syntax_of l.text.program.now) (names_in l.text) (routine_of routine))
+    (drop l.routine-index l.text.routines.items) ≡
+    map (λ routine. counted_body (syntax_of l.text.program.now) (names_in l.text) (routine_of routine))
+    l.text.routines.items

@@ -1,0 +1,11 @@
+//! How large a program is with every call expanded, found without expanding one.
+#![tactic(auto)]
+
+mod bodies;
+mod excess;
+mod nodes;
+mod sizes;
+mod statements;
+mod sums;
+
+pub use excess::{Excess, excess_of};

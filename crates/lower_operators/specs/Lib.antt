@@ -1,0 +1,4 @@
+pub mod Code
+pub mod Once
+pub mod Sound
+pub mod View

@@ -1,0 +1,5 @@
+pub mod Numbers
+pub mod View
+pub mod Sound
+pub mod RegionSlots
+pub mod Lines

@@ -1,0 +1,8 @@
+//! How many reads that wrap round stand in the text of a procedure.
+#![tactic(auto)]
+
+mod expressions;
+mod procedures;
+mod statements;
+
+pub use procedures::{all_reads, reads_of};

@@ -1,0 +1,3 @@
+pub mod OpenedLemmas
+pub mod FormLemmas
+pub mod BracketLemmas
