@@ -1,3 +1,4 @@
 pub mod OpenedLemmas
 pub mod FormLemmas
 pub mod BracketLemmas
+pub mod ConstantLemmas
