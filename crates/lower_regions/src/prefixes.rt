@@ -6,12 +6,11 @@ ghost use Rattle.zpl_names.specs.Shapes as shapes;
 ghost use Rattle.zpl_tree.specs.Syntax.{Posts, Pre as Before, Rexpr as Expression};
 ghost use Rattle.zpl_tree.specs.View.{base_of, inner_of, mask_of, prefix_of, rexpr_of};
 ghost use Rattle.name_kinds.specs.Reach.{scope_of};
-ghost use Rattle.zpl_lowering.specs.Bracket as bracket;
 ghost use Rattle.zpl_lowering.specs.Statement as plain;
 ghost use Rattle.array_regions.specs.Fit.{IsFitInner};
 ghost use Rattle.lower_places.specs.Sound.{IsPlace};
 ghost use Rattle.lower_places.specs.View.{edge_of, slotted_of, where_of};
-ghost use Rattle.lower_regions.specs.Opened.{IsOpened, with_opened};
+ghost use Rattle.lower_regions.specs.Opened.{IsOpened, standing_at, with_opened};
 ghost use Rattle.lower_regions.specs.Prefix.{opened_under};
 
 use crate::brackets::{bracket, computed};
@@ -102,8 +101,8 @@ fn under_prefix<'a, 'n>(
     opened: Opened,
 ) -> Place<'a, 'n>
     requires { IsPlace place.now }
-    ensures under { (plainly : bracket.Opened) → IsOpened plainly opened →
-        where_of result ≡ plain.under_prefix (where_of place.now) (prefix_of prefix.now) plainly }
+    ensures under { where_of result ≡ plain.under_prefix (where_of place.now)
+        (prefix_of prefix.now) (standing_at opened) }
     ensures place { IsPlace result }
 {
     let slotted = Slotted {
