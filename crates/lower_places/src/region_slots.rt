@@ -49,10 +49,7 @@ impl<'n> RegionSlots<'n> {
 }
 
 /// Names with their slots, in the order of the text.
-fn slots_of<'n>(
-    alloc: Global,
-    regions: &Table<'n, Region>,
-) -> Result<Table<'n, u32>, AllocError>
+fn slots_of<'n>(alloc: Global, regions: &Table<'n, Region>) -> Result<Table<'n, u32>, AllocError>
     ensures table { IfOk result IsTable }
     ensures slots { IfOk result (λ table. listed table
         ≡ slots_from 0 (map (λ entry. entry.0) (listed regions.now))) }

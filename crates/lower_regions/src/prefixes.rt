@@ -95,11 +95,7 @@ fn edge_in(place: &Place<'_, '_>, current: &Slotted, inner: &Inner<'_>) -> Optio
 }
 
 /// What is in reach under a prefix, whose region is there.
-fn under_prefix<'a, 'n>(
-    place: &Place<'a, 'n>,
-    prefix: &Prefix<'_>,
-    opened: Opened,
-) -> Place<'a, 'n>
+fn under_prefix<'a, 'n>(place: &Place<'a, 'n>, prefix: &Prefix<'_>, opened: Opened) -> Place<'a, 'n>
     requires { IsPlace place.now }
     ensures under { where_of result ≡ plain.under_prefix (where_of place.now)
         (prefix_of prefix.now) (standing_at opened) }
