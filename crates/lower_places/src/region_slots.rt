@@ -2,9 +2,6 @@
 ghost use Rattle.std.specs.Prelude.{◌≡◌, IfOk, map};
 ghost use Rattle.zpl_bind.specs.Known.{known_in};
 ghost use Rattle.zpl_bind.specs.Tables.{IsTable, listed};
-ghost use Rattle.zpl_tree.specs.View.{name_of};
-ghost use Rattle.zpl_lowering.specs.Bracket.{region_slot};
-ghost use Rattle.zpl_binding.specs.Regions.{Known as Plain};
 ghost use Rattle.lower_places.specs.RegionSlots.{region_names, slot_in, slots_from};
 
 use std::alloc::{AllocError, Global};

@@ -1,6 +1,6 @@
 //! Regions that are made of another one and vectors.
 ghost use Rattle.std.specs.Prelude.{◌≡◌, ◌++◌, ◌∷◌, [], IfOk, OnOk, map};
-ghost use Rattle.zpl_tree.specs.View.{name_of, posts_of, pre_of};
+ghost use Rattle.zpl_tree.specs.View.{posts_of, pre_of};
 ghost use Rattle.zpl_bind.specs.Known.{IsKnown, known_in};
 ghost use Rattle.zpl_lowering.specs.Bracket as plain;
 ghost use Rattle.lower_regions.specs.Forms.{form_of, forms_in};
