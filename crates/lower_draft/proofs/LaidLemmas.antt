@@ -1,10 +1,11 @@
 -- Code that is laid out behind the rows of tables, part by part.
-use Rattle.std.proofs.Common.{◌≡◌, ℕ, zero, suc, ◌+◌, List, [], ◌∷◌, ◌++◌, length, map, refl, sym, ap, ◌∙◌, arith, append_assoc, append-nil, length-append}
-use Rattle.std.specs.Prelude.{fold}
+use Rattle.std.proofs.Common.{◌≡◌, ℕ, suc, ◌+◌, List, [], ◌∷◌, ◌++◌, length, map, refl, sym, ap}
+use Rattle.std.proofs.Common.{◌∙◌, arith, append_assoc, length-append}
 use Rattle.node_form.specs.declared.instructions.Instr.TheVariants as instr
 use Rattle.node_form.specs.declared.tables.Tables.{Tables}
 use Rattle.row_runs.specs.Code.{CodeRow, Straight, Jump, Unless}
-use Rattle.row_runs.specs.Structured.{Piece, Rows, Then, When, Choose, While, Repeat, size, flattened}
+use Rattle.row_runs.specs.Structured.{Piece, Rows, Then, When, Choose, While, Repeat, size}
+use Rattle.row_runs.specs.Structured.{flattened}
 use Rattle.row_runs.proofs.PlaceLemmas.{flat_length}
 use Rattle.flat_form.specs.Row as row
 use Rattle.flat_form.specs.Row.{Row, coded, patched, with_row, with_rows}
@@ -31,7 +32,7 @@ rows_length tables (one ∷ rows) =
 
 -- ---- code
 
-map_length : {A B : Type 0} (f : A → B) (xs : List A) → length (map f xs) ≡ length xs
+pub map_length : {A B : Type 0} (f : A → B) (xs : List A) → length (map f xs) ≡ length xs
 map_length f [] = refl
 map_length f (x ∷ xs) = ap suc (map_length f xs)
 
@@ -56,7 +57,8 @@ straight_rows : (rows : List Row) → map flat_row (map Straight rows) ≡ rows
 straight_rows [] = refl
 straight_rows (one ∷ rows) = ap (λ others. one ∷ others) (straight_rows rows)
 
-pub laid_rows : (tables : Tables) (rows : List Row) → laid tables (Rows rows) ≡ with_rows tables rows
+pub laid_rows : (tables : Tables) (rows : List Row) → laid tables (Rows rows) ≡ with_rows tables
+    rows
 laid_rows tables rows = ap (with_rows tables) (straight_rows rows)
 
 -- code behind rows whose number is known
@@ -111,13 +113,20 @@ laid_turn tables check body goal =
     let begun = with_row tables (test check 0) in
     let rows = rows_from (at + 1) body in
     closing_to (with_row (laid begun body) (jump goal)) at (at + size body + 2)
-    (omega (arith, laid_length begun body, row_length tables (test check 0), row_length (laid begun body) (jump goal)))
+    (omega (
+      arith,
+      laid_length begun body,
+      row_length tables (test check 0),
+      row_length (laid begun
+          body) (jump goal),
+    ))
     ∙ ap (λ t. patched (with_row t (jump goal)) at (at + size body + 2))
     (laid_at begun (at + 1) body (row_length tables (test check 0)))
     ∙ ap (λ t. patched t at (at + size body + 2)) (rows_behind begun rows (jump goal ∷ []))
     ∙ patch tables (test check 0) (rows ++ jump goal ∷ []) (at + size body + 2)
 
-pub laid_while : (tables : Tables) (head : Piece Row Check) (check : Check) (body : Piece Row Check) →
+pub laid_while : (tables : Tables) (head : Piece Row Check) (check : Check) (body : Piece Row
+    Check) →
     closing (with_row (laid (with_row (laid tables head) (test check 0)) body)
     (jump (length tables.code))) (length (laid tables head).code)
     ≡ laid tables (While head check body)
@@ -151,11 +160,11 @@ laid_choose tables check one other =
     let rows = test check from ∷ map flat_row first in
     let side = with_rows tables rows in
     let here : length side.code ≡ at + 1 + size one =
-      rows_length tables rows ∙ omega (arith, code_length (at + 1) one) in
+    rows_length tables rows ∙ omega (arith, code_length (at + 1) one) in
     let there : length (laid begun one).code ≡ length side.code =
-      omega (arith, laid_length begun one, row_length tables (test check 0), here) in
+    omega (arith, laid_length begun one, row_length tables (test check 0), here) in
     let turn : closing (with_row (laid begun one) (jump 0)) at ≡ with_row side (jump 0) =
-      laid_turn tables check one 0 ∙ sym (rows_behind tables rows (jump 0 ∷ [])) in
+    laid_turn tables check one 0 ∙ sym (rows_behind tables rows (jump 0 ∷ [])) in
     ap (λ t. closing (laid t other) (length (laid begun one).code)) turn
     ∙ ap (closing (laid (with_row side (jump 0)) other)) there
     ∙ closing_to (laid (with_row side (jump 0)) other) (length side.code) goal
@@ -181,11 +190,35 @@ laid_repeat tables body head check =
     (laid_at begun (at + 1) body (row_length tables (jump (at + 1))))
     ∙ ap (λ t. with_row t (test check (at + 1)))
     (laid_at (with_rows begun (rows_from (at + 1) body)) (at + size body + 1) head
-    (omega (arith, rows_length begun (rows_from (at + 1) body), code_length (at + 1) body,
-    row_length tables (jump (at + 1)))))
+    (omega (
+      arith,
+      rows_length begun (rows_from (at + 1) body),
+      code_length (at + 1) body,
+      row_length tables (jump (at + 1)),
+    )))
     ∙ ap (λ t. with_row t (test check (at + 1)))
     (rows_behind begun (map flat_row inside) (map flat_row before))
     ∙ rows_behind begun (map flat_row inside ++ map flat_row before) (map flat_row back)
-    ∙ ap (with_rows begun) (append_assoc (map flat_row inside) (map flat_row before) (map flat_row back))
-    ∙ sym (ap (λ rows. with_rows begun (map flat_row inside ++ rows)) (map_append flat_row before back))
+    ∙ ap (with_rows begun) (append_assoc (map flat_row inside) (map flat_row before) (map flat_row
+    back))
+    ∙ sym (ap (λ rows. with_rows begun (map flat_row inside ++ rows)) (map_append flat_row before
+    back))
     ∙ sym (ap (with_rows begun) (map_append flat_row inside (before ++ back)))
+
+-- a loop that tests behind its turns within a test, where each turn ends with a row
+pub laid_for : (tables : Tables) (enters done : Check) (inside : Piece Row Check) (step : Row) →
+    closing (with_row (with_row (laid (with_row (with_row tables (test enters 0))
+    (jump (length (with_row tables (test enters 0)).code + 1))) inside) step)
+    (test done (length (with_row tables (test enters 0)).code + 1))) (length tables.code)
+    ≡ laid tables (When enters (Repeat (Then inside (Rows (step ∷ []))) (Rows []) done))
+laid_for tables enters done inside step =
+    let begun = with_row tables (test enters 0) in
+    let from = with_row begun (jump (length begun.code + 1)) in
+    let turn : Piece Row Check = Then inside (Rows (step ∷ [])) in
+    let ended : laid (laid from turn) (Rows []) ≡ with_row (laid from inside) step =
+    laid_rows (laid from turn) [] ∙ sym (laid_then from inside (Rows (step ∷ [])))
+    ∙ laid_rows (laid from inside) (step ∷ []) in
+    ap (λ (t : Tables). closing t (length tables.code))
+    (sym (ap (λ (t : Tables). with_row t (test done (length begun.code + 1))) ended)
+    ∙ laid_repeat begun turn (Rows []) done)
+    ∙ laid_when tables enters (Repeat turn (Rows []) done)

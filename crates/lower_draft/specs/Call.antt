@@ -1,5 +1,5 @@
 -- How a draft goes into a call and out of it.
-use Rattle.std.specs.Prelude.{ℕ, ◌+◌, List, ◌++◌, drop, take, length}
+use Rattle.std.specs.Prelude.{ℕ, ◌+◌, ◌++◌, drop, take, length}
 use Rattle.zpl_lowering.specs.Program.{in_call}
 use Rattle.lower_draft.specs.Drafted.{Drafted}
 use Rattle.lower_draft.specs.declared.calls.Call.{Call}
@@ -16,7 +16,8 @@ call_at draft = record {
 abbrev pub entered : Drafted → ℕ → Drafted
 entered draft reads = record draft { next = in_call reads draft.next }
 
--- The copies of the call stand behind those of all calls before, in front of those of its own calls.
+-- The copies of the call stand behind those of all calls before, and in front of those of the calls
+-- in it.
 abbrev pub left : Drafted → Call → Drafted
 left draft call =
     let behind = drop call.own draft.copies ++ drop call.others draft.later in

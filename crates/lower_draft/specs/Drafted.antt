@@ -1,11 +1,13 @@
 -- What a draft is, and how it grows.
-use Rattle.std.specs.Prelude.{ℕ, zero, suc, ◌+◌, Bool, List, [], ◌∷◌, ◌++◌, map, length}
+use Rattle.std.specs.Prelude.{ℕ, ◌+◌, Bool, List, [], ◌∷◌, ◌++◌, map, length}
 use Rattle.zpl_region.specs.declared.regions.Region.{Region}
+use Rattle.node_form.specs.declared.members.Member.{Member}
+use Rattle.node_form.specs.declared.instructions.Instr.{Instr}
 use Rattle.node_form.specs.declared.instructions.Instr.TheVariants as instr
 use Rattle.node_form.specs.declared.tables.Tables.{Tables}
 use Rattle.row_runs.specs.Structured.{Piece, flattened}
 use Rattle.flat_form.specs.Row as row
-use Rattle.flat_form.specs.Row.{Row, with_row, with_rows, patched}
+use Rattle.flat_form.specs.Row.{Row, Words, with_row, with_rows, patched}
 use Rattle.zpl_lowering.specs.Check.{Check, flat_row}
 use Rattle.zpl_lowering.specs.Where.{Next}
 use Rattle.zpl_lowering.specs.Hoist.{Shifted}
@@ -85,6 +87,24 @@ pushed draft one = record draft { tables = with_row draft.tables one }
 
 abbrev pub all_pushed : Drafted → List Row → Drafted
 all_pushed draft rows = record draft { tables = with_rows draft.tables rows }
+
+-- ---- parts of a row
+
+abbrev pub with_exprs : Drafted → List Words → Drafted
+with_exprs draft words =
+    record draft { tables = record draft.tables { exprs = draft.tables.exprs ++ words } }
+
+abbrev pub with_group : Drafted → List Member → Drafted
+with_group draft group =
+    record draft { tables = record draft.tables { groups = draft.tables.groups ++ group ∷ [] } }
+
+abbrev pub with_text : Drafted → List ℕ → Drafted
+with_text draft text =
+    record draft { tables = record draft.tables { texts = draft.tables.texts ++ text ∷ [] } }
+
+abbrev pub with_code : Drafted → Instr → Drafted
+with_code draft one =
+    record draft { tables = record draft.tables { code = draft.tables.code ++ one ∷ [] } }
 
 -- ---- what code has of its own
 

@@ -1,5 +1,5 @@
 -- Rows of the code, seen as rows inline.
-use Rattle.std.specs.Prelude.{List, [], ◌∷◌, map}
+use Rattle.std.specs.Prelude.{map}
 use Rattle.flat_form.specs.Row as row
 use Rattle.flat_form.specs.Row.{Row, Member, Part}
 use Rattle.lower_draft.specs.declared.rows.FlatRow.{FlatRow}

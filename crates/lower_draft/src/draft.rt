@@ -1,15 +1,14 @@
 //! A draft: the tables, and what code has of its own.
-ghost use Rattle.std.specs.Prelude.{◌≡◌, IfOk, OnOk, All};
+ghost use Rattle.std.specs.Prelude.{◌≡◌, ◌+◌, ◌∷◌, [], IfOk, OnOk, All, length};
 ghost use Rattle.zpl_region.specs.Dim.{IsUpTo};
-ghost use Rattle.lower_draft.specs.Drafted.{empty, next_of, pushed, with_array, with_copy};
-ghost use Rattle.lower_draft.specs.Drafted.{with_scalars, with_shift, with_slot, with_temp};
-ghost use Rattle.lower_draft.specs.Inline.{row_of};
+ghost use Rattle.lower_draft.specs.Drafted.{empty, next_of, with_array, with_code, with_copy};
+ghost use Rattle.lower_draft.specs.Drafted.{with_exprs, with_group, with_scalars, with_shift};
+ghost use Rattle.lower_draft.specs.Drafted.{with_slot, with_temp, with_text};
 
 use crate::floods::Flood;
 use crate::numbers::Next;
-use crate::rows::FlatRow;
 use crate::shifts::Shifted;
-use node_form::Tables;
+use node_form::{ExprRow, GroupRow, Instr, Tables, TextRow};
 use std::alloc::{AllocError, Global};
 use std::marker::Model;
 use zpl_region::{Region, Vec3};
@@ -79,19 +78,14 @@ impl Draft {
         self.next
     }
 
-    /// Appends a row.
-    pub fn push(&mut self, row: FlatRow) -> Result<(), AllocError>
-        ensures { OnOk result (self.new ≡ pushed self.old (row_of row)) }
-    {
-        Err(AllocError)
-    }
-
     /// Gives the number of one more scalar.
     pub fn add_scalar(&mut self) -> Result<u32, AllocError>
         ensures number { IfOk result (λ number. number ≡ self.old.next.scalars) }
         ensures added { OnOk result (self.new ≡ with_scalars self.old 1) }
     {
-        Err(AllocError)
+        let number = self.next.scalars;
+        self.next.scalars = more(number, 1)?;
+        Ok(number)
     }
 
     /// Gives the number of one more slot, for regions of this rank.
@@ -99,7 +93,10 @@ impl Draft {
         ensures number { IfOk result (λ number. number ≡ self.old.next.slots) }
         ensures added { OnOk result (self.new ≡ with_slot self.old rank) }
     {
-        Err(AllocError)
+        let number = self.next.slots;
+        self.next.slots = more(number, 1)?;
+        self.slots.push(rank)?;
+        Ok(number)
     }
 
     /// Gives the number of one more array, with this storage.
@@ -107,7 +104,10 @@ impl Draft {
         ensures number { IfOk result (λ number. number ≡ self.old.next.arrays) }
         ensures added { OnOk result (self.new ≡ with_array self.old storage) }
     {
-        Err(AllocError)
+        let number = self.next.arrays;
+        self.next.arrays = more(number, 1)?;
+        self.arrays.push(storage)?;
+        Ok(number)
     }
 
     /// Gives the number of one more copy for reads that wrap round, with this storage.
@@ -115,7 +115,10 @@ impl Draft {
         ensures number { IfOk result (λ number. number ≡ self.old.next.copies) }
         ensures added { OnOk result (self.new ≡ with_copy self.old storage) }
     {
-        Err(AllocError)
+        let number = self.next.copies;
+        self.next.copies = more(number, 1)?;
+        self.copies.push(storage)?;
+        Ok(number)
     }
 
     /// Gives the number of one more temporary, with these flood dimensions.
@@ -123,7 +126,10 @@ impl Draft {
         ensures number { IfOk result (λ number. number ≡ self.old.next.temps) }
         ensures added { OnOk result (self.new ≡ with_temp self.old flood) }
     {
-        Err(AllocError)
+        let number = self.next.temps;
+        self.next.temps = more(number, 1)?;
+        self.temps.push(flood)?;
+        Ok(number)
     }
 
     /// Keeps the shift with which an array is read.
@@ -132,6 +138,58 @@ impl Draft {
         ensures { OnOk result (self.new ≡ with_shift self.old
             (record { array = array; shift = shift })) }
     {
-        Err(AllocError)
+        self.shifts.push(Shifted { array, shift })?;
+        Ok(())
     }
+
+    /// Appends an expression, and gives its number.
+    pub(crate) fn add_expr(&mut self, expr: ExprRow) -> Result<u32, AllocError>
+        ensures number { IfOk result (λ number. number ≡ length self.old.tables.exprs) }
+        ensures added { OnOk result (self.new ≡ with_exprs self.old (expr ∷ [])) }
+    {
+        let number = number_of(self.tables.exprs.len())?;
+        self.tables.exprs.push(self.alloc, expr)?;
+        Ok(number)
+    }
+
+    /// Appends a group, and gives its number.
+    pub(crate) fn add_group(&mut self, group: GroupRow) -> Result<u32, AllocError>
+        ensures number { IfOk result (λ number. number ≡ length self.old.tables.groups) }
+        ensures added { OnOk result (self.new ≡ with_group self.old group) }
+    {
+        let number = number_of(self.tables.groups.len())?;
+        self.tables.groups.push(self.alloc, group)?;
+        Ok(number)
+    }
+
+    /// Appends a text, and gives its number.
+    pub(crate) fn add_text(&mut self, text: TextRow) -> Result<u32, AllocError>
+        ensures number { IfOk result (λ number. number ≡ length self.old.tables.texts) }
+        ensures added { OnOk result (self.new ≡ with_text self.old text) }
+    {
+        let number = number_of(self.tables.texts.len())?;
+        self.tables.texts.push(self.alloc, text)?;
+        Ok(number)
+    }
+
+    /// Appends a row by numbers.
+    pub(crate) fn add_row(&mut self, row: Instr) -> Result<(), AllocError>
+        ensures { OnOk result (self.new ≡ with_code self.old row) }
+    {
+        self.tables.code.push(self.alloc, row)
+    }
+}
+
+/// The number of a row behind so many others.
+pub(crate) fn number_of(rows: u64) -> Result<u32, AllocError>
+    ensures { IfOk result (λ number. number ≡ rows) }
+{
+    u32::try_from(rows).map_err(|_| AllocError)
+}
+
+/// The number behind so many more.
+pub(crate) fn more(number: u32, count: u32) -> Result<u32, AllocError>
+    ensures { IfOk result (λ sum. sum ≡ number + count) }
+{
+    number.checked_add(count).ok_or(AllocError)
 }

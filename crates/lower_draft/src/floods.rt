@@ -1,7 +1,10 @@
 //! Which dimensions of a region are flood dimensions.
 ghost use Rattle.std.specs.Prelude.{◌≡◌, ◌<◌, [], ◌∷◌, ◌++◌, length, get_or, false};
+ghost use Rattle.zpl_lowering.specs.Tables.{temp_dim, temp_row};
 ghost use Rattle.zpl_lowering.specs.Where.{flood_of, is_flood};
 
+use crate::fringes::NO_RANGE;
+use node_form::{ArrayDim, ArrayRow};
 use std::marker::Model;
 use zpl_region::{Dim, Region};
 
@@ -32,7 +35,8 @@ impl Model for Flood {
 
     ghost inverse = { λ flags. record { flags = flags_of flags } };
 
-    ghost inverse_ok = { λ flood h. ap (λ flags. record { flags = flags }) (flags_back flood.flags) };
+    ghost inverse_ok = { λ flood h.
+        ap (λ flags. record { flags = flags }) (flags_back flood.flags) };
 }
 
 impl Flood {
@@ -94,6 +98,30 @@ impl Flood {
         };
         Flood { flags }
     }
+
+    /// The row of a temporary with these flood dimensions.
+    pub(crate) fn temp_row(self) -> ArrayRow
+        ensures { result ≡ temp_row self }
+    {
+        let dims = match self.flags {
+            Flags::Zero => [NO_RANGE, NO_RANGE, NO_RANGE],
+            Flags::One(one) => [temp_dim(one), NO_RANGE, NO_RANGE],
+            Flags::Two(one, two) => [temp_dim(one), temp_dim(two), NO_RANGE],
+            Flags::Three(one, two, three) => [temp_dim(one), temp_dim(two), temp_dim(three)],
+        };
+        ArrayRow {
+            rank: self.rank(),
+            stored: false,
+            dims,
+        }
+    }
+}
+
+/// A dimension of a temporary.
+fn temp_dim(is_flood: bool) -> ArrayDim
+    ensures { result ≡ temp_dim is_flood }
+{
+    if is_flood { ArrayDim::Star } else { NO_RANGE }
 }
 
 /// Whether a dimension is a flood dimension.

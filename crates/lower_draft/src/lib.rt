@@ -9,8 +9,10 @@
 mod calls;
 mod draft;
 mod floods;
+mod fringes;
 mod numbers;
 mod patches;
+mod pushes;
 mod rows;
 mod shifts;
 mod storages;
