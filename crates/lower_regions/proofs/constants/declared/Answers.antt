@@ -11,8 +11,8 @@ returns-in-Ok c = λ pre name post is index.
     (inner_of c.args.inner.now) pre name post c.in-Ok.region c.run_place.ensures.setup
     c.run_place.ensures.scope is index c.in-Ok.ensures.computes
 
-pub returns-in-Err : goal.returns-in-Err
-returns-in-Err c = λ pre name post is index.
+pub returns : goal.returns
+returns c = λ pre name post is index.
     declared_traps (where_of c.args.place.now) (place_of c.run_place.result) c.new.result (Some 0)
-    (inner_of c.args.inner.now) pre name post c.in-Err.field-0 c.run_place.ensures.setup
+    (inner_of c.args.inner.now) pre name post _ c.run_place.ensures.setup
     c.run_place.ensures.scope is index c.in-Err.ensures.computes
