@@ -2,7 +2,7 @@
 use Rattle.std.proofs.Common.{◌≡◌, ℕ, suc, Bool, true, false, not, ◌&&◌, ◌==◌, List, [], ◌∷◌, ◌++◌, map, length, Option, Some, None, refl, sym, ap, ◌∙◌, subst, arith, eqb-true}
 use Rattle.zpl_region.specs.declared.regions.Region.{Region}
 use Rattle.flat_form.specs.Row.{Row}
-use Rattle.zpl_tree.specs.Syntax.{Ditto, Name, NamedRegion, Posts, Pre, Rexpr}
+use Rattle.zpl_tree.specs.Syntax.{Ditto, Inner, Name, NamedRegion, Posts, Pre, Rexpr}
 use Rattle.zpl_tree.specs.View.{posts_of, pre_of}
 use Rattle.zpl_tree.specs.declared.regions.Post.{Post}
 use Rattle.zpl_tree.specs.declared.regions.Pre.{Pre as Before}
@@ -96,3 +96,12 @@ pub ditto_rows : (w : Where) (next line : ℕ) (current : Slotted) (pre : List P
 ditto_rows w next line current pre at post =
     formed_rows next line (forms_of w.setup.known pre post)
     (standing current.slot current.flood) refl
+
+pub ditto_stands : (w : Where) (next line : ℕ) (current : Slotted) (pre : List Pre) (at : ℕ)
+    (post : Posts) (inner : Inner) (none : Bool) → inner ≡ Rexpr pre (Ditto at) post →
+    none ≡ has_no (forms_of w.setup.known pre post) →
+    none ≡ are_none (computed w next line current inner).rows
+ditto_stands w next line current pre at post inner none is told =
+    told
+    ∙ sym (ap (λ (one : Inner). are_none (computed w next line current one).rows) is
+    ∙ ditto_rows w next line current pre at post)

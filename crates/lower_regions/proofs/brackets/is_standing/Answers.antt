@@ -7,7 +7,7 @@ use Rattle.zpl_tree.proofs.Views.{rexpr_of-parts}
 use Rattle.zpl_lowering.specs.Bracket.{computed, forms_of}
 use Rattle.lower_places.specs.View.{where_of}
 use Rattle.lower_regions.specs.Opened.{are_none, has_no}
-use Rattle.lower_regions.proofs.BracketLemmas.{ditto_rows, named_rows}
+use Rattle.lower_regions.proofs.BracketLemmas.{ditto_stands, named_rows}
 use Rattle.lower_regions.proofs.brackets.is_standing.Goals as goal
 
 pub returns-then-not-is_index : goal.returns-then-not-is_index
@@ -48,8 +48,8 @@ returns-in-Ditto c = λ next line current.
     let parts = out-Rexpr c.in-Rexpr.rexpr in
     let pre = map pre_of parts.pre.now in
     let post = posts_of parts.post.now in
-    c.has_no_forms-in-Ditto.ensures w.setup.known
-    ∙ sym (ap (λ (inner : plain.Inner). are_none (computed w next line current inner).rows)
+    ditto_stands w next line current pre _ post (inner_of c.args.inner.now)
+    c.has_no_forms-in-Ditto.result
     (ap inner_of c.in-Rexpr.is ∙ rexpr_of-parts c.in-Rexpr.rexpr
     ∙ ap (λ (base : RegionBase). plain.Rexpr pre (base_of base) post) c.in-Ditto.is)
-    ∙ ditto_rows w next line current pre _ post)
+    (c.has_no_forms-in-Ditto.ensures w.setup.known)
