@@ -1,5 +1,5 @@
 //! Where a statement is lowered.
-ghost use Rattle.std.specs.Prelude.{◌≡◌};
+ghost use Rattle.std.specs.Prelude.{◌≡◌, Option};
 ghost use Rattle.std.specs.Option.{option_map};
 ghost use Rattle.zpl_nums.specs.declared.operators.Op.{Op as Operator};
 ghost use Rattle.zpl_names.specs.Ranks as ranks;

@@ -2,9 +2,6 @@
 ghost use Rattle.std.specs.Prelude.{◌≡◌, IfOk, map};
 ghost use Rattle.zpl_bind.specs.Known.{known_in};
 ghost use Rattle.zpl_bind.specs.Tables.{IsTable, listed};
-ghost use Rattle.zpl_tree.specs.View.{name_of};
-ghost use Rattle.zpl_lowering.specs.Bracket.{region_slot};
-ghost use Rattle.zpl_binding.specs.Regions.{Known as Plain};
 ghost use Rattle.lower_places.specs.RegionSlots.{region_names, slot_in, slots_from};
 
 use std::alloc::{AllocError, Global};
@@ -49,10 +46,7 @@ impl<'n> RegionSlots<'n> {
 }
 
 /// Names with their slots, in the order of the text.
-fn slots_of<'n>(
-    alloc: Global,
-    regions: &Table<'n, Region>,
-) -> Result<Table<'n, u32>, AllocError>
+fn slots_of<'n>(alloc: Global, regions: &Table<'n, Region>) -> Result<Table<'n, u32>, AllocError>
     ensures table { IfOk result IsTable }
     ensures slots { IfOk result (λ table. listed table
         ≡ slots_from 0 (map (λ entry. entry.0) (listed regions.now))) }

@@ -6,7 +6,11 @@ use Rattle.zpl_lowering.specs.Bracket.{Opened, filled, standing}
 use Rattle.lower_draft.specs.Drafted.{Drafted, all_pushed, pushed, with_slot}
 use Rattle.lower_draft.proofs.GrowthLemmas.{rows_grown, slot_grown}
 use Rattle.lower_draft.proofs.LaidLemmas.{rows_behind}
-use Rattle.lower_regions.specs.Opened.{with_opened}
+use Rattle.zpl_tree.specs.Syntax.{Prefix}
+use Rattle.zpl_lowering.specs.Where.{Where}
+use Rattle.zpl_lowering.specs.Statement.{under_prefix}
+use Rattle.lower_regions.specs.declared.opened.Opened as code
+use Rattle.lower_regions.specs.Opened.{IsOpened, standing_at, with_opened}
 
 -- the draft with rows and slots
 abbrev pub rows_with : Drafted → List Row → List ℕ → Drafted
@@ -88,3 +92,12 @@ row_filled old middle new flood rank slot row ranked numbered added grown =
     ∙ ap (λ (d : Drafted). pushed d (row old.next.slots)) added
     ∙ ap (λ (k : ℕ). pushed (with_slot old k) (row old.next.slots)) ranked
     ∙ filled_grown old flood (row old.next.slots)
+
+-- ---- under a prefix
+
+pub under_same : (w : Where) (prefix : Prefix) (plainly : Opened) (opened : code.Opened) →
+    IsOpened plainly opened →
+    under_prefix w prefix (standing_at opened) ≡ under_prefix w prefix plainly
+under_same w prefix plainly opened is =
+    ap (λ (slot : ℕ). under_prefix w prefix (standing slot opened.flood)) is.slot
+    ∙ ap (λ (flood : List Bool). under_prefix w prefix (standing plainly.slot flood)) is.flood

@@ -35,3 +35,7 @@ fixed_at next region =
 abbrev pub are_none : List Row → Bool
 are_none [] = true
 are_none (one ∷ rows) = false
+
+abbrev pub has_no : List plain.Form → Bool
+has_no [] = true
+has_no (form ∷ forms) = false

@@ -1,7 +1,7 @@
 //! What stands between the brackets of a region.
 ghost use Rattle.std.specs.Prelude.{◌≡◌, ℕ, IfOk, OnOk, map};
 ghost use Rattle.zpl_binding.specs.Outcome.{value_or};
-ghost use Rattle.zpl_binding.specs.Regions.{no_region, region_named};
+ghost use Rattle.zpl_binding.specs.Regions.{Known as Plain, no_region, region_named};
 ghost use Rattle.zpl_bind.specs.Known.{IsKnown, known_in};
 ghost use Rattle.zpl_tree.specs.Syntax.{NamedRegion, Rexpr as Expression};
 ghost use Rattle.zpl_tree.specs.View.{inner_of, name_of, posts_of, pre_of, rexpr_of};
@@ -10,7 +10,8 @@ ghost use Rattle.zpl_lowering.specs.Where as slots;
 ghost use Rattle.array_regions.specs.Fit.{IsFitInner};
 ghost use Rattle.lower_places.specs.Sound.{IsPlace};
 ghost use Rattle.lower_places.specs.View.{slotted_of, where_of};
-ghost use Rattle.lower_regions.specs.Opened.{IsOpened, are_none, fixed_at, standing_at, with_opened};
+ghost use Rattle.lower_regions.specs.Opened.{IsOpened, are_none, fixed_at, has_no, standing_at};
+ghost use Rattle.lower_regions.specs.Opened.{with_opened};
 
 use crate::constants::constant_region;
 use crate::forms::formed;
@@ -127,21 +128,29 @@ pub fn computed(
     }
 }
 
+/// Whether nothing stands around a region.
+fn has_no_forms(pre: &[Pre<'_>], post: &[Post<'_>]) -> bool
+    ensures { (known : Plain) → result
+        ≡ has_no (plain.forms_of known (map pre_of pre.now) (posts_of post.now)) }
+{
+    pre.is_empty() && post.is_empty()
+}
+
 /// Whether the region of a bracket stands in a slot already.
 fn is_standing(place: &Place<'_, '_>, inner: &Inner<'_>) -> bool
-    requires { IsFitInner (inner_of inner.now) }
     ensures { (next line : ℕ) (current : slots.Slotted) → result ≡ are_none
         (plain.computed (where_of place.now) next line current (inner_of inner.now)).rows }
 {
-    let Inner::Rexpr(rexpr) = inner else {
-        return false;
-    };
-    if let RegionBase::Named(name) = &rexpr.base
-        && is_index(&place.scope, rexpr.pre, name, rexpr.post)
-    {
-        return false;
+    match inner {
+        Inner::Rexpr(rexpr) => match &rexpr.base {
+            RegionBase::Named(name) => {
+                !is_index(&place.scope, rexpr.pre, name, rexpr.post)
+                    && has_no_forms(rexpr.pre, rexpr.post)
+            }
+            RegionBase::Ditto(_) => has_no_forms(rexpr.pre, rexpr.post),
+        },
+        Inner::Dims(_) => false,
     }
-    rexpr.pre.is_empty() && rexpr.post.is_empty()
 }
 
 /// Appends a row that fills the next slot with a region.

@@ -123,7 +123,7 @@ fn within(rank: u8, dims: [Dim; 3]) -> Option<Region>
 {
     match zpl_bind::limited(rank, dims) {
         Ok(region) => Some(region),
-        Err(_) => None,
+        Err(_past) => None,
     }
 }
 

@@ -1,6 +1,6 @@
 //! Regions that are made of another one and vectors.
 ghost use Rattle.std.specs.Prelude.{◌≡◌, ◌++◌, ◌∷◌, [], IfOk, OnOk, map};
-ghost use Rattle.zpl_tree.specs.View.{name_of, posts_of, pre_of};
+ghost use Rattle.zpl_tree.specs.View.{posts_of, pre_of};
 ghost use Rattle.zpl_bind.specs.Known.{IsKnown, known_in};
 ghost use Rattle.zpl_lowering.specs.Bracket as plain;
 ghost use Rattle.lower_regions.specs.Forms.{form_of, forms_in};
@@ -27,9 +27,14 @@ pub struct Form {
 /// `at d` or `by d`.
 fn post_form(known: &Known<'_>, post: &Post<'_>) -> Form
     requires { IsKnown known.now }
-    ensures { form_of result ∷ [] ≡ plain.post_forms (known_in known.now) (posts_of (post.now ∷ [])) }
+    ensures { form_of result ∷ []
+        ≡ plain.post_forms (known_in known.now) (posts_of (post.now ∷ [])) }
 {
-    let form = if post.stride { RegionForm::By } else { RegionForm::At };
+    let form = if post.stride {
+        RegionForm::By
+    } else {
+        RegionForm::At
+    };
     Form {
         form,
         shift: vector_in(known, &post.dir),
@@ -41,7 +46,11 @@ fn pre_form(known: &Known<'_>, pre: &Pre<'_>) -> Form
     requires { IsKnown known.now }
     ensures { form_of result ∷ [] ≡ plain.pre_forms (known_in known.now) (pre_of pre.now ∷ []) }
 {
-    let form = if pre.outside { RegionForm::Of } else { RegionForm::Inside };
+    let form = if pre.outside {
+        RegionForm::Of
+    } else {
+        RegionForm::Inside
+    };
     Form {
         form,
         shift: vector_in(known, &Dir::Named(pre.dir)),
@@ -49,11 +58,7 @@ fn pre_form(known: &Known<'_>, pre: &Pre<'_>) -> Form
 }
 
 /// Appends `at d` and `by d`, in the order of the text.
-fn put_posts(
-    forms: &mut Vec<Form>,
-    known: &Known<'_>,
-    posts: &[Post<'_>],
-) -> Result<(), AllocError>
+fn put_posts(forms: &mut Vec<Form>, known: &Known<'_>, posts: &[Post<'_>]) -> Result<(), AllocError>
     requires { IsKnown known.now }
     ensures { OnOk result (map form_of forms.new.items ≡ map form_of forms.old.items
         ++ plain.post_forms (known_in known.now) (posts_of posts.now)) }
@@ -96,12 +101,7 @@ fn forms_of(
 }
 
 /// Appends a row that fills the next slot with a form of a region.
-fn with_form(
-    draft: &mut Draft,
-    line: u32,
-    form: Form,
-    opened: Opened,
-) -> Result<Opened, AllocError>
+fn with_form(draft: &mut Draft, line: u32, form: Form, opened: Opened) -> Result<Opened, AllocError>
     ensures rows { OnOk result (draft.new ≡ with_opened draft.old
         (plain.formed draft.old.next.slots line (form_of form ∷ []) (standing_at opened))) }
     ensures opened { IfOk result (IsOpened

@@ -1,17 +1,16 @@
 //! Prefixes, and what is in reach under them.
-ghost use Rattle.std.specs.Prelude.{◌≡◌, IfOk, List, OnOk};
+ghost use Rattle.std.specs.Prelude.{◌≡◌, IfOk, List, OnOk, map};
 ghost use Rattle.std.specs.Option.{option_map};
 ghost use Rattle.zpl_names.specs.Ranks as ranks;
 ghost use Rattle.zpl_names.specs.Shapes as shapes;
 ghost use Rattle.zpl_tree.specs.Syntax.{Posts, Pre as Before, Rexpr as Expression};
-ghost use Rattle.zpl_tree.specs.View.{base_of, inner_of, mask_of, prefix_of, rexpr_of};
+ghost use Rattle.zpl_tree.specs.View.{base_of, inner_of, mask_of, posts_of, pre_of, prefix_of};
 ghost use Rattle.name_kinds.specs.Reach.{scope_of};
-ghost use Rattle.zpl_lowering.specs.Bracket as bracket;
 ghost use Rattle.zpl_lowering.specs.Statement as plain;
 ghost use Rattle.array_regions.specs.Fit.{IsFitInner};
 ghost use Rattle.lower_places.specs.Sound.{IsPlace};
 ghost use Rattle.lower_places.specs.View.{edge_of, slotted_of, where_of};
-ghost use Rattle.lower_regions.specs.Opened.{IsOpened, with_opened};
+ghost use Rattle.lower_regions.specs.Opened.{IsOpened, standing_at, with_opened};
 ghost use Rattle.lower_regions.specs.Prefix.{opened_under};
 
 use crate::brackets::{bracket, computed};
@@ -21,7 +20,7 @@ use lower_draft::Draft;
 use lower_places::{Place, SlotEdge, Slotted};
 use name_kinds::{Rank, Scope, array_rank, inner_rank};
 use std::alloc::AllocError;
-use zpl_tree::{Dir, Inner, Mask, Prefix, RegionBase, Rexpr};
+use zpl_tree::{Dir, Inner, Mask, Post, Pre, Prefix, RegionBase};
 
 /// The rank of a mask, or 0 where there is none.
 fn mask_rank(scope: &Scope<'_>, mask: &Option<Mask<'_>>) -> Rank
@@ -63,15 +62,22 @@ fn base_slot(place: &Place<'_, '_>, current: &Slotted, base: &RegionBase<'_>) ->
 }
 
 /// The border that a region expression is, where it is written directly as `d of R` or `d of "`.
-fn rexpr_edge(place: &Place<'_, '_>, current: &Slotted, rexpr: &Rexpr<'_>) -> Option<SlotEdge>
+fn rexpr_edge(
+    place: &Place<'_, '_>,
+    current: &Slotted,
+    pre: &[Pre<'_>],
+    base: &RegionBase<'_>,
+    post: &[Post<'_>],
+) -> Option<SlotEdge>
     requires { IsPlace place.now }
     ensures { option_map edge_of result ≡ plain.edge_of (where_of place.now).setup.known
-        (slotted_of current.now) (rexpr_of rexpr.now) }
+        (slotted_of current.now)
+        (Expression (map pre_of pre.now) (base_of base.now) (posts_of post.now)) }
 {
-    let [pre] = rexpr.pre else {
+    let [pre] = pre else {
         return None;
     };
-    if !rexpr.post.is_empty() {
+    if !post.is_empty() {
         return None;
     }
     if !pre.outside {
@@ -79,7 +85,7 @@ fn rexpr_edge(place: &Place<'_, '_>, current: &Slotted, rexpr: &Rexpr<'_>) -> Op
     }
     Some(SlotEdge {
         shift: vector_in(place.setup.known, &Dir::Named(pre.dir)),
-        slot: base_slot(place, current, &rexpr.base),
+        slot: base_slot(place, current, base),
     })
 }
 
@@ -90,20 +96,16 @@ fn edge_in(place: &Place<'_, '_>, current: &Slotted, inner: &Inner<'_>) -> Optio
         (slotted_of current.now) (inner_of inner.now) }
 {
     match inner {
-        Inner::Rexpr(rexpr) => rexpr_edge(place, current, rexpr),
+        Inner::Rexpr(rexpr) => rexpr_edge(place, current, rexpr.pre, &rexpr.base, rexpr.post),
         Inner::Dims(_) => None,
     }
 }
 
 /// What is in reach under a prefix, whose region is there.
-fn under_prefix<'a, 'n>(
-    place: &Place<'a, 'n>,
-    prefix: &Prefix<'_>,
-    opened: Opened,
-) -> Place<'a, 'n>
+fn under_prefix<'a, 'n>(place: &Place<'a, 'n>, prefix: &Prefix<'_>, opened: Opened) -> Place<'a, 'n>
     requires { IsPlace place.now }
-    ensures under { (plainly : bracket.Opened) → IsOpened plainly opened →
-        where_of result ≡ plain.under_prefix (where_of place.now) (prefix_of prefix.now) plainly }
+    ensures under { where_of result ≡ plain.under_prefix (where_of place.now)
+        (prefix_of prefix.now) (standing_at opened) }
     ensures place { IsPlace result }
 {
     let slotted = Slotted {

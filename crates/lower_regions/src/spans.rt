@@ -150,11 +150,7 @@ pub fn index_spanned(
 }
 
 /// The words of a bound that is a name alone.
-fn name_bound(
-    alloc: Global,
-    place: &Place<'_, '_>,
-    name: &Name<'_>,
-) -> Result<ExprRow, AllocError>
+fn name_bound(alloc: Global, place: &Place<'_, '_>, name: &Name<'_>) -> Result<ExprRow, AllocError>
     ensures { IfOk result (λ words. words
         ≡ words_of (scalar_code (where_of place.now) (Named name.now.at (name_of name.now)))) }
 {

@@ -1,4 +1,4 @@
-use Rattle.std.proofs.Common.{◌≡◌, ◌++◌, ◌∷◌, [], ap, sym, ◌∙◌, drop, map}
+use Rattle.std.proofs.Common.{◌≡◌, ◌+◌, ◌++◌, ◌∷◌, [], List, ap, sym, ◌∙◌, drop, map}
 use Rattle.std.proofs.lemmas.List.{map-append}
 use Rattle.zpl_tree.specs.View.{posts_of}
 use Rattle.zpl_bind.specs.Known.{known_in}

@@ -1,0 +1,17 @@
+use Rattle.std.proofs.Common.{◌≡◌, ap, ◌∙◌, map, sym}
+use Rattle.zpl_tree.specs.Syntax as plain
+use Rattle.zpl_tree.specs.View.{base_of, inner_of, posts_of, pre_of}
+use Rattle.zpl_tree.proofs.Views.{rexpr_of-parts}
+use Rattle.zpl_tree.specs.declared.regions.Rexpr.{out-Rexpr}
+use Rattle.zpl_lowering.specs.Statement.{edge_of}
+use Rattle.lower_places.specs.View.{slotted_of, where_of}
+use Rattle.lower_regions.proofs.prefixes.edge_in.Goals as goal
+
+pub returns-in-Rexpr : goal.returns-in-Rexpr
+returns-in-Rexpr c =
+    let parts = out-Rexpr c.in-Rexpr.rexpr in
+    let is : inner_of c.args.inner.now ≡ plain.Rexpr (map pre_of parts.pre.now)
+    (base_of parts.base) (posts_of parts.post.now) =
+    ap inner_of c.in-Rexpr.is ∙ rexpr_of-parts c.in-Rexpr.rexpr in
+    c.rexpr_edge.ensures
+    ∙ sym (ap (edge_of (where_of c.args.place.now).setup.known (slotted_of c.args.current.now)) is)
