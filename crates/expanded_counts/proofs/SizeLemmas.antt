@@ -86,7 +86,7 @@ none_at (suc k) = refl
 
 module _ (program : Program) (names : List (List ℕ))
     (named : (name : List ℕ) →
-        routine_named program name ≡ slice_get (routines_of program) (node_of names name)) where
+    routine_named program name ≡ slice_get (routines_of program) (node_of names name)) where
   abbrev pub bodies : List Counted
   bodies = map (counted_body program names) (routines_of program)
 
@@ -102,8 +102,8 @@ module _ (program : Program) (names : List (List ℕ))
   -- the calls of a procedure, where those that are called are right
   calls_add : (depth : ℕ) (below : List Sizes)
       (right : (name : List ℕ) →
-          size_or (slice_get below (node_of names name)) ≡
-          size_down program depth (routine_named program name))
+      size_or (slice_get below (node_of names name)) ≡
+      size_down program depth (routine_named program name))
       (calls : List CallSite) (a b : ℕ) →
       fold (step below) (counted a b) (map number calls) ≡
       counted (a + sum_by (expanded program own_statements depth) (filter_map called calls))
@@ -122,8 +122,8 @@ module _ (program : Program) (names : List (List ℕ))
 
   one_right : (depth : ℕ) (below : List Sizes)
       (right : (name : List ℕ) →
-          size_or (slice_get below (node_of names name)) ≡
-          size_down program depth (routine_named program name))
+      size_or (slice_get below (node_of names name)) ≡
+      size_down program depth (routine_named program name))
       (routine : Routine) →
       sized below (counted_body program names routine) ≡
       expanded_sizes program (suc depth) routine
@@ -133,8 +133,8 @@ module _ (program : Program) (names : List (List ℕ))
 
   some_right : (depth : ℕ) (below : List Sizes)
       (right : (name : List ℕ) →
-          size_or (slice_get below (node_of names name)) ≡
-          size_down program depth (routine_named program name))
+      size_or (slice_get below (node_of names name)) ≡
+      size_down program depth (routine_named program name))
       (o : Option Routine) →
       size_or (option_map (λ routine. sized below (counted_body program names routine)) o) ≡
       size_down program (suc depth) o

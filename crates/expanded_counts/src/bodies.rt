@@ -38,7 +38,11 @@ fn own_sizes(body: &Stmt<'_>) -> Sizes
 
 /// The numbers of procedures that are called. A name that is no procedure's has the number behind
 /// these.
-fn numbers_of(alloc: Global, text: &Text<'_>, calls: &[Called<'_>]) -> Result<Vec<usize>, AllocError>
+fn numbers_of(
+    alloc: Global,
+    text: &Text<'_>,
+    calls: &[Called<'_>],
+) -> Result<Vec<usize>, AllocError>
     requires { IsText text.now }
     ensures { IfOk result (λ numbers. numbers.items
         ≡ map (λ call. node_of (names_in text.now) call.name.text)

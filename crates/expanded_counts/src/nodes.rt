@@ -9,7 +9,9 @@ ghost use Rattle.zpl_names.specs.Counts.{dim_nodes, dims_nodes, dir_nodes, expr_
 ghost use Rattle.zpl_names.specs.Counts.{exprs_nodes, inner_nodes, posts_nodes};
 ghost use Rattle.expanded_counts.specs.Counts.{more};
 
-use zpl_tree::{DimText, Dir, Expr, ExprForm, Inner, Post, Prefix, nodes_are_seen_with_their_lists};
+use zpl_tree::{
+    DimText, Dir, Expr, ExprForm, Inner, Post, Prefix, nodes_are_seen_with_their_lists,
+};
 
 /// Counts the nodes of an expression.
 #[cycle(nodes)]

@@ -166,7 +166,14 @@ pub fn push_form(
         Form::While(test, body) => {
             let line = at.line;
             let expr = value(references, at, test)?;
-            push(members, FlatMember::OpenWhile { expr, mask: None, line })?;
+            push(
+                members,
+                FlatMember::OpenWhile {
+                    expr,
+                    mask: None,
+                    line,
+                },
+            )?;
             push_stmts(members, references, at, body)?;
             push(members, FlatMember::CloseWhile)?;
             Ok(())
@@ -240,7 +247,14 @@ fn push_arms(
     let arm = &arms[from];
     let line = at.line;
     let expr = value(references, at, arm.test)?;
-    push(members, FlatMember::OpenIf { expr, mask: None, line })?;
+    push(
+        members,
+        FlatMember::OpenIf {
+            expr,
+            mask: None,
+            line,
+        },
+    )?;
     push_stmts(members, references, at, arm.body)?;
     push(members, FlatMember::Otherwise)?;
     let behind = members.len();

@@ -43,7 +43,14 @@ fn push_masked(
             Ok(())
         }
         Some(expr) => {
-            push(members, FlatMember::OpenIf { expr, mask: None, line })?;
+            push(
+                members,
+                FlatMember::OpenIf {
+                    expr,
+                    mask: None,
+                    line,
+                },
+            )?;
             push_form(members, references, at, form)?;
             push(members, FlatMember::CloseIf)?;
             Ok(())

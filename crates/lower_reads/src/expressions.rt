@@ -6,7 +6,9 @@ ghost use Rattle.lower_reads.specs.Reads.{dim_reads, dims_reads, dir_reads, expr
 ghost use Rattle.lower_reads.specs.Reads.{exprs_reads, inner_reads, posts_reads, prefixes_reads};
 
 use std::alloc::AllocError;
-use zpl_tree::{DimText, Dir, Expr, ExprForm, Inner, Post, Prefix, nodes_are_seen_with_their_lists};
+use zpl_tree::{
+    DimText, Dir, Expr, ExprForm, Inner, Post, Prefix, nodes_are_seen_with_their_lists,
+};
 
 /// One more. From 2^32 on there is no room for the number.
 fn add_one(count: &mut u32) -> Result<(), AllocError>
@@ -23,7 +25,9 @@ pub fn count_expr(count: &mut u32, expr: &Expr<'_>) -> Result<(), AllocError>
 {
     nodes_are_seen_with_their_lists();
     match &expr.form {
-        ExprForm::Number(_) | ExprForm::Truth(_) | ExprForm::Coord(_) | ExprForm::Named(_) => Ok(()),
+        ExprForm::Number(_) | ExprForm::Truth(_) | ExprForm::Coord(_) | ExprForm::Named(_) => Ok(
+            (),
+        ),
         ExprForm::Shifted(_, shift) => {
             count_dir(count, shift)?;
             Ok(())

@@ -21,7 +21,7 @@ count_all-returns t c =
 pub count_arms-loop-arm-preserved : goal.count_arms-loop-arm-preserved
 count_arms-loop-arm-preserved t c =
     counted_on (λ x. arm_count (arm_of x)) (λ xs. arms_count (arms_of xs)) (λ x xs. refl) refl c.args.arms.now
-    c.loop-arm.arm-index _ _ _ _ c.loop-arm-test.true 
+    c.loop-arm.arm-index _ _ _ _ c.loop-arm-test.true
     (c.count_all.ensures
     ∙ ap (λ arm. more c.loop-arm.count (arm_count arm)) (sym (arm_of-parts c.arm-item.result))
     ∙ ap (λ arm. more c.loop-arm.count (arm_count (arm_of arm))) c.arm-item.is) c.loop-arm.invariant

@@ -21,7 +21,7 @@ count_all_nodes-returns t c =
 pub count_arm_nodes-loop-arm-preserved : goal.count_arm_nodes-loop-arm-preserved
 count_arm_nodes-loop-arm-preserved t c =
     counted_on (λ x. arm_nodes (arm_of x)) (λ xs. arms_nodes (arms_of xs)) (λ x xs. refl) refl c.args.arms.now
-    c.loop-arm.arm-index _ _ _ _ c.loop-arm-test.true 
+    c.loop-arm.arm-index _ _ _ _ c.loop-arm-test.true
     (c.count_all_nodes.ensures
     ∙ ap (λ n. more n (stmts_nodes (stmts_of (out-Arm c.arm-item.result).body.now))) c.count_expr.ensures
     ∙ more_more c.loop-arm.count (expr_nodes (expr_of (out-Arm c.arm-item.result).test.now)) _

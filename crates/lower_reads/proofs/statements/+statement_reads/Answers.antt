@@ -32,5 +32,10 @@ count_stmt-returns-in_ok-count_stmts-in-Some t c =
     (ap statement_of c.in-If.is
     ∙ c.nodes_are_seen_with_their_lists.ensures.choice arms c.in-If.otherwise
     ∙ ap (λ o. plain.If (arms_of arms.now) (else_of o)) c.in-Some.is) in
-    omega (arith, is, c.in_ok-count_prefixes.ensures, c.in_ok-count_arms-in-If.ensures,
-    c.in_ok-count_stmts-in-Some.ensures)
+    omega (
+      arith,
+      is,
+      c.in_ok-count_prefixes.ensures,
+      c.in_ok-count_arms-in-If.ensures,
+      c.in_ok-count_stmts-in-Some.ensures,
+    )
