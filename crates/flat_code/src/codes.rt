@@ -8,20 +8,22 @@ use crate::faults::FlatFault;
 use bound_check::place_checks;
 use code_layout::has_room;
 use comm_needs::add_needs;
+use flat_form::Flat;
 use node_emit::emit;
 use node_form::{Grid3, NodeProgram, Tables};
 use std::alloc::Global;
-use temp_norm::normalise;
+use temp_norm::{normal_tables_fit, normalise};
 
 /// The node code of a flat program, for a grid: its passes one behind the other. They take a time
-/// linear in the program.
-pub fn code_of(alloc: Global, flat: Tables, grid: &Grid3) -> Result<NodeProgram, FlatFault>
+/// linear in the program, but for a slot that many rows fill and many checks name.
+pub fn code_of(alloc: Global, flat: Flat, grid: &Grid3) -> Result<NodeProgram, FlatFault>
     ensures code { IfOk result (λ code. code ≡ node_tables grid.now flat) }
     ensures fits { OnOk result (Fits (node_tables grid.now flat)) }
     ensures room { OnOk result (HasRoom (node_tables grid.now flat)) }
     ensures refused { IfErr result (Refuses (node_tables grid.now flat)) }
 {
-    let normal = normalise(alloc, flat)?;
+    normal_tables_fit();
+    let normal = normalise(alloc, flat.into_tables())?;
     let checked = place_checks(alloc, normal)?;
     let plan = add_needs(alloc, checked, grid)?;
     program_of(alloc, emit(plan, grid, false))

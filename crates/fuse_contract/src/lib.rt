@@ -1,12 +1,6 @@
 //! Neighbouring loops become one, and arrays that one loop alone names become cells.
 #![tactic(auto)]
 
-mod cells;
-mod joins;
-
-pub use cells::contract;
-pub use joins::fuse;
-
 ghost use Rattle.std.specs.Prelude.{◌≡◌, ◌+◌, ◌≤◌, length, sum_by};
 ghost use Rattle.node_form.specs.declared.tables.Tables.{Tables as Code};
 ghost use Rattle.code_parts.specs.Counts.{code_size, count_of};
