@@ -1,4 +1,0 @@
-pub mod Code
-pub mod Once
-pub mod Sound
-pub mod View

@@ -1,5 +1,0 @@
-pub mod PointLemmas
-pub mod FitLemmas
-pub mod FormLemmas
-pub mod RankLemmas
-pub mod CloseLemmas
