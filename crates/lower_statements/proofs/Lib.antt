@@ -1,2 +1,7 @@
 pub mod RowLemmas
 pub mod FirstLemmas
+pub mod AssignLemmas
+pub mod BorderLemmas
+pub mod ValueLemmas
+pub mod PrefixLemmas
+pub mod WriteLemmas

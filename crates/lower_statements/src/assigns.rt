@@ -5,7 +5,8 @@ ghost use Rattle.zpl_tree.specs.View.{expr_of, name_of};
 ghost use Rattle.zpl_names.specs.Sites.{Assigned, Result};
 ghost use Rattle.zpl_meaning.specs.Points.{assigned_expr};
 ghost use Rattle.zpl_meaning.specs.Store.{thing_of};
-ghost use Rattle.zpl_lowering.specs.Statement.{lowered_array, lowered_scalar, lowered_to, placed_in};
+ghost use Rattle.zpl_lowering.specs.Statement.{lowered_array, lowered_scalar, lowered_to};
+ghost use Rattle.zpl_lowering.specs.Statement.{placed_in};
 ghost use Rattle.array_settling.specs.Fit.{IsFit};
 ghost use Rattle.lower_draft.specs.Drafted.{grown};
 ghost use Rattle.lower_places.specs.Numbers.{stored_of};
@@ -34,7 +35,7 @@ fn lower_scalar(
     requires place { IsPlace place.now }
     requires fit { IsFit (expr_of value.expr.now) }
     ensures { OnOk result (draft.new ≡ grown draft.old (lowered_scalar (where_of place.now) line
-        draft.old.next (placed_of value) target)) }
+        draft.old.next (placed_of value.entry) target)) }
 {
     let expr = left_of(draft, place, line, None, None, value)?;
     match target {
@@ -59,7 +60,8 @@ fn lower_array(
     requires place { IsPlace place.now }
     requires fit { IsFit (expr_of value.expr.now) }
     ensures { OnOk result (draft.new ≡ grown draft.old (lowered_array (where_of place.now) line
-        draft.old.next (slotted_of over.now) (placed_of value) (option_map stored_of target))) }
+        draft.old.next (slotted_of over.now) (placed_of value.entry)
+        (option_map stored_of target))) }
 {
     let own = reference_to(over.slot, target);
     let last = over_reference(place.numbers, over);

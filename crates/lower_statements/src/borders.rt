@@ -75,6 +75,31 @@ fn push_border(
     Ok(())
 }
 
+/// Appends the border of what a name stands for, if that is an array with a number.
+fn push_named(
+    draft: &mut Draft,
+    place: &Place<'_, '_>,
+    line: u32,
+    kind: Border,
+    edge: &SlotEdge,
+    ends: Ends,
+    name: &Name<'_>,
+) -> Result<(), AllocError>
+    requires { IsPlace place.now }
+    ensures { OnOk result (draft.new ≡ all_pushed draft.old (plain.border_thing
+        (where_of place.now).numbers kind (edge_of edge.now) ends.border ends.source line
+        (thing_of (where_of place.now).environment (name_of name.now).text))) }
+{
+    let Some(Thing::Array(target, _)) = place.find(name) else {
+        return Ok(());
+    };
+    let Some(stored) = place.numbers.array(target) else {
+        return Ok(());
+    };
+    push_border(draft, line, kind, edge, ends, stored)?;
+    Ok(())
+}
+
 /// Appends the borders of arrays.
 fn push_borders(
     draft: &mut Draft,
@@ -91,11 +116,7 @@ fn push_borders(
         (map name_of names.now))) }
 {
     for name in names {
-        if let Some(Thing::Array(target, _)) = place.find(name) {
-            if let Some(stored) = place.numbers.array(target) {
-                push_border(draft, line, kind, edge, ends, stored)?;
-            }
-        }
+        push_named(draft, place, line, kind, edge, ends, name)?;
     }
     Ok(())
 }

@@ -1,5 +1,5 @@
 //! How a `for` counts: a choice with a loop in it that tests behind its turns.
-ghost use Rattle.std.specs.Prelude.{◌≡◌, IfOk, OnOk};
+ghost use Rattle.std.specs.Prelude.{◌≡◌, ◌+◌, IfOk, OnOk};
 ghost use Rattle.node_form.specs.Expression.{Variable, words_of};
 ghost use Rattle.zpl_tree.specs.View.{head_of, name_of};
 ghost use Rattle.zpl_meaning.specs.Store.{thing_of};

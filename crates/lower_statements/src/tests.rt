@@ -47,10 +47,10 @@ pub fn left_of(
     requires place { IsPlace place.now }
     requires fit { IsFit (expr_of placed.expr.now) }
     ensures code { OnOk result (draft.new ≡ grown draft.old (phased_with (where_of place.now) line
-        draft.old.next (optional own) (optional last) (placed_of placed ∷ [])).lowered) }
+        draft.old.next (optional own) (optional last) (placed_of placed.entry ∷ [])).lowered) }
     ensures words { IfOk result (λ words. words ≡ words_of (first_left (phased_with
         (where_of place.now) line draft.old.next (optional own) (optional last)
-        (placed_of placed ∷ [])).left)) }
+        (placed_of placed.entry ∷ [])).left)) }
 {
     let alloc = draft.alloc();
     let mut exprs = Vec::new(alloc);
@@ -90,8 +90,7 @@ pub fn open_test(
     requires place { IsPlace place.now }
     requires fit { IsFit (expr_of test.now) }
     ensures pending { IfOk result (λ pending. pending.at ≡ length (grown draft.old
-        (test_at (where_of place.now) line draft.old.next (expr_of test.now)).before)
-        .tables.code) }
+        (test_at (where_of place.now) line draft.old.next (expr_of test.now)).before).tables.code) }
     ensures opened { OnOk result (draft.new ≡ opened (grown draft.old
         (test_at (where_of place.now) line draft.old.next (expr_of test.now)).before)
         (test_at (where_of place.now) line draft.old.next (expr_of test.now)).check) }

@@ -48,13 +48,17 @@ fn push_value<'a>(
         (ThenExpr (expr_of actual.entry.now) NoExpr)) }
     ensures fit { OnOk result (AreFitPlaced exprs.new.items) }
 {
-    if let None = formal.shape {
-        if !formal.by_ref {
+    if formal.by_ref {
+        return Ok(());
+    }
+    match formal.shape {
+        Some(_) => Ok(()),
+        None => {
             let rank = place.rank_in(actual);
             exprs.push(Placed { rank, expr: actual })?;
+            Ok(())
         }
     }
-    Ok(())
 }
 
 /// The actuals of parameters that take a value, as far as there are parameters and actuals.

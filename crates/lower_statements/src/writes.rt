@@ -1,5 +1,5 @@
 //! Prints: all values are computed before the first of them is printed.
-ghost use Rattle.std.specs.Prelude.{◌≡◌, ◌++◌, IfOk, OnOk, List, map};
+ghost use Rattle.std.specs.Prelude.{◌≡◌, [], ◌∷◌, ◌++◌, IfOk, OnOk, List, map};
 ghost use Rattle.std.specs.Option.{option_map};
 ghost use Rattle.zpl_tree.specs.Syntax as plain;
 ghost use Rattle.zpl_tree.specs.View.{base_type_of, expr_of, item_of};
@@ -15,7 +15,9 @@ ghost use Rattle.lower_places.specs.View.{where_of};
 ghost use Rattle.lower_operators.specs.Sound.{AreFitPlaced};
 ghost use Rattle.lower_operators.specs.View.{placed_of};
 ghost use Rattle.lower_points.specs.Fit.{AreFitItems};
-ghost use Rattle.lower_statements.specs.Writes.{rows_in, shown_alone, values_of};
+ghost use Rattle.std.specs.Vec.Iter.{into_iter_items};
+ghost use Rattle.lower_statements.specs.Writes.{behind_item, print_of, rows_in, shown_alone};
+ghost use Rattle.lower_statements.specs.Writes.{value_of, values_of};
 
 use lower_draft::{Draft, FlatMember, FlatRow};
 use lower_operators::{Placed, phases};
@@ -23,8 +25,32 @@ use lower_places::{Place, Slotted};
 use name_kinds::{BaseType, part_of};
 use node_form::{ExprOp, ExprRow, Instr, TextRow};
 use std::alloc::{AllocError, Global};
+use std::vec::IntoIter;
 use zpl_text::unescape;
 use zpl_tree::{Expr, Item};
+
+/// Appends the expression of an item, with its rank, if it has one.
+fn push_printed<'a>(
+    exprs: &mut Vec<Placed<'a>>,
+    place: &Place<'_, '_>,
+    item: &Item<'a>,
+) -> Result<(), AllocError>
+    requires place { IsPlace place.now }
+    requires fit { AreFitItems (item_of item.now ∷ []) }
+    requires before { AreFitPlaced exprs.old.items }
+    ensures pushed { OnOk result (map placed_of exprs.new.items ≡ map placed_of exprs.old.items
+        ++ printed_exprs (where_of place.now) (item_of item.now ∷ [])) }
+    ensures fit { OnOk result (AreFitPlaced exprs.new.items) }
+{
+    match item {
+        Item::Str(_) => Ok(()),
+        Item::Value(expr) => {
+            let rank = place.rank_in(expr);
+            exprs.push(Placed { rank, expr: *expr })?;
+            Ok(())
+        }
+    }
+}
 
 /// The expressions that are printed, with their ranks.
 fn printed<'a>(
@@ -40,10 +66,7 @@ fn printed<'a>(
 {
     let mut exprs = Vec::new(alloc);
     for item in items {
-        if let Item::Value(expr) = item {
-            let rank = place.rank_in(expr);
-            exprs.push(Placed { rank, expr: *expr })?;
-        }
+        push_printed(&mut exprs, place, item)?;
     }
     Ok(exprs)
 }
@@ -134,6 +157,55 @@ fn text_row(alloc: Global, string: &[u8]) -> Result<FlatRow, AllocError> {
     })
 }
 
+/// Appends the rows of an item's value, and the row that prints it to those that print.
+fn push_item(
+    draft: &mut Draft,
+    prints: &mut Vec<FlatRow>,
+    left: &mut IntoIter<ExprRow>,
+    place: &Place<'_, '_>,
+    line: u32,
+    item: &Item<'_>,
+) -> Result<(), AllocError>
+    requires { IsPlace place.now }
+    ensures code { (exprs : List Expression) → into_iter_items left.old ≡ map words_of exprs
+        → OnOk result (draft.new ≡ grown draft.old
+        (value_of (where_of place.now) line draft.old.next (item_of item.now) exprs)) }
+    ensures prints { (exprs : List Expression) → into_iter_items left.old ≡ map words_of exprs
+        → OnOk result (rows_in prints.new.items ≡ rows_in prints.old.items ++ print_of
+        (where_of place.now) line draft.old.next (item_of item.now) exprs) }
+    ensures left { (exprs : List Expression) → into_iter_items left.old ≡ map words_of exprs
+        → OnOk result (into_iter_items left.new
+        ≡ map words_of (behind_item (item_of item.now) exprs)) }
+{
+    match item {
+        Item::Str(string) => {
+            let row = text_row(draft.alloc(), string)?;
+            prints.push(row)?;
+            Ok(())
+        }
+        Item::Value(expr) => {
+            let Some(words) = left.next() else {
+                return Ok(());
+            };
+            let row = push_value(draft, place, line, expr, words)?;
+            prints.push(row)?;
+            Ok(())
+        }
+    }
+}
+
+/// Appends the end of a line, if there is one, to the rows that print.
+fn push_end(alloc: Global, prints: &mut Vec<FlatRow>, ends: bool) -> Result<(), AllocError>
+    ensures { OnOk result (rows_in prints.new.items ≡ rows_in prints.old.items ++ newline ends) }
+{
+    if !ends {
+        return Ok(());
+    }
+    let row = text_row(alloc, b"\n")?;
+    prints.push(row)?;
+    Ok(())
+}
+
 /// Appends the rows of all values that are printed, and gives the rows that print items.
 fn push_items(
     draft: &mut Draft,
@@ -155,18 +227,9 @@ fn push_items(
     let mut prints = Vec::new(alloc);
     let mut left = left.into_iter();
     for item in items {
-        match item {
-            Item::Str(string) => prints.push(text_row(alloc, string)?)?,
-            Item::Value(expr) => {
-                if let Some(words) = left.next() {
-                    prints.push(push_value(draft, place, line, expr, words)?)?;
-                }
-            }
-        }
+        push_item(draft, &mut prints, &mut left, place, line, item)?;
     }
-    if ends {
-        prints.push(text_row(alloc, b"\n")?)?;
-    }
+    push_end(alloc, &mut prints, ends)?;
     Ok(prints)
 }
 
