@@ -78,12 +78,12 @@ module _ (w : Where) (formals : List FormalThere) (actuals : List ExprThere) (i 
   actual_next f a old new whole first second is had =
       let formal = formal_of (get_or formals i f) in
       let actual = expr_of (get_or actuals i a) in
-      let formals' = map formal_of (drop (i + 1) formals) in
+      let others = map formal_of (drop (i + 1) formals) in
       let rest = exprs_of (drop (i + 1) actuals) in
-      ap (λ n. n ++ value_exprs w formals' rest) is
+      ap (λ n. n ++ value_exprs w others rest) is
       ∙ append_assoc old (value_exprs w (formal ∷ []) (ThenExpr actual NoExpr))
-      (value_exprs w formals' rest)
-      ∙ ap (λ l. old ++ l) (sym (value_both w formal formals' actual rest))
+      (value_exprs w others rest)
+      ∙ ap (λ l. old ++ l) (sym (value_both w formal others actual rest))
       ∙ sym (at_drop_more (λ l. old ++ value_exprs w (map formal_of l) (ThenExpr actual rest))
       formals i f first)
       ∙ sym (at_drop_more (λ l. old ++ value_exprs w (map formal_of (drop i formals)) (exprs_of l))

@@ -1,6 +1,6 @@
 -- Prints, item by item.
 use Rattle.std.proofs.Common.{◌≡◌, ◌<◌, ◌≤◌, ℕ, suc, ◌+◌, Bool, true, false, List, [], ◌∷◌, ◌++◌, drop, get_or, length, map, refl, sym, ap, ap₂, ◌∙◌, arith, append_assoc, append-nil, add-zero, subst}
-use Rattle.std.proofs.lemmas.List.{at_drop_more, at_drop_all, drop_more, map-append}
+use Rattle.std.proofs.lemmas.List.{at_drop_more, at_drop_all, drop_all, drop_more, map-append}
 use Rattle.row_runs.specs.Code.{Straight}
 use Rattle.row_runs.specs.Structured.{Rows, Then}
 use Rattle.node_form.specs.Expression.{Expression, words_of}
@@ -17,9 +17,11 @@ use Rattle.zpl_lowering.specs.Statement.{Prints, items_of, newline, of_prints, p
 use Rattle.zpl_lowering.specs.Slate.{Placed}
 use Rattle.zpl_lowering.specs.Where.{Next, Where}
 use Rattle.lower_draft.specs.Drafted.{Drafted, all_pushed, grown, pushed, rows_from}
+use Rattle.lower_draft.specs.Inline.{row_of}
+use Rattle.lower_draft.specs.declared.rows.FlatRow.{FlatRow}
 use Rattle.lower_draft.proofs.GrowthLemmas.{both_grown, rows_grown}
 use Rattle.lower_points.specs.Fit.{AreFitItems}
-use Rattle.lower_statements.specs.Writes.{behind_item, print_of, shown_alone, value_of, values_of}
+use Rattle.lower_statements.specs.Writes.{behind_item, print_of, rows_in, shown_alone, value_of, values_of}
 use Rattle.lower_statements.proofs.RowLemmas.{nothing_grown}
 
 -- ---- rows, with scalars and temporaries of their own
@@ -104,12 +106,12 @@ module _ (w : Where) (line : ℕ) (ends : Bool) where
         words' ≡ map words_of (behind_item item left)) →
         AreAhead start draft items (item ∷ rest) exprs words old →
         AreAhead start new items rest exprs words' more
-    ahead_next item rest values prints left had = record {
+    ahead_next item rest grows prints-more goes-on had = record {
       left = behind_item item had.left;
-      are = left had.left had.are;
-      values = items_next item had.left rest draft new _ (values had.left had.are) had.values;
-      prints = prints_next item had.left rest draft new old more _ (values had.left had.are)
-          (prints had.left had.are) had.prints;
+      are = goes-on had.left had.are;
+      values = items_next item had.left rest draft new _ (grows had.left had.are) had.values;
+      prints = prints_next item had.left rest draft new old more _ (grows had.left had.are)
+          (prints-more had.left had.are) had.prints;
     }
 
   pub ahead_first : (start : Drafted) (items : List Item) (exprs : List Expression)
@@ -128,6 +130,30 @@ module _ (w : Where) (line : ℕ) (ends : Bool) where
         AreAhead start draft items [] exprs words old →
         more ≡ (ahead start.next items exprs).prints
     ahead_prints more is had = is ∙ had.prints
+
+  module _ (start draft new : Drafted) (items : List ItemThere) (i : ℕ) (exprs : List Expression)
+      (words words' : List (List ExprOp)) (old more : List Row) where
+    abbrev here : List ItemThere → Type 0
+    here rest = AreAhead start draft (map item_of items) (map item_of rest) exprs words old
+
+    pub loop_next : (d : ItemThere) → i < length items →
+        ((left : List Expression) → words ≡ map words_of left →
+        new ≡ grown draft (value_of w line draft.next (item_of (get_or items i d)) left)) →
+        ((left : List Expression) → words ≡ map words_of left →
+        more ≡ old ++ print_of w line draft.next (item_of (get_or items i d)) left) →
+        ((left : List Expression) → words ≡ map words_of left →
+        words' ≡ map words_of (behind_item (item_of (get_or items i d)) left)) →
+        AreAhead start draft (map item_of items) (map item_of (drop i items)) exprs words old →
+        AreAhead start new (map item_of items) (map item_of (drop (i + 1) items)) exprs words' more
+    loop_next d less grows prints-more goes-on had =
+        ahead_next start draft new (map item_of items) exprs words words' old more
+        (item_of (get_or items i d)) (map item_of (drop (i + 1) items)) grows prints-more
+        goes-on (subst here (drop_more items i d less) had)
+
+    pub loop_end : length items ≤ i →
+        AreAhead start draft (map item_of items) (map item_of (drop i items)) exprs words old →
+        AreAhead start draft (map item_of items) [] exprs words old
+    loop_end past had = subst here (drop_all i items past) had
 
 -- ---- expressions
 
@@ -173,6 +199,19 @@ module _ (items : List ItemThere) (i : ℕ) (d : ItemThere) (less : i < length i
 
   pub items_fit : AreFitItems (map item_of (drop (i + 1) items))
   items_fit = both_fit.1
+
+-- ---- rows that are there
+
+pub rows_next : (one : FlatRow) (xs rest : List FlatRow) (d0 d1 whole : Drafted) →
+    xs ≡ one ∷ rest → d1 ≡ pushed d0 (row_of one) →
+    all_pushed d0 (rows_in xs) ≡ whole → all_pushed d1 (rows_in rest) ≡ whole
+rows_next one xs rest d0 d1 whole is push had =
+    ap (λ d. all_pushed d (rows_in rest)) push ∙ ap (λ l. all_pushed d0 (rows_in l)) (sym is) ∙ had
+
+pub rows_end : (xs : List FlatRow) (draft start : Drafted) (all : List Row) → xs ≡ [] →
+    all_pushed draft (rows_in xs) ≡ all_pushed start all → draft ≡ grown start (rows_alone all)
+rows_end xs draft start all is had =
+    ap (λ l. all_pushed draft (rows_in l)) (sym is) ∙ had ∙ rows_grown start all
 
 -- ---- the whole
 
