@@ -24,9 +24,9 @@ use Rattle.call_answers.specs.declared.answers.Stop.TheVariants as stop
 use Rattle.call_answers.specs.declared.telling.Piece.{Piece}
 use Rattle.call_answers.specs.declared.telling.Piece.TheVariants.{Fixed, Made}
 use Rattle.call_answers.specs.declared.refusals.Refusal.{Refusal}
-use Rattle.call_answers.specs.declared.refusals.Refusal.TheVariants.{Lex, Parse, Judge, Bind, NotBuilt}
+use Rattle.call_answers.specs.declared.refusals.Refusal.TheVariants.{Lex, Parse, Judge, Bind}
 use Rattle.call_answers.specs.declared.refusals.Refusal.TheVariants.{NoMemory}
-use Rattle.call_answers.specs.Refusals.{offset_of, refusal_text}
+use Rattle.call_answers.specs.Refusals.{build_status, build_text, offset_of, refusal_text}
 
 -- ---- how work stopped
 abbrev pub stop_status : Stop → ℕ
@@ -61,6 +61,7 @@ status_of (answer.Unreadable file) = UNREADABLE
 status_of (answer.TooLong file) = TOO_LONG
 status_of (answer.Refused refusal line) = REFUSED
 status_of (answer.Unbound fault) = UNBOUND
+status_of (answer.Unbuilt fault) = build_status fault
 status_of (answer.BadLine line) = LISTING_REFUSED
 status_of (answer.BadTable line) = LISTING_REFUSED
 status_of (answer.BadItem at) = ORDER_REFUSED
@@ -75,6 +76,7 @@ text_of (answer.Unreadable file) = unreadable_text file.now
 text_of (answer.TooLong file) = too_long_text file.now
 text_of (answer.Refused refusal line) = refusal_text refusal line
 text_of (answer.Unbound fault) = settings_text (fault_name fault)
+text_of (answer.Unbuilt fault) = build_text fault
 text_of (answer.BadLine line) = listing_refused_text (codes "BadLine") line
 text_of (answer.BadTable line) = listing_refused_text (codes "BadTable") line
 text_of (answer.BadItem at) = order_refused_text at
@@ -115,4 +117,3 @@ answer_of text (Parse fault) =
 answer_of text (Judge fault) =
     answer.Refused (Judge fault) (line_at text (offset_of (Judge fault)))
 answer_of text (Bind fault) = answer.Unbound fault
-answer_of text NotBuilt = answer.Refused NotBuilt (line_at text (offset_of NotBuilt))

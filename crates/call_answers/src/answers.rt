@@ -3,7 +3,7 @@ ghost use Rattle.std.specs.Prelude.{◌≡◌, ◌≤◌, length};
 ghost use Rattle.zpl_text.specs.declared.TheConstants.{MOST_SOURCE};
 ghost use Rattle.call_answers.specs.Answers.{answer_of, status_of, stop_status};
 
-use crate::refusals::Refusal;
+use crate::refusals::{BuildFault, Refusal};
 use call_claims::status as common;
 use exec_claims::status;
 use grid_sim::{Counts, StuckKind};
@@ -38,6 +38,8 @@ pub enum Answer<'a> {
     Refused(Refusal, u32),
     /// The text's declarations have a fault.
     Unbound(BindFault),
+    /// The text has no code for the build.
+    Unbuilt(BuildFault),
     /// This line of the listing has no form that can stand there.
     BadLine(u32),
     /// This line of the listing breaks a rule.
@@ -75,6 +77,7 @@ impl<'a> Answer<'a> {
             Answer::TooLong(_) => common::TOO_LONG,
             Answer::Refused(..) => common::REFUSED,
             Answer::Unbound(_) => common::UNBOUND,
+            Answer::Unbuilt(fault) => fault.status(),
             Answer::BadLine(_) | Answer::BadTable(_) => status::LISTING_REFUSED,
             Answer::BadItem(_) => status::ORDER_REFUSED,
             Answer::Stopped(stop, _) => stop.status(),

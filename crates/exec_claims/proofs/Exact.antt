@@ -78,7 +78,7 @@ told_trap run k report e = (_, trap e.0 e.1 e.2)
 pub told_limit : (run : Run) (k : ℕ) (report : Bool) → IsLimitedAt run k → (told : List ℕ) × RunCause run report k TURN_LIMIT told
 told_limit run k report e = (_, turn_limit e)
 
-told_stuck : (run : Run) (k : ℕ) (report : Bool) → IsStuckOrIdleAt run k → (told : List ℕ) × RunCause run report k STUCK told
+pub told_stuck : (run : Run) (k : ℕ) (report : Bool) → IsStuckOrIdleAt run k → (told : List ℕ) × RunCause run report k STUCK told
 told_stuck run k report (inl e) = (_, stuck e.0 e.1 e.2)
 told_stuck run k report (inr e) = (_, idle e.0 e.1)
 

@@ -71,6 +71,7 @@ MeansText text settings loops before after answer.NoMemory =
 MeansText text settings loops before after answer.Usage = ⊥
 MeansText text settings loops before after (answer.Unreadable file) = ⊥
 MeansText text settings loops before after (answer.TooLong file) = ⊥
+MeansText text settings loops before after (answer.Unbuilt fault) = ⊥
 MeansText text settings loops before after (answer.BadLine line) = ⊥
 MeansText text settings loops before after (answer.BadTable line) = ⊥
 MeansText text settings loops before after (answer.BadItem at) = ⊥

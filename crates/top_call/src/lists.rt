@@ -7,7 +7,7 @@ ghost use Rattle.listing_rows.specs.Listing.{listing_of};
 ghost use Rattle.call_claims.specs.Answer.{CountsFetches, CountsPuts};
 ghost use Rattle.call_claims.specs.Call.{call_of};
 ghost use Rattle.call_claims.specs.Command.{IsList, build_of};
-ghost use Rattle.call_claims.specs.Execution.{IsMadeOf, TakesListing, TakesListingFront};
+ghost use Rattle.list_claims.specs.Listing.{IsMadeOf, TakesListing, TakesListingFront};
 ghost use Rattle.call_claims.specs.Stream.{stream_of};
 ghost use Rattle.call_claims.specs.declared.status.TheConstants.{DONE, UNREADABLE, USAGE};
 ghost use Rattle.call_answers.specs.Answers.{status_of};

@@ -8,6 +8,8 @@ mod execs;
 #[cfg(test)]
 mod faults;
 #[cfg(test)]
+mod grids;
+#[cfg(test)]
 mod lists;
 #[cfg(test)]
 mod means;

@@ -1,6 +1,6 @@
 use Rattle.call_claims.specs.Call.{call_of}
-use Rattle.call_claims.proofs.CauseLemmas.{exactly}
-use Rattle.call_claims.proofs.laws.list_statuses_are_exact.Goals as goal
+use Rattle.list_claims.proofs.CauseLemmas.{exactly}
+use Rattle.list_claims.proofs.laws.list_statuses_are_exact.Goals as goal
 
 pub returns : goal.returns
 returns g c = λ files words ran n told cause.

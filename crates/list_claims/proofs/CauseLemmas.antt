@@ -3,18 +3,20 @@ use Rattle.std.proofs.Common.{◌≡◌, ◌≢◌, ℕ, List, codes, refl, sym,
 use Rattle.node_form.specs.declared.tables.Tables.{Tables}
 use Rattle.zpl_claims.specs.Build.{Build}
 use Rattle.call_claims.specs.Call.{Call}
-use Rattle.call_claims.specs.Cause.{CodeCause, ListCause, IsListed, Lists, Cause, IsTooLong}
-use Rattle.call_claims.specs.Cause.CodeCause.{faulty, made}
+use Rattle.list_claims.specs.Cause.{CodeCause, ListCause, IsListed, Lists, Cause}
+use Rattle.call_claims.specs.Cause.{IsTooLong}
+use Rattle.list_claims.specs.Cause.CodeCause.{faulty, made}
 use Rattle.call_claims.specs.Cause.FileCause.{unreadable, too_long, work}
-use Rattle.call_claims.specs.Cause.IsListed.{listed}
-use Rattle.call_claims.specs.Cause.Cause.{no_memory, list}
+use Rattle.list_claims.specs.Cause.IsListed.{listed}
+use Rattle.list_claims.specs.Cause.Cause.{no_memory, list}
 use Rattle.call_claims.specs.Command.{Asked, ListTakes, build_of}
-use Rattle.call_claims.specs.Decided.{IsDecided, IsExact, HasNoProgramIn, HasUnboundIn}
+use Rattle.call_claims.specs.Decided.{IsDecided}
+use Rattle.list_claims.specs.Decided.{IsExact, HasNoProgramIn, HasUnboundIn}
 use Rattle.call_claims.specs.Execution.{Execution, HasCode}
 use Rattle.call_claims.specs.declared.status.TheConstants.{DONE, TOO_LONG, REFUSED, UNBOUND}
 use Rattle.call_claims.proofs.OneLemmas.{as_asked}
-use Rattle.call_claims.proofs.ProgramLemmas.{fault_other, none_made, refused_of, unbound_of}
-use Rattle.call_claims.proofs.ProgramLemmas.{was_refused_in, was_too_long_in, was_unbound_in}
+use Rattle.list_claims.proofs.ProgramLemmas.{fault_other, none_made, refused_of, unbound_of}
+use Rattle.list_claims.proofs.ProgramLemmas.{was_refused_in, was_too_long_in, was_unbound_in}
 
 module _ (call : Call) (ex : Execution) where
   abbrev Does : Tables → ℕ → List ℕ → Type 0

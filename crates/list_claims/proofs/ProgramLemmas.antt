@@ -3,14 +3,17 @@ use Rattle.std.proofs.Common.{◌≡◌, ◌≢◌, ℕ, ◌⊎◌, List, length
 use Rattle.node_form.specs.declared.tables.Tables.{Tables}
 use Rattle.zpl_claims.specs.Build.{Build}
 use Rattle.call_claims.specs.Call.{Call}
-use Rattle.call_claims.specs.Cause.{TextFault, CodeCause, ProgramCause, IsTooLong}
-use Rattle.call_claims.specs.Cause.TextFault.{refused, unbound}
-use Rattle.call_claims.specs.Cause.CodeCause.{faulty, made}
+use Rattle.list_claims.specs.Cause.{TextFault, CodeCause, ProgramCause}
+use Rattle.call_claims.specs.Cause.{IsTooLong}
+use Rattle.list_claims.specs.Cause.TextFault.{refused, unbound}
+use Rattle.list_claims.specs.Cause.CodeCause.{faulty, made}
 use Rattle.call_claims.specs.Cause.FileCause.{unreadable, too_long, work}
-use Rattle.call_claims.specs.Decided.{HasNoProgramIn, HasUnboundIn}
+use Rattle.list_claims.specs.Decided.{HasNoProgramIn, HasUnboundIn}
 use Rattle.call_claims.specs.Execution.{Execution, HasNoRun}
-use Rattle.call_claims.specs.Refusal.{HasUnbound, IsRefused}
-use Rattle.call_claims.specs.Source.{HasNoProgram, IsCodeOf, Source}
+use Rattle.list_claims.specs.Refusal.{HasUnbound, IsRefused}
+use Rattle.list_claims.specs.Code.{HasNoProgram, IsCodeOf}
+use Rattle.list_claims.specs.Code.IsCodeOf.{of_small, of_other}
+use Rattle.call_claims.specs.Source.{Source}
 use Rattle.call_claims.specs.declared.status.TheConstants.{TOO_LONG, REFUSED, UNBOUND, UNREADABLE}
 
 pub none_made : (execution : Execution) {code : Tables} → HasNoRun execution
@@ -24,7 +27,8 @@ one_made execution {code} {other} e f = let same : Some code ≡ Some other = sy
 -- code is made of texts without such faults
 pub has_program : {text : List ℕ} {build : Build} {code : Tables}
     → IsCodeOf text build code → ¬ HasNoProgram text build
-has_program of_text none = none of_text.program of_text.small
+has_program (of_small of_text) none = none.none of_text.program of_text.small
+has_program (of_other of_text) none = none.no_other of_text.program of_text.accepted
 
 -- ---- what is wrong with a text
 module _ {text : List ℕ} {build : Build} where
