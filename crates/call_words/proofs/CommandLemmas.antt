@@ -109,7 +109,6 @@ takes_not verb.Exec file more asked are other = record {
   no_time = other_named (codes "exec") file more (codes "time") TimeTakes
       (letters (codes "exec") (codes "time") (λ e. omega (arith, e)));
 }
-
 takes_not verb.Time file more asked are other = record {
   no_list = other_named (codes "time") file more (codes "list") ListTakes
       (letters (codes "time") (codes "list") (λ e. omega (arith, e)));

@@ -60,10 +60,7 @@ fn grid_with(first: u32, second: u32, text: &[u8]) -> Option<[u32; 3]>
         (TellsGrid (first ∷ second ∷ []) text.now 1) }
 {
     match factor_of(text) {
-        Some(third) => Some(unless_zero(
-            second,
-            unless_zero(third, [first, second, third]),
-        )),
+        Some(third) => Some(unless_zero(second, unless_zero(third, [first, second, third]))),
         None => None,
     }
 }
@@ -116,5 +113,8 @@ fn behind_x(text: &[u8]) -> Option<&[u8]>
 fn digits_len(bytes: &[u8]) -> usize
     ensures { result ≡ prefix_len is_ascii_digit bytes.now }
 {
-    bytes.iter().take_while(|byte| byte.is_ascii_digit()).count()
+    bytes
+        .iter()
+        .take_while(|byte| byte.is_ascii_digit())
+        .count()
 }

@@ -59,6 +59,5 @@ pub fn compile(
         IfErr result (IsUncompiled (build_with build settings)
         (syntax_of typed.now.program.now)) }
 {
-    let _ = (alloc, typed, bound, build);
     Err(CompileFault::NoMemory)
 }

@@ -124,7 +124,14 @@ fn expect_statements(
     text.extend_from_slice(last.as_bytes())?;
     text.extend_from_slice(b"\nend;\n")?;
     let status = if errs == NO_TURN { 8 } else { 4 };
-    expect(rt, alloc, &["run", "a", "turns=0"], &text, "", (status, "", errs, 0))
+    expect(
+        rt,
+        alloc,
+        &["run", "a", "turns=0"],
+        &text,
+        "",
+        (status, "", errs, 0),
+    )
 }
 
 #[test]

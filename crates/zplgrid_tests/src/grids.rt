@@ -18,7 +18,11 @@ const NO_GRIDS: [Row; 14] = [
     (&["run", "a", "grid=1 "], NOTHING, (1, "", USAGE, 0)),
     (&["run", "a", "grid=00001"], NOTHING, (1, "", USAGE, 0)),
     (&["run", "a", "grid=1x1x1x1"], NOTHING, (1, "", USAGE, 0)),
-    (&["run", "a", "grid=1", "grid=1"], NOTHING, (1, "", USAGE, 0)),
+    (
+        &["run", "a", "grid=1", "grid=1"],
+        NOTHING,
+        (1, "", USAGE, 0),
+    ),
     (&["list", "a", "grid=1x1x1x"], NOTHING, (1, "", USAGE, 0)),
     (&["mean", "a", "grid=1"], NOTHING, (1, "", USAGE, 0)),
     (&["exec", "a", "grid=1"], NOTHING, (1, "", USAGE, 0)),
@@ -31,7 +35,11 @@ const SHAPES: [Row; 9] = [
     (&["run", "a", "grid=0x2"], NOTHING, (5, "", SHAPE, 0)),
     (&["run", "a", "grid=2x3x0000"], NOTHING, (5, "", SHAPE, 0)),
     (&["run", "a", "grid=65"], NOTHING, (5, "", SHAPE, 0)),
-    (&["run", "a", "grid=9999x9999x9999"], NOTHING, (5, "", SHAPE, 0)),
+    (
+        &["run", "a", "grid=9999x9999x9999"],
+        NOTHING,
+        (5, "", SHAPE, 0),
+    ),
     (&["list", "a", "grid=8x9"], NOTHING, (5, "", SHAPE, 0)),
     (&["run", "a", "grid=0"], "$", (5, "", SHAPE, 0)),
     (&["run", "b", "grid=0"], "$", (2, "", "cannot read b\n", 0)),
@@ -52,7 +60,15 @@ const SHIFTED: &str = "program t; region R = [1..4]; direction e = [1]; var A, B
 /// It prints the same on one processor and on several, more than there are indices too.
 #[test]
 fn an_array_program(rt: HostRuntime) -> Result<(), Fail> {
-    for grid in ["grid=1", "grid=2", "grid=3", "grid=0007", "grid=2x2", "grid=1x1x3", "grid=64"] {
+    for grid in [
+        "grid=1",
+        "grid=2",
+        "grid=3",
+        "grid=0007",
+        "grid=2x2",
+        "grid=1x1x3",
+        "grid=64",
+    ] {
         let call = Call {
             words: &["run", "a", grid],
             text: SHIFTED.as_bytes(),

@@ -63,7 +63,12 @@ const OTHERS: [Row; 7] = [
     (
         &["list", "a"],
         "program t; var A : [1..2] integer; procedure t(); begin end;",
-        (0, "zplnode 1\ngrid 1\nscalars 0\nslots\ncells 0\narray 1..2:0,0\ncode\nend\n", "", 0),
+        (
+            0,
+            "zplnode 1\ngrid 1\nscalars 0\nslots\ncells 0\narray 1..2:0,0\ncode\nend\n",
+            "",
+            0,
+        ),
     ),
     (
         &["list", "a"],

@@ -3,8 +3,7 @@ use super::rows::{Row, USAGE, expect_rows};
 use std::test::Fail;
 
 /// The listing of the code of a program with a region of five tuples.
-const FIVE: &str =
-    "zplnode 1\ngrid 1\nscalars 0\nslots 1\ncells 0\ncode\nfix 0 1..5:1:1\nend\n";
+const FIVE: &str = "zplnode 1\ngrid 1\nscalars 0\nslots 1\ncells 0\ncode\nfix 0 1..5:1:1\nend\n";
 
 /// With a region of one.
 const ONE: &str = "zplnode 1\ngrid 1\nscalars 0\nslots 1\ncells 0\ncode\nfix 0 1..1:1:1\nend\n";
