@@ -2,7 +2,7 @@
 --
 --   IsCodeless, IsRefusal    it has none (4)
 --   IsSetWrong, IsUnbound    the grid, the settings or the declarations have a fault (5)
-use Rattle.std.specs.Prelude.{◌≡◌, ℕ, List, codes}
+use Rattle.std.specs.Prelude.{ℕ, List, codes}
 use Rattle.zpl_tree.specs.Syntax.{Program}
 use Rattle.zpl_names.specs.Accepted.{HasTooManyNodes, HasTooManyStatements}
 use Rattle.zpl_binding.specs.Outcome.{BindFault}

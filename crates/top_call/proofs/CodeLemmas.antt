@@ -25,14 +25,14 @@ use Rattle.small_code.specs.Claims.{HoldsItsWords}
 use Rattle.small_code.specs.Fault.{Refutes}
 use Rattle.small_code.specs.declared.fault.CodeFault.{CodeFault}
 use Rattle.small_code.specs.declared.fault.CodeFault.TheVariants as code
-use Rattle.zpl_binding.specs.Bound.{HasBindFault, IsAcceptedWith}
+use Rattle.zpl_binding.specs.Bound.{HasBindFault}
 use Rattle.node_form.specs.Grid.{IsGrid}
 use Rattle.call_claims.specs.Refusal.{IsFault}
 use Rattle.list_claims.specs.Refusal.{IsRefusal, IsSetWrong}
 use Rattle.list_claims.specs.Refusal.IsCodeless.{faulty, many_nodes, many_statements}
 use Rattle.list_claims.specs.Refusal.IsCodeless as codeless
 use Rattle.list_claims.specs.Refusal.IsSetWrong.{bad_shape, declared, no_room}
-use Rattle.list_claims.specs.Code.{HasNoProgram, HasNoSmall, IsAcceptedFor, IsCodeOf, IsSmallText}
+use Rattle.list_claims.specs.Code.{HasNoProgram, HasNoSmall, IsCodeOf, IsSmallText}
 use Rattle.list_claims.specs.declared.limits.TheConstants.{MOST_TOKENS}
 use Rattle.call_claims.specs.Accepted.{IsAccepted, IsAcceptedUnder, IsFaulty}
 use Rattle.list_claims.specs.Code.IsCodeOf.{of_small, of_other}
