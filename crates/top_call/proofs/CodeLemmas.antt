@@ -15,7 +15,7 @@ use Rattle.node_form.specs.declared.tables.Tables.{Tables}
 use Rattle.zpl_meaning.specs.Program.{mean_of, steps_of}
 use Rattle.zpl_names.specs.Expansion.{shattered_loops}
 use Rattle.zpl_claims.specs.Bound.{EndsInBound}
-use Rattle.zpl_claims.specs.Build.{Build, OverAllLinks, one_processor, plain_build}
+use Rattle.zpl_claims.specs.Build.{Build, OverAllLinks, no_options, one_processor, plain_build}
 use Rattle.zpl_claims.specs.Good.{IsGood}
 use Rattle.zpl_claims.specs.Origin.{origin_of}
 use Rattle.zpl_claims.specs.LockStep.{HasLockSteps}
@@ -26,11 +26,11 @@ use Rattle.small_code.specs.Fault.{Refutes}
 use Rattle.small_code.specs.declared.fault.CodeFault.{CodeFault}
 use Rattle.small_code.specs.declared.fault.CodeFault.TheVariants as code
 use Rattle.zpl_binding.specs.Bound.{HasBindFault}
+use Rattle.zpl_binding.specs.Settings.{Setting}
 use Rattle.node_form.specs.Grid.{IsGrid}
 use Rattle.call_claims.specs.Refusal.{IsFault}
-use Rattle.list_claims.specs.Refusal.{IsRefusal, IsSetWrong}
-use Rattle.list_claims.specs.Refusal.IsCodeless.{faulty, many_nodes, many_statements}
-use Rattle.list_claims.specs.Refusal.IsCodeless as codeless
+use Rattle.list_claims.specs.Refusal.{IsCodeless, IsRefusal, IsSetWrong}
+use Rattle.list_claims.specs.Refusal.IsCodeless.{faulty, many_nodes, many_statements, not_built}
 use Rattle.list_claims.specs.Refusal.IsSetWrong.{bad_shape, declared, no_room}
 use Rattle.list_claims.specs.Code.{HasNoProgram, HasNoSmall, IsCodeOf, IsSmallText}
 use Rattle.list_claims.specs.declared.limits.TheConstants.{MOST_TOKENS}
@@ -238,7 +238,7 @@ module _ (text : List ℕ) (build : Build) (grid : IsGrid build.grid) where
     }
 
     -- for want of room alone it isn't told that something is wrong with what it is built for
-    LacksRoom : Program → Type 0
+    abbrev LacksRoom : Program → Type 0
     LacksRoom p = IsCounted p × Fits (compiled build p) × (¬ HasRoom (compiled build p))
 
     set_right : {told : List ℕ} → ¬ LacksRoom program → ¬ IsSetWrong text build told
@@ -249,9 +249,9 @@ module _ (text : List ℕ) (build : Build) (grid : IsGrid build.grid) where
     set_right has (no_room other good also counted fits room) =
         has (subst LacksRoom (sym (only other also.accepted)) (counted, fits, room))
 
-    not_built : {told : List ℕ} → ¬ IsCompilable build program → ¬ LacksRoom program
+    refused_for : {told : List ℕ} → ¬ IsCompilable build program → ¬ LacksRoom program
         → IsCodeless text build told → IsRefusal text build told
-    not_built cannot has why = record {
+    refused_for cannot has why = record {
       none = none_built cannot;
       not_unbound = λ unbound. set_right has unbound.1.wrong;
       fault = why;
@@ -260,14 +260,14 @@ module _ (text : List ℕ) (build : Build) (grid : IsGrid build.grid) where
     pub uncompiled_refuses : (fault : CompileFault) → IsUncompiled build program fault
         → Refuses text build (of_compile fault)
     uncompiled_refuses compile.TooManyStatements many =
-        not_built (λ can. can.counted.statements many) (λ lacks. lacks.0.statements many)
+        refused_for (λ can. can.counted.statements many) (λ lacks. lacks.0.statements many)
         (many_statements program under many)
     uncompiled_refuses compile.TooManyNodes many =
-        not_built (λ can. can.counted.nodes many.1) (λ lacks. lacks.0.nodes many.1)
+        refused_for (λ can. can.counted.nodes many.1) (λ lacks. lacks.0.nodes many.1)
         (many_nodes program under many.0 many.1)
     uncompiled_refuses compile.NotBuilt is =
-        not_built (λ can. is.1 can.fits) (λ lacks. is.1 lacks.1)
-        (codeless.not_built program under is.0 is.1)
+        refused_for (λ can. is.1 can.fits) (λ lacks. is.1 lacks.1)
+        (not_built program under is.0 is.1)
     uncompiled_refuses compile.TooMuchStorage is = record {
       none = none_built (λ can. is.2 can.room);
       wrong = no_room program grid under is.0 is.1 is.2;
@@ -333,3 +333,12 @@ pub untested : (r : Bool) (there here : List ℕ) (Is : List ℕ → Type 0) →
     → (IsTrue r ↔ Is there) → r ≡ false → ¬ Is here
 untested r there here Is same test is holds =
     let no : false ≡ true = sym is ∙ test.1 (subst Is (sym same) holds) in cc
+
+-- ---- a build that is told by its grid
+pub with_grid : (Holds : Build → Type 0) (there here : List ℕ) (links : Option ℕ)
+    (settings : List Setting) → there ≡ here
+    → Holds (record { grid = there; options = no_options; links = links; settings = settings })
+    → Holds (record { grid = here; options = no_options; links = links; settings = settings })
+with_grid Holds there here links settings same holds =
+    subst (λ grid. Holds (record { grid = grid; options = no_options; links = links; settings = settings }))
+    same holds

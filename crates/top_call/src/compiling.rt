@@ -12,7 +12,9 @@ ghost use Rattle.bound_texts.specs.Refused.{IsOnlyTree};
 ghost use Rattle.call_claims.specs.Command.{build_of};
 ghost use Rattle.call_words.specs.Reading.{asked_in};
 ghost use Rattle.list_claims.specs.Code.{HasNoSmall, IsCodeOf};
+ghost use Rattle.call_answers.specs.declared.refusals.Refusal.TheVariants.{NoMemory};
 ghost use Rattle.top_call.specs.Refusals.{answer_for, of_compile, Refuses};
+ghost use Rattle.top_call.specs.declared.compiling.Uncoded.TheVariants.{Refused};
 
 use bound_texts::{accepted_tree, tokens_of, tree_of};
 use bumpalo::Bump;
@@ -50,7 +52,7 @@ impl Uncoded {
 }
 
 impl From<Refusal> for Uncoded {
-    ghost from_gives = { λ refusal uncoded. uncoded ≡ Uncoded.Refused refusal };
+    ghost from_gives = { λ refusal uncoded. uncoded ≡ Refused refusal };
 
     fn from(refusal: Refusal) -> Uncoded {
         Uncoded::Refused(refusal)
@@ -58,7 +60,7 @@ impl From<Refusal> for Uncoded {
 }
 
 impl From<AllocError> for Uncoded {
-    ghost from_gives = { λ _ uncoded. uncoded ≡ Uncoded.Refused Refusal.NoMemory };
+    ghost from_gives = { λ _ uncoded. uncoded ≡ Refused NoMemory };
 
     fn from(_error: AllocError) -> Uncoded {
         Uncoded::Refused(Refusal::NoMemory)
