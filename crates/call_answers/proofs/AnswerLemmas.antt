@@ -24,6 +24,8 @@ stopped_other stop.TurnLimit =
     record { put = λ e. omega arith; memory = λ e. omega arith; usage = λ e. omega arith }
 stopped_other (stop.Stuck p kind) =
     record { put = λ e. omega arith; memory = λ e. omega arith; usage = λ e. omega arith }
+stopped_other stop.TooManyMoves =
+    record { put = λ e. omega arith; memory = λ e. omega arith; usage = λ e. omega arith }
 
 -- the status of a failed put is that answer's alone
 pub failed_of : (a : Answer) → status_of a ≡ PUT_FAILED → a ≡ answer.PutFailed

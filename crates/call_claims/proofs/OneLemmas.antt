@@ -1,5 +1,5 @@
 -- A text is one word at most, and words ask for one thing.
-use Rattle.std.proofs.Common.{◌≡◌, ℕ, ◌+◌, Bool, true, false, ◌&&◌, ◌||◌, List, [], ◌∷◌, ◌++◌, length, take, drop, get_or}
+use Rattle.std.proofs.Common.{◌≡◌, ◌≢◌, ℕ, ◌+◌, Bool, true, false, ◌&&◌, ◌||◌, List, [], ◌∷◌, ◌++◌, length, take, drop, get_or}
 use Rattle.std.proofs.Common.{codes, IsTrue, Option, Some, None, refl, sym, ◌∙◌, ap, subst, arith, cond}
 use Rattle.std.proofs.Math.Seq.{take-append_seam, drop-append_seam}
 use Rattle.std.specs.List.{list_all, prefix_len}
@@ -8,7 +8,7 @@ use Rattle.zpl_text.specs.Bytes.{is_word_start, is_word_byte}
 use Rattle.zpl_text.specs.Kinds.{IsWord as IsWordText}
 use Rattle.zpl_binding.specs.Settings.{Setting}
 use Rattle.call_claims.specs.Words.{IsNumber, IsTurnsWord, IsSettingWord, IsWord, Word, Order}
-use Rattle.call_claims.specs.Words.{Turns, Report, Links, Sets}
+use Rattle.call_claims.specs.Words.{Turns, Report, Links, Latency, Sets}
 use Rattle.call_claims.specs.Command.{Asked, Adds, AddAll, Asks, IsCommandOf, IsWorded, asked_more}
 use Rattle.call_claims.specs.Command.AddAll.{no_more, one_more}
 use Rattle.call_claims.specs.Setting.{setting_in, set_by}
@@ -73,6 +73,7 @@ sets (Order file) = None
 sets (Turns n) = None
 sets Report = None
 sets (Links capacity) = None
+sets (Latency ticks) = None
 sets (Sets setting) = Some setting
 
 pub sets_are : (text : List ℕ) (word : Word) → IsWord text word → setting_in text ≡ sets word
@@ -80,6 +81,7 @@ sets_are text (Order file) is = ap setting_in is
 sets_are text (Turns n) is = turns_word text n is
 sets_are text Report is = ap setting_in is
 sets_are text (Links capacity) is = ap setting_in is.split
+sets_are text (Latency ticks) is = ap setting_in is.split
 sets_are text (Sets setting) is = set_word text setting is
 
 -- ---- a word
@@ -89,6 +91,7 @@ letter (Order file) = 111
 letter (Turns n) = 116
 letter Report = 114
 letter (Links capacity) = 108
+letter (Latency ticks) = 108
 letter (Sets setting) = 0
 
 begins : (text : List ℕ) (word : Word) → sets word ≡ None → IsWord text word
@@ -97,11 +100,16 @@ begins text (Order file) none is = ap (λ t. get_or t 0 0) is
 begins text (Turns n) none is = ap (λ t. get_or t 0 0) is.split
 begins text Report none is = ap (λ t. get_or t 0 0) is
 begins text (Links capacity) none is = ap (λ t. get_or t 0 0) is.split
+begins text (Latency ticks) none is = ap (λ t. get_or t 0 0) is.split
 begins text (Sets setting) none is = absurd (let no : ⊥ = cc in no)
 
 number_is_one : (text other : List ℕ) (n m : ℕ) → text ≡ other → IsNumber text n
     → IsNumber other m → n ≡ m
 number_is_one text other n m same f g = f.value ∙ (ap (λ t. digits_value 10 t) same ∙ sym g.value)
+
+-- `links=` and `latency=` begin with one letter
+seconds_differ : (capacity ticks : List ℕ) → codes "links=" ++ capacity ≢ codes "latency=" ++ ticks
+seconds_differ capacity ticks same = omega (arith, ap (λ t. get_or t 1 0) same)
 
 same_word : (text : List ℕ) (one other : Word) → sets one ≡ None → letter one ≡ letter other
     → IsWord text one → IsWord text other → one ≡ other
@@ -111,9 +119,22 @@ same_word text (Turns n) (Turns m) none e a b =
 same_word text Report Report none e a b = refl
 same_word text (Links n) (Links m) none e a b =
     ap Links (number_is_one a.digits b.digits n m (ap (drop 6) (sym a.split ∙ b.split)) a.links.number b.links.number)
+same_word text (Latency n) (Latency m) none e a b =
+    ap Latency (number_is_one a.digits b.digits n m (ap (drop 8) (sym a.split ∙ b.split)) a.latency.number b.latency.number)
+same_word text (Links n) (Latency m) none e a b =
+    absurd (seconds_differ a.digits b.digits (sym a.split ∙ b.split))
+same_word text (Latency n) (Links m) none e a b =
+    absurd (seconds_differ b.digits a.digits (sym b.split ∙ a.split))
 same_word text (Order f) (Turns m) none e a b = absurd (omega (arith, e))
 same_word text (Order f) Report none e a b = absurd (omega (arith, e))
 same_word text (Order f) (Links m) none e a b = absurd (omega (arith, e))
+same_word text (Order f) (Latency m) none e a b = absurd (omega (arith, e))
+same_word text (Turns n) (Latency m) none e a b = absurd (omega (arith, e))
+same_word text Report (Latency m) none e a b = absurd (omega (arith, e))
+same_word text (Latency n) (Order g) none e a b = absurd (omega (arith, e))
+same_word text (Latency n) (Turns m) none e a b = absurd (omega (arith, e))
+same_word text (Latency n) Report none e a b = absurd (omega (arith, e))
+same_word text (Latency n) (Sets s) none e a b = absurd (omega (arith, e))
 same_word text (Order f) (Sets s) none e a b = absurd (omega (arith, e))
 same_word text (Turns n) (Order g) none e a b = absurd (omega (arith, e))
 same_word text (Turns n) Report none e a b = absurd (omega (arith, e))
@@ -135,6 +156,7 @@ the_setting (Order file) setting e = absurd (let no : ⊥ = cc in no)
 the_setting (Turns n) setting e = absurd (let no : ⊥ = cc in no)
 the_setting Report setting e = absurd (let no : ⊥ = cc in no)
 the_setting (Links capacity) setting e = absurd (let no : ⊥ = cc in no)
+the_setting (Latency ticks) setting e = absurd (let no : ⊥ = cc in no)
 
 word_by : (text : List ℕ) (one other : Word) (set : Option Setting) → sets one ≡ set
     → sets other ≡ set → IsWord text one → IsWord text other → one ≡ other

@@ -6,7 +6,7 @@ use Rattle.std.specs.Str.Parse.{digits_value}
 use Rattle.zpl_tokens.specs.declared.Kind.TheVariants.{Name}
 use Rattle.zpl_text.specs.Kinds.{IsToken}
 use Rattle.zpl_binding.specs.Settings.{Setting}
-use Rattle.call_claims.specs.declared.limits.TheConstants.{MOST_DIGITS, MOST_LINKS, MOST_TURNS}
+use Rattle.call_claims.specs.declared.limits.TheConstants.{MOST_DIGITS, MOST_LATENCY, MOST_LINKS, MOST_TURNS}
 
 -- one to nineteen digits, with leading zeros allowed
 pub record IsNumber (text : List ℕ) (n : ℕ) : Type 0 where
@@ -35,18 +35,32 @@ pub record IsLinksWord (word : List ℕ) (capacity : ℕ) : Type 0 where
   pub split : word ≡ codes "links=" ++ digits
   pub links : IsCapacityText digits capacity
 
+-- a number in which no zero leads, but for 0 itself
+pub record IsLatencyText (digits : List ℕ) (ticks : ℕ) : Type 0 where
+  pub number : IsNumber digits ticks
+  pub no_zero : get_or digits 0 0 ≡ 48 → length digits ≡ 1
+  pub within : ticks ≤ MOST_LATENCY
+
+-- the word is `latency=` and such a number
+pub record IsLatencyWord (word : List ℕ) (ticks : ℕ) : Type 0 where
+  pub digits : List ℕ
+  pub split : word ≡ codes "latency=" ++ digits
+  pub latency : IsLatencyText digits ticks
+
 -- the word is a name of the language, which is no keyword, then `:=` and any text
 pub record IsSettingWord (word : List ℕ) (setting : Setting) : Type 0 where
   pub named : IsToken setting.name Name
   pub split : word ≡ setting.name ++ (codes ":=" ++ setting.value)
 
 -- the file of the order of turns, whatever its name holds; how many turns may be given; that a
--- report is wanted; how many messages a link holds; and what a config is set to
+-- report is wanted; how many messages a link holds; for how many ticks one is on its way; and what a
+-- config is set to
 pub data Word : Type 0 where
   Order : (file : List ℕ) → Word
   Turns : (n : ℕ) → Word
   Report : Word
   Links : (capacity : ℕ) → Word
+  Latency : (ticks : ℕ) → Word
   Sets : (setting : Setting) → Word
 
 abbrev pub IsWord : List ℕ → Word → Type 0
@@ -54,4 +68,5 @@ IsWord text (Order file) = text ≡ codes "order=" ++ file
 IsWord text (Turns n) = IsTurnsWord text n
 IsWord text Report = text ≡ codes "report"
 IsWord text (Links capacity) = IsLinksWord text capacity
+IsWord text (Latency ticks) = IsLatencyWord text ticks
 IsWord text (Sets setting) = IsSettingWord text setting

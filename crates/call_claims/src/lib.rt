@@ -11,5 +11,5 @@ mod ran;
 pub mod status;
 
 pub use laws::{commands_are_one, list_statuses_are_exact};
-pub use limits::{MOST_DIGITS, MOST_LINKS, MOST_TOKENS, MOST_TURNS};
+pub use limits::{MOST_DIGITS, MOST_LATENCY, MOST_LINKS, MOST_TOKENS, MOST_TURNS};
 pub use ran::Ran;

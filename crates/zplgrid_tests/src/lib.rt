@@ -17,3 +17,5 @@ mod orders;
 mod rows;
 #[cfg(test)]
 mod settings;
+#[cfg(test)]
+mod times;
