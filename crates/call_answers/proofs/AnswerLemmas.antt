@@ -28,6 +28,8 @@ stopped_other stop.TurnLimit =
     record { put = λ e. omega arith; memory = λ e. omega arith; usage = λ e. omega arith }
 stopped_other (stop.Stuck p kind) =
     record { put = λ e. omega arith; memory = λ e. omega arith; usage = λ e. omega arith }
+stopped_other stop.TooManyMoves =
+    record { put = λ e. omega arith; memory = λ e. omega arith; usage = λ e. omega arith }
 
 build_other : (f : BuildFault) → IsOther (build_status f)
 build_other build.BadShape =
@@ -48,6 +50,11 @@ build_refuses build.TooManyStatements = inl refl
 build_refuses build.TooManyNodes = inl refl
 build_refuses build.NotBuilt = inl refl
 build_refuses build.TooMuchStorage = inr refl
+
+-- so it is no other
+pub build_not : (f : BuildFault) (n : ℕ) → n ≢ REFUSED → n ≢ UNBOUND → build_status f ≢ n
+build_not f n other also e = elim (build_refuses f)
+    [ inl is ↦ other (sym e ∙ is) | inr is ↦ also (sym e ∙ is) ]
 
 -- the status of a failed put is that answer's alone
 pub failed_of : (a : Answer) → status_of a ≡ PUT_FAILED → a ≡ answer.PutFailed

@@ -23,6 +23,8 @@ pub enum Stop {
     /// This processor's next turn is stuck; or none can move, and this is the first that has not
     /// ended.
     Stuck(u32, StuckKind),
+    /// A run whose time is told makes more moves than a timetable takes.
+    TooManyMoves,
 }
 
 /// What came of a call.
@@ -97,6 +99,7 @@ impl Stop {
             Stop::Trap(..) => common::TRAPPED,
             Stop::TurnLimit => common::TURN_LIMIT,
             Stop::Stuck(..) => status::STUCK,
+            Stop::TooManyMoves => status::TOO_MANY_MOVES,
         }
     }
 }

@@ -195,6 +195,7 @@ fn stop_piece(alloc: Global, stop: Stop) -> Result<Piece, AllocError>
         Stop::Trap(kind, line) => Piece::Made(trap_line(alloc, kind, line)?),
         Stop::TurnLimit => Piece::Fixed(b"turn limit\n"),
         Stop::Stuck(p, kind) => Piece::Made(stuck_line(alloc, p, kind)?),
+        Stop::TooManyMoves => Piece::Fixed(b"too many moves\n"),
     };
     Ok(piece)
 }

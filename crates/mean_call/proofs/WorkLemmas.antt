@@ -81,6 +81,8 @@ part_of call (answer.Stopped stop.TurnLimit report) before after put out =
     whole_is_part call before after (out.whole (inr (inr refl)))
 part_of call (answer.Stopped (stop.Stuck p kind) report) before after put out =
     inl (out.nothing (λ e. omega arith) (no_end 12 (λ e. omega arith) (λ e. omega arith) (λ e. omega arith)))
+part_of call (answer.Stopped stop.TooManyMoves report) before after put out =
+    inl (out.nothing (λ e. omega arith) (no_end 15 (λ e. omega arith) (λ e. omega arith) (λ e. omega arith)))
 part_of call answer.NoMemory before after put out = out.part refl
 part_of call answer.PutFailed before after put out = absurd (put refl)
 part_of call answer.Usage before after put out =
@@ -204,6 +206,7 @@ module _ (call : Call) (file : List ℕ) (asked : Asked) (given : IsMean call.wo
         meant (answer.Stopped stop.TurnLimit None) More has turn_limit (inr (inr refl))
         (λ e. omega arith) (λ e. cc)
     stopped (stop.Stuck p kind) has = absurd has
+    stopped stop.TooManyMoves has = absurd has
 
     pub of_text : (a : Answer)
         → MeansText source.text asked.settings (limit_of asked) before after a
@@ -264,6 +267,7 @@ stop_not_unread stop.Done e = omega (arith, e)
 stop_not_unread (stop.Trap kind line) e = omega (arith, e)
 stop_not_unread stop.TurnLimit e = omega (arith, e)
 stop_not_unread (stop.Stuck p kind) e = omega (arith, e)
+stop_not_unread stop.TooManyMoves e = omega (arith, e)
 
 pub text_not_unread : (a : Answer) → status_of a ≡ UNREADABLE
     → (text : List ℕ) (settings : List Setting) (loops : ℕ) (before after : List ℕ → Type 0)

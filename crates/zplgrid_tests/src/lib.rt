@@ -19,3 +19,5 @@ mod orders;
 mod rows;
 #[cfg(test)]
 mod settings;
+#[cfg(test)]
+mod times;
