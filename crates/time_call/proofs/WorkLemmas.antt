@@ -48,10 +48,10 @@ pub work_back : (words : List (List ℕ)) (tells other : List ℕ → List ℕ �
     → IsCodeWork (call_of words other fail later) code asked work before after
     → IsCodeWork (call_of words tells fails late) code asked work before after
 work_back words tells other fails fail late later same kept code asked work before after
-    (unordered no unrun nothing) =
+    (unordered unended unrun nothing) =
     unordered
     (λ d more. cause_back words tells other fails fail late later same kept code more 0 _ _
-    asked.order (no d more)) unrun nothing
+    asked.order (unended d more)) unrun nothing
 work_back words tells other fails fail late later same kept code asked work before after
     (timed order is run) =
     timed order
@@ -85,9 +85,9 @@ no_code_end call file asked ex none (unreadable may ends) =
     not_end 2 (λ e. omega arith) (λ e. omega arith) (λ e. omega arith) (λ e. omega arith)
 no_code_end call file asked ex none (too_long long ends) =
     not_end 3 (λ e. omega arith) (λ e. omega arith) (λ e. omega arith) (λ e. omega arith)
-no_code_end call file asked ex none (of_text source (bad_line line is no)) =
+no_code_end call file asked ex none (of_text source (bad_line line is unended)) =
     not_end 11 (λ e. omega arith) (λ e. omega arith) (λ e. omega arith) (λ e. omega arith)
-no_code_end call file asked ex none (of_text source (bad_table line is no)) =
+no_code_end call file asked ex none (of_text source (bad_table line is unended)) =
     not_end 11 (λ e. omega arith) (λ e. omega arith) (λ e. omega arith) (λ e. omega arith)
 no_code_end call file asked ex none (of_text source (listed code is made c)) =
     absurd (let both : None ≡ Some code = sym none.no_code ∙ made in cc)
@@ -232,9 +232,9 @@ module _ (call : Call) (file : List ℕ) (asked : Asked) (work : Work) (before a
   ]
 
   taken : IsWorkOn call file asked work before after → work.answer ≢ answer.PutFailed → Taken
-  taken (unread none reads no) put = has_none no.printed (unread_over none reads no)
-  taken (read code made is (unordered fails unrun no)) put =
-      has_none no.printed (λ over. unrun_end work.answer unrun (over_end over))
+  taken (unread none reads unended) put = has_none unended.printed (unread_over none reads unended)
+  taken (read code made is (unordered fails unrun unended)) put =
+      has_none unended.printed (λ over. unrun_end work.answer unrun (over_end over))
   taken (read code made is (timed order ordered run)) put =
       run_taken code made is order ordered run work.answer refl put
 

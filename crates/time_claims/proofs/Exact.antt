@@ -49,7 +49,7 @@ module _ (call : Call) (ex : Execution) (file : List ℕ) (asked : Asked) where
   -- the cause that `exec` has
   as_exec : {n : ℕ} {told : List ℕ} → TimeCause call file asked ex n told → n ≢ TOO_MANY_MOVES
       → (text : List ℕ) × ListingFileCause call file asked ex n text
-  as_exec (not_run c no) other = (_, c)
+  as_exec (not_run c unended) other = (_, c)
   as_exec (ran h) other =
       file_cause call ex file asked h (λ run k report holds. with_report report holds.0)
   as_exec (too_many h) other = absurd (other refl)
@@ -64,7 +64,7 @@ module _ (call : Call) (ex : Execution) (file : List ℕ) (asked : Asked) where
 
     pub of_long : {n : ℕ} {told : List ℕ} → TimeCause call file asked ex n told → IsSettled call n
         → IsLong call ex file asked → n ≡ TOO_LONG
-    of_long {n = n} (not_run c no) settled long =
+    of_long {n = n} (not_run c unended) settled long =
         long_to call ex file asked n settled line table c settled.read
         (one_order call n settled asked.order) long
     of_long {n = n} (ran h) settled long =
@@ -81,7 +81,7 @@ module _ (call : Call) (ex : Execution) (file : List ℕ) (asked : Asked) where
 
     pub of_unlisted : {n : ℕ} {told : List ℕ} → TimeCause call file asked ex n told
         → IsSettled call n → HasNoListing call file → n ≡ LISTING_REFUSED
-    of_unlisted {n = n} (not_run c no) settled none =
+    of_unlisted {n = n} (not_run c unended) settled none =
         file_refused call ex file asked n settled none c settled.read
     of_unlisted {n = n} (ran h) settled none =
         absurd (not_unlisted call ex file asked n settled h none)
@@ -97,7 +97,7 @@ module _ (call : Call) (ex : Execution) (file : List ℕ) (asked : Asked) where
 
     pub of_wrong : OneLaw → {n : ℕ} {told : List ℕ} → TimeCause call file asked ex n told
         → IsSettled call n → HasListing call file (HasBadOrder call asked) → n ≡ ORDER_REFUSED
-    of_wrong one {n = n} (not_run c no) settled wrong =
+    of_wrong one {n = n} (not_run c unended) settled wrong =
         wrong_to_order call ex file asked n settled line table one c settled.read
         (one_order call n settled asked.order) wrong
     of_wrong one {n = n} (ran h) settled wrong =
@@ -110,7 +110,7 @@ module _ (call : Call) (ex : Execution) (file : List ℕ) (asked : Asked) where
       pub ended_of : ((run : Run) (k n : ℕ) (told : List ℕ) → RunCause run false k n told → n ≡ s
           → Holds run k) → {n : ℕ} {told : List ℕ} → TimeCause call file asked ex n told → n ≡ s
           → HasRun call file asked ex (WithFewMoves Holds)
-      ended_of found (not_run c no) e = absurd (no (subst IsRunEnd (sym e) ends))
+      ended_of found (not_run c unended) e = absurd (unended (subst IsRunEnd (sym e) ends))
       ended_of found (ran h) e = record {
         source = h.source;
         code = h.code;
@@ -130,7 +130,7 @@ module _ (call : Call) (ex : Execution) (file : List ℕ) (asked : Asked) where
           → (told : List ℕ) × RunCause run report k s told)
           → {n : ℕ} {told : List ℕ} → TimeCause call file asked ex n told → IsSettled call n
           → HasRun call file asked ex (WithFewMoves Holds) → n ≡ s
-      of_ended status told_by {n = n} (not_run c no) settled r =
+      of_ended status told_by {n = n} (not_run c unended) settled r =
           file_one call (tells_one call n settled) asked ex line table file c
           (file_cause call ex file asked r (λ run k report holds. told_by run k report holds.0)).1
           settled.read status.unreadable
@@ -150,45 +150,45 @@ module _ (call : Call) (ex : Execution) (file : List ℕ) (asked : Asked) where
         → IsOrderText call named text → reading (processors code) text ≡ Ok order
         → {n : ℕ} {told : List ℕ} → IsSettled call n
         → OrderFileCause call code asked ex.turns named n told → ¬ IsRunEnd n → ⊥
-    order_no_run None code order text is read settled (bad_item at e z) no =
+    order_no_run None code order text is read settled (bad_item at e z) unended =
         read_one at order e (subst (λ t. reading (processors code) t ≡ Ok order) is read)
-    order_no_run None code order text is read settled (run_under other e goes c) no = no (run_end c)
-    order_no_run (Some name) code order text is read settled (unreadable may end) no =
+    order_no_run None code order text is read settled (run_under other e goes c) unended = unended (run_end c)
+    order_no_run (Some name) code order text is read settled (unreadable may end) unended =
         settled.read refl
-    order_no_run (Some name) code order text is read {n = n} settled (too_long long end) no =
+    order_no_run (Some name) code order text is read {n = n} settled (too_long long end) unended =
         text_short call name n settled long is.0
-    order_no_run (Some name) code order text is read {n = n} settled (work source (bad_item at e z)) no =
+    order_no_run (Some name) code order text is read {n = n} settled (work source (bad_item at e z)) unended =
         read_one at order e (subst (λ t. reading (processors code) t ≡ Ok order)
         (sym is.1 ∙ texts_same call name n settled is.0 source) read)
-    order_no_run (Some name) code order text is read settled (work source (run_under other e goes c)) no =
-        no (run_end c)
+    order_no_run (Some name) code order text is read settled (work source (run_under other e goes c)) unended =
+        unended (run_end c)
 
     -- where no run began there was none
     no_run : {P : Run → ℕ → Type 0} (r : HasRun call file asked ex P) {n : ℕ} {told : List ℕ}
         → IsSettled call n → ListingFileCause call file asked ex n told → ¬ IsRunEnd n → ⊥
-    no_run r settled (unreadable may end) no = settled.read refl
-    no_run r {n = n} settled (too_long long end) no =
+    no_run r settled (unreadable may end) unended = settled.read refl
+    no_run r {n = n} settled (too_long long end) unended =
         text_short call file n settled long r.source
-    no_run r {n = n} settled (work source (bad_line at e none)) no =
+    no_run r {n = n} settled (work source (bad_line at e none)) unended =
         line source.text r.code at
         (subst (λ t. IsListing t r.code) (texts_same call file n settled r.source source) r.listing) e
-    no_run r {n = n} settled (work source (bad_table at e none)) no =
+    no_run r {n = n} settled (work source (bad_table at e none)) unended =
         table source.text r.code at
         (subst (λ t. IsListing t r.code) (texts_same call file n settled r.source source) r.listing) e
-    no_run r {n = n} {told = told} settled (work source (listed code is made c)) no =
+    no_run r {n = n} {told = told} settled (work source (listed code is made c)) unended =
         order_no_run asked.order code r.order r.text r.order_text
         (subst (λ t. reading (processors t) r.text ≡ Ok r.order)
-        (same_code ex.code r.code code r.made made) r.read) settled c no
+        (same_code ex.code r.code code r.made made) r.read) settled c unended
 
     pub past_of : {n : ℕ} {told : List ℕ} → TimeCause call file asked ex n told
         → IsSettled call n → n ≡ TOO_MANY_MOVES → HasRun call file asked ex IsPastMoves
-    past_of (not_run c no) settled e = absurd (file_known call ex file asked c e)
+    past_of (not_run c unended) settled e = absurd (file_known call ex file asked c e)
     past_of (ran h) settled e = absurd (end_other (run_end h.holds.0) e)
     past_of (too_many h) settled e = h
 
     pub of_past : {n : ℕ} {told : List ℕ} → TimeCause call file asked ex n told
         → IsSettled call n → HasRun call file asked ex IsPastMoves → n ≡ TOO_MANY_MOVES
-    of_past (not_run c no) settled r = absurd (no_run r settled c no)
+    of_past (not_run c unended) settled r = absurd (no_run r settled c unended)
     of_past {n = n} (ran h) settled r =
         let past : most_moves < moves_at (run_of h.code asked h.order) ex.turns =
         subst (λ run. most_moves < moves_at run ex.turns)

@@ -60,7 +60,7 @@ module _ (call : Call) (ex : Execution) (file : List ℕ) (asked : Asked) where
   file_known c = (file_other c).many
 
   time_known : {n : ℕ} {told : List ℕ} → TimeCause call file asked ex n told → n ≢ USAGE
-  time_known (not_run c no) = (file_other c).usage
+  time_known (not_run c unended) = (file_other c).usage
   time_known (ran h) = (run_other h.holds.0).usage
   time_known (too_many h) = λ e. omega arith
 
