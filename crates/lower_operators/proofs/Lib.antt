@@ -1,1 +1,6 @@
 pub mod GrowthLemmas
+pub mod OnceLemmas
+pub mod OperatorLemmas
+pub mod PhaseLemmas
+pub mod SettleLemmas
+pub mod SlateLemmas

@@ -43,6 +43,12 @@ abbrev pub slates_in : List (Bor Slate) → plain.Slates
 slates_in [] = plain.NoSlate
 slates_in (slate ∷ slates) = plain.ThenSlate (slate_of slate.now) (slates_in slates)
 
+-- in front of others
+abbrev pub slates_before : List (Bor Slate) → plain.Slates → plain.Slates
+slates_before [] rest = rest
+slates_before (slate ∷ slates) rest =
+    plain.ThenSlate (slate_of slate.now) (slates_before slates rest)
+
 abbrev pub placed_of : Placed → plain.Placed
 placed_of placed = record { rank = placed.rank; expr = expr_of placed.expr.now }
 

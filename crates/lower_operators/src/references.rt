@@ -6,7 +6,7 @@ ghost use Rattle.zpl_lowering.specs.Reference as plain;
 ghost use Rattle.lower_draft.specs.Drafted.{grown};
 ghost use Rattle.lower_places.specs.Numbers.{stored_of};
 ghost use Rattle.lower_places.specs.View.{slotted_of};
-ghost use Rattle.lower_operators.specs.Once.{optional, reference_of, with_reference};
+ghost use Rattle.lower_operators.specs.Once.{optional, reference_of, with_reference, with_references};
 
 use indexmap::IndexSet;
 use lower_draft::{Draft, FlatRow};
@@ -61,12 +61,22 @@ impl References {
         Ok(())
     }
 
+    /// Adds one, if it is given.
+    pub fn add_optional(&mut self, one: Option<Reference>) -> Result<(), AllocError>
+        ensures { OnOk result (self.new ≡ with_references self.old (optional one)) }
+    {
+        match one {
+            Some(one) => self.add(one),
+            None => Ok(()),
+        }
+    }
+
     /// Appends a row for each: a trap where its region, moved, isn't within the array's storage.
     pub fn push_needs(&self, draft: &mut Draft, line: u32) -> Result<(), AllocError>
         ensures { OnOk result (draft.new
             ≡ grown draft.old (rows_alone (map (plain.need_of line) self.now))) }
     {
-        for one in &self.items {
+        for one in self.items.as_slice() {
             draft.push(FlatRow::Plain(Instr::Need {
                 slot: one.slot,
                 array: one.array,

@@ -1,5 +1,6 @@
 //! Expressions with slots in the place of regions.
 ghost use Rattle.std.specs.Prelude.{◌≡◌, IfOk};
+ghost use Rattle.lower_operators.specs.View.{slates_in, slates_of};
 
 use bumpalo::Bump;
 use lower_places::Slotted;
@@ -87,4 +88,28 @@ pub fn place_slates<'a>(
 {
     let placed = arena.try_alloc(slates)?;
     Ok(placed)
+}
+
+/// Places a slot with a current region in an arena.
+pub fn place_over<'a>(arena: &'a Bump<Global>, over: Slotted) -> Result<&'a Slotted, AllocError>
+    ensures { IfOk result (λ placed. placed.now ≡ over) }
+{
+    let placed = arena.try_alloc(over)?;
+    Ok(placed)
+}
+
+/// Several in an arena, in their order.
+pub fn linked<'a>(
+    arena: &'a Bump<Global>,
+    slates: &[&'a Slate<'a>],
+) -> Result<&'a Slates<'a>, AllocError>
+    ensures { IfOk result (λ all. slates_of all.now ≡ slates_in slates.now) }
+{
+    let mut all = place_slates(arena, Slates::End)?;
+    let mut left = slates.len();
+    while left > 0 {
+        left -= 1;
+        all = place_slates(arena, Slates::Then(slates[left], all))?;
+    }
+    Ok(all)
 }
