@@ -4,3 +4,4 @@ pub mod OperatorLemmas
 pub mod PhaseLemmas
 pub mod SettleLemmas
 pub mod SlateLemmas
+pub mod VectorLemmas

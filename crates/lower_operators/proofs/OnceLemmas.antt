@@ -3,7 +3,9 @@ use Rattle.std.proofs.Common.{◌≡◌, ℕ, ◌==◌, ◌||◌, ◌&&◌, not,
 use Rattle.std.specs.List.{list_any}
 use Rattle.std.specs.Ordering.{int_eq}
 use Rattle.std.proofs.lemmas.Bool.Decides.{Decides-int_eq, Decides-eqb}
+use Rattle.std.proofs.lemmas.List.{map-append}
 use Rattle.std.proofs.lemmas.List.Folds.{list_any-append}
+use Rattle.indexmap.specs.IndexSet.{insert_key}
 use Rattle.zpl_lowering.specs.Reference.{Reference, each_once, is_same, is_same_vector}
 use Rattle.lower_operators.specs.Once.{with_reference, with_references}
 
@@ -158,3 +160,32 @@ pub added-both : (references xs ys : List Reference) →
     with_references (with_references references xs) ys ≡ with_references references (xs ++ ys)
 added-both references [] ys = refl
 added-both references (x ∷ xs) ys = added-both (with_reference references x) xs ys
+
+-- ---- keys of a set
+
+module _ {K : Type 0} (eq : K → K → Bool) (view : K → Reference)
+    (agree : (x y : K) → eq x y ≡ is_same (view x) (view y)) where
+  any-viewed : (k : K) (keys : List K) →
+      list_any (eq k) keys ≡ list_any (is_same (view k)) (map view keys)
+  any-viewed k [] = refl
+  any-viewed k (x ∷ keys) =
+      ap (λ b. b || list_any (eq k) keys) (agree k x)
+      ∙ ap (λ b. is_same (view k) (view x) || b) (any-viewed k keys)
+
+  pub added-key : (keys : List K) (k : K) →
+      map view (insert_key eq keys k) ≡ with_reference (map view keys) (view k)
+  added-key keys k =
+      by (list_any (eq k) keys)
+      ∙ ap (λ b. if b then map view keys else map view keys ++ view k ∷ []) (any-viewed k keys)
+    where
+      by : (b : Bool) → map view (if b then keys else keys ++ k ∷ [])
+          ≡ (if b then map view keys else map view keys ++ view k ∷ [])
+      by true = refl
+      by false = map-append view keys (k ∷ [])
+
+-- two tests that are true of what is the same agree
+pub tests-agree : (a b : Bool) → (a ≡ true → b ≡ true) → (b ≡ true → a ≡ true) → a ≡ b
+tests-agree true true h k = refl
+tests-agree false false h k = refl
+tests-agree true false h k = sym (h refl)
+tests-agree false true h k = k refl
