@@ -1,5 +1,5 @@
 -- The rows of operators over regions, pushed one by one behind their operands.
-use Rattle.std.proofs.Common.{◌≡◌, ℕ, suc, ◌+◌, Bool, ℤ, List, [], ◌∷◌, ◌++◌, length, Option, Some, None, refl, sym, ap, ◌∙◌, add-one}
+use Rattle.std.proofs.Common.{◌≡◌, ℕ, suc, ◌+◌, Bool, ℤ, List, [], ◌∷◌, ◌++◌, length, Option, Some, None, refl, sym, ap, ◌∙◌, add-one, arith}
 use Rattle.zpl_nums.specs.declared.folds.Fold.{Fold}
 use Rattle.zpl_nums.specs.Fold.{unit_of}
 use Rattle.node_form.specs.declared.words.ExprOp.{ExprOp}
@@ -165,3 +165,58 @@ scan-kept numbers line fold along over d0 d1 d2 value among mask from is masked 
     (next-temp d0 d1 over.flood (kept_rows line temp over.slot value among) h1)
     ∙ ap (λ f. grown d0 (owning 0 floods (rows (suc temp) f among))) is
     ∙ ap (λ m. grown d0 (owning 0 floods (rows (suc temp) temp m))) masked
+
+pub scan-filled : (numbers : Numbers) (line : ℕ) (fold : Fold) (along : Option ℤ) (over : Slotted)
+    (d0 d1 d2 d3 d4 : Drafted) (value : Expression) (operand : Words) (among : Option Words)
+    (from complement mask : ℕ) →
+    from ≡ d0.next.temps → complement ≡ d1.next.temps → among ≡ mask_code numbers over.mask →
+    operand ≡ words_of value →
+    d1 ≡ pushed (with_temp d0 over.flood) (row.Plain (instr.Room d0.next.temps over.slot)) →
+    d2 ≡ pushed (with_temp d1 over.flood) (row.Plain (instr.Room d1.next.temps over.slot)) →
+    d3 ≡ pushed d2 (row.Loop over.slot (row.Put from operand among line
+    ∷ row.Put complement (words_of (Denial (Element mask))) None line ∷ [])) →
+    d4 ≡ grown d3 (owning 0 (over.flood ∷ [])
+    (scan_row d3.next.temps from fold along over (Some complement))) →
+    d4 ≡ grown d0 (owning 0 (over.flood ∷ over.flood ∷ over.flood ∷ [])
+    (scan_without numbers line d0.next.temps fold along over value mask))
+scan-filled numbers line fold along over d0 d1 d2 d3 d4 value operand among from complement mask is
+    behind masked same h1 h2 h3 h4 =
+    let temp = d0.next.temps in
+    let flood = over.flood in
+    let floods = flood ∷ flood ∷ flood ∷ [] in
+    let one = row.Plain (instr.Room temp over.slot) in
+    let two = row.Plain (instr.Room d1.next.temps over.slot) in
+    let loop = row.Loop over.slot (row.Put from operand among line
+    ∷ row.Put complement (words_of (Denial (Element mask))) None line ∷ []) in
+    let rows : ℕ → ℕ → Words → Option Words → ℕ → ℕ → List Row = λ r f e m c t.
+    row.Plain (instr.Room temp over.slot) ∷ row.Plain (instr.Room r over.slot)
+    ∷ row.Loop over.slot (row.Put f e m line
+    ∷ row.Put c (words_of (Denial (Element mask))) None line ∷ [])
+    ∷ scan_row t f fold along over (Some c) in
+    let e1 : d1 ≡ grown d0 (owning 0 (flood ∷ []) (one ∷ [])) = room-grown d0 d1 flood one h1 in
+    let e2 : d2 ≡ grown d0 (owning 0 (flood ∷ flood ∷ []) (one ∷ two ∷ [])) =
+    then_row d0 (with_temp d1 flood) d2 0 (flood ∷ flood ∷ []) (one ∷ []) two
+    (then_temp d0 d1 (with_temp d1 flood) 0 (flood ∷ []) (one ∷ []) flood e1 refl) h2 in
+    let e3 : d3 ≡ grown d0 (owning 0 (flood ∷ flood ∷ []) (one ∷ two ∷ loop ∷ [])) =
+    then_row d0 d2 d3 0 (flood ∷ flood ∷ []) (one ∷ two ∷ []) loop e2 h3 in
+    let n1 : d1.next.temps ≡ suc temp = next-temp d0 d1 flood (one ∷ []) e1 in
+    let n3 : d3.next.temps ≡ suc (suc temp) = ap (λ d. d.next.temps) e3 ∙ two-more temp in
+    h4
+    ∙ ap (λ d. grown d (owning 0 (flood ∷ [])
+    (scan_row d3.next.temps from fold along over (Some complement)))) e3
+    ∙ owning_both d0 0 0 (flood ∷ flood ∷ []) (flood ∷ []) (one ∷ two ∷ loop ∷ [])
+    (scan_row d3.next.temps from fold along over (Some complement))
+    ∙ ap (λ r. grown d0 (owning 0 floods (rows r from operand among complement d3.next.temps))) n1
+    ∙ ap (λ f. grown d0 (owning 0 floods
+    (rows (suc temp) f operand among complement d3.next.temps))) is
+    ∙ ap (λ e. grown d0 (owning 0 floods
+    (rows (suc temp) temp e among complement d3.next.temps))) same
+    ∙ ap (λ m. grown d0 (owning 0 floods
+    (rows (suc temp) temp (words_of value) m complement d3.next.temps))) masked
+    ∙ ap (λ c. grown d0 (owning 0 floods (rows (suc temp) temp (words_of value)
+    (mask_code numbers over.mask) c d3.next.temps))) (behind ∙ n1)
+    ∙ ap (λ t. grown d0 (owning 0 floods (rows (suc temp) temp (words_of value)
+    (mask_code numbers over.mask) (suc temp) t))) n3
+  where
+    two-more : (n : ℕ) → n + 2 ≡ suc (suc n)
+    two-more n = omega arith

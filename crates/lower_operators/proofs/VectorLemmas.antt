@@ -7,6 +7,7 @@ use Rattle.zpl_region.specs.declared.dims.Dim.{Dim}
 use Rattle.zpl_region.specs.declared.dims.Dim.TheVariants.{Range, Flood}
 use Rattle.zpl_region.specs.declared.regions.Region.{Region}
 use Rattle.zpl_region.specs.Dim.{IsUpTo}
+use Rattle.node_form.specs.Value.{unmoved}
 use Rattle.zpl_lowering.specs.Reference.{dim_shift, shift_in, vector_over}
 
 pub shifts-are : (storage : Region) (dims : List Dim) (v : List ℤ) (e : Dim) (x y z : ℤ) →
@@ -39,7 +40,7 @@ near-in (Range lo hi step align ∷ dims) (d ∷ v) h = (h.0, near-in dims v h.1
 pub near-over : (storage : Region) (v : List ℤ) → All (IsUpTo 41) v →
     All (IsUpTo 41) (vector_over storage v)
 near-over storage [] near =
-    All-from_recursion (IsUpTo 41) _ (zero-near, (zero-near, (zero-near, tt)))
+    All-from_recursion (IsUpTo 41) unmoved (zero-near, (zero-near, (zero-near, tt)))
 near-over storage (d ∷ v) near =
-    All-from_recursion (IsUpTo 41) _
+    All-from_recursion (IsUpTo 41) (shift_in storage.dims (d ∷ v))
     (near-in storage.dims (d ∷ v) (recursion_from_All (IsUpTo 41) (d ∷ v) near))

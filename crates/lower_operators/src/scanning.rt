@@ -1,5 +1,5 @@
 //! Scans as rows.
-ghost use Rattle.std.specs.Prelude.{◌≡◌, ◌+◌, ◌∷◌, [], IfOk, OnOk};
+ghost use Rattle.std.specs.Prelude.{◌≡◌, ◌+◌, ◌∷◌, [], IfOk, OnOk, slice_get};
 ghost use Rattle.node_form.specs.declared.words.ExprOp.TheVariants.{Here};
 ghost use Rattle.node_form.specs.Expression.{Denial, Element, Expression, words_of};
 ghost use Rattle.flat_form.specs.Row as row;
@@ -11,6 +11,7 @@ ghost use Rattle.lower_operators.specs.Code.{Hoists, Leaves, owning};
 
 use crate::rows::{add_room, keep, push_plain};
 use crate::words::{mask_row, put};
+use array_terms::Mask;
 use lower_draft::{Draft, FlatMember, FlatRow};
 use lower_places::{Numbers, Slotted};
 use node_form::{ExprOp, ExprRow, Instr};
@@ -87,7 +88,8 @@ fn scan_with(
     let over = scan.over;
     let among = mask_row(draft.alloc(), numbers, over.mask)?;
     let from = keep(draft, line, over.slot, over.flood, operand, among)?;
-    scan_from(draft, scan, from, mask)
+    let temp = scan_from(draft, scan, from, mask)?;
+    Ok(temp)
 }
 
 /// Appends the row that fills a temporary with an expression, and another with the complement of a
@@ -144,7 +146,18 @@ fn scan_without(
         line,
     };
     fill_both(draft, line, over.slot, first, complement, mask)?;
-    scan_from(draft, scan, from, Some(complement))
+    let temp = scan_from(draft, scan, from, Some(complement))?;
+    Ok(temp)
+}
+
+/// The number of the array of a mask. One that has none, as none of an accepted program, counts as 0.
+fn mask_array(numbers: &Numbers, mask: Mask) -> u32
+    ensures { result ≡ plain.number_of (slice_get numbers.now.arrays mask.array) }
+{
+    match numbers.array(mask.array) {
+        Some(stored) => stored.array,
+        None => 0,
+    }
 }
 
 /// Appends the rows of a scan of an expression over the current region. Gives the temporary.
@@ -163,16 +176,18 @@ pub fn scan_over(
         (slotted_of scan.now.over.now).mask hoisted) draft.old operand (Here temp ∷ [])) }
 {
     match scan.over.mask {
-        None => scan_with(draft, numbers, line, scan, operand, None),
+        None => {
+            let temp = scan_with(draft, numbers, line, scan, operand, None)?;
+            Ok(temp)
+        }
         Some(mask) => {
-            let array = match numbers.array(mask.array) {
-                Some(stored) => stored.array,
-                None => 0,
-            };
+            let array = mask_array(numbers, mask);
             if mask.without {
-                scan_without(draft, numbers, line, scan, operand, array)
+                let temp = scan_without(draft, numbers, line, scan, operand, array)?;
+                Ok(temp)
             } else {
-                scan_with(draft, numbers, line, scan, operand, Some(array))
+                let temp = scan_with(draft, numbers, line, scan, operand, Some(array))?;
+                Ok(temp)
             }
         }
     }
