@@ -1,5 +1,5 @@
 -- The rows of operators over regions, pushed one by one behind their operands.
-use Rattle.std.proofs.Common.{◌≡◌, ℕ, suc, ◌+◌, Bool, ℤ, List, [], ◌∷◌, ◌++◌, length, Option, Some, None, refl, sym, ap, ◌∙◌, add-one, arith}
+use Rattle.std.proofs.Common.{◌≡◌, ℕ, suc, ◌+◌, Bool, true, false, ℤ, List, [], ◌∷◌, ◌++◌, length, Option, Some, None, slice_get, refl, sym, ap, ◌∙◌, add-one, arith}
 use Rattle.zpl_nums.specs.declared.folds.Fold.{Fold}
 use Rattle.zpl_nums.specs.Fold.{unit_of}
 use Rattle.node_form.specs.declared.words.ExprOp.{ExprOp}
@@ -9,8 +9,9 @@ use Rattle.node_form.specs.declared.instructions.Instr.TheVariants as instr
 use Rattle.node_form.specs.Expression.{Denial, Element, Expression, Variable, words_of}
 use Rattle.flat_form.specs.Row as row
 use Rattle.flat_form.specs.Row.{Row, Words}
+use Rattle.zpl_meaning.specs.Context.{Mask}
 use Rattle.zpl_lowering.specs.Where.{Numbers, Slotted}
-use Rattle.zpl_lowering.specs.Hoist.{Hoisted, fold_rows, folding, kept_rows, mask_code, scan_row, scan_with, scan_without, with_rows as hoisted_with}
+use Rattle.zpl_lowering.specs.Hoist.{Hoisted, fold_rows, folding, kept_rows, mask_code, masked_scan, number_of, scan_row, scan_with, scan_without, scanning, with_rows as hoisted_with}
 use Rattle.lower_draft.specs.Drafted.{Drafted, grown, pushed, with_scalars, with_temp}
 use Rattle.lower_operators.specs.Code.{IsOver, free_of, of_hoisted, owning}
 use Rattle.lower_operators.proofs.GrowthLemmas.{behind_operand, nothing, owning_both, then_row, then_scalar, then_temp}
@@ -220,3 +221,50 @@ scan-filled numbers line fold along over d0 d1 d2 d3 d4 value operand among from
   where
     two-more : (n : ℕ) → n + 2 ≡ suc (suc n)
     two-more n = omega arith
+
+-- a scan under a mask, and under the complement of one
+module _ (numbers : Numbers) (line : ℕ) (fold : Fold) (along : Option ℤ) (over : Slotted)
+    (start d0 new : Drafted) (hoisted : Hoisted Expression) (operand : Words) (mask : Mask)
+    (array : ℕ) (is : IsOver start hoisted d0 operand)
+    (number : array ≡ number_of (slice_get numbers.arrays mask.array)) where
+  abbrev temp_of : ℕ
+  temp_of = start.next.temps + length hoisted.temps
+
+  abbrev scanned_at : Bool → ℕ → Drafted
+  scanned_at without n =
+      grown start (of_hoisted (masked_scan numbers line (free_of start.next) fold along over hoisted
+      without n))
+
+  pub scanned-without : mask.without ≡ true →
+      ((value : Expression) → operand ≡ words_of value → new
+      ≡ grown d0 (owning 0 (over.flood ∷ over.flood ∷ over.flood ∷ [])
+      (scan_without numbers line d0.next.temps fold along over value array))) →
+      new ≡ grown start (of_hoisted (scanning numbers line (free_of start.next) fold along over
+      (Some mask) hoisted))
+  scanned-without without h =
+      behind_operand start d0 new hoisted 0 (over.flood ∷ over.flood ∷ over.flood ∷ [])
+      (scan_without numbers line temp_of fold along over hoisted.left array)
+      (Element (suc (suc temp_of))) is.rows
+      (h hoisted.left is.left
+      ∙ ap (λ t. grown d0 (owning 0 (over.flood ∷ over.flood ∷ over.flood ∷ [])
+      (scan_without numbers line t fold along over hoisted.left array)))
+      (ap (λ d. d.next.temps) is.rows))
+      ∙ ap (scanned_at true) number
+      ∙ ap (λ b. scanned_at b (number_of (slice_get numbers.arrays mask.array))) (sym without)
+
+  pub scanned-with : mask.without ≡ false →
+      ((value : Expression) → operand ≡ words_of value → new
+      ≡ grown d0 (owning 0 (over.flood ∷ over.flood ∷ [])
+      (scan_with numbers line d0.next.temps fold along over value (Some array)))) →
+      new ≡ grown start (of_hoisted (scanning numbers line (free_of start.next) fold along over
+      (Some mask) hoisted))
+  scanned-with without h =
+      behind_operand start d0 new hoisted 0 (over.flood ∷ over.flood ∷ [])
+      (scan_with numbers line temp_of fold along over hoisted.left (Some array))
+      (Element (suc temp_of)) is.rows
+      (h hoisted.left is.left
+      ∙ ap (λ t. grown d0 (owning 0 (over.flood ∷ over.flood ∷ [])
+      (scan_with numbers line t fold along over hoisted.left (Some array))))
+      (ap (λ d. d.next.temps) is.rows))
+      ∙ ap (scanned_at false) number
+      ∙ ap (λ b. scanned_at b (number_of (slice_get numbers.arrays mask.array))) (sym without)

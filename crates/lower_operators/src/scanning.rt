@@ -78,7 +78,8 @@ fn scan_with(
     operand: ExprRow,
     mask: Option<u32>,
 ) -> Result<u32, AllocError>
-    ensures temp { IfOk result (λ temp. temp ≡ draft.old.next.temps + 1) }
+    ensures temp { IfOk result (λ temp. (value : Expression) → operand ≡ words_of value →
+        temp ≡ draft.old.next.temps + 1) }
     ensures rows { OnOk result ((value : Expression) → operand ≡ words_of value → draft.new
         ≡ grown draft.old (owning 0 ((slotted_of scan.now.over.now).flood
         ∷ (slotted_of scan.now.over.now).flood ∷ []) (plain.scan_with numbers.now line

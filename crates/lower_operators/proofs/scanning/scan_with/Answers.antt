@@ -1,4 +1,4 @@
-use Rattle.std.proofs.Common.{ap, sym, ◌∙◌, add-one}
+use Rattle.std.proofs.Common.{ap, ◌∙◌}
 use Rattle.lower_places.specs.View.{slotted_of}
 use Rattle.lower_operators.proofs.OperatorLemmas.{scan-kept}
 use Rattle.lower_operators.proofs.scanning.scan_with.Goals as goal
@@ -9,3 +9,7 @@ returns-clause-rows c = λ value same.
     (slotted_of c.args.scan.now.over.now) c.args.draft.now c.keep.new.draft c.scan_from.new.draft
     value c.in_ok-among.among c.args.mask c.in_ok-from.from c.in_ok-from.ensures.temp
     c.in_ok-among.ensures (c.in_ok-from.ensures.rows value same) c.in_ok-temp.ensures.rows
+
+pub returns-clause-temp : goal.returns-clause-temp
+returns-clause-temp c = λ value same.
+    c.in_ok-temp.ensures.temp ∙ ap (λ d. d.next.temps) (c.in_ok-from.ensures.rows value same)
