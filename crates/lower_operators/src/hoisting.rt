@@ -51,7 +51,8 @@ pub fn hoist(
         Slate::Binary(op, left, right) => {
             hoist(draft, numbers, line, left, words)?;
             hoist(draft, numbers, line, right, words)?;
-            put(words, ExprOp::Pair(*op))
+            put(words, ExprOp::Pair(*op))?;
+            Ok(())
         }
         Slate::Folded(fold, over, operand) => {
             let operand = hoisted(draft, numbers, line, operand)?;
@@ -82,7 +83,8 @@ pub fn hoist(
             let mut rows = Vec::new(draft.alloc());
             hoist_indices(draft, numbers, line, indices, &mut rows)?;
             let word = remap_over(draft, numbers, line, over, *place, rows)?;
-            put(words, word)
+            put(words, word)?;
+            Ok(())
         }
     }
 }
@@ -127,7 +129,8 @@ fn hoist_indices(
         Slates::Then(first, rest) => {
             let row = hoisted(draft, numbers, line, first)?;
             rows.push(row)?;
-            hoist_indices(draft, numbers, line, rest, rows)
+            hoist_indices(draft, numbers, line, rest, rows)?;
+            Ok(())
         }
     }
 }

@@ -1,0 +1,25 @@
+use Rattle.std.proofs.Common.{◌≡◌, ◌++◌, [], ◌∷◌, ap, ◌∙◌, arith}
+use Rattle.lower_places.specs.View.{where_of}
+use Rattle.lower_operators.specs.View.{slates_before}
+use Rattle.lower_operators.proofs.SettleLemmas.{each-next, each-slates-next, each-slates-end, sound-more}
+use Rattle.lower_operators.proofs.phasing.settled_each.Goals as goal
+
+pub returns-clause-slates : goal.returns-clause-slates
+returns-clause-slates c =
+    each-slates-end (where_of c.args.place.now) c.args.line c.loop-placed.draft.next
+    c.loop-placed.slates.items _ c.args.exprs.now c.loop-placed.placed-index (omega arith)
+    c.loop-placed.invariant.slates
+
+pub loop-placed-preserved : goal.loop-placed-preserved
+loop-placed-preserved c =
+    let w = where_of c.args.place.now in
+    let slates = c.loop-placed.slates.items in
+    record {
+      rows =
+          each-next w c.args.line c.loop-placed.draft c.settled.new.draft c.args.exprs.now
+          c.loop-placed.placed-index _ (omega arith) ? _ c.loop-placed.invariant.rows;
+      slates = ?;
+      sound =
+          sound-more slates c.in_ok-slate.slate c.loop-placed.invariant.sound
+          c.in_ok-slate.ensures.sound;
+    }
