@@ -6,14 +6,14 @@ use Rattle.row_runs.specs.Structured.{Piece, Rows, Then}
 use Rattle.flat_form.specs.Row.{Row, with_rows}
 use Rattle.node_form.specs.Expression.{Expression}
 use Rattle.zpl_lowering.specs.Check.{Check, flat_row}
-use Rattle.zpl_lowering.specs.Hoist.{Hoisted, with_rows as hoisted_with}
+use Rattle.zpl_lowering.specs.Hoist.{Free, Hoisted, with_rows as hoisted_with}
 use Rattle.zpl_lowering.specs.Hoist as hoist
 use Rattle.zpl_lowering.specs.Slate.{Settled}
 use Rattle.zpl_lowering.specs.Slate as settle
 use Rattle.zpl_lowering.specs.Lowered.{Lowered, rows_alone, both}
 use Rattle.lower_draft.specs.Drafted.{Drafted, grown, pushed, rows_from, with_scalars, with_shift, with_temp}
 use Rattle.lower_draft.proofs.GrowthLemmas.{both_grown, rows_grown, scalars_grown, temp_grown}
-use Rattle.lower_operators.specs.Code.{IsOver, of_hoisted, of_settled, owning}
+use Rattle.lower_operators.specs.Code.{free_of, of_hoisted, of_settled, owning}
 
 -- ---- rows
 
@@ -90,6 +90,15 @@ pub hoisted_both : {A B C : Type 0} (f : A → B → C) (start draft new : Draft
 hoisted_both f start draft new first second h k =
     k ∙ ap (λ d. grown d (of_hoisted second)) h
     ∙ both_grown start (of_hoisted first) (of_hoisted second)
+
+pub hoisted_then : {A B C : Type 0} (f : A → B → C) (start draft new : Drafted)
+    (first : Hoisted A) (rest : Free → Hoisted B) → draft ≡ grown start (of_hoisted first) →
+    new ≡ grown draft (of_hoisted (rest (free_of draft.next))) →
+    new ≡ grown start (of_hoisted (hoist.then_hoisted f (free_of start.next) first rest))
+hoisted_then f start draft new first rest h k =
+    hoisted_both f start draft new first (rest (free_of draft.next)) h k
+    ∙ ap (λ free. grown start (of_hoisted (hoist.both f first (rest free))))
+    (ap (λ d. free_of d.next) h)
 
 pub rows_both : (start draft new : Drafted) (xs ys : List Row) →
     draft ≡ grown start (rows_alone xs) → new ≡ grown draft (rows_alone ys) →

@@ -9,17 +9,3 @@ returns-clause-slates c =
     each-slates-end (where_of c.args.place.now) c.args.line c.loop-placed.draft.next
     c.loop-placed.slates.items _ c.args.exprs.now c.loop-placed.placed-index (omega arith)
     c.loop-placed.invariant.slates
-
-pub loop-placed-preserved : goal.loop-placed-preserved
-loop-placed-preserved c =
-    let w = where_of c.args.place.now in
-    let slates = c.loop-placed.slates.items in
-    record {
-      rows =
-          each-next w c.args.line c.loop-placed.draft c.settled.new.draft c.args.exprs.now
-          c.loop-placed.placed-index _ (omega arith) ? _ c.loop-placed.invariant.rows;
-      slates = ?;
-      sound =
-          sound-more slates c.in_ok-slate.slate c.loop-placed.invariant.sound
-          c.in_ok-slate.ensures.sound;
-    }
