@@ -1,5 +1,6 @@
 -- The phases of a statement, one behind the other.
 use Rattle.std.proofs.Common.{◌≡◌, ℕ, ◌+◌, List, [], ◌∷◌, ◌++◌, map, length, refl, sym, ap, ◌∙◌, append-nil, add-zero, zero-add}
+use Rattle.std.specs.Prelude.{Result, Ok, Err, IfOk, OnOk}
 use Rattle.row_runs.specs.Structured.{Rows, Then}
 use Rattle.flat_form.specs.Row.{Row}
 use Rattle.node_form.specs.declared.words.ExprOp.{ExprOp}
@@ -114,3 +115,14 @@ module _ (w : Where) (line : ℕ) (own last : List Reference) (exprs : List Plac
       ∙ ap (λ s. map words_of
       (hoisted_at (free_of (grown draft (of_settled whole)).next) s).left) same
       ∙ ap (λ free. map words_of (hoisted_at free whole.slate).left) (free-behind draft whole)
+
+-- ---- what holds of an answer that isn't an error
+
+pub when_ok : {A E : Type 0} (r : Result A E) {P Q : Type 0} → (P → Q) → OnOk r P → OnOk r Q
+when_ok (Ok v) to h = to h
+when_ok (Err e) to h = tt
+
+pub each_ok : {A E : Type 0} (r : Result A E) {P Q : A → Type 0} → ((v : A) → P v → Q v) →
+    IfOk r P → IfOk r Q
+each_ok (Ok v) to h = to v h
+each_ok (Err e) to h = tt
