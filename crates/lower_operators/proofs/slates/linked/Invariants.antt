@@ -8,5 +8,5 @@ decreases-loop-left l = l.left
 abbrev pub invariant-loop-left : goal.invariant-loop-left
 invariant-loop-left l = record {
   within : l.left ≤ length l.slates;
-  rest : slates_of l.all.now ≡ slates_in (drop l.left l.slates);
+  rest : slates_of l.all ≡ slates_in (drop l.left l.slates);
 }
