@@ -156,7 +156,7 @@ pub fn settled<'t>(
 
 /// What an operator over a source becomes.
 #[derive(Clone, Copy)]
-struct Sourced<'t> {
+struct OverSource<'t> {
     over: &'t Slotted,
     source: &'t Slotted,
     operand: &'t Slate<'t>,
@@ -171,7 +171,7 @@ fn sourced<'t>(
     line: u32,
     source: &Inner<'_>,
     operand: &Expr<'_>,
-) -> Result<Sourced<'t>, AllocError>
+) -> Result<OverSource<'t>, AllocError>
     requires place { IsPlace place.now }
     requires source { IsFitInner (inner_of source.now) }
     requires fit { IsFit (expr_of operand.now) }
@@ -190,7 +190,7 @@ fn sourced<'t>(
     let operand = settled(arena, draft, &inside, line, rank, operand)?;
     let over = place_over(arena, place.current(rank))?;
     let source = place_over(arena, source)?;
-    Ok(Sourced {
+    Ok(OverSource {
         over,
         source,
         operand,
