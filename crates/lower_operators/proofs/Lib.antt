@@ -4,4 +4,5 @@ pub mod OperatorLemmas
 pub mod PhaseLemmas
 pub mod SettleLemmas
 pub mod SlateLemmas
+pub mod SourceLemmas
 pub mod VectorLemmas
