@@ -55,8 +55,9 @@ fn numbers_of(
     Ok(numbers)
 }
 
-/// The numbers of the procedures that a procedure calls.
-fn calls_of<'a>(
+/// The numbers of the procedures that a procedure calls, once for each call, in the order of the
+/// text. A name that is no procedure's has the number behind these.
+pub fn calls_of<'a>(
     alloc: Global,
     text: &'a Text<'a>,
     routine: &'a Routine<'a>,

@@ -8,4 +8,5 @@ mod sizes;
 mod statements;
 mod sums;
 
+pub use bodies::calls_of;
 pub use excess::{Excess, excess_of};

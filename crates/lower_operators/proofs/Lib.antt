@@ -1,0 +1,10 @@
+pub mod CopyLemmas
+pub mod GrowthLemmas
+pub mod OnceLemmas
+pub mod OperatorLemmas
+pub mod PhaseLemmas
+pub mod RemapLemmas
+pub mod SettleLemmas
+pub mod SlateLemmas
+pub mod VectorLemmas
+pub mod WrapLemmas

@@ -1,0 +1,5 @@
+pub mod Code
+pub mod Once
+pub mod Remapped
+pub mod Sound
+pub mod View

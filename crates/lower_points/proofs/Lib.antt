@@ -1,0 +1,5 @@
+pub mod PointLemmas
+pub mod FitLemmas
+pub mod FormLemmas
+pub mod RankLemmas
+pub mod CloseLemmas

@@ -1,0 +1,73 @@
+-- Assignments, behind their phases.
+use Rattle.std.proofs.Common.{◌≡◌, ℕ, List, [], ◌∷◌, Option, Some, sym, ap, ap₂, ◌∙◌}
+use Rattle.zpl_nums.specs.declared.operators.Op.{Op}
+use Rattle.zpl_tree.specs.Syntax.{Expr, Name}
+use Rattle.zpl_names.specs.Sites.{Assigned, Role}
+use Rattle.zpl_meaning.specs.Points.{assigned_expr}
+use Rattle.zpl_meaning.specs.Store.{Thing}
+use Rattle.node_form.specs.Expression.{words_of}
+use Rattle.node_form.specs.declared.words.ExprOp.{ExprOp}
+use Rattle.flat_form.specs.Row as row
+use Rattle.flat_form.specs.Row.{Words}
+use Rattle.zpl_lowering.specs.Hoist.{mask_code}
+use Rattle.zpl_lowering.specs.Lowered.{Phased, first_left, then_rows}
+use Rattle.zpl_lowering.specs.Slate.{Placed}
+use Rattle.zpl_lowering.specs.Statement.{lowered_array, lowered_scalar, lowered_to, placed_in, put_row, set_row}
+use Rattle.zpl_lowering.specs.Where.{Slotted, Stored, Where}
+use Rattle.lower_draft.specs.Drafted.{Drafted, grown, pushed}
+use Rattle.lower_statements.proofs.RowLemmas.{then_rows_grown}
+
+-- the row of a scalar
+pub scalar_set : (d0 d1 d2 : Drafted) (phases : Phased) (line scalar : ℕ) (words : List ExprOp) →
+    d1 ≡ grown d0 phases.lowered → words ≡ words_of (first_left phases.left) →
+    d2 ≡ pushed d1 (row.Set scalar words line) →
+    d2 ≡ grown d0 (then_rows phases (set_row line (first_left phases.left) (Some scalar)))
+scalar_set d0 d1 d2 phases line scalar words one same two =
+    then_rows_grown d0 d1 d2 phases
+    (row.Set scalar (words_of (first_left phases.left)) line ∷ []) one
+    (two ∙ ap (λ w. pushed d1 (row.Set scalar w line)) same)
+
+-- the row of an array
+pub array_put : (d0 d1 d2 : Drafted) (phases : Phased) (w : Where) (line : ℕ) (over : Slotted)
+    (stored : Stored) (words : List ExprOp) (mask : Option Words) →
+    d1 ≡ grown d0 phases.lowered → words ≡ words_of (first_left phases.left) →
+    mask ≡ mask_code w.numbers over.mask →
+    d2 ≡ pushed d1 (row.Loop over.slot (row.Put stored.array words mask line ∷ [])) →
+    d2 ≡ grown d0 (then_rows phases
+    (put_row w line over (first_left phases.left) (Some stored)))
+array_put d0 d1 d2 phases w line over stored words mask one same masked two =
+    then_rows_grown d0 d1 d2 phases
+    (put_row w line over (first_left phases.left) (Some stored)) one
+    (two ∙ ap₂ (λ e m. pushed d1 (row.Loop over.slot (row.Put stored.array e m line ∷ []))) same
+    masked)
+
+-- what is assigned to
+module _ (d0 d2 : Drafted) (w : Where) (role : Role) (line : ℕ) (expr : Expr)
+    (value : Placed) (placed : value ≡ placed_in w role expr) (thing : Option Thing) where
+  pub to_scalar : (scalar : Option ℕ) (number : Option ℕ) →
+      scalar ≡ number → lowered_to w role line d0.next expr thing
+      ≡ lowered_scalar w line d0.next (placed_in w role expr) number →
+      d2 ≡ grown d0 (lowered_scalar w line d0.next value scalar) →
+      d2 ≡ grown d0 (lowered_to w role line d0.next expr thing)
+  to_scalar scalar number same to h =
+      h ∙ ap₂ (λ v s. grown d0 (lowered_scalar w line d0.next v s)) placed same
+      ∙ ap (grown d0) (sym to)
+
+  pub to_array : (over current : Slotted) (stored number : Option Stored) →
+      over ≡ current → stored ≡ number → lowered_to w role line d0.next expr thing
+      ≡ lowered_array w line d0.next current (placed_in w role expr) number →
+      d2 ≡ grown d0 (lowered_array w line d0.next over value stored) →
+      d2 ≡ grown d0 (lowered_to w role line d0.next expr thing)
+  to_array over current stored number slot same to h =
+      h ∙ ap₂ (λ v s. grown d0 (lowered_array w line d0.next over v s)) placed same
+      ∙ ap (λ o. grown d0 (lowered_array w line d0.next o (placed_in w role expr) number)) slot
+      ∙ ap (grown d0) (sym to)
+
+-- an assignment with an operator or without
+pub assigned_to : (d0 d2 : Drafted) (w : Where) (name : Name) (line : ℕ) (thing : Option Thing)
+    (op one : Option Op) (value whole : Expr) → op ≡ one → whole ≡ assigned_expr name one value →
+    d2 ≡ grown d0 (lowered_to w (Assigned name op) line d0.next whole thing) →
+    d2 ≡ grown d0 (lowered_to w (Assigned name op) line d0.next (assigned_expr name op value) thing)
+assigned_to d0 d2 w name line thing op one value whole is same h =
+    h ∙ ap (λ e. grown d0 (lowered_to w (Assigned name op) line d0.next e thing))
+    (same ∙ ap (λ o. assigned_expr name o value) (sym is))

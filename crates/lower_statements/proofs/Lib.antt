@@ -1,0 +1,8 @@
+pub mod RowLemmas
+pub mod FirstLemmas
+pub mod AssignLemmas
+pub mod BorderLemmas
+pub mod ValueLemmas
+pub mod PrefixLemmas
+pub mod WriteLemmas
+pub mod ItemLemmas

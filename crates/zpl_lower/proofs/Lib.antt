@@ -1,0 +1,9 @@
+pub mod GrownLemmas
+pub mod CallLemmas
+pub mod GivenLemmas
+pub mod FormLemmas
+pub mod DepthLemmas
+pub mod FitLemmas
+pub mod DeclLemmas
+pub mod KnownLemmas
+pub mod ProgramLemmas
