@@ -1,0 +1,545 @@
+-- How many rows of a whole program are counted.
+use Rattle.std.proofs.Common.{◌≡◌, ℕ, zero, suc, ◌+◌, ◌*◌, ◌-◌, ◌≤◌, Bool, true, false, if◌then◌else◌, List, [], ◌∷◌, length, Option, Some, None, refl, sym, ap, subst, arith, length-append}
+use Rattle.std.specs.Prelude.{flat_map, filter_map, sum, sum_by}
+use Rattle.std.specs.List.{cons_option}
+use Rattle.std.proofs.lemmas.List.Concat.{length-flat_map}
+use Rattle.std.proofs.lemmas.List.Sums.{sum_by-cons, sum_by-append}
+use Rattle.zpl_region.specs.declared.regions.Region.{Region}
+use Rattle.zpl_tree.specs.Syntax.{Name, Exprs, Stmt, Prefixed, Stmts, NoStmt, ThenStmt, Assign, Invoke, Block, If, While, Repeat, For, Border, Write, Return, Base, Program}
+use Rattle.zpl_tree.specs.Spelling.{prefix_words, end_words, stmt_words, stmts_words, form_words, program_words}
+use Rattle.zpl_names.specs.Accepted.{IsFaultless}
+use Rattle.zpl_names.specs.Scope.{kind_of, is_procedure}
+use Rattle.zpl_names.specs.Shapes.{unknown_shapes}
+use Rattle.zpl_names.specs.Declared.{Routine, routine_named, entry_of, scope_of}
+use Rattle.zpl_names.specs.Reached.{longest_chain}
+use Rattle.zpl_names.specs.Sites.{Reach, in_body, Site, AtWhole, AtExpr, AtCall, AtNamed, AtDir, AtRegion, AtMask, AtStmt, AtBase, AtPosts, AtProcedure, CallSite, call_of, prefixes_sites, under_prefixes, stmt_sites, body_sites, outermost_sites, routine_sites}
+use Rattle.zpl_names.specs.Expansion.{callees, expanded, body_tokens, names_count, Instance, called_instance, of_routine, instances_from, entry_instance, instances_of, instance_sites, plain_tokens_at, plain_assignments, other_size}
+use Rattle.zpl_binding.specs.Outcome.{Computed}
+use Rattle.zpl_binding.specs.Settings.{Setting}
+use Rattle.zpl_binding.specs.Declarations.{known_of}
+use Rattle.zpl_binding.specs.Storages.{borders_of}
+use Rattle.zpl_meaning.specs.Context.{Setup}
+use Rattle.zpl_meaning.specs.Program.{setup_of, first_frame}
+use Rattle.zpl_meaning.specs.Variables.{Frame}
+use Rattle.code_parts.specs.Counts.{count_of, is_counted}
+use Rattle.zpl_lowering.specs.Where.{no_slots, Next}
+use Rattle.zpl_lowering.specs.Lowered.{behind}
+use Rattle.zpl_lowering.specs.Statement.{Calling, Lowering, lowered, lowered_all, lowered_form}
+use Rattle.zpl_lowering.specs.Program.{Entry, where_in, reads_round, in_call, routine_code, call_code, region_rows, global_numbers, globals_made, first_next, entry_calling, entry_code, lowered_program, Framed}
+use Rattle.zpl_lowering.specs.Tables.{flat_tables}
+use Rattle.lowering_sizes.proofs.Costs.{cost, cost_both, no_text}
+use Rattle.lowering_sizes.proofs.Slates.{AreNarrow}
+use Rattle.lowering_sizes.proofs.Known.{HasThree, known_three}
+use Rattle.lowering_sizes.proofs.Statements.{GivensNarrow}
+use Rattle.lowering_sizes.proofs.ProgramLemmas.{AreProcedures, of_found, found_sum, found_all, CallsAreThere, own_cost, call_cost, most_of, both_sums, lowered_body, call_most, entered_most}
+use Rattle.lowering_sizes.proofs.DeclaredLemmas.{calls_there, local_count, var_counts, declared_words, known_regions, frame_holds, numbers_narrow}
+use Rattle.lowering_sizes.proofs.SizeLemmas.{bare_parts, program_apart, none_of}
+use Rattle.lowering_sizes.proofs.Counting.{rows_count, code_count, counts_measure, tables_count}
+use Rattle.lowering_sizes.proofs.QuietSites.{Marks, left_of, right_of, left_both, right_both, Grows, prefixes_quiet}
+use Rattle.lowering_sizes.proofs.CountedForms.{Counts, stmt_calm, under_count, stmt_count}
+
+-- ---- a procedure's body
+
+body_calm : (k : Marks) → Grows k → (reach : Reach) (result : Option Base) (stmts : Stmts) →
+    left_of k (body_sites reach result stmts)
+    ≤ right_of k (body_sites reach result stmts) + cost no_text (stmts_words stmts)
+body_calm k grows reach result NoStmt = omega arith
+body_calm k grows reach result (ThenStmt first rest) = by rest (body_calm k grows reach result rest)
+  where
+    by : (rest : Stmts) →
+        left_of k (body_sites reach result rest)
+        ≤ right_of k (body_sites reach result rest) + cost no_text (stmts_words rest) →
+        left_of k (body_sites reach result (ThenStmt first rest))
+        ≤ right_of k (body_sites reach result (ThenStmt first rest))
+        + cost no_text (stmts_words (ThenStmt first rest))
+    by NoStmt others =
+        omega (
+          arith,
+          stmt_calm k grows (record reach { result = result }) first,
+          cost_both no_text (stmt_words first) [],
+        )
+    by (ThenStmt second rest) others =
+        let behind = ThenStmt second rest in
+        omega (
+          arith,
+          others,
+          stmt_calm k grows reach first,
+          left_both k (stmt_sites reach first) (body_sites reach result behind),
+          right_both k (stmt_sites reach first) (body_sites reach result behind),
+          cost_both no_text (stmt_words first) (stmts_words behind),
+        )
+
+body_count : (k : Marks) (context : Lowering) (next : Next) (stmts : Stmts) (reach : Reach)
+    (result : Option Base) → Counts k context →
+    code_count (lowered_all context next stmts) + left_of k (body_sites reach result stmts)
+    ≤ cost no_text (stmts_words stmts) + right_of k (body_sites reach result stmts)
+body_count k context next NoStmt reach result fits = omega arith
+body_count k context next (ThenStmt first rest) reach result fits =
+    by rest (λ after. body_count k context after rest reach result fits)
+  where
+    by : (rest : Stmts) →
+        ((after : Next) →
+        code_count (lowered_all context after rest) + left_of k (body_sites reach result rest)
+        ≤ cost no_text (stmts_words rest) + right_of k (body_sites reach result rest)) →
+        code_count (lowered_all context next (ThenStmt first rest))
+        + left_of k (body_sites reach result (ThenStmt first rest))
+        ≤ cost no_text (stmts_words (ThenStmt first rest))
+        + right_of k (body_sites reach result (ThenStmt first rest))
+    by NoStmt others =
+        omega (
+          arith,
+          stmt_count k context next first (record reach { result = result }) fits,
+          cost_both no_text (stmt_words first) [],
+        )
+    by (ThenStmt second rest) others =
+        let last = ThenStmt second rest in
+        omega (
+          arith,
+          stmt_count k context next first reach fits,
+          others (behind next (lowered context next first)),
+          left_both k (stmt_sites reach first) (body_sites reach result last),
+          right_both k (stmt_sites reach first) (body_sites reach result last),
+          cost_both no_text (stmt_words first) (stmts_words last),
+        )
+
+outermost_count : (k : Marks) (context : Lowering) (next : Next) (stmt : Stmt) (reach : Reach)
+    (result : Option Base) → Counts k context →
+    code_count (lowered context next stmt) + left_of k (outermost_sites reach result stmt)
+    ≤ cost no_text (stmt_words stmt) + right_of k (outermost_sites reach result stmt)
+outermost_count k context next (Prefixed at prefixes (Block body)) reach result fits =
+    let under = under_prefixes reach prefixes in
+    let n = cost no_text (stmts_words body) + right_of k (body_sites under result body)
+    - left_of k (body_sites under result body) in
+    omega (
+      arith,
+      under_count k false context next prefixes
+          (λ inner after. lowered_form inner after at (Block body)) n fits
+          (λ inner after fit. omega (arith, body_count k inner after body under result fit)),
+      body_calm k fits.grows under result body,
+      prefixes_quiet k fits.grows reach prefixes,
+      left_both k (prefixes_sites reach prefixes) (body_sites under result body),
+      right_both k (prefixes_sites reach prefixes) (body_sites under result body),
+      cost_both no_text (flat_map prefix_words prefixes) (form_words (Block body)),
+      cost_both no_text (stmts_words body) end_words,
+    )
+outermost_count k context next (Prefixed at prefixes (Assign name op value)) reach result fits =
+    stmt_count k context next (Prefixed at prefixes (Assign name op value)) reach fits
+outermost_count k context next (Prefixed at prefixes (Invoke name actuals)) reach result fits =
+    stmt_count k context next (Prefixed at prefixes (Invoke name actuals)) reach fits
+outermost_count k context next (Prefixed at prefixes (If arms otherwise)) reach result fits =
+    stmt_count k context next (Prefixed at prefixes (If arms otherwise)) reach fits
+outermost_count k context next (Prefixed at prefixes (While test body)) reach result fits =
+    stmt_count k context next (Prefixed at prefixes (While test body)) reach fits
+outermost_count k context next (Prefixed at prefixes (Repeat body until test)) reach result fits =
+    stmt_count k context next (Prefixed at prefixes (Repeat body until test)) reach fits
+outermost_count k context next (Prefixed at prefixes (For head body)) reach result fits =
+    stmt_count k context next (Prefixed at prefixes (For head body)) reach fits
+outermost_count k context next (Prefixed at prefixes (Border kind names)) reach result fits =
+    stmt_count k context next (Prefixed at prefixes (Border kind names)) reach fits
+outermost_count k context next (Prefixed at prefixes (Write line items)) reach result fits =
+    stmt_count k context next (Prefixed at prefixes (Write line items)) reach fits
+outermost_count k context next (Prefixed at prefixes (Return value)) reach result fits =
+    stmt_count k context next (Prefixed at prefixes (Return value)) reach fits
+
+-- ---- instances
+
+-- the tokens of the plain assignments of a call, and how many these are
+abbrev plain_in : Program → Instance → List ℕ
+plain_in program instance =
+    flat_map (plain_tokens_at program instance) (instance_sites program instance)
+
+abbrev tokens_in : Program → Instance → ℕ
+tokens_in program instance = sum (plain_in program instance)
+
+abbrev count_in : Program → Instance → ℕ
+count_in program instance = length (plain_in program instance)
+
+abbrev called_from : Program → ℕ → Instance → CallSite → List Instance
+called_from program depth caller call =
+    of_routine (λ routine. instances_from program depth (called_instance program caller call routine))
+    (routine_named program call.name.text)
+
+abbrev call_at : Reach → Name → Exprs → CallSite
+call_at reach name actuals = record { name = name; actuals = actuals; shapes = reach.shapes }
+
+-- what is told of a call that a procedure makes
+abbrev marks_at : Program → ℕ → Instance → Marks
+marks_at program depth caller = record {
+  program = program;
+  instance = caller;
+  less = λ reach name actuals.
+      32 * sum_by (tokens_in program) (called_from program depth caller (call_at reach name actuals));
+  most = λ reach name actuals.
+      sum_by (count_in program) (called_from program depth caller (call_at reach name actuals))
+      + most_of no_text program depth name.text;
+}
+
+abbrev all_called : Program → ℕ → Instance → List CallSite → List Instance
+all_called program depth caller calls = flat_map (called_from program depth caller) calls
+
+sites_left : (program : Program) (depth : ℕ) (caller : Instance) (all : List Site) →
+    AreProcedures all →
+    left_of (marks_at program depth caller) all
+    ≡ 32 * (sum (flat_map (plain_tokens_at program caller) all)
+    + sum_by (tokens_in program) (all_called program depth caller (filter_map call_of all)))
+sites_left program depth caller [] are = refl
+sites_left program depth caller (AtCall reach place name actuals ∷ rest) are =
+    by (is_procedure (kind_of reach.scope name)) are.0 (sites_left program depth caller rest are.1)
+  where
+    by : (b : Bool) → b ≡ true →
+        left_of (marks_at program depth caller) rest
+        ≡ 32 * (sum (flat_map (plain_tokens_at program caller) rest)
+        + sum_by (tokens_in program) (all_called program depth caller (filter_map call_of rest))) →
+        32 * sum_by (tokens_in program)
+        (called_from program depth caller (call_at reach name actuals))
+        + left_of (marks_at program depth caller) rest
+        ≡ 32 * (sum (flat_map (plain_tokens_at program caller) rest)
+        + sum_by (tokens_in program) (all_called program depth caller
+        (cons_option (if b then Some (call_at reach name actuals) else None)
+        (filter_map call_of rest))))
+    by true e others =
+        omega (
+          arith,
+          others,
+          sum_by-append (tokens_in program)
+              (called_from program depth caller (call_at reach name actuals))
+              (all_called program depth caller (filter_map call_of rest)),
+        )
+    by false e others = cc
+sites_left program depth caller (AtStmt reach at prefixes form ∷ rest) are =
+    omega (
+      arith,
+      sites_left program depth caller rest are.1,
+      sum_by-append (λ n. n) (plain_tokens_at program caller (AtStmt reach at prefixes form))
+          (flat_map (plain_tokens_at program caller) rest),
+    )
+sites_left program depth caller (AtWhole reach role expr ∷ rest) are =
+    omega (arith, sites_left program depth caller rest are.1)
+sites_left program depth caller (AtExpr reach rank expr ∷ rest) are =
+    omega (arith, sites_left program depth caller rest are.1)
+sites_left program depth caller (AtNamed reach name ∷ rest) are =
+    omega (arith, sites_left program depth caller rest are.1)
+sites_left program depth caller (AtDir reach dir ∷ rest) are =
+    omega (arith, sites_left program depth caller rest are.1)
+sites_left program depth caller (AtRegion reach hint region ∷ rest) are =
+    omega (arith, sites_left program depth caller rest are.1)
+sites_left program depth caller (AtMask reach prefix mask ∷ rest) are =
+    omega (arith, sites_left program depth caller rest are.1)
+sites_left program depth caller (AtBase base ∷ rest) are =
+    omega (arith, sites_left program depth caller rest are.1)
+sites_left program depth caller (AtPosts reach region posts ∷ rest) are =
+    omega (arith, sites_left program depth caller rest are.1)
+sites_left program depth caller (AtProcedure procedure ∷ rest) are =
+    omega (arith, sites_left program depth caller rest are.1)
+
+sites_right : (program : Program) (depth : ℕ) (caller : Instance) (all : List Site) →
+    AreProcedures all →
+    right_of (marks_at program depth caller) all
+    ≡ length (flat_map (plain_tokens_at program caller) all)
+    + (sum_by (count_in program) (all_called program depth caller (filter_map call_of all))
+    + sum_by (call_cost no_text program depth) (found_all program (filter_map call_of all)))
+sites_right program depth caller [] are = refl
+sites_right program depth caller (AtCall reach place name actuals ∷ rest) are =
+    by (is_procedure (kind_of reach.scope name)) are.0 (sites_right program depth caller rest are.1)
+  where
+    by : (b : Bool) → b ≡ true →
+        right_of (marks_at program depth caller) rest
+        ≡ length (flat_map (plain_tokens_at program caller) rest)
+        + (sum_by (count_in program) (all_called program depth caller (filter_map call_of rest))
+        + sum_by (call_cost no_text program depth) (found_all program (filter_map call_of rest))) →
+        sum_by (count_in program) (called_from program depth caller (call_at reach name actuals))
+        + most_of no_text program depth name.text
+        + right_of (marks_at program depth caller) rest
+        ≡ length (flat_map (plain_tokens_at program caller) rest)
+        + (sum_by (count_in program) (all_called program depth caller
+        (cons_option (if b then Some (call_at reach name actuals) else None)
+        (filter_map call_of rest)))
+        + sum_by (call_cost no_text program depth) (found_all program
+        (cons_option (if b then Some (call_at reach name actuals) else None)
+        (filter_map call_of rest))))
+    by true e others =
+        omega (
+          arith,
+          others,
+          sum_by-append (count_in program)
+              (called_from program depth caller (call_at reach name actuals))
+              (all_called program depth caller (filter_map call_of rest)),
+          found_sum (call_cost no_text program depth) (routine_named program name.text)
+              (found_all program (filter_map call_of rest)),
+        )
+    by false e others = cc
+sites_right program depth caller (AtStmt reach at prefixes form ∷ rest) are =
+    omega (
+      arith,
+      sites_right program depth caller rest are.1,
+      length-append (plain_tokens_at program caller (AtStmt reach at prefixes form))
+          (flat_map (plain_tokens_at program caller) rest),
+    )
+sites_right program depth caller (AtWhole reach role expr ∷ rest) are =
+    omega (arith, sites_right program depth caller rest are.1)
+sites_right program depth caller (AtExpr reach rank expr ∷ rest) are =
+    omega (arith, sites_right program depth caller rest are.1)
+sites_right program depth caller (AtNamed reach name ∷ rest) are =
+    omega (arith, sites_right program depth caller rest are.1)
+sites_right program depth caller (AtDir reach dir ∷ rest) are =
+    omega (arith, sites_right program depth caller rest are.1)
+sites_right program depth caller (AtRegion reach hint region ∷ rest) are =
+    omega (arith, sites_right program depth caller rest are.1)
+sites_right program depth caller (AtMask reach prefix mask ∷ rest) are =
+    omega (arith, sites_right program depth caller rest are.1)
+sites_right program depth caller (AtBase base ∷ rest) are =
+    omega (arith, sites_right program depth caller rest are.1)
+sites_right program depth caller (AtPosts reach region posts ∷ rest) are =
+    omega (arith, sites_right program depth caller rest are.1)
+sites_right program depth caller (AtProcedure procedure ∷ rest) are =
+    omega (arith, sites_right program depth caller rest are.1)
+
+-- ---- calls, down a chain
+
+abbrev CallsCount : Setup → ℕ → Type 0
+CallsCount setup depth =
+    (calling : Calling) (next : Next) → AreNarrow calling.numbers.arrays →
+    GivensNarrow calling.actuals → (instance : Instance) →
+    routine_named setup.program calling.name ≡ Some instance.routine →
+    code_count (call_code setup depth calling next)
+    + 32 * sum_by (tokens_in setup.program) (instances_from setup.program depth instance)
+    ≤ sum_by (count_in setup.program) (instances_from setup.program depth instance)
+    + call_cost no_text setup.program depth instance.routine
+
+none_called : (setup : Setup) (depth : ℕ) (calling : Calling) (next : Next) →
+    routine_named setup.program calling.name ≡ None →
+    code_count (call_code setup depth calling next) ≡ 0
+none_called setup zero calling next e = refl
+none_called setup (suc depth) calling next e =
+    subst
+    (λ found. code_count (routine_code setup true (call_code setup depth) found calling next) ≡ 0)
+    (sym e) refl
+
+call_told : (setup : Setup) (depth : ℕ) → CallsCount setup depth → (caller : Instance)
+    (calling : Calling) (next : Next) → AreNarrow calling.numbers.arrays →
+    GivensNarrow calling.actuals → (reach : Reach) (name : Name) (actuals : Exprs) →
+    calling.name ≡ name.text →
+    code_count (call_code setup depth calling next)
+    + (marks_at setup.program depth caller).less reach name actuals
+    ≤ (marks_at setup.program depth caller).most reach name actuals
+call_told setup depth counts caller calling next narrow given reach name actuals e =
+    by (routine_named setup.program name.text)
+    (ap (λ text. routine_named setup.program text) e)
+  where
+    by : (found : Option Routine) → routine_named setup.program calling.name ≡ found →
+        code_count (call_code setup depth calling next)
+        + 32 * sum_by (tokens_in setup.program)
+        (of_routine (λ routine. instances_from setup.program depth
+        (called_instance setup.program caller (call_at reach name actuals) routine)) found)
+        ≤ sum_by (count_in setup.program)
+        (of_routine (λ routine. instances_from setup.program depth
+        (called_instance setup.program caller (call_at reach name actuals) routine)) found)
+        + of_found (call_cost no_text setup.program depth) found
+    by None same = omega (arith, none_called setup depth calling next same)
+    by (Some routine) same =
+        counts calling next narrow given
+        (called_instance setup.program caller (call_at reach name actuals) routine) same
+
+marks_grow : (setup : Setup) (depth : ℕ) → CallsCount setup depth → (caller : Instance) →
+    Grows (marks_at setup.program depth caller)
+marks_grow setup depth counts caller reach name actuals =
+    let calling : Calling = record {
+      name = name.text;
+      actuals = [];
+      currents = no_slots;
+      result = 0;
+      numbers = record { scalars = []; arrays = [] };
+      line = 0;
+    } in
+    let next : Next = record {
+      scalars = 0;
+      slots = 0;
+      arrays = 0;
+      copies = 0;
+      later = 0;
+      temps = 0;
+    } in
+    omega (arith, call_told setup depth counts caller calling next tt tt reach name actuals refl)
+
+-- a procedure's own rows, and those of its calls
+body_told : (setup : Setup) (depth : ℕ) (instance : Instance) (calling : Calling) (next : Next)
+    (frame : Framed) → HasThree setup.known →
+    AreNarrow frame.numbers.arrays →
+    AreProcedures (routine_sites setup.program unknown_shapes instance.routine) →
+    CallsCount setup depth →
+    code_count (lowered_body setup (call_code setup depth) instance.routine calling frame next)
+    + 32 * sum_by (tokens_in setup.program) (instances_from setup.program (suc depth) instance)
+    ≤ sum_by (count_in setup.program) (instances_from setup.program (suc depth) instance)
+    + expanded setup.program (own_cost no_text setup.program) (suc depth) instance.routine
+body_told setup depth instance calling next frame three narrow there counts =
+    let program = setup.program in
+    let routine = instance.routine in
+    let k = marks_at program depth instance in
+    let context : Lowering =
+    record { place = where_in setup routine calling frame; call = call_code setup depth } in
+    let reach = in_body (scope_of program routine) unknown_shapes in
+    let all = routine_sites program unknown_shapes routine in
+    let calls = filter_map call_of all in
+    omega (
+      arith,
+      outermost_count k context next routine.procedure.body reach routine.procedure.result
+          (record {
+            three = three;
+            narrow = narrow;
+            grows = marks_grow setup depth counts instance;
+            call = call_told setup depth counts instance;
+          }),
+      sites_left program depth instance all there,
+      sites_right program depth instance all there,
+      sum_by-cons (tokens_in program) instance (all_called program depth instance calls),
+      sum_by-cons (count_in program) instance (all_called program depth instance calls),
+      both_sums names_count (expanded program (own_cost no_text program) depth)
+          (callees program routine),
+    )
+
+-- plain assignments are no longer than what there is in all
+told_calm : (setup : Setup) → CallsAreThere setup.program → HasThree setup.known → (depth : ℕ) →
+    CallsCount setup depth → (instance : Instance) (calling : Calling) (next : Next)
+    (frame : Framed) → AreNarrow frame.numbers.arrays →
+    AreProcedures (routine_sites setup.program unknown_shapes instance.routine) →
+    32 * sum_by (tokens_in setup.program) (instances_from setup.program (suc depth) instance)
+    ≤ sum_by (count_in setup.program) (instances_from setup.program (suc depth) instance)
+    + expanded setup.program (own_cost no_text setup.program) (suc depth) instance.routine
+told_calm setup there three depth counts instance calling next frame narrow are =
+    omega (arith, body_told setup depth instance calling next frame three narrow are counts)
+
+calls_count : (setup : Setup) → HasThree setup.known → CallsAreThere setup.program →
+    (depth : ℕ) → CallsCount setup depth
+calls_count setup three there zero calling next narrow given instance e = omega arith
+calls_count setup three there (suc depth) calling next narrow given instance e =
+    let program = setup.program in
+    let routine = instance.routine in
+    let counts = calls_count setup three there depth in
+    let are = there calling.name routine e in
+    let entry : Entry = record { clears = true; line = calling.line } in
+    let inside = in_call (reads_round program routine) next in
+    let left = sum_by (tokens_in program) (instances_from program (suc depth) instance) in
+    let right = sum_by (count_in program) (instances_from program (suc depth) instance)
+    + expanded program (own_cost no_text program) (suc depth) routine in
+    subst
+    (λ found. code_count (routine_code setup true (call_code setup depth) found calling next)
+    + 32 * sum_by (tokens_in program) (instances_from program (suc depth) instance)
+    ≤ sum_by (count_in program) (instances_from program (suc depth) instance)
+    + call_cost no_text program (suc depth) routine)
+    (sym e)
+    (omega (
+      arith,
+      call_most no_text code_count counts_measure setup entry (call_code setup depth) routine calling
+          inside (right - 32 * left) three narrow given
+          (λ frame after narrow.
+          omega (arith, body_told setup depth instance calling after frame three narrow are counts)),
+      told_calm setup there three depth counts instance calling inside
+          (record { names = []; numbers = calling.numbers }) narrow are,
+    ))
+
+-- ---- the whole program
+
+entry_told : (setup : Setup) → HasThree setup.known → CallsAreThere setup.program →
+    (frame : Frame) → AreNarrow (global_numbers frame).arrays → (depth : ℕ) (next : Next) →
+    code_count (entry_code setup depth (entry_calling setup.program frame) next)
+    + 32 * sum_by (tokens_in setup.program)
+    (of_routine (λ entry. instances_from setup.program depth (entry_instance entry))
+    (entry_of setup.program))
+    ≤ sum_by (count_in setup.program)
+    (of_routine (λ entry. instances_from setup.program depth (entry_instance entry))
+    (entry_of setup.program))
+    + (3 * of_found local_count (entry_of setup.program)
+    + of_found (expanded setup.program (own_cost no_text setup.program) depth)
+    (entry_of setup.program))
+entry_told setup three there frame narrow zero next = by (entry_of setup.program)
+  where
+    by : (found : Option Routine) →
+        0 + 32 * sum_by (tokens_in setup.program)
+        (of_routine (λ entry. instances_from setup.program 0 (entry_instance entry)) found)
+        ≤ sum_by (count_in setup.program)
+        (of_routine (λ entry. instances_from setup.program 0 (entry_instance entry)) found)
+        + (3 * of_found local_count found
+        + of_found (expanded setup.program (own_cost no_text setup.program) 0) found)
+    by None = omega arith
+    by (Some routine) = omega arith
+entry_told setup three there frame narrow (suc depth) next =
+    by (entry_of setup.program) (there setup.program.name.text) there
+  where
+    by : (found : Option Routine) →
+        ((routine : Routine) → found ≡ Some routine →
+        AreProcedures (routine_sites setup.program unknown_shapes routine)) →
+        CallsAreThere setup.program →
+        code_count
+        (routine_code setup false (call_code setup depth) found (entry_calling setup.program frame)
+        next)
+        + 32 * sum_by (tokens_in setup.program)
+        (of_routine (λ entry. instances_from setup.program (suc depth) (entry_instance entry)) found)
+        ≤ sum_by (count_in setup.program)
+        (of_routine (λ entry. instances_from setup.program (suc depth) (entry_instance entry)) found)
+        + (3 * of_found local_count found
+        + of_found (expanded setup.program (own_cost no_text setup.program) (suc depth)) found)
+    by None there every = omega arith
+    by (Some routine) there every =
+        let program = setup.program in
+        let instance = entry_instance routine in
+        let calling = entry_calling program frame in
+        let counts = calls_count setup three every depth in
+        let are = there routine refl in
+        let entry : Entry = record { clears = false; line = calling.line } in
+        let inside = in_call (reads_round program routine) next in
+        let left = sum_by (tokens_in program) (instances_from program (suc depth) instance) in
+        let right = sum_by (count_in program) (instances_from program (suc depth) instance)
+        + expanded program (own_cost no_text program) (suc depth) routine in
+        omega (
+          arith,
+          entered_most no_text code_count counts_measure setup entry (call_code setup depth) routine
+              calling inside (right - 32 * left) three narrow
+              (λ frame after narrow.
+              omega (arith, body_told setup depth instance calling after frame three narrow are counts)),
+          told_calm setup every three depth counts instance calling inside
+              (record { names = []; numbers = calling.numbers }) narrow are,
+        )
+
+region_rows_count : (slot : ℕ) (regions : List (Computed Region)) →
+    rows_count (region_rows slot regions) ≡ length regions
+region_rows_count slot [] = refl
+region_rows_count slot (one ∷ rest) = omega (arith, region_rows_count (suc slot) rest)
+
+sum_in : (program : Program) (all : List Instance) →
+    sum (flat_map (plain_in program) all) ≡ sum_by (tokens_in program) all
+sum_in program [] = refl
+sum_in program (instance ∷ rest) =
+    omega (
+      arith,
+      sum_in program rest,
+      sum_by-append (λ n. n) (plain_in program instance) (flat_map (plain_in program) rest),
+      sum_by-cons (tokens_in program) instance rest,
+    )
+
+pub count_law : (program : Program) (settings : List Setting) (tokens : ℕ) →
+    IsFaultless program → length (program_words program) ≤ tokens →
+    count_of is_counted (flat_tables program settings)
+    ≤ plain_assignments program + 32 * (other_size program tokens + 1)
+count_law program settings tokens faultless fit =
+    let known = known_of program settings in
+    let borders = borders_of program in
+    let frame = first_frame program known borders in
+    let setup = setup_of program known borders frame in
+    let three = known_three program settings in
+    let held = frame_holds program known borders three in
+    let next = behind (first_next program) (globals_made known frame) in
+    omega (
+      arith,
+      tables_count (1 ∷ 0 ∷ 0 ∷ []) (lowered_program program settings),
+      entry_told setup three (calls_there program faultless) frame
+          (numbers_narrow frame (var_counts program.decls) held) longest_chain next,
+      region_rows_count 0 known.regions,
+      known_regions program settings,
+      declared_words program program.name.text,
+      sum_in program (instances_of program),
+      length-flat_map (plain_in program) (instances_of program),
+      program_apart program (own_cost no_text program) body_tokens (λ routine. 0)
+          (λ routine. sum_by names_count (callees program routine))
+          (λ routine. omega (arith, bare_parts (stmt_words routine.procedure.body))),
+      none_of program,
+    )

@@ -1,0 +1,46 @@
+//! The laws of the sizes of lowered programs.
+ghost use Rattle.std.specs.Prelude.{[], All, Contains, List, length, sum_by, ℕ, ◌*◌, ◌+◌, ◌≤◌};
+ghost use Rattle.std.specs.List.{IsDistinct};
+ghost use Rattle.std.specs.Str.{bytes_eq};
+ghost use Rattle.zpl_tree.specs.Syntax.{Program};
+ghost use Rattle.zpl_tree.specs.Spelling.{program_words};
+ghost use Rattle.zpl_names.specs.Accepted.{IsFaultless};
+ghost use Rattle.zpl_names.specs.Expansion.{other_size, plain_assignments, source_size};
+ghost use Rattle.zpl_binding.specs.Settings.{Setting};
+ghost use Rattle.code_parts.specs.Counts.{code_size, count_of, is_counted};
+ghost use Rattle.zpl_lowering.specs.Tables.{flat_tables};
+ghost use Rattle.lowering_sizes.specs.Sizes.{HoldsItsWords, printed_bytes};
+ghost use Rattle.lowering_sizes.specs.Texts.{texts_of};
+
+/// The tables of a program without faults are at most 32 times as large as the program with its
+/// calls expanded, but for the texts that it prints: each call has those of its procedure anew.
+pub fn sizes()
+    ensures whole { (program : Program) (settings : List Setting) → IsFaultless program →
+        HoldsItsWords program → code_size (flat_tables program settings) ≤
+        32 * (source_size program + 1) + printed_bytes program }
+    ensures bare { (program : Program) (settings : List Setting) → IsFaultless program →
+        HoldsItsWords program →
+        code_size (record (flat_tables program settings) { texts = [] }) ≤
+        32 * (source_size program + 1) }
+{}
+
+/// Each text of the tables is a newline or what a string of the program stands for, and of such
+/// texts those that differ have no more bytes than the source has, and one: that of the newline.
+pub fn texts_are_strings()
+    ensures strings { (program : Program) (settings : List Setting) → IsFaultless program →
+        HoldsItsWords program →
+        All (λ text. Contains (texts_of program) text) (flat_tables program settings).texts }
+    ensures different { (program : Program) (texts : List (List ℕ)) → HoldsItsWords program →
+        All (λ text. Contains (texts_of program) text) texts → IsDistinct bytes_eq texts →
+        sum_by length texts ≤ length program.source + 1 }
+{}
+
+/// Of its rows, those that statements are made of are at most one for each plain assignment, and 32
+/// for each token, parameter and local name that stands in none, where the text has at least as
+/// many tokens as the tree has words.
+pub fn counted()
+    ensures { (program : Program) (settings : List Setting) (tokens : ℕ) → IsFaultless program →
+        length (program_words program) ≤ tokens →
+        count_of is_counted (flat_tables program settings) ≤
+        plain_assignments program + 32 * (other_size program tokens + 1) }
+{}
