@@ -3,6 +3,8 @@
 
 mod codes;
 mod faults;
+mod flats;
 
 pub use codes::code_of;
 pub use faults::FlatFault;
+pub use flats::flat_of;

@@ -1,1 +1,2 @@
+pub mod Compilable
 pub mod Compile

@@ -1,0 +1,44 @@
+use Rattle.std.proofs.Common.{◌≡◌, subst}
+use Rattle.zpl_tree.specs.View.{syntax_of}
+use Rattle.node_form.specs.declared.tables.Tables.{Tables}
+use Rattle.node_form.specs.Fits.{Fits}
+use Rattle.code_layout.specs.Room.{HasRoom}
+use Rattle.zpl_lowering.specs.Tables.{flat_tables}
+use Rattle.flat_code.specs.Passes as flat
+use Rattle.flat_code.specs.Passes.{node_tables}
+use Rattle.program_code.specs.Faults.{of_flat}
+use Rattle.program_code.specs.Outcome.{IsUncompiled, build_with}
+use Rattle.program_code.proofs.OutcomeLemmas.{counted_as, made, passed_on, passes_refuse}
+use Rattle.program_code.proofs.programs.compile.Goals as goal
+
+pub returns-in_err-code-clause-refused : goal.returns-in_err-code-clause-refused
+returns-in_err-code-clause-refused c = λ settings binds.
+    let program = syntax_of c.args.typed.now.program.now in
+    let build = c.args.build in
+    let tables = c.in_ok-tables.tables in
+    let are : tables ≡ flat_tables program settings =
+    c.in_ok-tables.ensures.lowered settings binds.lists in
+    let counted = counted_as build program settings c.in_ok-tables.ensures.counted in
+    let same : c.in-Some.flat ≡ tables = c.in-Some.ensures.0 in
+    passed_on (IsUncompiled (build_with build settings) program)
+    c.from_residual-in_err-code.result (of_flat c.in_err-code.field-0.0)
+    c.from_residual-in_err-code.ensures.1
+    (passes_refuse build program settings counted tables are c.in-Some.ensures.1
+    c.in_err-code.field-0.0
+    (subst (λ t. flat.Refuses (node_tables build.grid t) c.in_err-code.field-0.0) same
+    c.in_err-code.ensures.refused))
+
+pub returns-clause-compiled : goal.returns-clause-compiled
+returns-clause-compiled c = λ settings binds.
+    let program = syntax_of c.args.typed.now.program.now in
+    let build = c.args.build in
+    let tables = c.in_ok-tables.tables in
+    let are : tables ≡ flat_tables program settings =
+    c.in_ok-tables.ensures.lowered settings binds.lists in
+    let counted = counted_as build program settings c.in_ok-tables.ensures.counted in
+    let same : c.in-Some.flat ≡ tables = c.in-Some.ensures.0 in
+    let to = λ (t : Tables). node_tables build.grid t in
+    made build program settings counted tables are c.in-Some.ensures.1 c.in_ok-code.code
+    (subst (λ t. c.in_ok-code.code ≡ to t) same c.in_ok-code.ensures.code)
+    (subst (λ t. Fits (to t)) same c.in_ok-code.ensures.fits)
+    (subst (λ t. HasRoom (to t)) same c.in_ok-code.ensures.room)

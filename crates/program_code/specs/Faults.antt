@@ -1,0 +1,18 @@
+-- The faults of the parts as those of the whole.
+use Rattle.flat_code.specs.declared.faults.FlatFault.{FlatFault}
+use Rattle.flat_code.specs.declared.faults.FlatFault.TheVariants as flat
+use Rattle.zpl_lower.specs.declared.faults.LowerFault.{LowerFault}
+use Rattle.zpl_lower.specs.declared.faults.LowerFault.TheVariants as lowering
+use Rattle.program_code.specs.declared.faults.CompileFault.{CompileFault}
+use Rattle.program_code.specs.declared.faults.CompileFault.TheVariants.{NoMemory, NotBuilt}
+use Rattle.program_code.specs.declared.faults.CompileFault.TheVariants.{TooManyNodes, TooManyStatements, TooMuchStorage}
+
+abbrev pub of_lowering : LowerFault → CompileFault
+of_lowering lowering.TooManyStatements = TooManyStatements
+of_lowering lowering.TooManyNodes = TooManyNodes
+of_lowering lowering.NoMemory = NoMemory
+
+abbrev pub of_flat : FlatFault → CompileFault
+of_flat flat.NotBuilt = NotBuilt
+of_flat flat.TooMuchStorage = TooMuchStorage
+of_flat flat.NoMemory = NoMemory

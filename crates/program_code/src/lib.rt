@@ -1,0 +1,8 @@
+//! The node code of a program, for any grid: it is lowered, and the passes follow.
+#![tactic(auto)]
+
+mod faults;
+mod programs;
+
+pub use faults::{Build, CompileFault};
+pub use programs::compile;
