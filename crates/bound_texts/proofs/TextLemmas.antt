@@ -30,7 +30,7 @@ use Rattle.mean_claims.specs.Text.{IsUnboundWith}
 use Rattle.call_answers.specs.Refusals.{of_lex, of_parse, of_judge, of_bind}
 use Rattle.call_answers.specs.declared.refusals.Refusal.{Refusal}
 use Rattle.call_answers.specs.declared.refusals.Refusal.TheVariants.{Lex, Parse, Judge, Bind}
-use Rattle.call_answers.specs.declared.refusals.Refusal.TheVariants.{NotBuilt, NoMemory}
+use Rattle.call_answers.specs.declared.refusals.Refusal.TheVariants.{NoMemory}
 use Rattle.bound_texts.specs.Refused.{IsOnlyTree, IsRefused, IsRejected, IsTreeless, IsUnread}
 
 -- a text has one list of tokens
@@ -155,7 +155,6 @@ unread_is_refused text settings (Lex fault) h = h
 unread_is_refused text settings (Parse fault) h = h
 unread_is_refused text settings (Judge fault) h = absurd h
 unread_is_refused text settings (Bind fault) h = absurd h
-unread_is_refused text settings NotBuilt h = h
 unread_is_refused text settings NoMemory h = tt
 
 pub rejected_is_refused : (text : List ℕ) (settings : List Setting) (refusal : Refusal)
@@ -164,7 +163,6 @@ rejected_is_refused text settings (Lex fault) h = absurd h
 rejected_is_refused text settings (Parse fault) h = absurd h
 rejected_is_refused text settings (Judge fault) h = h
 rejected_is_refused text settings (Bind fault) h = h
-rejected_is_refused text settings NotBuilt h = h
 rejected_is_refused text settings NoMemory h = tt
 
 pub refused_on : {A : Type 0} (text : List ℕ) (settings : List Setting) (r : Result A Refusal)

@@ -11,7 +11,7 @@ use Rattle.call_claims.specs.Texts.{bind_name, settings_text}
 use Rattle.call_claims.specs.Accepted.{IsFaulty}
 use Rattle.mean_claims.specs.Text.{IsUnboundWith}
 use Rattle.call_answers.specs.declared.refusals.Refusal.{Refusal}
-use Rattle.call_answers.specs.declared.refusals.Refusal.TheVariants.{Lex, Parse, Judge, Bind, NotBuilt}
+use Rattle.call_answers.specs.declared.refusals.Refusal.TheVariants.{Lex, Parse, Judge, Bind}
 use Rattle.call_answers.specs.declared.refusals.Refusal.TheVariants.{NoMemory}
 use Rattle.call_answers.specs.Refusals.{told_of}
 
@@ -34,7 +34,6 @@ IsUnread text (Parse fault) =
     IsTreeless text × IsFault text (told_of text (Parse fault))
 IsUnread text (Judge fault) = ⊥
 IsUnread text (Bind fault) = ⊥
-IsUnread text NotBuilt = ⊥
 IsUnread text NoMemory = ⊤
 
 -- Its tree has a fault of names, ranks or types that is told; or a fault of the settings, or of its
@@ -47,7 +46,6 @@ IsRejected text settings (Judge fault) =
 IsRejected text settings (Bind fault) =
     (kind : BindFault) × IsUnboundWith text settings kind
     × (told_of text (Bind fault) ≡ settings_text (bind_name kind))
-IsRejected text settings NotBuilt = ⊥
 IsRejected text settings NoMemory = ⊤
 
 -- It is refused so, or so.
@@ -56,5 +54,4 @@ IsRefused text settings (Lex fault) = IsUnread text (Lex fault)
 IsRefused text settings (Parse fault) = IsUnread text (Parse fault)
 IsRefused text settings (Judge fault) = IsRejected text settings (Judge fault)
 IsRefused text settings (Bind fault) = IsRejected text settings (Bind fault)
-IsRefused text settings NotBuilt = ⊥
 IsRefused text settings NoMemory = ⊤

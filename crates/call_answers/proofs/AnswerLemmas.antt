@@ -1,10 +1,14 @@
 -- Answers by their statuses.
 use Rattle.std.proofs.Common.{◌≡◌, ◌≢◌, ℕ, ◌⊎◌, refl, sym, ◌∙◌, ap, inl, inr, arith}
 use Rattle.call_claims.specs.Decided.{IsDecided}
-use Rattle.call_claims.specs.declared.status.TheConstants.{PUT_FAILED, USAGE}
+use Rattle.call_claims.specs.declared.status.TheConstants.{PUT_FAILED, REFUSED, UNBOUND}
+use Rattle.call_claims.specs.declared.status.TheConstants.{USAGE}
 use Rattle.call_answers.specs.Answers.{status_of, stop_status}
 use Rattle.call_answers.specs.declared.answers.Answer.{Answer}
 use Rattle.call_answers.specs.declared.answers.Answer.TheVariants as answer
+use Rattle.call_answers.specs.Refusals.{build_status}
+use Rattle.call_answers.specs.declared.refusals.BuildFault.{BuildFault}
+use Rattle.call_answers.specs.declared.refusals.BuildFault.TheVariants as build
 use Rattle.call_answers.specs.declared.answers.Stop.{Stop}
 use Rattle.call_answers.specs.declared.answers.Stop.TheVariants as stop
 
@@ -24,6 +28,33 @@ stopped_other stop.TurnLimit =
     record { put = λ e. omega arith; memory = λ e. omega arith; usage = λ e. omega arith }
 stopped_other (stop.Stuck p kind) =
     record { put = λ e. omega arith; memory = λ e. omega arith; usage = λ e. omega arith }
+stopped_other stop.TooManyMoves =
+    record { put = λ e. omega arith; memory = λ e. omega arith; usage = λ e. omega arith }
+
+build_other : (f : BuildFault) → IsOther (build_status f)
+build_other build.BadShape =
+    record { put = λ e. omega arith; memory = λ e. omega arith; usage = λ e. omega arith }
+build_other build.TooManyStatements =
+    record { put = λ e. omega arith; memory = λ e. omega arith; usage = λ e. omega arith }
+build_other build.TooManyNodes =
+    record { put = λ e. omega arith; memory = λ e. omega arith; usage = λ e. omega arith }
+build_other build.NotBuilt =
+    record { put = λ e. omega arith; memory = λ e. omega arith; usage = λ e. omega arith }
+build_other build.TooMuchStorage =
+    record { put = λ e. omega arith; memory = λ e. omega arith; usage = λ e. omega arith }
+
+-- that of a text without code for a build is one of two
+pub build_refuses : (f : BuildFault) → (build_status f ≡ REFUSED) ⊎ (build_status f ≡ UNBOUND)
+build_refuses build.BadShape = inr refl
+build_refuses build.TooManyStatements = inl refl
+build_refuses build.TooManyNodes = inl refl
+build_refuses build.NotBuilt = inl refl
+build_refuses build.TooMuchStorage = inr refl
+
+-- so it is no other
+pub build_not : (f : BuildFault) (n : ℕ) → n ≢ REFUSED → n ≢ UNBOUND → build_status f ≢ n
+build_not f n other also e = elim (build_refuses f)
+    [ inl is ↦ other (sym e ∙ is) | inr is ↦ also (sym e ∙ is) ]
 
 -- the status of a failed put is that answer's alone
 pub failed_of : (a : Answer) → status_of a ≡ PUT_FAILED → a ≡ answer.PutFailed
@@ -34,6 +65,7 @@ failed_of (answer.Unreadable file) e = absurd (omega arith)
 failed_of (answer.TooLong file) e = absurd (omega arith)
 failed_of (answer.Refused refusal line) e = absurd (omega arith)
 failed_of (answer.Unbound fault) e = absurd (omega arith)
+failed_of (answer.Unbuilt fault) e = absurd ((build_other fault).put e)
 failed_of (answer.BadLine line) e = absurd (omega arith)
 failed_of (answer.BadTable line) e = absurd (omega arith)
 failed_of (answer.BadItem at) e = absurd (omega arith)
@@ -48,6 +80,7 @@ usage_of (answer.Unreadable file) e = absurd (omega arith)
 usage_of (answer.TooLong file) e = absurd (omega arith)
 usage_of (answer.Refused refusal line) e = absurd (omega arith)
 usage_of (answer.Unbound fault) e = absurd (omega arith)
+usage_of (answer.Unbuilt fault) e = absurd ((build_other fault).usage e)
 usage_of (answer.BadLine line) e = absurd (omega arith)
 usage_of (answer.BadTable line) e = absurd (omega arith)
 usage_of (answer.BadItem at) e = absurd (omega arith)
@@ -77,6 +110,8 @@ kind_of (answer.Refused refusal line) =
     decided_by (answer.Refused refusal line) (λ e. omega arith) (λ e. omega arith)
 kind_of (answer.Unbound fault) =
     decided_by (answer.Unbound fault) (λ e. omega arith) (λ e. omega arith)
+kind_of (answer.Unbuilt fault) =
+    decided_by (answer.Unbuilt fault) (build_other fault).put (build_other fault).memory
 kind_of (answer.BadLine line) =
     decided_by (answer.BadLine line) (λ e. omega arith) (λ e. omega arith)
 kind_of (answer.BadTable line) =

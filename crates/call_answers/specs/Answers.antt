@@ -3,6 +3,7 @@
 --   status_of      the status that the program ends with
 --   told_of        what is told on the stream for errors: a text, and the report behind it
 --   NeedsNoMemory  answers of which that takes no memory
+--   IsUnrun        answers before anything was run
 --   answer_of      the answer of a text's refusal
 use Rattle.std.specs.Prelude.{◌≡◌, ℕ, List, [], ◌++◌, codes, Option, Some, None, ⊤}
 use Rattle.zpl_text.specs.Lines.{line_at}
@@ -16,7 +17,9 @@ use Rattle.call_claims.specs.declared.status.TheConstants.{DONE, USAGE, UNREADAB
 use Rattle.call_claims.specs.declared.status.TheConstants.{REFUSED, UNBOUND, TRAPPED, TURN_LIMIT}
 use Rattle.call_claims.specs.declared.status.TheConstants.{PUT_FAILED, NO_MEMORY}
 use Rattle.exec_claims.specs.Texts.{order_refused_text, listing_refused_text, report_text, stuck_text}
+use Rattle.exec_claims.specs.Texts.{too_many_moves_text}
 use Rattle.exec_claims.specs.declared.status.TheConstants.{ORDER_REFUSED, LISTING_REFUSED, STUCK}
+use Rattle.exec_claims.specs.declared.status.TheConstants.{TOO_MANY_MOVES}
 use Rattle.call_answers.specs.declared.answers.Answer.{Answer}
 use Rattle.call_answers.specs.declared.answers.Answer.TheVariants as answer
 use Rattle.call_answers.specs.declared.answers.Stop.{Stop}
@@ -24,9 +27,9 @@ use Rattle.call_answers.specs.declared.answers.Stop.TheVariants as stop
 use Rattle.call_answers.specs.declared.telling.Piece.{Piece}
 use Rattle.call_answers.specs.declared.telling.Piece.TheVariants.{Fixed, Made}
 use Rattle.call_answers.specs.declared.refusals.Refusal.{Refusal}
-use Rattle.call_answers.specs.declared.refusals.Refusal.TheVariants.{Lex, Parse, Judge, Bind, NotBuilt}
+use Rattle.call_answers.specs.declared.refusals.Refusal.TheVariants.{Lex, Parse, Judge, Bind}
 use Rattle.call_answers.specs.declared.refusals.Refusal.TheVariants.{NoMemory}
-use Rattle.call_answers.specs.Refusals.{offset_of, refusal_text}
+use Rattle.call_answers.specs.Refusals.{build_status, build_text, offset_of, refusal_text}
 
 -- ---- how work stopped
 abbrev pub stop_status : Stop → ℕ
@@ -34,6 +37,7 @@ stop_status stop.Done = DONE
 stop_status (stop.Trap kind line) = TRAPPED
 stop_status stop.TurnLimit = TURN_LIMIT
 stop_status (stop.Stuck p kind) = STUCK
+stop_status stop.TooManyMoves = TOO_MANY_MOVES
 
 -- how it is called that a processor is stuck, or that none can move
 abbrev pub kind_text : StuckKind → List ℕ
@@ -47,6 +51,7 @@ stop_text stop.Done = []
 stop_text (stop.Trap kind line) = trap_text kind line
 stop_text stop.TurnLimit = turn_limit_text
 stop_text (stop.Stuck p kind) = stuck_text p (kind_text kind)
+stop_text stop.TooManyMoves = too_many_moves_text
 
 -- the counts, where they are to be told
 abbrev pub counts_text : Option Counts → List ℕ
@@ -61,6 +66,7 @@ status_of (answer.Unreadable file) = UNREADABLE
 status_of (answer.TooLong file) = TOO_LONG
 status_of (answer.Refused refusal line) = REFUSED
 status_of (answer.Unbound fault) = UNBOUND
+status_of (answer.Unbuilt fault) = build_status fault
 status_of (answer.BadLine line) = LISTING_REFUSED
 status_of (answer.BadTable line) = LISTING_REFUSED
 status_of (answer.BadItem at) = ORDER_REFUSED
@@ -75,6 +81,7 @@ text_of (answer.Unreadable file) = unreadable_text file.now
 text_of (answer.TooLong file) = too_long_text file.now
 text_of (answer.Refused refusal line) = refusal_text refusal line
 text_of (answer.Unbound fault) = settings_text (fault_name fault)
+text_of (answer.Unbuilt fault) = build_text fault
 text_of (answer.BadLine line) = listing_refused_text (codes "BadLine") line
 text_of (answer.BadTable line) = listing_refused_text (codes "BadTable") line
 text_of (answer.BadItem at) = order_refused_text at
@@ -99,12 +106,18 @@ bytes_of (Made bytes) = bytes.items
 abbrev pub StopNeedsNoMemory : Stop → Type 0
 StopNeedsNoMemory stop.Done = ⊤
 StopNeedsNoMemory stop.TurnLimit = ⊤
+StopNeedsNoMemory stop.TooManyMoves = ⊤
 StopNeedsNoMemory s = ⊥
 
 abbrev pub NeedsNoMemory : Answer → Type 0
 NeedsNoMemory answer.Usage = ⊤
 NeedsNoMemory (answer.Stopped stop report) = StopNeedsNoMemory stop × (report ≡ None)
 NeedsNoMemory a = ⊥
+
+-- ---- answers before anything was run
+abbrev pub IsUnrun : Answer → Type 0
+IsUnrun (answer.Stopped stop report) = ⊥
+IsUnrun a = ⊤
 
 -- ---- the answer of a text's refusal
 abbrev pub answer_of : List ℕ → Refusal → Answer
@@ -115,4 +128,3 @@ answer_of text (Parse fault) =
 answer_of text (Judge fault) =
     answer.Refused (Judge fault) (line_at text (offset_of (Judge fault)))
 answer_of text (Bind fault) = answer.Unbound fault
-answer_of text NotBuilt = answer.Refused NotBuilt (line_at text (offset_of NotBuilt))

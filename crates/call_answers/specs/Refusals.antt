@@ -13,9 +13,13 @@ use Rattle.rank_types.specs.Faults.{judge_name, judge_offset}
 use Rattle.zpl_bind.specs.declared.faults.BindFault.{BindFault}
 use Rattle.zpl_bind.specs.declared.faults.BindFault.TheVariants as bind
 use Rattle.zpl_bind.specs.Fault.{fault_name}
-use Rattle.call_claims.specs.Texts.{fault_text, settings_text, too_deep_text}
+use Rattle.call_claims.specs.Texts.{bad_shape_text, fault_text, settings_text, too_deep_text}
+use Rattle.call_claims.specs.Texts.{too_much_storage_text, whole_text}
+use Rattle.call_claims.specs.declared.status.TheConstants.{REFUSED, UNBOUND}
+use Rattle.call_answers.specs.declared.refusals.BuildFault.{BuildFault}
+use Rattle.call_answers.specs.declared.refusals.BuildFault.TheVariants as build
 use Rattle.call_answers.specs.declared.refusals.Refusal.{Refusal}
-use Rattle.call_answers.specs.declared.refusals.Refusal.TheVariants.{Lex, Parse, Judge, Bind, NotBuilt}
+use Rattle.call_answers.specs.declared.refusals.Refusal.TheVariants.{Lex, Parse, Judge, Bind}
 use Rattle.call_answers.specs.declared.refusals.Refusal.TheVariants.{NoMemory}
 
 -- ---- from a layer's faults
@@ -42,7 +46,6 @@ offset_of (Lex fault) = lexical_offset fault
 offset_of (Parse fault) = parse_offset fault
 offset_of (Judge fault) = judge_offset fault
 offset_of (Bind fault) = 0
-offset_of NotBuilt = 0
 offset_of NoMemory = 0
 
 -- the piece, for the line of the place
@@ -53,8 +56,22 @@ refusal_text (Parse parse.TooDeep) line = too_deep_text
 refusal_text (Parse parse.NoMemory) line = []
 refusal_text (Judge fault) line = fault_text (judge_name fault) line (judge_offset fault)
 refusal_text (Bind fault) line = settings_text (fault_name fault)
-refusal_text NotBuilt line = fault_text (codes "NotBuilt") line 0
 refusal_text NoMemory line = []
 
 abbrev pub told_of : List ℕ → Refusal → List ℕ
 told_of text refusal = refusal_text refusal (line_at text (offset_of refusal))
+
+-- ---- of a build
+abbrev pub build_status : BuildFault → ℕ
+build_status build.BadShape = UNBOUND
+build_status build.TooManyStatements = REFUSED
+build_status build.TooManyNodes = REFUSED
+build_status build.NotBuilt = REFUSED
+build_status build.TooMuchStorage = UNBOUND
+
+abbrev pub build_text : BuildFault → List ℕ
+build_text build.BadShape = bad_shape_text
+build_text build.TooManyStatements = whole_text (codes "TooManyStatements")
+build_text build.TooManyNodes = whole_text (codes "TooManyNodes")
+build_text build.NotBuilt = fault_text (codes "NotBuilt") 1 0
+build_text build.TooMuchStorage = too_much_storage_text

@@ -3,7 +3,7 @@ ghost use Rattle.std.specs.Prelude.{◌≡◌, ◌≤◌, length};
 ghost use Rattle.zpl_text.specs.declared.TheConstants.{MOST_SOURCE};
 ghost use Rattle.call_answers.specs.Answers.{answer_of, status_of, stop_status};
 
-use crate::refusals::Refusal;
+use crate::refusals::{BuildFault, Refusal};
 use call_claims::status as common;
 use exec_claims::status;
 use grid_sim::{Counts, StuckKind};
@@ -23,6 +23,8 @@ pub enum Stop {
     /// This processor's next turn is stuck; or none can move, and this is the first that has not
     /// ended.
     Stuck(u32, StuckKind),
+    /// A run whose time is told makes more moves than a timetable takes.
+    TooManyMoves,
 }
 
 /// What came of a call.
@@ -38,6 +40,8 @@ pub enum Answer<'a> {
     Refused(Refusal, u32),
     /// The text's declarations have a fault.
     Unbound(BindFault),
+    /// The text has no code for the build.
+    Unbuilt(BuildFault),
     /// This line of the listing has no form that can stand there.
     BadLine(u32),
     /// This line of the listing breaks a rule.
@@ -75,6 +79,7 @@ impl<'a> Answer<'a> {
             Answer::TooLong(_) => common::TOO_LONG,
             Answer::Refused(..) => common::REFUSED,
             Answer::Unbound(_) => common::UNBOUND,
+            Answer::Unbuilt(fault) => fault.status(),
             Answer::BadLine(_) | Answer::BadTable(_) => status::LISTING_REFUSED,
             Answer::BadItem(_) => status::ORDER_REFUSED,
             Answer::Stopped(stop, _) => stop.status(),
@@ -94,6 +99,7 @@ impl Stop {
             Stop::Trap(..) => common::TRAPPED,
             Stop::TurnLimit => common::TURN_LIMIT,
             Stop::Stuck(..) => status::STUCK,
+            Stop::TooManyMoves => status::TOO_MANY_MOVES,
         }
     }
 }

@@ -11,6 +11,6 @@ mod work;
 
 pub use answers::{Answer, Stop};
 pub use fetches::text_of_file;
-pub use refusals::Refusal;
+pub use refusals::{BuildFault, Refusal};
 pub use telling::told;
 pub use work::{Work, answered};

@@ -2,6 +2,7 @@
 ghost use Rattle.std.specs.Prelude.{◌≡◌, ◌++◌, codes, IfOk, OnOk};
 ghost use Rattle.std.specs.Fmt.{decimal};
 ghost use Rattle.call_claims.specs.Texts.{fault_text, settings_text, trap_name, trap_text};
+ghost use Rattle.call_claims.specs.Texts.{whole_text};
 ghost use Rattle.exec_claims.specs.Texts.{listing_refused_text, order_refused_text};
 ghost use Rattle.exec_claims.specs.Texts.{report_text, stuck_text};
 ghost use Rattle.call_answers.specs.Answers.{kind_text};
@@ -39,6 +40,16 @@ pub fn fault_line(alloc: Global, name: &str, line: u32, byte: u32) -> Result<Vec
     write_decimal(u128::from(line), &mut text)?;
     text.extend_from_slice(b", byte ")?;
     write_decimal(u128::from(byte), &mut text)?;
+    text.extend_from_slice(b"\n")?;
+    Ok(text)
+}
+
+/// A line with a fault of a whole text.
+pub fn whole_line(alloc: Global, name: &str) -> Result<Vec<u8>, AllocError>
+    ensures { IfOk result (λ text. text.items ≡ whole_text name.now) }
+{
+    let mut text = Vec::from_slice(alloc, b"refused: ")?;
+    text.extend_from_slice(name.as_bytes())?;
     text.extend_from_slice(b"\n")?;
     Ok(text)
 }

@@ -1,8 +1,10 @@
 //! Why a text is refused.
 ghost use Rattle.std.specs.Prelude.{◌≡◌};
 ghost use Rattle.call_answers.specs.declared.refusals.Refusal.TheVariants.{NoMemory};
-ghost use Rattle.call_answers.specs.Refusals.{of_bind, of_judge, of_lex, of_parse, offset_of};
+ghost use Rattle.call_answers.specs.Refusals.{build_status, of_bind, of_judge, of_lex, of_parse};
+ghost use Rattle.call_answers.specs.Refusals.{offset_of};
 
+use call_claims::status;
 use rank_types::Fault;
 use std::alloc::AllocError;
 use zpl_bind::BindFault;
@@ -20,8 +22,6 @@ pub enum Refusal {
     Judge(Fault),
     /// Its declarations have a fault.
     Bind(BindFault),
-    /// It has no small program.
-    NotBuilt,
     /// Memory was wanting.
     NoMemory,
 }
@@ -35,7 +35,36 @@ impl Refusal {
             Refusal::Lex(fault) => fault.at(),
             Refusal::Parse(fault) => fault.at(),
             Refusal::Judge(fault) => fault.at(),
-            Refusal::Bind(_) | Refusal::NotBuilt | Refusal::NoMemory => 0,
+            Refusal::Bind(_) | Refusal::NoMemory => 0,
+        }
+    }
+}
+
+/// Why a text has no code for a build, where it isn't refused, nor are its settings.
+#[derive(Clone, Copy)]
+pub enum BuildFault {
+    /// The grid is none.
+    BadShape,
+    /// The program has too many statements.
+    TooManyStatements,
+    /// The expressions of the program have too many nodes.
+    TooManyNodes,
+    /// The tables that it is compiled to break a rule of node code.
+    NotBuilt,
+    /// The processors of the grid would hold too much of its arrays.
+    TooMuchStorage,
+}
+
+impl BuildFault {
+    /// The status that the program ends with.
+    pub fn status(self) -> u8
+        ensures { result ≡ build_status self }
+    {
+        match self {
+            BuildFault::BadShape | BuildFault::TooMuchStorage => status::UNBOUND,
+            BuildFault::TooManyStatements | BuildFault::TooManyNodes | BuildFault::NotBuilt => {
+                status::REFUSED
+            }
         }
     }
 }

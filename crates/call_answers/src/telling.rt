@@ -5,15 +5,15 @@ ghost use Rattle.zpl_io.specs.Sink.{StopsAtFault, Takes, TakesFront};
 ghost use Rattle.call_claims.specs.Stream.{stream_of};
 ghost use Rattle.call_answers.specs.Answers.{bytes_of, counts_text, report_of, stop_text, text_of};
 ghost use Rattle.call_answers.specs.Answers.{told_of, NeedsNoMemory, StopNeedsNoMemory};
-ghost use Rattle.call_answers.specs.Refusals.{refusal_text};
+ghost use Rattle.call_answers.specs.Refusals.{build_text, refusal_text};
 ghost use Rattle.call_answers.specs.Told.{IsHalfTold, IsTold};
 
 use crate::answers::{Answer, Stop};
 use crate::lines::{
     fault_line, file_line, listing_line, order_line, report_line, settings_line, stuck_line,
-    trap_line,
+    trap_line, whole_line,
 };
-use crate::refusals::Refusal;
+use crate::refusals::{BuildFault, Refusal};
 use grid_sim::Counts;
 use std::alloc::{AllocError, Global};
 use zpl_io::{PutFailed, Sink, put_piece, puts_join};
@@ -145,6 +145,7 @@ fn text_piece(alloc: Global, answer: Answer<'_>) -> Result<Piece, AllocError>
         Answer::TooLong(file) => Piece::Made(file_line(alloc, b"too long: ", file)?),
         Answer::Refused(refusal, line) => refusal_piece(alloc, refusal, line)?,
         Answer::Unbound(fault) => Piece::Made(settings_line(alloc, fault.name())?),
+        Answer::Unbuilt(fault) => build_piece(alloc, fault)?,
         Answer::BadLine(line) => Piece::Made(listing_line(alloc, b"BadLine", line)?),
         Answer::BadTable(line) => Piece::Made(listing_line(alloc, b"BadTable", line)?),
         Answer::BadItem(at) => Piece::Made(order_line(alloc, at)?),
@@ -166,9 +167,22 @@ fn refusal_piece(alloc: Global, refusal: Refusal, line: u32) -> Result<Piece, Al
         Refusal::Parse(fault) => Piece::Made(fault_line(alloc, fault.name(), line, fault.at())?),
         Refusal::Judge(fault) => Piece::Made(fault_line(alloc, fault.name(), line, fault.at())?),
         Refusal::Bind(fault) => Piece::Made(settings_line(alloc, fault.name())?),
-        Refusal::NotBuilt => Piece::Made(fault_line(alloc, "NotBuilt", line, 0)?),
     };
     Ok(piece)
+}
+
+/// The text of why a text has no code for a build.
+fn build_piece(alloc: Global, fault: BuildFault) -> Result<Piece, AllocError>
+    ensures { IfOk result (λ piece. bytes_of piece ≡ build_text fault) }
+{
+    let piece = match fault {
+        BuildFault::BadShape => settings_line(alloc, "BadShape")?,
+        BuildFault::TooManyStatements => whole_line(alloc, "TooManyStatements")?,
+        BuildFault::TooManyNodes => whole_line(alloc, "TooManyNodes")?,
+        BuildFault::NotBuilt => fault_line(alloc, "NotBuilt", 1, 0)?,
+        BuildFault::TooMuchStorage => settings_line(alloc, "TooMuchStorage")?,
+    };
+    Ok(Piece::Made(piece))
 }
 
 /// The text of how work stopped.
@@ -181,6 +195,7 @@ fn stop_piece(alloc: Global, stop: Stop) -> Result<Piece, AllocError>
         Stop::Trap(kind, line) => Piece::Made(trap_line(alloc, kind, line)?),
         Stop::TurnLimit => Piece::Fixed(b"turn limit\n"),
         Stop::Stuck(p, kind) => Piece::Made(stuck_line(alloc, p, kind)?),
+        Stop::TooManyMoves => Piece::Fixed(b"too many moves\n"),
     };
     Ok(piece)
 }

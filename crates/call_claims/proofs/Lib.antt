@@ -1,4 +1,2 @@
-pub mod CauseLemmas
 pub mod MetLemmas
 pub mod OneLemmas
-pub mod ProgramLemmas

@@ -1,14 +1,17 @@
 -- A text is one word at most, and words ask for one thing.
-use Rattle.std.proofs.Common.{◌≡◌, ℕ, ◌+◌, Bool, true, false, ◌&&◌, ◌||◌, List, [], ◌∷◌, ◌++◌, length, take, drop, get_or}
+use Rattle.std.proofs.Common.{◌≡◌, ◌≢◌, ℕ, suc, ◌+◌, Bool, true, false, ◌&&◌, ◌||◌, List, [], ◌∷◌, ◌++◌, length, take, drop, get_or}
 use Rattle.std.proofs.Common.{codes, IsTrue, Option, Some, None, refl, sym, ◌∙◌, ap, subst, arith, cond}
 use Rattle.std.proofs.Math.Seq.{take-append_seam, drop-append_seam}
+use Rattle.std.proofs.lemmas.List.{append-nil, length-append}
 use Rattle.std.specs.List.{list_all, prefix_len}
+use Rattle.std.specs.Char.{is_ascii_digit}
 use Rattle.std.specs.Str.Parse.{digits_value}
 use Rattle.zpl_text.specs.Bytes.{is_word_start, is_word_byte}
 use Rattle.zpl_text.specs.Kinds.{IsWord as IsWordText}
 use Rattle.zpl_binding.specs.Settings.{Setting}
-use Rattle.call_claims.specs.Words.{IsNumber, IsTurnsWord, IsSettingWord, IsWord, Word, Order}
-use Rattle.call_claims.specs.Words.{Turns, Report, Links, Sets}
+use Rattle.call_claims.specs.Words.{AreFactors, IsFactor, IsNumber, IsTurnsWord, IsSettingWord, IsWord, Word, Order}
+use Rattle.call_claims.specs.Words.AreFactors.{last_factor, one_factor}
+use Rattle.call_claims.specs.Words.{Turns, Report, Links, Latency, Grid, Sets, grid_of}
 use Rattle.call_claims.specs.Command.{Asked, Adds, AddAll, Asks, IsCommandOf, IsWorded, asked_more}
 use Rattle.call_claims.specs.Command.AddAll.{no_more, one_more}
 use Rattle.call_claims.specs.Setting.{setting_in, set_by}
@@ -36,14 +39,19 @@ one_further : (b : Bool) (n m : ℕ) → IsTrue b → n ≡ m → cond b (1 + n)
 one_further true n m h e = ap (λ k. 1 + k) e
 one_further false n m h e = cc
 
--- the bytes of a word, where none follows
+-- bytes that pass a test, where none follows that does
+pub front_len : (test : ℕ → Bool) (front rest : List ℕ) → IsTrue (list_all test front)
+    → prefix_len test rest ≡ 0 → prefix_len test (front ++ rest) ≡ length front
+front_len test [] rest all ends = ends
+front_len test (b ∷ front) rest all ends =
+    let parts = both (test b) (list_all test front) all in
+    one_further (test b) (prefix_len test (front ++ rest)) (length front) parts.0
+    (front_len test front rest parts.1 ends) ∙ grind arith
+
+-- so the bytes of a word
 whole_word : (name rest : List ℕ) → IsTrue (list_all is_word_byte name)
     → prefix_len is_word_byte rest ≡ 0 → prefix_len is_word_byte (name ++ rest) ≡ length name
-whole_word [] rest all ends = ends
-whole_word (b ∷ name) rest all ends =
-    let parts = both (is_word_byte b) (list_all is_word_byte name) all in
-    one_further (is_word_byte b) (prefix_len is_word_byte (name ++ rest)) (length name) parts.0
-    (whole_word name rest parts.1 ends) ∙ grind arith
+whole_word = front_len is_word_byte
 
 -- a setting's word sets that
 pub set_word : (word : List ℕ) (setting : Setting) → IsSettingWord word setting
@@ -73,6 +81,8 @@ sets (Order file) = None
 sets (Turns n) = None
 sets Report = None
 sets (Links capacity) = None
+sets (Latency ticks) = None
+sets (Grid grid) = None
 sets (Sets setting) = Some setting
 
 pub sets_are : (text : List ℕ) (word : Word) → IsWord text word → setting_in text ≡ sets word
@@ -80,6 +90,8 @@ sets_are text (Order file) is = ap setting_in is
 sets_are text (Turns n) is = turns_word text n is
 sets_are text Report is = ap setting_in is
 sets_are text (Links capacity) is = ap setting_in is.split
+sets_are text (Latency ticks) is = ap setting_in is.split
+sets_are text (Grid grid) is = ap setting_in is.split
 sets_are text (Sets setting) is = set_word text setting is
 
 -- ---- a word
@@ -89,6 +101,8 @@ letter (Order file) = 111
 letter (Turns n) = 116
 letter Report = 114
 letter (Links capacity) = 108
+letter (Latency ticks) = 108
+letter (Grid grid) = 103
 letter (Sets setting) = 0
 
 begins : (text : List ℕ) (word : Word) → sets word ≡ None → IsWord text word
@@ -97,11 +111,78 @@ begins text (Order file) none is = ap (λ t. get_or t 0 0) is
 begins text (Turns n) none is = ap (λ t. get_or t 0 0) is.split
 begins text Report none is = ap (λ t. get_or t 0 0) is
 begins text (Links capacity) none is = ap (λ t. get_or t 0 0) is.split
+begins text (Latency ticks) none is = ap (λ t. get_or t 0 0) is.split
+begins text (Grid grid) none is = ap (λ t. get_or t 0 0) is.split
 begins text (Sets setting) none is = absurd (let no : ⊥ = cc in no)
 
 number_is_one : (text other : List ℕ) (n m : ℕ) → text ≡ other → IsNumber text n
     → IsNumber other m → n ≡ m
 number_is_one text other n m same f g = f.value ∙ (ap (λ t. digits_value 10 t) same ∙ sym g.value)
+
+-- ---- factors
+-- the digits before an `x`
+pub digits_before : (front rest : List ℕ) → IsTrue (list_all is_ascii_digit front)
+    → prefix_len is_ascii_digit (front ++ (codes "x" ++ rest)) ≡ length front
+digits_before front rest all = front_len is_ascii_digit front (codes "x" ++ rest) all refl
+
+digits_alone : (text : List ℕ) → IsTrue (list_all is_ascii_digit text)
+    → prefix_len is_ascii_digit text ≡ length text
+digits_alone text all =
+    ap (prefix_len is_ascii_digit) (sym (append-nil text)) ∙ front_len is_ascii_digit text [] all refl
+
+-- digits have no `x` among them
+pub digits_end : (text front rest : List ℕ) → IsTrue (list_all is_ascii_digit text)
+    → IsTrue (list_all is_ascii_digit front) → text ≡ front ++ (codes "x" ++ rest) → ⊥
+digits_end text front rest all some split =
+    let long : length text ≡ length front + length (codes "x" ++ rest) =
+    ap length split ∙ length-append front (codes "x" ++ rest) in
+    let some_more : length (codes "x" ++ rest) ≡ suc (length rest) = refl in
+    let short : length text ≡ length front =
+    sym (digits_alone text all) ∙ (ap (prefix_len is_ascii_digit) split
+    ∙ digits_before front rest some) in
+    omega (arith, long, some_more, short)
+
+-- and end at one `x`
+pub parts_one : (front rest first behind : List ℕ) → IsTrue (list_all is_ascii_digit front)
+    → IsTrue (list_all is_ascii_digit first)
+    → front ++ (codes "x" ++ rest) ≡ first ++ (codes "x" ++ behind)
+    → (front ≡ first) × (rest ≡ behind)
+parts_one front rest first behind all some same =
+    let many : length front ≡ length first = sym (digits_before front rest all)
+    ∙ (ap (prefix_len is_ascii_digit) same ∙ digits_before first behind some) in
+    let fronts : front ≡ first = sym (take-append_seam front (codes "x" ++ rest))
+    ∙ (ap (take (length front)) same
+    ∙ (ap (λ n. take n (first ++ (codes "x" ++ behind))) many
+    ∙ take-append_seam first (codes "x" ++ behind))) in
+    let backs : codes "x" ++ rest ≡ codes "x" ++ behind =
+    sym (drop-append_seam front (codes "x" ++ rest))
+    ∙ (ap (drop (length front)) same
+    ∙ (ap (λ n. drop n (first ++ (codes "x" ++ behind))) many
+    ∙ drop-append_seam first (codes "x" ++ behind))) in
+    (fronts, ap (drop 1) backs)
+
+factor_one : (text : List ℕ) (n m : ℕ) → IsFactor text n → IsFactor text m → n ≡ m
+factor_one text n m f g = f.number.value ∙ sym g.number.value
+
+pub factors_one : (text : List ℕ) (one other : List ℕ) → AreFactors text one
+    → AreFactors text other → one ≡ other
+factors_one text one other (last_factor {n = n} f) (last_factor {n = m} g) =
+    ap (λ k. k ∷ []) (factor_one text n m f g)
+factors_one text one other (last_factor f) (one_factor {front = front} {rest = rest} split g more) =
+    absurd (digits_end text front rest f.number.digits g.number.digits split)
+factors_one text one other (one_factor {front = front} {rest = rest} split f more) (last_factor g) =
+    absurd (digits_end text front rest g.number.digits f.number.digits split)
+factors_one text one other (one_factor {front = front} {rest = rest} {n = n} {factors = ns} split f more) (one_factor {front = first} {rest = behind} {n = m} {factors = ms} cut g others) =
+    let parts = parts_one front rest first behind f.number.digits g.number.digits
+    (sym split ∙ cut) in
+    let heads : n ≡ m = factor_one first n m (subst (λ t. IsFactor t n) parts.0 f) g in
+    let tails : ns ≡ ms = factors_one behind ns ms (subst (λ t. AreFactors t ns) parts.1 more)
+    others in
+    ap (λ k. k ∷ ns) heads ∙ ap (λ (ks : List ℕ). m ∷ ks) tails
+
+-- `links=` and `latency=` begin with one letter
+seconds_differ : (capacity ticks : List ℕ) → codes "links=" ++ capacity ≢ codes "latency=" ++ ticks
+seconds_differ capacity ticks same = omega (arith, ap (λ t. get_or t 1 0) same)
 
 same_word : (text : List ℕ) (one other : Word) → sets one ≡ None → letter one ≡ letter other
     → IsWord text one → IsWord text other → one ≡ other
@@ -111,9 +192,39 @@ same_word text (Turns n) (Turns m) none e a b =
 same_word text Report Report none e a b = refl
 same_word text (Links n) (Links m) none e a b =
     ap Links (number_is_one a.digits b.digits n m (ap (drop 6) (sym a.split ∙ b.split)) a.links.number b.links.number)
+same_word text (Latency n) (Latency m) none e a b =
+    ap Latency (number_is_one a.digits b.digits n m (ap (drop 8) (sym a.split ∙ b.split)) a.latency.number b.latency.number)
+same_word text (Grid g) (Grid h) none e a b =
+    let texts : a.text ≡ b.text = ap (drop 5) (sym a.split ∙ b.split) in
+    let factors : a.tells.factors ≡ b.tells.factors =
+    factors_one b.text a.tells.factors b.tells.factors
+    (subst (λ t. AreFactors t a.tells.factors) texts a.tells.are) b.tells.are in
+    ap Grid (a.tells.is ∙ (ap grid_of factors ∙ sym b.tells.is))
+same_word text (Grid g) (Order h) none e a b = absurd (omega (arith, e))
+same_word text (Grid g) (Turns m) none e a b = absurd (omega (arith, e))
+same_word text (Grid g) Report none e a b = absurd (omega (arith, e))
+same_word text (Grid g) (Links m) none e a b = absurd (omega (arith, e))
+same_word text (Grid g) (Latency m) none e a b = absurd (omega (arith, e))
+same_word text (Grid g) (Sets s) none e a b = absurd (omega (arith, e))
+same_word text (Order f) (Grid h) none e a b = absurd (omega (arith, e))
+same_word text (Turns n) (Grid h) none e a b = absurd (omega (arith, e))
+same_word text Report (Grid h) none e a b = absurd (omega (arith, e))
+same_word text (Links n) (Grid h) none e a b = absurd (omega (arith, e))
+same_word text (Latency n) (Grid h) none e a b = absurd (omega (arith, e))
+same_word text (Links n) (Latency m) none e a b =
+    absurd (seconds_differ a.digits b.digits (sym a.split ∙ b.split))
+same_word text (Latency n) (Links m) none e a b =
+    absurd (seconds_differ b.digits a.digits (sym b.split ∙ a.split))
 same_word text (Order f) (Turns m) none e a b = absurd (omega (arith, e))
 same_word text (Order f) Report none e a b = absurd (omega (arith, e))
 same_word text (Order f) (Links m) none e a b = absurd (omega (arith, e))
+same_word text (Order f) (Latency m) none e a b = absurd (omega (arith, e))
+same_word text (Turns n) (Latency m) none e a b = absurd (omega (arith, e))
+same_word text Report (Latency m) none e a b = absurd (omega (arith, e))
+same_word text (Latency n) (Order g) none e a b = absurd (omega (arith, e))
+same_word text (Latency n) (Turns m) none e a b = absurd (omega (arith, e))
+same_word text (Latency n) Report none e a b = absurd (omega (arith, e))
+same_word text (Latency n) (Sets s) none e a b = absurd (omega (arith, e))
 same_word text (Order f) (Sets s) none e a b = absurd (omega (arith, e))
 same_word text (Turns n) (Order g) none e a b = absurd (omega (arith, e))
 same_word text (Turns n) Report none e a b = absurd (omega (arith, e))
@@ -135,6 +246,8 @@ the_setting (Order file) setting e = absurd (let no : ⊥ = cc in no)
 the_setting (Turns n) setting e = absurd (let no : ⊥ = cc in no)
 the_setting Report setting e = absurd (let no : ⊥ = cc in no)
 the_setting (Links capacity) setting e = absurd (let no : ⊥ = cc in no)
+the_setting (Latency ticks) setting e = absurd (let no : ⊥ = cc in no)
+the_setting (Grid grid) setting e = absurd (let no : ⊥ = cc in no)
 
 word_by : (text : List ℕ) (one other : Word) (set : Option Setting) → sets one ≡ set
     → sets other ≡ set → IsWord text one → IsWord text other → one ≡ other

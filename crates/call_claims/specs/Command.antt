@@ -2,31 +2,40 @@
 --
 --   Asked, AskFor          what the words behind the file ask for
 --   IsWorded, IsCommandOf  words of one command, by its name and by what it takes
---   IsList, IsMean, IsRun, IsExec
+--   IsList, IsMean, IsRun, IsExec, IsTime
 --   IsNoCommand            words that are none of these
 --   Asks                   what holds of the file of a command and of what is asked for
 use Rattle.std.specs.Prelude.{◌≡◌, ℕ, Bool, true, false, List, [], ◌∷◌, ◌++◌, codes, Option, Some, None}
-use Rattle.std.specs.Prelude.{⊤}
 use Rattle.std.specs.Option.{option_map}
 use Rattle.zpl_binding.specs.Settings.{Setting}
-use Rattle.zpl_claims.specs.Build.{Build, plain_build}
-use Rattle.call_claims.specs.Words.{Word, Order, Turns, Report, Links, Sets, IsWord}
+use Rattle.zpl_claims.specs.Build.{Build, no_options, one_processor}
+use Rattle.call_claims.specs.Words.{Word, Order, Turns, Report, Links, Latency, Grid, Sets, IsWord}
 use Rattle.call_claims.specs.declared.limits.TheConstants.{MOST_TURNS}
 
 -- ---- what the words behind the file ask for
 -- The file of an order of turns, how many turns may be given (round the processors behind the
 -- order, or in each loop of the meaning), and how many messages a link holds, each where a word
--- tells it; whether a report is wanted; and what configs are set to, in the order of the words.
+-- tells it; whether a report is wanted; for how many ticks a message is on its way, and the grid of
+-- processors, where a word tells them; and what configs are set to, in the order of the words.
 pub record Asked : Type 0 where
   pub order : Option (List ℕ)
   pub turns : Option ℕ
   pub report : Bool
   pub links : Option ℕ
+  pub latency : Option ℕ
+  pub grid : Option (List ℕ)
   pub settings : List Setting
 
 abbrev pub nothing_asked : Asked
-nothing_asked =
-    record { order = None; turns = None; report = false; links = None; settings = [] }
+nothing_asked = record {
+  order = None;
+  turns = None;
+  report = false;
+  links = None;
+  latency = None;
+  grid = None;
+  settings = [];
+}
 
 -- ---- each at most once
 abbrev pub once : {A : Type 0} → Option A → A → Option (Option A)
@@ -48,6 +57,10 @@ asked_more asked Report =
     option_map (λ report. record asked { report = report }) (first_report asked.report)
 asked_more asked (Links capacity) =
     option_map (λ links. record asked { links = links }) (once asked.links capacity)
+asked_more asked (Latency ticks) =
+    option_map (λ latency. record asked { latency = latency }) (once asked.latency ticks)
+asked_more asked (Grid grid) =
+    option_map (λ grid. record asked { grid = grid }) (once asked.grid grid)
 asked_more asked (Sets setting) = Some (record asked { settings = asked.settings ++ setting ∷ [] })
 
 -- one word more asks for something, and not again
@@ -74,10 +87,27 @@ most_turns (Some n) = n
 abbrev pub limit_of : Asked → ℕ
 limit_of asked = most_turns asked.turns
 
--- What the words have code built for. No word tells of a grid or of optimisations yet: it is for
--- one processor, without any.
+-- for how many ticks a message is on its way
+abbrev pub ticks_told : Option ℕ → ℕ
+ticks_told None = 1
+ticks_told (Some ticks) = ticks
+
+abbrev pub latency_of : Asked → ℕ
+latency_of asked = ticks_told asked.latency
+
+-- the grid
+abbrev pub grid_told : Option (List ℕ) → List ℕ
+grid_told None = one_processor
+grid_told (Some grid) = grid
+
+-- What the words have code built for. No word tells of optimisations yet: it is without any.
 abbrev pub build_of : Asked → Build
-build_of asked = plain_build asked.links asked.settings
+build_of asked = record {
+  grid = grid_told asked.grid;
+  options = no_options;
+  links = asked.links;
+  settings = asked.settings;
+}
 
 -- ---- a command
 -- The first word is its name, the second names the file, whatever it holds, and the words behind
@@ -98,11 +128,12 @@ abbrev pub IsNoCommandOf : List ℕ → (Asked → Type 0) → List (List ℕ) �
 IsNoCommandOf name Takes words =
     (file : List ℕ) (asked : Asked) → ¬ IsCommandOf name Takes words file asked
 
--- ---- list FILE [links=C] [name:=value ..]
+-- ---- list FILE [grid=AxBxC] [links=C] [name:=value ..]
 pub record ListTakes (asked : Asked) : Type 0 where
   pub no_order : asked.order ≡ None
   pub no_turns : asked.turns ≡ None
   pub no_report : asked.report ≡ false
+  pub no_latency : asked.latency ≡ None
 
 abbrev pub IsList : List (List ℕ) → List ℕ → Asked → Type 0
 IsList = IsCommandOf (codes "list") ListTakes
@@ -113,13 +144,15 @@ pub record MeanTakes (asked : Asked) : Type 0 where
   pub no_order : asked.order ≡ None
   pub no_report : asked.report ≡ false
   pub no_links : asked.links ≡ None
+  pub no_latency : asked.latency ≡ None
+  pub no_grid : asked.grid ≡ None
 
 abbrev pub IsMean : List (List ℕ) → List ℕ → Asked → Type 0
 IsMean = IsCommandOf (codes "mean") MeanTakes
 
--- ---- run FILE [order=FILE] [turns=N] [report] [links=C] [name:=value ..]
-abbrev pub RunTakes : Asked → Type 0
-RunTakes asked = ⊤
+-- ---- run FILE [grid=AxBxC] [order=FILE] [turns=N] [report] [links=C] [name:=value ..]
+pub record RunTakes (asked : Asked) : Type 0 where
+  pub no_latency : asked.latency ≡ None
 
 abbrev pub IsRun : List (List ℕ) → List ℕ → Asked → Type 0
 IsRun = IsCommandOf (codes "run") RunTakes
@@ -127,9 +160,22 @@ IsRun = IsCommandOf (codes "run") RunTakes
 -- ---- exec FILE [order=FILE] [turns=N] [report] [links=C]
 pub record ExecTakes (asked : Asked) : Type 0 where
   pub no_settings : asked.settings ≡ []
+  pub no_latency : asked.latency ≡ None
+  pub no_grid : asked.grid ≡ None
 
 abbrev pub IsExec : List (List ℕ) → List ℕ → Asked → Type 0
 IsExec = IsCommandOf (codes "exec") ExecTakes
+
+-- ---- time FILE [order=FILE] [turns=N] [latency=L]
+-- Links hold any number of messages.
+pub record TimeTakes (asked : Asked) : Type 0 where
+  pub no_report : asked.report ≡ false
+  pub no_links : asked.links ≡ None
+  pub no_settings : asked.settings ≡ []
+  pub no_grid : asked.grid ≡ None
+
+abbrev pub IsTime : List (List ℕ) → List ℕ → Asked → Type 0
+IsTime = IsCommandOf (codes "time") TimeTakes
 
 -- ---- words that are none of these
 pub record IsNoCommand (words : List (List ℕ)) : Type 0 where
@@ -137,6 +183,7 @@ pub record IsNoCommand (words : List (List ℕ)) : Type 0 where
   pub no_mean : IsNoCommandOf (codes "mean") MeanTakes words
   pub no_run : IsNoCommandOf (codes "run") RunTakes words
   pub no_exec : IsNoCommandOf (codes "exec") ExecTakes words
+  pub no_time : IsNoCommandOf (codes "time") TimeTakes words
 
 -- ---- a call of a command
 -- The words of the call are this command, of a file and asking for something of which this holds.

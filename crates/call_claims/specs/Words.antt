@@ -1,12 +1,13 @@
 -- The words that may stand behind the file of a command.
-use Rattle.std.specs.Prelude.{◌≡◌, ◌≢◌, ℕ, ◌≤◌, List, ◌++◌, length, codes, get_or, IsTrue}
+use Rattle.std.specs.Prelude.{◌≡◌, ◌≢◌, ℕ, zero, suc, ◌≤◌, List, [], ◌∷◌, ◌++◌, length, codes, get_or, IsTrue}
 use Rattle.std.specs.List.{list_all}
 use Rattle.std.specs.Char.{is_ascii_digit}
 use Rattle.std.specs.Str.Parse.{digits_value}
 use Rattle.zpl_tokens.specs.declared.Kind.TheVariants.{Name}
 use Rattle.zpl_text.specs.Kinds.{IsToken}
 use Rattle.zpl_binding.specs.Settings.{Setting}
-use Rattle.call_claims.specs.declared.limits.TheConstants.{MOST_DIGITS, MOST_LINKS, MOST_TURNS}
+use Rattle.call_claims.specs.declared.limits.TheConstants.{MOST_DIGITS, MOST_LATENCY, MOST_LINKS, MOST_TURNS}
+use Rattle.call_claims.specs.declared.limits.TheConstants.{MOST_FACTOR_DIGITS}
 
 -- one to nineteen digits, with leading zeros allowed
 pub record IsNumber (text : List ℕ) (n : ℕ) : Type 0 where
@@ -35,18 +36,72 @@ pub record IsLinksWord (word : List ℕ) (capacity : ℕ) : Type 0 where
   pub split : word ≡ codes "links=" ++ digits
   pub links : IsCapacityText digits capacity
 
+-- a number in which no zero leads, but for 0 itself
+pub record IsLatencyText (digits : List ℕ) (ticks : ℕ) : Type 0 where
+  pub number : IsNumber digits ticks
+  pub no_zero : get_or digits 0 0 ≡ 48 → length digits ≡ 1
+  pub within : ticks ≤ MOST_LATENCY
+
+-- the word is `latency=` and such a number
+pub record IsLatencyWord (word : List ℕ) (ticks : ℕ) : Type 0 where
+  pub digits : List ℕ
+  pub split : word ≡ codes "latency=" ++ digits
+  pub latency : IsLatencyText digits ticks
+
+-- ---- grids
+-- a number of one to four digits
+pub record IsFactor (text : List ℕ) (n : ℕ) : Type 0 where
+  pub number : IsNumber text n
+  pub few : length text ≤ MOST_FACTOR_DIGITS
+
+-- such numbers, with an `x` between each two
+pub data AreFactors : List ℕ → List ℕ → Type 0 where
+  last_factor : {text : List ℕ} {n : ℕ} → IsFactor text n → AreFactors text (n ∷ [])
+  one_factor : {text front rest : List ℕ} {n : ℕ} {factors : List ℕ}
+      → text ≡ front ++ (codes "x" ++ rest) → IsFactor front n → AreFactors rest factors
+      → AreFactors text (n ∷ factors)
+
+-- a grid has no factor 0: where one is told that is, no grid
+abbrev pub unless_zero : ℕ → List ℕ → List ℕ
+unless_zero zero grid = 0 ∷ 0 ∷ 0 ∷ []
+unless_zero (suc n) grid = grid
+
+-- the grid with these factors, 0 for each absent one
+abbrev pub grid_of : List ℕ → List ℕ
+grid_of [] = 0 ∷ 0 ∷ 0 ∷ []
+grid_of (first ∷ []) = first ∷ 0 ∷ 0 ∷ []
+grid_of (first ∷ second ∷ []) = unless_zero second (first ∷ second ∷ 0 ∷ [])
+grid_of (first ∷ second ∷ third ∷ more) =
+    unless_zero second (unless_zero third (first ∷ second ∷ third ∷ []))
+
+-- the text tells the grid, behind the factors before it, by so many factors at most
+pub record TellsGrid (before text : List ℕ) (most : ℕ) (grid : List ℕ) : Type 0 where
+  pub factors : List ℕ
+  pub are : AreFactors text factors
+  pub few : length factors ≤ most
+  pub is : grid ≡ grid_of (before ++ factors)
+
+-- the word is `grid=` and one to three factors
+pub record IsGridWord (word : List ℕ) (grid : List ℕ) : Type 0 where
+  pub text : List ℕ
+  pub split : word ≡ codes "grid=" ++ text
+  pub tells : TellsGrid [] text 3 grid
+
 -- the word is a name of the language, which is no keyword, then `:=` and any text
 pub record IsSettingWord (word : List ℕ) (setting : Setting) : Type 0 where
   pub named : IsToken setting.name Name
   pub split : word ≡ setting.name ++ (codes ":=" ++ setting.value)
 
 -- the file of the order of turns, whatever its name holds; how many turns may be given; that a
--- report is wanted; how many messages a link holds; and what a config is set to
+-- report is wanted; how many messages a link holds; for how many ticks one is on its way; the grid
+-- of processors, by its factors with 0 for each absent one; and what a config is set to
 pub data Word : Type 0 where
   Order : (file : List ℕ) → Word
   Turns : (n : ℕ) → Word
   Report : Word
   Links : (capacity : ℕ) → Word
+  Latency : (ticks : ℕ) → Word
+  Grid : (grid : List ℕ) → Word
   Sets : (setting : Setting) → Word
 
 abbrev pub IsWord : List ℕ → Word → Type 0
@@ -54,4 +109,6 @@ IsWord text (Order file) = text ≡ codes "order=" ++ file
 IsWord text (Turns n) = IsTurnsWord text n
 IsWord text Report = text ≡ codes "report"
 IsWord text (Links capacity) = IsLinksWord text capacity
+IsWord text (Latency ticks) = IsLatencyWord text ticks
+IsWord text (Grid grid) = IsGridWord text grid
 IsWord text (Sets setting) = IsSettingWord text setting

@@ -1,25 +1,10 @@
-//! The laws of words, and those of `list`.
+//! The law of words.
 ghost use Rattle.std.specs.Prelude.{◌≡◌, ℕ, List};
-ghost use Rattle.call_claims.specs.Call.{call_of};
-ghost use Rattle.call_claims.specs.Cause.{Cause};
 ghost use Rattle.call_claims.specs.Command.{Asked, IsWorded};
-ghost use Rattle.call_claims.specs.Decided.{IsExact};
-ghost use Rattle.call_claims.specs.Execution.{Execution};
-
-use zpl_io::Files;
 
 /// Words are worded as one command of one file at most, and ask for one thing.
 pub fn commands_are_one()
     ensures { (words : List (List ℕ)) (name next file other : List ℕ) (asked more : Asked) →
         IsWorded words name file asked → IsWorded words next other more →
         (name ≡ next) × (file ≡ other) × (asked ≡ more) }
-{}
-
-/// A status that has its cause comes just where its own cause is, where memory wasn't wanting and
-/// no put failed; for some, where no fetch failed and the files tell one text a name.
-pub fn list_statuses_are_exact<F: Files>()
-    ensures { (files : F) (words : List (List ℕ)) (ran : Execution) (n : ℕ) (told : List ℕ) →
-        let call = call_of words (F.tells files) (F.may_fail files)
-        (F.may_fail_later files) in
-        Cause call ran n told → IsExact call ran n }
 {}

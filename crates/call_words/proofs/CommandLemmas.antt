@@ -3,7 +3,7 @@ use Rattle.std.proofs.Common.{◌≡◌, ◌≢◌, ℕ, ◌-◌, ◌≤◌, Boo
 use Rattle.std.proofs.Common.{MatchOption, refl, sym, ◌∙◌, ap, subst, arith}
 use Rattle.std.proofs.lemmas.List.{length-drop, take_all}
 use Rattle.call_claims.specs.Command.{AskFor, Asked, ExecTakes, IsCommandOf, IsNoCommand, IsNoCommandOf}
-use Rattle.call_claims.specs.Command.{ListTakes, MeanTakes, RunTakes}
+use Rattle.call_claims.specs.Command.{ListTakes, MeanTakes, RunTakes, TimeTakes}
 use Rattle.call_claims.proofs.OneLemmas.{worded_once}
 use Rattle.call_words.specs.Reading.{asked_in, command_in, name_of, IsRead, Takes}
 use Rattle.call_words.specs.declared.commands.Command.{Command}
@@ -46,6 +46,7 @@ module _ (name file : List ℕ) (more : List (List ℕ)) where
     no_mean = none_asked (codes "mean") MeanTakes none;
     no_run = none_asked (codes "run") RunTakes none;
     no_exec = none_asked (codes "exec") ExecTakes none;
+    no_time = none_asked (codes "time") TimeTakes none;
   }
 
   pub no_name : ((v : Verb) → name ≢ name_of v) → IsNoCommand words
@@ -54,6 +55,7 @@ module _ (name file : List ℕ) (more : List (List ℕ)) where
     no_mean = other_named (codes "mean") MeanTakes (none verb.Mean);
     no_run = other_named (codes "run") RunTakes (none verb.Run);
     no_exec = other_named (codes "exec") ExecTakes (none verb.Exec);
+    no_time = other_named (codes "time") TimeTakes (none verb.Time);
   }
 
 -- ---- names differ by their first letters
@@ -71,6 +73,8 @@ takes_not verb.List file more asked are other = record {
       (letters (codes "list") (codes "run") (λ e. omega (arith, e)));
   no_exec = other_named (codes "list") file more (codes "exec") ExecTakes
       (letters (codes "list") (codes "exec") (λ e. omega (arith, e)));
+  no_time = other_named (codes "list") file more (codes "time") TimeTakes
+      (letters (codes "list") (codes "time") (λ e. omega (arith, e)));
 }
 takes_not verb.Mean file more asked are other = record {
   no_list = other_named (codes "mean") file more (codes "list") ListTakes
@@ -80,6 +84,8 @@ takes_not verb.Mean file more asked are other = record {
       (letters (codes "mean") (codes "run") (λ e. omega (arith, e)));
   no_exec = other_named (codes "mean") file more (codes "exec") ExecTakes
       (letters (codes "mean") (codes "exec") (λ e. omega (arith, e)));
+  no_time = other_named (codes "mean") file more (codes "time") TimeTakes
+      (letters (codes "mean") (codes "time") (λ e. omega (arith, e)));
 }
 takes_not verb.Run file more asked are other = record {
   no_list = other_named (codes "run") file more (codes "list") ListTakes
@@ -89,6 +95,8 @@ takes_not verb.Run file more asked are other = record {
   no_run = not_taken (codes "run") file more RunTakes asked are other;
   no_exec = other_named (codes "run") file more (codes "exec") ExecTakes
       (letters (codes "run") (codes "exec") (λ e. omega (arith, e)));
+  no_time = other_named (codes "run") file more (codes "time") TimeTakes
+      (letters (codes "run") (codes "time") (λ e. omega (arith, e)));
 }
 takes_not verb.Exec file more asked are other = record {
   no_list = other_named (codes "exec") file more (codes "list") ListTakes
@@ -98,6 +106,19 @@ takes_not verb.Exec file more asked are other = record {
   no_run = other_named (codes "exec") file more (codes "run") RunTakes
       (letters (codes "exec") (codes "run") (λ e. omega (arith, e)));
   no_exec = not_taken (codes "exec") file more ExecTakes asked are other;
+  no_time = other_named (codes "exec") file more (codes "time") TimeTakes
+      (letters (codes "exec") (codes "time") (λ e. omega (arith, e)));
+}
+takes_not verb.Time file more asked are other = record {
+  no_list = other_named (codes "time") file more (codes "list") ListTakes
+      (letters (codes "time") (codes "list") (λ e. omega (arith, e)));
+  no_mean = other_named (codes "time") file more (codes "mean") MeanTakes
+      (letters (codes "time") (codes "mean") (λ e. omega (arith, e)));
+  no_run = other_named (codes "time") file more (codes "run") RunTakes
+      (letters (codes "time") (codes "run") (λ e. omega (arith, e)));
+  no_exec = other_named (codes "time") file more (codes "exec") ExecTakes
+      (letters (codes "time") (codes "exec") (λ e. omega (arith, e)));
+  no_time = not_taken (codes "time") file more TimeTakes asked are other;
 }
 
 -- one that does
@@ -111,6 +132,8 @@ takes_it verb.Run of more are takes =
     record { worded = record { more = more; split = refl; are = are }; takes = takes }
 takes_it verb.Exec of more are takes =
     record { worded = record { more = more; split = refl; are = are }; takes = takes }
+takes_it verb.Time of more are takes =
+    record { worded = record { more = more; split = refl; are = are }; takes = takes }
 
 -- words of fewer than two
 pub too_few : (words : List (List ℕ)) → length words ≤ 1 → IsNoCommand words
@@ -119,15 +142,18 @@ too_few words few = record {
   no_mean = λ file asked is. absurd (omega (arith, few, ap length is.worded.split));
   no_run = λ file asked is. absurd (omega (arith, few, ap length is.worded.split));
   no_exec = λ file asked is. absurd (omega (arith, few, ap length is.worded.split));
+  no_time = λ file asked is. absurd (omega (arith, few, ap length is.worded.split));
 }
 
--- a name that is none of the four
+-- a name that is none of the five
 pub none_named : (word : List ℕ) → word ≢ codes "list" → word ≢ codes "mean"
-    → word ≢ codes "run" → word ≢ codes "exec" → (v : Verb) → word ≢ name_of v
-none_named word a b c d verb.List = a
-none_named word a b c d verb.Mean = b
-none_named word a b c d verb.Run = c
-none_named word a b c d verb.Exec = d
+    → word ≢ codes "run" → word ≢ codes "exec" → word ≢ codes "time" → (v : Verb)
+    → word ≢ name_of v
+none_named word a b c d e verb.List = a
+none_named word a b c d e verb.Mean = b
+none_named word a b c d e verb.Run = c
+none_named word a b c d e verb.Exec = d
+none_named word a b c d e verb.Time = e
 
 -- ---- the first two words
 pub begins_with : (a b c d : List ℕ) (rest : List (List ℕ)) → a ≡ b → c ≡ d

@@ -3,3 +3,4 @@ pub mod CommandLemmas
 pub mod NameLemmas
 pub mod NumberLemmas
 pub mod SettingLemmas
+pub mod GridLemmas

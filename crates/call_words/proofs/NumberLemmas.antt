@@ -14,7 +14,7 @@ both : (a b : Bool) → IsTrue (a && b) → IsTrue a × IsTrue b
 both true b h = (refl, h)
 both false b h = cc
 
-digits_all : (bytes : List ℕ) → IsTrue (list_all is_ascii_digit bytes) → AllDigits 10 bytes
+pub digits_all : (bytes : List ℕ) → IsTrue (list_all is_ascii_digit bytes) → AllDigits 10 bytes
 digits_all [] h = tt
 digits_all (c ∷ bytes) h =
     let parts = both (is_ascii_digit c) (list_all is_ascii_digit bytes) h in

@@ -1,10 +1,10 @@
 -- What the code reads, as the claims have it.
-use Rattle.std.specs.Prelude.{ℕ, List, codes, map, string_bytes}
+use Rattle.std.specs.Prelude.{◌≡◌, ℕ, List, ◌++◌, codes, map, string_bytes}
 use Rattle.std.specs.Option.{option_map}
 use Rattle.zpl_binding.specs.Settings.{Setting}
 use Rattle.call_claims.specs.Command as claims
-use Rattle.call_claims.specs.Command.{IsExec, IsList, IsMean, IsRun, ExecTakes, ListTakes}
-use Rattle.call_claims.specs.Command.{MeanTakes, RunTakes}
+use Rattle.call_claims.specs.Command.{IsExec, IsList, IsMean, IsRun, IsTime, ExecTakes, ListTakes}
+use Rattle.call_claims.specs.Command.{MeanTakes, RunTakes, TimeTakes}
 use Rattle.call_claims.specs.Setting.{settings_among}
 use Rattle.call_claims.specs.Words as words
 use Rattle.call_words.specs.declared.asked.Asked.{Asked}
@@ -14,13 +14,21 @@ use Rattle.call_words.specs.declared.commands.FileCommand.{FileCommand}
 use Rattle.call_words.specs.declared.commands.Verb.{Verb}
 use Rattle.call_words.specs.declared.commands.Verb.TheVariants as verb
 use Rattle.call_words.specs.declared.words.Word.{Word}
-use Rattle.call_words.specs.declared.words.Word.TheVariants.{Order, Turns, Report, Links}
+use Rattle.call_words.specs.declared.words.Word.TheVariants.{Order, Turns, Report, Links, Latency, Grid}
 
 abbrev pub word_in : Word → words.Word
 word_in (Order file) = words.Order file.now
 word_in (Turns n) = words.Turns n
 word_in Report = words.Report
 word_in (Links capacity) = words.Links capacity
+word_in (Latency ticks) = words.Latency ticks
+word_in (Grid grid) = words.Grid grid
+
+-- the text is a factor, an `x` and a rest
+pub record IsFactorBefore (text : List ℕ) (n : ℕ) (rest : List ℕ) : Type 0 where
+  pub front : List ℕ
+  pub split : text ≡ front ++ (codes "x" ++ rest)
+  pub factor : words.IsFactor front n
 
 -- what is asked for besides settings, with these
 abbrev pub asked_with : Asked → List Setting → claims.Asked
@@ -29,6 +37,8 @@ asked_with asked settings = record {
   turns = asked.turns;
   report = asked.report;
   links = asked.links;
+  latency = asked.latency;
+  grid = asked.grid;
   settings = settings;
 }
 
@@ -42,18 +52,21 @@ name_of verb.List = codes "list"
 name_of verb.Mean = codes "mean"
 name_of verb.Run = codes "run"
 name_of verb.Exec = codes "exec"
+name_of verb.Time = codes "time"
 
 abbrev pub Takes : Verb → claims.Asked → Type 0
 Takes verb.List asked = ListTakes asked
 Takes verb.Mean asked = MeanTakes asked
 Takes verb.Run asked = RunTakes asked
 Takes verb.Exec asked = ExecTakes asked
+Takes verb.Time asked = TimeTakes asked
 
 abbrev pub command_in : Verb → FileCommand → Command
 command_in verb.List of = command.List of
 command_in verb.Mean of = command.Mean of
 command_in verb.Run of = command.Run of
 command_in verb.Exec of = command.Exec of
+command_in verb.Time of = command.Time of
 
 -- the words are this command
 abbrev pub IsRead : List (List ℕ) → Command → Type 0
@@ -61,3 +74,4 @@ IsRead words (command.List of) = IsList words of.file.now (asked_in of.asked)
 IsRead words (command.Mean of) = IsMean words of.file.now (asked_in of.asked)
 IsRead words (command.Run of) = IsRun words of.file.now (asked_in of.asked)
 IsRead words (command.Exec of) = IsExec words of.file.now (asked_in of.asked)
+IsRead words (command.Time of) = IsTime words of.file.now (asked_in of.asked)

@@ -2,8 +2,8 @@
 ghost use Rattle.std.specs.Prelude.{◌≡◌, ◌++◌, List, map, IfSome, MatchOption, option_map};
 ghost use Rattle.std.specs.Prelude.{string_bytes};
 ghost use Rattle.zpl_binding.specs.Settings.{Setting};
-ghost use Rattle.call_claims.specs.Command.{asked_more, Adds, AskFor, limit_of};
-ghost use Rattle.call_claims.specs.Command.{Asked as Claimed};
+ghost use Rattle.call_claims.specs.Command.{asked_more, grid_told, Adds, AskFor, latency_of};
+ghost use Rattle.call_claims.specs.Command.{limit_of, Asked as Claimed};
 ghost use Rattle.call_claims.specs.Setting.{one_or_none, setting_in};
 ghost use Rattle.call_words.specs.Reading.{asked_in, asked_with, word_in};
 
@@ -23,6 +23,10 @@ pub struct Asked<'a> {
     pub report: bool,
     /// The most messages on a link, where a word tells them.
     pub links: Option<u32>,
+    /// For how many ticks a message is on its way, where a word tells it.
+    pub latency: Option<u64>,
+    /// The grid of processors, by its factors with 0 for each absent one, where a word tells it.
+    pub grid: Option<[u32; 3]>,
     /// All the words, among which the settings are.
     pub words: &'a [String],
 }
@@ -33,6 +37,20 @@ impl<'a> Asked<'a> {
         ensures { result ≡ limit_of (asked_in self.entry) }
     {
         self.turns.unwrap_or(MOST_TURNS)
+    }
+
+    /// The factors of the grid, 0 for each absent one: one processor where no word tells another.
+    pub fn factors(self) -> [u32; 3]
+        ensures { result ≡ grid_told (asked_in self.entry).grid }
+    {
+        self.grid.unwrap_or([1, 0, 0])
+    }
+
+    /// For how many ticks a message is on its way.
+    pub fn ticks(self) -> u64
+        ensures { result ≡ latency_of (asked_in self.entry) }
+    {
+        self.latency.unwrap_or(1)
     }
 }
 
@@ -47,6 +65,8 @@ pub fn asked_of(words: &[String]) -> Option<Asked<'_>>
         turns: None,
         report: false,
         links: None,
+        latency: None,
+        grid: None,
         words,
     };
     for word in words {
@@ -107,6 +127,20 @@ fn with_word<'a>(asked: Asked<'a>, word: Word<'a>) -> Option<Asked<'a>>
         Word::Links(links) => match asked.links {
             None => Some(Asked {
                 links: Some(links),
+                ..asked
+            }),
+            Some(_) => None,
+        },
+        Word::Grid(grid) => match asked.grid {
+            None => Some(Asked {
+                grid: Some(grid),
+                ..asked
+            }),
+            Some(_) => None,
+        },
+        Word::Latency(ticks) => match asked.latency {
+            None => Some(Asked {
+                latency: Some(ticks),
                 ..asked
             }),
             Some(_) => None,

@@ -19,14 +19,16 @@ pub struct FileCommand<'a> {
 /// A command.
 #[derive(Clone, Copy)]
 pub enum Command<'a> {
-    /// `list FILE`, then `links=C` and settings.
+    /// `list FILE`, then `grid=AxBxC`, `links=C` and settings.
     List(FileCommand<'a>),
     /// `mean FILE`, then `turns=N` and settings.
     Mean(FileCommand<'a>),
-    /// `run FILE`, then `order=FILE`, `turns=N`, `report`, `links=C` and settings.
+    /// `run FILE`, then `grid=AxBxC`, `order=FILE`, `turns=N`, `report`, `links=C` and settings.
     Run(FileCommand<'a>),
     /// `exec FILE`, then `order=FILE`, `turns=N`, `report` and `links=C`.
     Exec(FileCommand<'a>),
+    /// `time FILE`, then `order=FILE`, `turns=N` and `latency=L`.
+    Time(FileCommand<'a>),
 }
 
 /// The name of a command.
@@ -36,6 +38,7 @@ enum Verb {
     Mean,
     Run,
     Exec,
+    Time,
 }
 
 /// The command that words are, or None where they are none: its name, a file, and behind it in any
@@ -95,6 +98,9 @@ fn verb_of(word: &[u8]) -> Option<Verb>
     if word == b"exec".as_slice() {
         return Some(Verb::Exec);
     }
+    if word == b"time".as_slice() {
+        return Some(Verb::Time);
+    }
     None
 }
 
@@ -104,10 +110,29 @@ fn takes(verb: Verb, asked: Asked<'_>) -> bool
         (Takes verb (asked_in asked.entry)) (¬ Takes verb (asked_in asked.entry)) }
 {
     match verb {
-        Verb::List => asked.order.is_none() && asked.turns.is_none() && !asked.report,
-        Verb::Mean => asked.order.is_none() && !asked.report && asked.links.is_none(),
-        Verb::Run => true,
-        Verb::Exec => sets_nothing(asked.words),
+        Verb::List => {
+            asked.order.is_none()
+                && asked.turns.is_none()
+                && !asked.report
+                && asked.latency.is_none()
+        }
+        Verb::Mean => {
+            asked.order.is_none()
+                && !asked.report
+                && asked.links.is_none()
+                && asked.latency.is_none()
+                && asked.grid.is_none()
+        }
+        Verb::Run => asked.latency.is_none(),
+        Verb::Exec => {
+            sets_nothing(asked.words) && asked.latency.is_none() && asked.grid.is_none()
+        }
+        Verb::Time => {
+            !asked.report
+                && asked.links.is_none()
+                && sets_nothing(asked.words)
+                && asked.grid.is_none()
+        }
     }
 }
 
@@ -120,5 +145,6 @@ fn command_with<'a>(verb: Verb, of: FileCommand<'a>) -> Command<'a>
         Verb::Mean => Command::Mean(of),
         Verb::Run => Command::Run(of),
         Verb::Exec => Command::Exec(of),
+        Verb::Time => Command::Time(of),
     }
 }

@@ -4,6 +4,7 @@
 
 mod asked;
 mod commands;
+mod grids;
 mod names;
 mod numbers;
 mod settings;

@@ -2,12 +2,13 @@
 ghost use Rattle.std.specs.Prelude.{◌≡◌, ◌≢◌, ◌++◌, ℕ, List, codes, MatchOption};
 ghost use Rattle.zpl_binding.specs.Settings.{Setting};
 ghost use Rattle.call_claims.specs.Words.{IsCapacityText, IsLinksWord, IsSettingWord};
-ghost use Rattle.call_claims.specs.Words.{IsTurnsWord, IsWord};
+ghost use Rattle.call_claims.specs.Words.{IsLatencyText, IsLatencyWord, IsTurnsWord, IsWord};
 ghost use Rattle.call_claims.specs.Words.{Word as Claimed};
 ghost use Rattle.call_words.specs.Reading.{word_in};
 
+use crate::grids::grid_in;
 use crate::numbers::number_of;
-use call_claims::{MOST_LINKS, MOST_TURNS};
+use call_claims::{MOST_LATENCY, MOST_LINKS, MOST_TURNS};
 
 /// A word behind a file.
 #[derive(Clone, Copy)]
@@ -20,6 +21,10 @@ pub enum Word<'a> {
     Report,
     /// The most messages on a link.
     Links(u32),
+    /// For how many ticks a message is on its way.
+    Latency(u64),
+    /// The grid of processors, by its factors with 0 for each absent one.
+    Grid([u32; 3]),
 }
 
 /// The word that a text is, if it is one.
@@ -38,8 +43,14 @@ pub fn word_of(text: &str) -> Option<Word<'_>>
     if let Some(turns) = turns_of(text.as_bytes()) {
         return Some(Word::Turns(turns));
     }
-    match links_of(text.as_bytes()) {
-        Some(links) => Some(Word::Links(links)),
+    if let Some(links) = links_of(text.as_bytes()) {
+        return Some(Word::Links(links));
+    }
+    if let Some(ticks) = latency_of(text.as_bytes()) {
+        return Some(Word::Latency(ticks));
+    }
+    match grid_in(text.as_bytes()) {
+        Some(grid) => Some(Word::Grid(grid)),
         None => None,
     }
 }
@@ -94,6 +105,41 @@ fn capacity_of(digits: &[u8]) -> Option<u32>
         Some(number) => {
             if 1 <= number && number <= u64::from(MOST_LINKS) {
                 Some(number as u32)
+            } else {
+                None
+            }
+        }
+        None => None,
+    }
+}
+
+/// The number behind `latency=`.
+fn latency_of(text: &[u8]) -> Option<u64>
+    ensures { MatchOption result
+        ((ticks : ℕ) → ¬ IsLatencyWord text.now ticks) (IsLatencyWord text.now) }
+{
+    let [b'l', b'a', b't', b'e', b'n', b'c', b'y', b'=', digits @ ..] = text else {
+        return None;
+    };
+    match ticks_of(digits) {
+        Some(ticks) => Some(ticks),
+        None => None,
+    }
+}
+
+/// The number that digits write, in which no zero leads but 0 itself, where a message may be on its
+/// way for so many ticks.
+fn ticks_of(digits: &[u8]) -> Option<u64>
+    ensures { MatchOption result
+        ((ticks : ℕ) → ¬ IsLatencyText digits.now ticks) (IsLatencyText digits.now) }
+{
+    if digits.len() > 1 && digits[0] == b'0' {
+        return None;
+    }
+    match number_of(digits) {
+        Some(number) => {
+            if number <= MOST_LATENCY {
+                Some(number)
             } else {
                 None
             }

@@ -17,7 +17,7 @@ use std::alloc::Global;
 use zpl_io::Files;
 
 /// Fetches a file and reads its text as a listing, or answers why there is no code.
-pub(crate) fn fetch_code<'a, F: Files>(
+pub fn fetch_code<'a, F: Files>(
     alloc: Global,
     file: &'a str,
     files: &mut F,

@@ -9,3 +9,4 @@ mod call;
 mod fetches;
 
 pub use call::exec;
+pub use fetches::fetch_code;

@@ -78,7 +78,7 @@ told_trap run k report e = (_, trap e.0 e.1 e.2)
 pub told_limit : (run : Run) (k : ℕ) (report : Bool) → IsLimitedAt run k → (told : List ℕ) × RunCause run report k TURN_LIMIT told
 told_limit run k report e = (_, turn_limit e)
 
-told_stuck : (run : Run) (k : ℕ) (report : Bool) → IsStuckOrIdleAt run k → (told : List ℕ) × RunCause run report k STUCK told
+pub told_stuck : (run : Run) (k : ℕ) (report : Bool) → IsStuckOrIdleAt run k → (told : List ℕ) × RunCause run report k STUCK told
 told_stuck run k report (inl e) = (_, stuck e.0 e.1 e.2)
 told_stuck run k report (inr e) = (_, idle e.0 e.1)
 
@@ -155,7 +155,7 @@ module _ (call : Call) (ex : Execution) (file : List ℕ) (asked : Asked) where
   file_run (too_long long ends) s = absurd (s.too_long refl)
   file_run (work source w) s = listing_run source w s
 
-  file_cause : {n : ℕ} {Holds : Run → ℕ → Type 0} → HasRun call file asked ex Holds
+  pub file_cause : {n : ℕ} {Holds : Run → ℕ → Type 0} → HasRun call file asked ex Holds
       → ((run : Run) (k : ℕ) (report : Bool) → Holds run k → (told : List ℕ) × RunCause run report k n told)
       → (told : List ℕ) × ListingFileCause call file asked ex n told
   file_cause h f =
@@ -177,13 +177,13 @@ module _ (call : Call) (ex : Execution) (file : List ℕ) (asked : Asked) where
     no_code text (listed code is made c) h =
         absurd (order_file_other call code asked ex.turns asked.order _ _ c h)
 
-    file_listing : {n : ℕ} {told : List ℕ} → ListingFileCause call file asked ex n told
+    pub file_listing : {n : ℕ} {told : List ℕ} → ListingFileCause call file asked ex n told
         → n ≡ LISTING_REFUSED → HasNoListing call file
     file_listing (unreadable may ends) h = absurd (omega arith)
     file_listing (too_long long ends) h = absurd (omega arith)
     file_listing (work source w) h = (source, no_code source.text w h)
 
-  file_refused : {n : ℕ} {told : List ℕ} (m : ℕ) → IsSettled call m → HasNoListing call file
+  pub file_refused : {n : ℕ} {told : List ℕ} (m : ℕ) → IsSettled call m → HasNoListing call file
       → ListingFileCause call file asked ex n told → n ≢ UNREADABLE → n ≡ LISTING_REFUSED
   file_refused m settled none (unreadable may ends) a = absurd (a refl)
   file_refused m settled none (too_long long ends) a =

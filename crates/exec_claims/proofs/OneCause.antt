@@ -76,7 +76,7 @@ module _ (code : Tables) (asked : Asked) (turns : ℕ) (text : List ℕ) where
       (same_order _ order other e f) c) d
 
 -- ---- files
-TellsOne : Call → Type 0
+pub TellsOne : Call → Type 0
 TellsOne call = (file text other : List ℕ) → call.tells file text → call.tells file other → text ≡ other
 
 -- work on one text has one status, where no fetch failed
@@ -168,7 +168,7 @@ module _ (call : Call) (one : TellsOne call) (asked : Asked) where
     unfolding IsOneWork
     listings_one = λ text n m told other c d a b. listing_one text c d a b
 
-    file_one : (file : List ℕ) {n m : ℕ} {told other : List ℕ}
+    pub file_one : (file : List ℕ) {n m : ℕ} {told other : List ℕ}
         → ListingFileCause call file asked execution n told
         → ListingFileCause call file asked execution m other → n ≢ UNREADABLE → m ≢ UNREADABLE
         → n ≡ m
@@ -176,7 +176,7 @@ module _ (call : Call) (one : TellsOne call) (asked : Asked) where
     file_one file c d a b = text_one call file (one file) listings_one c d a b
 
 -- ---- any call
-tells_one : (call : Call) (n : ℕ) → IsSettled call n → TellsOne call
+pub tells_one : (call : Call) (n : ℕ) → IsSettled call n → TellsOne call
 unfolding TellsOne
 tells_one call n settled = settled.one
 

@@ -95,17 +95,17 @@ module _ (call : Call) (code : Tables) (asked : Asked) (turns : ℕ) where
       (sym is.1 ∙ same_text call file one.1 is.0 source) h)
 
 -- it is one where no fetch failed and files tell one text a name
-one_order : (call : Call) (m : ℕ) → IsSettled call m → (file : Option (List ℕ))
+pub one_order : (call : Call) (m : ℕ) → IsSettled call m → (file : Option (List ℕ))
     → IsOneOrder call m file
 one_order call m settled None = tt
 one_order call m settled (Some file) = (settled.read, settled.one file)
 
 -- ---- the listing
 module _ (call : Call) (ex : Execution) (file : List ℕ) (asked : Asked) where
-  abbrev IsLong : Type 0
+  abbrev pub IsLong : Type 0
   IsLong = IsTooLong call file ⊎ HasListing call file (λ code. HasLongOrder call asked.order)
 
-  long_from : {n : ℕ} {told : List ℕ} → ListingFileCause call file asked ex n told
+  pub long_from : {n : ℕ} {told : List ℕ} → ListingFileCause call file asked ex n told
       → n ≡ TOO_LONG → IsLong
   long_from (unreadable may ends) h = absurd (omega arith)
   long_from (too_long long ends) h = inl long
@@ -118,7 +118,7 @@ module _ (call : Call) (ex : Execution) (file : List ℕ) (asked : Asked) where
     holds = long_order call code asked ex.turns asked.order _ _ c h;
   })
 
-  wrong_from : {n : ℕ} {told : List ℕ} → ListingFileCause call file asked ex n told
+  pub wrong_from : {n : ℕ} {told : List ℕ} → ListingFileCause call file asked ex n told
       → n ≡ ORDER_REFUSED → HasListing call file (HasBadOrder call asked)
   wrong_from (unreadable may ends) h = absurd (omega arith)
   wrong_from (too_long long ends) h = absurd (omega arith)
@@ -143,7 +143,7 @@ module _ (call : Call) (ex : Execution) (file : List ℕ) (asked : Asked) where
     is_listed source h =
         subst (λ t. IsListing t h.code) (texts_same call file m settled h.source source) h.listing
 
-    long_to : {n : ℕ} {told : List ℕ} → ListingFileCause call file asked ex n told
+    pub long_to : {n : ℕ} {told : List ℕ} → ListingFileCause call file asked ex n told
         → n ≢ UNREADABLE → IsOneOrder call n asked.order → IsLong → n ≡ TOO_LONG
     long_to (unreadable may ends) a once h = absurd (a refl)
     long_to (too_long long ends) a once h = refl
@@ -156,7 +156,7 @@ module _ (call : Call) (ex : Execution) (file : List ℕ) (asked : Asked) where
     long_to (work source (listed code is made c)) a once (inr h) =
         was_long_order call code asked ex.turns asked.order _ _ c once h.holds
 
-    wrong_to_order : ((bytes : List ℕ) (one other : Tables) → IsListing bytes one
+    pub wrong_to_order : ((bytes : List ℕ) (one other : Tables) → IsListing bytes one
         → IsListing bytes other → one ≡ other)
         → {n : ℕ} {told : List ℕ} → ListingFileCause call file asked ex n told
         → n ≢ UNREADABLE → IsOneOrder call n asked.order

@@ -27,6 +27,10 @@ abbrev pub stuck_text : ℕ → List ℕ → List ℕ
 stuck_text processor name =
     codes "stuck: processor " ++ (decimal processor ++ (codes ", " ++ (name ++ codes "\n")))
 
+-- a run makes more moves than a timetable takes
+abbrev pub too_many_moves_text : List ℕ
+too_many_moves_text = codes "too many moves\n"
+
 abbrev pub report_text : ℕ → ℕ → ℕ → List ℕ
 report_text turns sends words =
     codes "turns " ++ (decimal turns

@@ -7,3 +7,5 @@ pub const ORDER_REFUSED: u8 = 6;
 pub const LISTING_REFUSED: u8 = 11;
 /// The next turn is stuck, or no processor can move and not all have ended.
 pub const STUCK: u8 = 12;
+/// A run whose time is told makes more moves than a timetable takes.
+pub const TOO_MANY_MOVES: u8 = 15;

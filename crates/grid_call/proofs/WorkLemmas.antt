@@ -20,7 +20,7 @@ use Rattle.exec_claims.specs.Cause.OrderCause.{bad_item, ran as under_order}
 use Rattle.exec_claims.specs.Cause.TextCause.{too_long, unreadable, work as of_text}
 use Rattle.exec_claims.specs.Decided.{IsOrderText}
 use Rattle.exec_claims.specs.declared.limits.TheConstants.{MOST_LISTING}
-use Rattle.call_answers.specs.Answers.{status_of, told_of}
+use Rattle.call_answers.specs.Answers.{IsUnrun, status_of, told_of}
 use Rattle.call_answers.specs.Fetched.{IsNoText, IsWholeText}
 use Rattle.call_answers.specs.Work.{ran_of}
 use Rattle.grid_call.specs.Work.{HasNoTurns, IsCodeWork, IsNoOrder, IsOrderOf, IsRunOn, OrderFails}
@@ -45,6 +45,7 @@ unread_order call code file source (answer.Unreadable name) is = elim is [ ]
 unread_order call code file source (answer.TooLong name) is = elim is [ ]
 unread_order call code file source (answer.Refused refusal line) is = elim is [ ]
 unread_order call code file source (answer.Unbound fault) is = elim is [ ]
+unread_order call code file source (answer.Unbuilt fault) is = elim is [ ]
 unread_order call code file source (answer.BadLine line) is = elim is [ ]
 unread_order call code file source (answer.BadTable line) is = elim is [ ]
 unread_order call code file source (answer.Stopped stop report) is = elim is [ ]
@@ -64,11 +65,28 @@ unfetched_order call code file answer.NoMemory is = λ d. absurd (d.memory refl)
 unfetched_order call code file answer.Usage is = elim is [ ]
 unfetched_order call code file (answer.Refused refusal line) is = elim is [ ]
 unfetched_order call code file (answer.Unbound fault) is = elim is [ ]
+unfetched_order call code file (answer.Unbuilt fault) is = elim is [ ]
 unfetched_order call code file (answer.BadLine line) is = elim is [ ]
 unfetched_order call code file (answer.BadTable line) is = elim is [ ]
 unfetched_order call code file (answer.BadItem at) is = elim is [ ]
 unfetched_order call code file (answer.Stopped stop report) is = elim is [ ]
 unfetched_order call code file answer.PutFailed is = elim is [ ]
+
+-- and nothing was run
+pub unfetched_unrun : (Tells : List ℕ → Type 0) (May : Type 0) (limit : ℕ) (file : List ℕ) (a : Answer)
+    → IsNoText Tells May limit file a → IsUnrun a
+unfetched_unrun Tells May limit file (answer.Stopped stop report) is = elim is [ ]
+unfetched_unrun Tells May limit file answer.Usage is = tt
+unfetched_unrun Tells May limit file (answer.Unreadable name) is = tt
+unfetched_unrun Tells May limit file (answer.TooLong name) is = tt
+unfetched_unrun Tells May limit file (answer.Refused refusal line) is = tt
+unfetched_unrun Tells May limit file (answer.Unbound fault) is = tt
+unfetched_unrun Tells May limit file (answer.Unbuilt fault) is = tt
+unfetched_unrun Tells May limit file (answer.BadLine line) is = tt
+unfetched_unrun Tells May limit file (answer.BadTable line) is = tt
+unfetched_unrun Tells May limit file (answer.BadItem at) is = tt
+unfetched_unrun Tells May limit file answer.PutFailed is = tt
+unfetched_unrun Tells May limit file answer.NoMemory is = tt
 
 -- ---- files that tell the same texts
 module _ (words : List (List ℕ)) (tells other : List ℕ → List ℕ → Type 0)
@@ -85,7 +103,7 @@ module _ (words : List (List ℕ)) (tells other : List ℕ → List ℕ → Type
   text_back None text is = is
   text_back (Some file) text is = (source_back file is.0, is.1)
 
-  order_back : (code : Tables) (named : Option (List ℕ)) (order : List ℕ)
+  pub order_back : (code : Tables) (named : Option (List ℕ)) (order : List ℕ)
       → IsOrderOf (call_of words other fail later) code named order
       → IsOrderOf (call_of words tells fails late) code named order
   order_back code named order is = record {
@@ -94,7 +112,7 @@ module _ (words : List (List ℕ)) (tells other : List ℕ → List ℕ → Type
     read = is.read;
   }
 
-  cause_back : (code : Tables) (asked : Asked) (turns status : ℕ) (told : List ℕ)
+  pub cause_back : (code : Tables) (asked : Asked) (turns status : ℕ) (told : List ℕ)
       (named : Option (List ℕ))
       → OrderFileCause (call_of words other fail later) code asked turns named status told
       → OrderFileCause (call_of words tells fails late) code asked turns named status told

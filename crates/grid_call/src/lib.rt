@@ -10,3 +10,4 @@ mod orders;
 mod runs;
 
 pub use call::run_code;
+pub use orders::fetch_order;

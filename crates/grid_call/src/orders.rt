@@ -7,6 +7,7 @@ ghost use Rattle.node_form.specs.Grid.{IsGrid, processors_of};
 ghost use Rattle.grid_meaning.specs.Local.{processors};
 ghost use Rattle.call_claims.specs.Call.{call_of};
 ghost use Rattle.exec_claims.specs.declared.limits.TheConstants.{MOST_LISTING};
+ghost use Rattle.call_answers.specs.Answers.{IsUnrun};
 ghost use Rattle.call_answers.specs.Fetched.{FailsToFetch};
 ghost use Rattle.grid_call.specs.Work.{IsNoOrder, IsOrderOf, IsReading, OrderFails};
 
@@ -34,6 +35,7 @@ pub fn fetch_order<'a, F: Files>(
         (F.may_fail_later files.old)) code.now
         (option_map (λ file. file.now) named.entry)) }
     ensures put { IfErr result (λ answer. answer ≢ Answer.PutFailed) }
+    ensures unrun { IfErr result IsUnrun }
     ensures texts { SameTexts (F.tells files.old) (F.tells files.new) }
     ensures fetches { CountsFaults (FailsToFetch result)
         (F.faults files.old) (F.faults files.new) }
@@ -60,6 +62,7 @@ fn fetch_named<'a, F: Files>(
         (F.may_fail_later files.old)) code.now
         (Some file.now)) }
     ensures put { IfErr result (λ answer. answer ≢ Answer.PutFailed) }
+    ensures unrun { IfErr result IsUnrun }
     ensures texts { SameTexts (F.tells files.old) (F.tells files.new) }
     ensures fetches { CountsFaults (FailsToFetch result)
         (F.faults files.old) (F.faults files.new) }
@@ -76,6 +79,7 @@ fn order_of<'a>(alloc: Global, text: &[u8], code: &NodeProgram) -> Result<Order,
     requires { length text.now ≤ MOST_LISTING }
     ensures ok { IfOk result (IsReading code.now text.now) }
     ensures err { IfErr result (IsNoOrder code.now text.now) }
+    ensures unrun { IfErr result IsUnrun }
 {
     match read_order(alloc, text, count_in(&code.tables().grid)) {
         Ok(order) => Ok(order),

@@ -4,7 +4,7 @@ mod TellLemmas
 mod TeamLemmas
 mod GivenLemmas
 mod ReadLemmas
-mod RunLemmas
+pub mod RunLemmas
 mod PlaceLemmas
 mod TurnLemmas
 mod StartLemmas

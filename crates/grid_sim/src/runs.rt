@@ -1,5 +1,5 @@
 //! Runs.
-ghost use Rattle.std.specs.Prelude.{◌≡◌, ◌≢◌, ℕ, ◌+◌, ◌<◌, ◌≤◌, ◌^◌, List, Option, Some, length};
+ghost use Rattle.std.specs.Prelude.{◌≡◌, ◌≢◌, ℕ, ◌+◌, ◌<◌, ◌≤◌, ◌^◌, List, [], Option, Some, length};
 ghost use Rattle.zpl_nums.specs.declared.ends.End.{End as Ending};
 ghost use Rattle.zpl_io.specs.Faults.{CountsFaults};
 ghost use Rattle.zpl_io.specs.Sink.{StopsAtFault};
@@ -18,7 +18,7 @@ use zpl_nums::End;
 
 /// Turns round the processors, behind an order.
 #[derive(Drop)]
-pub(crate) struct Rounds {
+pub struct Rounds {
     count: u32,
     /// Whose turn is next.
     next: u32,
@@ -27,6 +27,21 @@ pub(crate) struct Rounds {
 }
 
 impl Rounds {
+    /// At most so many turns round the processors of a grid, from the first one on.
+    pub fn of(sim: &Sim, limit: u64) -> Rounds
+        ensures count { result.count ≡ processors sim.now.code }
+        ensures some { 0 < result.count }
+        ensures next { result.next ≡ 0 }
+        ensures left { result.left ≡ limit }
+        ensures silent { sim.now.grid.printed ≡ [] }
+    {
+        Rounds {
+            count: sim.count(),
+            next: 0,
+            left: limit,
+        }
+    }
+
     /// Whose turn is next; none exactly where no turns are left.
     fn next(&mut self) -> Option<u32>
         requires { self.old.next < self.old.count }
@@ -44,7 +59,7 @@ impl Rounds {
 
 /// Whose turn is next: the first of the order, and behind its end that of the rounds. None exactly
 /// where there are no more turns.
-fn next_turn(order: &mut Order, rounds: &mut Rounds) -> Option<u32>
+pub fn next_turn(order: &mut Order, rounds: &mut Rounds) -> Option<u32>
     requires { rounds.old.next < rounds.old.count }
     ensures next { (all : List ℕ) (limit k : ℕ) → IsPlace all limit k order.old rounds.old →
         IsNext all limit k order.new rounds.new result }
@@ -58,7 +73,7 @@ fn next_turn(order: &mut Order, rounds: &mut Rounds) -> Option<u32>
 
 impl Sim {
     /// How a run ends here, if it does: the grid is over, or idle.
-    fn stop(&self) -> Option<Result<End, SimFault>>
+    pub fn stop(&self) -> Option<Result<End, SimFault>>
         ensures { IsStop self.now.code self.now.capacity self.now.grid result }
     {
         if self.is_going() {
@@ -96,11 +111,7 @@ impl Sim {
         ensures stops { StopsAtFault (result ≡ Err SimFault.SinkFailed)
             (O.has_failed out.old) (O.has_failed out.new) }
     {
-        let mut rounds = Rounds {
-            count: self.count(),
-            next: 0,
-            left: tail_limit,
-        };
+        let mut rounds = Rounds::of(self, tail_limit);
         'turns: loop {
             if let Some(answer) = self.stop() {
                 return answer;

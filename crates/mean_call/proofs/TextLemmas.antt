@@ -18,7 +18,7 @@ use Rattle.call_answers.specs.Answers.{answer_of}
 use Rattle.call_answers.specs.declared.answers.Answer.TheVariants as answers
 use Rattle.call_answers.specs.declared.refusals.Refusal.{Refusal}
 use Rattle.call_answers.specs.declared.refusals.Refusal.TheVariants.{Lex, Parse, Judge, Bind}
-use Rattle.call_answers.specs.declared.refusals.Refusal.TheVariants.{NotBuilt, NoMemory}
+use Rattle.call_answers.specs.declared.refusals.Refusal.TheVariants.{NoMemory}
 use Rattle.bound_texts.specs.Refused.{IsRefused, IsTreeless}
 use Rattle.call_claims.specs.Accepted.{IsAccepted, IsFaulty}
 use Rattle.mean_call.specs.Work.{answer_in, MeansText}
@@ -75,5 +75,4 @@ refused_means text settings loops told (Parse fault) h =
     (treeless_is_faulty text h.0, h.1, takes_none told)
 refused_means text settings loops told (Judge fault) h = (h.0, h.1, takes_none told)
 refused_means text settings loops told (Bind fault) h = (h.0, h.1, h.2, takes_none told)
-refused_means text settings loops told NotBuilt h = absurd h
 refused_means text settings loops told NoMemory h = inl (takes_none told)

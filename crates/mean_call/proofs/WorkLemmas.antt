@@ -22,7 +22,7 @@ use Rattle.call_answers.specs.Answers.{status_of, stop_status, stop_text, told_o
 use Rattle.call_answers.specs.Fetched.{IsNoText}
 use Rattle.call_answers.specs.declared.answers.Stop.{Stop}
 use Rattle.call_answers.specs.declared.answers.Stop.TheVariants as stop
-use Rattle.call_answers.proofs.AnswerLemmas.{failed_or}
+use Rattle.call_answers.proofs.AnswerLemmas.{build_refuses, failed_or}
 use Rattle.mean_claims.specs.Answer.{IsEnd, TakesMeaning, TakesOutput, TakesPart}
 use Rattle.mean_claims.specs.Cause.{Cause, EndsSo, MeanCause, TextCause}
 use Rattle.mean_claims.specs.Cause.Cause.{mean, no_memory}
@@ -81,6 +81,8 @@ part_of call (answer.Stopped stop.TurnLimit report) before after put out =
     whole_is_part call before after (out.whole (inr (inr refl)))
 part_of call (answer.Stopped (stop.Stuck p kind) report) before after put out =
     inl (out.nothing (λ e. omega arith) (no_end 12 (λ e. omega arith) (λ e. omega arith) (λ e. omega arith)))
+part_of call (answer.Stopped stop.TooManyMoves report) before after put out =
+    inl (out.nothing (λ e. omega arith) (no_end 15 (λ e. omega arith) (λ e. omega arith) (λ e. omega arith)))
 part_of call answer.NoMemory before after put out = out.part refl
 part_of call answer.PutFailed before after put out = absurd (put refl)
 part_of call answer.Usage before after put out =
@@ -93,6 +95,12 @@ part_of call (answer.Refused refusal line) before after put out =
     inl (out.nothing (λ e. omega arith) (no_end 4 (λ e. omega arith) (λ e. omega arith) (λ e. omega arith)))
 part_of call (answer.Unbound fault) before after put out =
     inl (out.nothing (λ e. omega arith) (no_end 5 (λ e. omega arith) (λ e. omega arith) (λ e. omega arith)))
+part_of call (answer.Unbuilt fault) before after put out = inl (elim (build_refuses fault) [
+  | inl e ↦ subst (λ n. TakesOutput call n before after → Takes before [] after) (sym e)
+      (λ o. o.nothing (λ e. omega arith) (no_end 4 (λ e. omega arith) (λ e. omega arith) (λ e. omega arith))) out
+  | inr e ↦ subst (λ n. TakesOutput call n before after → Takes before [] after) (sym e)
+      (λ o. o.nothing (λ e. omega arith) (no_end 5 (λ e. omega arith) (λ e. omega arith) (λ e. omega arith))) out
+])
 part_of call (answer.BadLine line) before after put out =
     inl (out.nothing (λ e. omega arith) (no_end 11 (λ e. omega arith) (λ e. omega arith) (λ e. omega arith)))
 part_of call (answer.BadTable line) before after put out =
@@ -198,6 +206,7 @@ module _ (call : Call) (file : List ℕ) (asked : Asked) (given : IsMean call.wo
         meant (answer.Stopped stop.TurnLimit None) More has turn_limit (inr (inr refl))
         (λ e. omega arith) (λ e. cc)
     stopped (stop.Stuck p kind) has = absurd has
+    stopped stop.TooManyMoves has = absurd has
 
     pub of_text : (a : Answer)
         → MeansText source.text asked.settings (limit_of asked) before after a
@@ -221,6 +230,7 @@ module _ (call : Call) (file : List ℕ) (asked : Asked) (given : IsMean call.wo
     of_text answer.Usage has = absurd has
     of_text (answer.Unreadable name) has = absurd has
     of_text (answer.TooLong name) has = absurd has
+    of_text (answer.Unbuilt fault) has = absurd has
     of_text (answer.BadLine line) has = absurd has
     of_text (answer.BadTable line) has = absurd has
     of_text (answer.BadItem at) has = absurd has
@@ -244,6 +254,7 @@ module _ (call : Call) (file : List ℕ) (asked : Asked) (given : IsMean call.wo
   unfetched answer.Usage is takes = absurd is
   unfetched (answer.Refused refusal line) is takes = absurd is
   unfetched (answer.Unbound fault) is takes = absurd is
+  unfetched (answer.Unbuilt fault) is takes = absurd is
   unfetched (answer.BadLine line) is takes = absurd is
   unfetched (answer.BadTable line) is takes = absurd is
   unfetched (answer.BadItem at) is takes = absurd is
@@ -256,6 +267,7 @@ stop_not_unread stop.Done e = omega (arith, e)
 stop_not_unread (stop.Trap kind line) e = omega (arith, e)
 stop_not_unread stop.TurnLimit e = omega (arith, e)
 stop_not_unread (stop.Stuck p kind) e = omega (arith, e)
+stop_not_unread stop.TooManyMoves e = omega (arith, e)
 
 pub text_not_unread : (a : Answer) → status_of a ≡ UNREADABLE
     → (text : List ℕ) (settings : List Setting) (loops : ℕ) (before after : List ℕ → Type 0)
@@ -268,6 +280,7 @@ text_not_unread (answer.TooLong name) e text settings loops before after has = o
 text_not_unread (answer.Refused refusal line) e text settings loops before after has =
     omega (arith, e)
 text_not_unread (answer.Unbound fault) e text settings loops before after has = omega (arith, e)
+text_not_unread (answer.Unbuilt fault) e text settings loops before after has = has
 text_not_unread (answer.BadLine line) e text settings loops before after has = omega (arith, e)
 text_not_unread (answer.BadTable line) e text settings loops before after has = omega (arith, e)
 text_not_unread (answer.BadItem at) e text settings loops before after has = omega (arith, e)

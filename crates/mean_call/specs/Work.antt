@@ -49,6 +49,7 @@ StopsText text settings loops before after (stop.Trap kind line) =
 StopsText text settings loops before after stop.TurnLimit =
     HasMeantText text settings loops before after ending.More
 StopsText text settings loops before after (stop.Stuck p kind) = ⊥
+StopsText text settings loops before after stop.TooManyMoves = ⊥
 
 -- By the answer: a meaning with its end and its bytes; what is told of the text's fault, and the
 -- sink took nothing; or a put failed or memory was wanting, and it took a front of the bytes, or
@@ -71,6 +72,7 @@ MeansText text settings loops before after answer.NoMemory =
 MeansText text settings loops before after answer.Usage = ⊥
 MeansText text settings loops before after (answer.Unreadable file) = ⊥
 MeansText text settings loops before after (answer.TooLong file) = ⊥
+MeansText text settings loops before after (answer.Unbuilt fault) = ⊥
 MeansText text settings loops before after (answer.BadLine line) = ⊥
 MeansText text settings loops before after (answer.BadTable line) = ⊥
 MeansText text settings loops before after (answer.BadItem at) = ⊥

@@ -2,19 +2,22 @@
 use Rattle.std.proofs.Common.{◌≡◌, ◌≢◌, ℕ, Bool, List, [], Option, Some, None, Err, codes, refl, sym, subst, inl, inr, arith}
 use Rattle.node_form.specs.declared.tables.Tables.{Tables}
 use Rattle.zpl_claims.specs.Build.{Build}
-use Rattle.grid_meaning.specs.Grid.{processors}
+use Rattle.grid_meaning.specs.Grid.{IsCapacity, processors}
 use Rattle.grid_order.specs.Reading.{reading}
 use Rattle.grid_runs.specs.Run.{Run, IsLimitedAt}
 use Rattle.call_claims.specs.Call.{Call}
-use Rattle.call_claims.specs.Cause.CodeCause.{faulty, made}
+use Rattle.list_claims.specs.Cause.CodeCause.{faulty, made}
 use Rattle.call_claims.specs.Cause.FileCause.{unreadable, too_long, work}
-use Rattle.call_claims.specs.Decided.{IsDecided, IsSettled, HasNoProgramIn, HasUnboundIn}
+use Rattle.call_claims.specs.Decided.{IsDecided, IsSettled}
+use Rattle.list_claims.specs.Decided.{HasNoProgramIn, HasUnboundIn}
 use Rattle.call_claims.specs.Execution.{Execution}
 use Rattle.call_claims.specs.declared.status.TheConstants.{DONE, UNREADABLE, TOO_LONG, REFUSED}
 use Rattle.call_claims.specs.declared.status.TheConstants.{UNBOUND, TRAPPED, TURN_LIMIT, NO_MEMORY}
-use Rattle.call_claims.proofs.ProgramLemmas.{IsOther, fault_other, none_made, one_made, refused_of}
-use Rattle.call_claims.proofs.ProgramLemmas.{unbound_of, was_refused_in, was_too_long_in, was_unbound_in}
-use Rattle.call_claims.specs.Command.{Asked, IsRun, RunTakes, build_of}
+use Rattle.list_claims.proofs.ProgramLemmas.{IsOther, fault_other, none_made, one_made, refused_of}
+use Rattle.list_claims.proofs.ProgramLemmas.{unbound_of, was_refused_in, was_too_long_in, was_unbound_in}
+use Rattle.call_claims.specs.Command.{Asked, IsRun, RunTakes, build_of, limit_of}
+use Rattle.list_claims.specs.Code.{HasNoSmall, IsCodeOf, IsSmallCode}
+use Rattle.list_claims.specs.Code.IsCodeOf.{of_small, of_other}
 use Rattle.call_claims.proofs.MetLemmas.{is_met}
 use Rattle.call_claims.proofs.OneLemmas.{as_asked}
 use Rattle.exec_claims.specs.Cause.{OrderCause, OrderFileCause, RunCause, run_of}
@@ -22,16 +25,18 @@ use Rattle.exec_claims.specs.Cause.RunCause.{done, trap, turn_limit, stuck, idle
 use Rattle.exec_claims.specs.Cause.OrderCause.{bad_item, ran}
 use Rattle.exec_claims.specs.Cause.TextCause.{unreadable as order_unreadable, too_long as order_long, work as of_order}
 use Rattle.exec_claims.specs.Decided.{HasBadOrder, HasLongOrder, IsDoneAt, IsOneOrder}
-use Rattle.exec_claims.specs.Decided.{IsTrapAt}
+use Rattle.exec_claims.specs.Decided.{IsStuckOrIdleAt, IsTrapAt}
 use Rattle.exec_claims.specs.declared.status.TheConstants.{ORDER_REFUSED, STUCK}
 use Rattle.exec_claims.proofs.Exact.{order_file_cause, order_file_run, run_done, run_limit}
-use Rattle.exec_claims.proofs.Exact.{run_stuck, run_trap, told_done, told_limit, told_trap}
+use Rattle.exec_claims.proofs.Exact.{run_stuck, run_trap, told_done, told_limit, told_stuck}
+use Rattle.exec_claims.proofs.Exact.{told_trap}
 use Rattle.exec_claims.proofs.RunStatus.{IsRunStatus, is_done, is_limit, is_stuck, is_trapped}
 use Rattle.exec_claims.proofs.OneCause.{IsOneFile, order_file_one}
 use Rattle.exec_claims.proofs.OrderExact.{bad_order_file, long_order, was_bad_order, was_long_order}
 use Rattle.run_claims.specs.Cause.{Cause, RunFileCause, Runs}
 use Rattle.run_claims.specs.Cause.Cause.{no_memory, run}
-use Rattle.run_claims.specs.Decided.{HasCodeOf, HasLongFile, IsCutShort, IsExact, IsUnder}
+use Rattle.run_claims.specs.Decided.{HasCodeOf, HasLongFile, IsCutShort, IsExact, IsStopped}
+use Rattle.run_claims.specs.Decided.{IsTooFewFor, IsUnder}
 use Rattle.run_claims.proofs.CodeLemmas.{Laws, never_idle, never_stuck, too_few}
 
 -- ---- statuses of orders and of runs
@@ -259,30 +264,50 @@ module _ (call : Call) (ex : Execution) where
       }
 
   module _ (laws : Laws) where
-    -- code that is compiled is never stuck
-    stuck_never : {n : ℕ} {told : List ℕ} → Cause call ex n told → n ≢ STUCK
-    stuck_never no_memory = λ e. omega arith
-    stuck_never {n = n} {told = told} (run r) = λ e.
-        let h = file_code call ex r.file r.asked r.holds
-        (subst IsRunStatus (sym e) is_stuck) in
-        let met = is_met r.given.worded in
-        let a = run_of h.code r.asked h.holds.order in
-        elim (run_stuck a r.asked.report ex.turns h.holds.holds e) [
-          | inl is ↦ never_stuck laws h.of_text r.asked met.links h.holds.text h.holds.order h.holds.read
-              ex.turns is.0 is.1 is.2
-          | inr is ↦ never_idle laws h.of_text r.asked met.links h.holds.text h.holds.order h.holds.read
-              ex.turns is.0 is.1
-        ]
+    -- the code of a small program is never stuck
+    small_goes_on : {text : List ℕ} {code : Tables} (asked : Asked)
+        → IsSmallCode text (build_of asked) code → IsCapacity asked.links
+        → (u : IsUnder call asked ex.turns IsStuckOrIdleAt code) → ⊥
+    small_goes_on asked of_text met u = elim u.holds [
+      | inl is ↦ never_stuck laws of_text asked met u.text u.order u.read ex.turns is.0 is.1 is.2
+      | inr is ↦ never_idle laws of_text asked met u.text u.order u.read ex.turns is.0 is.1
+    ]
+
+    -- so the text of code that is has no small program
+    no_small_of : {text : List ℕ} {code : Tables} (asked : Asked) → IsCapacity asked.links
+        → IsUnder call asked ex.turns IsStuckOrIdleAt code → IsCodeOf text (build_of asked) code
+        → HasNoSmall text (build_of asked)
+    no_small_of asked met u (of_small of_text) = absurd (small_goes_on asked of_text met u)
+    no_small_of asked met u (of_other of_text) = of_text.none
+
+    stopped : (file : List ℕ) (asked : Asked) → IsRun call.words file asked
+        → Under IsStuckOrIdleAt file asked → IsStopped call file asked ex
+    stopped file asked given h = record {
+      of_code = h;
+      no_small = no_small_of asked (is_met given.worded).links h.holds h.of_text;
+    }
+
+    stuck_of : {n : ℕ} {told : List ℕ} → Cause call ex n told → n ≡ STUCK
+        → Runs call (λ file asked. IsStopped call file asked ex)
+    stuck_of = from STUCK (λ file asked. IsStopped call file asked ex) (λ e. omega arith)
+        (λ file asked given c e. stopped file asked given
+        (run_to STUCK IsStuckOrIdleAt is_stuck (λ a report k m t. run_stuck a report k)
+        file asked c e))
+
+    too_few_of : {text : List ℕ} {code : Tables} (asked : Asked) → IsCapacity asked.links
+        → IsUnder call asked ex.turns IsLimitedAt code
+        → (of_text : IsCodeOf text (build_of asked) code)
+        → IsTooFewFor (limit_of asked) of_text
+    too_few_of asked met u (of_small of_text) =
+        too_few laws of_text asked met u.text u.order u.read ex.turns u.holds
+    too_few_of asked met u (of_other of_text) = tt
 
     cut_short : (file : List ℕ) (asked : Asked)
         → IsRun call.words file asked → Under IsLimitedAt file asked
         → IsCutShort call file asked ex
     cut_short file asked given h = record {
       of_code = h;
-      too_few = too_few laws h.of_text asked
-          (is_met given.worded).links h.holds.text h.holds.order
-          h.holds.read
-          ex.turns h.holds.holds;
+      too_few = too_few_of asked (is_met given.worded).links h.holds h.of_text;
     }
 
 pub exactly : (call : Call) (ex : Execution) → Laws → (n : ℕ) (told : List ℕ)
@@ -352,5 +377,11 @@ exactly call ex laws n told cause = record {
         IsLimitedAt c (s.order file asked given) (λ e. omega arith) told_limit h.of_code)
         cause,
   );
-  never_stuck = stuck_never call ex laws cause;
+  stuck = λ s. (
+    stuck_of call ex laws cause,
+    back call ex STUCK (λ file asked. IsStopped call file asked ex) s.decided
+        (λ file asked given c h. file_was call ex file asked STUCK IsStuckOrIdleAt c
+        (s.order file asked given) (λ e. omega arith) told_stuck h.of_code) cause,
+  );
+  never_stuck = stuck_of call ex laws cause;
 }

@@ -1,4 +1,4 @@
--- Runs of compiled code: they are never stuck nor idle, and come to their end in time.
+-- Runs of the code of small programs: they are never stuck nor idle, and come to their end in time.
 use Rattle.std.proofs.Common.{◌≡◌, ℕ, false, true, zero, suc, ◌+◌, ◌-◌, ◌<◌, ◌≤◌, List, [], ◌∷◌, ◌++◌, length, Option, All}
 use Rattle.std.proofs.Common.{Ok, sym, ◌∙◌, ap, subst, inl, arith, add-zero, add-suc}
 use Rattle.std.proofs.lemmas.List.Elements.{All-head, All-tail}
@@ -13,7 +13,7 @@ use Rattle.grid_meaning.specs.Grid.{processors, after, IsOver, IsCapacity}
 use Rattle.grid_meaning.specs.Order.{IsOrder, given, turn_number}
 use Rattle.grid_order.specs.Reading.{reading}
 use Rattle.grid_runs.specs.Run.{grid_at, IsIdleAt, IsLimitedAt, IsStuckAt}
-use Rattle.call_claims.specs.Source.{IsCodeOf}
+use Rattle.list_claims.specs.Code.{IsSmallCode}
 use Rattle.call_claims.specs.Command.{Asked, limit_of}
 use Rattle.exec_claims.specs.Cause.{run_of}
 use Rattle.run_claims.specs.Decided.{IsTooFew}
@@ -70,14 +70,14 @@ the_rest : (few bound limit k : ℕ) → bound ≤ limit → k ≡ few + limit
 the_rest few bound limit k within all = omega arith
 
 -- code of a small program is for one processor, without optimisations
-alone_of : {text : List ℕ} {build : Build} {code : Tables} → IsCodeOf text build code
+alone_of : {text : List ℕ} {build : Build} {code : Tables} → IsSmallCode text build code
     → processors code ≡ 1
 alone_of {code = code} of_text =
     ap (λ (a : Arrangement). processors (record code { grid = a.grid })) of_text.compiled.tidy.laid_out
     ∙ ap (λ (b : Build). processors (record code { grid = b.grid })) of_text.small.plain
 
 -- so it is for all links
-built_for : {text : List ℕ} {build : Build} {code : Tables} → IsCodeOf text build code
+built_for : {text : List ℕ} {build : Build} {code : Tables} → IsSmallCode text build code
     → (links : Option ℕ) → IsCapacity links → IsBuiltFor build links
 built_for of_text links capacity = (
   capacity,
@@ -86,7 +86,7 @@ built_for of_text links capacity = (
 )
 
 module _ (laws : Laws) {text : List ℕ} {build : Build} {code : Tables}
-    (of_text : IsCodeOf text build code) (asked : Asked) (capacity : IsCapacity asked.links)
+    (of_text : IsSmallCode text build code) (asked : Asked) (capacity : IsCapacity asked.links)
     (more : List ℕ) (order : List ℕ) (read : reading (processors code) more ≡ Ok order) where
   some_there : 0 < processors code
   some_there = omega (arith, alone_of of_text)

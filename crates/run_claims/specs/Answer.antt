@@ -5,17 +5,19 @@ use Rattle.node_form.specs.declared.tables.Tables.{Tables}
 use Rattle.grid_runs.specs.Run.{grid_at, IsCutOff}
 use Rattle.call_claims.specs.declared.ran.Ran.{Ran}
 use Rattle.call_claims.specs.Call.{Call}
-use Rattle.call_claims.specs.Execution.{HasNoCounts, IsMadeOf}
+use Rattle.call_claims.specs.Execution.{HasNoCounts}
+use Rattle.list_claims.specs.Listing.{IsMadeOf}
 use Rattle.call_claims.specs.Command.{Asked, build_of}
 use Rattle.exec_claims.specs.Answer.{HasCounts}
 use Rattle.exec_claims.specs.Answer as orders
 use Rattle.run_claims.specs.Cause.{Runs}
 
 -- ---- the code and the counts
--- The code is made of the file's text, for the build: over links of every capacity it is right
--- after every order of turns, some order brings it in step to each bound of the meaning, and it
--- comes to its end in time; and it is tidy. It was not run, or it was run under the order that the
--- words ask for, and the counts are those of its grid after the given turns.
+-- The code is made of the file's text, for the build. That of a small program is over links of every
+-- capacity right after every order of turns, some order brings it in step to each bound of the
+-- meaning, and it comes to its end in time; and it is tidy. That of any other one is what the
+-- program is compiled to. It was not run, or it was run under the order that the words ask for, and
+-- the counts are those of its grid after the given turns.
 pub record IsMade (call : Call) (ran : Ran) (file : List ℕ) (asked : Asked) (code : Tables)
     : Type 0 where
   pub made : IsMadeOf call file (build_of asked) code

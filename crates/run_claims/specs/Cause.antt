@@ -2,7 +2,7 @@
 -- it is for `exec`: an order is read, and the code is run under it.
 use Rattle.std.specs.Prelude.{ℕ, List}
 use Rattle.call_claims.specs.Call.{Call}
-use Rattle.call_claims.specs.Cause.{ProgramCause}
+use Rattle.list_claims.specs.Cause.{ProgramCause}
 use Rattle.call_claims.specs.Execution.{Execution}
 use Rattle.call_claims.specs.Texts.{no_memory_text}
 use Rattle.call_claims.specs.declared.status.TheConstants.{NO_MEMORY}

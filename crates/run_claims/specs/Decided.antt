@@ -4,8 +4,9 @@
 --   HasCodeOf         code was made of the file's text
 --   IsUnder           it was run under the order that the words ask for
 --   IsTooFew          so few turns that no bound on those of the code is within them
+--   IsStopped         the code, which is no small program's, is stuck, or none of its processors moves
 --   IsExact           each status comes just where its own cause is
-use Rattle.std.specs.Prelude.{◌≡◌, ◌≢◌, ◌⊎◌, ◌↔◌, ℕ, ◌<◌, List, Some, Ok}
+use Rattle.std.specs.Prelude.{◌≡◌, ◌≢◌, ◌⊎◌, ◌↔◌, ℕ, ◌<◌, List, Some, Ok, ⊤}
 use Rattle.zpl_nums.specs.declared.ends.End.TheVariants.{More}
 use Rattle.node_form.specs.declared.tables.Tables.{Tables}
 use Rattle.zpl_claims.specs.Build.{Build}
@@ -17,15 +18,18 @@ use Rattle.grid_order.specs.Reading.{reading}
 use Rattle.grid_runs.specs.Run.{Run, GoesOnTo, IsLimitedAt, Stops, turns_in}
 use Rattle.call_claims.specs.Call.{Call}
 use Rattle.call_claims.specs.Cause.{IsTooLong}
-use Rattle.call_claims.specs.Decided.{HasNoProgramIn, HasUnboundIn, IsDecided, IsSettled}
+use Rattle.list_claims.specs.Decided.{HasNoProgramIn, HasUnboundIn}
+use Rattle.call_claims.specs.Decided.{IsDecided, IsSettled}
 use Rattle.call_claims.specs.Execution.{Execution}
-use Rattle.call_claims.specs.Source.{IsCodeOf, Source}
+use Rattle.list_claims.specs.Code.{HasNoSmall, IsCodeOf}
+use Rattle.list_claims.specs.Code.IsCodeOf.{of_small, of_other}
+use Rattle.call_claims.specs.Source.{Source}
 use Rattle.call_claims.specs.declared.status.TheConstants.{DONE, TOO_LONG, REFUSED}
 use Rattle.call_claims.specs.declared.status.TheConstants.{UNBOUND, TRAPPED, TURN_LIMIT}
 use Rattle.call_claims.specs.Command.{Asked, IsRun, build_of, limit_of}
 use Rattle.exec_claims.specs.Cause.{run_of}
 use Rattle.exec_claims.specs.Decided.{HasBadOrder, HasLongOrder, IsDoneAt, IsOneOrder, IsOrderText}
-use Rattle.exec_claims.specs.Decided.{IsTrapAt}
+use Rattle.exec_claims.specs.Decided.{IsStuckOrIdleAt, IsTrapAt}
 use Rattle.exec_claims.specs.declared.status.TheConstants.{ORDER_REFUSED, STUCK}
 use Rattle.run_claims.specs.Cause.{Runs}
 
@@ -74,15 +78,29 @@ abbrev pub IsTooFew : ℕ → Tables → (ℕ → Meaning) → (ℕ → ℕ) →
 IsTooFew limit code mean steps loops =
     (n : ℕ) → (mean n).ending ≢ More → limit < turn_bound code steps loops n
 
--- 8: all turns of the order, and all that may follow it, were given, and the run isn't over. Those
--- that may follow are fewer than the bound wherever the meaning ends.
+-- so where the code is that of a small program
+abbrev pub IsTooFewFor : {text : List ℕ} {build : Build} {code : Tables} → ℕ
+    → IsCodeOf text build code → Type 0
+IsTooFewFor {build = build} {code = code} limit (of_small of_text) =
+    IsTooFew limit code (mean_of of_text.program build.settings)
+    (steps_of of_text.program build.settings) (shattered_loops of_text.program)
+IsTooFewFor limit (of_other of_text) = ⊤
+
+-- 8: all turns of the order, and all that may follow it, were given, and the run isn't over. Of the
+-- code of a small program those that may follow are fewer than the bound wherever the meaning ends.
 pub record IsCutShort (call : Call) (file : List ℕ) (asked : Asked) (execution : Execution)
     : Type 0 where
   pub of_code : HasCodeOf call file (build_of asked) execution
       (IsUnder call asked execution.turns IsLimitedAt)
-  pub too_few : let program = of_code.of_text.program in
-      IsTooFew (limit_of asked) of_code.code (mean_of program asked.settings)
-      (steps_of program asked.settings) (shattered_loops program)
+  pub too_few : IsTooFewFor (limit_of asked) of_code.of_text
+
+-- ---- 12: a processor is stuck, or none can move
+-- The code is that of a program which isn't a small one.
+pub record IsStopped (call : Call) (file : List ℕ) (asked : Asked) (execution : Execution)
+    : Type 0 where
+  pub of_code : HasCodeOf call file (build_of asked) execution
+      (IsUnder call asked execution.turns IsStuckOrIdleAt)
+  pub no_small : HasNoSmall of_code.source.text (build_of asked)
 
 -- ---- 3: the program's file is too long, or that of the order, where code was made
 abbrev pub HasLongFile : Call → List ℕ → Asked → Execution → Type 0
@@ -105,5 +123,9 @@ pub record IsExact (call : Call) (execution : Execution) (status : ℕ) : Type 0
   pub trap : IsRunSettled call status → (status ≡ TRAPPED) ↔ RunsTo call execution IsTrapAt
   pub turn_limit : IsRunSettled call status
       → (status ≡ TURN_LIMIT) ↔ Runs call (λ file asked. IsCutShort call file asked execution)
-  -- 12 never comes: over links of every capacity the code goes on until it is over.
-  pub never_stuck : status ≢ STUCK
+  -- 12 never comes of a small program: over links of every capacity its code goes on until it is
+  -- over.
+  pub stuck : IsRunSettled call status
+      → (status ≡ STUCK) ↔ Runs call (λ file asked. IsStopped call file asked execution)
+  pub never_stuck : status ≡ STUCK
+      → Runs call (λ file asked. IsStopped call file asked execution)

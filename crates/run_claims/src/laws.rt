@@ -12,7 +12,8 @@ use zpl_io::Files;
 
 /// A status of `run` that has its cause comes just where its own cause is, where memory wasn't
 /// wanting, no put failed and the order is one; for some, where no fetch failed and the files tell
-/// one text a name. That a processor is stuck, or that none can move, never comes.
+/// one text a name. That a processor is stuck, or that none can move, never comes of a
+/// small program.
 pub fn run_causes_are_exact<F: Files>()
     ensures { (files : F) (words : List (List ℕ)) (ran : Execution) (n : ℕ) (told : List ℕ) →
         let call = call_of words (F.tells files) (F.may_fail files)

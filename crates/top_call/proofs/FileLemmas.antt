@@ -8,25 +8,28 @@ use Rattle.grid_meaning.specs.Stored.{box_of, stored}
 use Rattle.code_layout.specs.Room.{HasRoom}
 use Rattle.zpl_claims.specs.Build.{Build}
 use Rattle.call_claims.specs.Call.{Call}
-use Rattle.call_claims.specs.Cause.{TextFault, FileCause, ProgramCause}
-use Rattle.call_claims.specs.Cause.CodeCause.{faulty}
+use Rattle.list_claims.specs.Cause.{TextFault, ProgramCause}
+use Rattle.call_claims.specs.Cause.{FileCause}
+use Rattle.list_claims.specs.Cause.CodeCause.{faulty}
 use Rattle.call_claims.specs.Cause.FileCause.{unreadable, too_long, work}
-use Rattle.call_claims.specs.Cause.TextFault.{refused, unbound}
+use Rattle.list_claims.specs.Cause.TextFault.{refused, unbound}
 use Rattle.call_claims.specs.Decided.{IsDecided}
 use Rattle.call_claims.specs.Execution.{Execution, HasNoRun}
 use Rattle.call_claims.specs.Source.{Source}
 use Rattle.call_claims.specs.Texts.{too_long_text, unreadable_text}
 use Rattle.call_claims.specs.declared.status.TheConstants.{DONE, TOO_LONG, UNREADABLE}
 use Rattle.zpl_text.specs.declared.TheConstants.{MOST_SOURCE}
-use Rattle.call_answers.specs.Answers.{status_of, told_of, answer_of}
+use Rattle.call_answers.specs.Answers.{status_of, told_of}
 use Rattle.call_answers.specs.Fetched.{IsNoText}
 use Rattle.call_answers.proofs.FetchLemmas.{unread_is_decided}
-use Rattle.top_call.specs.Refusals.{Refuses}
+use Rattle.top_call.specs.Refusals.{answer_for, Refuses}
+use Rattle.top_call.specs.declared.compiling.Uncoded.{Uncoded}
+use Rattle.top_call.specs.declared.compiling.Uncoded.TheVariants.{Refused, Unbuilt}
 use Rattle.top_call.specs.Work.{IsUncoded, HasNoCode}
 use Rattle.call_answers.specs.declared.answers.Answer.{Answer}
 use Rattle.call_answers.specs.declared.answers.Answer.TheVariants as answer
-use Rattle.call_answers.specs.declared.refusals.Refusal.{Refusal}
-use Rattle.call_answers.specs.declared.refusals.Refusal.TheVariants.{Lex, Parse, Judge, Bind, NotBuilt}
+use Rattle.call_answers.specs.declared.refusals.BuildFault.TheVariants as unbuilt
+use Rattle.call_answers.specs.declared.refusals.Refusal.TheVariants.{Lex, Parse, Judge, Bind}
 use Rattle.call_answers.specs.declared.refusals.Refusal.TheVariants.{NoMemory}
 
 -- code without arrays has room
@@ -36,25 +39,29 @@ no_arrays_have_room code none =
     words_of (record { grid = code.grid; boxes = map box_of (stored arrays) }) ≤ 16777216)
     (sym none) (omega arith)
 
--- ---- a text's refusal is the fault of its answer
-pub uncoded : (text : List ℕ) (build : Build) (refusal : Refusal)
-    → Refuses text build refusal → IsUncoded text build (answer_of text refusal)
-uncoded text build (Lex fault) refuses = λ d. refused _ refuses
-uncoded text build (Parse fault) refuses = λ d. refused _ refuses
-uncoded text build (Judge fault) refuses = λ d. refused _ refuses
-uncoded text build (Bind fault) refuses = λ d. unbound _ refuses
-uncoded text build NotBuilt refuses = λ d. refused _ refuses
-uncoded text build NoMemory refuses = λ d. absurd (d.memory refl)
+-- ---- why a text has no code is the fault of its answer
+pub uncoded : (text : List ℕ) (build : Build) (why : Uncoded)
+    → Refuses text build why → IsUncoded text build (answer_for text why)
+uncoded text build (Refused (Lex fault)) refuses = λ d. refused _ refuses
+uncoded text build (Refused (Parse fault)) refuses = λ d. refused _ refuses
+uncoded text build (Refused (Judge fault)) refuses = λ d. refused _ refuses
+uncoded text build (Refused (Bind fault)) refuses = λ d. unbound _ refuses
+uncoded text build (Refused NoMemory) refuses = λ d. absurd (d.memory refl)
+uncoded text build (Unbuilt unbuilt.BadShape) refuses = λ d. unbound _ refuses
+uncoded text build (Unbuilt unbuilt.TooManyStatements) refuses = λ d. refused _ refuses
+uncoded text build (Unbuilt unbuilt.TooManyNodes) refuses = λ d. refused _ refuses
+uncoded text build (Unbuilt unbuilt.NotBuilt) refuses = λ d. refused _ refuses
+uncoded text build (Unbuilt unbuilt.TooMuchStorage) refuses = λ d. unbound _ refuses
 
--- an answer of a refusal is no failed put
-pub refusal_not_put : (text : List ℕ) (refusal : Refusal)
-    → answer_of text refusal ≢ answer.PutFailed
-refusal_not_put text (Lex fault) = λ e. cc
-refusal_not_put text (Parse fault) = λ e. cc
-refusal_not_put text (Judge fault) = λ e. cc
-refusal_not_put text (Bind fault) = λ e. cc
-refusal_not_put text NotBuilt = λ e. cc
-refusal_not_put text NoMemory = λ e. cc
+-- its answer is no failed put
+pub refusal_not_put : (text : List ℕ) (why : Uncoded)
+    → answer_for text why ≢ answer.PutFailed
+refusal_not_put text (Refused (Lex fault)) = λ e. cc
+refusal_not_put text (Refused (Parse fault)) = λ e. cc
+refusal_not_put text (Refused (Judge fault)) = λ e. cc
+refusal_not_put text (Refused (Bind fault)) = λ e. cc
+refusal_not_put text (Refused NoMemory) = λ e. cc
+refusal_not_put text (Unbuilt fault) = λ e. cc
 
 -- ---- a fault of a text is told of its file
 pub no_code : (call : Call) (file : List ℕ) (build : Build) (source : Source call file)
@@ -76,6 +83,7 @@ unfetched call file build answer.NoMemory is = λ d. absurd (d.memory refl)
 unfetched call file build answer.Usage is = absurd is
 unfetched call file build (answer.Refused refusal line) is = absurd is
 unfetched call file build (answer.Unbound fault) is = absurd is
+unfetched call file build (answer.Unbuilt fault) is = absurd is
 unfetched call file build (answer.BadLine line) is = absurd is
 unfetched call file build (answer.BadTable line) is = absurd is
 unfetched call file build (answer.BadItem at) is = absurd is
@@ -90,6 +98,7 @@ unfetched_not_put Tells May limit file answer.NoMemory is = λ e. cc
 unfetched_not_put Tells May limit file answer.Usage is = absurd is
 unfetched_not_put Tells May limit file (answer.Refused refusal line) is = absurd is
 unfetched_not_put Tells May limit file (answer.Unbound fault) is = absurd is
+unfetched_not_put Tells May limit file (answer.Unbuilt fault) is = absurd is
 unfetched_not_put Tells May limit file (answer.BadLine line) is = absurd is
 unfetched_not_put Tells May limit file (answer.BadTable line) is = absurd is
 unfetched_not_put Tells May limit file (answer.BadItem at) is = absurd is

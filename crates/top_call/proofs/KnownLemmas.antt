@@ -4,14 +4,14 @@ use Rattle.node_form.specs.declared.tables.Tables.{Tables}
 use Rattle.zpl_claims.specs.Build.{Build}
 use Rattle.call_claims.specs.Call.{Call}
 use Rattle.call_claims.specs.Command.{build_of}
-use Rattle.call_claims.specs.Cause.{Cause, CodeCause, IsListed, ProgramCause}
-use Rattle.call_claims.specs.Cause.Cause.{no_memory, list}
-use Rattle.call_claims.specs.Cause.CodeCause.{faulty, made}
+use Rattle.list_claims.specs.Cause.{Cause, CodeCause, IsListed, ProgramCause}
+use Rattle.list_claims.specs.Cause.Cause.{no_memory, list}
+use Rattle.list_claims.specs.Cause.CodeCause.{faulty, made}
 use Rattle.call_claims.specs.Cause.FileCause.{unreadable, too_long, work}
-use Rattle.call_claims.specs.Cause.IsListed.{listed}
+use Rattle.list_claims.specs.Cause.IsListed.{listed}
 use Rattle.call_claims.specs.Execution.{Execution}
 use Rattle.call_claims.specs.declared.status.TheConstants.{USAGE}
-use Rattle.call_claims.proofs.ProgramLemmas.{fault_other}
+use Rattle.list_claims.proofs.ProgramLemmas.{fault_other}
 use Rattle.exec_claims.proofs.KnownLemmas.{order_file_known}
 use Rattle.run_claims.specs.Cause as run_cause
 use Rattle.run_claims.specs.Cause.Cause.{no_memory as wanting, run}

@@ -5,13 +5,14 @@ use Rattle.zpl_io.specs.Sink.{Takes, TakesFront}
 use Rattle.node_form.specs.declared.tables.Tables.{Tables}
 use Rattle.listing_rows.specs.Listing.{listing_of}
 use Rattle.call_claims.specs.Call.{Call}
-use Rattle.call_claims.specs.Cause.{IsListed, ListCause}
-use Rattle.call_claims.specs.Cause.CodeCause.{made}
+use Rattle.list_claims.specs.Cause.{IsListed, ListCause}
+use Rattle.list_claims.specs.Cause.CodeCause.{made}
 use Rattle.call_claims.specs.Cause.FileCause.{work as of_text}
-use Rattle.call_claims.specs.Cause.IsListed.{listed}
+use Rattle.list_claims.specs.Cause.IsListed.{listed}
 use Rattle.call_claims.specs.Command.{Asked, build_of}
 use Rattle.call_claims.specs.Decided.{IsDecided}
-use Rattle.call_claims.specs.Execution.{HasNoRun, IsMadeOf, TakesListing, TakesListingFront}
+use Rattle.call_claims.specs.Execution.{HasNoRun}
+use Rattle.list_claims.specs.Listing.{IsMadeOf, TakesListing, TakesListingFront}
 use Rattle.call_claims.specs.Stream.{Stream}
 use Rattle.call_claims.specs.declared.status.TheConstants.{DONE, PUT_FAILED, UNREADABLE}
 use Rattle.call_answers.specs.Told.{IsAnswerOf}

@@ -3,7 +3,7 @@ use Rattle.std.proofs.Common.{◌≡◌, ◌≢◌, ℕ, List, Some, None, Match
 use Rattle.std.proofs.Common.{sym, ap, subst, inl, inr}
 use Rattle.node_form.specs.declared.tables.Tables.{Tables}
 use Rattle.call_claims.specs.Call.{Call}
-use Rattle.call_claims.specs.Cause.CodeCause.{made as of_code_made}
+use Rattle.list_claims.specs.Cause.CodeCause.{made as of_code_made}
 use Rattle.call_claims.specs.Cause.FileCause.{work as of_file}
 use Rattle.call_claims.specs.Command.{Asked, IsRun, build_of}
 use Rattle.call_claims.specs.Decided.{IsDecided}

@@ -1,17 +1,18 @@
 -- What is said of a call of `run` and of `list`, and of words that are no command; and which words
 -- are which command. Of `exec` it is said by `IsExecuted` of `exec_call`, of `mean` by `IsMeant` of
--- `mean_call`.
+-- `mean_call`, of `time` by `IsTimed` of `time_call`.
 use Rattle.std.specs.Prelude.{◌≡◌, ◌≢◌, ◌⊎◌, ℕ, List, [], IfSome, MatchOption, None}
 use Rattle.zpl_io.specs.Faults.{Rose}
 use Rattle.zpl_io.specs.Sink.{Takes, TakesFront}
 use Rattle.call_claims.specs.declared.ran.Ran.{Ran}
 use Rattle.call_claims.specs.Answer.{IsAnswered, IsHalfAnswered}
 use Rattle.call_claims.specs.Call.{Call}
-use Rattle.call_claims.specs.Cause.{Cause, Lists}
-use Rattle.call_claims.specs.Command.{Asked, IsExec, IsList, IsMean, IsRun, build_of}
-use Rattle.call_claims.specs.Decided.{IsExact}
-use Rattle.call_claims.specs.Execution.{execution_of, HasNoCounts, IsMadeOf, TakesListingFront}
-use Rattle.call_claims.specs.Execution.{TakesOutput}
+use Rattle.list_claims.specs.Cause.{Cause, Lists}
+use Rattle.call_claims.specs.Command.{Asked, IsExec, IsList, IsMean, IsRun, IsTime, build_of}
+use Rattle.list_claims.specs.Decided.{IsExact}
+use Rattle.call_claims.specs.Execution.{execution_of, HasNoCounts}
+use Rattle.list_claims.specs.Listing.{IsMadeOf, TakesListingFront}
+use Rattle.list_claims.specs.Listing.{TakesOutput}
 use Rattle.call_claims.specs.Stream.{Stream}
 use Rattle.call_claims.specs.Texts.{usage_text}
 use Rattle.call_claims.specs.declared.status.TheConstants.{PUT_FAILED, USAGE}
@@ -32,13 +33,17 @@ AsksRun words = (file : List ℕ) × (asked : Asked) × IsRun words file asked
 abbrev pub AsksExec : List (List ℕ) → Type 0
 AsksExec words = (file : List ℕ) × (asked : Asked) × IsExec words file asked
 
+abbrev pub AsksTime : List (List ℕ) → Type 0
+AsksTime words = (file : List ℕ) × (asked : Asked) × IsTime words file asked
+
 -- ---- run
 pub record IsRan (call : Call) (answered : Ran) (out errs : Stream) : Type 0 where
-  -- The code is made of the text that the file of the words tells, under their settings: over links
-  -- of every capacity it is right after every order of turns, some order brings it in step to each
-  -- bound of the meaning, and it comes to its end in time; and it is tidy. It was not run, or it
-  -- was under the order that the words ask for, and the counts are those of the grid after the
-  -- given turns, before which it is neither over nor idle.
+  -- The code is made of the text that the file of the words tells, for the build that they ask for.
+  -- That of a small program is over links of every capacity right after every order of turns, some
+  -- order brings it in step to each bound of the meaning, and it comes to its end in time; and it is
+  -- tidy. That of any other one is what the program is compiled to. It was not run, or it was under
+  -- the order that the words ask for, and the counts are those of the grid after the given turns,
+  -- before which it is neither over nor idle.
   pub code : MatchOption answered.code (HasNoCounts answered) (IsMadeFor call answered)
   -- Out took what that grid has printed.
   pub output : answered.status ≢ PUT_FAILED
@@ -47,7 +52,8 @@ pub record IsRan (call : Call) (answered : Ran) (out errs : Stream) : Type 0 whe
   -- behind it.
   pub cause : answered.status ≢ PUT_FAILED
       → IsAnswered (ran.Cause call (execution_of answered)) answered.status errs.before errs.after
-  -- When each status comes. That a processor is stuck, or that none can move, never comes.
+  -- When each status comes. That a processor is stuck, or that none can move, never comes of a small
+  -- program.
   pub exact : answered.status ≢ PUT_FAILED
       → IsRunExact call (execution_of answered) answered.status
   -- A put failed: one of out, and errs took nothing, or one of errs, once out had taken all.
@@ -60,8 +66,8 @@ pub record IsRan (call : Call) (answered : Ran) (out errs : Stream) : Type 0 whe
 
 -- ---- list
 pub record IsListed (call : Call) (answered : Ran) (out errs : Stream) : Type 0 where
-  -- The code is made of the text that the file of the words tells, under their settings, and was
-  -- not run.
+  -- The code is made of the text that the file of the words tells, for the build that they ask for,
+  -- and was not run.
   pub code : IfSome answered.code
       (λ code. Lists call (λ file asked. IsMadeOf call file (build_of asked) code))
   pub no_counts : HasNoCounts answered

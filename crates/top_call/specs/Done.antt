@@ -6,6 +6,7 @@ use Rattle.call_words.specs.declared.commands.Command.{Command}
 use Rattle.call_words.specs.declared.commands.Command.TheVariants as command
 use Rattle.exec_call.specs.Call.{IsExecuted}
 use Rattle.mean_call.specs.Call.{IsMeant}
+use Rattle.time_call.specs.Call.{IsTimed}
 use Rattle.top_call.specs.Call.{IsListed, IsRan}
 
 abbrev pub IsDone : Command → Call → Ran → Stream → Stream → Type 0
@@ -13,3 +14,4 @@ IsDone (command.List of) call ran out errs = IsListed call ran out errs
 IsDone (command.Mean of) call ran out errs = IsMeant call ran out errs
 IsDone (command.Run of) call ran out errs = IsRan call ran out errs
 IsDone (command.Exec of) call ran out errs = IsExecuted call ran out errs
+IsDone (command.Time of) call ran out errs = IsTimed call ran out errs

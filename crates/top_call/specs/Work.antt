@@ -8,10 +8,12 @@ use Rattle.std.specs.Prelude.{◌≡◌, ◌⊎◌, ℕ, List, None, Some}
 use Rattle.node_form.specs.declared.tables.Tables.{Tables}
 use Rattle.zpl_claims.specs.Build.{Build}
 use Rattle.call_claims.specs.Call.{Call}
-use Rattle.call_claims.specs.Cause.{TextFault, FileCause, ListCause}
+use Rattle.list_claims.specs.Cause.{TextFault, ListCause}
+use Rattle.call_claims.specs.Cause.{FileCause}
 use Rattle.call_claims.specs.Command.{Asked, build_of}
 use Rattle.call_claims.specs.Decided.{IsDecided}
-use Rattle.call_claims.specs.Execution.{Execution, HasNoRun, IsMadeOf}
+use Rattle.call_claims.specs.Execution.{Execution, HasNoRun}
+use Rattle.list_claims.specs.Listing.{IsMadeOf}
 use Rattle.grid_call.specs.Work.{HasNoTurns, IsCodeWork}
 use Rattle.call_answers.specs.Answers.{status_of, told_of}
 use Rattle.call_answers.specs.Work.{execution_in}

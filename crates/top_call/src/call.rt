@@ -9,8 +9,9 @@ ghost use Rattle.call_claims.specs.declared.status.TheConstants.{USAGE};
 ghost use Rattle.call_answers.specs.Stops.{CallStopsAtFault};
 ghost use Rattle.exec_call.specs.Call.{IsExecuted};
 ghost use Rattle.mean_call.specs.Call.{IsMeant};
-ghost use Rattle.top_call.specs.Call.{AsksExec, AsksList, AsksMean, AsksRun, IsListed, IsRan};
-ghost use Rattle.top_call.specs.Call.{IsUnknown};
+ghost use Rattle.time_call.specs.Call.{IsTimed};
+ghost use Rattle.top_call.specs.Call.{AsksExec, AsksList, AsksMean, AsksRun, AsksTime, IsListed};
+ghost use Rattle.top_call.specs.Call.{IsRan, IsUnknown};
 
 use crate::commands::perform;
 use call_answers::{Answer, Work, answered};
@@ -19,8 +20,8 @@ use call_words::command_of;
 use std::alloc::Global;
 use zpl_io::{Files, Sink};
 
-/// Does what the words ask for: what the program prints, or its listing, goes to `out`, and what is
-/// told of the answer to `errs`.
+/// Does what the words ask for: what the program prints, its listing, or the time of its run goes to
+/// `out`, and what is told of the answer to `errs`.
 ///
 /// The status has its cause. After a failed put nothing more is put on either sink.
 pub fn zplgrid<F: Files, O: Sink, E: Sink>(
@@ -61,6 +62,16 @@ pub fn zplgrid<F: Files, O: Sink, E: Sink>(
     ensures mean { let call = call_of (map string_bytes words.now) (F.tells files.old)
         (F.may_fail files.old) (F.may_fail_later files.old) in
         AsksMean call.words → IsMeant call result
+        (stream_of (O.tells out.old) (O.tells out.new) (O.faults out.old) (O.faults out.new)
+        (out.new ≡ out.old))
+        (stream_of (E.tells errs.old) (E.tells errs.new) (E.faults errs.old) (E.faults errs.new)
+        (errs.new ≡ errs.old)) }
+
+    // `time`: what code is read and run, what its moves take at least, and why the status is what
+    // it is.
+    ensures time { let call = call_of (map string_bytes words.now) (F.tells files.old)
+        (F.may_fail files.old) (F.may_fail_later files.old) in
+        AsksTime call.words → IsTimed call result
         (stream_of (O.tells out.old) (O.tells out.new) (O.faults out.old) (O.faults out.new)
         (out.new ≡ out.old))
         (stream_of (E.tells errs.old) (E.tells errs.new) (E.faults errs.old) (E.faults errs.new)

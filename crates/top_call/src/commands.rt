@@ -16,6 +16,7 @@ use call_words::Command;
 use exec_call::exec;
 use mean_call::mean;
 use std::alloc::Global;
+use time_call::time;
 use zpl_io::{Files, Sink};
 
 /// Does what a command asks for.
@@ -53,5 +54,6 @@ pub fn perform<F: Files, O: Sink, E: Sink>(
         Command::Mean(of) => mean(alloc, of, files, out, errs),
         Command::Run(of) => run(alloc, of, files, out, errs),
         Command::Exec(of) => exec(alloc, of, files, out, errs),
+        Command::Time(of) => time(alloc, of, files, out, errs),
     }
 }

@@ -6,8 +6,8 @@ ghost use Rattle.zpl_text.specs.declared.TheConstants.{MOST_SOURCE};
 ghost use Rattle.code_layout.specs.Room.{HasRoom};
 ghost use Rattle.call_claims.specs.Call.{call_of};
 ghost use Rattle.call_claims.specs.Command.{build_of};
-ghost use Rattle.call_claims.specs.Execution.{IsMadeOf};
-ghost use Rattle.call_claims.specs.Source.{IsCodeOf};
+ghost use Rattle.list_claims.specs.Listing.{IsMadeOf};
+ghost use Rattle.list_claims.specs.Code.{IsCodeOf};
 ghost use Rattle.call_answers.specs.Fetched.{FailsToFetch};
 ghost use Rattle.call_words.specs.Reading.{asked_in};
 ghost use Rattle.top_call.specs.Work.{HasNoCode, IsUncoded};
@@ -61,6 +61,6 @@ fn code_of_text<'a>(alloc: Global, text: &[u8], asked: Asked<'_>) -> Result<Node
 {
     match compile(alloc, text, asked) {
         Ok(code) => Ok(code),
-        Err(refusal) => Err(Answer::of_refusal(text, refusal)),
+        Err(uncoded) => Err(uncoded.answer(text)),
     }
 }

@@ -4,7 +4,8 @@ use std::alloc::{AllocError, Global};
 use std::process::Abort;
 use std::test::Fail;
 
-const NOT_BUILT: &str = "refused: NotBuilt, line 1, byte 0\n";
+/// What is told of code that is given no turn.
+const NO_TURN: &str = "turn limit\n";
 
 const TOO_DEEP: &str = "refused: TooDeep\n";
 
@@ -51,21 +52,21 @@ const TEXTS: [Row; 11] = [
         (4, "", "refused: NoEntry, line 1, byte 8\n", 0),
     ),
     (
-        &["run", "a"],
+        &["run", "a", "turns=0"],
         "program t; config var n : integer = 1; procedure t(); begin end;",
-        (4, "", NOT_BUILT, 0),
+        (8, "", NO_TURN, 0),
     ),
     (
-        &["run", "a"],
+        &["run", "a", "turns=0"],
         "program t;\ndirection e = [1]; region R = [1..4]; var A, B : [R] integer;\n\
          procedure t(); begin [R] B := A@^e; end;",
-        (4, "", NOT_BUILT, 0),
+        (8, "", NO_TURN, 0),
     ),
     (
-        &["run", "a"],
+        &["run", "a", "turns=0"],
         "program t;\nregion R = [1..4]; var A, B : [R] integer;\n\
          procedure t(); begin [R] B := A#[5 - Index1]; end;",
-        (4, "", NOT_BUILT, 0),
+        (8, "", NO_TURN, 0),
     ),
 ];
 
@@ -106,7 +107,7 @@ const STATEMENTS: [(&str, &str); 10] = [
 ];
 
 /// Runs so many statements one after another, and another one behind them, which begin at byte 49
-/// on line 5 and are refused.
+/// on line 5, without a turn: this is told.
 fn expect_statements(
     rt: &impl Abort,
     alloc: Global,
@@ -122,7 +123,15 @@ fn expect_statements(
     }
     text.extend_from_slice(last.as_bytes())?;
     text.extend_from_slice(b"\nend;\n")?;
-    expect(rt, alloc, &["run", "a"], &text, "", (4, "", errs, 0))
+    let status = if errs == NO_TURN { 8 } else { 4 };
+    expect(
+        rt,
+        alloc,
+        &["run", "a", "turns=0"],
+        &text,
+        "",
+        (status, "", errs, 0),
+    )
 }
 
 #[test]
@@ -155,12 +164,12 @@ fn brackets(alloc: Global, pairs: usize) -> Result<String, Fail> {
 #[test]
 fn deep_and_long_texts(rt: HostRuntime) -> Result<(), Fail> {
     let alloc = rt.alloc();
-    for (pairs, errs) in [(199, NOT_BUILT), (200, TOO_DEEP), (100_000, TOO_DEEP)] {
+    for (pairs, errs) in [(199, NO_TURN), (200, TOO_DEEP), (100_000, TOO_DEEP)] {
         let statement = brackets(alloc, pairs)?;
         expect_statements(&rt, alloc, 0, "", statement.as_str(), errs)?;
     }
     let errs = "refused: Syntax, line 5, byte 12552\n";
-    for (last, errs) in [("", NOT_BUILT), ("x:=;", errs)] {
+    for (last, errs) in [("", NO_TURN), ("x:=;", errs)] {
         expect_statements(&rt, alloc, 2_500, "x:=1;", last, errs)?;
     }
     Ok(())

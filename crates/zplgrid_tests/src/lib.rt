@@ -8,6 +8,8 @@ mod execs;
 #[cfg(test)]
 mod faults;
 #[cfg(test)]
+mod grids;
+#[cfg(test)]
 mod lists;
 #[cfg(test)]
 mod means;
@@ -17,3 +19,7 @@ mod orders;
 mod rows;
 #[cfg(test)]
 mod settings;
+#[cfg(test)]
+mod sizes;
+#[cfg(test)]
+mod times;

@@ -38,8 +38,8 @@ const NO_COMMANDS: [Row; 5] = [
     (&["list", "a", "list"], COUNT, (1, "", USAGE, 0)),
 ];
 
-/// Texts that have no listing.
-const REFUSED: [Row; 5] = [
+/// Texts that have no listing, and one of an array.
+const OTHERS: [Row; 7] = [
     (
         &["list", "none.zpl"],
         "",
@@ -63,7 +63,22 @@ const REFUSED: [Row; 5] = [
     (
         &["list", "a"],
         "program t; var A : [1..2] integer; procedure t(); begin end;",
-        (4, "", "refused: NotBuilt, line 1, byte 0\n", 0),
+        (
+            0,
+            "zplnode 1\ngrid 1\nscalars 0\nslots\ncells 0\narray 1..2:0,0\ncode\nend\n",
+            "",
+            0,
+        ),
+    ),
+    (
+        &["list", "a"],
+        "program t; var A, B, C, D, E : [1..4194304] integer; procedure t(); begin end;",
+        (5, "", "settings refused: TooMuchStorage\n", 0),
+    ),
+    (
+        &["list", "a", "grid=0"],
+        "program t; var A : [1..2] integer; procedure t(); begin end;",
+        (5, "", "settings refused: BadShape\n", 0),
     ),
 ];
 
@@ -71,7 +86,7 @@ const REFUSED: [Row; 5] = [
 fn listings(rt: HostRuntime) -> Result<(), Fail> {
     expect_rows(&rt, rt.alloc(), &LISTINGS)?;
     expect_rows(&rt, rt.alloc(), &NO_COMMANDS)?;
-    expect_rows(&rt, rt.alloc(), &REFUSED)?;
+    expect_rows(&rt, rt.alloc(), &OTHERS)?;
     let long = vec![in rt.alloc(); b' '; 1_048_577]?;
     let too_long = (3, "", "too long: a\n", 0);
     expect(&rt, rt.alloc(), &["list", "a"], &long, "", too_long)?;

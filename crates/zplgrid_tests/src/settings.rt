@@ -2,7 +2,14 @@
 use super::rows::{Row, USAGE, expect_rows};
 use std::test::Fail;
 
-const NOT_BUILT: &str = "refused: NotBuilt, line 1, byte 0\n";
+/// The listing of the code of a program with a region of five tuples.
+const FIVE: &str = "zplnode 1\ngrid 1\nscalars 0\nslots 1\ncells 0\ncode\nfix 0 1..5:1:1\nend\n";
+
+/// With a region of one.
+const ONE: &str = "zplnode 1\ngrid 1\nscalars 0\nslots 1\ncells 0\ncode\nfix 0 1..1:1:1\nend\n";
+
+/// With none.
+const NONE: &str = "zplnode 1\ngrid 1\nscalars 0\nslots\ncells 0\ncode\nend\n";
 
 const UNKNOWN: &str = "settings refused: UnknownConfig\n";
 
@@ -52,8 +59,8 @@ const ONE_WORD: [Row; 32] = [
     (&["list", "a", "turns:=1"], SMALL, (5, "", UNKNOWN, 0)),
     (&["run", "a", "_0:="], SMALL, (5, "", UNKNOWN, 0)),
     (&["list", "a", "_0:="], SMALL, (5, "", UNKNOWN, 0)),
-    (&["run", "a", "n:=5"], CONFIGS, (4, "", NOT_BUILT, 0)),
-    (&["list", "a", "n:=5"], CONFIGS, (4, "", NOT_BUILT, 0)),
+    (&["run", "a", "n:=5"], CONFIGS, (0, "", "", 2)),
+    (&["list", "a", "n:=5"], CONFIGS, (0, FIVE, "", 0)),
     (
         &["run", "a", "n:=-00"],
         CONFIGS,
@@ -64,8 +71,8 @@ const ONE_WORD: [Row; 32] = [
         CONFIGS,
         (5, "", "settings refused: BadConstant\n", 0),
     ),
-    (&["run", "a", "b:=false"], CONFIGS, (4, "", NOT_BUILT, 0)),
-    (&["list", "a", "b:=false"], CONFIGS, (4, "", NOT_BUILT, 0)),
+    (&["run", "a", "b:=false"], CONFIGS, (0, "", "", 2)),
+    (&["list", "a", "b:=false"], CONFIGS, (0, ONE, "", 0)),
     (&["run", "a", "N:=5"], CONFIGS, (5, "", UNKNOWN, 0)),
     (&["list", "a", "N:=5"], CONFIGS, (5, "", UNKNOWN, 0)),
     (&["run", "a", "c:=5"], CONFIGS, (5, "", UNKNOWN, 0)),
@@ -86,8 +93,8 @@ const ONE_WORD: [Row; 32] = [
         CONFIGS,
         (5, "", "settings refused: DirectionLimit\n", 0),
     ),
-    (&["run", "a", "n:=2"], DEFAULT, (4, "", NOT_BUILT, 0)),
-    (&["list", "a", "n:=2"], DEFAULT, (4, "", NOT_BUILT, 0)),
+    (&["run", "a", "n:=2"], DEFAULT, (0, "", "", 1)),
+    (&["list", "a", "n:=2"], DEFAULT, (0, NONE, "", 0)),
     (
         &["run", "a", "n:=x"],
         JUDGED,
@@ -119,7 +126,7 @@ const SEVERAL: [Row; 6] = [
     (
         &["run", "a", "n:=5", "turns=7", "b:=false"],
         CONFIGS,
-        (4, "", NOT_BUILT, 0),
+        (0, "", "", 2),
     ),
     (
         &["run", "a", "turns=7", "turns=7", "n:=5"],
@@ -134,7 +141,7 @@ const SEVERAL: [Row; 6] = [
     (
         &["list", "a", "b:=false", "n:=5"],
         CONFIGS,
-        (4, "", NOT_BUILT, 0),
+        (0, FIVE, "", 0),
     ),
     (&["run", "n:=5"], CONFIGS, (2, "", "cannot read n:=5\n", 0)),
 ];

@@ -3,7 +3,7 @@ use Rattle.call_claims.specs.Call.{call_of}
 use Rattle.call_answers.proofs.FetchLemmas.{on_err, on_ok}
 use Rattle.call_answers.specs.Fetched.{IsWholeText}
 use Rattle.exec_claims.specs.declared.limits.TheConstants.{MOST_LISTING}
-use Rattle.grid_call.proofs.WorkLemmas.{source_of, unfetched_order, unread_order}
+use Rattle.grid_call.proofs.WorkLemmas.{source_of, unfetched_order, unfetched_unrun, unread_order}
 use Rattle.grid_call.proofs.orders.fetch_named.Goals as goal
 
 pub order_of-requires : goal.order_of-requires
@@ -44,3 +44,9 @@ returns-in-Err-clause-err g c = λ words.
     (g.F.Files.may_fail c.args.files.now) (g.F.Files.may_fail_later c.args.files.now) in
     unfetched_order call c.args.code.now c.args.file.now c.in-Err.answer
     (c.in-Err.ensures {u = tt}).err_later
+
+pub returns-in-Err-clause-unrun : goal.returns-in-Err-clause-unrun
+returns-in-Err-clause-unrun g c =
+    unfetched_unrun (g.F.Files.tells c.args.files.now c.args.file.now)
+    (g.F.Files.may_fail c.args.files.now c.args.file.now) MOST_LISTING c.args.file.now c.in-Err.answer
+    (c.in-Err.ensures {u = tt}).err

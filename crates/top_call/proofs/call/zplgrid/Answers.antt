@@ -4,7 +4,7 @@ use Rattle.call_answers.specs.declared.answers.Answer.TheVariants as answer
 use Rattle.call_answers.proofs.CallLemmas.{call_stops}
 use Rattle.top_call.specs.Call.{IsUnknown}
 use Rattle.top_call.proofs.UnknownLemmas.{tells_usage, usage_read}
-use Rattle.top_call.proofs.WordLemmas.{is_some, of_exec, of_list, of_mean, of_run}
+use Rattle.top_call.proofs.WordLemmas.{is_some, of_exec, of_list, of_mean, of_run, of_time}
 use Rattle.top_call.proofs.call.zplgrid.Goals as goal
 
 pub perform-requires : goal.perform-requires
@@ -39,6 +39,13 @@ returns-in-Some-clause-mean g c = λ asks.
     of_mean c.commands_are_one.ensures words _ _ _ _ c.in-Some.command is asks
     (c.perform.ensures.done words is)
 
+pub returns-in-Some-clause-time : goal.returns-in-Some-clause-time
+returns-in-Some-clause-time g c = λ asks.
+    let words = map string_bytes c.args.words.now in
+    let is = c.in-Some.ensures {u = tt} in
+    of_time c.commands_are_one.ensures words _ _ _ _ c.in-Some.command is asks
+    (c.perform.ensures.done words is)
+
 pub returns-in-Some-clause-unknown : goal.returns-in-Some-clause-unknown
 returns-in-Some-clause-unknown g c = λ none.
     absurd (is_some c.commands_are_one.ensures (map string_bytes c.args.words.now)
@@ -62,6 +69,10 @@ returns-in-None-clause-exec g c = λ asks.
 pub returns-in-None-clause-mean : goal.returns-in-None-clause-mean
 returns-in-None-clause-mean g c = λ asks.
     absurd ((c.in-None.ensures {u = tt}).no_mean asks.0 asks.1 asks.2)
+
+pub returns-in-None-clause-time : goal.returns-in-None-clause-time
+returns-in-None-clause-time g c = λ asks.
+    absurd ((c.in-None.ensures {u = tt}).no_time asks.0 asks.1 asks.2)
 
 pub returns-in-None-clause-unknown : goal.returns-in-None-clause-unknown
 returns-in-None-clause-unknown g c = λ none.

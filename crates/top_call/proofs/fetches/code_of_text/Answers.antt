@@ -9,10 +9,10 @@ use Rattle.top_call.proofs.fetches.code_of_text.Goals as goal
 pub returns-in-Err-clause-none : goal.returns-in-Err-clause-none
 returns-in-Err-clause-none c =
     let build = build_of (asked_in c.args.asked) in
-    subst (IsUncoded c.args.text.now build) (sym c.of_refusal.ensures)
-    (uncoded c.args.text.now build c.in-Err.refusal (c.in-Err.ensures {u = tt}).refused)
+    subst (IsUncoded c.args.text.now build) (sym c.answer.ensures)
+    (uncoded c.args.text.now build c.in-Err.uncoded (c.in-Err.ensures {u = tt}).refused)
 
 pub returns-in-Err-clause-put : goal.returns-in-Err-clause-put
 returns-in-Err-clause-put c =
-    subst (λ a. a ≢ answer.PutFailed) (sym c.of_refusal.ensures)
-    (refusal_not_put c.args.text.now c.in-Err.refusal)
+    subst (λ a. a ≢ answer.PutFailed) (sym c.answer.ensures)
+    (refusal_not_put c.args.text.now c.in-Err.uncoded)

@@ -1,11 +1,11 @@
 use Rattle.std.proofs.Common.{◌≡◌, ◌≢◌, None, inl, inr, sym, ◌∙◌, ap, subst, arith}
 use Rattle.call_claims.specs.Call.{call_of}
 use Rattle.call_claims.specs.Stream.{stream_of}
-use Rattle.call_claims.specs.Cause.{Cause, Lists}
-use Rattle.call_claims.specs.Cause.Cause.{list, no_memory}
+use Rattle.list_claims.specs.Cause.{Cause, Lists}
+use Rattle.list_claims.specs.Cause.Cause.{list, no_memory}
 use Rattle.call_claims.specs.Command.{build_of}
 use Rattle.call_claims.specs.Decided.{IsDecided}
-use Rattle.call_claims.specs.Execution.{IsMadeOf}
+use Rattle.list_claims.specs.Listing.{IsMadeOf}
 use Rattle.call_answers.specs.Answers.{status_of, told_of}
 use Rattle.call_answers.specs.Work.{execution_in}
 use Rattle.call_answers.specs.declared.answers.Answer.TheVariants as answer

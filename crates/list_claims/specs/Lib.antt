@@ -1,0 +1,5 @@
+pub mod Cause
+pub mod Code
+pub mod Decided
+pub mod Listing
+pub mod Refusal

@@ -1,0 +1,12 @@
+//! What a call of `list FILE` says: a program is compiled and its code listed, what code is made of
+//! which texts, why others have none, and the cause of each status.
+//!
+//! The definitions stand in `specs/`. The functions here do nothing: each has a law of the
+//! definitions as its contract.
+#![tactic(auto)]
+
+mod laws;
+mod limits;
+
+pub use laws::list_statuses_are_exact;
+pub use limits::MOST_TOKENS;

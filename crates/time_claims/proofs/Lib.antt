@@ -1,0 +1,3 @@
+mod Exact
+pub mod KnownLemmas
+mod RunLemmas
