@@ -20,10 +20,10 @@ use zpl_lower::lower;
 
 /// The node code that a program, bound by its settings, is compiled to. The time is linear in the
 /// program with every call expanded, but for a slot that many rows fill and many checks name.
-pub fn compile(
+pub fn compile<'n>(
     alloc: Global,
-    typed: &Typed<'_>,
-    bound: &Bound<'_>,
+    typed: &Typed<'n>,
+    bound: &Bound<'n>,
     build: Build,
 ) -> Result<NodeProgram, CompileFault>
     requires text { HasText typed.now }
