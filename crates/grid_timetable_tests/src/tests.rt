@@ -87,6 +87,50 @@ const RING: [Told; 6] = [
     },
 ];
 
+/// Two processors send to a third one, which takes from both, and then sends to both.
+const STAR: [Told; 8] = [
+    Told {
+        processor: 1,
+        sent: Some(0),
+        took: None,
+    },
+    Told {
+        processor: 2,
+        sent: Some(0),
+        took: None,
+    },
+    Told {
+        processor: 0,
+        sent: None,
+        took: Some(1),
+    },
+    Told {
+        processor: 0,
+        sent: None,
+        took: Some(2),
+    },
+    Told {
+        processor: 0,
+        sent: Some(1),
+        took: None,
+    },
+    Told {
+        processor: 0,
+        sent: Some(2),
+        took: None,
+    },
+    Told {
+        processor: 1,
+        sent: None,
+        took: Some(0),
+    },
+    Told {
+        processor: 2,
+        sent: None,
+        took: Some(0),
+    },
+];
+
 /// Two messages go through three processors.
 const PIPELINE: [Told; 8] = [
     Told {
@@ -168,6 +212,27 @@ const RING_CHAIN: [Segment; 2] = [
     },
 ];
 
+const STAR_CHAIN: [Segment; 3] = [
+    Segment {
+        processor: 1,
+        first: 1,
+        last: 1,
+        tick: 0,
+    },
+    Segment {
+        processor: 0,
+        first: 1,
+        last: 4,
+        tick: 3,
+    },
+    Segment {
+        processor: 2,
+        first: 2,
+        last: 2,
+        tick: 9,
+    },
+];
+
 const PIPELINE_CHAIN: [Segment; 3] = [
     Segment {
         processor: 0,
@@ -215,6 +280,7 @@ fn expect(
 fn tells_ticks_and_chains(rt: HostRuntime) -> Result<(), Fail> {
     expect(&rt, rt.alloc(), 2, 5, &TOTAL, 16, &TOTAL_CHAIN)?;
     expect(&rt, rt.alloc(), 3, 2, &RING, 4, &RING_CHAIN)?;
+    expect(&rt, rt.alloc(), 3, 2, &STAR, 10, &STAR_CHAIN)?;
     expect(&rt, rt.alloc(), 3, 1, &PIPELINE, 8, &PIPELINE_CHAIN)
 }
 
