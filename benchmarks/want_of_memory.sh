@@ -51,5 +51,10 @@ row list sum.zpl
 row exec listings/ring.lst report
 row exec listings/stencil.lst
 row exec listings/crossed.lst
-[ -f jacobi.zpl ] && row mean jacobi.zpl size:=4
+row mean jacobi.zpl size:=4
+row run jacobi.zpl size:=4 grid=2x2
+row list life.zpl grid=3
+row run running.zpl grid=2
+row run transpose.zpl grid=2x2
+row time listings/sum.lst
 exit $failed
