@@ -1,18 +1,8 @@
 -- What code is built for, and with which optimisations.
 use Rattle.std.specs.Prelude.{◌≡◌, ℕ, ◌≤◌, Bool, true, false, Option, Some, None, List, [], ◌∷◌, ⊤}
 use Rattle.zpl_binding.specs.Settings.{Setting}
+use Rattle.zpl_claims.specs.declared.options.Options.{Options}
 use Rattle.grid_meaning.specs.Grid.{IsCapacity}
-
--- The optimisations that are asked for: neighbouring loops are fused, arrays contracted to cells,
--- redundant exchanges left out, neighbouring ones merged, all started early; and agreements go
--- along a tree.
-pub record Options : Type 0 where
-  pub fuse : Bool
-  pub contract : Bool
-  pub redundant : Bool
-  pub merge : Bool
-  pub early : Bool
-  pub tree : Bool
 
 -- The factors of the grid, 0 for each absent one; the optimisations; how many messages a link
 -- holds, if that is bounded; and the settings of the program's configs.

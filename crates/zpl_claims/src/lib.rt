@@ -5,5 +5,7 @@
 #![tactic(auto)]
 
 mod limits;
+mod options;
 
 pub use limits::MOST_LOOPS;
+pub use options::Options;

@@ -15,7 +15,8 @@ use Rattle.node_form.specs.declared.instructions.Instr.TheVariants as instr
 use Rattle.node_form.specs.declared.members.Member.TheVariants as member
 use Rattle.node_form.specs.declared.tables.Tables.{Tables}
 use Rattle.node_form.specs.declared.words.ExprOp.TheVariants as word
-use Rattle.zpl_claims.specs.Build.{Build, Options, no_options, plain_build}
+use Rattle.zpl_claims.specs.declared.options.Options.{Options}
+use Rattle.zpl_claims.specs.Build.{Build, no_options, plain_build}
 use Rattle.zpl_compile.specs.Compile.{emitted_for, plan_of, settled}
 
 abbrev no_range : ArrayDim
