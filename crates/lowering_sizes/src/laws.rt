@@ -9,15 +9,15 @@ ghost use Rattle.zpl_names.specs.Expansion.{other_size, plain_assignments, sourc
 ghost use Rattle.zpl_binding.specs.Settings.{Setting};
 ghost use Rattle.code_parts.specs.Counts.{code_size, count_of, is_counted};
 ghost use Rattle.zpl_lowering.specs.Tables.{flat_tables};
-ghost use Rattle.lowering_sizes.specs.Sizes.{HoldsItsWords, printed_bytes};
+ghost use Rattle.lowering_sizes.specs.Sizes.{HoldsItsWords};
 ghost use Rattle.lowering_sizes.specs.Texts.{texts_of};
 
-/// The tables of a program without faults are at most 32 times as large as the program with its
-/// calls expanded, but for the texts that it prints: each call has those of its procedure anew.
+/// The tables of a program without faults are at most 33 times as large as the program with its
+/// calls expanded; without the bytes of their texts, which stand once each, at most 32 times.
 pub fn sizes()
     ensures whole { (program : Program) (settings : List Setting) → IsFaultless program →
         HoldsItsWords program → code_size (flat_tables program settings) ≤
-        32 * (source_size program + 1) + printed_bytes program }
+        33 * (source_size program + 1) }
     ensures bare { (program : Program) (settings : List Setting) → IsFaultless program →
         HoldsItsWords program →
         code_size (record (flat_tables program settings) { texts = [] }) ≤

@@ -1,4 +1,5 @@
-use Rattle.lowering_sizes.proofs.SizeLemmas.{size_law, bare_law}
+use Rattle.lowering_sizes.proofs.SizeLemmas.{bare_law}
+use Rattle.lowering_sizes.proofs.TextLemmas.{size_law}
 use Rattle.lowering_sizes.proofs.laws.sizes.Goals as goal
 
 pub returns : goal.returns

@@ -1,0 +1,5 @@
+pub mod NumberLemmas
+pub mod DifferentLemmas
+pub mod RowLemmas
+pub mod FitLemmas
+pub mod ChangeLemmas
