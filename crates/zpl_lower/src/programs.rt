@@ -163,7 +163,7 @@ fn lower_opened<'n>(
     Ok(())
 }
 
-/// The tables of a program that isn't too large, with a text of its own for each row that prints one.
+/// The tables of a program that isn't too large. Each row that prints a text has one of its own.
 fn lower_bound<'n>(
     alloc: Global,
     typed: &Typed<'n>,
