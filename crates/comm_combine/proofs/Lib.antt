@@ -1,1 +1,4 @@
+pub mod DropLemmas
+pub mod FreshLemmas
+pub mod KeyLemmas
 pub mod MergeLemmas

@@ -1,7 +1,8 @@
 -- Exchanges without the items that are fresh.
 --
--- Code keeps the fresh items by array and by slot, so that a row takes off those that it writes
--- without a look at the others: an item is put in once and taken off once.
+-- Code keeps the number of the row that exchanged each item last, and of the rows that wrote each
+-- array and each slot last: an item is fresh where the first is the greatest. So a row is noted
+-- without a look at the items that are fresh.
 use Rattle.std.specs.Prelude.{not, List, [], ◌∷◌, ◌++◌, filter}
 use Rattle.node_form.specs.declared.arrays.Item.{Item}
 use Rattle.node_form.specs.declared.tables.Tables.{Tables}

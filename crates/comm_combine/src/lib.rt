@@ -1,6 +1,10 @@
 //! Fewer exchanges: those that bring nothing new are left out, and neighbours are one.
 #![tactic(auto)]
 
+mod fresh;
+mod marks;
 mod neighbours;
+mod repeats;
 
 pub use neighbours::merge_neighbours;
+pub use repeats::drop_repeats;

@@ -1,5 +1,5 @@
 //! Exchanges that stand directly one behind the other are one.
-ghost use Rattle.std.specs.Prelude.{◌≡◌, false, None, Some, IfOk, OnOk, slice_get, unwrap_or};
+ghost use Rattle.std.specs.Prelude.{◌≡◌, None, Some, IfOk, OnOk};
 ghost use Rattle.plan_form.specs.Draft.{written};
 ghost use Rattle.comm_combine.specs.Merge.{
   front_pending,
@@ -11,6 +11,7 @@ ghost use Rattle.comm_combine.specs.Merge.{
   row_units,
 };
 
+use crate::marks::is_marked;
 use node_form::{Instr, Item, Tables};
 use plan_form::{ItemSet, PlanDraft, goals_of, items_of};
 use std::alloc::{AllocError, Global};
@@ -33,12 +34,6 @@ pub fn merge_neighbours(alloc: Global, plan: Tables) -> Result<Tables, AllocErro
     put_pending(alloc, &mut draft, &mut pending)?;
     let merged = draft.into_plan(plan)?;
     Ok(merged)
-}
-
-fn is_marked(goals: &Vec<bool>, row: u64) -> bool
-    ensures { result ≡ unwrap_or (slice_get goals.now.items row) false }
-{
-    goals.get(row as usize).copied().unwrap_or(false)
 }
 
 // In front of a goal no exchange may get more items.

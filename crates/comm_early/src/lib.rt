@@ -1,11 +1,21 @@
 //! Exchanges that start early.
+//!
+//! A start comes to stand behind the last row of its stretch that it doesn't cross, which is told
+//! by what is noted of the rows so far. Rows are written once no start can come in front of them.
 #![tactic(auto)]
+
+mod early;
+mod load;
+mod sent;
+mod stretch;
 
 ghost use Rattle.std.specs.Prelude.{◌≡◌, ℕ, Bool, Option};
 ghost use Rattle.node_form.specs.declared.instructions.Instr.{Instr as Row};
 ghost use Rattle.node_form.specs.declared.tables.Tables.{Tables as Code};
 ghost use Rattle.code_parts.specs.Counts.{code_size, count_of};
 ghost use Rattle.comm_early.specs.Send.{sent_early};
+
+pub use early::send_early;
 
 /// The plan is as large as it was, and has as many rows that pass a test, whichever it is: rows
 /// change places alone. Nothing but its rows changes.
