@@ -1,3 +1,5 @@
+pub mod InlineLemmas
+pub mod NameLemmas
 pub mod PlaceLemmas
 pub mod PutLemmas
 pub mod SlotLemmas
