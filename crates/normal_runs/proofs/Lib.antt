@@ -1,5 +1,6 @@
 pub mod InlineLemmas
 pub mod NameLemmas
+pub mod PassLemmas
 pub mod PlaceLemmas
 pub mod PutLemmas
 pub mod SlotLemmas
