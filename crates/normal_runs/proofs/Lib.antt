@@ -4,3 +4,4 @@ pub mod PassLemmas
 pub mod PlaceLemmas
 pub mod PutLemmas
 pub mod SlotLemmas
+pub mod SplitLemmas

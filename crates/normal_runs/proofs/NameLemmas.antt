@@ -25,12 +25,12 @@ use Rattle.std.specs.Option.{IsNone}
 use Rattle.std.specs.Prelude.{drop}
 
 -- ---- lists
-any_all : {X : Type 0} (P R : X → Type 0) (G : Type 0) (xs : List X)
+pub any_all : {X : Type 0} (P R : X → Type 0) (G : Type 0) (xs : List X)
     → ((x : X) → P x → R x → G) → All P xs → Any R xs → G
 any_all P R G xs both all (k, x, inside, is, holds) =
     both x (subst P is (all k x inside)) holds
 
-some_all : {X : Type 0} (P R : X → Type 0) (G : Type 0) (found : Option X)
+pub some_all : {X : Type 0} (P R : X → Type 0) (G : Type 0) (found : Option X)
     → ((x : X) → P x → R x → G) → IsSomeAnd found P → IsSomeAnd found R → G
 some_all P R G (Some x) both has is = both x has is
 some_all P R G None both has is = absurd has
@@ -86,7 +86,7 @@ module _ (tables : Tables) (k : ℕ) where
     either_in expr mask has also (inl is) = expr_in expr has is
     either_in expr mask has also (inr is) = mask_in mask also is
 
-    member_in : (one : Member) → FitsMember tables rank one
+    pub member_in : (one : Member) → FitsMember tables rank one
         → IsNamedByMember tables (thing.Array k) one → IsIn
     member_in (member.Put array expr mask line) fits (inl is) = has_in array fits.0 is
     member_in (member.Put array expr mask line) fits (inr is) =
