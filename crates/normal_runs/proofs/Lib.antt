@@ -5,3 +5,4 @@ pub mod PlaceLemmas
 pub mod PutLemmas
 pub mod SlotLemmas
 pub mod SplitLemmas
+pub mod ThroughLemmas

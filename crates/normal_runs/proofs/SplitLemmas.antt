@@ -55,19 +55,19 @@ use Rattle.normal_runs.proofs.PutLemmas.{value_in_same, wanted, wanted_same, wit
 use Rattle.normal_runs.proofs.SlotLemmas.{HasSteps}
 
 -- ---- tests
-and_first : (a b : Bool) → (a && b) ≡ true → a ≡ true
+pub and_first : (a b : Bool) → (a && b) ≡ true → a ≡ true
 and_first true b e = refl
 and_first false b e = e
 
-and_second : (a b : Bool) → (a && b) ≡ true → b ≡ true
+pub and_second : (a b : Bool) → (a && b) ≡ true → b ≡ true
 and_second true b e = e
 and_second false b e = absurd (true≢false (sym e))
 
-both_hold : (a b : Bool) → a ≡ true → b ≡ true → (a && b) ≡ true
+pub both_hold : (a b : Bool) → a ≡ true → b ≡ true → (a && b) ≡ true
 both_hold true b e f = f
 both_hold false b e f = absurd (true≢false (sym e))
 
-all_behind : {X : Type 0} (test : X → Bool) (xs ys : List X) → list_all test (xs ++ ys) ≡ true
+pub all_behind : {X : Type 0} (test : X → Bool) (xs ys : List X) → list_all test (xs ++ ys) ≡ true
     → list_all test ys ≡ true
 all_behind test [] ys e = e
 all_behind test (x ∷ xs) ys e =
@@ -97,13 +97,13 @@ dims_match (axis.Range lo hi low high ∷ rows) (axis.Range from to before after
     (dims_match rows others dims like
     (and_second (dim_matches (axis.Range lo hi low high) dim) (each_matches rows dims) e))
 
-like_matches : (row other : ArrayRow) (region : Region) → is_like row other ≡ true
+pub like_matches : (row other : ArrayRow) (region : Region) → is_like row other ≡ true
     → matches row region ≡ true → matches other region ≡ true
 like_matches row other region like e =
     dims_match row.dims other.dims region.dims
     (and_second (row.rank == other.rank) (pointwise is_same_kind row.dims other.dims) like) e
 
-written_matches : (row : ArrayRow) (found : Option ArrayRow) (store : Option Array)
+pub written_matches : (row : ArrayRow) (found : Option ArrayRow) (store : Option Array)
     (region : Region) → found ≡ Some row → writes_well found store region ≡ true
     → matches row region ≡ true
 written_matches row None store region is e = absurd (true≢false (sym e))
@@ -159,7 +159,7 @@ all_given Lacks rest os e = cc
 -- ---- an array over the loop's region
 module _ (region : Region) (steps : All HasStep region.dims) (array : ℕ) where
   -- what is put there is put one after another
-  puts_over : (values : List ℤ) (ts : List (List ℤ)) (os : List (Option ℤ)) (whole : Whole)
+  pub puts_over : (values : List ℤ) (ts : List (List ℤ)) (os : List (Option ℤ)) (whole : Whole)
       → slice_get whole.stores array ≡ Some (over region steps values)
       → Every (IsMember region) ts
       → puts array ts os whole
@@ -228,7 +228,7 @@ module _ (region : Region) (steps : All HasStep region.dims) (array : ℕ) where
             (value_in before cells expr t) (value_in after others (word.Here array ∷ []) t) o
             (masks words same t) e here
 
-    all_again : (ts : List (List ℤ)) (os : List (Option ℤ)) → Every (IsMember region) ts
+    pub all_again : (ts : List (List ℤ)) (os : List (Option ℤ)) → Every (IsMember region) ts
         → AreRead region steps values ts os
         → summed (wanted before cells expr mask) ts ≡ AllGive os
         → summed (wanted after others (word.Here array ∷ []) mask) ts ≡ AllGive os
@@ -246,9 +246,9 @@ module _ (region : Region) (steps : All HasStep region.dims) (array : ℕ) where
         ∙ ap AllGive (sym given.are))
 
 -- ---- what puts leave alone
-record LeavesRest (whole next : Whole) : Type 0 where
-  slots : next.slots ≡ whole.slots
-  long : length next.stores ≡ length whole.stores
+pub record LeavesRest (whole next : Whole) : Type 0 where
+  pub slots : next.slots ≡ whole.slots
+  pub long : length next.stores ≡ length whole.stores
 
 none_put : (whole next : Whole) → Some whole ≡ Some next → LeavesRest whole next
 none_put whole next e =
@@ -274,7 +274,7 @@ then_rest whole next array (Some stores) more long rest e =
     let behind = rest (record whole { stores = stores }) e in
     record { slots = behind.slots; long = behind.long ∙ long stores refl }
 
-leaves_rest : (array : ℕ) (ts : List (List ℤ)) (os : List (Option ℤ)) (whole next : Whole)
+pub leaves_rest : (array : ℕ) (ts : List (List ℤ)) (os : List (Option ℤ)) (whole next : Whole)
     → puts array ts os whole ≡ Some next → LeavesRest whole next
 leaves_rest array [] os whole next e = none_put whole next e
 leaves_rest array (t ∷ ts) [] whole next e = none_put whole next e
