@@ -324,3 +324,112 @@ module _ (tables : Tables) (extra : List ArrayRow) where
             two_there ts os inside
             (all_read region steps zeros ts os (zeros_are region steps) inside
             (members_apart region)) sum_is))))
+
+        -- ---- all three
+        abbrev AlikeNext : Option Whole → Option Whole → Type 0
+        AlikeNext a b = AlikeStates tables mid (IsOld tables) a b
+
+        last_tied : (a b : Option Whole) → puts array ts os s ≡ a → puts array ts os two ≡ b
+            → AlikeNext a b
+            → Tied IsAlike (flow_of (from_written a (λ next. Goes [] next)) (λ next. OnTo [] next))
+            (flow_behind [] (flow_behind [] (flow_of (from_written b (λ next. Goes [] next))
+            (λ next. OnTo [] next))))
+        last_tied a b e f NoState = TiedWrong
+        last_tied a b e f (BothStates {one = s'} {two = t'} agree) =
+            let left = leaves_rest array ts os s s' e in
+            let right = leaves_rest array ts os two t' f in
+            TiedOn (record {
+              agree = agree;
+              steps = record { steps = subst StepsIn (sym left.slots) alike.steps.steps };
+              long = right.long
+                  ∙ (set_length one.stores temporary (over region steps values)
+                  ∙ (set_length t.stores temporary (over region steps zeros) ∙ alike.long));
+            })
+
+      abbrev after_room : Whole → Flow Whole
+      after_room next = through (act mid n) (into ∷ out ∷ []) next
+
+      abbrev after_into : Whole → Flow Whole
+      after_into next = through (act mid n) (out ∷ []) next
+
+      by_sum : (sum : Sum) → summed (wanted s cells expr mask) ts ≡ sum
+          → are_settled s old ≡ true → matches row region ≡ true
+          → list_all (can_read tables s region) (group_reads (put_group array expr mask line)) ≡ true
+          → can_write tables s region array ≡ true
+          → Tied IsAlike (flow_of (after_sum array line ts s sum) (λ next. OnTo [] next))
+          (flow_behind [] (flow_of (after_sum temporary line ts one sum) after_into))
+      by_sum SomeDivides e settled fine reads writes = TiedHalt
+      by_sum SomeLacks e settled fine reads writes = TiedWrong
+      by_sum (AllGive os) e settled fine reads writes =
+          subst (λ o. Tied IsAlike
+          (flow_of (from_written (puts array ts os s) (λ next. Goes [] next)) (λ next. OnTo [] next))
+          (flow_behind [] (flow_of (from_written o (λ next. Goes [] next)) after_into)))
+          (sym (two_is os e))
+          (subst (λ effect. Tied IsAlike
+          (flow_of (from_written (puts array ts os s) (λ next. Goes [] next)) (λ next. OnTo [] next))
+          (flow_behind [] (flow_behind [] (flow_step effect (λ next. OnTo [] next)))))
+          (sym (out_goes os e settled fine reads writes))
+          (last_tied os e (puts array ts os s) (puts array ts os (two os e)) refl refl
+          (puts_alike tables mid (IsOld tables) array ts os s (two os e) named.own.0
+          (two_agree os e))))
+
+      by_room : are_settled s old ≡ true
+          → loop_stands tables s region (put_group array expr mask line) ≡ true
+          → Tied IsAlike
+          (flow_of (put_does tables n array expr mask line s region) (λ next. OnTo [] next))
+          (through (act mid n) (room ∷ into ∷ out ∷ []) t)
+      by_room settled stands =
+          let all = list_all (can_read tables s region)
+          (group_reads (put_group array expr mask line)) in
+          let more = (can_write tables s region array && true) && true in
+          let reads : all ≡ true = and_first all more stands in
+          let writes : can_write tables s region array ≡ true =
+          and_first (can_write tables s region array) true
+          (and_first (can_write tables s region array && true) true
+          (and_second all more stands)) in
+          let fine : matches row region ≡ true =
+          like_matches kind row region like
+          (written_matches kind (slice_get tables.arrays array) (slice_get s.stores array) region
+          kind_is writes) in
+          subst (λ effect. Tied IsAlike
+          (flow_of (put_does tables n array expr mask line s region) (λ next. OnTo [] next))
+          (flow_step effect after_room)) (sym (room_goes fine))
+          (subst (λ effect. Tied IsAlike
+          (flow_of (put_does tables n array expr mask line s region) (λ next. OnTo [] next))
+          (flow_behind [] (flow_step effect after_into))) (sym (into_goes settled fine reads))
+          (by_sum (summed (wanted s cells expr mask) ts) refl settled fine reads writes))
+
+      by_stands : (b : Bool)
+          → loop_stands tables s region (put_group array expr mask line) ≡ b
+          → are_settled s old ≡ true
+          → Tied IsAlike (flow_of (if b then put_does tables n array expr mask line s region
+          else Stops Wrong) (λ next. OnTo [] next))
+          (through (act mid n) (room ∷ into ∷ out ∷ []) t)
+      by_stands true e settled = by_room settled e
+      by_stands false e settled = TiedWrong
+
+    by_region : (s t : Whole) → IsAlike s t → (found : Option Region)
+        → slice_get s.slots slot ≡ found → are_settled s old ≡ true
+        → Tied IsAlike (flow_of (looped tables n (put_group array expr mask line) s found)
+        (λ next. OnTo [] next)) (through (act mid n) (room ∷ into ∷ out ∷ []) t)
+    by_region s t alike None e settled = TiedWrong
+    by_region s t alike (Some region) e settled =
+        subst (λ step. Tied IsAlike (flow_of step (λ next. OnTo [] next))
+        (through (act mid n) (room ∷ into ∷ out ∷ []) t))
+        (sym (looped_put tables n array expr mask line s region))
+        (by_stands s t alike region e
+        (loop_stands tables s region (put_group array expr mask line)) refl settled)
+
+    by_settled : (s t : Whole) → IsAlike s t → (b : Bool) → are_settled s old ≡ b
+        → Tied IsAlike (flow_step (if b
+        then Does (looped tables n (put_group array expr mask line) s (slice_get s.slots slot))
+        else Does (Stops Wrong)) (λ next. OnTo [] next))
+        (through (act mid n) (room ∷ into ∷ out ∷ []) t)
+    by_settled s t alike true e = by_region s t alike (slice_get s.slots slot) refl e
+    by_settled s t alike false e = TiedWrong
+
+    -- the three rows do what the loop does
+    pub through_tied : (s t : Whole) → IsAlike s t
+        → Tied IsAlike (flow_step (act tables n old s) (λ next. OnTo [] next))
+        (through (act mid n) (room ∷ into ∷ out ∷ []) t)
+    through_tied s t alike = by_settled s t alike (are_settled s old) refl
