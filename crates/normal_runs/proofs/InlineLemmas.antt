@@ -1,9 +1,9 @@
 -- Rows with their groups inline, seen with their words: in tables that have more arrays and
 -- expressions, and in tables that have each loop's group.
-use Rattle.std.proofs.Common.{◌≡◌, refl, sym, ◌∙◌, ap, subst, arith, ℕ, zero, suc, ◌+◌, List, []}
+use Rattle.std.proofs.Common.{◌≡◌, refl, sym, ◌∙◌, ap, ℕ, zero, suc, ◌+◌, List, []}
 use Rattle.std.proofs.Common.{◌∷◌, ◌++◌, length, map, All, Option, Some, None}
-use Rattle.std.proofs.Common.{append_assoc, append-nil, length-append}
-use Rattle.std.specs.Prelude.{flat_map, slice_get, slice_index_or}
+use Rattle.std.proofs.Common.{append_assoc, length-append}
+use Rattle.std.specs.Prelude.{slice_get, slice_index_or}
 use Rattle.std.specs.Option.{IfSome, IsSomeAnd, option_map}
 use Rattle.std.specs.List.{AllByRecursion}
 use Rattle.std.proofs.lemmas.List.Elements.{All-head, All-tail}
@@ -16,9 +16,9 @@ use Rattle.node_form.specs.declared.members.Member as number
 use Rattle.node_form.specs.declared.members.Member.TheVariants as member
 use Rattle.node_form.specs.declared.tables.Tables.{Tables}
 use Rattle.node_form.specs.Fits.{FitsAt, FitsMember, FitsPart, HasExpr}
-use Rattle.code_parts.specs.Uses.{members_of, rows_or_none}
+use Rattle.code_parts.specs.Uses.{rows_or_none}
 use Rattle.flat_form.specs.Row.{Acc, Cell, Dims, Loop, Number, OpenIf, OpenRepeat, OpenWhile}
-use Rattle.flat_form.specs.Row.{Plain, Put, Row, Set, Span, Truth, Unless, Until, Words, inlined}
+use Rattle.flat_form.specs.Row.{Put, Row, Set, Span, Truth, Unless, Until, Words, inlined}
 use Rattle.flat_form.specs.Row.{member_inlined, part_inlined, words_at}
 use Rattle.flat_passes.specs.Grouped as grouped
 use Rattle.flat_passes.specs.Grouped.{Grouped, Runs, all_numbered, group_of, groups_of, numbered}

@@ -1,4 +1,6 @@
+mod Examples
 pub mod InlineLemmas
+pub mod KeptLemmas
 pub mod NameLemmas
 pub mod PassLemmas
 pub mod PlaceLemmas

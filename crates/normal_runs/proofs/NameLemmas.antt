@@ -4,7 +4,6 @@ use Rattle.std.proofs.Common.{All, Any, Option, Some, None, inl, inr, take}
 use Rattle.std.specs.Prelude.{◌⊎◌, false, slice_get, true}
 use Rattle.std.specs.Option.{IfSome, IsSomeAnd}
 use Rattle.node_form.specs.declared.arrays.ArrayRow.{ArrayRow}
-use Rattle.node_form.specs.declared.arrays.Item.{Item}
 use Rattle.node_form.specs.declared.instructions.DimRow.{DimRow}
 use Rattle.node_form.specs.declared.instructions.DimRow.TheVariants as part
 use Rattle.node_form.specs.declared.instructions.Instr.{Instr}
@@ -12,12 +11,11 @@ use Rattle.node_form.specs.declared.instructions.Instr.TheVariants as instr
 use Rattle.node_form.specs.declared.members.Member.{Member}
 use Rattle.node_form.specs.declared.members.Member.TheVariants as member
 use Rattle.node_form.specs.declared.tables.Tables.{Tables}
-use Rattle.node_form.specs.declared.touches.Thing.{Thing}
 use Rattle.node_form.specs.declared.touches.Thing.TheVariants as thing
 use Rattle.node_form.specs.declared.words.ExprOp.{ExprOp}
 use Rattle.node_form.specs.declared.words.ExprOp.TheVariants as word
 use Rattle.node_form.specs.Fits.{FitsAt, FitsMember, FitsPart, FitsRemap, FitsWord, HasArray}
-use Rattle.node_form.specs.Fits.{HasExpr, HasScalarExpr, IsIndexArray, IsScalarWord, IsStored}
+use Rattle.node_form.specs.Fits.{HasExpr, HasScalarExpr, IsIndexArray, IsScalarWord}
 use Rattle.flat_form.specs.Flat.{IsFlatRow}
 use Rattle.node_form.specs.Touch.{IsNamed, IsNamedByExpr, IsNamedByMask, IsNamedByMember}
 use Rattle.node_form.specs.Touch.{IsNamedByPart, IsNamedByWord}

@@ -1,8 +1,8 @@
 -- A pass over the stretches of code keeps its runs, whatever its new rows are.
-use Rattle.std.proofs.Common.{◌≡◌, refl, sym, subst, ap, ◌∙◌, ℕ, ◌+◌, ◌≤◌, Bool, true, false}
+use Rattle.std.proofs.Common.{◌≡◌, refl, sym, subst, ℕ, ◌+◌, ◌≤◌, Bool, true, false}
 use Rattle.std.proofs.Common.{List, [], ◌∷◌, ◌++◌, length, true≢false, arith}
 use Rattle.std.proofs.lemmas.Bool.Decides.{nat_tests}
-use Rattle.std.specs.Prelude.{◌||◌, ◌==◌, Option, Some, None}
+use Rattle.std.specs.Prelude.{◌||◌, ◌==◌, Option, Some}
 use Rattle.std.specs.List.{AllByRecursion, list_any}
 use Rattle.row_runs.specs.Run.{Effect, runs}
 use Rattle.row_runs.specs.Straight.{Every, IsStraight, Tied, through}
@@ -90,8 +90,8 @@ module _ {S T New : Type 0} (act : Instr → S → Effect S) (act' : New → T �
   pub record AreControlled : Type 0 where
     pub old : (row : Instr) → ends_stretch row ≡ false → IsStraight act row
     pub new : (row : New) → IsStraightRow row → IsStraight act' row
-    pub ends : (row : Instr) → ends_stretch row ≡ true → (moved : ℕ → ℕ) (s : S) (t : T)
-        → IsLike s t → EndsAlike row moved (act row s) (act' (retarget moved row) t)
+    pub ends : (row : Instr) → Has row → ends_stretch row ≡ true → (moved : ℕ → ℕ) (s : S)
+        (t : T) → IsLike s t → EndsAlike row moved (act row s) (act' (retarget moved row) t)
 
   -- Of straight rows, each of which has a property: the new ones are straight, and from like
   -- states they do as the old ones, unless these are wrong.
@@ -154,7 +154,8 @@ module _ {S T New : Type 0} (act : Instr → S → Effect S) (act' : New → T �
               last_alike Start moved row at at'
               (start_of row (last_holds (IsOf code) stretch.front stretch.last row last goals))
               next (act row s) (act' (retarget moved row) t)
-              (controlled.ends row (is.last row last) moved s t like);
+              (controlled.ends row (last_holds Has stretch.front stretch.last row last has)
+              (is.last row last) moved s t like);
         }
 
     all_kept : (some : List (Stretch Instr))

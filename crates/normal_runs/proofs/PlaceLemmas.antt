@@ -1,7 +1,7 @@
 -- An array over a region, with values put at the tuples of the region, one after another.
-use Rattle.std.proofs.Common.{◌≡◌, refl, sym, ◌∙◌, ap, subst, arith, ℕ, zero, suc, Bool, true, false}
+use Rattle.std.proofs.Common.{◌≡◌, refl, sym, ◌∙◌, ap, subst, arith, ℕ, zero, suc, true}
 use Rattle.std.proofs.Common.{List, [], ◌∷◌, length, map, ℤ, pos, ◌+ℤ◌, All, Option, Some, None}
-use Rattle.std.proofs.Common.{◌⊎◌, inl, inr}
+use Rattle.std.proofs.Common.{inl, inr}
 use Rattle.std.specs.Prelude.{option_and_then, slice_get, slice_set, ⊤, IsTrue}
 use Rattle.std.specs.Option.{option_map}
 use Rattle.std.proofs.lemmas.Bool.{false≢true}
@@ -14,7 +14,7 @@ use Rattle.zpl_region.proofs.DimLemmas.{Rises-coordinates}
 use Rattle.zpl_region.proofs.LawLemmas.{members_iff}
 use Rattle.zpl_region.proofs.ListLemmas.{Among, Contains-from_among, Rises}
 use Rattle.zpl_region.proofs.TupleLemmas.{AllRise, IsBefore, Rises-tuples}
-use Rattle.zpl_arrays.specs.Array.{Array, IsArray, array_of, element, flattened, has_place, updated}
+use Rattle.zpl_arrays.specs.Array.{Array, IsArray, element, has_place, updated}
 use Rattle.zpl_arrays.proofs.ArrayLemmas.{array_of_is_array, flattened_is, place_of_member}
 use Rattle.zpl_arrays.proofs.ArrayLemmas.{updated_elsewhere, updated_here, updated_is_array}
 use Rattle.zpl_arrays.proofs.FoldLemmas.{not_before_itself}
@@ -161,7 +161,7 @@ module _ (region : Region) (steps : All HasStep region.dims) where
   all_read values (t ∷ ts) (Some v ∷ os) is inside apart = (
     all_stay (one_put values t (Some v)) ts os t (one_array values t (Some v) is) inside.1
         inside.0 apart.0
-    ∙ updated_here (over values) t v is (has t inside.0),
+        ∙ updated_here (over values) t v is (has t inside.0),
     all_read (one_put values t (Some v)) ts os (one_array values t (Some v) is) inside.1 apart.1,
   )
 

@@ -1,6 +1,6 @@
 -- A loop whose group is one put: the values at all tuples, and then all of them written.
-use Rattle.std.proofs.Common.{◌≡◌, refl, sym, ◌∙◌, ap, subst, arith, ℕ, zero, suc, ◌+◌, ◌≤◌, ◌<◌}
-use Rattle.std.proofs.Common.{Bool, true, false, List, [], ◌∷◌, ◌++◌, length, map, replicate, ℤ, pos}
+use Rattle.std.proofs.Common.{◌≡◌, refl, sym, ◌∙◌, ap, arith, ℕ, zero, suc, ◌≤◌, ◌<◌}
+use Rattle.std.proofs.Common.{Bool, true, false, List, [], ◌∷◌, ◌++◌, map, replicate, ℤ, pos}
 use Rattle.std.proofs.Common.{Option, Some, None}
 use Rattle.std.specs.Prelude.{if◌then◌else◌, flat_map, fold, max, option_and_then, slice_get, ⊤}
 use Rattle.zpl_nums.specs.declared.ends.End.TheVariants.{Trap}
@@ -16,15 +16,15 @@ use Rattle.node_form.specs.declared.touches.Thing.TheVariants as thing
 use Rattle.node_form.specs.declared.words.ExprOp.{ExprOp}
 use Rattle.node_form.specs.declared.words.ExprOp.TheVariants as word
 use Rattle.node_form.specs.Nest.{Nest, Nothing, Putting}
-use Rattle.node_form.specs.Value.{Computed, Divides, Gives, Lacks, Operands, and_then, mapped}
+use Rattle.node_form.specs.Value.{Computed, Divides, Gives, Lacks, and_then, mapped}
 use Rattle.node_form.specs.Value.{unmoved, value_of}
 use Rattle.grid_meaning.specs.Place.{held_value, moved_by}
 use Rattle.nest_meaning.specs.Nested.{Fine, Lost, Told, Zero, then_do, with_state, with_value}
 use Rattle.flat_form.specs.Loop.{AllFine, AllTold, Column, Point, Puts, SomeLost, SomeZero}
 use Rattle.flat_form.specs.Loop.{all_awaiting, all_told, all_written, both_told, from_written}
-use Rattle.flat_form.specs.Loop.{log_written, logged, loop_stands, looped, operands_at, unit_at}
+use Rattle.flat_form.specs.Loop.{logged, loop_stands, looped, operands_at, unit_at}
 use Rattle.flat_form.specs.Loop.{unit_does, units_do, written}
-use Rattle.flat_form.specs.Names.{each_word, group_cells, word_cells}
+use Rattle.flat_form.specs.Names.{group_cells, word_cells}
 use Rattle.flat_form.specs.Right.{is_unmoved}
 use Rattle.flat_form.specs.Row.{Member, Put, Words, mask_words, numbered}
 use Rattle.flat_form.specs.Whole.{Whole}

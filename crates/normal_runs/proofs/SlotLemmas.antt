@@ -1,6 +1,6 @@
 -- The regions of slots have steps of at least 1, at every place of a run.
-use Rattle.std.proofs.Common.{◌≡◌, refl, sym, ◌∙◌, ap, subst, arith, ℕ, zero, suc, ◌+◌, ◌-◌}
-use Rattle.std.proofs.Common.{Bool, true, false, true≢false, List, [], ◌∷◌, ◌++◌, map, replicate, ℤ}
+use Rattle.std.proofs.Common.{◌≡◌, refl, sym, ◌∙◌, subst, arith, ℕ, zero, suc, ◌-◌}
+use Rattle.std.proofs.Common.{Bool, true, false, List, [], ◌∷◌, map, replicate, ℤ}
 use Rattle.std.proofs.Common.{pos, All, Any, Option, Some, None, ◌⊎◌, inl, inr, take}
 use Rattle.std.specs.Prelude.{if◌then◌else◌, option_and_then, slice_get, slice_set}
 use Rattle.std.specs.Option.{IsSomeAnd}
@@ -25,7 +25,6 @@ use Rattle.node_form.specs.declared.instructions.RegionForm.TheVariants.{At, By,
 use Rattle.node_form.specs.declared.members.Member.{Member}
 use Rattle.node_form.specs.declared.members.Member.TheVariants as member
 use Rattle.node_form.specs.declared.tables.Tables.{Tables}
-use Rattle.node_form.specs.declared.touches.Thing.{Thing}
 use Rattle.node_form.specs.declared.touches.Thing.TheVariants as thing
 use Rattle.node_form.specs.Control as control
 use Rattle.node_form.specs.Control.{Control, Registers, formed_by, limited, part_dim, part_dims}

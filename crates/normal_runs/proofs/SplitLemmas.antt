@@ -1,9 +1,9 @@
 -- A loop of one put does what a room, a loop into it and a loop out of it do.
-use Rattle.std.proofs.Common.{◌≡◌, refl, sym, ◌∙◌, ap, subst, arith, ℕ, zero, suc, ◌+◌, ◌<◌, Bool}
-use Rattle.std.proofs.Common.{true, false, true≢false, List, [], ◌∷◌, ◌++◌, length, map, replicate}
-use Rattle.std.proofs.Common.{ℤ, pos, All, Any, Option, Some, None}
-use Rattle.std.specs.Prelude.{◌&&◌, ◌==◌, flat_map, if◌then◌else◌, not, option_and_then}
-use Rattle.std.specs.Prelude.{slice_get, slice_set, ⊤}
+use Rattle.std.proofs.Common.{◌≡◌, refl, sym, ◌∙◌, ap, subst, ℕ, Bool}
+use Rattle.std.proofs.Common.{true, false, true≢false, List, [], ◌∷◌, ◌++◌, length}
+use Rattle.std.proofs.Common.{ℤ, All, Option, Some, None}
+use Rattle.std.specs.Prelude.{◌&&◌, ◌==◌, option_and_then}
+use Rattle.std.specs.Prelude.{slice_get, slice_set}
 use Rattle.std.specs.Option.{option_map}
 use Rattle.std.specs.List.{list_all}
 use Rattle.std.specs.Cmp.Lexicographic.{pointwise}
@@ -11,48 +11,29 @@ use Rattle.zpl_nums.specs.Integer.{is_true}
 use Rattle.zpl_region.specs.declared.dims.Dim.{Dim}
 use Rattle.zpl_region.specs.declared.regions.Region.{Region}
 use Rattle.zpl_region.specs.Dim.{HasStep}
-use Rattle.zpl_region.specs.Region.{IsMember, members}
-use Rattle.zpl_arrays.specs.Array.{Array, element, has_place}
-use Rattle.row_runs.specs.Run.{Does, Effect, Ends, Goes, Step, Stop, Stops, Wrong}
-use Rattle.row_runs.specs.Straight.{Every, Flow, Halts, OnTo, Tied, TiedHalt, TiedOn, TiedWrong}
-use Rattle.row_runs.specs.Straight.{flow_behind, flow_of, flow_step, through}
+use Rattle.zpl_region.specs.Region.{IsMember}
+use Rattle.zpl_arrays.specs.Array.{Array, element}
+use Rattle.row_runs.specs.Straight.{Every}
 use Rattle.node_form.specs.declared.arrays.ArrayDim.{ArrayDim}
 use Rattle.node_form.specs.declared.arrays.ArrayDim.TheVariants as axis
 use Rattle.node_form.specs.declared.arrays.ArrayRow.{ArrayRow}
-use Rattle.node_form.specs.declared.instructions.Instr.TheVariants as instr
-use Rattle.node_form.specs.declared.tables.Tables.{Tables}
-use Rattle.node_form.specs.declared.touches.Thing.{Thing}
-use Rattle.node_form.specs.declared.touches.Thing.TheVariants as thing
-use Rattle.node_form.specs.declared.words.ExprOp.{ExprOp}
 use Rattle.node_form.specs.declared.words.ExprOp.TheVariants as word
 use Rattle.node_form.specs.Value.{Computed, Divides, Gives, Lacks, and_then, evaluated, mapped}
 use Rattle.node_form.specs.Value.{only_value, pushed, read, unmoved}
-use Rattle.grid_meaning.specs.Place.{held_with, moved_by, value_at, with_value}
-use Rattle.grid_meaning.specs.Room.{zeros_at}
-use Rattle.flat_form.specs.Act.{act}
-use Rattle.flat_form.specs.Loop.{Puts, from_written, loop_stands, looped, operands_at, written}
-use Rattle.flat_form.specs.Moves.{found, provided, roomed}
-use Rattle.flat_form.specs.Names.{Read, each_word, group_reads, group_words, row_scalars}
-use Rattle.flat_form.specs.Names.{word_cells, word_reads, word_scalars}
-use Rattle.flat_form.specs.Right.{are_settled, can_read, can_write, dim_matches, each_matches}
-use Rattle.flat_form.specs.Right.{has_places, is_settled, matches, reads_well, writes_well}
-use Rattle.flat_form.specs.Row.{Loop, Member, Plain, Row, Words, mask_words}
+use Rattle.grid_meaning.specs.Place.{held_with, with_value}
+use Rattle.flat_form.specs.Loop.{operands_at}
+use Rattle.flat_form.specs.Right.{dim_matches, each_matches}
+use Rattle.flat_form.specs.Right.{has_places, matches, writes_well}
+use Rattle.flat_form.specs.Row.{Words}
 use Rattle.flat_form.specs.Whole.{Whole, with_store}
-use Rattle.flat_form.proofs.AgreeLemmas.{Agree, AlikeStates, BothStates, NoState, list_all_same}
-use Rattle.flat_form.proofs.LoopLemmas.{read_same, write_same}
-use Rattle.flat_form.proofs.NamedLemmas.{ExprNamed, GroupNamed, WordNamed, reads_named}
-use Rattle.flat_form.proofs.WordLemmas.{every_more}
 use Rattle.temp_norm.specs.Normalised.{is_like, is_same_kind}
-use Rattle.normal_runs.proofs.PlaceLemmas.{AreRead, all_put, all_read, are_members, has, members_apart}
-use Rattle.normal_runs.proofs.PlaceLemmas.{moved_none, one_put, over, put_held, read_held}
-use Rattle.normal_runs.proofs.PlaceLemmas.{set_apart, set_length, set_same, set_there, set_twice}
-use Rattle.normal_runs.proofs.PlaceLemmas.{zeros_are}
-use Rattle.normal_runs.proofs.PutLemmas.{AllGive, CellSame, MaskNamed, SomeDivides, SomeLacks, Sum}
-use Rattle.normal_runs.proofs.PutLemmas.{after_sum, cells_of, cells_there, looped_put, mask_cells}
-use Rattle.normal_runs.proofs.PutLemmas.{one_written, put_does, put_group, put_if, puts, puts_alike}
-use Rattle.normal_runs.proofs.PutLemmas.{start_point, summed, summed_same, value_in}
-use Rattle.normal_runs.proofs.PutLemmas.{value_in_same, wanted, wanted_same, with_one}
-use Rattle.normal_runs.proofs.SlotLemmas.{HasSteps}
+use Rattle.normal_runs.proofs.PlaceLemmas.{AreRead, all_put}
+use Rattle.normal_runs.proofs.PlaceLemmas.{one_put, over, put_held, read_held}
+use Rattle.normal_runs.proofs.PlaceLemmas.{set_length, set_same, set_there, set_twice}
+use Rattle.normal_runs.proofs.PutLemmas.{AllGive, SomeDivides, SomeLacks, Sum}
+use Rattle.normal_runs.proofs.PutLemmas.{put_if, puts}
+use Rattle.normal_runs.proofs.PutLemmas.{start_point, summed, value_in}
+use Rattle.normal_runs.proofs.PutLemmas.{wanted, with_one}
 
 -- ---- tests
 pub and_first : (a b : Bool) → (a && b) ≡ true → a ≡ true

@@ -1,28 +1,26 @@
 -- Values that go through a temporary: the old row, and the three that take its place.
-use Rattle.std.proofs.Common.{◌≡◌, refl, sym, ◌∙◌, ap, subst, arith, ℕ, zero, suc, ◌+◌, ◌<◌, ◌≤◌}
-use Rattle.std.proofs.Common.{Bool, true, false, true≢false, List, [], ◌∷◌, ◌++◌, length, map, ℤ}
+use Rattle.std.proofs.Common.{◌≡◌, refl, sym, ◌∙◌, ap, subst, arith, ℕ, zero, suc, ◌<◌, ◌≤◌}
+use Rattle.std.proofs.Common.{Bool, true, false, List, [], ◌∷◌, ◌++◌, length, map, ℤ}
 use Rattle.std.proofs.Common.{pos, All, Option, Some, None}
 use Rattle.std.specs.Prelude.{◌&&◌, flat_map, if◌then◌else◌, is_none, not, option_and_then}
 use Rattle.std.specs.Prelude.{slice_get}
-use Rattle.std.specs.Prelude.{slice_set, ⊤}
+use Rattle.std.specs.Prelude.{⊤}
 use Rattle.std.specs.List.{list_all}
 use Rattle.zpl_region.specs.declared.regions.Region.{Region}
 use Rattle.zpl_region.specs.Dim.{HasStep}
 use Rattle.zpl_region.specs.Region.{IsMember, members}
 use Rattle.zpl_arrays.specs.Array.{Array, has_place}
-use Rattle.row_runs.specs.Run.{Does, Effect, Goes, Step, Stops, Wrong}
-use Rattle.row_runs.specs.Straight.{Every, Flow, Halts, OnTo, Tied, TiedHalt, TiedOn, TiedWrong}
+use Rattle.row_runs.specs.Run.{Does, Goes, Stops, Wrong}
+use Rattle.row_runs.specs.Straight.{Every, Flow, OnTo, Tied, TiedHalt, TiedOn, TiedWrong}
 use Rattle.row_runs.specs.Straight.{flow_behind, flow_of, flow_step, through}
 use Rattle.node_form.specs.declared.arrays.ArrayRow.{ArrayRow}
 use Rattle.node_form.specs.declared.instructions.Instr.TheVariants as instr
 use Rattle.node_form.specs.declared.tables.Tables.{Tables}
 use Rattle.node_form.specs.declared.touches.Thing.{Thing}
 use Rattle.node_form.specs.declared.touches.Thing.TheVariants as thing
-use Rattle.node_form.specs.declared.words.ExprOp.{ExprOp}
 use Rattle.node_form.specs.declared.words.ExprOp.TheVariants as word
 use Rattle.node_form.specs.Value.{unmoved}
 use Rattle.grid_meaning.specs.Place.{moved_by}
-use Rattle.grid_meaning.specs.Room.{zeros_at}
 use Rattle.flat_form.specs.Act.{act}
 use Rattle.flat_form.specs.Loop.{from_written, loop_stands, looped}
 use Rattle.flat_form.specs.Moves.{found, provided, roomed}
@@ -34,14 +32,13 @@ use Rattle.flat_form.specs.Row.{Loop, Plain, Row, Words, mask_words}
 use Rattle.flat_form.specs.Whole.{Whole, with_store}
 use Rattle.flat_form.proofs.AgreeLemmas.{Agree, AlikeStates, BothStates, NoState, list_all_same}
 use Rattle.flat_form.proofs.LoopLemmas.{read_same, write_same}
-use Rattle.flat_form.proofs.NamedLemmas.{ExprNamed, GroupNamed, WordNamed, reads_named}
+use Rattle.flat_form.proofs.NamedLemmas.{ExprNamed, GroupNamed, reads_named}
 use Rattle.flat_form.proofs.WordLemmas.{every_more}
 use Rattle.temp_norm.specs.Normalised.{is_like, with_temporaries}
-use Rattle.normal_runs.proofs.NameLemmas.{in_range}
 use Rattle.normal_runs.proofs.PlaceLemmas.{all_put, all_read, are_members, has, members_apart}
 use Rattle.normal_runs.proofs.PlaceLemmas.{moved_none, over, set_apart, set_length, set_there}
 use Rattle.normal_runs.proofs.PlaceLemmas.{zeros_are}
-use Rattle.normal_runs.proofs.PutLemmas.{AllGive, CellSame, MaskNamed, SomeDivides, SomeLacks, Sum}
+use Rattle.normal_runs.proofs.PutLemmas.{AllGive, MaskNamed, SomeDivides, SomeLacks, Sum}
 use Rattle.normal_runs.proofs.PutLemmas.{after_sum, cells_of, cells_there, looped_put, mask_cells}
 use Rattle.normal_runs.proofs.PutLemmas.{put_does, put_group, puts, puts_alike, summed, summed_same}
 use Rattle.normal_runs.proofs.PutLemmas.{value_in, value_in_same, wanted, wanted_same}
@@ -283,9 +280,11 @@ module _ (tables : Tables) (extra : List ArrayRow) where
             value_in_same tables mid (IsOld tables) s two two_agree cells
             (cells_of array (word.Here temporary ∷ []) mask line) words
             (every_both (λ w is (few : (word_cells w ≤ group_cells (put_group array expr mask line))
-            × (word_cells w ≤ group_cells (put_group array (word.Here temporary ∷ []) mask line))).
-            (is, cells_there (group_cells (put_group array expr mask line))
-            (group_cells (put_group array (word.Here temporary ∷ []) mask line)) w few.0 few.1))
+            × (word_cells w ≤ group_cells (put_group array (word.Here temporary ∷ []) mask line))). (
+              is,
+              cells_there (group_cells (put_group array expr mask line))
+                  (group_cells (put_group array (word.Here temporary ∷ []) mask line)) w few.0 few.1,
+            ))
             words (subst (λ m. MaskNamed tables mid (IsOld tables) m) same
             (mask_named mask named.exprs.1)) few_cells) u
           where
