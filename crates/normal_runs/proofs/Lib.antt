@@ -1,0 +1,10 @@
+mod Examples
+pub mod InlineLemmas
+pub mod KeptLemmas
+pub mod NameLemmas
+pub mod PassLemmas
+pub mod PlaceLemmas
+pub mod PutLemmas
+pub mod SlotLemmas
+pub mod SplitLemmas
+pub mod ThroughLemmas
