@@ -1,5 +1,5 @@
 -- A start among rows that stand reversed, of which it crosses some.
-use Rattle.std.proofs.Common.{◌≡◌, refl, sym, ap, ◌∙◌, subst, arith, ℕ, zero, suc, ◌+◌, ◌≤◌, ◌<◌}
+use Rattle.std.proofs.Common.{◌≡◌, refl, sym, ap, ◌∙◌, arith, ℕ, zero, suc, ◌+◌, ◌<◌}
 use Rattle.std.proofs.Common.{◌==◌, Bool, true, false, not, true≢false, List, [], ◌∷◌, ◌++◌, length}
 use Rattle.std.specs.Prelude.{◌&&◌, ◌||◌, cond, if◌then◌else◌, filter, reverse, Option, Some, None}
 use Rattle.std.specs.Prelude.{slice_get}
@@ -10,8 +10,8 @@ use Rattle.node_form.specs.declared.arrays.Item.{Item}
 use Rattle.node_form.specs.declared.instructions.Instr.{Instr}
 use Rattle.node_form.specs.declared.instructions.Instr.TheVariants as instr
 use Rattle.node_form.specs.declared.tables.Tables.{Tables}
-use Rattle.code_parts.specs.Early.{is_roomy, may_cross, open_behind}
-use Rattle.code_parts.specs.Uses.{changes, changes_any, items_of, may_divide}
+use Rattle.code_parts.specs.Early.{is_roomy, may_cross}
+use Rattle.code_parts.specs.Uses.{changes, items_of, may_divide}
 use Rattle.last_writes.specs.Last.{is_listed}
 use Rattle.comm_early.specs.Place.{finished_by, stops_all}
 use Rattle.comm_early.specs.Send.{open_behind_all, put_early}

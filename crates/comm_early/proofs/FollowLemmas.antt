@@ -1,10 +1,9 @@
 -- What is noted of a stretch says where a start comes to stand.
-use Rattle.std.proofs.Common.{◌≡◌, ◌⊎◌, inl, inr, refl, sym, ap, ◌∙◌, subst, arith, ℕ, zero, suc}
+use Rattle.std.proofs.Common.{◌≡◌, ◌⊎◌, inl, inr, refl, sym, ap, ◌∙◌, subst, arith, ℕ, suc}
 use Rattle.std.proofs.Common.{◌+◌, ◌-◌, ◌≤◌, ◌<◌, Bool, true, false, not, true≢false}
 use Rattle.std.proofs.Common.{List, [], ◌∷◌, ◌++◌, length}
-use Rattle.std.specs.Prelude.{◌&&◌, ◌||◌, fold, if◌then◌else◌, max, Option, Some, slice_get}
+use Rattle.std.specs.Prelude.{◌&&◌, ◌||◌, max, Option, Some, slice_get}
 use Rattle.std.specs.List.{list_any}
-use Rattle.node_form.specs.declared.arrays.Item.{Item}
 use Rattle.node_form.specs.declared.instructions.Instr.{Instr}
 use Rattle.node_form.specs.declared.instructions.Instr.TheVariants as instr
 use Rattle.node_form.specs.declared.tables.Tables.{Tables}
@@ -18,7 +17,7 @@ use Rattle.comm_early.specs.declared.stretch.Stretch.{Stretch}
 use Rattle.comm_early.proofs.CrossLemmas.{crossed_or_stops, crosses, is_finish, is_start, onto}
 use Rattle.comm_early.proofs.CrossLemmas.{start_stops, stop_row, stops}
 use Rattle.comm_early.proofs.LoadLemmas.{Loads, loads_new, loads_row, loads_start, opened_at}
-use Rattle.comm_early.proofs.TrackLemmas.{Attained, Tracks, less_or, tracks_all, tracks_both}
+use Rattle.comm_early.proofs.TrackLemmas.{Attained, Tracks, tracks_all, tracks_both}
 use Rattle.comm_early.proofs.TrackLemmas.{tracks_later, tracks_more, tracks_none}
 
 module _ (tables : Tables) (links : Option ℕ) where

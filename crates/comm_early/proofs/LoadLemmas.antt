@@ -1,5 +1,5 @@
 -- What is noted of open exchanges is what is open among the rows as they stand.
-use Rattle.std.proofs.Common.{◌≡◌, ◌⊎◌, inl, inr, refl, sym, ap, ◌∙◌, subst, arith, ℕ, zero, suc}
+use Rattle.std.proofs.Common.{◌≡◌, ◌⊎◌, inl, inr, refl, sym, ap, ◌∙◌, subst, arith, ℕ, suc}
 use Rattle.std.proofs.Common.{◌+◌, ◌-◌, ◌≤◌, ◌<◌, ◌==◌, Bool, true, false, not, true≢false}
 use Rattle.std.proofs.Common.{List, [], ◌∷◌, ◌++◌, length}
 use Rattle.std.specs.Prelude.{◌&&◌, ◌||◌, cond, count_by, if◌then◌else◌, filter, max, nat_le, nat_lt}
@@ -10,7 +10,6 @@ use Rattle.std.proofs.lemmas.List.Sums.{length-filter, sum_by-cons}
 use Rattle.std.proofs.lemmas.List.Filters.{length-filter_both}
 use Rattle.node_form.specs.declared.instructions.Instr.{Instr}
 use Rattle.node_form.specs.declared.instructions.Instr.TheVariants as instr
-use Rattle.node_form.specs.declared.tables.Tables.{Tables}
 use Rattle.code_parts.specs.Early.{is_roomy, open_behind}
 use Rattle.last_writes.specs.Last.{is_listed, noted}
 use Rattle.comm_early.specs.Place.{IsFinished, IsLoaded, IsNewLoad, IsStarted, finished_by}

@@ -1,7 +1,7 @@
 -- Starts moved up, one row after another.
-use Rattle.std.proofs.Common.{◌≡◌, refl, sym, ap, ◌∙◌, subst, arith, ℕ, zero, suc, ◌+◌, ◌-◌, ◌≤◌, ◌<◌, ◌==◌}
-use Rattle.std.proofs.Common.{Bool, true, false, true≢false, List, [], ◌∷◌, ◌++◌, drop, length}
-use Rattle.std.specs.Prelude.{fold, max, reverse, Option, Some, slice_get}
+use Rattle.std.proofs.Common.{◌≡◌, refl, sym, ap, ◌∙◌, subst, arith, ℕ, suc, ◌+◌, ◌-◌, ◌≤◌, ◌==◌}
+use Rattle.std.proofs.Common.{Bool, true, false, List, [], ◌∷◌, ◌++◌, drop, length}
+use Rattle.std.specs.Prelude.{fold, reverse, Option, Some, slice_get}
 use Rattle.std.proofs.Math.Path.{fun_ext}
 use Rattle.std.proofs.lemmas.List.Sums.{count_by-le-length}
 use Rattle.std.proofs.lemmas.List.{append-nil, append_assoc, reverse-append}
@@ -16,7 +16,7 @@ use Rattle.plan_form.proofs.PassLemmas.{dropped, dropped_all}
 use Rattle.plan_form.proofs.WalkLemmas as walks
 use Rattle.last_writes.specs.Last.{noted}
 use Rattle.comm_early.specs.Place.{IsNewStretch, IsNotedRow, place_by}
-use Rattle.comm_early.specs.Send.{put_early, put_row, rows_early, sent_early}
+use Rattle.comm_early.specs.Send.{put_early, put_row, sent_early}
 use Rattle.comm_early.specs.Written.{IsAt, IsFlushed, IsSentRow, IsStartSent, IsWrittenTo}
 use Rattle.comm_early.specs.Written.{other_at, other_rows, others}
 use Rattle.comm_early.specs.declared.sent.Sent.{Sent}

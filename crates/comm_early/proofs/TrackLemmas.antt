@@ -1,5 +1,5 @@
 -- The last of the rows from one number to another that pass a test.
-use Rattle.std.proofs.Common.{◌≡◌, ◌⊎◌, inl, inr, refl, sym, ap, ◌∙◌, subst, arith, ℕ, ◌+◌, ◌≤◌, ◌<◌}
+use Rattle.std.proofs.Common.{◌≡◌, ◌⊎◌, inl, inr, refl, sym, ap, ◌∙◌, arith, ℕ, ◌+◌, ◌≤◌, ◌<◌}
 use Rattle.std.proofs.Common.{Bool, true, false, true≢false, List, [], ◌∷◌}
 use Rattle.std.specs.Prelude.{◌||◌, if◌then◌else◌, nat_lt, Some, fold, max, slice_get}
 use Rattle.std.specs.List.{list_any}
