@@ -4,3 +4,5 @@ pub mod TrackLemmas
 pub mod LoadLemmas
 pub mod FollowLemmas
 pub mod SendLemmas
+pub mod EarlyLemmas
+pub mod PassedLemmas

@@ -45,19 +45,19 @@ module _ (tables : Tables) (links : Option ℕ) where
   walk = walks.walk {F = List Instr} {Old = Instr} {New = Instr} ends_stretch
       (is_goal tables.code) [] step (put_row tables links) close same_last
 
-  abbrev in_front : Bool → List Instr → List Instr
+  abbrev pub in_front : Bool → List Instr → List Instr
   in_front = walks.in_front {F = List Instr} {Old = Instr} {New = Instr} ends_stretch
       (is_goal tables.code) [] step (put_row tables links) close same_last
 
-  abbrev known : Bool → List Instr → List Instr
+  abbrev pub known : Bool → List Instr → List Instr
   known = walks.known {F = List Instr} {Old = Instr} {New = Instr} ends_stretch
       (is_goal tables.code) [] step (put_row tables links) close same_last
 
-  abbrev put : Bool → (ℕ → ℕ) → List Instr → Instr → List Instr
+  abbrev pub put : Bool → (ℕ → ℕ) → List Instr → Instr → List Instr
   put = walks.put {F = List Instr} {Old = Instr} {New = Instr} ends_stretch
       (is_goal tables.code) [] step (put_row tables links) close same_last
 
-  abbrev learnt : Bool → List Instr → Instr → List Instr
+  abbrev pub learnt : Bool → List Instr → Instr → List Instr
   learnt = walks.learnt {F = List Instr} {Old = Instr} {New = Instr} ends_stretch
       (is_goal tables.code) [] step (put_row tables links) close same_last
 

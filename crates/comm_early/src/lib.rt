@@ -13,6 +13,8 @@ ghost use Rattle.std.specs.Prelude.{◌≡◌, ℕ, Bool, Option};
 ghost use Rattle.node_form.specs.declared.instructions.Instr.{Instr as Row};
 ghost use Rattle.node_form.specs.declared.tables.Tables.{Tables as Code};
 ghost use Rattle.code_parts.specs.Counts.{code_size, count_of};
+ghost use Rattle.code_parts.specs.Early.{IsEarly};
+ghost use Rattle.code_parts.specs.Exchanged.{HasNoRepeats, IsMerged};
 ghost use Rattle.comm_early.specs.Send.{sent_early};
 
 pub use early::send_early;
@@ -26,4 +28,13 @@ pub fn rows_stay()
         count_of test (sent_early links plan) ≡ count_of test plan }
     ensures rest { (links : Option ℕ) (plan : Code) →
         record (sent_early links plan) { code = plan.code } ≡ plan }
+{}
+
+/// No start could be earlier, and no repeat and no neighbours come back.
+pub fn starts_are_early()
+    ensures early { (links : Option ℕ) (plan : Code) → IsEarly links (sent_early links plan) }
+    ensures not_redundant { (links : Option ℕ) (plan : Code) →
+        HasNoRepeats plan → HasNoRepeats (sent_early links plan) }
+    ensures merged { (links : Option ℕ) (plan : Code) →
+        IsMerged plan → IsMerged (sent_early links plan) }
 {}
