@@ -1,7 +1,7 @@
 -- Exchanges without what is fresh, one row after another.
 use Rattle.std.proofs.Common.{◌≡◌, refl, sym, ap, subst, ◌∙◌, ℕ, ◌+◌, ◌≤◌, Bool, true, false, not}
-use Rattle.std.proofs.Common.{true≢false, List, [], ◌∷◌, ◌++◌, length}
-use Rattle.std.specs.Prelude.{Some, None, Option, filter, flat_map, slice_get}
+use Rattle.std.proofs.Common.{List, [], ◌∷◌, ◌++◌, length}
+use Rattle.std.specs.Prelude.{Some, filter, flat_map, slice_get}
 use Rattle.std.specs.List.{AllByRecursion}
 use Rattle.std.proofs.lemmas.Grind.{flat_map-append}
 use Rattle.node_form.specs.declared.arrays.Item.{Item}
@@ -12,8 +12,8 @@ use Rattle.code_parts.specs.Exchanged.{is_among, stales}
 use Rattle.code_parts.specs.Stretch.{ends_stretch, is_goal}
 use Rattle.code_parts.specs.Uses.{items_of}
 use Rattle.row_runs.specs.Straight.{rewritten}
-use Rattle.plan_form.specs.Units.{PlanUnit, Exchange, Single, unit_of, unit_rows, units_of}
-use Rattle.plan_form.specs.Rewrite.{rows_by, with_units}
+use Rattle.plan_form.specs.Units.{PlanUnit, Single, unit_rows, units_of}
+use Rattle.plan_form.specs.Rewrite.{rows_by}
 use Rattle.plan_form.specs.Draft.{empty_draft, plan_of, with_number, written}
 use Rattle.plan_form.specs.declared.draft.PlanDraft.{PlanDraft}
 use Rattle.plan_form.proofs.PassLemmas as pass
@@ -38,38 +38,38 @@ learn tables known row = filter (λ item. not (stales tables item row)) known
 abbrev pub close : List Item → List PlanUnit
 close known = []
 
-abbrev from : Tables → List Item → List PlanUnit → List PlanUnit
-from tables known units = rewritten without_fresh (fresh_after tables) known units
+abbrev pub rewriting : Tables → List Item → List PlanUnit → List PlanUnit
+rewriting tables known units = rewritten without_fresh (fresh_after tables) known units
 
 -- the same of the rows of a stretch
 single_row : (tables : Tables) (known : List Item) (row : Instr) (rows : List Instr)
-    → rows_by tables (from tables (fresh_after tables known (Single row))) rows
+    → rows_by tables (rewriting tables (fresh_after tables known (Single row))) rows
     ≡ pass.closed_from {F = List Item} tables [] (step tables) (learn tables) close
     (fresh_after tables known (Single row)) rows
-    → flat_map unit_rows (Single row ∷ from tables (fresh_after tables known (Single row))
+    → flat_map unit_rows (Single row ∷ rewriting tables (fresh_after tables known (Single row))
     (units_of tables rows))
     ≡ flat_map unit_rows (Single row ∷ [])
     ++ pass.closed_from {F = List Item} tables [] (step tables) (learn tables) close
     (fresh_after tables known (Single row)) rows
 single_row tables known row rows later =
     flat_map-append unit_rows (Single row ∷ [])
-    (from tables (fresh_after tables known (Single row)) (units_of tables rows))
+    (rewriting tables (fresh_after tables known (Single row)) (units_of tables rows))
     ∙ ap (λ l. flat_map unit_rows (Single row ∷ []) ++ l) later
 
-same_rows : (tables : Tables) (known : List Item) (rows : List Instr)
-    → rows_by tables (from tables known) rows
+pub all_rows : (tables : Tables) (known : List Item) (rows : List Instr)
+    → rows_by tables (rewriting tables known) rows
     ≡ pass.closed_from {F = List Item} tables [] (step tables) (learn tables) close known rows
-same_rows tables known [] = refl
-same_rows tables known (instr.Start exchange ∷ rows) =
+all_rows tables known [] = refl
+all_rows tables known (instr.Start exchange ∷ rows) =
     flat_map-append unit_rows (exchange_if_any (stale_items known (items_of tables exchange)))
-    (from tables (stale_items known (items_of tables exchange) ++ known) (units_of tables rows))
+    (rewriting tables (stale_items known (items_of tables exchange) ++ known) (units_of tables rows))
     ∙ ap (λ l. flat_map unit_rows
     (exchange_if_any (stale_items known (items_of tables exchange))) ++ l)
-    (same_rows tables (stale_items known (items_of tables exchange) ++ known) rows)
-same_rows tables known (instr.Finish exchange ∷ rows) = same_rows tables known rows
-same_rows tables known (row ∷ rows) =
+    (all_rows tables (stale_items known (items_of tables exchange) ++ known) rows)
+all_rows tables known (instr.Finish exchange ∷ rows) = all_rows tables known rows
+all_rows tables known (row ∷ rows) =
     single_row tables known row rows
-    (same_rows tables (fresh_after tables known (Single row)) rows)
+    (all_rows tables (fresh_after tables known (Single row)) rows)
 
 -- ---- what is written is straight
 any_straight : (items : List Item) → AllByRecursion IsStraightUnit (exchange_if_any items)
@@ -187,4 +187,4 @@ pub drop_ends : (tables : Tables) (draft : PlanDraft) (fresh : Fresh) (at : ℕ)
     → plan_of draft tables ≡ repeats_dropped tables
 drop_ends tables draft fresh at past w =
     pass.walk_passes {F = List Item} tables [] (step tables) (learn tables) close refl (λ known. tt)
-    (straight tables) (from tables []) (same_rows tables []) draft w.known at past w.walked
+    (straight tables) (rewriting tables []) (all_rows tables []) draft w.known at past w.walked

@@ -1,12 +1,9 @@
 -- Neighbours are one exchange, one row after another.
 use Rattle.std.proofs.Common.{◌≡◌, refl, sym, ap, subst, ◌∙◌, ℕ, ◌+◌, ◌≤◌, Bool, true, false}
 use Rattle.std.proofs.Common.{true≢false, List, [], ◌∷◌, ◌++◌, length}
-use Rattle.std.specs.Prelude.{◌==◌, ◌&&◌, ◌||◌, if◌then◌else◌, Some, None, Option, flat_map, fold, slice_get}
-use Rattle.std.specs.List.{AllByRecursion, list_any}
-use Rattle.std.specs.Cmp.Lexicographic.{pointwise}
-use Rattle.std.specs.Ordering.{int_eq}
+use Rattle.std.specs.Prelude.{◌||◌, if◌then◌else◌, Some, None, Option, flat_map, fold, slice_get}
+use Rattle.std.specs.List.{AllByRecursion}
 use Rattle.std.proofs.lemmas.Grind.{flat_map-append}
-use Rattle.std.proofs.lemmas.List.{append_assoc}
 use Rattle.std.proofs.lemmas.List.Sums.{fold-append}
 use Rattle.std.proofs.lemmas.List.Folds.{list_any-append}
 use Rattle.node_form.specs.declared.arrays.Item.{Item}
@@ -18,14 +15,13 @@ use Rattle.code_parts.specs.Stretch.{ends_stretch, is_goal}
 use Rattle.code_parts.specs.Uses.{is_item, items_of}
 use Rattle.plan_form.proofs.ItemLemmas.{is_item-Decides}
 use Rattle.flat_passes.proofs.StretchLemmas.{every_append}
-use Rattle.plan_form.specs.Units.{PlanUnit, Exchange, Single, unit_of, unit_rows, units_of, with_item}
-use Rattle.plan_form.specs.Rewrite.{rows_by, with_units}
+use Rattle.plan_form.specs.Units.{PlanUnit, Exchange, Single, unit_rows, units_of, with_item}
 use Rattle.plan_form.specs.Draft.{empty_draft, plan_of, with_number, written}
 use Rattle.plan_form.specs.declared.draft.PlanDraft.{PlanDraft}
 use Rattle.plan_form.proofs.PassLemmas as pass
 use Rattle.plan_form.proofs.PassLemmas.{IsStraightUnit}
 use Rattle.comm_combine.specs.Merge.{front_pending, front_units, joined_to, neighbours_merged}
-use Rattle.comm_combine.specs.Merge.{pending_behind, pending_items}
+use Rattle.comm_combine.specs.Merge.{pending_behind}
 use Rattle.comm_combine.specs.Merge.{pending_units, pending_with, row_units, units_merged}
 
 -- ---- items, each once

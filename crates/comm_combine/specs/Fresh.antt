@@ -1,5 +1,5 @@
 -- The items that are fresh, by the rows that exchanged them, and wrote their arrays and slots, last.
-use Rattle.std.specs.Prelude.{◌≡◌, ℕ, ◌≤◌, ◌==◌, nat_lt, Bool, not, ◌&&◌, if◌then◌else◌}
+use Rattle.std.specs.Prelude.{◌≡◌, ℕ, ◌==◌, nat_lt, Bool, not, ◌&&◌, if◌then◌else◌}
 use Rattle.std.specs.Prelude.{true, false, List, [], ◌∷◌, filter, unwrap_or}
 use Rattle.std.specs.HashMap.{get_by}
 use Rattle.std.specs.Cmp.Lexicographic.{pointwise}

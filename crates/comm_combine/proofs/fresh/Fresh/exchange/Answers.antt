@@ -1,4 +1,4 @@
-use Rattle.std.proofs.Common.{◌≡◌, refl}
+use Rattle.std.proofs.Common.{refl}
 use Rattle.comm_combine.proofs.KeyLemmas.{exchanged_one, key_of}
 use Rattle.comm_combine.proofs.fresh.Fresh.exchange.Goals as goal
 
