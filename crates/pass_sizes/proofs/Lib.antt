@@ -5,3 +5,4 @@ pub mod NeedLemmas
 pub mod FlatLemmas
 pub mod NormalLemmas
 pub mod SettledLemmas
+pub mod TestLemmas

@@ -1,7 +1,9 @@
 -- Loops that go through a temporary.
 use Rattle.std.proofs.Common.{◌≡◌, refl, sym, ap, ◌∙◌, arith, ℕ, zero, suc, ◌+◌, ◌*◌, ◌≤◌, Bool, true, false}
-use Rattle.std.proofs.Common.{List, [], ◌∷◌, ◌++◌, length, map}
-use Rattle.std.specs.Prelude.{cond, count_by, flat_map, sum_by, Option, Some, None, slice_get, if◌then◌else◌}
+use Rattle.std.proofs.Common.{List, [], ◌∷◌, ◌++◌, length, map, length-append}
+use Rattle.std.specs.List.{list_any}
+use Rattle.row_runs.specs.Cut.{as_list as found_list}
+use Rattle.std.specs.Prelude.{cond, count_by, flat_map, fold, sum_by, Option, Some, None, slice_get, if◌then◌else◌}
 use Rattle.std.proofs.lemmas.List.Sums.{sum_by-append, sum_by-cons, sum_by-le-sum_by}
 use Rattle.node_form.specs.declared.words.ExprOp.{ExprOp}
 use Rattle.node_form.specs.declared.arrays.ArrayRow.{ArrayRow}
@@ -10,11 +12,13 @@ use Rattle.node_form.specs.declared.members.Member.TheVariants as member
 use Rattle.node_form.specs.declared.instructions.Instr.{Instr}
 use Rattle.node_form.specs.declared.instructions.Instr.TheVariants as instr
 use Rattle.node_form.specs.declared.tables.Tables.{Tables}
-use Rattle.code_parts.specs.Counts.{count_of}
+use Rattle.code_parts.specs.Counts.{count_of, is_loop}
 use Rattle.code_parts.specs.Stretch.{ends_stretch}
-use Rattle.code_parts.specs.Uses.{as_list}
+use Rattle.code_parts.specs.Uses.{as_list, members_of}
 use Rattle.flat_passes.specs.Grouped.{Grouped, Runs, Plain, ended_by, grouped, rewritten_rows}
 use Rattle.flat_passes.specs.Grouped.{with_grouped}
+use Rattle.temp_norm.specs.Normalised.{array_through, is_like, rows_through, temporary_like}
+use Rattle.temp_norm.specs.Normalised.{with_one_like}
 use Rattle.temp_norm.specs.Normalised.{loop_through, loops_on_itself, loops_on_themselves, normalised}
 use Rattle.temp_norm.specs.Normalised.{place_among, put_alone, put_through, read_each, reads_itself}
 use Rattle.temp_norm.specs.Normalised.{row_through, temporaries, with_temporaries}
@@ -247,3 +251,84 @@ module _ (tables : Tables) where
               (λ moved row ends. omega (arith, ended_counted test blind tables moved row ends)),
           allowed_sum tables.code,
         )
+
+-- ---- temporaries: at most one for each loop that is split
+one_more : (rows : List ArrayRow) (row : ArrayRow) → length (with_one_like rows row) ≤ length rows + 1
+one_more rows row = by (list_any (is_like row) rows)
+  where
+    by : (b : Bool) → length (cond b rows (rows ++ temporary_like row ∷ [])) ≤ length rows + 1
+    by true = omega arith
+    by false = omega (arith, length-append rows (temporary_like row ∷ []))
+
+few_kinds : (rows more : List ArrayRow) →
+    length (fold with_one_like rows more) ≤ length rows + length more
+few_kinds rows [] = omega arith
+few_kinds rows (row ∷ more) =
+    omega (arith, few_kinds (with_one_like rows row) more, one_more rows row)
+
+module _ (tables : Tables) where
+  one_kind : (found : Option ArrayRow) → length (found_list found) ≤ 1
+  one_kind None = omega arith
+  one_kind (Some row) = omega arith
+
+  kinds_of : (arrays : List ℕ) →
+      length (flat_map (λ array. found_list (slice_get tables.arrays array)) arrays) ≤ length arrays
+  kinds_of [] = omega arith
+  kinds_of (array ∷ arrays) =
+      omega (
+        arith,
+        length-append (found_list (slice_get tables.arrays array))
+            (flat_map (λ array. found_list (slice_get tables.arrays array)) arrays),
+        one_kind (slice_get tables.arrays array),
+        kinds_of arrays,
+      )
+
+  one_array : (group : List Member) → length (put_alone group) ≤ 1
+  one_array (member.Put array expr mask line ∷ []) = omega arith
+  one_array group = omega arith
+
+  one_through : (row : Grouped) →
+      length (array_through tables row) ≤ cond (loops_on_itself tables row) 1 0
+  one_through (Runs slot group) = by (reads_itself tables group)
+    where
+      by : (b : Bool) → length (if b then put_alone group else []) ≤ cond b 1 0
+      by true = one_array group
+      by false = omega arith
+  one_through (Plain row) = omega arith
+
+  all_through : (rows : List Instr) →
+      length (flat_map (rows_through tables) rows)
+      ≤ count_by (λ row. loops_on_itself tables (grouped tables row)) rows
+  all_through [] = omega arith
+  all_through (row ∷ rows) =
+      omega (
+        arith,
+        length-append (rows_through tables row) (flat_map (rows_through tables) rows),
+        kinds_of (array_through tables (grouped tables row)),
+        one_through (grouped tables row),
+        all_through rows,
+        sum_by-cons (λ row. cond (loops_on_itself tables (grouped tables row)) 1 0) row rows,
+      )
+
+  pub few_temporaries : length (temporaries tables) ≤ loops_on_themselves tables
+  few_temporaries =
+      omega (
+        arith,
+        few_kinds [] (flat_map (rows_through tables) tables.code),
+        all_through tables.code,
+      )
+
+  -- and each is a loop
+  pub splits_are_loops : loops_on_themselves tables ≤ count_of is_loop tables
+  splits_are_loops =
+      sum_by-le-sum_by (λ row. cond (loops_on_itself tables (grouped tables row)) 1 0)
+      (λ row. cond (is_loop row) 1 0) tables.code each
+    where
+      one_most : (b : Bool) → cond {A = ℕ} b 1 0 ≤ 1
+      one_most true = omega arith
+      one_most false = omega arith
+
+      each : (row : Instr) →
+          cond {A = ℕ} (loops_on_itself tables (grouped tables row)) 1 0 ≤ cond (is_loop row) 1 0
+      each (instr.Loop slot group) = one_most (reads_itself tables (members_of tables group))
+      each row = omega arith

@@ -6,4 +6,6 @@
 
 mod laws;
 
-pub use laws::trial;
+pub use laws::{
+    exchanges_get_fewer, needs_are_few, settled_programs_are_small, temporaries_are_few,
+};
