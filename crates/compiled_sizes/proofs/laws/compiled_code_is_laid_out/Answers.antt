@@ -1,0 +1,5 @@
+use Rattle.compiled_sizes.proofs.LayoutLemmas.{laid_out, trees}
+use Rattle.compiled_sizes.proofs.laws.compiled_code_is_laid_out.Goals as goal
+
+pub returns : goal.returns
+returns c = record { laid_out = laid_out; by_trees = trees }
