@@ -1,3 +1,4 @@
 pub mod BaseLemmas
 pub mod PassLemmas
 pub mod LayoutLemmas
+pub mod CheckLemmas

@@ -6,6 +6,7 @@ ghost use Rattle.zpl_names.specs.Expansion.{other_size, plain_assignments, sourc
 ghost use Rattle.grid_meaning.specs.Stored.{arrangement_of};
 ghost use Rattle.code_parts.specs.Counts.{GoesByTrees, code_size, count_of, is_counted, is_loop};
 ghost use Rattle.code_parts.specs.Counts.{is_vote};
+ghost use Rattle.code_parts.specs.Needs.{IsUndecided};
 ghost use Rattle.temp_norm.specs.Normalised.{loops_on_themselves};
 ghost use Rattle.zpl_lowering.specs.Tables.{flat_tables};
 ghost use Rattle.zpl_claims.specs.Build.{Build};
@@ -29,14 +30,17 @@ pub fn compiled_code_is_small()
         count_of is_vote (compiled build program) ≤ count_of is_loop (compiled build program) }
 {}
 
-/// The code is for the grid that is asked for, and has the stored arrays of the lowered program. Where
-/// that is asked for, no vote and no fold goes by the first processor.
+/// The code is for the grid that is asked for, and has the stored arrays of the lowered program. No
+/// check of places is left that always passes. Where that is asked for, no vote and no fold goes by
+/// the first processor.
 pub fn compiled_code_is_laid_out()
     ensures laid_out { (build : Build) (program : Program) →
         arrangement_of (compiled build program) ≡ record {
           grid = build.grid;
           boxes = (arrangement_of (flat_tables program build.settings)).boxes;
         } }
+    ensures undecided { (build : Build) (program : Program) →
+        IsUndecided (compiled build program) }
     ensures by_trees { (build : Build) (program : Program) → build.options.tree ≡ true →
         GoesByTrees (compiled build program) }
 {}
