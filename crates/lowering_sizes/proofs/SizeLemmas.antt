@@ -1,5 +1,5 @@
 -- The size of a program's tables.
-use Rattle.std.proofs.Common.{◌≡◌, ℕ, zero, suc, ◌+◌, ◌*◌, ◌≤◌, false, List, [], ◌∷◌, length, Option, Some, None, refl, arith}
+use Rattle.std.proofs.Common.{◌≡◌, ℕ, zero, suc, ◌+◌, ◌*◌, ◌-◌, ◌≤◌, false, List, [], ◌∷◌, length, Option, Some, None, refl, arith}
 use Rattle.std.specs.Prelude.{sum_by}
 use Rattle.std.proofs.lemmas.List.{length-map}
 use Rattle.std.proofs.lemmas.List.Sums.{sum_by-cons}
@@ -201,10 +201,11 @@ none_of program = by (entry_of program)
     by None = refl
     by (Some entry) = no_expanded program longest_chain entry
 
+-- without the bytes of texts
 pub bare_law : (program : Program) (settings : List Setting) → IsFaultless program →
     HoldsItsWords program →
     code_size (record (flat_tables program settings) { texts = [] })
-    ≤ 32 * (source_size program + 1)
+    ≤ 3 * length program.source + 32 * (source_size program - length program.source) + 30
 bare_law program settings faultless holds =
     let one : no_text (10 ∷ []) ≤ 1 = omega arith in
     omega (

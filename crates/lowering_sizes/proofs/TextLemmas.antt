@@ -479,7 +479,7 @@ different_law program texts holds among distinct =
 -- ---- the whole size
 pub size_law : (program : Program) (settings : List Setting) → IsFaultless program →
     HoldsItsWords program →
-    code_size (flat_tables program settings) ≤ 33 * (source_size program + 1)
+    code_size (flat_tables program settings) ≤ 32 * (source_size program + 1)
 size_law program settings faultless holds =
     let texts = (flat_tables program settings).texts in
     omega (

@@ -1,5 +1,5 @@
 //! The laws of the sizes of lowered programs.
-ghost use Rattle.std.specs.Prelude.{[], All, Contains, List, length, sum_by, ℕ, ◌*◌, ◌+◌, ◌≤◌};
+ghost use Rattle.std.specs.Prelude.{All, Contains, List, length, sum_by, ℕ, ◌*◌, ◌+◌, ◌≤◌};
 ghost use Rattle.std.specs.List.{IsDistinct};
 ghost use Rattle.std.specs.Str.{bytes_eq};
 ghost use Rattle.zpl_tree.specs.Syntax.{Program};
@@ -12,15 +12,11 @@ ghost use Rattle.zpl_lowering.specs.Tables.{flat_tables};
 ghost use Rattle.lowering_sizes.specs.Sizes.{HoldsItsWords};
 ghost use Rattle.lowering_sizes.specs.Texts.{texts_of};
 
-/// The tables of a program without faults are at most 33 times as large as the program with its
-/// calls expanded; without the bytes of their texts, which stand once each, at most 32 times.
+/// The tables of a program without faults are at most 32 times as large as the program with its
+/// calls expanded.
 pub fn sizes()
-    ensures whole { (program : Program) (settings : List Setting) → IsFaultless program →
+    ensures { (program : Program) (settings : List Setting) → IsFaultless program →
         HoldsItsWords program → code_size (flat_tables program settings) ≤
-        33 * (source_size program + 1) }
-    ensures bare { (program : Program) (settings : List Setting) → IsFaultless program →
-        HoldsItsWords program →
-        code_size (record (flat_tables program settings) { texts = [] }) ≤
         32 * (source_size program + 1) }
 {}
 

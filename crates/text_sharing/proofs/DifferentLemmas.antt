@@ -172,8 +172,8 @@ pub different-kept : (texts : List (List ℕ)) →
     All (λ text. Contains (different texts) text) texts
 different-kept texts k d inside =
     let text = slice_index_or texts k d in
-    let found =
-    number-found (different texts) text (has_each [] texts k text (slice_get-get_or texts k d inside)) in (
+    let there = has_each [] texts k text (slice_get-get_or texts k d inside) in
+    let found = number-found (different texts) text there in (
       found.number,
       slice_get_within (different texts) found.number text found.there,
       get_or_from_slice_get (different texts) found.number text text found.there,

@@ -1,0 +1,13 @@
+use Rattle.pass_sizes.proofs.CombineLemmas.{dropped_count, dropped_pairs, dropped_size}
+use Rattle.pass_sizes.proofs.CombineLemmas.{merged_count, merged_pairs, merged_size}
+use Rattle.pass_sizes.proofs.laws.exchanges_get_fewer.Goals as goal
+
+pub returns : goal.returns
+returns c = record {
+  dropped = dropped_size;
+  dropped_pairs = dropped_pairs;
+  dropped_rows = dropped_count;
+  merged = merged_size;
+  merged_pairs = merged_pairs;
+  merged_rows = merged_count;
+}
