@@ -1,5 +1,6 @@
 -- Lowered tables: what their loops run stands in their rows.
-use Rattle.std.proofs.Common.{◌≡◌, refl, sym, ap, ap₂, ◌∙◌, arith, subst, ℕ, zero, suc, ◌+◌, ◌*◌, ◌≤◌, ◌<◌, Bool, true, false}
+use Rattle.std.proofs.Common.{◌≡◌, refl, sym, ap, ap₂, ◌∙◌, arith, subst, ℕ, zero, suc, ◌+◌, ◌*◌}
+use Rattle.std.proofs.Common.{◌≤◌, ◌<◌, Bool, true, false}
 use Rattle.std.proofs.Common.{List, [], ◌∷◌, ◌++◌, length, map, length-append, Option, Some, None}
 use Rattle.std.specs.Prelude.{All, cond, count_by, flat_map, slice_get, slice_index_or, sum_by}
 use Rattle.std.specs.Option.{option_map}
@@ -13,7 +14,8 @@ use Rattle.node_form.specs.declared.members.Member.TheVariants as member
 use Rattle.node_form.specs.declared.instructions.Instr.{Instr}
 use Rattle.node_form.specs.declared.instructions.Instr.TheVariants as instr
 use Rattle.node_form.specs.declared.tables.Tables.{Tables}
-use Rattle.node_form.specs.Fits.{Fits, FitsArray, FitsExchange, FitsExpr, FitsGroup, FitsInstr, IsRank}
+use Rattle.node_form.specs.Fits.{Fits, FitsArray, FitsExchange, FitsExpr, FitsGroup, FitsInstr}
+use Rattle.node_form.specs.Fits.{IsRank}
 use Rattle.node_form.specs.Grid.{IsGrid}
 use Rattle.code_parts.specs.Counts.{code_size, count_of, is_loop, is_vote}
 use Rattle.code_parts.specs.Uses.{as_list, exprs_of, members_of, rows_or_none, shifted_in, words_of}
@@ -25,7 +27,8 @@ use Rattle.flat_form.specs.Row.{mask_words, member_coded, member_inlined, member
 use Rattle.flat_form.specs.Row.{row_words, with_row, with_rows, words_at}
 use Rattle.flat_form.proofs.ReadLemmas.{read_again}
 use Rattle.flat_passes.specs.Grouped.{grouped, loop_members, members_run}
-use Rattle.pass_sizes.specs.Sizes.{expr_shifts, group_shifts, is_unflat, loop_shifts, member_shifts, run_by}
+use Rattle.pass_sizes.specs.Sizes.{expr_shifts, group_shifts, is_unflat, loop_shifts, member_shifts}
+use Rattle.pass_sizes.specs.Sizes.{run_by}
 use Rattle.pass_sizes.proofs.SumLemmas.{flat_sum, map_sum, same_sum, zero_sum}
 use Rattle.text_sharing.proofs.RowLemmas.{shared-inline}
 use Rattle.zpl_tree.specs.Syntax.{Program}

@@ -1,7 +1,9 @@
 -- No check is left that always passes: passes behind the one that leaves these out keep it so.
-use Rattle.std.proofs.Common.{◌≡◌, refl, sym, ap, ap₂, ◌∙◌, arith, ℕ, zero, suc, ◌+◌, ◌<◌, Bool, true, false}
+use Rattle.std.proofs.Common.{◌≡◌, refl, sym, ap, ap₂, ◌∙◌, arith, ℕ, zero, suc, ◌+◌, ◌<◌, Bool}
+use Rattle.std.proofs.Common.{true, false}
 use Rattle.std.proofs.Common.{List, [], ◌∷◌, length, map, ℤ, Option}
-use Rattle.std.specs.Prelude.{All, cond, count_by, not, ◌&&◌, ◌||◌, ◌==◌, slice_get, slice_index_or, sum_by}
+use Rattle.std.specs.Prelude.{All, cond, count_by, not, ◌&&◌, ◌||◌, ◌==◌, slice_get, slice_index_or}
+use Rattle.std.specs.Prelude.{sum_by}
 use Rattle.std.specs.List.{list_all}
 use Rattle.std.proofs.lemmas.List.Sums.{sum_by-cons}
 use Rattle.node_form.specs.declared.instructions.Instr.{Instr}

@@ -1,24 +1,21 @@
 -- Passes over flat programs: what loops run, and how many rows there are.
-use Rattle.std.proofs.Common.{◌≡◌, refl, sym, ap, ap₂, ◌∙◌, arith, ℕ, zero, suc, ◌+◌, ◌*◌, ◌≤◌, Bool, true, false}
+use Rattle.std.proofs.Common.{◌≡◌, refl, sym, ap, ap₂, ◌∙◌, arith, ℕ, ◌+◌, ◌≤◌, Bool, true, false}
 use Rattle.std.proofs.Common.{List, [], ◌∷◌, ◌++◌, length, map, length-append, append_assoc}
-use Rattle.std.specs.Prelude.{cond, count_by, filter, flat_map, not, sum_by, Option, Some, None, slice_get, if◌then◌else◌}
-use Rattle.std.proofs.lemmas.List.Sums.{sum_by-append, sum_by-cons, sum_by-le-sum_by}
+use Rattle.std.specs.Prelude.{cond, count_by, flat_map, not, sum_by, Some, slice_get}
+use Rattle.std.proofs.lemmas.List.Sums.{sum_by-cons}
 use Rattle.node_form.specs.declared.words.ExprOp.{ExprOp}
-use Rattle.node_form.specs.declared.words.ExprOp.TheVariants as word
-use Rattle.node_form.specs.declared.arrays.ArrayRow.{ArrayRow}
 use Rattle.node_form.specs.declared.members.Member.{Member}
-use Rattle.node_form.specs.declared.members.Member.TheVariants as member
 use Rattle.node_form.specs.declared.instructions.Instr.{Instr}
 use Rattle.node_form.specs.declared.instructions.Instr.TheVariants as instr
 use Rattle.node_form.specs.declared.tables.Tables.{Tables}
-use Rattle.code_parts.specs.Counts.{count_of, is_counted, is_loop}
+use Rattle.code_parts.specs.Counts.{is_loop}
 use Rattle.code_parts.specs.Stretch.{ends_stretch}
-use Rattle.code_parts.specs.Uses.{as_list, exprs_of, members_of, rows_or_none, shifted_in, words_of}
-use Rattle.flat_passes.specs.Rewritten.{rewritten_code, with_moved_goal}
-use Rattle.flat_passes.specs.Grouped.{Grouped, Runs, Plain, all_numbered, ended_by, group_of, grouped}
-use Rattle.flat_passes.specs.Grouped.{groups_of, numbered, rewritten_rows, with_grouped}
+use Rattle.code_parts.specs.Uses.{exprs_of, members_of, rows_or_none, shifted_in}
+use Rattle.flat_passes.specs.Grouped.{Grouped, Runs, Plain, all_numbered, ended_by, group_of}
+use Rattle.flat_passes.specs.Grouped.{grouped}
+use Rattle.flat_passes.specs.Grouped.{groups_of, rewritten_rows, with_grouped}
 use Rattle.pass_sizes.specs.Sizes.{IsBlind, RunsOnce, all_run, expr_shifts, group_shifts}
-use Rattle.pass_sizes.specs.Sizes.{loop_shifts, member_shifts, run_by}
+use Rattle.pass_sizes.specs.Sizes.{member_shifts, run_by}
 use Rattle.pass_sizes.proofs.SumLemmas.{flat_sum, map_sum, passed_most, passed_same, same_sum}
 use Rattle.pass_sizes.proofs.SumLemmas.{zero_sum}
 
@@ -176,7 +173,8 @@ abbrev pub shifts_at : List (List ExprOp) → ℕ → ℕ
 shifts_at exprs expr = length (flat_map shifted_in (rows_or_none (slice_get exprs expr)))
 
 -- the same expressions, in groups of any tables
-pub same_groups : (one other : Tables) → ((expr : ℕ) → expr_shifts one expr ≡ expr_shifts other expr) →
+pub same_groups : (one other : Tables) →
+    ((expr : ℕ) → expr_shifts one expr ≡ expr_shifts other expr) →
     (group : List Member) → group_shifts one group ≡ group_shifts other group
 same_groups one other each group =
     same_sum (member_shifts one) (member_shifts other)

@@ -15,7 +15,8 @@ use Rattle.node_form.specs.declared.tables.Tables.{Tables}
 use Rattle.code_parts.specs.Counts.{count_of, is_loop, is_vote}
 use Rattle.code_parts.specs.Exchanged.{is_among}
 use Rattle.code_parts.specs.Stretch.{ends_stretch}
-use Rattle.code_parts.specs.Uses.{exprs_of, group_words, member_words, members_of, shifted_in, words_of}
+use Rattle.code_parts.specs.Uses.{exprs_of, group_words, member_words, members_of, shifted_in}
+use Rattle.code_parts.specs.Uses.{words_of}
 use Rattle.flat_passes.specs.Grouped.{grouped}
 use Rattle.flat_passes.specs.Rewritten.{stretches_of, with_moved_goal}
 use Rattle.plan_form.specs.Units.{PlanUnit, Exchange, Single, PlanRow, unit_of, unit_rows, units_of}
@@ -24,11 +25,12 @@ use Rattle.plan_form.specs.Rewrite.{ended_by, rows_by}
 use Rattle.comm_needs.specs.Needs.{is_voted_on, needed_alone, needed_by, needs_of, planned, vote_if}
 use Rattle.comm_needs.specs.Needs.{with_needs}
 use Rattle.pass_sizes.specs.Sizes.{IsBlind, PassesNoExchange, expr_shifts, group_shifts, is_unflat}
-use Rattle.pass_sizes.specs.Sizes.{loop_shifts, member_shifts, pair_size, pair_weight, plan_size}
+use Rattle.pass_sizes.specs.Sizes.{loop_shifts, member_shifts, pair_size, plan_size}
 use Rattle.pass_sizes.specs.Sizes.{run_by}
 use Rattle.pass_sizes.proofs.SumLemmas.{flat_sum, map_sum, passed_most, passed_same, same_sum}
-use Rattle.pass_sizes.proofs.SumLemmas.{two_sums, zero_sum}
-use Rattle.pass_sizes.proofs.UnitLemmas.{laid_count, laid_pairs, laid_size, off, row_count, row_pair}
+use Rattle.pass_sizes.proofs.SumLemmas.{two_sums}
+use Rattle.pass_sizes.proofs.UnitLemmas.{laid_count, laid_pairs, laid_size, off, row_count}
+use Rattle.pass_sizes.proofs.UnitLemmas.{row_pair}
 use Rattle.pass_sizes.proofs.UnitLemmas.{row_size, unit_weight}
 
 -- ---- needs
@@ -48,7 +50,8 @@ needed_all slot (one ∷ words) =
       needed_all slot words,
     )
 
-each_once : (items more : List Item) → length (fold with_item items more) ≤ length items + length more
+each_once : (items more : List Item) →
+    length (fold with_item items more) ≤ length items + length more
 each_once items [] = omega arith
 each_once items (item ∷ more) =
     omega (arith, each_once (with_item items item) more, by (is_among items item))
@@ -117,7 +120,8 @@ module _ (tables : Tables) where
             (vote_if (is_voted_on tables group) group),
       )
     where
-      all_alike : (items : List Item) → sum_by (λ item. w (needed_alone item)) items ≡ each * length items
+      all_alike : (items : List Item) →
+          sum_by (λ item. w (needed_alone item)) items ≡ each * length items
       all_alike [] = omega arith
       all_alike (item ∷ items) =
           omega (
@@ -281,7 +285,8 @@ module _ (tables : Tables) where
         ap {B = ℕ} (λ b. cond b 1 0) (blind.goals moved (instr.Unless expr goal line))
     last_counted moved row e = refl
 
-    counted_sum : (grid : List ℕ) → count_of test (planned grid tables) ≡ sum_by need_count tables.code
+    counted_sum : (grid : List ℕ) →
+        count_of test (planned grid tables) ≡ sum_by need_count tables.code
     counted_sum grid =
         laid_count test none 0 new_rows
         ∙ passed_same (row_count test) need_count (rows_by tables (flat_map (with_needs tables)))
@@ -311,7 +316,8 @@ module _ (tables : Tables) where
   votes_blind : IsBlind is_vote
   votes_blind = record { goals = moved_votes; loops = λ slot group other. refl }
     where
-      moved_votes : (moved : ℕ → ℕ) (row : Instr) → is_vote (with_moved_goal moved row) ≡ is_vote row
+      moved_votes : (moved : ℕ → ℕ) (row : Instr) →
+          is_vote (with_moved_goal moved row) ≡ is_vote row
       moved_votes moved (instr.Jump goal) = refl
       moved_votes moved (instr.Unless expr goal line) = refl
       moved_votes moved row = refl

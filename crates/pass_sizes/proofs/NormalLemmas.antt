@@ -1,10 +1,12 @@
 -- Loops that go through a temporary.
-use Rattle.std.proofs.Common.{◌≡◌, refl, sym, ap, ◌∙◌, arith, ℕ, zero, suc, ◌+◌, ◌*◌, ◌≤◌, Bool, true, false}
-use Rattle.std.proofs.Common.{List, [], ◌∷◌, ◌++◌, length, map, length-append}
+use Rattle.std.proofs.Common.{◌≡◌, refl, ap, ◌∙◌, arith, ℕ, zero, suc, ◌+◌, ◌*◌, ◌≤◌, Bool, true}
+use Rattle.std.proofs.Common.{false}
+use Rattle.std.proofs.Common.{List, [], ◌∷◌, ◌++◌, length, length-append}
 use Rattle.std.specs.List.{list_any}
 use Rattle.row_runs.specs.Cut.{as_list as found_list}
-use Rattle.std.specs.Prelude.{cond, count_by, flat_map, fold, sum_by, Option, Some, None, slice_get, if◌then◌else◌}
-use Rattle.std.proofs.lemmas.List.Sums.{sum_by-append, sum_by-cons, sum_by-le-sum_by}
+use Rattle.std.specs.Prelude.{cond, count_by, flat_map, fold, sum_by, Option, Some, None, slice_get}
+use Rattle.std.specs.Prelude.{if◌then◌else◌}
+use Rattle.std.proofs.lemmas.List.Sums.{sum_by-cons, sum_by-le-sum_by}
 use Rattle.node_form.specs.declared.words.ExprOp.{ExprOp}
 use Rattle.node_form.specs.declared.arrays.ArrayRow.{ArrayRow}
 use Rattle.node_form.specs.declared.members.Member.{Member}
@@ -13,18 +15,17 @@ use Rattle.node_form.specs.declared.instructions.Instr.{Instr}
 use Rattle.node_form.specs.declared.instructions.Instr.TheVariants as instr
 use Rattle.node_form.specs.declared.tables.Tables.{Tables}
 use Rattle.code_parts.specs.Counts.{count_of, is_loop}
-use Rattle.code_parts.specs.Stretch.{ends_stretch}
 use Rattle.code_parts.specs.Uses.{as_list, members_of}
-use Rattle.flat_passes.specs.Grouped.{Grouped, Runs, Plain, ended_by, grouped, rewritten_rows}
-use Rattle.flat_passes.specs.Grouped.{with_grouped}
+use Rattle.flat_passes.specs.Grouped.{Grouped, Runs, Plain, grouped, rewritten_rows}
 use Rattle.temp_norm.specs.Normalised.{array_through, is_like, rows_through, temporary_like}
 use Rattle.temp_norm.specs.Normalised.{with_one_like}
-use Rattle.temp_norm.specs.Normalised.{loop_through, loops_on_itself, loops_on_themselves, normalised}
+use Rattle.temp_norm.specs.Normalised.{loop_through, loops_on_itself, loops_on_themselves}
+use Rattle.temp_norm.specs.Normalised.{normalised}
 use Rattle.temp_norm.specs.Normalised.{place_among, put_alone, put_through, read_each, reads_itself}
 use Rattle.temp_norm.specs.Normalised.{row_through, temporaries, with_temporaries}
-use Rattle.pass_sizes.specs.Sizes.{IsBlind, RunsOnce, all_run, expr_shifts, group_shifts}
-use Rattle.pass_sizes.specs.Sizes.{loop_shifts, member_shifts, run_by}
-use Rattle.pass_sizes.proofs.SumLemmas.{flat_sum, same_sum, two_sums}
+use Rattle.pass_sizes.specs.Sizes.{IsBlind, RunsOnce, expr_shifts, group_shifts}
+use Rattle.pass_sizes.specs.Sizes.{loop_shifts, run_by}
+use Rattle.pass_sizes.proofs.SumLemmas.{flat_sum}
 use Rattle.pass_sizes.proofs.FlatLemmas.{code_proper, ended_counted, ended_proper, grouped_count}
 use Rattle.pass_sizes.proofs.FlatLemmas.{grouped_same, improper, numbered_count, once_again}
 use Rattle.pass_sizes.proofs.FlatLemmas.{rewritten_most, run_again, same_groups, shifts_at}
@@ -253,7 +254,8 @@ module _ (tables : Tables) where
         )
 
 -- ---- temporaries: at most one for each loop that is split
-one_more : (rows : List ArrayRow) (row : ArrayRow) → length (with_one_like rows row) ≤ length rows + 1
+one_more : (rows : List ArrayRow) (row : ArrayRow) →
+    length (with_one_like rows row) ≤ length rows + 1
 one_more rows row = by (list_any (is_like row) rows)
   where
     by : (b : Bool) → length (cond b rows (rows ++ temporary_like row ∷ [])) ≤ length rows + 1

@@ -1,8 +1,8 @@
 -- Checks that are left out, loops that are joined, and arrays that become cells.
-use Rattle.std.proofs.Common.{◌≡◌, refl, sym, ap, ◌∙◌, arith, ℕ, zero, suc, ◌+◌, ◌≤◌, Bool, true, false}
+use Rattle.std.proofs.Common.{◌≡◌, refl, ap, ◌∙◌, arith, ℕ, zero, suc, ◌+◌, ◌≤◌, Bool, true, false}
 use Rattle.std.proofs.Common.{List, [], ◌∷◌, ◌++◌, length, map}
-use Rattle.std.specs.Prelude.{cond, count_by, filter, flat_map, not, sum_by, Option, Some, None, slice_get}
-use Rattle.std.proofs.lemmas.List.Sums.{sum_by-append, sum_by-cons}
+use Rattle.std.specs.Prelude.{cond, filter, flat_map, not, sum_by, Option, Some, None, slice_get}
+use Rattle.std.proofs.lemmas.List.Sums.{sum_by-append}
 use Rattle.node_form.specs.declared.words.ExprOp.{ExprOp}
 use Rattle.node_form.specs.declared.words.ExprOp.TheVariants as word
 use Rattle.node_form.specs.declared.members.Member.{Member}
@@ -10,11 +10,10 @@ use Rattle.node_form.specs.declared.members.Member.TheVariants as member
 use Rattle.node_form.specs.declared.instructions.Instr.{Instr}
 use Rattle.node_form.specs.declared.instructions.Instr.TheVariants as instr
 use Rattle.node_form.specs.declared.tables.Tables.{Tables}
-use Rattle.code_parts.specs.Counts.{count_of, is_counted}
-use Rattle.code_parts.specs.Stretch.{ends_stretch}
+use Rattle.code_parts.specs.Counts.{count_of}
 use Rattle.code_parts.specs.Uses.{as_list, exprs_of, members_of, rows_or_none, shifted_in}
-use Rattle.flat_passes.specs.Rewritten.{rewritten_code, with_moved_goal}
-use Rattle.flat_passes.specs.Grouped.{Grouped, Runs, Plain, ended_by, grouped, rewritten_rows}
+use Rattle.flat_passes.specs.Rewritten.{with_moved_goal}
+use Rattle.flat_passes.specs.Grouped.{Grouped, Runs, grouped, rewritten_rows}
 use Rattle.bound_check.specs.Checked.{checked, stays}
 use Rattle.fuse_contract.specs.Fusing.{fused, joined}
 use Rattle.fuse_contract.specs.Contracting.{cell_among, contracted, contracted_arrays, here_or_cell}
@@ -25,7 +24,8 @@ use Rattle.pass_sizes.specs.Sizes.{loop_shifts, member_shifts, run_by}
 use Rattle.pass_sizes.proofs.SumLemmas.{filter_sum, map_sum, passed_most, same_sum}
 use Rattle.pass_sizes.proofs.FlatLemmas.{both_counts, code_proper, ended_counted, ended_proper}
 use Rattle.pass_sizes.proofs.FlatLemmas.{grouped_count, grouped_same, improper, numbered_count}
-use Rattle.pass_sizes.proofs.FlatLemmas.{once_again, rewritten_most, rewritten_same, run_again, shifts_at}
+use Rattle.pass_sizes.proofs.FlatLemmas.{once_again, rewritten_most, rewritten_same, run_again}
+use Rattle.pass_sizes.proofs.FlatLemmas.{shifts_at}
 
 -- ---- checks that are left out
 module _ (tables : Tables) where

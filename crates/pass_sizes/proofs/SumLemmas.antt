@@ -1,16 +1,15 @@
 -- Sums over the rows of a pass, and over lists of lists.
-use Rattle.std.proofs.Common.{◌≡◌, refl, sym, ap, ◌∙◌, subst, arith, ℕ, ◌+◌, ◌≤◌, Bool, true, false}
-use Rattle.std.proofs.Common.{List, [], ◌∷◌, ◌++◌, length, map}
-use Rattle.std.specs.Prelude.{cond, count_by, flat_map, filter, sum_by, Option, Some, None}
+use Rattle.std.proofs.Common.{◌≡◌, refl, subst, arith, ℕ, ◌+◌, ◌≤◌, Bool, true, false}
+use Rattle.std.proofs.Common.{List, [], ◌∷◌, map}
+use Rattle.std.specs.Prelude.{cond, flat_map, filter, sum_by, Option, Some, None}
 use Rattle.std.specs.Option.{option_map}
 use Rattle.std.specs.List.{AllByRecursion}
 use Rattle.std.proofs.lemmas.List.Sums.{sum_by-append, sum_by-cons}
 use Rattle.row_runs.specs.Cut.{Stretch, as_list, moved_by, passed}
 use Rattle.row_runs.proofs.CutLemmas.{cut_rows}
 use Rattle.node_form.specs.declared.instructions.Instr.{Instr}
-use Rattle.node_form.specs.declared.instructions.Instr.TheVariants as instr
 use Rattle.code_parts.specs.Stretch.{ends_stretch, is_goal}
-use Rattle.flat_passes.specs.Rewritten.{stretches_of, with_moved_goal}
+use Rattle.flat_passes.specs.Rewritten.{stretches_of}
 use Rattle.flat_passes.proofs.StretchLemmas.{AsMuch, AtMost, IsCut, all_cut, as_much, at_most}
 
 -- ---- lists
@@ -152,4 +151,3 @@ module _ {New : Type 0} (f : New → ℕ) (g : Instr → ℕ) (rewrite : List In
         (as_much (sum_by g) (sum_by f) (sum_by-append g) (sum_by-append f) refl rewrite retarget
         moved refl (stretches_of code)
         (all_same code moved (stretches_of code) (all_cut ends_stretch (is_goal code) 0 code)))
-

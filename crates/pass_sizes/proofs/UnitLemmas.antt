@@ -1,22 +1,21 @@
 -- Plans that are rewritten unit by unit.
-use Rattle.std.proofs.Common.{◌≡◌, refl, sym, ap, ◌∙◌, subst, arith, ℕ, ◌+◌, ◌-◌, ◌*◌, ◌≤◌, Bool, true, false}
-use Rattle.std.proofs.Common.{List, [], ◌∷◌, ◌++◌, length, map}
-use Rattle.std.specs.Prelude.{cond, count_by, flat_map, sum_by, Option, Some, None}
-use Rattle.std.proofs.lemmas.List.Sums.{sum_by-append, sum_by-cons}
+use Rattle.std.proofs.Common.{◌≡◌, refl, sym, ap, ◌∙◌, arith, ℕ, ◌+◌, ◌-◌, ◌≤◌, Bool, true, false}
+use Rattle.std.proofs.Common.{List, [], ◌∷◌, length}
+use Rattle.std.specs.Prelude.{cond, count_by, sum_by}
+use Rattle.std.proofs.lemmas.List.Sums.{sum_by-cons}
 use Rattle.row_runs.specs.Cut.{passed}
-use Rattle.node_form.specs.declared.arrays.Item.{Item}
 use Rattle.node_form.specs.declared.instructions.Instr.{Instr}
 use Rattle.node_form.specs.declared.instructions.Instr.TheVariants as instr
 use Rattle.node_form.specs.declared.tables.Tables.{Tables}
 use Rattle.code_parts.specs.Counts.{count_of}
 use Rattle.code_parts.specs.Stretch.{ends_stretch}
-use Rattle.flat_passes.specs.Rewritten.{stretches_of, with_moved_goal}
-use Rattle.plan_form.specs.Units.{PlanUnit, Exchange, Single, PlanRow, StartOf, FinishOf, Other}
-use Rattle.plan_form.specs.Units.{exchanges_in, laid_out, numbered_from, started_by, unit_of, unit_rows}
+use Rattle.flat_passes.specs.Rewritten.{stretches_of}
+use Rattle.plan_form.specs.Units.{PlanUnit, PlanRow, StartOf, FinishOf, Other}
+use Rattle.plan_form.specs.Units.{exchanges_in, numbered_from, unit_of, unit_rows}
 use Rattle.plan_form.specs.Units.{units_of}
 use Rattle.plan_form.specs.Rewrite.{ended_by, rows_by, with_units}
 use Rattle.pass_sizes.specs.Sizes.{IsBlind, PassesNoExchange, pair_size, pair_weight, plan_size}
-use Rattle.pass_sizes.proofs.SumLemmas.{AreStraight, flat_sum, passed_most, passed_same, same_sum}
+use Rattle.pass_sizes.proofs.SumLemmas.{flat_sum, passed_most, passed_same, same_sum}
 
 -- ---- weights of rows
 -- a row, and an exchange where it starts
@@ -124,7 +123,8 @@ module _ (tables : Tables) (rewrite : List PlanUnit → List PlanUnit) where
   units_sum w rows = flat_sum w (unit_of tables) rows
 
   pub units_most : (f : PlanRow → ℕ) (g : Instr → ℕ) →
-      ((units : List PlanUnit) → sum_by (unit_weight f) (rewrite units) ≤ sum_by (unit_weight f) units) →
+      ((units : List PlanUnit) →
+      sum_by (unit_weight f) (rewrite units) ≤ sum_by (unit_weight f) units) →
       ((row : Instr) → unit_sum (unit_weight f) row ≤ g row) →
       ((moved : ℕ → ℕ) (row : Instr) → ends_stretch row ≡ true → f (ended_by moved row) ≤ g row) →
       sum_by f new_rows ≤ sum_by g tables.code
@@ -143,7 +143,13 @@ module _ (tables : Tables) (rewrite : List PlanUnit → List PlanUnit) where
           sum_by a rows ≤ sum_by b rows
       sum_most a b each [] = omega arith
       sum_most a b each (row ∷ rows) =
-          omega (arith, each row, sum_most a b each rows, sum_by-cons a row rows, sum_by-cons b row rows)
+          omega (
+            arith,
+            each row,
+            sum_most a b each rows,
+            sum_by-cons a row rows,
+            sum_by-cons b row rows,
+          )
 
   pub units_same : (f : PlanRow → ℕ) (g : Instr → ℕ) →
       ((units : List PlanUnit) →
