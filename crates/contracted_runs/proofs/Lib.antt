@@ -1,2 +1,3 @@
 pub mod PointLemmas
+pub mod UnitLemmas
 pub mod WriteLemmas
