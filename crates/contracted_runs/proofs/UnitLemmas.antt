@@ -322,3 +322,264 @@ module _ (cell_of : ℕ → Option ℕ) where
               FineAlike (begin_like begun s s' agree t array cell is below v p q like)
           by Divides = ZeroAlike
           by Lacks = LostAlike
+
+      -- ---- columns: tuples with their cells
+      abbrev pub ColumnsAlike : List ℕ → Whole → List Column → List Column → Type 0
+      ColumnsAlike begun s (column ∷ columns) (one ∷ ones) =
+          (one.at ≡ column.at)
+          × Like_at begun s column.at (record { cells = column.cells; log = [] })
+          (record { cells = one.cells; log = [] })
+          × ColumnsAlike begun s columns ones
+      ColumnsAlike begun s [] [] = ⊤
+      ColumnsAlike begun s [] (one ∷ ones) = ⊥
+      ColumnsAlike begun s (column ∷ columns) [] = ⊥
+
+      abbrev PointsAlike : List ℕ → Whole → List Column → List Point → List Point → Type 0
+      PointsAlike begun s (column ∷ columns) (p ∷ ps) (q ∷ qs) =
+          Like_at begun s column.at p q × PointsAlike begun s columns ps qs
+      PointsAlike begun s [] [] [] = ⊤
+      PointsAlike begun s columns ps qs = ⊥
+
+      data AllAlike (begun : List ℕ) (s : Whole) (columns : List Column)
+          : AllTold → AllTold → Type 0 where
+        AllFineAlike : {ps qs : List Point} → PointsAlike begun s columns ps qs
+            → AllAlike begun s columns (AllFine ps) (AllFine qs)
+        AllZeroAlike : AllAlike begun s columns SomeZero SomeZero
+        AllWantAlike : AllAlike begun s columns SomeWant SomeWant
+        AllLostAlike : AllAlike begun s columns SomeLost SomeLost
+
+      one_more : (begun : List ℕ) (s : Whole) (column : Column) (columns : List Column)
+          (a b : Told Point) (rest others : AllTold) → ToldAlike (Like_at begun s column.at) a b
+          → AllAlike begun s columns rest others
+          → AllAlike begun s (column ∷ columns) (both_told a rest) (both_told b others)
+      one_more begun s column columns a b rest others (FineAlike like) (AllFineAlike all) =
+          AllFineAlike (like, all)
+      one_more begun s column columns a b rest others (FineAlike like) AllZeroAlike = AllZeroAlike
+      one_more begun s column columns a b rest others (FineAlike like) AllWantAlike = AllWantAlike
+      one_more begun s column columns a b rest others (FineAlike like) AllLostAlike = AllLostAlike
+      one_more begun s column columns a b rest others ZeroAlike (AllFineAlike all) = AllZeroAlike
+      one_more begun s column columns a b rest others ZeroAlike AllZeroAlike = AllZeroAlike
+      one_more begun s column columns a b rest others ZeroAlike AllWantAlike = AllWantAlike
+      one_more begun s column columns a b rest others ZeroAlike AllLostAlike = AllLostAlike
+      one_more begun s column columns a b rest others WantAlike (AllFineAlike all) = AllWantAlike
+      one_more begun s column columns a b rest others WantAlike AllZeroAlike = AllWantAlike
+      one_more begun s column columns a b rest others WantAlike AllWantAlike = AllWantAlike
+      one_more begun s column columns a b rest others WantAlike AllLostAlike = AllLostAlike
+      one_more begun s column columns a b rest others LostAlike all = AllLostAlike
+
+      all_told_alike : (n : ℕ) (begun after : List ℕ) (s s' : Whole) (unit unit' : Nest)
+          → ((t : List ℤ) (p q : Point) → Like_at begun s t p q
+          → ToldAlike (Like_at after s t) (nested (log_ways exprs s t) n unit p)
+          (nested (log_ways exprs' s' t) n unit' q))
+          → (columns ones : List Column) → ColumnsAlike begun s columns ones
+          → AllAlike after s columns (all_told (unit_at n exprs unit s) columns)
+          (all_told (unit_at n exprs' unit' s') ones)
+      all_told_alike n begun after s s' unit unit' told [] [] alike = AllFineAlike tt
+      all_told_alike n begun after s s' unit unit' told [] (one ∷ ones) alike = absurd alike
+      all_told_alike n begun after s s' unit unit' told (column ∷ columns) [] alike = absurd alike
+      all_told_alike n begun after s s' unit unit' told (column ∷ columns) (one ∷ ones) alike =
+          one_more after s column columns (unit_at n exprs unit s column)
+          (unit_at n exprs' unit' s' one) (all_told (unit_at n exprs unit s) columns)
+          (all_told (unit_at n exprs' unit' s') ones)
+          (subst (λ t. ToldAlike (Like_at after s column.at) (unit_at n exprs unit s column)
+          (nested (log_ways exprs' s' t) n unit' (record { cells = one.cells; log = [] })))
+          (sym alike.0)
+          (told column.at (record { cells = column.cells; log = [] })
+          (record { cells = one.cells; log = [] }) alike.1))
+          (all_told_alike n begun after s s' unit unit' told columns ones alike.2)
+
+      -- ---- behind a unit
+      logs_alike : (begun after : List ℕ) (s : Whole) (columns ones : List Column)
+          (ps qs : List Point) → ColumnsAlike begun s columns ones
+          → PointsAlike after s columns ps qs → AreLogs cell_of tables other columns ones ps qs
+      logs_alike begun after s [] [] [] [] alike all = tt
+      logs_alike begun after s (column ∷ columns) (one ∷ ones) (p ∷ ps) (q ∷ qs) alike all =
+          (alike.0, all.0.logs, logs_alike begun after s columns ones ps qs alike.2 all.1)
+      logs_alike begun after s [] (one ∷ ones) ps qs alike all = absurd alike
+      logs_alike begun after s (column ∷ columns) [] ps qs alike all = absurd alike
+      logs_alike begun after s [] [] [] (q ∷ qs) alike all = absurd all
+      logs_alike begun after s [] [] (p ∷ ps) qs alike all = absurd all
+      logs_alike begun after s (column ∷ columns) (one ∷ ones) [] qs alike all = absurd all
+      logs_alike begun after s (column ∷ columns) (one ∷ ones) (p ∷ ps) [] alike all = absurd all
+
+      behind_alike : (begun after : List ℕ) (s next : Whole) (columns ones : List Column)
+          (ps qs : List Point) → ColumnsAlike begun s columns ones
+          → PointsAlike after s columns ps qs
+          → ((array : ℕ) → Among after array → (cell : ℕ) → cell_of array ≡ Some cell
+          → AreOwn array (map (λ (c : Column). c.at) columns) s next columns ps)
+          → ColumnsAlike after next (columns_behind columns ps) (columns_behind ones qs)
+      behind_alike begun after s next [] [] [] [] alike all own = tt
+      behind_alike begun after s next (column ∷ columns) (one ∷ ones) (p ∷ ps) (q ∷ qs) alike all own = (
+        alike.0,
+        record {
+          cells = all.0.cells;
+          long = all.0.long;
+          logs = refl;
+          held = λ array cell begins is.
+              (own array begins cell is).0 ∙ all.0.held array cell begins is;
+        },
+        behind_alike begun after s next columns ones ps qs alike.2 all.1
+            (λ array begins cell is. (own array begins cell is).1),
+      )
+      behind_alike begun after s next [] (one ∷ ones) ps qs alike all own = absurd alike
+      behind_alike begun after s next (column ∷ columns) [] ps qs alike all own = absurd alike
+      behind_alike begun after s next [] [] [] (q ∷ qs) alike all own = absurd all
+      behind_alike begun after s next [] [] (p ∷ ps) qs alike all own = absurd all
+      behind_alike begun after s next (column ∷ columns) (one ∷ ones) [] qs alike all own = absurd all
+      behind_alike begun after s next (column ∷ columns) (one ∷ ones) (p ∷ ps) [] alike all own =
+          absurd all
+
+      -- the tuples stay
+      same_ats : (begun : List ℕ) (s : Whole) (columns : List Column) (ps qs : List Point)
+          → PointsAlike begun s columns ps qs
+          → map (λ (column : Column). column.at) (columns_behind columns ps)
+          ≡ map (λ (column : Column). column.at) columns
+      same_ats begun s [] [] [] all = refl
+      same_ats begun s (column ∷ columns) (p ∷ ps) (q ∷ qs) all =
+          ap (λ rest. column.at ∷ rest) (same_ats begun s columns ps qs all.1)
+      same_ats begun s [] [] (q ∷ qs) all = absurd all
+      same_ats begun s [] (p ∷ ps) qs all = absurd all
+      same_ats begun s (column ∷ columns) [] qs all = absurd all
+      same_ats begun s (column ∷ columns) (p ∷ ps) [] all = absurd all
+
+      -- ---- units
+      module _ (n : ℕ) (ts : List (List ℤ)) (ts_apart : Apart ts) where
+        -- arrays that are cells and are put here have places of their own
+        abbrev pub ArePlaced : Whole → Type 0
+        ArePlaced s = (array cell : ℕ) → cell_of array ≡ Some cell → IsPut array → Has array ts s
+
+        pub data StepsAlike : Step Whole → Step Whole → Type 0 where
+          WasWrong : {step : Step Whole} → StepsAlike (Stops Wrong) step
+          BothStop : {stop : Stop} → StepsAlike (Stops stop) (Stops stop)
+          BothGo : {bytes : List ℕ} {s s' : Whole} → AreStates cell_of tables other s s'
+              → StepsAlike (Goes bytes s) (Goes bytes s')
+
+        some_is : {X : Type 0} {x y : X} → Some x ≡ Some y → x ≡ y
+        some_is e = cc
+
+        inside : (us : List (List ℤ)) (columns : List Column)
+            → map (λ (column : Column). column.at) columns ≡ us
+            → Every (λ (column : Column). Among us column.at) columns
+        inside us columns e = subst (λ vs. Every (λ (column : Column). Among vs column.at) columns) e
+            (all columns)
+          where
+            more : (u : List ℤ) (vs : List (List ℤ)) (columns : List Column)
+                → Every (λ (column : Column). Among vs column.at) columns
+                → Every (λ (column : Column). Among (u ∷ vs) column.at) columns
+            more u vs [] every = tt
+            more u vs (column ∷ columns) every = (inr every.0, more u vs columns every.1)
+
+            all : (columns : List Column) → Every (λ (column : Column).
+                Among (map (λ (column : Column). column.at) columns) column.at) columns
+            all [] = tt
+            all (column ∷ columns) = (
+              inl refl,
+              more column.at (map (λ (column : Column). column.at) columns) columns (all columns),
+            )
+
+        -- what is written, and what is run behind it
+        written_alike : (begun after : List ℕ) (columns ones : List Column) (s s' : Whole)
+            (ps qs : List Point)
+            → AreStates cell_of tables other s s' → ArePlaced s
+            → map (λ (column : Column). column.at) columns ≡ ts
+            → ((array : ℕ) → Among after array → IsPut array)
+            → ColumnsAlike begun s columns ones → PointsAlike after s columns ps qs
+            → (next next' : List Column → Whole → Step Whole)
+            → ((columns ones : List Column) (s s' : Whole) → AreStates cell_of tables other s s'
+            → ArePlaced s → map (λ (column : Column). column.at) columns ≡ ts
+            → ColumnsAlike after s columns ones
+            → StepsAlike (next columns s) (next' ones s'))
+            → StepsAlike (from_written (all_written columns ps s) (next (columns_behind columns ps)))
+            (from_written (all_written ones qs s') (next' (columns_behind ones qs)))
+        written_alike begun after columns ones s s' ps qs alike placed same puts both all next next'
+            more =
+            by (all_written columns ps s) refl
+          where
+            by : (found : Option Whole) → all_written columns ps s ≡ found
+                → StepsAlike (from_written found (next (columns_behind columns ps)))
+                (from_written (all_written ones qs s') (next' (columns_behind ones qs)))
+            by None e = WasWrong
+            by (Some w) e =
+                let there = all_alike cell_of tables other columns ones ps qs s s' w
+                (logs_alike begun after s columns ones ps qs both all) alike e in
+                let each : (array cell : ℕ) → cell_of array ≡ Some cell → IsPut array
+                → AllAreWritten array ts columns ps s w =
+                λ array cell is put. all_are_written array ts columns ps s w (placed array cell is put)
+                (inside ts columns same) (subst Apart (sym same) ts_apart) e in
+                subst (λ o. StepsAlike (next (columns_behind columns ps) w)
+                (from_written o (next' (columns_behind ones qs)))) (sym there.is)
+                (more (columns_behind columns ps) (columns_behind ones qs) w there.state there.alike
+                (λ array cell is put. (each array cell is put).has)
+                (same_ats after s columns ps qs all ∙ same)
+                (behind_alike begun after s w columns ones ps qs both all
+                (λ array begins cell is. (each array cell is (puts array begins)).own)))
+
+        told_does : (begun after : List ℕ) (line : ℕ) (columns ones : List Column) (s s' : Whole)
+            (a b : AllTold)
+            → AreStates cell_of tables other s s' → ArePlaced s
+            → map (λ (column : Column). column.at) columns ≡ ts
+            → ((array : ℕ) → Among after array → IsPut array)
+            → ColumnsAlike begun s columns ones → AllAlike after s columns a b
+            → (next next' : List Column → Whole → Step Whole)
+            → ((columns ones : List Column) (s s' : Whole) → AreStates cell_of tables other s s'
+            → ArePlaced s → map (λ (column : Column). column.at) columns ≡ ts
+            → ColumnsAlike after s columns ones
+            → StepsAlike (next columns s) (next' ones s'))
+            → StepsAlike (unit_does line columns s a next) (unit_does line ones s' b next')
+        told_does begun after line columns ones s s' a b alike placed same puts both
+            (AllFineAlike {ps = ps} {qs = qs} all) next next' more =
+            written_alike begun after columns ones s s' ps qs alike placed same puts both all next
+            next' more
+        told_does begun after line columns ones s s' a b alike placed same puts both AllZeroAlike next
+            next' more = BothStop
+        told_does begun after line columns ones s s' a b alike placed same puts both AllWantAlike next
+            next' more = BothStop
+        told_does begun after line columns ones s s' a b alike placed same puts both AllLostAlike next
+            next' more = WasWrong
+
+        pub units_alike : (begun : List ℕ) (units : List Nest) → UnitsFine begun units
+            → ((array : ℕ) → Among begun array → IsPut array)
+            → (columns ones : List Column) (s s' : Whole) → AreStates cell_of tables other s s'
+            → ArePlaced s → map (λ (column : Column). column.at) columns ≡ ts
+            → ColumnsAlike begun s columns ones
+            → StepsAlike (units_do n exprs units columns s)
+            (units_do n exprs' (map nest_contracted units) ones s')
+        units_alike begun [] NoneFine puts columns ones s s' alike placed same both = BothGo alike
+        units_alike begun (_ ∷ _)
+            (BeginFine {units = units} {array = array} {expr = expr} {line = line} {cell = cell} is
+            below put fine rest) puts columns ones s s' alike placed same both =
+            let unit = Putting array expr None line Nothing in
+            let all_put : (k : ℕ) → Among (array ∷ begun) k → IsPut k =
+            λ k among. first k among in
+            subst (λ at. StepsAlike (units_do n exprs (unit ∷ units) columns s)
+            (unit_does at ones s' (all_told (unit_at n exprs' (nest_contracted unit) s') ones)
+            (λ columns whole. units_do n exprs' (map nest_contracted units) columns whole)))
+            (sym (line_stays unit))
+            (told_does begun (array ∷ begun) line columns ones s s'
+            (all_told (unit_at n exprs unit s) columns)
+            (all_told (unit_at n exprs' (nest_contracted unit) s') ones) alike placed same all_put
+            both
+            (all_told_alike n begun (array ∷ begun) s s' unit (nest_contracted unit)
+            (λ t p q like. begin_told n begun s s' alike.agree t array expr line cell is below fine p q
+            like) columns ones both)
+            (λ columns whole. units_do n exprs units columns whole)
+            (λ columns whole. units_do n exprs' (map nest_contracted units) columns whole)
+            (units_alike (array ∷ begun) units rest all_put))
+          where
+            first : (k : ℕ) → Among (array ∷ begun) k → IsPut k
+            first k (inl same) = subst IsPut same put
+            first k (inr before) = puts k before
+        units_alike begun (_ ∷ _) (OtherFine {unit = unit} {units = units} fine rest) puts columns ones
+            s s' alike placed same both =
+            subst (λ at. StepsAlike (units_do n exprs (unit ∷ units) columns s)
+            (unit_does at ones s' (all_told (unit_at n exprs' (nest_contracted unit) s') ones)
+            (λ columns whole. units_do n exprs' (map nest_contracted units) columns whole)))
+            (sym (line_stays unit))
+            (told_does begun begun (unit_line unit) columns ones s s'
+            (all_told (unit_at n exprs unit s) columns)
+            (all_told (unit_at n exprs' (nest_contracted unit) s') ones) alike placed same puts both
+            (all_told_alike n begun begun s s' unit (nest_contracted unit)
+            (λ t p q like. tree_told n begun s s' alike.agree t unit fine p q like) columns ones both)
+            (λ columns whole. units_do n exprs units columns whole)
+            (λ columns whole. units_do n exprs' (map nest_contracted units) columns whole)
+            (units_alike begun units rest puts))
