@@ -1,3 +1,4 @@
+pub mod FineLemmas
 pub mod PointLemmas
 pub mod UnitLemmas
 pub mod WriteLemmas
