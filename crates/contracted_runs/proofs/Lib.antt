@@ -1,4 +1,5 @@
 pub mod FineLemmas
+pub mod InlineLemmas
 pub mod PointLemmas
 pub mod UnitLemmas
 pub mod WriteLemmas
