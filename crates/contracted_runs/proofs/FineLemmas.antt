@@ -53,7 +53,7 @@ not_true : (b : Bool) → not b ≡ true → b ≡ false
 not_true true e = absurd (true≢false (sym e))
 not_true false e = refl
 
-there_is : (k : ℕ) (xs : List ℕ) → Among xs k → is_among k xs ≡ true
+pub there_is : (k : ℕ) (xs : List ℕ) → Among xs k → is_among k xs ≡ true
 there_is k [] among = absurd among
 there_is k (x ∷ xs) (inl same) =
     ap (λ y. (y == k) || is_among k xs) same ∙ by (k == k) (one k)
@@ -70,16 +70,16 @@ there_is k (x ∷ xs) (inr among) = by (x == k) (there_is k xs among)
     by true e = refl
     by false e = e
 
-among_left : {X : Type 0} (xs ys : List X) (x : X) → Among xs x → Among (xs ++ ys) x
+pub among_left : {X : Type 0} (xs ys : List X) (x : X) → Among xs x → Among (xs ++ ys) x
 among_left [] ys x among = absurd among
 among_left (y ∷ xs) ys x (inl same) = inl same
 among_left (y ∷ xs) ys x (inr among) = inr (among_left xs ys x among)
 
-among_right : {X : Type 0} (xs ys : List X) (x : X) → Among ys x → Among (xs ++ ys) x
+pub among_right : {X : Type 0} (xs ys : List X) (x : X) → Among ys x → Among (xs ++ ys) x
 among_right [] ys x among = among
 among_right (y ∷ xs) ys x among = inr (among_right xs ys x among)
 
-among_flat : {X Y : Type 0} (f : X → List Y) (xs : List X) (x : X) (y : Y) → Among xs x
+pub among_flat : {X Y : Type 0} (f : X → List Y) (xs : List X) (x : X) (y : Y) → Among xs x
     → Among (f x) y → Among (flat_map f xs) y
 among_flat f [] x y among inside = absurd among
 among_flat f (z ∷ xs) x y (inl same) inside =
@@ -87,7 +87,7 @@ among_flat f (z ∷ xs) x y (inl same) inside =
 among_flat f (z ∷ xs) x y (inr among) inside =
     among_right (f z) (flat_map f xs) y (among_flat f xs x y among inside)
 
-index_rows : {X : Type 0} (xs : List (List X)) (k : ℕ)
+pub index_rows : {X : Type 0} (xs : List (List X)) (k : ℕ)
     → slice_index_or xs k [] ≡ rows_or_none (slice_get xs k)
 index_rows [] k = refl
 index_rows (x ∷ xs) zero = refl

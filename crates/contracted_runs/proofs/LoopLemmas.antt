@@ -1,0 +1,496 @@
+-- A loop whose arrays are cells does what it did.
+use Rattle.std.proofs.Common.{◌≡◌, refl, sym, ◌∙◌, ap, subst, arith, ℕ, zero, suc, ◌+◌, ◌<◌, ◌≤◌}
+use Rattle.std.proofs.Common.{Bool, true, false, true≢false, List, [], ◌∷◌, ◌++◌, length, map, ℤ, pos}
+use Rattle.std.proofs.Common.{All, Option, Some, None, ◌⊎◌, inl, inr, replicate, eqb-true}
+use Rattle.std.specs.Prelude.{◌&&◌, ◌||◌, ◌==◌, flat_map, fold, if◌then◌else◌, is_none, option_and_then}
+use Rattle.std.specs.Prelude.{slice_get, slice_index_or, slice_set, ⊤}
+use Rattle.std.specs.Option.{IfSome, IsSomeAnd, option_map}
+use Rattle.std.specs.List.{AllZip, list_all, list_any}
+use Rattle.std.proofs.lemmas.List.Elements.{All-head, All-tail}
+use Rattle.zpl_region.specs.declared.dims.Dim.{Dim}
+use Rattle.zpl_region.specs.declared.dims.Dim.TheVariants as dim
+use Rattle.zpl_region.specs.declared.regions.Region.{Region}
+use Rattle.zpl_region.specs.Dim.{HasStep, IsCoordinate}
+use Rattle.zpl_region.specs.Region.{IsMember, members}
+use Rattle.zpl_region.proofs.ListLemmas.{Among}
+use Rattle.zpl_arrays.specs.Array.{Array, IsArray, flattened, has_place}
+use Rattle.row_runs.specs.Run.{Does, Effect, Goes, Step, Stops, Wrong}
+use Rattle.row_runs.specs.Straight.{Every}
+use Rattle.node_form.specs.declared.arrays.ArrayDim.{ArrayDim}
+use Rattle.node_form.specs.declared.arrays.ArrayDim.TheVariants as axis
+use Rattle.node_form.specs.declared.arrays.ArrayRow.{ArrayRow}
+use Rattle.node_form.specs.declared.members.Member as number
+use Rattle.node_form.specs.declared.members.Member.TheVariants as member
+use Rattle.node_form.specs.declared.tables.Tables.{Tables}
+use Rattle.node_form.specs.declared.touches.Thing.{Thing}
+use Rattle.node_form.specs.declared.touches.Thing.TheVariants as thing
+use Rattle.node_form.specs.declared.words.ExprOp.{ExprOp}
+use Rattle.node_form.specs.declared.words.ExprOp.TheVariants as word
+use Rattle.node_form.specs.Fits.{FitsGroup, FitsMember, FitsWord, HasExpr}
+use Rattle.node_form.specs.Nest.{IsNest, Nest, members_of}
+use Rattle.node_form.specs.Value.{unmoved}
+use Rattle.grid_meaning.specs.Place.{moved_by}
+use Rattle.nest_meaning.specs.Tree.{nest_of}
+use Rattle.nest_meaning.specs.Units.{units_of}
+use Rattle.nest_meaning.proofs.TreeLemmas.{reads_again}
+use Rattle.code_parts.specs.Uses.{as_list, exprs_of, member_words as number_words, shifted_in}
+use Rattle.code_parts.specs.Uses.{arrays_in, named_by, put_by, rows_or_none, words_of}
+use Rattle.flat_form.specs.Act.{act}
+use Rattle.flat_form.specs.Laws.{AreRenumbered, AreTrees, BothTrees}
+use Rattle.flat_form.specs.Loop.{Column, all_awaiting, awaiting, loop_stands, looped}
+use Rattle.flat_form.specs.Loop.{start_columns, tree_does, units_do}
+use Rattle.flat_form.specs.Names.{Read, Total, each_word, group_cells, group_puts, group_reads}
+use Rattle.flat_form.specs.Names.{group_totals, group_words, member_cells, member_puts}
+use Rattle.flat_form.specs.Names.{ row_scalars, word_cells}
+use Rattle.flat_form.specs.Right.{all_begin, are_settled, can_read, can_write, each_matches}
+use Rattle.flat_form.specs.Right.{has_places, is_settled, matches, total_begins, totals_begin}
+use Rattle.flat_form.specs.Right.{writes_well}
+use Rattle.flat_form.specs.Row.{Loop, Member, Put, Row, Words, group_coded, member_inlined}
+use Rattle.flat_form.specs.Row.{member_words, words_at}
+use Rattle.flat_form.specs.States.{IsStoreOf, IsWhole}
+use Rattle.flat_form.specs.Whole.{Whole}
+use Rattle.flat_form.proofs.AgreeLemmas.{Agree, list_all_same, set_awaited}
+use Rattle.flat_form.proofs.LoopLemmas.{read_same, write_same}
+use Rattle.flat_form.proofs.TreeLemmas.{groups_inline}
+use Rattle.fuse_contract.specs.Contracting.{cell_among, is_begun, is_named_in, is_shifted_in}
+use Rattle.fuse_contract.specs.Contracting.{with_cells, word_contracted}
+use Rattle.normal_runs.proofs.PlaceLemmas.{are_members, members_apart, moved_none}
+use Rattle.normal_runs.proofs.SlotLemmas.{HasSteps}
+use Rattle.contracted_runs.proofs.FineLemmas.{ArrayGiven, ArraysGiven, MemberGiven, OwnGiven}
+use Rattle.contracted_runs.proofs.FineLemmas.{ WordGiven, among_flat}
+use Rattle.contracted_runs.proofs.FineLemmas.{among_left, among_right, group_fine, index_rows}
+use Rattle.contracted_runs.proofs.FineLemmas.{there_is, units_moved}
+use Rattle.contracted_runs.proofs.InlineLemmas.{AreWithin, NoShift, group_contracted}
+use Rattle.contracted_runs.proofs.InlineLemmas.{group_words_are, less_within, own_within, put_within}
+use Rattle.contracted_runs.proofs.InlineLemmas.{puts_kept, reads_kept, row_scalars_same}
+use Rattle.contracted_runs.proofs.InlineLemmas.{scalars_same, totals_same, tree_is, within_most}
+use Rattle.contracted_runs.proofs.PointLemmas.{IsOther}
+use Rattle.contracted_runs.proofs.UnitLemmas.{BothGo, BothStop, ColumnsAlike, StepsAlike, UnitsFine}
+use Rattle.contracted_runs.proofs.UnitLemmas.{WasWrong, nest_contracted, units_alike}
+use Rattle.contracted_runs.proofs.UnitLemmas.{units_contracted}
+use Rattle.contracted_runs.proofs.WriteLemmas.{AreStates, Has, IsPlaced}
+
+-- ---- shapes of arrays: a flood dimension only where the tables have one
+abbrev pub FloodsIn : List ArrayDim → List Dim → Type 0
+FloodsIn rows [] = ⊤
+FloodsIn [] (d ∷ dims) = ⊥
+FloodsIn (axis.Star ∷ rows) (d ∷ dims) = FloodsIn rows dims
+FloodsIn (axis.Range lo hi low high ∷ rows) (dim.Flood ∷ dims) = ⊥
+FloodsIn (axis.Range lo hi low high ∷ rows) (dim.Range from to step align ∷ dims) =
+    FloodsIn rows dims
+
+pub record HasShape (row : ArrayRow) (storage : Region) : Type 0 where
+  pub steps : All HasStep storage.dims
+  pub floods : FloodsIn row.dims storage.dims
+
+and_first : (a b : Bool) → (a && b) ≡ true → a ≡ true
+and_first true b e = refl
+and_first false b e = e
+
+and_second : (a b : Bool) → (a && b) ≡ true → b ≡ true
+and_second true b e = e
+and_second false b e = absurd (true≢false (sym e))
+
+both_hold : (a b : Bool) → a ≡ true → b ≡ true → (a && b) ≡ true
+both_hold true b e f = f
+both_hold false b e f = absurd (true≢false (sym e))
+
+-- a tuple of a region that the array matches is as it is flattened
+flat_by : (rows : List ArrayDim) (storage region : List Dim) (t : List ℤ) → FloodsIn rows storage
+    → each_matches rows region ≡ true → AllZip IsCoordinate region t → flattened storage t ≡ t
+flat_by rows [] region t floods fine inside = refl
+flat_by [] (d ∷ storage) region t floods fine inside = absurd floods
+flat_by (row ∷ rows) (dim.Flood ∷ storage) [] [] floods fine inside = refl
+flat_by (row ∷ rows) (dim.Flood ∷ storage) [] (x ∷ t) floods fine inside = absurd inside
+flat_by (row ∷ rows) (dim.Flood ∷ storage) (e ∷ region) [] floods fine inside = absurd inside
+flat_by (axis.Range lo hi low high ∷ rows) (dim.Flood ∷ storage) (e ∷ region) (x ∷ t) floods fine
+    inside = absurd floods
+flat_by (axis.Star ∷ rows) (dim.Flood ∷ storage) (dim.Flood ∷ region) (x ∷ t) floods fine inside =
+    ap (λ y. y ∷ flattened storage t) (sym inside.0)
+    ∙ ap (λ u. x ∷ u) (flat_by rows storage region t floods fine inside.1)
+flat_by (axis.Star ∷ rows) (dim.Flood ∷ storage) (dim.Range from to step align ∷ region) (x ∷ t)
+    floods fine inside = absurd (true≢false (sym fine))
+flat_by (row ∷ rows) (dim.Range lo hi step align ∷ storage) [] [] floods fine inside = refl
+flat_by (row ∷ rows) (dim.Range lo hi step align ∷ storage) [] (x ∷ t) floods fine inside =
+    absurd inside
+flat_by (row ∷ rows) (dim.Range lo hi step align ∷ storage) (e ∷ region) [] floods fine inside =
+    absurd inside
+flat_by (axis.Star ∷ rows) (dim.Range lo hi step align ∷ storage) (e ∷ region) (x ∷ t) floods fine
+    inside =
+    ap (λ u. x ∷ u) (flat_by rows storage region t floods
+    (and_second _ (each_matches rows region) fine) inside.1)
+flat_by (axis.Range a b c d ∷ rows) (dim.Range lo hi step align ∷ storage) (e ∷ region) (x ∷ t)
+    floods fine inside =
+    ap (λ u. x ∷ u) (flat_by rows storage region t floods
+    (and_second _ (each_matches rows region) fine) inside.1)
+
+every_more : {X : Type 0} {P Q : X → Type 0} → ((x : X) → P x → Q x) → (xs : List X) → Every P xs
+    → Every Q xs
+every_more more [] all = tt
+every_more more (x ∷ xs) all = (more x all.0, every_more more xs all.1)
+
+every_of : {X : Type 0} (P : X → Type 0) (xs : List X) → ((x : X) → Among xs x → P x) → Every P xs
+every_of P [] all = tt
+every_of P (x ∷ xs) all = (all x (inl refl), every_of P xs (λ y k. all y (inr k)))
+
+at_among : {X : Type 0} (P : X → Type 0) (xs : List X) (x : X) → Every P xs → Among xs x → P x
+at_among P [] x all k = absurd k
+at_among P (y ∷ xs) x all (inl same) = subst P same all.0
+at_among P (y ∷ xs) x all (inr k) = at_among P xs x all.1 k
+
+among_map : {X Y : Type 0} (f : X → Y) (xs : List X) (x : X) → Among xs x → Among (map f xs) (f x)
+among_map f [] x k = absurd k
+among_map f (y ∷ xs) x (inl same) = inl (ap f same)
+among_map f (y ∷ xs) x (inr k) = inr (among_map f xs x k)
+
+all_at : {X : Type 0} (test : X → Bool) (xs : List X) (x : X) → list_all test xs ≡ true
+    → Among xs x → test x ≡ true
+all_at test [] x e k = absurd k
+all_at test (y ∷ xs) x e (inl same) =
+    subst (λ z. test z ≡ true) same (and_first (test y) (list_all test xs) e)
+all_at test (y ∷ xs) x e (inr k) = all_at test xs x (and_second (test y) (list_all test xs) e) k
+
+all_every : {X : Type 0} (test : X → Bool) (xs : List X) → list_all test xs ≡ true
+    → Every (λ x. test x ≡ true) xs
+all_every test [] e = tt
+all_every test (x ∷ xs) e =
+    (and_first (test x) (list_all test xs) e, all_every test xs (and_second (test x) (list_all test xs) e))
+
+zero_there : (n k : ℕ) → k < n → slice_get (replicate n (pos 0)) k ≡ Some (pos 0)
+zero_there zero k below = absurd (omega (arith, below))
+zero_there (suc n) zero below = refl
+zero_there (suc n) (suc k) below = zero_there n k (omega (arith, below))
+
+zeros_long : (n : ℕ) → length (replicate n (pos 0)) ≡ n
+zeros_long zero = refl
+zeros_long (suc n) = ap suc (zeros_long n)
+
+-- ---- cells of arrays: each has its own, behind those that there are
+cells_above : (first : ℕ) (arrays : List ℕ) (array cell : ℕ)
+    → cell_among first arrays array ≡ Some cell → first ≤ cell
+cells_above first [] array cell e = absurd (none e)
+  where
+    none : (let n : Option ℕ = None in n) ≡ Some cell → ⊥
+    none e = cc
+cells_above first (other ∷ arrays) array cell e =
+    by (other == array) e (λ e. cells_above (first + 1) arrays array cell e)
+  where
+    by : (b : Bool) → (if b then Some first else cell_among (first + 1) arrays array) ≡ Some cell
+        → (cell_among (first + 1) arrays array ≡ Some cell → first + 1 ≤ cell) → first ≤ cell
+    by true e more = let same : first ≡ cell = cc in omega (arith, same)
+    by false e more = omega (arith, more e)
+
+cells_apart : (first : ℕ) (arrays : List ℕ) (a b cell : ℕ)
+    → cell_among first arrays a ≡ Some cell → cell_among first arrays b ≡ Some cell → a ≡ b
+cells_apart first [] a b cell e f = absurd (none e)
+  where
+    none : (let n : Option ℕ = None in n) ≡ Some cell → ⊥
+    none e = cc
+cells_apart first (other ∷ arrays) a b cell e f =
+    by (other == a) refl (other == b) refl e f
+    (λ e f. cells_apart (first + 1) arrays a b cell e f)
+  where
+    here : Some first ≡ Some cell → first ≡ cell
+    here e = cc
+
+    by : (x : Bool) → (other == a) ≡ x → (y : Bool) → (other == b) ≡ y
+        → (if x then Some first else cell_among (first + 1) arrays a) ≡ Some cell
+        → (if y then Some first else cell_among (first + 1) arrays b) ≡ Some cell
+        → (cell_among (first + 1) arrays a ≡ Some cell
+        → cell_among (first + 1) arrays b ≡ Some cell → a ≡ b)
+        → a ≡ b
+    by true p true q e f more = sym (eqb-true other a p) ∙ eqb-true other b q
+    by true p false q e f more =
+        absurd (omega (arith, here e, cells_above (first + 1) arrays b cell f))
+    by false p true q e f more =
+        absurd (omega (arith, here f, cells_above (first + 1) arrays a cell e))
+    by false p false q e f more = more e f
+
+-- ---- the loop
+module _ (tables : Tables) (arrays : List ℕ) where
+  abbrev pub cell_of : ℕ → Option ℕ
+  cell_of = cell_among tables.cells arrays
+
+  abbrev pub new : Tables
+  new = with_cells tables arrays
+
+  apart : (a b cell : ℕ) → cell_of a ≡ Some cell → cell_of b ≡ Some cell → a ≡ b
+  apart a b cell e f = cells_apart tables.cells arrays a b cell e f
+
+  -- states of both runs
+  pub record IsAlike (s t : Whole) : Type 0 where
+    pub states : AreStates cell_of tables new s t
+    pub slots : HasSteps s
+    pub short : (slot : ℕ) (region : Region) → slice_get s.slots slot ≡ Some region
+        → length region.dims ≤ 3
+    pub whole : IsWhole tables s
+    pub shapes : (array cell : ℕ) → cell_of array ≡ Some cell → (row : ArrayRow) (store : Array)
+        → slice_get tables.arrays array ≡ Some row → slice_get s.stores array ≡ Some store
+        → HasShape row store.storage
+
+  -- of a group: an array that is a cell's isn't named, or never with a shift and begun first
+  pub record IsGiven (group : List number.Member) : Type 0 where
+    pub fits : FitsGroup tables group
+    pub cells : (array cell : ℕ) → cell_of array ≡ Some cell
+        → (list_any (is_named_in tables array) group ≡ false)
+        ⊎ ((is_shifted_in tables array group ≡ false) × (is_begun tables array 0 group ≡ true))
+
+  module _ (group : List number.Member) (given : IsGiven group) where
+    abbrev G : List Member
+    G = map (member_inlined tables) group
+
+    abbrev G' : List Member
+    G' = group_contracted cell_of G
+
+    abbrev old : ℕ
+    old = group_cells G
+
+    abbrev more : ℕ
+    more = group_cells G'
+
+    abbrev IsPut : ℕ → Type 0
+    IsPut array = Among (group_puts G) array
+
+    -- ---- words of members
+    expr_words : (one : number.Member) (expr : ℕ) → Among (exprs_of one) expr
+        → Among (member_words (member_inlined tables one)) (words_at tables expr)
+    expr_words (member.Put array own mask line) expr k = by mask k
+      where
+        by : (m : Option ℕ) → Among (own ∷ as_list m) expr
+            → Among (member_words (member_inlined tables (member.Put array own m line)))
+            (words_at tables expr)
+        by m (inl same) = inl (ap (words_at tables) same)
+        by (Some m) (inr (inl same)) = inr (inl (ap (words_at tables) same))
+        by (Some m) (inr (inr k)) = absurd k
+        by None (inr k) = absurd k
+    expr_words (member.Cell array own mask line) expr k = by mask k
+      where
+        by : (m : Option ℕ) → Among (own ∷ as_list m) expr
+            → Among (member_words (member_inlined tables (member.Cell array own m line)))
+            (words_at tables expr)
+        by m (inl same) = inl (ap (words_at tables) same)
+        by (Some m) (inr (inl same)) = inr (inl (ap (words_at tables) same))
+        by (Some m) (inr (inr k)) = absurd k
+        by None (inr k) = absurd k
+    expr_words (member.Acc scalar operator own mask line) expr k = by mask k
+      where
+        by : (m : Option ℕ) → Among (own ∷ as_list m) expr
+            → Among (member_words (member_inlined tables (member.Acc scalar operator own m line)))
+            (words_at tables expr)
+        by m (inl same) = inl (ap (words_at tables) same)
+        by (Some m) (inr (inl same)) = inr (inl (ap (words_at tables) same))
+        by (Some m) (inr (inr k)) = absurd k
+        by None (inr k) = absurd k
+    expr_words (member.OpenIf own mask line) expr k = by mask k
+      where
+        by : (m : Option ℕ) → Among (own ∷ as_list m) expr
+            → Among (member_words (member_inlined tables (member.OpenIf own m line)))
+            (words_at tables expr)
+        by m (inl same) = inl (ap (words_at tables) same)
+        by (Some m) (inr (inl same)) = inr (inl (ap (words_at tables) same))
+        by (Some m) (inr (inr k)) = absurd k
+        by None (inr k) = absurd k
+    expr_words member.Otherwise expr k = absurd k
+    expr_words member.CloseIf expr k = absurd k
+    expr_words (member.OpenWhile own mask line) expr k = by mask k
+      where
+        by : (m : Option ℕ) → Among (own ∷ as_list m) expr
+            → Among (member_words (member_inlined tables (member.OpenWhile own m line)))
+            (words_at tables expr)
+        by m (inl same) = inl (ap (words_at tables) same)
+        by (Some m) (inr (inl same)) = inr (inl (ap (words_at tables) same))
+        by (Some m) (inr (inr k)) = absurd k
+        by None (inr k) = absurd k
+    expr_words member.CloseWhile expr k = absurd k
+    expr_words (member.OpenRepeat mask line) expr k = by mask k
+      where
+        by : (m : Option ℕ) → Among (as_list m) expr
+            → Among (member_words (member_inlined tables (member.OpenRepeat m line)))
+            (words_at tables expr)
+        by (Some m) (inl same) = inl (ap (words_at tables) same)
+        by (Some m) (inr k) = absurd k
+        by None k = absurd k
+    expr_words (member.Until own) expr (inl same) = inl (ap (words_at tables) same)
+    expr_words (member.Until own) expr (inr k) = absurd k
+
+    group_word : (one : number.Member) (expr : ℕ) → Among group one → Among (exprs_of one) expr
+        → Among (group_words G) (words_at tables expr)
+    group_word one expr k among =
+        among_flat member_words G (member_inlined tables one) (words_at tables expr)
+        (among_map (member_inlined tables) group one k) (expr_words one expr among)
+
+    -- ---- no array that is a cell's is read with a shift
+    number_word : (one : number.Member) (expr : ℕ) (w : ExprOp) → Among (exprs_of one) expr
+        → Among (words_at tables expr) w → Among (number_words tables one) w
+    number_word one expr w among inside =
+        among_flat (words_of tables) (exprs_of one) expr w among
+        (subst (λ words. Among words w) (index_rows tables.exprs expr) inside)
+
+    any_there : (test : number.Member → Bool) (ms : List number.Member) (one : number.Member)
+        → Among ms one → test one ≡ true → list_any test ms ≡ false → ⊥
+    any_there test [] one k e f = absurd k
+    any_there test (m ∷ ms) one (inl same) e f =
+        true≢false (sym e ∙ (ap test (sym same) ∙ first (test m) (list_any test ms) f))
+      where
+        first : (a b : Bool) → (a || b) ≡ false → a ≡ false
+        first true b e = e
+        first false b e = refl
+    any_there test (m ∷ ms) one (inr k) e f =
+        any_there test ms one k e (second (test m) (list_any test ms) f)
+      where
+        second : (a b : Bool) → (a || b) ≡ false → b ≡ false
+        second true b e = absurd (true≢false e)
+        second false b e = e
+
+    unshifted : (one : number.Member) (expr array : ℕ) (shift : List ℤ) → Among group one
+        → Among (exprs_of one) expr → Among (words_at tables expr) (word.Shifted array shift)
+        → cell_of array ≡ None
+    unshifted one expr array shift k among inside = by (cell_of array) refl
+      where
+        there : Among (number_words tables one) (word.Shifted array shift)
+        there = number_word one expr (word.Shifted array shift) among inside
+
+        named : is_named_in tables array one ≡ true
+        named =
+            there_is array (named_by tables one)
+            (among_right (put_by one) (flat_map arrays_in (number_words tables one)) array
+            (among_flat arrays_in (number_words tables one) (word.Shifted array shift) array there
+            (inl refl)))
+
+        shifted : is_shifted_in tables array group ≡ true
+        shifted =
+            there_is array (flat_map shifted_in (flat_map (number_words tables) group))
+            (among_flat shifted_in (flat_map (number_words tables) group) (word.Shifted array shift)
+            array (among_flat (number_words tables) group one (word.Shifted array shift) k there)
+            (inl refl))
+
+        neither : (list_any (is_named_in tables array) group ≡ false)
+            ⊎ ((is_shifted_in tables array group ≡ false) × (is_begun tables array 0 group ≡ true))
+            → ⊥
+        neither (inl never) = any_there (is_named_in tables array) group one k named never
+        neither (inr once) = true≢false (sym shifted ∙ once.0)
+
+        by : (found : Option ℕ) → cell_of array ≡ found → found ≡ None
+        by None is = refl
+        by (Some cell) is = absurd (neither (given.cells array cell is))
+
+    -- ---- what is known of members
+    within : AreWithin old G
+    within = own_within G
+
+    within' : AreWithin more G'
+    within' = own_within G'
+
+    old_below : old ≤ more
+    old_below = within_most more G (less_within cell_of more G within')
+
+    cell_small : (one : number.Member) (expr cell : ℕ) → Among group one → Among (exprs_of one) expr
+        → Among (words_at tables expr) (word.Cell cell) → cell < old
+    cell_small one expr cell k among inside =
+        let few : cell + 1 ≤ old =
+        at_among (λ cells. cells ≤ old) (each_word (λ w. word_cells w ∷ []) (group_words G))
+        (cell + 1) within.words
+        (among_flat (λ words. flat_map (λ w. word_cells w ∷ []) words) (group_words G)
+        (words_at tables expr) (cell + 1) (group_word one expr k among)
+        (among_flat (λ w. word_cells w ∷ []) (words_at tables expr) (word.Cell cell) (cell + 1) inside
+        (inl refl))) in
+        omega (arith, few)
+
+    word_given : (one : number.Member) (expr : ℕ) → Among group one → Among (exprs_of one) expr
+        → (w : ExprOp) → Among (words_at tables expr) w → WordGiven cell_of old more IsPut tables w
+    word_given one expr k among (word.Shifted array shift) inside =
+        unshifted one expr array shift k among inside
+    word_given one expr k among (word.Cell cell) inside = cell_small one expr cell k among inside
+    word_given one expr k among (word.Here array) inside = tt
+    word_given one expr k among (word.Scalar scalar) inside = tt
+    word_given one expr k among (word.Const value) inside = tt
+    word_given one expr k among (word.Coord dimension) inside = tt
+    word_given one expr k among (word.Pair op) inside = tt
+    word_given one expr k among word.Neg inside = tt
+    word_given one expr k among word.Not inside = tt
+    word_given one expr k among word.Abs inside = tt
+
+    own_given : (one : number.Member) → Among group one
+        → OwnGiven cell_of old more IsPut tables one
+    own_given (member.Put array expr mask line) k = (
+      λ cell is. put_within cell_of more G array (words_at tables expr)
+          (option_map (words_at tables) mask) line cell
+          (among_map (member_inlined tables) group (member.Put array expr mask line) k) is within',
+      among_flat member_puts G (member_inlined tables (member.Put array expr mask line)) array
+          (among_map (member_inlined tables) group (member.Put array expr mask line) k) (inl refl),
+    )
+    own_given (member.Cell cell expr mask line) k =
+        let few : cell + 1 ≤ old =
+        at_among (λ cells. cells ≤ old) (map member_cells G) (cell + 1)
+        within.members
+        (among_map member_cells G
+        (member_inlined tables (member.Cell cell expr mask line))
+        (among_map (member_inlined tables) group (member.Cell cell expr mask line) k)) in
+        omega (arith, few)
+    own_given (member.Acc scalar operator expr mask line) k = tt
+    own_given (member.OpenIf expr mask line) k = tt
+    own_given member.Otherwise k = tt
+    own_given member.CloseIf k = tt
+    own_given (member.OpenWhile expr mask line) k = tt
+    own_given member.CloseWhile k = tt
+    own_given (member.OpenRepeat mask line) k = tt
+    own_given (member.Until expr) k = tt
+
+    all_given : Every (MemberGiven cell_of old more IsPut tables) group
+    all_given =
+        every_of (MemberGiven cell_of old more IsPut tables) group
+        (λ one k. record {
+          exprs = every_of _ (exprs_of one)
+              (λ expr among. every_of (WordGiven cell_of old more IsPut tables)
+              (words_at tables expr) (word_given one expr k among));
+          own = own_given one k;
+        })
+
+    arrays_given : ArraysGiven cell_of old more IsPut tables 0 [] group
+    arrays_given array cell is = by (given.cells array cell is)
+      where
+        by : (list_any (is_named_in tables array) group ≡ false)
+            ⊎ ((is_shifted_in tables array group ≡ false) × (is_begun tables array 0 group ≡ true))
+            → ArrayGiven cell_of old more IsPut tables 0 []
+            group array
+        by (inl never) = inr (inl never)
+        by (inr once) = inr (inr once.1)
+
+    -- ---- its tree
+    record IsCoded : Type 0 where
+      tree : Nest
+      is : nest_of (group_coded 0 G) ≡ Some tree
+      units : UnitsFine cell_of old more (group_words G) IsPut [] (units_of tree)
+
+    coded : IsCoded
+    coded =
+        by (nest_of group) (nest_of (group_coded 0 G)) (groups_inline tables group)
+        (ap nest_of (sym given.fits.nest.spelled) ∙ reads_again given.fits.nest.tree) refl
+      where
+        nest : Nest
+        nest = given.fits.nest.tree
+
+        fine : UnitsFine cell_of old more tables.exprs IsPut [] (units_of nest)
+        fine =
+            group_fine cell_of old more IsPut tables nest
+            (subst (Every (MemberGiven cell_of old more IsPut tables)) (sym given.fits.nest.spelled)
+            all_given)
+            (subst (ArraysGiven cell_of old more IsPut tables 0 []) (sym given.fits.nest.spelled)
+            arrays_given)
+
+        by : (a b : Option Nest) → AreTrees tables.exprs (group_words G) a b → a ≡ Some nest
+            → nest_of (group_coded 0 G) ≡ b → IsCoded
+        by None None trees e f = absurd (none e)
+          where
+            none : (let o : Option Nest = None in o) ≡ Some nest → ⊥
+            none e = cc
+        by (Some one) (Some two) (BothTrees same) e f =
+            let is : one ≡ nest = cc in
+            record {
+              tree = two;
+              is = f;
+              units = units_moved cell_of old more IsPut tables (group_words G) [] nest two
+                  (subst (λ x. AreRenumbered tables.exprs (group_words G) x two) is same) fine;
+            }
+        by None (Some two) trees e f = elim trees [ ]
+        by (Some one) None trees e f = elim trees [ ]
