@@ -2,11 +2,12 @@
 use Rattle.std.proofs.Common.{◌≡◌, refl, sym, ◌∙◌, ap, subst, arith, ℕ, zero, suc, ◌+◌, ◌<◌, ◌≤◌}
 use Rattle.std.proofs.Common.{Bool, true, false, true≢false, List, [], ◌∷◌, ◌++◌, length, map, ℤ, pos}
 use Rattle.std.proofs.Common.{All, Option, Some, None, ◌⊎◌, inl, inr, replicate, eqb-true}
-use Rattle.std.specs.Prelude.{◌&&◌, ◌||◌, ◌==◌, flat_map, fold, if◌then◌else◌, is_none, option_and_then}
+use Rattle.std.specs.Prelude.{◌&&◌, ◌||◌, ◌==◌, flat_map, fold, if◌then◌else◌, is_none, not, option_and_then}
 use Rattle.std.specs.Prelude.{slice_get, slice_index_or, slice_set, ⊤}
 use Rattle.std.specs.Option.{IfSome, IsSomeAnd, option_map}
 use Rattle.std.specs.List.{AllZip, list_all, list_any}
 use Rattle.std.proofs.lemmas.List.Elements.{All-head, All-tail}
+use Rattle.zpl_nums.specs.Fold.{unit_of}
 use Rattle.zpl_region.specs.declared.dims.Dim.{Dim}
 use Rattle.zpl_region.specs.declared.dims.Dim.TheVariants as dim
 use Rattle.zpl_region.specs.declared.regions.Region.{Region}
@@ -14,7 +15,7 @@ use Rattle.zpl_region.specs.Dim.{HasStep, IsCoordinate}
 use Rattle.zpl_region.specs.Region.{IsMember, members}
 use Rattle.zpl_region.proofs.ListLemmas.{Among}
 use Rattle.zpl_arrays.specs.Array.{Array, IsArray, flattened, has_place}
-use Rattle.row_runs.specs.Run.{Does, Effect, Goes, Step, Stops, Wrong}
+use Rattle.row_runs.specs.Run.{Does, Effect, Goes, Step, Stop, Stops, Wrong}
 use Rattle.row_runs.specs.Straight.{Every}
 use Rattle.node_form.specs.declared.arrays.ArrayDim.{ArrayDim}
 use Rattle.node_form.specs.declared.arrays.ArrayDim.TheVariants as axis
@@ -41,12 +42,12 @@ use Rattle.flat_form.specs.Loop.{Column, all_awaiting, awaiting, loop_stands, lo
 use Rattle.flat_form.specs.Loop.{start_columns, tree_does, units_do}
 use Rattle.flat_form.specs.Names.{Read, Total, each_word, group_cells, group_puts, group_reads}
 use Rattle.flat_form.specs.Names.{group_totals, group_words, member_cells, member_puts}
-use Rattle.flat_form.specs.Names.{ row_scalars, word_cells}
+use Rattle.flat_form.specs.Names.{row_scalars, word_cells, word_reads, word_scalars}
 use Rattle.flat_form.specs.Right.{all_begin, are_settled, can_read, can_write, each_matches}
 use Rattle.flat_form.specs.Right.{has_places, is_settled, matches, total_begins, totals_begin}
-use Rattle.flat_form.specs.Right.{writes_well}
+use Rattle.flat_form.specs.Right.{are_distinct, is_among, is_value, no_flood, writes_well}
 use Rattle.flat_form.specs.Row.{Loop, Member, Put, Row, Words, group_coded, member_inlined}
-use Rattle.flat_form.specs.Row.{member_words, words_at}
+use Rattle.flat_form.specs.Row.{mask_words, member_words, words_at}
 use Rattle.flat_form.specs.States.{IsStoreOf, IsWhole}
 use Rattle.flat_form.specs.Whole.{Whole}
 use Rattle.flat_form.proofs.AgreeLemmas.{Agree, list_all_same, set_awaited}
@@ -494,3 +495,450 @@ module _ (tables : Tables) (arrays : List ℕ) where
             }
         by None (Some two) trees e f = elim trees [ ]
         by (Some one) None trees e f = elim trees [ ]
+
+    -- ---- no word reads an array that is a cell's with a shift
+    words_unshifted : (one : number.Member) → Among group one → (expr : ℕ) → Among (exprs_of one) expr
+        → Every (NoShift cell_of) (words_at tables expr)
+    words_unshifted one k expr among =
+        every_of (NoShift cell_of) (words_at tables expr) (λ w inside. by w inside)
+      where
+        by : (w : ExprOp) → Among (words_at tables expr) w → NoShift cell_of w
+        by (word.Shifted array shift) inside = unshifted one expr array shift k among inside
+        by (word.Here array) inside = tt
+        by (word.Scalar scalar) inside = tt
+        by (word.Const value) inside = tt
+        by (word.Cell cell) inside = tt
+        by (word.Coord dimension) inside = tt
+        by (word.Pair op) inside = tt
+        by word.Neg inside = tt
+        by word.Not inside = tt
+        by word.Abs inside = tt
+
+    abbrev Unshifted : Words → Type 0
+    Unshifted words = Every (NoShift cell_of) words
+
+    mask_unshifted : (mask : Option ℕ)
+        → ((expr : ℕ) → Among (as_list mask) expr → Unshifted (words_at tables expr))
+        → Every Unshifted (mask_words (option_map (words_at tables) mask))
+    mask_unshifted None each = tt
+    mask_unshifted (Some mask) each = (each mask (inl refl), tt)
+
+    member_unshifted : (one : number.Member)
+        → ((expr : ℕ) → Among (exprs_of one) expr → Unshifted (words_at tables expr))
+        → Every Unshifted (member_words (member_inlined tables one))
+    member_unshifted (member.Put array expr mask line) each =
+        (each expr (inl refl), mask_unshifted mask (λ e k. each e (inr k)))
+    member_unshifted (member.Cell cell expr mask line) each =
+        (each expr (inl refl), mask_unshifted mask (λ e k. each e (inr k)))
+    member_unshifted (member.Acc scalar operator expr mask line) each =
+        (each expr (inl refl), mask_unshifted mask (λ e k. each e (inr k)))
+    member_unshifted (member.OpenIf expr mask line) each =
+        (each expr (inl refl), mask_unshifted mask (λ e k. each e (inr k)))
+    member_unshifted member.Otherwise each = tt
+    member_unshifted member.CloseIf each = tt
+    member_unshifted (member.OpenWhile expr mask line) each =
+        (each expr (inl refl), mask_unshifted mask (λ e k. each e (inr k)))
+    member_unshifted member.CloseWhile each = tt
+    member_unshifted (member.OpenRepeat mask line) each = mask_unshifted mask each
+    member_unshifted (member.Until expr) each = (each expr (inl refl), tt)
+
+    every_append : {X : Type 0} (P : X → Type 0) (xs ys : List X) → Every P xs → Every P ys
+        → Every P (xs ++ ys)
+    every_append P [] ys p q = q
+    every_append P (x ∷ xs) ys p q = (p.0, every_append P xs ys p.1 q)
+
+    some_unshifted : (ms : List number.Member)
+        → ((one : number.Member) → Among ms one → Among group one)
+        → Every Unshifted (group_words (map (member_inlined tables) ms))
+    some_unshifted [] inside = tt
+    some_unshifted (one ∷ ms) inside =
+        every_append Unshifted (member_words (member_inlined tables one))
+        (group_words (map (member_inlined tables) ms))
+        (member_unshifted one (words_unshifted one (inside one (inl refl))))
+        (some_unshifted ms (λ other k. inside other (inr k)))
+
+    all_unshifted : Every Unshifted (group_words G)
+    all_unshifted = some_unshifted group (λ one k. k)
+
+    -- ---- the cells of the group are those of the tables
+    at_all : (ms : List number.Member) (one : number.Member) → Among ms one
+        → All (FitsMember tables given.fits.rank) ms → FitsMember tables given.fits.rank one
+    at_all [] one k all = absurd k
+    at_all (m ∷ ms) one (inl same) all =
+        subst (FitsMember tables given.fits.rank) same
+        (All-head (FitsMember tables given.fits.rank) m ms all)
+    at_all (m ∷ ms) one (inr k) all =
+        at_all ms one k (All-tail (FitsMember tables given.fits.rank) m ms all)
+
+    one_few : (one : number.Member) → FitsMember tables given.fits.rank one
+        → member_cells (member_inlined tables one) ≤ tables.cells
+    one_few (member.Cell cell expr mask line) fits = omega (arith, fits.0)
+    one_few (member.Put array expr mask line) fits = omega arith
+    one_few (member.Acc scalar operator expr mask line) fits = omega arith
+    one_few (member.OpenIf expr mask line) fits = omega arith
+    one_few member.Otherwise fits = omega arith
+    one_few member.CloseIf fits = omega arith
+    one_few (member.OpenWhile expr mask line) fits = omega arith
+    one_few member.CloseWhile fits = omega arith
+    one_few (member.OpenRepeat mask line) fits = omega arith
+    one_few (member.Until expr) fits = omega arith
+
+    members_few : (ms : List number.Member)
+        → ((one : number.Member) → Among ms one → FitsMember tables given.fits.rank one)
+        → Every (λ cells. cells ≤ tables.cells) (map member_cells (map (member_inlined tables) ms))
+    members_few [] fits = tt
+    members_few (m ∷ ms) fits =
+        (one_few m (fits m (inl refl)), members_few ms (λ one k. fits one (inr k)))
+
+    word_few : (w : ExprOp) → FitsWord tables given.fits.rank w → word_cells w ≤ tables.cells
+    word_few (word.Cell cell) fits = omega (arith, fits)
+    word_few (word.Here array) fits = omega arith
+    word_few (word.Shifted array shift) fits = omega arith
+    word_few (word.Scalar scalar) fits = omega arith
+    word_few (word.Const value) fits = omega arith
+    word_few (word.Coord dimension) fits = omega arith
+    word_few (word.Pair op) fits = omega arith
+    word_few word.Neg fits = omega arith
+    word_few word.Not fits = omega arith
+    word_few word.Abs fits = omega arith
+
+    abbrev Few : Words → Type 0
+    Few words = Every (λ cells. cells ≤ tables.cells) (flat_map (λ w. word_cells w ∷ []) words)
+
+    list_few : (words : Words) → All (FitsWord tables given.fits.rank) words → Few words
+    list_few [] fits = tt
+    list_few (w ∷ words) fits = (
+      word_few w (All-head (FitsWord tables given.fits.rank) w words fits),
+      list_few words (All-tail (FitsWord tables given.fits.rank) w words fits),
+    )
+
+    expr_few : (exprs : List Words) (expr : ℕ)
+        → IsSomeAnd (slice_get exprs expr) (All (FitsWord tables given.fits.rank))
+        → Few (slice_index_or exprs expr [])
+    expr_few [] expr has = absurd has
+    expr_few (words ∷ exprs) zero has = list_few words has
+    expr_few (words ∷ exprs) (suc expr) has = expr_few exprs expr has
+
+    mask_few : (mask : Option ℕ) → IfSome mask (HasExpr tables given.fits.rank)
+        → Every Few (mask_words (option_map (words_at tables) mask))
+    mask_few None has = tt
+    mask_few (Some mask) has = (expr_few tables.exprs mask has, tt)
+
+    exprs_few : (one : number.Member) → FitsMember tables given.fits.rank one
+        → Every Few (member_words (member_inlined tables one))
+    exprs_few (member.Put array expr mask line) fits =
+        (expr_few tables.exprs expr fits.1, mask_few mask fits.2)
+    exprs_few (member.Cell cell expr mask line) fits =
+        (expr_few tables.exprs expr fits.1, mask_few mask fits.2)
+    exprs_few (member.Acc scalar operator expr mask line) fits =
+        (expr_few tables.exprs expr fits.1, mask_few mask fits.2)
+    exprs_few (member.OpenIf expr mask line) fits =
+        (expr_few tables.exprs expr fits.0, mask_few mask fits.1)
+    exprs_few member.Otherwise fits = tt
+    exprs_few member.CloseIf fits = tt
+    exprs_few (member.OpenWhile expr mask line) fits =
+        (expr_few tables.exprs expr fits.0, mask_few mask fits.1)
+    exprs_few member.CloseWhile fits = tt
+    exprs_few (member.OpenRepeat mask line) fits = mask_few mask fits
+    exprs_few (member.Until expr) fits = (expr_few tables.exprs expr fits, tt)
+
+    flat_few : (exprs : List Words) → Every Few exprs
+        → Every (λ cells. cells ≤ tables.cells) (each_word (λ w. word_cells w ∷ []) exprs)
+    flat_few [] all = tt
+    flat_few (words ∷ exprs) all =
+        every_append (λ cells. cells ≤ tables.cells) (flat_map (λ w. word_cells w ∷ []) words)
+        (each_word (λ w. word_cells w ∷ []) exprs) all.0 (flat_few exprs all.1)
+
+    groups_few : (ms : List number.Member)
+        → ((one : number.Member) → Among ms one → FitsMember tables given.fits.rank one)
+        → Every Few (group_words (map (member_inlined tables) ms))
+    groups_few [] fits = tt
+    groups_few (m ∷ ms) fits =
+        every_append Few (member_words (member_inlined tables m))
+        (group_words (map (member_inlined tables) ms)) (exprs_few m (fits m (inl refl)))
+        (groups_few ms (λ one k. fits one (inr k)))
+
+    words_few : (ms : List number.Member)
+        → ((one : number.Member) → Among ms one → FitsMember tables given.fits.rank one)
+        → Every (λ cells. cells ≤ tables.cells)
+        (each_word (λ w. word_cells w ∷ []) (group_words (map (member_inlined tables) ms)))
+    words_few ms fits =
+        flat_few (group_words (map (member_inlined tables) ms)) (groups_few ms fits)
+
+    few_cells : old ≤ tables.cells
+    few_cells =
+        within_most tables.cells G (record {
+          members = members_few group (λ one k. at_all group one k given.fits.fit);
+          words = words_few group (λ one k. at_all group one k given.fits.fit);
+        })
+
+    above : (a cell : ℕ) → cell_of a ≡ Some cell → old ≤ cell
+    above a cell is = omega (arith, cells_above tables.cells arrays a cell is, few_cells)
+
+    -- ---- the row may stand where it did
+    module _ (s t : Whole) (alike : IsAlike s t) where
+      agree : Agree tables new (IsOther cell_of) s t
+      agree = alike.states.agree
+
+      settled_same : (scalars : List ℕ)
+          → list_all (is_settled s) scalars ≡ list_all (is_settled t) scalars
+      settled_same scalars =
+          list_all_same (is_settled s) (is_settled t) scalars
+          (every_of (λ k. is_settled s k ≡ is_settled t k) scalars
+          (λ k among. ap (λ o. is_none (option_and_then (λ awaited. awaited) o))
+          (agree (thing.Scalar k) tt).1))
+
+      begins_same : (region : Region) (scalars : List ℕ) (totals : List Total)
+          → all_begin s region scalars totals ≡ all_begin t region scalars totals
+      begins_same region scalars [] = refl
+      begins_same region scalars (total ∷ totals) =
+          ap (λ b. no_flood region
+          && (are_distinct
+          (map (λ (total : Total). total.scalar) (total ∷ totals)) && b))
+          (list_all_same (total_begins s scalars) (total_begins t scalars) (total ∷ totals)
+          (every_of (λ (one : Total). total_begins s scalars one ≡ total_begins t scalars one)
+          (total ∷ totals)
+          (λ one among. ap (λ v. is_value
+          (unit_of one.operator) v
+          && not (is_among one.scalar scalars))
+          (agree (thing.Scalar one.scalar) tt).0)))
+
+      stands : (region : Region) → loop_stands tables s region G ≡ true
+          → loop_stands new t region G' ≡ true
+      stands region e =
+          let reads = list_all (can_read tables s region) (group_reads G) in
+          let writes = list_all (can_write tables s region) (group_puts G) in
+          let begins = totals_begin s region G in
+          let scalars = each_word word_scalars (group_words G) in
+          both_hold (list_all (can_read new t region) (group_reads G'))
+          (list_all (can_write new t region) (group_puts G') && totals_begin t region G')
+          (ap (λ ws. list_all (can_read new t region)
+          (each_word word_reads ws)) (group_words_are cell_of G)
+          ∙ reads_kept cell_of (can_read tables s region) (can_read new t region)
+          (λ read none is. sym (read_same tables new (IsOther cell_of) s t agree region read none) ∙ is)
+          (group_words G) all_unshifted (and_first reads (writes && begins) e))
+          (both_hold (list_all (can_write new t region) (group_puts G')) (totals_begin t region G')
+          (puts_kept cell_of (can_write tables s region) (can_write new t region)
+          (λ array none is.
+          sym (write_same tables new (IsOther cell_of) s t agree region array none) ∙ is) G
+          (and_first writes begins (and_second reads (writes && begins) e)))
+          (ap (λ ws. all_begin t region (each_word word_scalars ws)
+          (group_totals G')) (group_words_are cell_of G)
+          ∙ (ap (λ ks. all_begin t region ks (group_totals G')) (scalars_same cell_of (group_words G))
+          ∙ (ap (all_begin t region scalars) (totals_same cell_of G)
+          ∙ (sym (begins_same region scalars (group_totals G))
+          ∙ and_second writes begins (and_second reads (writes && begins) e))))))
+
+      -- ---- arrays that are put have a place of their own for each tuple
+      module _ (slot : ℕ) (region : Region) (here : slice_get s.slots slot ≡ Some region) where
+        steps : All HasStep region.dims
+        steps = alike.slots.steps slot region here
+
+        abbrev ts : List (List ℤ)
+        ts = members region
+
+        filled_at : (rows : List ArrayRow) (stores : List Array) (k : ℕ) (store : Array)
+            → AllZip IsStoreOf rows stores → slice_get stores k ≡ Some store
+            → length store.values ≡ length (members store.storage)
+        filled_at [] [] k store zip e = cc
+        filled_at [] (one ∷ stores) k store zip e = absurd zip
+        filled_at (row ∷ rows) [] k store zip e = absurd zip
+        filled_at (row ∷ rows) (one ∷ stores) zero store zip e =
+            let same : one ≡ store = cc in
+            subst (λ (a : Array). length a.values ≡ length (members a.storage)) same zip.0.filled
+        filled_at (row ∷ rows) (one ∷ stores) (suc k) store zip e = filled_at rows stores k store zip.1 e
+
+        places : (store : Array) (us : List (List ℤ))
+            → Every (λ u. has_place store.storage (moved_by unmoved u) ≡ true) us
+            → Every (λ u. has_place store.storage u ≡ true) us
+        places store us all =
+            every_more (λ u e. ap (has_place store.storage) (sym (moved_none u)) ∙ e) us all
+
+        placed_by : (array cell : ℕ) → cell_of array ≡ Some cell → (row : Option ArrayRow)
+            → slice_get tables.arrays array ≡ row → (store : Option Array)
+            → slice_get s.stores array ≡ store → writes_well row store region ≡ true
+            → Has array ts s
+        placed_by array cell is None row_is store store_is e = absurd (true≢false (sym e))
+        placed_by array cell is (Some row) row_is None store_is e = absurd (true≢false (sym e))
+        placed_by array cell is (Some row) row_is (Some store) store_is e =
+            let shape = alike.shapes array cell is row store row_is store_is in
+            let fine = and_first (matches row region) (has_places store region unmoved) e in
+            record {
+              store = store;
+              there = store_is;
+              placed = record {
+                is_array = record {
+                  filled = filled_at tables.arrays s.stores array store alike.whole.stores store_is;
+                  steps = shape.steps;
+                };
+                has = places store ts
+                    (all_every (λ u. has_place store.storage (moved_by unmoved u)) ts
+                    (and_second (matches row region) (has_places store region unmoved) e));
+                flat = every_more (λ u inside.
+                    flat_by row.dims store.storage.dims region.dims u shape.floods fine inside) ts
+                    (are_members region steps);
+              };
+            }
+
+        placed : loop_stands tables s region G ≡ true
+            → (array cell : ℕ) → cell_of array ≡ Some cell → IsPut array → Has array ts s
+        placed e array cell is put =
+            let reads = list_all (can_read tables s region) (group_reads G) in
+            let writes = list_all (can_write tables s region) (group_puts G) in
+            placed_by array cell is (slice_get tables.arrays array) refl (slice_get s.stores array) refl
+            (all_at (can_write tables s region) (group_puts G) array
+            (and_first writes (totals_begin s region G)
+            (and_second reads (writes && totals_begin s region G) e)) put)
+
+        -- ---- where the loop begins
+        begin_columns : (us : List (List ℤ))
+            → ColumnsAlike cell_of old more (group_words G) IsPut tables new apart above [] s
+            (map (λ u. record { at = u; cells = replicate old (pos 0) }) us)
+            (map (λ u. record { at = u; cells = replicate more (pos 0) }) us)
+        begin_columns [] = tt
+        begin_columns (u ∷ us) = (
+          refl,
+          record {
+            cells = λ k less. zero_there old k less ∙ sym (zero_there more k (omega (arith, less, old_below)));
+            long = zeros_long more;
+            logs = refl;
+            held = λ array cell begun is. absurd begun;
+          },
+          begin_columns us,
+        )
+
+        -- ---- the loop
+        abbrev Steps : ℕ → Step Whole → Step Whole → Type 0
+        Steps n =
+            StepsAlike cell_of old more (group_words G) IsPut tables new apart above n ts
+            (members_apart region)
+
+        abbrev Awaited : List Total → Whole → Whole
+        Awaited totals whole = fold awaiting whole totals
+
+        stores_stay : (totals : List Total) (whole : Whole) → (Awaited totals whole).stores ≡ whole.stores
+        stores_stay [] whole = refl
+        stores_stay (total ∷ totals) whole = stores_stay totals (awaiting whole total)
+
+        agree_still : (totals : List Total) (a b : Whole) → Agree tables new (IsOther cell_of) a b
+            → Agree tables new (IsOther cell_of) (Awaited totals a) (Awaited totals b)
+        agree_still [] a b same = same
+        agree_still (total ∷ totals) a b same =
+            agree_still totals (awaiting a total) (awaiting b total)
+            (set_awaited tables new (IsOther cell_of) a b total.scalar (Some total.operator) tt same)
+
+        awaited_alike : (n : ℕ) (totals : List Total) (a b : Step Whole) → Steps n a b
+            → Steps n (all_awaiting totals a) (all_awaiting totals b)
+        awaited_alike n totals (Stops stop) b WasWrong = WasWrong
+        awaited_alike n totals (Goes bytes a) (Stops other) steps = elim steps [ ]
+        awaited_alike n totals (Stops stop) (Stops other) BothStop = BothStop
+        awaited_alike n totals (Goes bytes a) (Goes others b) (BothGo states) =
+            BothGo (record {
+              agree = agree_still totals a b states.agree;
+              storages = λ array cell is.
+                  ap (λ (stores : List Array).
+                  option_map (λ (store : Array). store.storage) (slice_get stores array))
+                  (stores_stay totals a)
+                  ∙ (states.storages array cell is
+                  ∙ sym (ap (λ (stores : List Array).
+                  option_map (λ (store : Array). store.storage) (slice_get stores array))
+                  (stores_stay totals b)));
+            })
+
+        same_ats : (cells : List ℤ) (us : List (List ℤ))
+            → map (λ (column : Column). column.at)
+            (map (λ u. let c : Column = record { at = u; cells = cells } in c) us) ≡ us
+        same_ats cells [] = refl
+        same_ats cells (u ∷ us) = ap (λ rest. u ∷ rest) (same_ats cells us)
+
+        units_do_alike : (n : ℕ) (code : IsCoded) → loop_stands tables s region G ≡ true
+            → Steps n (units_do n (group_words G) (units_of code.tree) (start_columns region G) s)
+            (units_do n (map (map (word_contracted cell_of)) (group_words G))
+            (map (nest_contracted cell_of) (units_of code.tree)) (start_columns region G') t)
+        units_do_alike n code e =
+            units_alike cell_of old more (group_words G) IsPut tables new apart above n ts
+            (members_apart region) [] (units_of code.tree) code.units (λ array k. absurd k)
+            (start_columns region G) (start_columns region G') s t alike.states (placed e)
+            (same_ats (replicate old (pos 0)) ts) (begin_columns ts)
+
+        tree_alike : (n : ℕ) → loop_stands tables s region G ≡ true
+            → Steps n (tree_does n region G s (nest_of (group_coded 0 G)))
+            (tree_does n region G' t (nest_of (group_coded 0 G')))
+        tree_alike n e =
+            let code = coded in
+            subst (λ o. Steps n (tree_does n region G s o)
+            (tree_does n region G' t (nest_of (group_coded 0 G')))) (sym code.is)
+            (subst (λ o. Steps n (tree_does n region G s (Some code.tree)) (tree_does n region G' t o))
+            (sym (tree_is cell_of G code.tree code.is))
+            (subst (λ totals. Steps n (tree_does n region G s (Some code.tree))
+            (all_awaiting totals (units_do n (group_words G')
+            (units_of (nest_contracted cell_of code.tree)) (start_columns region G') t)))
+            (sym (totals_same cell_of G))
+            (subst (λ words. Steps n (tree_does n region G s (Some code.tree))
+            (all_awaiting (group_totals G) (units_do n words
+            (units_of (nest_contracted cell_of code.tree)) (start_columns region G') t)))
+            (sym (group_words_are cell_of G))
+            (subst (λ us. Steps n (tree_does n region G s (Some code.tree))
+            (all_awaiting (group_totals G)
+            (units_do n (map (map (word_contracted cell_of)) (group_words G)) us
+            (start_columns region G') t)))
+            (sym (units_contracted cell_of code.tree))
+            (awaited_alike n (group_totals G)
+            (units_do n (group_words G) (units_of code.tree) (start_columns region G) s)
+            (units_do n (map (map (word_contracted cell_of)) (group_words G))
+            (map (nest_contracted cell_of) (units_of code.tree)) (start_columns region G') t)
+            (units_do_alike n code e))))))
+
+        by_stands : (n : ℕ) (b : Bool) → loop_stands tables s region G ≡ b
+            → Steps n (if b then tree_does n region G s (nest_of (group_coded 0 G)) else Stops Wrong)
+            (looped new n G' t (Some region))
+        by_stands n false e = WasWrong
+        by_stands n true e =
+            subst (λ b. Steps n (tree_does n region G s (nest_of (group_coded 0 G)))
+            (if b then tree_does n region G' t (nest_of (group_coded 0 G')) else Stops Wrong))
+            (sym (stands region e)) (tree_alike n e)
+
+        looped_alike : (n : ℕ) → Steps n (looped tables n G s (Some region))
+            (looped new n G' t (Some region))
+        looped_alike n = by_stands n (loop_stands tables s region G) refl
+
+      -- ---- the row
+      pub data EffectsAlike : Effect Whole → Effect Whole → Type 0 where
+        Wrongly : {effect : Effect Whole} → EffectsAlike (Does (Stops Wrong)) effect
+        Stopping : {stop : Stop}
+            → EffectsAlike (Does (Stops stop)) (Does (Stops stop))
+        Going : {bytes : List ℕ} {a b : Whole} → AreStates cell_of tables new a b
+            → EffectsAlike (Does (Goes bytes a)) (Does (Goes bytes b))
+
+      by_region : (n slot : ℕ) (found : Option Region) → slice_get s.slots slot ≡ found
+          → EffectsAlike (Does (looped tables n G s found)) (Does (looped new n G' t found))
+      by_region n slot None here = Wrongly
+      by_region n slot (Some region) here =
+          by (looped tables n G s (Some region)) (looped new n G' t (Some region))
+          (looped_alike slot region here n)
+        where
+          by : (a b : Step Whole)
+              → StepsAlike cell_of old more (group_words G) IsPut tables new apart above n
+              (members region) (members_apart region) a b
+              → EffectsAlike (Does a) (Does b)
+          by (Stops stop) b WasWrong = Wrongly
+          by (Goes bytes a) (Stops other) steps = elim steps [ ]
+          by (Stops stop) (Stops other) BothStop = Stopping
+          by (Goes bytes a) (Goes others b) (BothGo states) = Going states
+
+      by_settled : (n slot : ℕ) (b : Bool) → EffectsAlike
+          (if b then Does (looped tables n G s (slice_get s.slots slot)) else Does (Stops Wrong))
+          (if b then Does (looped new n G' t (slice_get s.slots slot)) else Does (Stops Wrong))
+      by_settled n slot true = by_region n slot (slice_get s.slots slot) refl
+      by_settled n slot false = Wrongly
+
+      pub loops_alike : (n slot : ℕ)
+          → EffectsAlike (act tables n (Loop slot G) s) (act new n (Loop slot G') t)
+      loops_alike n slot =
+          subst (λ b. EffectsAlike (act tables n (Loop slot G) s)
+          (if b then Does (looped new n G' t (slice_get t.slots slot)) else Does (Stops Wrong)))
+          (settled_same (row_scalars (Loop slot G))
+          ∙ ap (list_all (is_settled t)) (sym (row_scalars_same cell_of slot G)))
+          (subst (λ found. EffectsAlike (act tables n (Loop slot G) s)
+          (if are_settled s (Loop slot G) then Does (looped new n G' t found) else Does (Stops Wrong)))
+          (agree (thing.Slot slot) tt).1 (by_settled n slot (are_settled s (Loop slot G))))
