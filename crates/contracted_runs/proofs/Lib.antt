@@ -1,5 +1,6 @@
 pub mod FineLemmas
 pub mod InlineLemmas
+pub mod KeptLemmas
 pub mod LoopLemmas
 pub mod PointLemmas
 pub mod ShortLemmas

@@ -1,0 +1,361 @@
+-- A program whose arrays become cells shows what it showed before.
+use Rattle.std.proofs.Common.{◌≡◌, refl, sym, ◌∙◌, ap, subst, arith, ℕ, zero, suc, ◌+◌, ◌-◌, ◌<◌, ◌≤◌}
+use Rattle.std.proofs.Common.{Bool, true, false, true≢false, List, [], ◌∷◌, ◌++◌, length, map, All, Any}
+use Rattle.std.proofs.Common.{Option, Some, None, ◌⊎◌, inl, inr, replicate, ℤ, pos, eqb-true}
+use Rattle.std.proofs.Common.{length-append}
+use Rattle.std.specs.Prelude.{◌&&◌, ◌||◌, ◌==◌, flat_map, if◌then◌else◌, not, slice_get}
+use Rattle.std.specs.Prelude.{slice_index_or, slice_set, ⊤}
+use Rattle.std.specs.Option.{IfSome, IsSomeAnd, option_map}
+use Rattle.std.specs.List.{AllByRecursion, filter_map, list_any}
+use Rattle.std.proofs.lemmas.Int.{ints}
+use Rattle.std.proofs.lemmas.List.Elements.{All-cons, All-from_recursion, All-head, All-nil, All-tail}
+use Rattle.std.proofs.lemmas.List.Elements.{recursion_from_All}
+use Rattle.zpl_region.specs.declared.dims.Dim.{Dim}
+use Rattle.zpl_region.specs.declared.dims.Dim.TheVariants as dim
+use Rattle.zpl_region.specs.declared.regions.Region.{Region}
+use Rattle.zpl_region.specs.Dim.{HasStep}
+use Rattle.zpl_region.specs.Hull.{all_from}
+use Rattle.zpl_region.specs.Region.{padding}
+use Rattle.zpl_region.proofs.ListLemmas.{Among}
+use Rattle.zpl_arrays.specs.Array.{Array}
+use Rattle.row_runs.specs.Run.{Does, Effect, Goes, Leaps, Passes, Step, Stop, Stops, Wrong, runs}
+use Rattle.row_runs.specs.Rows as like
+use Rattle.row_runs.specs.Rows.{AreEffects, AreLike, AreLikeRows, MoreRows, NoRows, OldWrong}
+use Rattle.row_runs.specs.Segments.{Keeps}
+use Rattle.row_runs.proofs.RowLemmas.{rows_keep_runs}
+use Rattle.node_form.specs.declared.arrays.ArrayDim.{ArrayDim}
+use Rattle.node_form.specs.declared.arrays.ArrayDim.TheVariants as axis
+use Rattle.node_form.specs.declared.arrays.ArrayRow.{ArrayRow}
+use Rattle.node_form.specs.declared.instructions.DimRow.{DimRow}
+use Rattle.node_form.specs.declared.instructions.DimRow.TheVariants as part
+use Rattle.node_form.specs.declared.instructions.Instr.{Instr}
+use Rattle.node_form.specs.declared.instructions.Instr.TheVariants as instr
+use Rattle.node_form.specs.declared.members.Member as number
+use Rattle.node_form.specs.declared.tables.Tables.{Tables}
+use Rattle.node_form.specs.declared.touches.Thing.{Thing}
+use Rattle.node_form.specs.declared.touches.Thing.TheVariants as thing
+use Rattle.node_form.specs.declared.words.ExprOp.{ExprOp}
+use Rattle.node_form.specs.declared.words.ExprOp.TheVariants as word
+use Rattle.node_form.specs.Control as control
+use Rattle.node_form.specs.Fits.{Fits, FitsArray, FitsAt, FitsGroup, FitsInstr, FitsMember, FitsPart}
+use Rattle.node_form.specs.Fits.{HasScalarExpr, IsRank, IsScalarWord, storage_dim, storage_of}
+use Rattle.node_form.specs.Touch.{IsNamed, IsNamedByExpr, IsNamedByPart, IsNamedByWord, IsWritten}
+use Rattle.grid_meaning.specs.Room.{zeros_at}
+use Rattle.grid_meaning.specs.Stored.{no_places}
+use Rattle.grid_meaning.proofs.RegionLemmas.{no_steps}
+use Rattle.code_parts.specs.Uses.{as_list}
+use Rattle.flat_form.specs.Act.{act, flat_run}
+use Rattle.flat_form.specs.Moves.{found, provided, roomed}
+use Rattle.flat_form.specs.Right.{each_matches, matches}
+use Rattle.flat_form.specs.Row.{Dims, Loop, Number, Plain, Row, Set, Span, Truth, Unless, Words}
+use Rattle.flat_form.specs.Row.{all_inlined, inlined, member_inlined, part_inlined, words_at}
+use Rattle.flat_form.specs.Touches.{DoSame}
+use Rattle.flat_form.specs.Touches as same
+use Rattle.flat_form.specs.Whole.{Whole, start_places, start_whole, with_store}
+use Rattle.flat_form.proofs.AgreeLemmas.{Agree, set_alike, set_store}
+use Rattle.flat_form.proofs.ChangeLemmas.{change_written}
+use Rattle.flat_form.proofs.TouchLemmas.{acts_same}
+use Rattle.flat_form.proofs.WholeLemmas.{begin_whole, stay_whole}
+use Rattle.flat_passes.proofs.SeenLemmas.{runs_seen}
+use Rattle.fuse_contract.specs.Contracting.{arrays_of_row, becomes_cell, cell_among, contracted}
+use Rattle.fuse_contract.specs.Contracting.{contracted_arrays, contracted_from, fits_a_cell}
+use Rattle.fuse_contract.specs.Contracting.{here_or_cell, is_among, is_begun, is_named_in}
+use Rattle.fuse_contract.specs.Contracting.{is_shifted_in, member_contracted, naming_group}
+use Rattle.fuse_contract.specs.Contracting.{with_cells, word_contracted}
+use Rattle.normal_runs.proofs.NameLemmas.{any_all, some_all}
+use Rattle.normal_runs.proofs.PlaceLemmas.{set_apart}
+use Rattle.normal_runs.proofs.SlotLemmas.{HasSteps, begins_with_steps, keeps_steps}
+use Rattle.contracted_runs.specs.Three.{HaveThreeDims}
+use Rattle.contracted_runs.proofs.FineLemmas.{there_is}
+use Rattle.contracted_runs.proofs.InlineLemmas.{members_are}
+use Rattle.contracted_runs.proofs.LoopLemmas.{EffectsAlike, FloodsIn, Going, HasShape, IsAlike}
+use Rattle.contracted_runs.proofs.LoopLemmas.{IsGiven, Stopping, Wrongly, loops_alike}
+use Rattle.contracted_runs.proofs.PointLemmas.{IsOther, other_array}
+use Rattle.contracted_runs.proofs.ShortLemmas.{begins_short, keeps_short}
+use Rattle.contracted_runs.proofs.StorageLemmas.{loop_same, set_storage, storage_of_array}
+use Rattle.contracted_runs.proofs.WriteLemmas.{AreStates}
+
+-- ---- tests
+and_first : (a b : Bool) → (a && b) ≡ true → a ≡ true
+and_first true b e = refl
+and_first false b e = e
+
+and_second : (a b : Bool) → (a && b) ≡ true → b ≡ true
+and_second true b e = e
+and_second false b e = absurd (true≢false (sym e))
+
+not_true : (b : Bool) → not b ≡ true → b ≡ false
+not_true true e = absurd (true≢false (sym e))
+not_true false e = refl
+
+or_first : (a b : Bool) → (a || b) ≡ false → a ≡ false
+or_first true b e = e
+or_first false b e = refl
+
+or_second : (a b : Bool) → (a || b) ≡ false → b ≡ false
+or_second true b e = absurd (true≢false e)
+or_second false b e = e
+
+among_first : (k : ℕ) (xs ys : List ℕ) → is_among k (xs ++ ys) ≡ false → is_among k xs ≡ false
+among_first k [] ys e = refl
+among_first k (x ∷ xs) ys e =
+    by (x == k) (or_first (x == k) (is_among k (xs ++ ys)) e)
+    (among_first k xs ys (or_second (x == k) (is_among k (xs ++ ys)) e))
+  where
+    by : (b : Bool) → b ≡ false → is_among k xs ≡ false → (b || is_among k xs) ≡ false
+    by true e f = absurd (true≢false e)
+    by false e f = f
+
+among_second : (k : ℕ) (xs ys : List ℕ) → is_among k (xs ++ ys) ≡ false → is_among k ys ≡ false
+among_second k [] ys e = e
+among_second k (x ∷ xs) ys e = among_second k xs ys (or_second (x == k) (is_among k (xs ++ ys)) e)
+
+-- ---- shapes
+floods_match : (rows : List ArrayDim) (dims : List Dim) → each_matches rows dims ≡ true
+    → length dims ≤ length rows → FloodsIn rows dims
+floods_match rows [] e less = tt
+floods_match [] (d ∷ dims) e less = absurd (omega (arith, less))
+floods_match (axis.Star ∷ rows) (d ∷ dims) e less =
+    floods_match rows dims (and_second _ (each_matches rows dims) e) (omega (arith, less))
+floods_match (axis.Range lo hi low high ∷ rows) (dim.Flood ∷ dims) e less =
+    absurd (true≢false (sym e))
+floods_match (axis.Range lo hi low high ∷ rows) (dim.Range from to step align ∷ dims) e less =
+    floods_match rows dims e (omega (arith, less))
+
+floods_stored : (rows : List ArrayDim) → FloodsIn rows (map storage_dim rows)
+floods_stored [] = tt
+floods_stored (axis.Star ∷ rows) = floods_stored rows
+floods_stored (axis.Range lo hi low high ∷ rows) = floods_stored rows
+
+steps_stored : (rows : List ArrayDim) → AllByRecursion HasStep (map storage_dim rows)
+steps_stored [] = tt
+steps_stored (axis.Star ∷ rows) = (tt, steps_stored rows)
+steps_stored (axis.Range lo hi low high ∷ rows) = (omega (arith, ints), steps_stored rows)
+
+abbrev IsRangeDim : Dim → Type 0
+IsRangeDim (dim.Range lo hi step align) = ⊤
+IsRangeDim dim.Flood = ⊥
+
+floods_none : (rows : List ArrayDim) (dims : List Dim) → AllByRecursion IsRangeDim dims
+    → length dims ≤ length rows → FloodsIn rows dims
+floods_none rows [] all less = tt
+floods_none [] (d ∷ dims) all less = absurd (omega (arith, less))
+floods_none (axis.Star ∷ rows) (d ∷ dims) all less =
+    floods_none rows dims all.1 (omega (arith, less))
+floods_none (axis.Range lo hi low high ∷ rows) (dim.Flood ∷ dims) all less = absurd all.0
+floods_none (axis.Range lo hi low high ∷ rows) (dim.Range from to step align ∷ dims) all less =
+    floods_none rows dims all.1 (omega (arith, less))
+
+ranges : (n : ℕ) (d : Dim) → IsRangeDim d → AllByRecursion IsRangeDim (replicate n d)
+ranges zero d is = tt
+ranges (suc n) d is = (is, ranges n d is)
+
+ranges_both : (xs ys : List Dim) → AllByRecursion IsRangeDim xs → AllByRecursion IsRangeDim ys
+    → AllByRecursion IsRangeDim (xs ++ ys)
+ranges_both [] ys all more = more
+ranges_both (x ∷ xs) ys all more = (all.0, ranges_both xs ys all.1 more)
+
+long : {X : Type 0} (n : ℕ) (x : X) → length (replicate n x) ≡ n
+long zero x = refl
+long (suc n) x = ap suc (long n x)
+
+start_shape : (row : ArrayRow) → length row.dims ≡ 3 → IsRank row.rank → (b : Bool)
+    → HasShape row (start_places row b)
+start_shape row three rank true = record {
+  steps = All-from_recursion HasStep (map storage_dim row.dims) (steps_stored row.dims);
+  floods = floods_stored row.dims;
+}
+start_shape row three rank false = record {
+  steps = no_steps row.rank;
+  floods = floods_none row.dims (no_places row.rank).dims
+      (ranges_both (replicate row.rank (all_from (pos 1) (pos 0))) (replicate (3 - row.rank) padding)
+      (ranges row.rank (all_from (pos 1) (pos 0)) tt) (ranges (3 - row.rank) padding tt))
+      (omega (
+        arith,
+        three,
+        rank.1,
+        length-append (replicate row.rank (all_from (pos 1) (pos 0))) (replicate (3 - row.rank) padding),
+        long row.rank (all_from (pos 1) (pos 0)),
+        long (3 - row.rank) padding,
+      ));
+}
+
+start_shapes : (rows : List ArrayRow) → All (λ (row : ArrayRow). length row.dims ≡ 3) rows
+    → All (λ (row : ArrayRow). IsRank row.rank) rows → (k : ℕ) (row : ArrayRow) (store : Array)
+    → slice_get rows k ≡ Some row
+    → slice_get (map (λ (row : ArrayRow). zeros_at (start_places row row.stored)) rows) k ≡ Some store
+    → HasShape row store.storage
+start_shapes [] three ranks k row store e f = cc
+start_shapes (one ∷ rows) three ranks zero row store e f =
+    let is : one ≡ row = cc in
+    let made : zeros_at (start_places one one.stored) ≡ store = cc in
+    subst (λ (a : Array). HasShape row a.storage) made
+    (subst (λ (r : ArrayRow). HasShape r (start_places one one.stored)) is
+    (start_shape one (All-head (λ (row : ArrayRow). length row.dims ≡ 3) one rows three)
+    (All-head (λ (row : ArrayRow). IsRank row.rank) one rows ranks) one.stored))
+start_shapes (one ∷ rows) three ranks (suc k) row store e f =
+    start_shapes rows (All-tail (λ (row : ArrayRow). length row.dims ≡ 3) one rows three)
+    (All-tail (λ (row : ArrayRow). IsRank row.rank) one rows ranks) k row store e f
+
+at_three : (rows : List ArrayRow) → All (λ (row : ArrayRow). length row.dims ≡ 3) rows → (k : ℕ)
+    (row : ArrayRow) → slice_get rows k ≡ Some row → length row.dims ≡ 3
+at_three [] all k row e = cc
+at_three (one ∷ rows) all zero row e =
+    let is : one ≡ row = cc in
+    subst (λ (r : ArrayRow). length r.dims ≡ 3) is
+    (All-head (λ (row : ArrayRow). length row.dims ≡ 3) one rows all)
+at_three (one ∷ rows) all (suc k) row e =
+    at_three rows (All-tail (λ (row : ArrayRow). length row.dims ≡ 3) one rows all) k row e
+
+all_ranks : (rows : List ArrayRow) → All FitsArray rows
+    → All (λ (row : ArrayRow). IsRank row.rank) rows
+all_ranks [] all = All-nil (λ (row : ArrayRow). IsRank row.rank)
+all_ranks (row ∷ rows) all =
+    All-cons (λ (row : ArrayRow). IsRank row.rank) row rows
+    (All-head FitsArray row rows all).rank
+    (all_ranks rows (All-tail FitsArray row rows all))
+
+-- ---- which arrays are cells'
+cell_listed : (first : ℕ) (arrays : List ℕ) (array cell : ℕ)
+    → cell_among first arrays array ≡ Some cell → Among arrays array
+cell_listed first [] array cell e = absurd (none e)
+  where
+    none : (let n : Option ℕ = None in n) ≡ Some cell → ⊥
+    none e = cc
+cell_listed first (other ∷ arrays) array cell e =
+    by (other == array) refl e (λ e. cell_listed (first + 1) arrays array cell e)
+  where
+    by : (b : Bool) → (other == array) ≡ b
+        → (if b then Some first else cell_among (first + 1) arrays array) ≡ Some cell
+        → (cell_among (first + 1) arrays array ≡ Some cell → Among arrays array)
+        → Among (other ∷ arrays) array
+    by true is e more = inl (eqb-true other array is)
+    by false is e more = inr (more e)
+
+module _ (tables : Tables) where
+  listed_becomes : (from count array : ℕ) → Among (contracted_from tables from count) array
+      → becomes_cell tables array ≡ true
+  listed_becomes from zero array k = absurd k
+  listed_becomes from (suc count) array k =
+      by (becomes_cell tables from) refl k (listed_becomes (from + 1) count array)
+    where
+      by : (b : Bool) → becomes_cell tables from ≡ b
+          → Among ((if b then from ∷ [] else []) ++ contracted_from tables (from + 1) count) array
+          → (Among (contracted_from tables (from + 1) count) array
+          → becomes_cell tables array ≡ true)
+          → becomes_cell tables array ≡ true
+      by true is (inl here) more = ap (becomes_cell tables) (sym here) ∙ is
+      by true is (inr later) more = more later
+      by false is later more = more later
+
+  abbrev cell_of : ℕ → Option ℕ
+  cell_of = cell_among tables.cells (contracted_arrays tables)
+
+  becomes : (array cell : ℕ) → cell_of array ≡ Some cell → becomes_cell tables array ≡ true
+  becomes array cell is =
+      listed_becomes 0 (length tables.arrays) array
+      (cell_listed tables.cells (contracted_arrays tables) array cell is)
+
+  -- ---- the groups
+  abbrev GroupGiven : ℕ → List number.Member → Type 0
+  GroupGiven array group =
+      (list_any (is_named_in tables array) group ≡ false)
+      ⊎ ((is_shifted_in tables array group ≡ false) × (is_begun tables array 0 group ≡ true))
+
+  none_named : (array : ℕ) (groups : List (List number.Member))
+      → flat_map (naming_group tables array) groups ≡ []
+      → AllByRecursion (GroupGiven array) groups
+  none_named array [] e = tt
+  none_named array (group ∷ groups) e =
+      by (list_any (is_named_in tables array) group) refl e (none_named array groups)
+    where
+      by : (b : Bool) → list_any (is_named_in tables array) group ≡ b
+          → (if b then group ∷ [] else []) ++ flat_map (naming_group tables array) groups ≡ []
+          → (flat_map (naming_group tables array) groups ≡ []
+          → AllByRecursion (GroupGiven array) groups)
+          → AllByRecursion (GroupGiven array) (group ∷ groups)
+      by true is e more = cc
+      by false is e more = (inl is, more e)
+
+  one_named : (array : ℕ) (groups : List (List number.Member))
+      → fits_a_cell tables array (flat_map (naming_group tables array) groups) ≡ true
+      → AllByRecursion (GroupGiven array) groups
+  one_named array [] e = tt
+  one_named array (group ∷ groups) e =
+      by (list_any (is_named_in tables array) group) refl e (one_named array groups)
+    where
+      alone : (others : List (List number.Member))
+          → flat_map (naming_group tables array) groups ≡ others
+          → fits_a_cell tables array (group ∷ others) ≡ true
+          → AllByRecursion (GroupGiven array) (group ∷ groups)
+      alone [] is e = (
+        inr (not_true (is_shifted_in tables array group)
+            (and_first (not (is_shifted_in tables array group)) (is_begun tables array 0 group) e),
+            and_second (not (is_shifted_in tables array group)) (is_begun tables array 0 group) e),
+        none_named array groups is,
+      )
+      alone (other ∷ others) is e = absurd (true≢false (sym e))
+
+      by : (b : Bool) → list_any (is_named_in tables array) group ≡ b
+          → fits_a_cell tables array ((if b then group ∷ [] else [])
+          ++ flat_map (naming_group tables array) groups) ≡ true
+          → (fits_a_cell tables array (flat_map (naming_group tables array) groups) ≡ true
+          → AllByRecursion (GroupGiven array) groups)
+          → AllByRecursion (GroupGiven array) (group ∷ groups)
+      by true is e more = alone (flat_map (naming_group tables array) groups) refl e
+      by false is e more = (inl is, more e)
+
+  group_at : (P : List number.Member → Type 0) (groups : List (List number.Member)) (k : ℕ)
+      (group : List number.Member) → AllByRecursion P groups → slice_get groups k ≡ Some group
+      → P group
+  group_at P [] k group all e = cc
+  group_at P (one ∷ groups) zero group all e = let is : one ≡ group = cc in subst P is all.0
+  group_at P (one ∷ groups) (suc k) group all e = group_at P groups k group all.1 e
+
+  module _ (fits : Fits tables) where
+    given_at : (k : ℕ) (group : List number.Member) → slice_get tables.groups k ≡ Some group
+        → IsGiven tables (contracted_arrays tables) group
+    given_at k group e = record {
+      fits = group_at (FitsGroup tables) tables.groups k group
+          (recursion_from_All (FitsGroup tables) tables.groups fits.groups) e;
+      cells = λ array cell is.
+          group_at (GroupGiven array) tables.groups k group
+          (one_named array tables.groups
+          (and_second (not (is_among array (flat_map arrays_of_row tables.code)))
+          (fits_a_cell tables array (flat_map (naming_group tables array) tables.groups))
+          (becomes array cell is))) e;
+    }
+
+    -- ---- the rows
+    pub record IsOfCode (row : Instr) : Type 0 where
+      pub row_fits : FitsInstr tables row
+      pub unnamed : (array cell : ℕ) → cell_of array ≡ Some cell
+          → is_among array (arrays_of_row row) ≡ false
+
+    each_unnamed : (array : ℕ) (rows : List Instr)
+        → is_among array (flat_map arrays_of_row rows) ≡ false
+        → AllByRecursion (λ row. is_among array (arrays_of_row row) ≡ false) rows
+    each_unnamed array [] e = tt
+    each_unnamed array (row ∷ rows) e = (
+      among_first array (arrays_of_row row) (flat_map arrays_of_row rows) e,
+      each_unnamed array rows (among_second array (arrays_of_row row) (flat_map arrays_of_row rows) e),
+    )
+
+    all_of_code : (rows : List Instr) → AllByRecursion (FitsInstr tables) rows
+        → ((array cell : ℕ) → cell_of array ≡ Some cell
+        → AllByRecursion (λ row. is_among array (arrays_of_row row) ≡ false) rows)
+        → AllByRecursion IsOfCode rows
+    all_of_code [] fit each = tt
+    all_of_code (row ∷ rows) fit each = (
+      record { row_fits = fit.0; unnamed = λ array cell is. (each array cell is).0 },
+      all_of_code rows fit.1 (λ array cell is. (each array cell is).1),
+    )
+
+    code_is : AllByRecursion IsOfCode tables.code
+    code_is =
+        all_of_code tables.code (recursion_from_All (FitsInstr tables) tables.code fits.code)
+        (λ array cell is. each_unnamed array tables.code
+        (not_true (is_among array (flat_map arrays_of_row tables.code))
+        (and_first (not (is_among array (flat_map arrays_of_row tables.code)))
+        (fits_a_cell tables array (flat_map (naming_group tables array) tables.groups))
+        (becomes array cell is))))
