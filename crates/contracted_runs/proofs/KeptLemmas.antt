@@ -71,6 +71,7 @@ use Rattle.contracted_runs.proofs.InlineLemmas.{members_are}
 use Rattle.contracted_runs.proofs.LoopLemmas.{EffectsAlike, FloodsIn, Going, HasShape, IsAlike}
 use Rattle.contracted_runs.proofs.LoopLemmas.{IsGiven, Stopping, Wrongly, loops_alike}
 use Rattle.contracted_runs.proofs.PointLemmas.{IsOther, other_array}
+use Rattle.contracted_runs.proofs.RowLemmas.{IsOrdinary, named_among, row_same, written_among}
 use Rattle.contracted_runs.proofs.ShortLemmas.{begins_short, keeps_short}
 use Rattle.contracted_runs.proofs.StorageLemmas.{loop_same, set_storage, storage_of_array}
 use Rattle.contracted_runs.proofs.WriteLemmas.{AreStates}
@@ -359,3 +360,178 @@ module _ (tables : Tables) where
         (and_first (not (is_among array (flat_map arrays_of_row tables.code)))
         (fits_a_cell tables array (flat_map (naming_group tables array) tables.groups))
         (becomes array cell is))))
+
+    module _ (three : HaveThreeDims tables) (n : ℕ) where
+      abbrev new : Tables
+      new = with_cells tables (contracted_arrays tables)
+
+      abbrev Alike : Whole → Whole → Type 0
+      Alike = IsAlike tables (contracted_arrays tables)
+
+      abbrev States : Whole → Whole → Type 0
+      States = AreStates cell_of tables new
+
+      abbrev does : Instr → Whole → Effect Whole
+      does row whole = act tables n (inlined tables row) whole
+
+      abbrev new_does : Instr → Whole → Effect Whole
+      new_does row whole = act new n (inlined new row) whole
+
+      abbrev ShapesOf : Whole → Type 0
+      ShapesOf s =
+          (array cell : ℕ) → cell_of array ≡ Some cell → (row : ArrayRow) (store : Array)
+          → slice_get tables.arrays array ≡ Some row → slice_get s.stores array ≡ Some store
+          → HasShape row store.storage
+
+      data Alikes : Effect Whole → Effect Whole → Type 0 where
+        WasWrong : {effect : Effect Whole} → Alikes (Does (Stops Wrong)) effect
+        BothStop : {stop : Stop} → Alikes (Does (Stops stop)) (Does (Stops stop))
+        BothGo : {bytes : List ℕ} {a b : Whole} → States a b
+            → Alikes (Does (Goes bytes a)) (Does (Goes bytes b))
+        BothLeap : {goal : ℕ} → Alikes (Leaps goal) (Leaps goal)
+        BothPass : Alikes Passes Passes
+
+      -- what is left to say of a row
+      finish : (row : Instr) → FitsInstr tables row → (s t : Whole) → Alike s t
+          → (e f : Effect Whole) → does row s ≡ e → Alikes e f
+          → ((bytes : List ℕ) (next : Whole) → does row s ≡ Does (Goes bytes next) → ShapesOf next)
+          → AreEffects Alike e f
+      finish row fit s t alike e f is WasWrong shapes = OldWrong
+      finish row fit s t alike e f is BothStop shapes = like.BothStop
+      finish row fit s t alike e f is (BothGo {bytes = bytes} {a = a} {b = b} states) shapes =
+          like.BothGo (record {
+            states = states;
+            slots = keeps_steps tables n row fit s a bytes is alike.slots;
+            short = (keeps_short tables fits.slots n row fit s a bytes is
+                (record { short = alike.short })).short;
+            whole = stay_whole tables n row s a bytes alike.whole is;
+            shapes = shapes bytes a is;
+          })
+      finish row fit s t alike e f is BothLeap shapes = like.BothLeap
+      finish row fit s t alike e f is BothPass shapes = like.BothPass
+
+      -- ---- storages stay, and so do shapes
+      shapes_by : (s next : Whole) → ShapesOf s
+          → ((array cell : ℕ) → cell_of array ≡ Some cell
+          → storage_of_array next.stores array ≡ storage_of_array s.stores array) → ShapesOf next
+      shapes_by s next shapes same array cell is row store row_is store_is =
+          by (slice_get s.stores array) refl
+          (sym (same array cell is) ∙ ap (option_map (λ (a : Array). a.storage)) store_is)
+        where
+          by : (found : Option Array) → slice_get s.stores array ≡ found
+              → option_map (λ (a : Array). a.storage) found ≡ Some store.storage
+              → HasShape row store.storage
+          by None e f = cc
+          by (Some old) e f =
+              let is_same : old.storage ≡ store.storage = cc in
+              subst (HasShape row) is_same (shapes array cell is row old row_is e)
+
+      -- ---- rows that name no array of a cell
+      other_of : (row : Instr) → IsOrdinary row → IsOfCode row → (it : Thing)
+          → IsNamed tables row it → IsOther cell_of it
+      other_of row o of (thing.Scalar k) named = tt
+      other_of row o of (thing.Slot k) named = tt
+      other_of row o of (thing.Array k) named = by (cell_of k) refl
+        where
+          by : (found : Option ℕ) → cell_of k ≡ found → found ≡ None
+          by None is = refl
+          by (Some cell) is =
+              absurd (true≢false (sym (there_is k (arrays_of_row row)
+              (named_among tables k of.row_fits.rank row o of.row_fits.fit named))
+              ∙ of.unnamed k cell is))
+
+      unwritten : (T : Tables) (row : Instr) → IsOrdinary row → IsOfCode row → (array cell : ℕ)
+          → cell_of array ≡ Some cell → IsWritten T row (thing.Array array) → ⊥
+      unwritten T row o of array cell is written =
+          true≢false (sym (there_is array (arrays_of_row row) (written_among T array row o written))
+          ∙ of.unnamed array cell is)
+
+      ordinary_by : (row : Instr) → IsOrdinary row → IsOfCode row → (s t : Whole) → Alike s t
+          → (e f : Effect Whole) → does row s ≡ e → new_does row t ≡ f
+          → DoSame (Agree tables new (IsOther cell_of)) e f → Alikes e f
+      ordinary_by row o of s t alike e f old_is new_is
+          (same.BothGo {bytes = bytes} {one = a} {two = b} agree) =
+          BothGo (record {
+            agree = agree;
+            storages = λ array cell is.
+                ap (option_map (λ (store : Array). store.storage))
+                (sym (change_written tables n row s a bytes old_is (thing.Array array)
+                (unwritten tables row o of array cell is)).1)
+                ∙ (alike.states.storages array cell is
+                ∙ ap (option_map (λ (store : Array). store.storage))
+                (change_written new n row t b bytes new_is (thing.Array array)
+                (unwritten new row o of array cell is)).1);
+          })
+      ordinary_by row o of s t alike e f old_is new_is same.BothStop = BothStop
+      ordinary_by row o of s t alike e f old_is new_is same.BothLeap = BothLeap
+      ordinary_by row o of s t alike e f old_is new_is same.BothPass = BothPass
+
+      ordinary : (row : Instr) → IsOrdinary row → IsOfCode row → (s t : Whole) → Alike s t
+          → AreEffects Alike (does row s) (new_does row t)
+      ordinary row o of s t alike =
+          finish row of.row_fits s t alike (does row s) (new_does row t) refl
+          (ordinary_by row o of s t alike (does row s) (new_does row t) refl refl
+          (subst (λ r. DoSame (Agree tables new (IsOther cell_of)) (does row s) (act new n r t))
+          (sym (row_same tables (contracted_arrays tables) of.row_fits.rank row o of.row_fits.fit))
+          (acts_same tables new (IsOther cell_of) s t alike.states.agree n row (other_of row o of))))
+          (λ bytes next goes. shapes_by s next alike.shapes
+          (λ array cell is. ap (option_map (λ (store : Array). store.storage))
+          (sym (change_written tables n row s next bytes goes (thing.Array array)
+          (unwritten tables row o of array cell is)).1)))
+
+      -- ---- stores that become the same in both
+      storages_all : (s t : Whole) → States s t → (array : ℕ)
+          → storage_of_array s.stores array ≡ storage_of_array t.stores array
+      storages_all s t states array = by (cell_of array) refl
+        where
+          by : (found : Option ℕ) → cell_of array ≡ found
+              → storage_of_array s.stores array ≡ storage_of_array t.stores array
+          by (Some cell) is = states.storages array cell is
+          by None is =
+              ap (option_map (λ (store : Array). store.storage)) (states.agree (thing.Array array) is).1
+
+      mapped_set : (stores : List Array) (k : ℕ) (store : Array)
+          → map (λ (a : Array). a.storage) (slice_set stores k store)
+          ≡ slice_set (map (λ (a : Array). a.storage) stores) k store.storage
+      mapped_set [] k store = refl
+      mapped_set (one ∷ stores) zero store = refl
+      mapped_set (one ∷ stores) (suc k) store = ap (λ rest. one.storage ∷ rest) (mapped_set stores k store)
+
+      mapped_get : (stores : List Array) (k : ℕ)
+          → storage_of_array stores k ≡ slice_get (map (λ (a : Array). a.storage) stores) k
+      mapped_get [] k = refl
+      mapped_get (one ∷ stores) zero = refl
+      mapped_get (one ∷ stores) (suc k) = mapped_get stores k
+
+      both_set : (s t : Whole) (array : ℕ) (store : Array) → States s t
+          → States (with_store s array store) (with_store t array store)
+      both_set s t array store states = record {
+        agree = by (cell_of array) refl;
+        storages = λ kept cell is.
+            mapped_get (slice_set s.stores array store) kept
+            ∙ (ap (λ rs. slice_get rs kept) (mapped_set s.stores array store)
+            ∙ (set_alike (map (λ (a : Array). a.storage) s.stores)
+            (map (λ (a : Array). a.storage) t.stores) array kept store.storage (there array) (there kept)
+            ∙ (sym (ap (λ rs. slice_get rs kept) (mapped_set t.stores array store))
+            ∙ sym (mapped_get (slice_set t.stores array store) kept))));
+      }
+        where
+          there : (k : ℕ) → slice_get (map (λ (a : Array). a.storage) s.stores) k
+              ≡ slice_get (map (λ (a : Array). a.storage) t.stores) k
+          there k = sym (mapped_get s.stores k) ∙ (storages_all s t states k ∙ mapped_get t.stores k)
+
+          beside : (cell : ℕ) → cell_of array ≡ Some cell
+              → Agree tables new (IsOther cell_of) (with_store s array store) (with_store t array store)
+          beside cell is (thing.Scalar k) q = states.agree (thing.Scalar k) q
+          beside cell is (thing.Slot k) q = states.agree (thing.Slot k) q
+          beside cell is (thing.Array k) q = (
+            (states.agree (thing.Array k) q).0,
+            set_apart s.stores array k store (other_array cell_of array k cell is q)
+                ∙ ((states.agree (thing.Array k) q).1
+                ∙ sym (set_apart t.stores array k store (other_array cell_of array k cell is q))),
+          )
+
+          by : (found : Option ℕ) → cell_of array ≡ found
+              → Agree tables new (IsOther cell_of) (with_store s array store) (with_store t array store)
+          by None is = set_store tables new (IsOther cell_of) s t array store is states.agree
+          by (Some cell) is = beside cell is

@@ -3,6 +3,7 @@ pub mod InlineLemmas
 pub mod KeptLemmas
 pub mod LoopLemmas
 pub mod PointLemmas
+pub mod RowLemmas
 pub mod ShortLemmas
 pub mod StorageLemmas
 pub mod UnitLemmas
