@@ -10,6 +10,7 @@ use Rattle.std.specs.List.{AllByRecursion, filter_map, list_any}
 use Rattle.std.proofs.lemmas.Int.{ints}
 use Rattle.std.proofs.lemmas.List.Elements.{All-cons, All-from_recursion, All-head, All-nil, All-tail}
 use Rattle.std.proofs.lemmas.List.Elements.{recursion_from_All}
+use Rattle.zpl_nums.specs.declared.ends.TrapKind.TheVariants.{OutsideStorage}
 use Rattle.zpl_region.specs.declared.dims.Dim.{Dim}
 use Rattle.zpl_region.specs.declared.dims.Dim.TheVariants as dim
 use Rattle.zpl_region.specs.declared.regions.Region.{Region}
@@ -18,6 +19,7 @@ use Rattle.zpl_region.specs.Hull.{all_from}
 use Rattle.zpl_region.specs.Region.{padding}
 use Rattle.zpl_region.proofs.ListLemmas.{Among}
 use Rattle.zpl_arrays.specs.Array.{Array}
+use Rattle.zpl_arrays.specs.Reference.{is_reference}
 use Rattle.row_runs.specs.Run.{Does, Effect, Goes, Leaps, Passes, Step, Stop, Stops, Wrong, runs}
 use Rattle.row_runs.specs.Rows as like
 use Rattle.row_runs.specs.Rows.{AreEffects, AreLike, AreLikeRows, MoreRows, NoRows, OldWrong}
@@ -44,14 +46,14 @@ use Rattle.grid_meaning.specs.Room.{zeros_at}
 use Rattle.grid_meaning.specs.Stored.{no_places}
 use Rattle.grid_meaning.proofs.RegionLemmas.{no_steps}
 use Rattle.code_parts.specs.Uses.{as_list}
-use Rattle.flat_form.specs.Act.{act, flat_run}
+use Rattle.flat_form.specs.Act.{act, controlled, flat_run}
 use Rattle.flat_form.specs.Moves.{found, provided, roomed}
 use Rattle.flat_form.specs.Right.{each_matches, matches}
 use Rattle.flat_form.specs.Row.{Dims, Loop, Number, Plain, Row, Set, Span, Truth, Unless, Words}
 use Rattle.flat_form.specs.Row.{all_inlined, inlined, member_inlined, part_inlined, words_at}
 use Rattle.flat_form.specs.Touches.{DoSame}
 use Rattle.flat_form.specs.Touches as same
-use Rattle.flat_form.specs.Whole.{Whole, start_places, start_whole, with_store}
+use Rattle.flat_form.specs.Whole.{Whole, registers_of, start_places, start_whole, with_store}
 use Rattle.flat_form.proofs.AgreeLemmas.{Agree, set_alike, set_store}
 use Rattle.flat_form.proofs.ChangeLemmas.{change_written}
 use Rattle.flat_form.proofs.TouchLemmas.{acts_same}
@@ -535,3 +537,259 @@ module _ (tables : Tables) where
               → Agree tables new (IsOther cell_of) (with_store s array store) (with_store t array store)
           by None is = set_store tables new (IsOther cell_of) s t array store is states.agree
           by (Some cell) is = beside cell is
+
+      -- ---- rows that name an array beside its group
+      data Shaped : Effect Whole → Effect Whole → Type 0 where
+        ShapedWrong : {effect : Effect Whole} → Shaped (Does (Stops Wrong)) effect
+        ShapedStop : {stop : Stop} → Shaped (Does (Stops stop)) (Does (Stops stop))
+        ShapedGo : {bytes : List ℕ} {a b : Whole} → States a b → ShapesOf a
+            → Shaped (Does (Goes bytes a)) (Does (Goes bytes b))
+
+      finish_shaped : (row : Instr) → FitsInstr tables row → (s t : Whole) → Alike s t
+          → (e f : Effect Whole) → does row s ≡ e → Shaped e f → AreEffects Alike e f
+      finish_shaped row fit s t alike e f is ShapedWrong = OldWrong
+      finish_shaped row fit s t alike e f is ShapedStop = like.BothStop
+      finish_shaped row fit s t alike e f is (ShapedGo {bytes = bytes} {a = a} {b = b} states shapes) =
+          like.BothGo (record {
+            states = states;
+            slots = keeps_steps tables n row fit s a bytes is alike.slots;
+            short = (keeps_short tables fits.slots n row fit s a bytes is
+                (record { short = alike.short })).short;
+            whole = stay_whole tables n row s a bytes alike.whole is;
+            shapes = shapes;
+          })
+
+      -- ---- `room`
+      set_either : {X : Type 0} (xs : List X) (i j : ℕ) (v w : X)
+          → slice_get (slice_set xs i v) j ≡ Some w
+          → ((i ≡ j) × (v ≡ w)) ⊎ (slice_get xs j ≡ Some w)
+      set_either [] i j v w e = inr e
+      set_either (x ∷ xs) zero zero v w e = inl (refl, some e)
+        where
+          some : Some v ≡ Some w → v ≡ w
+          some e = cc
+      set_either (x ∷ xs) zero (suc j) v w e = inr e
+      set_either (x ∷ xs) (suc i) zero v w e = inr e
+      set_either (x ∷ xs) (suc i) (suc j) v w e = more (set_either xs i j v w e)
+        where
+          more : ((i ≡ j) × (v ≡ w)) ⊎ (slice_get xs j ≡ Some w)
+              → ((suc i ≡ suc j) × (v ≡ w)) ⊎ (slice_get xs j ≡ Some w)
+          more (inl both) = inl (ap suc both.0, both.1)
+          more (inr there) = inr there
+
+      room_shapes : (s t : Whole) → Alike s t → (array slot : ℕ) (row : ArrayRow) (region : Region)
+          → slice_get tables.arrays array ≡ Some row → slice_get s.slots slot ≡ Some region
+          → matches row region ≡ true → ShapesOf (with_store s array (zeros_at region))
+      room_shapes s t alike array slot row region row_is region_is fine kept cell is other store other_is
+          store_is =
+          by (set_either s.stores array kept (zeros_at region) store store_is)
+        where
+          some_is : {X : Type 0} {x y : X} → Some x ≡ Some y → x ≡ y
+          some_is e = cc
+
+          by : ((array ≡ kept) × (zeros_at region ≡ store)) ⊎ (slice_get s.stores kept ≡ Some store)
+              → HasShape other store.storage
+          by (inl both) =
+              let same_row : row ≡ other =
+              some_is (sym row_is ∙ (ap (slice_get tables.arrays) both.0 ∙ other_is)) in
+              subst (λ (a : Array). HasShape other a.storage) both.1
+              (subst (λ (r : ArrayRow). HasShape r region) same_row
+              (record {
+                steps = alike.slots.steps slot region region_is;
+                floods = floods_match row.dims region.dims fine
+                    (omega (
+                      arith,
+                      alike.short slot region region_is,
+                      at_three tables.arrays three array row row_is,
+                    ));
+              }))
+          by (inr there) = alike.shapes kept cell is other store other_is there
+
+      room_by : (s t : Whole) → Alike s t → (array slot : ℕ)
+          → (o : Option ArrayRow) → slice_get tables.arrays array ≡ o
+          → (p : Option Region) → slice_get s.slots slot ≡ p
+          → Shaped (Does (found o (λ row. found p (λ region. roomed tables s array region row))))
+          (Does (found o (λ row. found p (λ region. roomed new t array region row))))
+      room_by s t alike array slot None row_is p region_is = ShapedWrong
+      room_by s t alike array slot (Some row) row_is None region_is = ShapedWrong
+      room_by s t alike array slot (Some row) row_is (Some region) region_is =
+          by (not row.stored && matches row region) refl
+        where
+          by : (b : Bool) → (not row.stored && matches row region) ≡ b
+              → Shaped (Does (provided b (Goes [] (with_store s array (zeros_at region)))))
+              (Does (provided b (Goes [] (with_store t array (zeros_at region)))))
+          by false e = ShapedWrong
+          by true e =
+              ShapedGo (both_set s t array (zeros_at region) alike.states)
+              (room_shapes s t alike array slot row region row_is region_is
+              (and_second (not row.stored) (matches row region) e))
+
+      room_alike : (s t : Whole) → Alike s t → (array slot : ℕ)
+          → Shaped (does (instr.Room array slot) s) (new_does (instr.Room array slot) t)
+      room_alike s t alike array slot =
+          subst (λ p. Shaped (does (instr.Room array slot) s)
+          (Does (found (slice_get tables.arrays array) (λ row. found p (λ region.
+          roomed new t array region row)))))
+          (alike.states.agree (thing.Slot slot) tt).1
+          (room_by s t alike array slot (slice_get tables.arrays array) refl (slice_get s.slots slot)
+          refl)
+
+      -- ---- `clear`
+      clear_by : (s t : Whole) → Alike s t → (array : ℕ) → (o p : Option Array)
+          → slice_get s.stores array ≡ o
+          → option_map (λ (a : Array). a.storage) o ≡ option_map (λ (a : Array). a.storage) p
+          → Shaped (Does (found o (λ store. Goes [] (with_store s array (zeros_at store.storage)))))
+          (Does (found p (λ store. Goes [] (with_store t array (zeros_at store.storage)))))
+      clear_by s t alike array None p is e = ShapedWrong
+      clear_by s t alike array (Some a) None is e = cc
+      clear_by s t alike array (Some a) (Some b) is e =
+          let storage : a.storage ≡ b.storage = cc in
+          subst (λ r. Shaped (Does (Goes [] (with_store s array (zeros_at a.storage))))
+          (Does (Goes [] (with_store t array (zeros_at r))))) storage
+          (ShapedGo (both_set s t array (zeros_at a.storage) alike.states)
+          (shapes_by s (with_store s array (zeros_at a.storage)) alike.shapes
+          (λ kept cell has. set_storage s.stores array kept a (zeros_at a.storage) is refl)))
+
+      clear_alike : (s t : Whole) → Alike s t → (array : ℕ)
+          → Shaped (does (instr.Clear array) s) (new_does (instr.Clear array) t)
+      clear_alike s t alike array =
+          clear_by s t alike array (slice_get s.stores array) (slice_get t.stores array) refl
+          (storages_all s t alike.states array)
+
+      -- ---- `need`
+      need_by : (s t : Whole) → Alike s t → (line : ℕ)
+          → (p : Option Region) (o : Option ArrayRow) (test : Region → ArrayRow → Bool)
+          → Shaped (controlled s (control.with_row p (λ region. control.with_row o (λ row.
+          control.checked (registers_of s) (test region row) OutsideStorage line))))
+          (controlled t (control.with_row p (λ region. control.with_row o (λ row.
+          control.checked (registers_of t) (test region row) OutsideStorage line))))
+      need_by s t alike line None o test = ShapedWrong
+      need_by s t alike line (Some region) None test = ShapedWrong
+      need_by s t alike line (Some region) (Some row) test = by (test region row)
+        where
+          by : (b : Bool)
+              → Shaped (controlled s (control.checked (registers_of s) b OutsideStorage line))
+              (controlled t (control.checked (registers_of t) b OutsideStorage line))
+          by true = ShapedGo alike.states alike.shapes
+          by false = ShapedStop
+
+      need_alike : (s t : Whole) → Alike s t → (slot array : ℕ) (shift : List ℤ) (line : ℕ)
+          → Shaped (does (instr.Need slot array shift line) s)
+          (new_does (instr.Need slot array shift line) t)
+      need_alike s t alike slot array shift line =
+          subst (λ p. Shaped (does (instr.Need slot array shift line) s)
+          (controlled t (control.with_row p (λ region.
+          control.with_row (slice_get tables.arrays array) (λ row.
+          control.checked (registers_of t) (is_reference shift region (storage_of row))
+          OutsideStorage line)))))
+          (alike.states.agree (thing.Slot slot) tt).1
+          (need_by s t alike line (slice_get s.slots slot) (slice_get tables.arrays array)
+          (λ region row. is_reference shift region (storage_of row)))
+
+      -- ---- a loop
+      group_in : (groups : List (List number.Member)) (k : ℕ)
+          → slice_index_or (map (map (member_contracted cell_of)) groups) k []
+          ≡ map (member_contracted cell_of) (slice_index_or groups k [])
+      group_in [] k = refl
+      group_in (group ∷ groups) zero = refl
+      group_in (group ∷ groups) (suc k) = group_in groups k
+
+      index_found : (groups : List (List number.Member)) (k : ℕ) (group : List number.Member)
+          → slice_get groups k ≡ Some group → slice_index_or groups k [] ≡ group
+      index_found [] k group e = cc
+      index_found (one ∷ groups) zero group e = let is : one ≡ group = cc in is
+      index_found (one ∷ groups) (suc k) group e = index_found groups k group e
+
+      loop_by : (slot k : ℕ) → FitsInstr tables (instr.Loop slot k)
+          → (group : List number.Member) → slice_index_or tables.groups k [] ≡ group
+          → IsGiven tables (contracted_arrays tables) group → (s t : Whole) → Alike s t
+          → AreEffects Alike (does (instr.Loop slot k) s) (new_does (instr.Loop slot k) t)
+      loop_by slot k fit group is given s t alike =
+          finish (instr.Loop slot k) fit s t alike (does (instr.Loop slot k) s)
+          (new_does (instr.Loop slot k) t) refl
+          (subst (λ e. Alikes e (new_does (instr.Loop slot k) t))
+          (ap (λ g. act tables n (Loop slot (map (member_inlined tables) g)) s) (sym is))
+          (subst (λ f. Alikes (act tables n (Loop slot (map (member_inlined tables) group)) s) f)
+          (ap (λ g. act new n (Loop slot g) t)
+          (sym (ap (map (member_inlined new)) (group_in tables.groups k
+          ∙ ap (map (member_contracted cell_of)) is)
+          ∙ members_are cell_of tables new refl group)))
+          (by (act tables n (Loop slot (map (member_inlined tables) group)) s) _
+          (loops_alike tables (contracted_arrays tables) group given s t alike n slot))))
+          (λ bytes next goes. shapes_by s next alike.shapes
+          (λ array cell has. (loop_same tables n slot
+          (map (member_inlined tables) (slice_index_or tables.groups k [])) s next bytes goes).same
+          array))
+        where
+          by : (e f : Effect Whole)
+              → EffectsAlike tables (contracted_arrays tables) group given s t alike e f → Alikes e f
+          by e f Wrongly = WasWrong
+          by e f Stopping = BothStop
+          by e f (Going states) = BothGo states
+
+      loop_alike : (slot k : ℕ) → FitsInstr tables (instr.Loop slot k) → (s t : Whole) → Alike s t
+          → AreEffects Alike (does (instr.Loop slot k) s) (new_does (instr.Loop slot k) t)
+      loop_alike slot k fit s t alike = by (slice_get tables.groups k) refl fit.fit.1
+        where
+          by : (found : Option (List number.Member)) → slice_get tables.groups k ≡ found
+              → IsSomeAnd found (All (FitsMember tables fit.rank))
+              → AreEffects Alike (does (instr.Loop slot k) s) (new_does (instr.Loop slot k) t)
+          by None e has = absurd has
+          by (Some group) e has =
+              loop_by slot k fit group (index_found tables.groups k group e) (given_at k group e) s t
+              alike
+
+      -- ---- any row
+      row_alike : (row : Instr) → IsOfCode row → (s t : Whole) → Alike s t
+          → AreEffects Alike (does row s) (new_does row t)
+      row_alike (instr.Loop slot k) of s t alike = loop_alike slot k of.row_fits s t alike
+      row_alike (instr.Room array slot) of s t alike =
+          finish_shaped (instr.Room array slot) of.row_fits s t alike (does (instr.Room array slot) s)
+          (new_does (instr.Room array slot) t) refl (room_alike s t alike array slot)
+      row_alike (instr.Clear array) of s t alike =
+          finish_shaped (instr.Clear array) of.row_fits s t alike (does (instr.Clear array) s)
+          (new_does (instr.Clear array) t) refl (clear_alike s t alike array)
+      row_alike (instr.Need slot array shift line) of s t alike =
+          finish_shaped (instr.Need slot array shift line) of.row_fits s t alike
+          (does (instr.Need slot array shift line) s) (new_does (instr.Need slot array shift line) t)
+          refl (need_alike s t alike slot array shift line)
+      row_alike (instr.Start exchange) of s t alike = OldWrong
+      row_alike (instr.Finish exchange) of s t alike = OldWrong
+      row_alike (instr.Vote group) of s t alike = OldWrong
+      row_alike (instr.TreeVote group) of s t alike = OldWrong
+      row_alike (instr.TreeFold scalar operator) of s t alike = OldWrong
+      row_alike row of s t alike = ordinary row tt of s t alike
+
+      rows_alike : (rows : List Instr) → AllByRecursion IsOfCode rows
+          → AreLikeRows does new_does Alike rows rows
+      rows_alike [] of = NoRows
+      rows_alike (row ∷ rows) of =
+          MoreRows (record { like = row_alike row of.0 }) (rows_alike rows of.1)
+
+      -- ---- the program
+      begins : Alike (start_whole tables) (start_whole new)
+      begins = record {
+        states = record { agree = by; storages = λ array cell is. refl };
+        slots = begins_with_steps tables;
+        short = (begins_short tables fits.slots).short;
+        whole = begin_whole tables;
+        shapes = λ array cell is. start_shapes tables.arrays three
+            (all_ranks tables.arrays fits.arrays) array;
+      }
+        where
+          by : Agree tables new (IsOther cell_of) (start_whole tables) (start_whole new)
+          by (thing.Scalar k) q = (refl, refl)
+          by (thing.Slot k) q = (refl, refl)
+          by (thing.Array k) q = (refl, refl)
+
+      pub runs_kept : (a : ℕ) → Keeps (flat_run tables a n) (flat_run (contracted tables) a n)
+      runs_kept a =
+          let begin = start_whole tables in
+          let old : flat_run tables a n ≡ runs does tables.code a 0 begin =
+          runs_seen (act tables n) (inlined tables) tables.code a 0 begin in
+          let after : flat_run (contracted tables) a n ≡ runs new_does tables.code a 0 begin =
+          runs_seen (act new n) (inlined new) tables.code a 0 begin in
+          subst (λ r. Keeps r (flat_run (contracted tables) a n)) (sym old)
+          (subst (λ r. Keeps (runs does tables.code a 0 begin) r) (sym after)
+          (rows_keep_runs does new_does Alike tables.code tables.code
+          (rows_alike tables.code code_is) a 0 begin begin begins))
