@@ -1,8 +1,8 @@
 -- Groups with cells in the place of arrays, seen inline.
 use Rattle.std.proofs.Common.{◌≡◌, refl, sym, ◌∙◌, ap, subst, arith, ℕ, zero, suc, ◌+◌, ◌<◌, ◌≤◌}
 use Rattle.std.proofs.Common.{Bool, true, false, true≢false, List, [], ◌∷◌, ◌++◌, length, map, Option}
-use Rattle.std.proofs.Common.{Some, None, append_assoc, inl, inr}
-use Rattle.std.specs.Prelude.{◌&&◌, flat_map, fold, max, slice_get, slice_index_or, ⊤}
+use Rattle.std.proofs.Common.{Some, None, inl, inr}
+use Rattle.std.specs.Prelude.{◌&&◌, flat_map, fold, max, slice_index_or, ⊤}
 use Rattle.std.specs.Option.{option_map}
 use Rattle.std.specs.List.{list_all}
 use Rattle.std.proofs.lemmas.List.{length-map}
@@ -18,11 +18,11 @@ use Rattle.node_form.specs.Value.{unmoved}
 use Rattle.nest_meaning.specs.Tree.{nest_of}
 use Rattle.nest_meaning.proofs.TreeLemmas.{reads_again, reads_only}
 use Rattle.zpl_region.proofs.ListLemmas.{Among}
-use Rattle.flat_form.specs.Names.{Read, Total, each_word, group_cells, group_puts, group_reads}
+use Rattle.flat_form.specs.Names.{Read, Total, each_word, group_cells, group_puts}
 use Rattle.flat_form.specs.Names.{group_totals, group_words, member_cells, member_puts, member_totals}
 use Rattle.flat_form.specs.Names.{row_scalars, word_cells, word_reads, word_scalars}
 use Rattle.flat_form.specs.Row.{Acc, Cell, CloseIf, CloseWhile, Loop, Member, OpenIf, OpenRepeat}
-use Rattle.flat_form.specs.Row.{OpenWhile, Otherwise, Put, Row, Until, Words, group_coded, mask_words}
+use Rattle.flat_form.specs.Row.{OpenWhile, Otherwise, Put, Until, Words, group_coded, mask_words}
 use Rattle.flat_form.specs.Row.{member_coded, member_inlined, member_words, numbered, words_at}
 use Rattle.fuse_contract.specs.Contracting.{here_or_cell, member_contracted, put_or_cell}
 use Rattle.fuse_contract.specs.Contracting.{word_contracted}

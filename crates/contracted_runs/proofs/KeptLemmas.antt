@@ -1,12 +1,12 @@
 -- A program whose arrays become cells shows what it showed before.
-use Rattle.std.proofs.Common.{◌≡◌, refl, sym, ◌∙◌, ap, subst, arith, ℕ, zero, suc, ◌+◌, ◌-◌, ◌<◌, ◌≤◌}
-use Rattle.std.proofs.Common.{Bool, true, false, true≢false, List, [], ◌∷◌, ◌++◌, length, map, All, Any}
+use Rattle.std.proofs.Common.{◌≡◌, refl, sym, ◌∙◌, ap, subst, arith, ℕ, zero, suc, ◌+◌, ◌-◌, ◌≤◌}
+use Rattle.std.proofs.Common.{Bool, true, false, true≢false, List, [], ◌∷◌, ◌++◌, length, map, All}
 use Rattle.std.proofs.Common.{Option, Some, None, ◌⊎◌, inl, inr, replicate, ℤ, pos, eqb-true}
 use Rattle.std.proofs.Common.{length-append}
 use Rattle.std.specs.Prelude.{◌&&◌, ◌||◌, ◌==◌, flat_map, if◌then◌else◌, not, slice_get}
 use Rattle.std.specs.Prelude.{slice_index_or, slice_set, ⊤}
-use Rattle.std.specs.Option.{IfSome, IsSomeAnd, option_map}
-use Rattle.std.specs.List.{AllByRecursion, filter_map, list_any}
+use Rattle.std.specs.Option.{IsSomeAnd, option_map}
+use Rattle.std.specs.List.{AllByRecursion, list_any}
 use Rattle.std.proofs.lemmas.Int.{ints}
 use Rattle.std.proofs.lemmas.List.Elements.{All-cons, All-from_recursion, All-head, All-nil, All-tail}
 use Rattle.std.proofs.lemmas.List.Elements.{recursion_from_All}
@@ -20,7 +20,7 @@ use Rattle.zpl_region.specs.Region.{padding}
 use Rattle.zpl_region.proofs.ListLemmas.{Among}
 use Rattle.zpl_arrays.specs.Array.{Array}
 use Rattle.zpl_arrays.specs.Reference.{is_reference}
-use Rattle.row_runs.specs.Run.{Does, Effect, Goes, Leaps, Passes, Step, Stop, Stops, Wrong, runs}
+use Rattle.row_runs.specs.Run.{Does, Effect, Goes, Leaps, Passes, Stop, Stops, Wrong, runs}
 use Rattle.row_runs.specs.Rows as like
 use Rattle.row_runs.specs.Rows.{AreEffects, AreLike, AreLikeRows, MoreRows, NoRows, OldWrong}
 use Rattle.row_runs.specs.Segments.{Keeps}
@@ -28,29 +28,24 @@ use Rattle.row_runs.proofs.RowLemmas.{rows_keep_runs}
 use Rattle.node_form.specs.declared.arrays.ArrayDim.{ArrayDim}
 use Rattle.node_form.specs.declared.arrays.ArrayDim.TheVariants as axis
 use Rattle.node_form.specs.declared.arrays.ArrayRow.{ArrayRow}
-use Rattle.node_form.specs.declared.instructions.DimRow.{DimRow}
-use Rattle.node_form.specs.declared.instructions.DimRow.TheVariants as part
 use Rattle.node_form.specs.declared.instructions.Instr.{Instr}
 use Rattle.node_form.specs.declared.instructions.Instr.TheVariants as instr
 use Rattle.node_form.specs.declared.members.Member as number
 use Rattle.node_form.specs.declared.tables.Tables.{Tables}
 use Rattle.node_form.specs.declared.touches.Thing.{Thing}
 use Rattle.node_form.specs.declared.touches.Thing.TheVariants as thing
-use Rattle.node_form.specs.declared.words.ExprOp.{ExprOp}
-use Rattle.node_form.specs.declared.words.ExprOp.TheVariants as word
 use Rattle.node_form.specs.Control as control
-use Rattle.node_form.specs.Fits.{Fits, FitsArray, FitsAt, FitsGroup, FitsInstr, FitsMember, FitsPart}
-use Rattle.node_form.specs.Fits.{HasScalarExpr, IsRank, IsScalarWord, storage_dim, storage_of}
-use Rattle.node_form.specs.Touch.{IsNamed, IsNamedByExpr, IsNamedByPart, IsNamedByWord, IsWritten}
+use Rattle.node_form.specs.Fits.{Fits, FitsArray, FitsGroup, FitsInstr, FitsMember}
+use Rattle.node_form.specs.Fits.{IsRank, storage_dim, storage_of}
+use Rattle.node_form.specs.Touch.{IsNamed, IsWritten}
 use Rattle.grid_meaning.specs.Room.{zeros_at}
 use Rattle.grid_meaning.specs.Stored.{no_places}
 use Rattle.grid_meaning.proofs.RegionLemmas.{no_steps}
-use Rattle.code_parts.specs.Uses.{as_list}
 use Rattle.flat_form.specs.Act.{act, controlled, flat_run}
 use Rattle.flat_form.specs.Moves.{found, provided, roomed}
 use Rattle.flat_form.specs.Right.{each_matches, matches}
-use Rattle.flat_form.specs.Row.{Dims, Loop, Number, Plain, Row, Set, Span, Truth, Unless, Words}
-use Rattle.flat_form.specs.Row.{all_inlined, inlined, member_inlined, part_inlined, words_at}
+use Rattle.flat_form.specs.Row.{Loop}
+use Rattle.flat_form.specs.Row.{inlined, member_inlined}
 use Rattle.flat_form.specs.Touches.{DoSame}
 use Rattle.flat_form.specs.Touches as same
 use Rattle.flat_form.specs.Whole.{Whole, registers_of, start_places, start_whole, with_store}
@@ -61,12 +56,11 @@ use Rattle.flat_form.proofs.WholeLemmas.{begin_whole, stay_whole}
 use Rattle.flat_passes.proofs.SeenLemmas.{runs_seen}
 use Rattle.fuse_contract.specs.Contracting.{arrays_of_row, becomes_cell, cell_among, contracted}
 use Rattle.fuse_contract.specs.Contracting.{contracted_arrays, contracted_from, fits_a_cell}
-use Rattle.fuse_contract.specs.Contracting.{here_or_cell, is_among, is_begun, is_named_in}
+use Rattle.fuse_contract.specs.Contracting.{is_among, is_begun, is_named_in}
 use Rattle.fuse_contract.specs.Contracting.{is_shifted_in, member_contracted, naming_group}
-use Rattle.fuse_contract.specs.Contracting.{with_cells, word_contracted}
-use Rattle.normal_runs.proofs.NameLemmas.{any_all, some_all}
+use Rattle.fuse_contract.specs.Contracting.{with_cells}
 use Rattle.normal_runs.proofs.PlaceLemmas.{set_apart}
-use Rattle.normal_runs.proofs.SlotLemmas.{HasSteps, begins_with_steps, keeps_steps}
+use Rattle.normal_runs.proofs.SlotLemmas.{begins_with_steps, keeps_steps}
 use Rattle.contracted_runs.specs.Three.{HaveThreeDims}
 use Rattle.contracted_runs.proofs.FineLemmas.{there_is}
 use Rattle.contracted_runs.proofs.InlineLemmas.{members_are}
@@ -292,9 +286,11 @@ module _ (tables : Tables) where
           → fits_a_cell tables array (group ∷ others) ≡ true
           → AllByRecursion (GroupGiven array) (group ∷ groups)
       alone [] is e = (
-        inr (not_true (is_shifted_in tables array group)
-            (and_first (not (is_shifted_in tables array group)) (is_begun tables array 0 group) e),
-            and_second (not (is_shifted_in tables array group)) (is_begun tables array 0 group) e),
+        inr (
+          not_true (is_shifted_in tables array group)
+              (and_first (not (is_shifted_in tables array group)) (is_begun tables array 0 group) e),
+          and_second (not (is_shifted_in tables array group)) (is_begun tables array 0 group) e,
+        ),
         none_named array groups is,
       )
       alone (other ∷ others) is e = absurd (true≢false (sym e))

@@ -1,3 +1,4 @@
+mod Examples
 pub mod FineLemmas
 pub mod InlineLemmas
 pub mod KeptLemmas

@@ -3,7 +3,7 @@ use Rattle.std.proofs.Common.{◌≡◌, refl, sym, ◌∙◌, ap, subst, arith,
 use Rattle.std.proofs.Common.{Bool, true, false, true≢false, List, [], ◌∷◌, ◌++◌, length, map, ℤ, pos}
 use Rattle.std.proofs.Common.{All, Option, Some, None, ◌⊎◌, inl, inr, replicate, eqb-true}
 use Rattle.std.specs.Prelude.{◌&&◌, ◌||◌, ◌==◌, flat_map, fold, if◌then◌else◌, is_none, not, option_and_then}
-use Rattle.std.specs.Prelude.{slice_get, slice_index_or, slice_set, ⊤}
+use Rattle.std.specs.Prelude.{slice_get, slice_index_or, ⊤}
 use Rattle.std.specs.Option.{IfSome, IsSomeAnd, option_map}
 use Rattle.std.specs.List.{AllZip, list_all, list_any}
 use Rattle.std.proofs.lemmas.List.Elements.{All-head, All-tail}
@@ -12,9 +12,9 @@ use Rattle.zpl_region.specs.declared.dims.Dim.{Dim}
 use Rattle.zpl_region.specs.declared.dims.Dim.TheVariants as dim
 use Rattle.zpl_region.specs.declared.regions.Region.{Region}
 use Rattle.zpl_region.specs.Dim.{HasStep, IsCoordinate}
-use Rattle.zpl_region.specs.Region.{IsMember, members}
+use Rattle.zpl_region.specs.Region.{members}
 use Rattle.zpl_region.proofs.ListLemmas.{Among}
-use Rattle.zpl_arrays.specs.Array.{Array, IsArray, flattened, has_place}
+use Rattle.zpl_arrays.specs.Array.{Array, flattened, has_place}
 use Rattle.row_runs.specs.Run.{Does, Effect, Goes, Step, Stop, Stops, Wrong}
 use Rattle.row_runs.specs.Straight.{Every}
 use Rattle.node_form.specs.declared.arrays.ArrayDim.{ArrayDim}
@@ -23,30 +23,29 @@ use Rattle.node_form.specs.declared.arrays.ArrayRow.{ArrayRow}
 use Rattle.node_form.specs.declared.members.Member as number
 use Rattle.node_form.specs.declared.members.Member.TheVariants as member
 use Rattle.node_form.specs.declared.tables.Tables.{Tables}
-use Rattle.node_form.specs.declared.touches.Thing.{Thing}
 use Rattle.node_form.specs.declared.touches.Thing.TheVariants as thing
 use Rattle.node_form.specs.declared.words.ExprOp.{ExprOp}
 use Rattle.node_form.specs.declared.words.ExprOp.TheVariants as word
 use Rattle.node_form.specs.Fits.{FitsGroup, FitsMember, FitsWord, HasExpr}
-use Rattle.node_form.specs.Nest.{IsNest, Nest, members_of}
+use Rattle.node_form.specs.Nest.{Nest}
 use Rattle.node_form.specs.Value.{unmoved}
 use Rattle.grid_meaning.specs.Place.{moved_by}
 use Rattle.nest_meaning.specs.Tree.{nest_of}
 use Rattle.nest_meaning.specs.Units.{units_of}
 use Rattle.nest_meaning.proofs.TreeLemmas.{reads_again}
 use Rattle.code_parts.specs.Uses.{as_list, exprs_of, member_words as number_words, shifted_in}
-use Rattle.code_parts.specs.Uses.{arrays_in, named_by, put_by, rows_or_none, words_of}
+use Rattle.code_parts.specs.Uses.{arrays_in, named_by, put_by, words_of}
 use Rattle.flat_form.specs.Act.{act}
 use Rattle.flat_form.specs.Laws.{AreRenumbered, AreTrees, BothTrees}
 use Rattle.flat_form.specs.Loop.{Column, all_awaiting, awaiting, loop_stands, looped}
 use Rattle.flat_form.specs.Loop.{start_columns, tree_does, units_do}
-use Rattle.flat_form.specs.Names.{Read, Total, each_word, group_cells, group_puts, group_reads}
+use Rattle.flat_form.specs.Names.{Total, each_word, group_cells, group_puts, group_reads}
 use Rattle.flat_form.specs.Names.{group_totals, group_words, member_cells, member_puts}
 use Rattle.flat_form.specs.Names.{row_scalars, word_cells, word_reads, word_scalars}
 use Rattle.flat_form.specs.Right.{all_begin, are_settled, can_read, can_write, each_matches}
 use Rattle.flat_form.specs.Right.{has_places, is_settled, matches, total_begins, totals_begin}
 use Rattle.flat_form.specs.Right.{are_distinct, is_among, is_value, no_flood, writes_well}
-use Rattle.flat_form.specs.Row.{Loop, Member, Put, Row, Words, group_coded, member_inlined}
+use Rattle.flat_form.specs.Row.{Loop, Member, Words, group_coded, member_inlined}
 use Rattle.flat_form.specs.Row.{mask_words, member_words, words_at}
 use Rattle.flat_form.specs.States.{IsStoreOf, IsWhole}
 use Rattle.flat_form.specs.Whole.{Whole}
@@ -58,8 +57,8 @@ use Rattle.fuse_contract.specs.Contracting.{with_cells, word_contracted}
 use Rattle.normal_runs.proofs.PlaceLemmas.{are_members, members_apart, moved_none}
 use Rattle.normal_runs.proofs.SlotLemmas.{HasSteps}
 use Rattle.contracted_runs.proofs.FineLemmas.{ArrayGiven, ArraysGiven, MemberGiven, OwnGiven}
-use Rattle.contracted_runs.proofs.FineLemmas.{ WordGiven, among_flat}
-use Rattle.contracted_runs.proofs.FineLemmas.{among_left, among_right, group_fine, index_rows}
+use Rattle.contracted_runs.proofs.FineLemmas.{WordGiven, among_flat}
+use Rattle.contracted_runs.proofs.FineLemmas.{among_right, group_fine, index_rows}
 use Rattle.contracted_runs.proofs.FineLemmas.{there_is, units_moved}
 use Rattle.contracted_runs.proofs.InlineLemmas.{AreWithin, NoShift, group_contracted}
 use Rattle.contracted_runs.proofs.InlineLemmas.{group_words_are, less_within, own_within, put_within}
@@ -69,7 +68,7 @@ use Rattle.contracted_runs.proofs.PointLemmas.{IsOther}
 use Rattle.contracted_runs.proofs.UnitLemmas.{BothGo, BothStop, ColumnsAlike, StepsAlike, UnitsFine}
 use Rattle.contracted_runs.proofs.UnitLemmas.{WasWrong, nest_contracted, units_alike}
 use Rattle.contracted_runs.proofs.UnitLemmas.{units_contracted}
-use Rattle.contracted_runs.proofs.WriteLemmas.{AreStates, Has, IsPlaced}
+use Rattle.contracted_runs.proofs.WriteLemmas.{AreStates, Has}
 
 -- ---- shapes of arrays: a flood dimension only where the tables have one
 abbrev pub FloodsIn : List ArrayDim → List Dim → Type 0

@@ -1,7 +1,7 @@
 -- What members come to at a tuple, where cells take the place of arrays.
-use Rattle.std.proofs.Common.{◌≡◌, refl, sym, ◌∙◌, ap, subst, arith, ℕ, zero, suc, ◌+◌, ◌-◌, ◌<◌, ◌≤◌}
-use Rattle.std.proofs.Common.{Bool, true, false, true≢false, List, [], ◌∷◌, ◌++◌, length, map, ℤ}
-use Rattle.std.proofs.Common.{Option, Some, None, ◌⊎◌, inl, inr, eqb-true}
+use Rattle.std.proofs.Common.{◌≡◌, refl, sym, ◌∙◌, ap, arith, ℕ, zero, suc, ◌<◌, ◌≤◌}
+use Rattle.std.proofs.Common.{Bool, true, false, true≢false, List, [], ◌∷◌, length, map, ℤ}
+use Rattle.std.proofs.Common.{Option, Some, None, eqb-true}
 use Rattle.std.specs.Prelude.{◌==◌, if◌then◌else◌, option_and_then, slice_get, slice_index_or}
 use Rattle.std.specs.Prelude.{slice_set, ⊤}
 use Rattle.std.proofs.lemmas.Bool.Decides.{nat_tests}
@@ -12,17 +12,14 @@ use Rattle.node_form.specs.declared.touches.Thing.{Thing}
 use Rattle.node_form.specs.declared.touches.Thing.TheVariants as thing
 use Rattle.node_form.specs.declared.words.ExprOp.{ExprOp}
 use Rattle.node_form.specs.declared.words.ExprOp.TheVariants as word
-use Rattle.node_form.specs.Nest.{Nest, Nothing, Putting, Keeping, Joining, Choosing, ChoosingElse}
-use Rattle.node_form.specs.Nest.{Looping, Repeating}
 use Rattle.node_form.specs.Value.{Computed, Divides, Gives, Lacks, and_then, evaluated, only_value}
 use Rattle.node_form.specs.Value.{pushed, read, stepped, unmoved, value_of}
 use Rattle.grid_meaning.specs.Place.{held_value, moved_by, value_at}
-use Rattle.nest_meaning.specs.Alike.{AreBoth, AreLeaves, AreMasks, AreNests, AreTold, AreValues}
-use Rattle.nest_meaning.specs.Alike.{Both, BothFine, BothLost, BothNothing, BothZero, Elses, Ifs}
-use Rattle.nest_meaning.specs.Alike.{JoinLeaf, KeepLeaf, Leaves, Masks, NoMasks, PutLeaf, Repeats}
-use Rattle.nest_meaning.specs.Alike.{Whiles}
-use Rattle.nest_meaning.specs.Nested.{Told, Ways, nested, then_do, with_state, with_value}
-use Rattle.flat_form.specs.Loop.{Joins, Log, Point, Puts, Write, log_ways, logged, logging}
+use Rattle.nest_meaning.specs.Alike.{AreLeaves, AreMasks, AreValues}
+use Rattle.nest_meaning.specs.Alike.{Both}
+use Rattle.nest_meaning.specs.Alike.{JoinLeaf, KeepLeaf, Masks, NoMasks, PutLeaf}
+use Rattle.nest_meaning.specs.Nested.{Ways}
+use Rattle.flat_form.specs.Loop.{Joins, Log, Point, Puts, Write, log_ways, logged}
 use Rattle.flat_form.specs.Loop.{operands_at}
 use Rattle.flat_form.specs.Right.{is_unmoved}
 use Rattle.flat_form.specs.Row.{Words}

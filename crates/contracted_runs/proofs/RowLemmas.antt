@@ -1,8 +1,8 @@
 -- Rows that stay as they are where arrays become cells: what they name and write.
 use Rattle.std.proofs.Common.{◌≡◌, refl, sym, ◌∙◌, ap, subst, arith, ℕ, zero, suc, List, [], ◌∷◌}
 use Rattle.std.proofs.Common.{All, Any, Option, Some, None, inl, inr, map}
-use Rattle.std.specs.Prelude.{◌⊎◌, slice_get, slice_index_or}
-use Rattle.std.specs.Option.{IfSome, IsSomeAnd}
+use Rattle.std.specs.Prelude.{slice_get, slice_index_or}
+use Rattle.std.specs.Option.{IsSomeAnd}
 use Rattle.std.specs.List.{filter_map}
 use Rattle.std.proofs.lemmas.List.Elements.{All-head, All-tail}
 use Rattle.zpl_region.proofs.ListLemmas.{Among}

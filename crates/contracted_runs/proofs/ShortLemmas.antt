@@ -3,14 +3,12 @@ use Rattle.std.proofs.Common.{◌≡◌, refl, sym, ◌∙◌, subst, arith, ℕ
 use Rattle.std.proofs.Common.{ap, length, length-append, length-drop, ◌≤◌}
 use Rattle.std.proofs.Common.{Bool, true, false, List, [], ◌∷◌, map, replicate, ℤ}
 use Rattle.std.proofs.Common.{pos, All, Any, Option, Some, None, ◌⊎◌, inl, inr, take}
-use Rattle.std.specs.Prelude.{if◌then◌else◌, option_and_then, slice_get, slice_set}
+use Rattle.std.specs.Prelude.{if◌then◌else◌, slice_get, slice_set}
 use Rattle.std.specs.List.{AllByRecursion}
 use Rattle.std.specs.Option.{IsSomeAnd}
-use Rattle.std.proofs.lemmas.Int.{ints}
 use Rattle.std.proofs.lemmas.List.Elements.{recursion_from_All}
 use Rattle.zpl_nums.specs.declared.ends.End.{End}
 use Rattle.zpl_region.specs.declared.dims.Dim.{Dim}
-use Rattle.zpl_region.specs.declared.dims.Dim.TheVariants as dim
 use Rattle.zpl_region.specs.declared.regions.Region.{Region}
 use Rattle.zpl_region.specs.Hull.{all_from}
 use Rattle.zpl_region.specs.Dim.{dim_inside_of, dim_moved, dim_outside_of, dim_strided}
@@ -19,7 +17,6 @@ use Rattle.zpl_region.specs.Tests.{is_within_limit}
 use Rattle.row_runs.specs.Run.{Effect, Does, Goes, Leaps, Stops, Wrong}
 use Rattle.node_form.specs.declared.arrays.Item.{Item}
 use Rattle.node_form.specs.declared.instructions.DimRow.{DimRow}
-use Rattle.node_form.specs.declared.instructions.DimRow.TheVariants as part
 use Rattle.node_form.specs.declared.instructions.Instr.{Instr}
 use Rattle.node_form.specs.declared.instructions.Instr.TheVariants as instr
 use Rattle.node_form.specs.declared.instructions.RegionForm.{RegionForm}
@@ -34,7 +31,7 @@ use Rattle.node_form.specs.Control.{region_of, register_value, slot_dim, with_co
 use Rattle.node_form.specs.Control.{with_slot}
 use Rattle.node_form.specs.Fits.{FitsInstr, FitsRegion, IsRank}
 use Rattle.node_form.specs.Touch.{IsWritten, IsWrittenByMember}
-use Rattle.node_form.specs.Value.{Computed, Divides, Gives, Lacks, and_then, mapped, read}
+use Rattle.node_form.specs.Value.{Computed, Divides, Gives, Lacks, and_then, mapped}
 use Rattle.grid_meaning.specs.Stored.{no_places}
 use Rattle.grid_meaning.proofs.RegionLemmas.{length-each}
 use Rattle.flat_form.specs.Act.{act, control_of, controlled}

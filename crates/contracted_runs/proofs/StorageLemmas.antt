@@ -7,7 +7,7 @@ use Rattle.zpl_nums.specs.declared.folds.Fold.{Fold}
 use Rattle.zpl_nums.specs.Fold.{joined}
 use Rattle.zpl_region.specs.declared.regions.Region.{Region}
 use Rattle.zpl_arrays.specs.Array.{Array, has_place, updated}
-use Rattle.row_runs.specs.Run.{Does, Effect, Goes, Step, Stops, Wrong}
+use Rattle.row_runs.specs.Run.{Does, Goes, Step, Stops, Wrong}
 use Rattle.node_form.specs.declared.tables.Tables.{Tables}
 use Rattle.node_form.specs.Nest.{Nest}
 use Rattle.grid_meaning.specs.Place.{held_with, where_held}

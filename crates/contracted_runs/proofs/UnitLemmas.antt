@@ -1,25 +1,23 @@
 -- Units one after another, where cells take the place of arrays.
-use Rattle.std.proofs.Common.{◌≡◌, refl, sym, ◌∙◌, ap, subst, arith, ℕ, zero, suc, ◌+◌, ◌<◌, ◌≤◌}
-use Rattle.std.proofs.Common.{Bool, true, false, List, [], ◌∷◌, length, map, ℤ, Option, Some, None}
+use Rattle.std.proofs.Common.{◌≡◌, refl, sym, ◌∙◌, ap, subst, arith, ℕ, ◌<◌, ◌≤◌}
+use Rattle.std.proofs.Common.{Bool, true, false, List, [], ◌∷◌, map, ℤ, Option, Some, None}
 use Rattle.std.proofs.Common.{eqb-true, inl, inr, true≢false}
 use Rattle.std.specs.Prelude.{◌==◌, if◌then◌else◌, slice_get, slice_index_or, slice_set, ⊤}
-use Rattle.zpl_nums.specs.declared.ends.End.TheVariants.{More, Trap}
-use Rattle.zpl_nums.specs.declared.ends.TrapKind.TheVariants.{DivideByZero}
 use Rattle.zpl_region.proofs.ListLemmas.{Among}
-use Rattle.row_runs.specs.Run.{Ends, Goes, Step, Stop, Stops, Wrong}
+use Rattle.row_runs.specs.Run.{Goes, Step, Stop, Stops, Wrong}
 use Rattle.row_runs.specs.Straight.{Every}
 use Rattle.node_form.specs.declared.tables.Tables.{Tables}
 use Rattle.node_form.specs.Nest.{Nest, Nothing, Putting, Keeping, Joining, Choosing, ChoosingElse}
 use Rattle.node_form.specs.Nest.{Looping, Repeating}
 use Rattle.node_form.specs.Value.{Computed, Divides, Gives, Lacks}
-use Rattle.nest_meaning.specs.Alike.{AreMasks, AreNests, AreTold, AreValues, Both, BothFine, BothLost, BothNothing}
+use Rattle.nest_meaning.specs.Alike.{AreMasks, AreNests, AreTold, AreValues, BothFine, BothLost, BothNothing}
 use Rattle.nest_meaning.specs.Alike.{BothWant, BothZero, Elses, Ifs, Leaves, Repeats, Whiles}
 use Rattle.nest_meaning.specs.Nested.{Fine, Lost, Told, Wants, Zero, nested, then_do, with_state}
 use Rattle.nest_meaning.specs.Nested.{with_value}
 use Rattle.nest_meaning.specs.Units.{units_of}
 use Rattle.nest_meaning.proofs.AlikeLemmas.{do_as_pairs}
 use Rattle.flat_form.specs.Loop.{AllFine, AllTold, Column, Point, Puts, SomeLost, SomeWant, SomeZero}
-use Rattle.flat_form.specs.Loop.{all_told, all_written, and_fine, and_want, and_zero, both_told}
+use Rattle.flat_form.specs.Loop.{all_told, all_written, both_told}
 use Rattle.flat_form.specs.Loop.{columns_behind, from_written, log_ways, logged, logging, unit_at}
 use Rattle.flat_form.specs.Loop.{unit_does, unit_line, units_do}
 use Rattle.flat_form.specs.Row.{Words}
@@ -27,13 +25,13 @@ use Rattle.flat_form.specs.Whole.{Whole}
 use Rattle.flat_form.proofs.AgreeLemmas.{Agree}
 use Rattle.fuse_contract.specs.Contracting.{word_contracted}
 use Rattle.normal_runs.proofs.PlaceLemmas.{Apart, set_apart, set_length}
-use Rattle.contracted_runs.proofs.PointLemmas.{ArePoints, IsOther, Like, MaskFine, WordFine}
-use Rattle.contracted_runs.proofs.PointLemmas.{differ, drop_if}
+use Rattle.contracted_runs.proofs.PointLemmas.{ArePoints, IsOther, MaskFine, WordFine}
+use Rattle.contracted_runs.proofs.PointLemmas.{drop_if}
 use Rattle.contracted_runs.proofs.PointLemmas.{join_both, keep_both, masks_same, put_cell}
 use Rattle.contracted_runs.proofs.PointLemmas.{put_others, same_number, set_within, values_same}
 use Rattle.contracted_runs.proofs.PointLemmas.{without}
 use Rattle.contracted_runs.proofs.WriteLemmas.{AllAreWritten, AreLogs, AreOwn, AreStates, Has}
-use Rattle.contracted_runs.proofs.WriteLemmas.{NextStates, all_alike, all_are_written}
+use Rattle.contracted_runs.proofs.WriteLemmas.{all_alike, all_are_written}
 use Rattle.contracted_runs.proofs.WriteLemmas.{value_of_array}
 
 module _ (cell_of : ℕ → Option ℕ) where

@@ -1,7 +1,7 @@
 -- What a unit has written at all tuples: an array that is a cell's has at each tuple what was put
 -- there last, and all else is as where the cell takes its place.
-use Rattle.std.proofs.Common.{◌≡◌, refl, sym, ◌∙◌, ap, subst, arith, ℕ, zero, suc, ◌+◌, ◌<◌, Bool}
-use Rattle.std.proofs.Common.{true, false, true≢false, List, [], ◌∷◌, length, map, ℤ, Option, Some}
+use Rattle.std.proofs.Common.{◌≡◌, refl, sym, ◌∙◌, ap, subst, ℕ, Bool}
+use Rattle.std.proofs.Common.{true, false, true≢false, List, [], ◌∷◌, map, ℤ, Option, Some}
 use Rattle.std.proofs.Common.{None, eqb-true, inl, inr}
 use Rattle.std.specs.Prelude.{◌==◌, if◌then◌else◌, option_and_then, slice_get, slice_set, ⊤}
 use Rattle.std.specs.Option.{option_map}
@@ -17,11 +17,10 @@ use Rattle.node_form.specs.declared.touches.Thing.{Thing}
 use Rattle.node_form.specs.declared.touches.Thing.TheVariants as thing
 use Rattle.node_form.specs.Value.{unmoved}
 use Rattle.grid_meaning.specs.Place.{held_value, held_with, moved_by, value_at, where_held}
-use Rattle.grid_meaning.specs.Place.{with_value}
 use Rattle.flat_form.specs.Loop.{Column, Joins, Log, Point, Puts, Write, all_written, log_written}
 use Rattle.flat_form.specs.Loop.{logged, written}
 use Rattle.flat_form.specs.Whole.{Whole}
-use Rattle.flat_form.proofs.AgreeLemmas.{Agree, AlikeStates, BothStates, NoState, put_alike}
+use Rattle.flat_form.proofs.AgreeLemmas.{Agree}
 use Rattle.flat_form.proofs.AgreeLemmas.{set_scalar, set_store}
 use Rattle.normal_runs.proofs.PlaceLemmas.{Apart, moved_none, set_apart, set_there}
 use Rattle.contracted_runs.proofs.PointLemmas.{IsOther, differ, drop_if, other_array, same_number}
