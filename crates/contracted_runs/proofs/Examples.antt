@@ -59,7 +59,8 @@ squares hi = with_rows (bare hi)
     ∷ Plain (instr.Need 0 0 (pos 0 ∷ pos 0 ∷ pos 0 ∷ []) 1)
     ∷ Plain (instr.Clear 0)
     ∷ Loop 0 (put 0 (Coord 1 ∷ Coord 1 ∷ Pair op.Mul ∷ []) None 2
-    ∷ put 0 (Here 0 ∷ Const (pos 1) ∷ Pair op.Add ∷ []) (Some (Coord 1 ∷ Const (pos 2) ∷ Pair op.Lt ∷ [])) 3
+    ∷ put 0 (Here 0 ∷ Const (pos 1) ∷ Pair op.Add ∷ []) (Some (Coord 1 ∷ Const
+    (pos 2) ∷ Pair op.Lt ∷ [])) 3
     ∷ put 1 (Here 0 ∷ Const (pos 2) ∷ Pair op.Mul ∷ []) None 4 ∷ [])
     ∷ Plain (instr.Gather false 1 0) ∷ [])
 
@@ -116,7 +117,8 @@ divided : flat_run (counting (Const (pos 2) ∷ Pair op.Sub ∷ Pair op.Div ∷ 
 unfolding digits int_wrap
 divided = refl
 
-divided_in_cells : flat_run (contracted (counting (Const (pos 2) ∷ Pair op.Sub ∷ Pair op.Div ∷ []))) 1 2
+divided_in_cells : flat_run (contracted (counting (Const (pos 2) ∷ Pair op.Sub ∷ Pair op.Div ∷
+    []))) 1 2
     ≡ shown [] (Ends (Trap DivideByZero 5))
 unfolding digits int_wrap
 divided_in_cells = refl

@@ -24,7 +24,8 @@ use Rattle.flat_form.specs.Laws.{NoMasks}
 use Rattle.flat_form.specs.Row.{Words}
 use Rattle.fuse_contract.specs.Contracting.{begins_it, is_among, is_begun, is_named_in}
 use Rattle.contracted_runs.proofs.PointLemmas.{WordFine, same_number}
-use Rattle.contracted_runs.proofs.UnitLemmas.{BeginFine, ExprIsFine, MaskIsFine, NestIsFine, NoneFine}
+use Rattle.contracted_runs.proofs.UnitLemmas.{BeginFine, ExprIsFine, MaskIsFine, NestIsFine}
+use Rattle.contracted_runs.proofs.UnitLemmas.{NoneFine}
 use Rattle.contracted_runs.proofs.UnitLemmas.{OtherFine, PutIsFine, UnitsFine}
 
 -- ---- tests
@@ -115,7 +116,8 @@ module _ (cell_of : ℕ → Option ℕ) (old new : ℕ) (IsPut : ℕ → Type 0)
       FineMask begun mask × FineExpr begun expr × FinePut array
   MemberFine begun (member.Cell cell expr mask line) =
       FineMask begun mask × FineExpr begun expr × (cell < old)
-  MemberFine begun (member.Acc scalar fold expr mask line) = FineMask begun mask × FineExpr begun expr
+  MemberFine begun (member.Acc scalar fold expr mask line) = FineMask begun mask × FineExpr begun
+      expr
   MemberFine begun (member.OpenIf expr mask line) = FineMask begun mask × FineExpr begun expr
   MemberFine begun member.Otherwise = ⊤
   MemberFine begun member.CloseIf = ⊤
@@ -153,11 +155,13 @@ module _ (cell_of : ℕ → Option ℕ) (old new : ℕ) (IsPut : ℕ → Type 0)
       → FineNest begun nest × MembersFine (suc d) begun rest
   nest_fine d begun Nothing rest fine = (tt, fine)
   nest_fine d begun (Putting array expr mask line after) rest fine =
-      let first = first_fine d begun (member.Put array expr mask line) (members_of after ++ rest) fine in
+      let first = first_fine d begun (member.Put array expr mask line)
+      (members_of after ++ rest) fine in
       let more = nest_fine d begun after rest first.1 in
       ((first.0.0, first.0.1, first.0.2, more.0), more.1)
   nest_fine d begun (Keeping cell expr mask line after) rest fine =
-      let first = first_fine d begun (member.Cell cell expr mask line) (members_of after ++ rest) fine in
+      let first = first_fine d begun (member.Cell cell expr mask line)
+      (members_of after ++ rest) fine in
       let more = nest_fine d begun after rest first.1 in
       ((first.0.0, first.0.1, first.0.2, more.0), more.1)
   nest_fine d begun (Joining scalar fold expr mask line after) rest fine =
@@ -214,7 +218,8 @@ module _ (cell_of : ℕ → Option ℕ) (old new : ℕ) (IsPut : ℕ → Type 0)
       (regroup (suc (suc d)) begun (members_of body) behind rest
       (at_depth (suc d + 1) (suc (suc d)) (omega arith) begun
       ((members_of body ++ behind) ++ rest) first.1)) in
-      let close = first_fine (suc d) begun (member.Until until) (members_of after ++ rest) inner.1 in
+      let close = first_fine (suc d) begun (member.Until until)
+      (members_of after ++ rest) inner.1 in
       let more = nest_fine d begun after rest
       (at_depth (suc (suc d) - 1) (suc d) (omega arith) begun (members_of after ++ rest) close.1) in
       ((first.0, close.0, inner.0, more.0), more.1)
@@ -354,7 +359,8 @@ module _ (cell_of : ℕ → Option ℕ) (old new : ℕ) (IsPut : ℕ → Type 0)
   begins_now depth begun one members array named (inl among) = inl among
   begins_now depth begun one members array named (inr (inl never)) =
       absurd (true≢false (sym named
-      ∙ or_first (is_named_in tables array one) (list_any (is_named_in tables array) members) never))
+      ∙ or_first (is_named_in tables array one) (list_any (is_named_in tables array) members)
+      never))
   begins_now depth begun one members array named (inr (inr begins)) =
       by (when (is_named_in tables array one) (begins_it tables array depth one)
       (is_begun tables array (depth_behind depth one) members) begins)
@@ -528,7 +534,8 @@ module _ (cell_of : ℕ → Option ℕ) (old new : ℕ) (IsPut : ℕ → Type 0)
           → MembersFine zero begun (member.Put array expr None line ∷ members)
       by (Some cell) is rest =
           Begins is (own.0.own.0 cell is) own.0.own.1
-          (expr_fine zero begun (member.Put array expr None line) members expr own.0 given (inl refl))
+          (expr_fine zero begun (member.Put array expr None line) members expr own.0 given
+          (inl refl))
           (rest (array ∷ begun)
           (given_behind zero begun (array ∷ begun) (member.Put array expr None line) members
           (λ k among. inr among) (λ k other has b. inl (same_put k b)) given))
@@ -636,25 +643,32 @@ module _ (cell_of : ℕ → Option ℕ) (old new : ℕ) (IsPut : ℕ → Type 0)
         → UnitsMoved begun (units_of other)
     units_moved begun nest other BothNothing fine = NoneFine
     units_moved begun nest other (BothPut words NoMasks more) (BeginFine is below put fine rest) =
-        BeginFine is below put (expr_moved begun _ _ words fine) (units_moved (_ ∷ begun) _ _ more rest)
+        BeginFine is below put (expr_moved begun _ _ words fine) (units_moved
+        (_ ∷ begun) _ _ more rest)
     units_moved begun nest other (BothPut {line = l} words masks more) (OtherFine fine rest) =
         OtherFine (nest_moved begun _ _ (BothPut {line = l} words masks BothNothing) fine)
         (units_moved begun _ _ more rest)
     units_moved begun nest other (BothKeep {line = l} words masks more) (OtherFine fine rest) =
         OtherFine (nest_moved begun _ _ (BothKeep {line = l} words masks BothNothing) fine)
         (units_moved begun _ _ more rest)
-    units_moved begun nest other (BothJoin {scalar = k} {line = l} {operator = o} words masks more) (OtherFine fine rest) =
-        OtherFine (nest_moved begun _ _ (BothJoin {scalar = k} {line = l} {operator = o} words masks BothNothing) fine)
+    units_moved begun nest other (BothJoin {scalar = k} {line = l} {operator = o} words masks
+        more) (OtherFine fine rest) =
+        OtherFine (nest_moved begun _ _ (BothJoin {scalar = k} {line = l} {operator = o} words
+        masks BothNothing) fine)
         (units_moved begun _ _ more rest)
-    units_moved begun nest other (BothChoose {line = l} words masks body more) (OtherFine fine rest) =
+    units_moved begun nest other (BothChoose {line = l} words masks body more)
+        (OtherFine fine rest) =
         OtherFine (nest_moved begun _ _ (BothChoose {line = l} words masks body BothNothing) fine)
         (units_moved begun _ _ more rest)
-    units_moved begun nest other (BothElse {line = l} words masks body otherwise more) (OtherFine fine rest) =
-        OtherFine (nest_moved begun _ _ (BothElse {line = l} words masks body otherwise BothNothing) fine)
+    units_moved begun nest other (BothElse {line = l} words masks body otherwise more)
+        (OtherFine fine rest) =
+        OtherFine (nest_moved begun _ _ (BothElse {line = l} words masks body otherwise
+        BothNothing) fine)
         (units_moved begun _ _ more rest)
     units_moved begun nest other (BothLoop {line = l} words masks body more) (OtherFine fine rest) =
         OtherFine (nest_moved begun _ _ (BothLoop {line = l} words masks body BothNothing) fine)
         (units_moved begun _ _ more rest)
-    units_moved begun nest other (BothRepeat {line = l} words masks body more) (OtherFine fine rest) =
+    units_moved begun nest other (BothRepeat {line = l} words masks body more)
+        (OtherFine fine rest) =
         OtherFine (nest_moved begun _ _ (BothRepeat {line = l} words masks body BothNothing) fine)
         (units_moved begun _ _ more rest)

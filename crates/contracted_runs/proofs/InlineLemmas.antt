@@ -1,6 +1,7 @@
 -- Groups with cells in the place of arrays, seen inline.
 use Rattle.std.proofs.Common.{◌≡◌, refl, sym, ◌∙◌, ap, subst, arith, ℕ, zero, suc, ◌+◌, ◌<◌, ◌≤◌}
-use Rattle.std.proofs.Common.{Bool, true, false, true≢false, List, [], ◌∷◌, ◌++◌, length, map, Option}
+use Rattle.std.proofs.Common.{Bool, true, false, true≢false, List, [], ◌∷◌, ◌++◌, length, map}
+use Rattle.std.proofs.Common.{Option}
 use Rattle.std.proofs.Common.{Some, None, inl, inr}
 use Rattle.std.specs.Prelude.{◌&&◌, flat_map, fold, max, slice_index_or, ⊤}
 use Rattle.std.specs.Option.{option_map}
@@ -19,7 +20,8 @@ use Rattle.nest_meaning.specs.Tree.{nest_of}
 use Rattle.nest_meaning.proofs.TreeLemmas.{reads_again, reads_only}
 use Rattle.zpl_region.proofs.ListLemmas.{Among}
 use Rattle.flat_form.specs.Names.{Read, Total, each_word, group_cells, group_puts}
-use Rattle.flat_form.specs.Names.{group_totals, group_words, member_cells, member_puts, member_totals}
+use Rattle.flat_form.specs.Names.{group_totals, group_words, member_cells, member_puts}
+use Rattle.flat_form.specs.Names.{member_totals}
 use Rattle.flat_form.specs.Names.{row_scalars, word_cells, word_reads, word_scalars}
 use Rattle.flat_form.specs.Row.{Acc, Cell, CloseIf, CloseWhile, Loop, Member, OpenIf, OpenRepeat}
 use Rattle.flat_form.specs.Row.{OpenWhile, Otherwise, Put, Until, Words, group_coded, mask_words}
@@ -164,7 +166,8 @@ module _ (cell_of : ℕ → Option ℕ) where
       by (cell_of array) ∙ ap (λ ws. words_contracted expr ∷ ws) (mask_words_are mask)
     where
       by : (found : Option ℕ)
-          → member_words (put_inline array (words_contracted expr) (mask_contracted mask) line found)
+          → member_words (put_inline array (words_contracted expr)
+          (mask_contracted mask) line found)
           ≡ words_contracted expr ∷ mask_words (mask_contracted mask)
       by (Some cell) = refl
       by None = refl
@@ -200,7 +203,8 @@ module _ (cell_of : ℕ → Option ℕ) where
   coded_same n (Put array expr mask line) = by (cell_of array)
     where
       by : (found : Option ℕ)
-          → member_coded n (put_inline array (words_contracted expr) (mask_contracted mask) line found)
+          → member_coded n (put_inline array (words_contracted expr)
+          (mask_contracted mask) line found)
           ≡ put_or_cell cell_of array n (numbered (n + 1) mask) line found
       by (Some cell) = ap (λ m. member.Cell cell n m line) (numbered_same (n + 1) mask)
       by None = ap (λ m. member.Put array n m line) (numbered_same (n + 1) mask)
@@ -241,7 +245,8 @@ module _ (cell_of : ℕ → Option ℕ) where
       by : (found : Option ℕ)
           → members_of (nest_contracted cell_of after)
           ≡ map (member_contracted cell_of) (members_of after)
-          → members_of (put_or_keep cell_of array expr mask line found (nest_contracted cell_of after))
+          → members_of (put_or_keep cell_of array expr mask line found
+          (nest_contracted cell_of after))
           ≡ put_or_cell cell_of array expr mask line found
           ∷ map (member_contracted cell_of) (members_of after)
       by (Some cell) e = ap (λ ms. member.Cell cell expr mask line ∷ ms) e
@@ -288,14 +293,16 @@ module _ (cell_of : ℕ → Option ℕ) where
           ∙ sym (map_both (member_contracted cell_of) (members_of nest) rest))
   spelled (Looping expr mask line body after) =
       ap (λ ms. member.OpenWhile expr mask line ∷ ms)
-      (ap (λ ms. ms ++ (member.CloseWhile ∷ members_of (nest_contracted cell_of after))) (spelled body)
+      (ap (λ ms. ms ++ (member.CloseWhile ∷ members_of (nest_contracted cell_of after)))
+      (spelled body)
       ∙ (ap (λ ms. map (member_contracted cell_of) (members_of body) ++ (member.CloseWhile ∷ ms))
       (spelled after)
       ∙ sym (map_both (member_contracted cell_of) (members_of body)
       (member.CloseWhile ∷ members_of after))))
   spelled (Repeating mask line body until after) =
       ap (λ ms. member.OpenRepeat mask line ∷ ms)
-      (ap (λ ms. ms ++ (member.Until until ∷ members_of (nest_contracted cell_of after))) (spelled body)
+      (ap (λ ms. ms ++ (member.Until until ∷ members_of (nest_contracted cell_of after)))
+      (spelled body)
       ∙ (ap (λ ms. map (member_contracted cell_of) (members_of body) ++ (member.Until until ∷ ms))
       (spelled after)
       ∙ sym (map_both (member_contracted cell_of) (members_of body)
@@ -330,14 +337,16 @@ module _ (cell_of : ℕ → Option ℕ) where
       → each_word word_scalars (map words_contracted exprs) ≡ each_word word_scalars exprs
   scalars_same [] = refl
   scalars_same (words ∷ exprs) =
-      ap (λ ks. ks ++ each_word word_scalars (map words_contracted exprs)) (words_scalars_same words)
+      ap (λ ks. ks ++ each_word word_scalars (map words_contracted exprs))
+      (words_scalars_same words)
       ∙ ap (λ ks. flat_map word_scalars words ++ ks) (scalars_same exprs)
 
   total_same : (one : Member) → member_totals (inline_contracted one) ≡ member_totals one
   total_same (Put array expr mask line) = by (cell_of array)
     where
       by : (found : Option ℕ)
-          → member_totals (put_inline array (words_contracted expr) (mask_contracted mask) line found)
+          → member_totals (put_inline array (words_contracted expr)
+          (mask_contracted mask) line found)
           ≡ []
       by (Some cell) = refl
       by None = refl
@@ -372,7 +381,8 @@ module _ (cell_of : ℕ → Option ℕ) where
   NoShift row = ⊤
 
   module _ (test other : Read → Bool)
-      (kept : (read : Read) → cell_of read.array ≡ None → test read ≡ true → other read ≡ true) where
+      (kept : (read : Read) → cell_of read.array ≡ None → test read ≡ true
+      → other read ≡ true) where
     word_reads_kept : (w : ExprOp) → NoShift w → list_all test (word_reads w) ≡ true
         → list_all other (word_reads (word_contracted cell_of w)) ≡ true
     word_reads_kept (word.Here array) none e = by (cell_of array) refl
@@ -429,7 +439,8 @@ module _ (cell_of : ℕ → Option ℕ) where
         by : (found : Option ℕ) → cell_of array ≡ found → list_all other (member_puts
             (put_inline array (words_contracted expr) (mask_contracted mask) line found)) ≡ true
         by (Some cell) is = refl
-        by None is = and_both (other array) true (kept array is (and_first (test array) true e)) refl
+        by None is = and_both (other array) true (kept array is (and_first
+            (test array) true e)) refl
     put_kept (Cell cell expr mask line) e = refl
     put_kept (Acc scalar operator expr mask line) e = refl
     put_kept (OpenIf expr mask line) e = refl
@@ -470,7 +481,8 @@ fold_most : (xs : List ℕ) (n : ℕ) → Every (λ x. x ≤ fold max n xs) xs
 fold_most [] n = tt
 fold_most (x ∷ xs) n = (omega (arith, fold_above xs (max n x)), fold_most xs (max n x))
 
-fold_within : (xs : List ℕ) (n most : ℕ) → n ≤ most → Every (λ x. x ≤ most) xs → fold max n xs ≤ most
+fold_within : (xs : List ℕ) (n most : ℕ) → n ≤ most → Every (λ x. x ≤ most) xs
+    → fold max n xs ≤ most
 fold_within [] n most less all = less
 fold_within (x ∷ xs) n most less all =
     fold_within xs (max n x) most (omega (arith, less, all.0)) all.1
@@ -546,9 +558,11 @@ module _ (cell_of : ℕ → Option ℕ) (most : ℕ) where
   words_less (words ∷ exprs) all =
       let names : Words → List ℕ = λ words. flat_map (λ w. word_cells w ∷ []) words in
       every_both (λ cells. cells ≤ most) (names words) (cells_in exprs)
-      (expr_less words (every_before (λ cells. cells ≤ most) (names (words_contracted cell_of words))
+      (expr_less words (every_before (λ cells. cells ≤ most) (names
+      (words_contracted cell_of words))
       (cells_in (map (words_contracted cell_of) exprs)) all))
-      (words_less exprs (every_behind (λ cells. cells ≤ most) (names (words_contracted cell_of words))
+      (words_less exprs (every_behind (λ cells. cells ≤ most) (names
+      (words_contracted cell_of words))
       (cells_in (map (words_contracted cell_of) exprs)) all))
 
   pub less_within : (group : List Member) → AreWithin most (group_contracted cell_of group)
@@ -568,7 +582,8 @@ module _ (cell_of : ℕ → Option ℕ) (most : ℕ) where
     where
       one : member_cells (inline_contracted cell_of (Put array expr mask line)) ≤ most → cell < most
       one less =
-          let same : member_cells (inline_contracted cell_of (Put array expr mask line)) ≡ cell + 1 =
+          let same : member_cells (inline_contracted cell_of (Put array expr mask line)) ≡ cell +
+          1 =
           ap (λ found. member_cells (put_inline cell_of array (words_contracted cell_of expr)
           (mask_contracted cell_of mask) line found)) is in
           omega (arith, less, same)

@@ -8,7 +8,8 @@ use Rattle.std.specs.Prelude.{slice_index_or, slice_set, ⊤}
 use Rattle.std.specs.Option.{IsSomeAnd, option_map}
 use Rattle.std.specs.List.{AllByRecursion, list_any}
 use Rattle.std.proofs.lemmas.Int.{ints}
-use Rattle.std.proofs.lemmas.List.Elements.{All-cons, All-from_recursion, All-head, All-nil, All-tail}
+use Rattle.std.proofs.lemmas.List.Elements.{All-cons, All-from_recursion, All-head, All-nil}
+use Rattle.std.proofs.lemmas.List.Elements.{All-tail}
 use Rattle.std.proofs.lemmas.List.Elements.{recursion_from_All}
 use Rattle.zpl_nums.specs.declared.ends.TrapKind.TheVariants.{OutsideStorage}
 use Rattle.zpl_region.specs.declared.dims.Dim.{Dim}
@@ -165,13 +166,15 @@ start_shape row three rank true = record {
 start_shape row three rank false = record {
   steps = no_steps row.rank;
   floods = floods_none row.dims (no_places row.rank).dims
-      (ranges_both (replicate row.rank (all_from (pos 1) (pos 0))) (replicate (3 - row.rank) padding)
+      (ranges_both (replicate row.rank (all_from (pos 1) (pos 0))) (replicate
+      (3 - row.rank) padding)
       (ranges row.rank (all_from (pos 1) (pos 0)) tt) (ranges (3 - row.rank) padding tt))
       (omega (
         arith,
         three,
         rank.1,
-        length-append (replicate row.rank (all_from (pos 1) (pos 0))) (replicate (3 - row.rank) padding),
+        length-append (replicate row.rank (all_from (pos 1) (pos 0))) (replicate
+            (3 - row.rank) padding),
         long row.rank (all_from (pos 1) (pos 0)),
         long (3 - row.rank) padding,
       ));
@@ -180,7 +183,8 @@ start_shape row three rank false = record {
 start_shapes : (rows : List ArrayRow) → All (λ (row : ArrayRow). length row.dims ≡ 3) rows
     → All (λ (row : ArrayRow). IsRank row.rank) rows → (k : ℕ) (row : ArrayRow) (store : Array)
     → slice_get rows k ≡ Some row
-    → slice_get (map (λ (row : ArrayRow). zeros_at (start_places row row.stored)) rows) k ≡ Some store
+    → slice_get (map (λ (row : ArrayRow). zeros_at (start_places row row.stored)) rows) k ≡ Some
+    store
     → HasShape row store.storage
 start_shapes [] three ranks k row store e f = cc
 start_shapes (one ∷ rows) three ranks zero row store e f =
@@ -288,7 +292,8 @@ module _ (tables : Tables) where
       alone [] is e = (
         inr (
           not_true (is_shifted_in tables array group)
-              (and_first (not (is_shifted_in tables array group)) (is_begun tables array 0 group) e),
+              (and_first (not (is_shifted_in tables array group))
+              (is_begun tables array 0 group) e),
           and_second (not (is_shifted_in tables array group)) (is_begun tables array 0 group) e,
         ),
         none_named array groups is,
@@ -337,7 +342,8 @@ module _ (tables : Tables) where
     each_unnamed array [] e = tt
     each_unnamed array (row ∷ rows) e = (
       among_first array (arrays_of_row row) (flat_map arrays_of_row rows) e,
-      each_unnamed array rows (among_second array (arrays_of_row row) (flat_map arrays_of_row rows) e),
+      each_unnamed array rows (among_second array (arrays_of_row row)
+          (flat_map arrays_of_row rows) e),
     )
 
     all_of_code : (rows : List Instr) → AllByRecursion (FitsInstr tables) rows
@@ -471,7 +477,8 @@ module _ (tables : Tables) where
           (ordinary_by row o of s t alike (does row s) (new_does row t) refl refl
           (subst (λ r. DoSame (Agree tables new (IsOther cell_of)) (does row s) (act new n r t))
           (sym (row_same tables (contracted_arrays tables) of.row_fits.rank row o of.row_fits.fit))
-          (acts_same tables new (IsOther cell_of) s t alike.states.agree n row (other_of row o of))))
+          (acts_same tables new (IsOther cell_of) s t alike.states.agree n row
+          (other_of row o of))))
           (λ bytes next goes. shapes_by s next alike.shapes
           (λ array cell is. ap (option_map (λ (store : Array). store.storage))
           (sym (change_written tables n row s next bytes goes (thing.Array array)
@@ -486,14 +493,16 @@ module _ (tables : Tables) where
               → storage_of_array s.stores array ≡ storage_of_array t.stores array
           by (Some cell) is = states.storages array cell is
           by None is =
-              ap (option_map (λ (store : Array). store.storage)) (states.agree (thing.Array array) is).1
+              ap (option_map (λ (store : Array). store.storage)) (states.agree
+              (thing.Array array) is).1
 
       mapped_set : (stores : List Array) (k : ℕ) (store : Array)
           → map (λ (a : Array). a.storage) (slice_set stores k store)
           ≡ slice_set (map (λ (a : Array). a.storage) stores) k store.storage
       mapped_set [] k store = refl
       mapped_set (one ∷ stores) zero store = refl
-      mapped_set (one ∷ stores) (suc k) store = ap (λ rest. one.storage ∷ rest) (mapped_set stores k store)
+      mapped_set (one ∷ stores) (suc k) store = ap (λ rest. one.storage ∷ rest)
+          (mapped_set stores k store)
 
       mapped_get : (stores : List Array) (k : ℕ)
           → storage_of_array stores k ≡ slice_get (map (λ (a : Array). a.storage) stores) k
@@ -509,17 +518,20 @@ module _ (tables : Tables) where
             mapped_get (slice_set s.stores array store) kept
             ∙ (ap (λ rs. slice_get rs kept) (mapped_set s.stores array store)
             ∙ (set_alike (map (λ (a : Array). a.storage) s.stores)
-            (map (λ (a : Array). a.storage) t.stores) array kept store.storage (there array) (there kept)
+            (map (λ (a : Array). a.storage) t.stores) array kept store.storage (there array)
+            (there kept)
             ∙ (sym (ap (λ rs. slice_get rs kept) (mapped_set t.stores array store))
             ∙ sym (mapped_get (slice_set t.stores array store) kept))));
       }
         where
           there : (k : ℕ) → slice_get (map (λ (a : Array). a.storage) s.stores) k
               ≡ slice_get (map (λ (a : Array). a.storage) t.stores) k
-          there k = sym (mapped_get s.stores k) ∙ (storages_all s t states k ∙ mapped_get t.stores k)
+          there k = sym (mapped_get s.stores k) ∙ (storages_all s t states k
+              ∙ mapped_get t.stores k)
 
           beside : (cell : ℕ) → cell_of array ≡ Some cell
-              → Agree tables new (IsOther cell_of) (with_store s array store) (with_store t array store)
+              → Agree tables new (IsOther cell_of) (with_store s array store)
+              (with_store t array store)
           beside cell is (thing.Scalar k) q = states.agree (thing.Scalar k) q
           beside cell is (thing.Slot k) q = states.agree (thing.Slot k) q
           beside cell is (thing.Array k) q = (
@@ -530,7 +542,8 @@ module _ (tables : Tables) where
           )
 
           by : (found : Option ℕ) → cell_of array ≡ found
-              → Agree tables new (IsOther cell_of) (with_store s array store) (with_store t array store)
+              → Agree tables new (IsOther cell_of) (with_store s array store)
+              (with_store t array store)
           by None is = set_store tables new (IsOther cell_of) s t array store is states.agree
           by (Some cell) is = beside cell is
 
@@ -545,7 +558,8 @@ module _ (tables : Tables) where
           → (e f : Effect Whole) → does row s ≡ e → Shaped e f → AreEffects Alike e f
       finish_shaped row fit s t alike e f is ShapedWrong = OldWrong
       finish_shaped row fit s t alike e f is ShapedStop = like.BothStop
-      finish_shaped row fit s t alike e f is (ShapedGo {bytes = bytes} {a = a} {b = b} states shapes) =
+      finish_shaped row fit s t alike e f is (ShapedGo {bytes = bytes} {a = a} {b = b} states
+          shapes) =
           like.BothGo (record {
             states = states;
             slots = keeps_steps tables n row fit s a bytes is alike.slots;
@@ -576,7 +590,8 @@ module _ (tables : Tables) where
       room_shapes : (s t : Whole) → Alike s t → (array slot : ℕ) (row : ArrayRow) (region : Region)
           → slice_get tables.arrays array ≡ Some row → slice_get s.slots slot ≡ Some region
           → matches row region ≡ true → ShapesOf (with_store s array (zeros_at region))
-      room_shapes s t alike array slot row region row_is region_is fine kept cell is other store other_is
+      room_shapes s t alike array slot row region row_is region_is fine kept cell is other store
+          other_is
           store_is =
           by (set_either s.stores array kept (zeros_at region) store store_is)
         where
@@ -627,7 +642,8 @@ module _ (tables : Tables) where
           (Does (found (slice_get tables.arrays array) (λ row. found p (λ region.
           roomed new t array region row)))))
           (alike.states.agree (thing.Slot slot) tt).1
-          (room_by s t alike array slot (slice_get tables.arrays array) refl (slice_get s.slots slot)
+          (room_by s t alike array slot (slice_get tables.arrays array) refl
+          (slice_get s.slots slot)
           refl)
 
       -- ---- `clear`
@@ -718,7 +734,8 @@ module _ (tables : Tables) where
           array))
         where
           by : (e f : Effect Whole)
-              → EffectsAlike tables (contracted_arrays tables) group given s t alike e f → Alikes e f
+              → EffectsAlike tables (contracted_arrays tables) group given s t alike e f
+              → Alikes e f
           by e f Wrongly = WasWrong
           by e f Stopping = BothStop
           by e f (Going states) = BothGo states
@@ -732,7 +749,8 @@ module _ (tables : Tables) where
               → AreEffects Alike (does (instr.Loop slot k) s) (new_does (instr.Loop slot k) t)
           by None e has = absurd has
           by (Some group) e has =
-              loop_by slot k fit group (index_found tables.groups k group e) (given_at k group e) s t
+              loop_by slot k fit group (index_found tables.groups k group e)
+              (given_at k group e) s t
               alike
 
       -- ---- any row
@@ -740,14 +758,16 @@ module _ (tables : Tables) where
           → AreEffects Alike (does row s) (new_does row t)
       row_alike (instr.Loop slot k) of s t alike = loop_alike slot k of.row_fits s t alike
       row_alike (instr.Room array slot) of s t alike =
-          finish_shaped (instr.Room array slot) of.row_fits s t alike (does (instr.Room array slot) s)
+          finish_shaped (instr.Room array slot) of.row_fits s t alike (does
+          (instr.Room array slot) s)
           (new_does (instr.Room array slot) t) refl (room_alike s t alike array slot)
       row_alike (instr.Clear array) of s t alike =
           finish_shaped (instr.Clear array) of.row_fits s t alike (does (instr.Clear array) s)
           (new_does (instr.Clear array) t) refl (clear_alike s t alike array)
       row_alike (instr.Need slot array shift line) of s t alike =
           finish_shaped (instr.Need slot array shift line) of.row_fits s t alike
-          (does (instr.Need slot array shift line) s) (new_does (instr.Need slot array shift line) t)
+          (does (instr.Need slot array shift line) s) (new_does
+          (instr.Need slot array shift line) t)
           refl (need_alike s t alike slot array shift line)
       row_alike (instr.Start exchange) of s t alike = OldWrong
       row_alike (instr.Finish exchange) of s t alike = OldWrong

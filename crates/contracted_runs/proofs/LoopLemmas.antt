@@ -1,8 +1,10 @@
 -- A loop whose arrays are cells does what it did.
 use Rattle.std.proofs.Common.{◌≡◌, refl, sym, ◌∙◌, ap, subst, arith, ℕ, zero, suc, ◌+◌, ◌<◌, ◌≤◌}
-use Rattle.std.proofs.Common.{Bool, true, false, true≢false, List, [], ◌∷◌, ◌++◌, length, map, ℤ, pos}
+use Rattle.std.proofs.Common.{Bool, true, false, true≢false, List, [], ◌∷◌, ◌++◌, length, map, ℤ}
+use Rattle.std.proofs.Common.{pos}
 use Rattle.std.proofs.Common.{All, Option, Some, None, ◌⊎◌, inl, inr, replicate, eqb-true}
-use Rattle.std.specs.Prelude.{◌&&◌, ◌||◌, ◌==◌, flat_map, fold, if◌then◌else◌, is_none, not, option_and_then}
+use Rattle.std.specs.Prelude.{◌&&◌, ◌||◌, ◌==◌, flat_map, fold, if◌then◌else◌, is_none, not}
+use Rattle.std.specs.Prelude.{option_and_then}
 use Rattle.std.specs.Prelude.{slice_get, slice_index_or, ⊤}
 use Rattle.std.specs.Option.{IfSome, IsSomeAnd, option_map}
 use Rattle.std.specs.List.{AllZip, list_all, list_any}
@@ -61,7 +63,8 @@ use Rattle.contracted_runs.proofs.FineLemmas.{WordGiven, among_flat}
 use Rattle.contracted_runs.proofs.FineLemmas.{among_right, group_fine, index_rows}
 use Rattle.contracted_runs.proofs.FineLemmas.{there_is, units_moved}
 use Rattle.contracted_runs.proofs.InlineLemmas.{AreWithin, NoShift, group_contracted}
-use Rattle.contracted_runs.proofs.InlineLemmas.{group_words_are, less_within, own_within, put_within}
+use Rattle.contracted_runs.proofs.InlineLemmas.{group_words_are, less_within, own_within}
+use Rattle.contracted_runs.proofs.InlineLemmas.{put_within}
 use Rattle.contracted_runs.proofs.InlineLemmas.{puts_kept, reads_kept, row_scalars_same}
 use Rattle.contracted_runs.proofs.InlineLemmas.{scalars_same, totals_same, tree_is, within_most}
 use Rattle.contracted_runs.proofs.PointLemmas.{IsOther}
@@ -153,8 +156,11 @@ all_at test (y ∷ xs) x e (inr k) = all_at test xs x (and_second (test y) (list
 all_every : {X : Type 0} (test : X → Bool) (xs : List X) → list_all test xs ≡ true
     → Every (λ x. test x ≡ true) xs
 all_every test [] e = tt
-all_every test (x ∷ xs) e =
-    (and_first (test x) (list_all test xs) e, all_every test xs (and_second (test x) (list_all test xs) e))
+all_every test (x ∷ xs) e = (
+  and_first (test x) (list_all test xs) e,
+  all_every test xs (and_second (test x)
+      (list_all test xs) e),
+)
 
 zero_there : (n k : ℕ) → k < n → slice_get (replicate n (pos 0)) k ≡ Some (pos 0)
 zero_there zero k below = absurd (omega (arith, below))
@@ -392,7 +398,8 @@ module _ (tables : Tables) (arrays : List ℕ) where
         (cell + 1) within.words
         (among_flat (λ words. flat_map (λ w. word_cells w ∷ []) words) (group_words G)
         (words_at tables expr) (cell + 1) (group_word one expr k among)
-        (among_flat (λ w. word_cells w ∷ []) (words_at tables expr) (word.Cell cell) (cell + 1) inside
+        (among_flat (λ w. word_cells w ∷ []) (words_at tables expr) (word.Cell cell)
+        (cell + 1) inside
         (inl refl))) in
         omega (arith, few)
 
@@ -496,7 +503,8 @@ module _ (tables : Tables) (arrays : List ℕ) where
         by (Some one) None trees e f = elim trees [ ]
 
     -- ---- no word reads an array that is a cell's with a shift
-    words_unshifted : (one : number.Member) → Among group one → (expr : ℕ) → Among (exprs_of one) expr
+    words_unshifted : (one : number.Member) → Among group one → (expr : ℕ)
+        → Among (exprs_of one) expr
         → Every (NoShift cell_of) (words_at tables expr)
     words_unshifted one k expr among =
         every_of (NoShift cell_of) (words_at tables expr) (λ w inside. by w inside)
@@ -714,7 +722,8 @@ module _ (tables : Tables) (arrays : List ℕ) where
           (ap (λ ws. list_all (can_read new t region)
           (each_word word_reads ws)) (group_words_are cell_of G)
           ∙ reads_kept cell_of (can_read tables s region) (can_read new t region)
-          (λ read none is. sym (read_same tables new (IsOther cell_of) s t agree region read none) ∙ is)
+          (λ read none is. sym (read_same tables new (IsOther cell_of) s t agree region read none)
+          ∙ is)
           (group_words G) all_unshifted (and_first reads (writes && begins) e))
           (both_hold (list_all (can_write new t region) (group_puts G')) (totals_begin t region G')
           (puts_kept cell_of (can_write tables s region) (can_write new t region)
@@ -723,7 +732,8 @@ module _ (tables : Tables) (arrays : List ℕ) where
           (and_first writes begins (and_second reads (writes && begins) e)))
           (ap (λ ws. all_begin t region (each_word word_scalars ws)
           (group_totals G')) (group_words_are cell_of G)
-          ∙ (ap (λ ks. all_begin t region ks (group_totals G')) (scalars_same cell_of (group_words G))
+          ∙ (ap (λ ks. all_begin t region ks (group_totals G')) (scalars_same cell_of
+          (group_words G))
           ∙ (ap (all_begin t region scalars) (totals_same cell_of G)
           ∙ (sym (begins_same region scalars (group_totals G))
           ∙ and_second writes begins (and_second reads (writes && begins) e))))))
@@ -745,7 +755,8 @@ module _ (tables : Tables) (arrays : List ℕ) where
         filled_at (row ∷ rows) (one ∷ stores) zero store zip e =
             let same : one ≡ store = cc in
             subst (λ (a : Array). length a.values ≡ length (members a.storage)) same zip.0.filled
-        filled_at (row ∷ rows) (one ∷ stores) (suc k) store zip e = filled_at rows stores k store zip.1 e
+        filled_at (row ∷ rows) (one ∷ stores) (suc k) store zip e = filled_at rows stores k store
+            zip.1 e
 
         places : (store : Array) (us : List (List ℤ))
             → Every (λ u. has_place store.storage (moved_by unmoved u) ≡ true) us
@@ -784,7 +795,8 @@ module _ (tables : Tables) (arrays : List ℕ) where
         placed e array cell is put =
             let reads = list_all (can_read tables s region) (group_reads G) in
             let writes = list_all (can_write tables s region) (group_puts G) in
-            placed_by array cell is (slice_get tables.arrays array) refl (slice_get s.stores array) refl
+            placed_by array cell is (slice_get tables.arrays array) refl
+            (slice_get s.stores array) refl
             (all_at (can_write tables s region) (group_puts G) array
             (and_first writes (totals_begin s region G)
             (and_second reads (writes && totals_begin s region G) e)) put)
@@ -798,7 +810,8 @@ module _ (tables : Tables) (arrays : List ℕ) where
         begin_columns (u ∷ us) = (
           refl,
           record {
-            cells = λ k less. zero_there old k less ∙ sym (zero_there more k (omega (arith, less, old_below)));
+            cells = λ k less. zero_there old k less ∙ sym (zero_there more k (omega
+                (arith, less, old_below)));
             long = zeros_long more;
             logs = refl;
             held = λ array cell begun is. absurd begun;
@@ -815,7 +828,8 @@ module _ (tables : Tables) (arrays : List ℕ) where
         abbrev Awaited : List Total → Whole → Whole
         Awaited totals whole = fold awaiting whole totals
 
-        stores_stay : (totals : List Total) (whole : Whole) → (Awaited totals whole).stores ≡ whole.stores
+        stores_stay : (totals : List Total) (whole : Whole) →
+            (Awaited totals whole).stores ≡ whole.stores
         stores_stay [] whole = refl
         stores_stay (total ∷ totals) whole = stores_stay totals (awaiting whole total)
 
@@ -824,7 +838,8 @@ module _ (tables : Tables) (arrays : List ℕ) where
         agree_still [] a b same = same
         agree_still (total ∷ totals) a b same =
             agree_still totals (awaiting a total) (awaiting b total)
-            (set_awaited tables new (IsOther cell_of) a b total.scalar (Some total.operator) tt same)
+            (set_awaited tables new (IsOther cell_of) a b total.scalar
+            (Some total.operator) tt same)
 
         awaited_alike : (n : ℕ) (totals : List Total) (a b : Step Whole) → Steps n a b
             → Steps n (all_awaiting totals a) (all_awaiting totals b)
@@ -867,7 +882,8 @@ module _ (tables : Tables) (arrays : List ℕ) where
             let code = coded in
             subst (λ o. Steps n (tree_does n region G s o)
             (tree_does n region G' t (nest_of (group_coded 0 G')))) (sym code.is)
-            (subst (λ o. Steps n (tree_does n region G s (Some code.tree)) (tree_does n region G' t o))
+            (subst (λ o. Steps n (tree_does n region G s (Some code.tree))
+            (tree_does n region G' t o))
             (sym (tree_is cell_of G code.tree code.is))
             (subst (λ totals. Steps n (tree_does n region G s (Some code.tree))
             (all_awaiting totals (units_do n (group_words G')
@@ -889,7 +905,8 @@ module _ (tables : Tables) (arrays : List ℕ) where
             (units_do_alike n code e))))))
 
         by_stands : (n : ℕ) (b : Bool) → loop_stands tables s region G ≡ b
-            → Steps n (if b then tree_does n region G s (nest_of (group_coded 0 G)) else Stops Wrong)
+            → Steps n (if b then tree_does n region G s (nest_of
+            (group_coded 0 G)) else Stops Wrong)
             (looped new n G' t (Some region))
         by_stands n false e = WasWrong
         by_stands n true e =
@@ -939,5 +956,6 @@ module _ (tables : Tables) (arrays : List ℕ) where
           (settled_same (row_scalars (Loop slot G))
           ∙ ap (list_all (is_settled t)) (sym (row_scalars_same cell_of slot G)))
           (subst (λ found. EffectsAlike (act tables n (Loop slot G) s)
-          (if are_settled s (Loop slot G) then Does (looped new n G' t found) else Does (Stops Wrong)))
+          (if are_settled s (Loop slot G) then Does (looped new n G' t found) else Does
+          (Stops Wrong)))
           (agree (thing.Slot slot) tt).1 (by_settled n slot (are_settled s (Loop slot G))))

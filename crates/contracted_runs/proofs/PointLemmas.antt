@@ -263,7 +263,8 @@ module _ (cell_of : ℕ → Option ℕ) where
                   ∙ (ap (λ b. array == b)
                   (apart array other kept is (has ∙ ap Some (sym same))) ∙ e))))
 
-          pub keep_both : (kept : ℕ) → kept < old → AreLeaves Like ways ways' (KeepLeaf kept) (KeepLeaf kept)
+          pub keep_both : (kept : ℕ) → kept < old → AreLeaves Like ways ways' (KeepLeaf kept)
+              (KeepLeaf kept)
           keep_both kept below = record {
             steps = λ v p q like. Both (record {
               cells = λ k less.

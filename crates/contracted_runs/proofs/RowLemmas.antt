@@ -17,7 +17,8 @@ use Rattle.node_form.specs.declared.words.ExprOp.TheVariants as word
 use Rattle.node_form.specs.Fits.{FitsAt, FitsPart, HasScalarExpr, IsScalarWord}
 use Rattle.node_form.specs.Touch.{IsNamed, IsNamedByExpr, IsNamedByPart, IsNamedByWord, IsWritten}
 use Rattle.code_parts.specs.Uses.{as_list}
-use Rattle.flat_form.specs.Row.{Dims, Number, Set, Span, Truth, Unless, Words, inlined, part_inlined}
+use Rattle.flat_form.specs.Row.{Dims, Number, Set, Span, Truth, Unless, Words, inlined}
+use Rattle.flat_form.specs.Row.{part_inlined}
 use Rattle.flat_form.specs.Row.{words_at}
 use Rattle.fuse_contract.specs.Contracting.{arrays_of_row, with_cells, word_contracted, cell_among}
 use Rattle.normal_runs.proofs.NameLemmas.{any_all, some_all}
@@ -49,7 +50,8 @@ module _ (tables : Tables) (a : ℕ) where
       (slice_get tables.exprs expr)
       (λ words. any_all IsScalarWord (IsNamedByWord (thing.Array a)) ⊥ words scalar_word) has is
 
-  one_part : (rank : ℕ) (p : DimRow) → FitsPart tables rank p → IsNamedByPart tables (thing.Array a) p
+  one_part : (rank : ℕ) (p : DimRow) → FitsPart tables rank p
+      → IsNamedByPart tables (thing.Array a) p
       → ⊥
   one_part rank (part.Span low high) fits (inl is) = scalar_expr low fits.0 is
   one_part rank (part.Span low high) fits (inr is) = scalar_expr high fits.1 is
@@ -100,7 +102,8 @@ module _ (tables : Tables) (a : ℕ) where
   named_among rank (instr.Finish exchange) o fits is = absurd o
   named_among rank (instr.Edge kind array slot shift) o fits (inl is) = inl (same_array array is)
   named_among rank (instr.Edge kind array slot shift) o fits (inr is) = cc
-  named_among rank (instr.Flood array target from source) o fits (inl is) = inl (same_array array is)
+  named_among rank (instr.Flood array target from source) o fits (inl is) = inl
+      (same_array array is)
   named_among rank (instr.Flood array target from source) o fits (inr (inl is)) = cc
   named_among rank (instr.Flood array target from source) o fits (inr (inr (inl is))) =
       inr (inl (same_array from is))

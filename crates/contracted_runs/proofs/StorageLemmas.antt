@@ -25,7 +25,8 @@ use Rattle.flat_form.specs.Row.{Loop, Member, Words, group_coded}
 use Rattle.flat_form.specs.Whole.{Whole}
 
 abbrev pub storage_of_array : List Array → ℕ → Option Region
-storage_of_array stores array = option_map (λ (store : Array). store.storage) (slice_get stores array)
+storage_of_array stores array = option_map (λ (store : Array). store.storage)
+    (slice_get stores array)
 
 pub set_storage : (stores : List Array) (array k : ℕ) (old store : Array)
     → slice_get stores array ≡ Some old → store.storage ≡ old.storage
@@ -59,7 +60,9 @@ put_same : (u : List ℤ) (array : ℕ) (v : ℤ) (s : Whole) (found : Option Ar
 put_same u array v s None e = tt
 put_same u array v s (Some store) e = by (has_place store.storage u)
   where
-    by : (b : Bool) → StateSame s (option_map (λ (stores : List Array). record s { stores = stores })
+    by : (b : Bool) → StateSame s (option_map (λ (stores : List Array). record s {
+      stores = stores;
+    })
         (option_map (slice_set s.stores array) (where_held b (updated store u v))))
     by true = record { same = λ k. set_storage s.stores array k store (updated store u v) e refl }
     by false = tt
@@ -105,7 +108,8 @@ data StepSame (s : Whole) : Step Whole → Type 0 where
 
 behind_same : (s next : Whole) (step : Step Whole) → SameStorages s next → StepSame next step
     → StepSame s step
-behind_same s next step first (GoesSame {next = last} second) = GoesSame (both s next last first second)
+behind_same s next step first (GoesSame {next = last} second) = GoesSame
+    (both s next last first second)
 behind_same s next step first StopsSame = StopsSame
 
 from_same : (s : Whole) (found : Option Whole) (more : Whole → Step Whole) → StateSame s found
@@ -162,7 +166,8 @@ looped_same tables n group s (Some region) = by (loop_stands tables s region gro
     by true = tree_same n region group s (nest_of (group_coded 0 group))
     by false = StopsSame
 
-pub loop_same : (tables : Tables) (n slot : ℕ) (group : List Member) (s next : Whole) (bytes : List ℕ)
+pub loop_same : (tables : Tables) (n slot : ℕ) (group : List Member) (s next : Whole)
+    (bytes : List ℕ)
     → act tables n (Loop slot group) s ≡ Does (Goes bytes next) → SameStorages s next
 loop_same tables n slot group s next bytes e = by (are_settled s (Loop slot group)) e
   where

@@ -10,13 +10,15 @@ use Rattle.node_form.specs.declared.tables.Tables.{Tables}
 use Rattle.node_form.specs.Nest.{Nest, Nothing, Putting, Keeping, Joining, Choosing, ChoosingElse}
 use Rattle.node_form.specs.Nest.{Looping, Repeating}
 use Rattle.node_form.specs.Value.{Computed, Divides, Gives, Lacks}
-use Rattle.nest_meaning.specs.Alike.{AreMasks, AreNests, AreTold, AreValues, BothFine, BothLost, BothNothing}
+use Rattle.nest_meaning.specs.Alike.{AreMasks, AreNests, AreTold, AreValues, BothFine, BothLost}
+use Rattle.nest_meaning.specs.Alike.{BothNothing}
 use Rattle.nest_meaning.specs.Alike.{BothWant, BothZero, Elses, Ifs, Leaves, Repeats, Whiles}
 use Rattle.nest_meaning.specs.Nested.{Fine, Lost, Told, Wants, Zero, nested, then_do, with_state}
 use Rattle.nest_meaning.specs.Nested.{with_value}
 use Rattle.nest_meaning.specs.Units.{units_of}
 use Rattle.nest_meaning.proofs.AlikeLemmas.{do_as_pairs}
-use Rattle.flat_form.specs.Loop.{AllFine, AllTold, Column, Point, Puts, SomeLost, SomeWant, SomeZero}
+use Rattle.flat_form.specs.Loop.{AllFine, AllTold, Column, Point, Puts, SomeLost, SomeWant}
+use Rattle.flat_form.specs.Loop.{SomeZero}
 use Rattle.flat_form.specs.Loop.{all_told, all_written, both_told}
 use Rattle.flat_form.specs.Loop.{columns_behind, from_written, log_ways, logged, logging, unit_at}
 use Rattle.flat_form.specs.Loop.{unit_does, unit_line, units_do}
@@ -166,7 +168,8 @@ module _ (cell_of : ℕ → Option ℕ) where
         masks : (mask : Option ℕ) → MaskIsFine begun mask
             → AreMasks IsLike (log_ways exprs s t) (log_ways exprs' s' t) mask mask
         masks mask fine =
-            masks_same cell_of old new (Among begun) tables other s s' agree t exprs mask (by mask fine)
+            masks_same cell_of old new (Among begun) tables other s s' agree t exprs mask
+            (by mask fine)
           where
             by : (m : Option ℕ) → MaskIsFine begun m
                 → MaskFine cell_of old new (Among begun) tables
@@ -184,14 +187,16 @@ module _ (cell_of : ℕ → Option ℕ) where
           where
             values : AreValues IsLike (log_ways exprs s t) (log_ways exprs' s' t) expr expr
             values =
-                values_same cell_of old new (Among begun) tables other s s' agree t exprs expr fine.1
+                values_same cell_of old new (Among begun) tables other s s' agree t exprs expr
+                fine.1
 
             by : (found : Option ℕ) → cell_of array ≡ found → Trees after (nest_contracted after)
                 → Trees (Putting array expr mask line after)
                 (put_or_keep array expr mask line found (nest_contracted after))
             by None none more =
                 Leaves line line (masks mask fine.0) values
-                (put_others cell_of old new (Among begun) tables other s s' agree t exprs apart above
+                (put_others cell_of old new (Among begun) tables other s s' agree t exprs apart
+                above
                 array none) more
             by (Some cell) is more =
                 Leaves line line (masks mask fine.0) values
@@ -250,7 +255,8 @@ module _ (cell_of : ℕ → Option ℕ) where
           (nest_contracted nest) (trees_alike begun s s' agree t nest fine) p q like)
 
       -- ---- a put that begins its array
-      begin_like : (begun : List ℕ) (s s' : Whole) (agree : Agree tables other (IsOther cell_of) s s')
+      begin_like : (begun : List ℕ) (s s' : Whole) (agree : Agree tables other
+          (IsOther cell_of) s s')
           (t : List ℤ) (array cell : ℕ) → cell_of array ≡ Some cell → cell < new → (v : ℤ)
           (p q : Point) → Like_at begun s t p q
           → Like_at (array ∷ begun) s t (logging (Puts array v) p)
@@ -407,23 +413,25 @@ module _ (cell_of : ℕ → Option ℕ) where
           → AreOwn array (map (λ (c : Column). c.at) columns) s next columns ps)
           → ColumnsAlike after next (columns_behind columns ps) (columns_behind ones qs)
       behind_alike begun after s next [] [] [] [] alike all own = tt
-      behind_alike begun after s next (column ∷ columns) (one ∷ ones) (p ∷ ps) (q ∷ qs) alike all own = (
-        alike.0,
-        record {
-          cells = all.0.cells;
-          long = all.0.long;
-          logs = refl;
-          held = λ array cell begins is.
-              (own array begins cell is).0 ∙ all.0.held array cell begins is;
-        },
-        behind_alike begun after s next columns ones ps qs alike.2 all.1
-            (λ array begins cell is. (own array begins cell is).1),
-      )
+      behind_alike begun after s next (column ∷ columns) (one ∷ ones) (p ∷ ps)
+          (q ∷ qs) alike all own = (
+            alike.0,
+            record {
+              cells = all.0.cells;
+              long = all.0.long;
+              logs = refl;
+              held = λ array cell begins is.
+                  (own array begins cell is).0 ∙ all.0.held array cell begins is;
+            },
+            behind_alike begun after s next columns ones ps qs alike.2 all.1
+                (λ array begins cell is. (own array begins cell is).1),
+          )
       behind_alike begun after s next [] (one ∷ ones) ps qs alike all own = absurd alike
       behind_alike begun after s next (column ∷ columns) [] ps qs alike all own = absurd alike
       behind_alike begun after s next [] [] [] (q ∷ qs) alike all own = absurd all
       behind_alike begun after s next [] [] (p ∷ ps) qs alike all own = absurd all
-      behind_alike begun after s next (column ∷ columns) (one ∷ ones) [] qs alike all own = absurd all
+      behind_alike begun after s next (column ∷ columns) (one ∷ ones) [] qs alike all own = absurd
+          all
       behind_alike begun after s next (column ∷ columns) (one ∷ ones) (p ∷ ps) [] alike all own =
           absurd all
 
@@ -458,7 +466,8 @@ module _ (cell_of : ℕ → Option ℕ) where
         inside : (us : List (List ℤ)) (columns : List Column)
             → map (λ (column : Column). column.at) columns ≡ us
             → Every (λ (column : Column). Among us column.at) columns
-        inside us columns e = subst (λ vs. Every (λ (column : Column). Among vs column.at) columns) e
+        inside us columns e = subst (λ vs. Every (λ (column : Column). Among vs column.at)
+            columns) e
             (all columns)
           where
             more : (u : List ℤ) (vs : List (List ℤ)) (columns : List Column)
@@ -487,7 +496,8 @@ module _ (cell_of : ℕ → Option ℕ) where
             → ArePlaced s → map (λ (column : Column). column.at) columns ≡ ts
             → ColumnsAlike after s columns ones
             → StepsAlike (next columns s) (next' ones s'))
-            → StepsAlike (from_written (all_written columns ps s) (next (columns_behind columns ps)))
+            → StepsAlike (from_written (all_written columns ps s) (next
+            (columns_behind columns ps)))
             (from_written (all_written ones qs s') (next' (columns_behind ones qs)))
         written_alike begun after columns ones s s' ps qs alike placed same puts both all next next'
             more =
@@ -502,7 +512,8 @@ module _ (cell_of : ℕ → Option ℕ) where
                 (logs_alike begun after s columns ones ps qs both all) alike e in
                 let each : (array cell : ℕ) → cell_of array ≡ Some cell → IsPut array
                 → AllAreWritten array ts columns ps s w =
-                λ array cell is put. all_are_written array ts columns ps s w (placed array cell is put)
+                λ array cell is put. all_are_written array ts columns ps s w
+                (placed array cell is put)
                 (inside ts columns same) (subst Apart (sym same) ts_apart) e in
                 subst (λ o. StepsAlike (next (columns_behind columns ps) w)
                 (from_written o (next' (columns_behind ones qs)))) (sym there.is)
@@ -528,11 +539,14 @@ module _ (cell_of : ℕ → Option ℕ) where
             (AllFineAlike {ps = ps} {qs = qs} all) next next' more =
             written_alike begun after columns ones s s' ps qs alike placed same puts both all next
             next' more
-        told_does begun after line columns ones s s' a b alike placed same puts both AllZeroAlike next
+        told_does begun after line columns ones s s' a b alike placed same puts both AllZeroAlike
+            next
             next' more = BothStop
-        told_does begun after line columns ones s s' a b alike placed same puts both AllWantAlike next
+        told_does begun after line columns ones s s' a b alike placed same puts both AllWantAlike
+            next
             next' more = BothStop
-        told_does begun after line columns ones s s' a b alike placed same puts both AllLostAlike next
+        told_does begun after line columns ones s s' a b alike placed same puts both AllLostAlike
+            next
             next' more = WasWrong
 
         pub units_alike : (begun : List ℕ) (units : List Nest) → UnitsFine begun units
@@ -558,7 +572,8 @@ module _ (cell_of : ℕ → Option ℕ) where
             (all_told (unit_at n exprs' (nest_contracted unit) s') ones) alike placed same all_put
             both
             (all_told_alike n begun (array ∷ begun) s s' unit (nest_contracted unit)
-            (λ t p q like. begin_told n begun s s' alike.agree t array expr line cell is below fine p q
+            (λ t p q like. begin_told n begun s s' alike.agree t array expr line cell is below
+            fine p q
             like) columns ones both)
             (λ columns whole. units_do n exprs units columns whole)
             (λ columns whole. units_do n exprs' (map nest_contracted units) columns whole)
@@ -567,7 +582,8 @@ module _ (cell_of : ℕ → Option ℕ) where
             first : (k : ℕ) → Among (array ∷ begun) k → IsPut k
             first k (inl same) = subst IsPut same put
             first k (inr before) = puts k before
-        units_alike begun (_ ∷ _) (OtherFine {unit = unit} {units = units} fine rest) puts columns ones
+        units_alike begun (_ ∷ _) (OtherFine {unit = unit} {units = units} fine rest) puts columns
+            ones
             s s' alike placed same both =
             subst (λ at. StepsAlike (units_do n exprs (unit ∷ units) columns s)
             (unit_does at ones s' (all_told (unit_at n exprs' (nest_contracted unit) s') ones)
@@ -577,7 +593,8 @@ module _ (cell_of : ℕ → Option ℕ) where
             (all_told (unit_at n exprs unit s) columns)
             (all_told (unit_at n exprs' (nest_contracted unit) s') ones) alike placed same puts both
             (all_told_alike n begun begun s s' unit (nest_contracted unit)
-            (λ t p q like. tree_told n begun s s' alike.agree t unit fine p q like) columns ones both)
+            (λ t p q like. tree_told n begun s s' alike.agree t unit fine p q like) columns ones
+            both)
             (λ columns whole. units_do n exprs units columns whole)
             (λ columns whole. units_do n exprs' (map nest_contracted units) columns whole)
             (units_alike begun units rest puts))

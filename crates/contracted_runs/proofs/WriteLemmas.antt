@@ -191,7 +191,8 @@ module _ (array : ℕ) (ts : List (List ℤ)) where
       → IsLogged u (write ∷ log) s next
   then_logged u write log s between next inside has before e =
       let one = is_written u write between next before.has
-      (every_at (λ t. has_place before.has.store.storage t ≡ true) ts u before.has.placed.has inside)
+      (every_at (λ t. has_place before.has.store.storage t ≡ true) ts u before.has.placed.has
+      inside)
       (every_at (λ t. flattened before.has.store.storage.dims t ≡ t) ts u before.has.placed.flat
       inside) e in
       record {
@@ -339,7 +340,8 @@ module _ (cell_of : ℕ → Option ℕ) (tables other : Tables) where
   both_put s s' array store none alike = record {
     agree = set_store tables other Other s s' array store none alike.agree;
     storages = λ kept cell is.
-        let apart : array ≡ kept → ⊥ = λ same. other_array cell_of kept array cell is none (sym same) in
+        let apart : array ≡ kept → ⊥ = λ same. other_array cell_of kept array cell is none
+        (sym same) in
         ap (option_map (λ (a : Array). a.storage)) (set_apart s.stores array kept store apart)
         ∙ (alike.storages kept cell is
         ∙ sym (ap (option_map (λ (a : Array). a.storage))
@@ -432,7 +434,10 @@ module _ (cell_of : ℕ → Option ℕ) (tables other : Tables) where
 
   join_by : (u : List ℤ) (scalar : ℕ) (operator : Fold) (v : ℤ) (s s' next : Whole)
       → AreStates s s' → (found : Option ℤ) → slice_get s.scalars scalar ≡ found
-      → option_map (λ own. record s { scalars = slice_set s.scalars scalar (joined operator own v) })
+      → option_map (λ own. record s {
+        scalars = slice_set s.scalars scalar
+            (joined operator own v);
+      })
       found ≡ Some next
       → NextStates next (written u (Joins scalar operator v) s')
   join_by u scalar operator v s s' next alike None there e = cc

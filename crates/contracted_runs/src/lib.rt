@@ -13,8 +13,8 @@ ghost use Rattle.fuse_contract.specs.Contracting.{contracted};
 ghost use Rattle.contracted_runs.specs.Three.{HaveThreeDims};
 
 /// A flat program with cells in the place of arrays shows what it showed with the arrays, for every
-/// bound on its jumps and on the turns of loops in its groups, unless it comes to a row that may not
-/// stand there. Of the tables is asked that they fit, and what their type gives.
+/// bound on its jumps and on the turns of loops in its groups, unless it comes to a row that may
+/// not stand there. Of the tables is asked that they fit, and what their type gives.
 pub fn cells_for_arrays_keep_runs()
     ensures { (code : Code) → Fits code → HaveThreeDims code → (a n : ℕ) →
         Keeps (flat_run code a n) (flat_run (contracted code) a n) }
