@@ -11,7 +11,8 @@ use Rattle.row_runs.specs.Run.{Effect, Does, Goes, runs}
 use Rattle.row_runs.specs.Segments.{Keeps}
 use Rattle.row_runs.specs.Cut.{Stretch, moved_by}
 use Rattle.row_runs.specs.Straight.{Every, Flow, IsRewriting, IsStep, IsStraight, OnTo}
-use Rattle.row_runs.specs.Straight.{Tied, TiedHalt, TiedOn, TiedWrong, flow_step, rewritten, through}
+use Rattle.row_runs.specs.Straight.{Tied, TiedHalt, TiedOn, TiedWrong, flow_step, rewritten}
+use Rattle.row_runs.specs.Straight.{through}
 use Rattle.row_runs.proofs.StraightLemmas.{rewritten_ties}
 use Rattle.node_form.specs.declared.arrays.ArrayRow.{ArrayRow}
 use Rattle.node_form.specs.declared.instructions.Instr.{Instr}
@@ -239,7 +240,8 @@ module _ (tables : Tables) (fits : Fits tables) (n : ℕ) where
 
     old_is : inlined tables (instr.Loop slot group)
         ≡ Loop slot (map (member_inlined new) members)
-    old_is = sym (kept_inline (instr.Loop slot group) fit) ∙ sym (seen_grouped new (instr.Loop slot group))
+    old_is = sym (kept_inline (instr.Loop slot group) fit) ∙ sym (seen_grouped new
+        (instr.Loop slot group))
 
     stays : (s t : Whole) → Alike s t
         → IsTiedTo (instr.Loop slot group) (Runs slot members ∷ []) s t
@@ -314,7 +316,8 @@ module _ (tables : Tables) (fits : Fits tables) (n : ℕ) where
           (flow_step (act tables n (Loop slot (put_group array own_words mask_own line)) s)
           (λ s. OnTo [] s))
           (flow_step (new_does (grouped.Plain (instr.Room temporary slot)) t)
-          (λ next. flow_step (act new n (Loop slot (put_group temporary own_words mask_own line)) next)
+          (λ next. flow_step (act new n (Loop slot (put_group temporary own_words mask_own line))
+          next)
           (λ next. flow_step (act new n (Loop slot (put_group array words mask_own line)) next)
           (λ next. OnTo [] next)))))
           (sym read_is)
@@ -440,11 +443,13 @@ module _ (tables : Tables) (fits : Fits tables) (n : ℕ) where
 
   front_row : (row : Grouped) → IsFront row → IsStraight new_does row
   front_row (Runs slot group) is = record {
-    straight = λ s. (straight (record new { groups = group ∷ [] }) n (instr.Loop slot 0) refl).straight s;
+    straight = λ s. (straight (record new { groups = group ∷ [] }) n
+        (instr.Loop slot 0) refl).straight s;
   }
   front_row (grouped.Plain row) is = record { straight = λ s. (straight new n row is).straight s }
 
-  loop_front : (P : Grouped → Type 0) → ((slot : ℕ) (group : List number.Member) → P (Runs slot group))
+  loop_front : (P : Grouped → Type 0) → ((slot : ℕ) (group : List number.Member)
+      → P (Runs slot group))
       → ((array slot : ℕ) → P (grouped.Plain (instr.Room array slot)))
       → (slot group : ℕ) → AllByRecursion P (row_written tables extra (instr.Loop slot group))
   loop_front P runs room slot group = by (members_of tables group)

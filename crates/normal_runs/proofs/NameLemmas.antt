@@ -183,7 +183,8 @@ module _ (tables : Tables) (k : ℕ) where
     named_in (instr.Flood array target from source) flat fits (inr (inr (inl is))) =
         has_in from fits.3 is
     named_in (instr.Flood array target from source) flat fits (inr (inr (inr is))) = cc
-    named_in (instr.Part array target operator from source) flat fits (inl is) = has_in array fits.2 is
+    named_in (instr.Part array target operator from source) flat fits
+        (inl is) = has_in array fits.2 is
     named_in (instr.Part array target operator from source) flat fits (inr (inl is)) = cc
     named_in (instr.Part array target operator from source) flat fits (inr (inr (inl is))) =
         has_in from fits.3 is

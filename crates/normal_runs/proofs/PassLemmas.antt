@@ -8,7 +8,8 @@ use Rattle.row_runs.specs.Run.{Effect, runs}
 use Rattle.row_runs.specs.Straight.{Every, IsStraight, Tied, through}
 use Rattle.row_runs.specs.Segments.{IsStart, Keeps}
 use Rattle.row_runs.specs.Cut as cut
-use Rattle.row_runs.specs.Cut.{IsRewritten, LastAlike, Stretch, all_rows, as_list, moved_by, passed, rows_of}
+use Rattle.row_runs.specs.Cut.{IsRewritten, LastAlike, Stretch, all_rows, as_list, moved_by, passed}
+use Rattle.row_runs.specs.Cut.{rows_of}
 use Rattle.row_runs.specs.Cut.{segments_of}
 use Rattle.row_runs.proofs.CutLemmas.{cut_rows, goals_are_starts, passes_keep_runs}
 use Rattle.node_form.specs.declared.instructions.Instr.{Instr}
@@ -53,7 +54,8 @@ leads_itself (instr.Unless expr goal line) e =
 leads_itself row e = absurd (true≢false (sym e))
 
 abbrev IsOf : List Instr → Instr → Type 0
-IsOf code row = has_goal row ≡ true → (is_goal code (goal_of row) ≡ true) × (goal_of row ≤ length code)
+IsOf code row = has_goal row ≡ true → (is_goal code (goal_of row) ≡ true) ×
+    (goal_of row ≤ length code)
 
 any_here : (test : Instr → Bool) (row : Instr) (rows : List Instr) → test row ≡ true
     → list_any test (row ∷ rows) ≡ true

@@ -189,7 +189,8 @@ module _ (region : Region) (steps : All HasStep region.dims) (array : ℕ) where
   module _ (before after : Whole) (cells others : List ℤ) (expr : Words) (mask : Option Words)
       (masks : (words : Words) → mask ≡ Some words → (t : List ℤ)
       → value_in before cells words t ≡ value_in after others words t)
-      (values : List ℤ) (there : slice_get after.stores array ≡ Some (over region steps values)) where
+      (values : List ℤ) (there : slice_get after.stores array ≡ Some
+      (over region steps values)) where
     one_again : (t : List ℤ) (o : Option ℤ) → IsMember region t
         → ((v : ℤ) → o ≡ Some v → element (over region steps values) t ≡ v)
         → wanted before cells expr mask t ≡ Gives o

@@ -56,7 +56,8 @@ every_both : {X : Type 0} {P Q R : X → Type 0} → ((x : X) → P x → Q x �
 every_both both [] p q = tt
 every_both both (x ∷ xs) p q = (both x p.0 q.0, every_both both xs p.1 q.1)
 
-get_within : {X : Type 0} (xs : List X) (k : ℕ) → k < length xs → (x : X) × (slice_get xs k ≡ Some x)
+get_within : {X : Type 0} (xs : List X) (k : ℕ) → k < length xs
+    → (x : X) × (slice_get xs k ≡ Some x)
 get_within [] k below = absurd (omega (arith, below))
 get_within (x ∷ xs) zero below = (x, refl)
 get_within (x ∷ xs) (suc k) below = get_within xs k (omega (arith, below))
@@ -178,8 +179,10 @@ module _ (tables : Tables) (extra : List ArrayRow) where
 
       -- ---- what is read
       reads_in : (next : Whole) → Agree tables mid (IsOld tables) s next
-          → list_all (can_read tables s region) (group_reads (put_group array expr mask line)) ≡ true
-          → list_all (can_read mid next region) (group_reads (put_group array expr mask line)) ≡ true
+          → list_all (can_read tables s region) (group_reads (put_group array expr mask line)) ≡
+          true
+          → list_all (can_read mid next region) (group_reads (put_group array expr mask line)) ≡
+          true
       reads_in next agree e =
           sym (list_all_same (can_read tables s region) (can_read mid next region)
           (group_reads (put_group array expr mask line))
@@ -191,7 +194,8 @@ module _ (tables : Tables) (extra : List ArrayRow) where
 
       -- ---- the loop into the temporary
       into_stands : matches row region ≡ true
-          → list_all (can_read tables s region) (group_reads (put_group array expr mask line)) ≡ true
+          → list_all (can_read tables s region) (group_reads (put_group array expr mask line)) ≡
+          true
           → loop_stands mid one region (put_group temporary expr mask line) ≡ true
       into_stands fine reads =
           let writes : can_write mid one region temporary ≡ true =
@@ -208,7 +212,8 @@ module _ (tables : Tables) (extra : List ArrayRow) where
       cells = cells_of array expr mask line
 
       into_goes : are_settled s old ≡ true → matches row region ≡ true
-          → list_all (can_read tables s region) (group_reads (put_group array expr mask line)) ≡ true
+          → list_all (can_read tables s region) (group_reads (put_group array expr mask line)) ≡
+          true
           → act mid n into one
           ≡ Does (after_sum temporary line ts one (summed (wanted s cells expr mask) ts))
       into_goes settled fine reads =
@@ -227,123 +232,127 @@ module _ (tables : Tables) (extra : List ArrayRow) where
           named.exprs.0 (mask_named mask named.exprs.1) u))))))
 
       -- ---- the loop out of it
-      module _ (os : List (Option ℤ)) (sum_is : summed (wanted s cells expr mask) ts ≡ AllGive os) where
-        abbrev values : List ℤ
-        values = all_put region steps zeros ts os
+      module _ (os : List (Option ℤ)) (sum_is : summed (wanted s cells expr mask) ts ≡ AllGive os)
+        where
+          abbrev values : List ℤ
+          values = all_put region steps zeros ts os
 
-        abbrev two : Whole
-        two = with_store one temporary (over region steps values)
+          abbrev two : Whole
+          two = with_store one temporary (over region steps values)
 
-        two_agree : Agree tables mid (IsOld tables) s two
-        two_agree =
-            agree_beside s one temporary (over region steps values) fresh one_agree
+          two_agree : Agree tables mid (IsOld tables) s two
+          two_agree =
+              agree_beside s one temporary (over region steps values) fresh one_agree
 
-        two_there : slice_get two.stores temporary ≡ Some (over region steps values)
-        two_there =
-            set_there one.stores temporary (over region steps values) (over region steps zeros)
-            one_there
+          two_there : slice_get two.stores temporary ≡ Some (over region steps values)
+          two_there =
+              set_there one.stores temporary (over region steps values) (over region steps zeros)
+              one_there
 
-        two_is : puts temporary ts os one ≡ Some two
-        two_is = puts_over region steps temporary zeros ts os one one_there inside
+          two_is : puts temporary ts os one ≡ Some two
+          two_is = puts_over region steps temporary zeros ts os one one_there inside
 
-        out_stands : matches row region ≡ true
-            → list_all (can_read tables s region) (group_reads (put_group array expr mask line))
-            ≡ true
-            → can_write tables s region array ≡ true
-            → loop_stands mid two region (put_group array (word.Here temporary ∷ []) mask line)
-            ≡ true
-        out_stands fine reads writes =
-            let read : Read = record { array = temporary; shift = unmoved } in
-            let all = can_read mid two region in
-            let rest = flat_map
-            (λ words. flat_map word_reads words) (mask_words mask ++ []) in
-            let places = has_places (over region steps values) region unmoved in
-            let reads_it : can_read mid two region read ≡ true =
-            ap (λ o. reads_well o (slice_get two.stores temporary) region unmoved) row_is
-            ∙ (ap (λ o. reads_well (Some row) o region unmoved) two_there
-            ∙ both_hold (may_read row region unmoved) places
-            (ap (λ b. if b then each_covers row.dims region.dims else matches row region) bare
-            ∙ fine) (places_there region steps ts inside)) in
-            both_hold (all read && list_all all rest)
-            ((can_write mid two region array && true) && true)
-            (both_hold (all read) (list_all all rest) reads_it
-            (all_behind all (flat_map word_reads expr) rest
-            (reads_in two two_agree reads)))
-            (ap (λ b. (b && true) && true)
-            (sym (write_same tables mid (IsOld tables) s two two_agree region array named.own.0)
-            ∙ writes))
+          out_stands : matches row region ≡ true
+              → list_all (can_read tables s region) (group_reads (put_group array expr mask line))
+              ≡ true
+              → can_write tables s region array ≡ true
+              → loop_stands mid two region (put_group array (word.Here temporary ∷ []) mask line)
+              ≡ true
+          out_stands fine reads writes =
+              let read : Read = record { array = temporary; shift = unmoved } in
+              let all = can_read mid two region in
+              let rest = flat_map
+              (λ words. flat_map word_reads words) (mask_words mask ++ []) in
+              let places = has_places (over region steps values) region unmoved in
+              let reads_it : can_read mid two region read ≡ true =
+              ap (λ o. reads_well o (slice_get two.stores temporary) region unmoved) row_is
+              ∙ (ap (λ o. reads_well (Some row) o region unmoved) two_there
+              ∙ both_hold (may_read row region unmoved) places
+              (ap (λ b. if b then each_covers row.dims region.dims else matches row region) bare
+              ∙ fine) (places_there region steps ts inside)) in
+              both_hold (all read && list_all all rest)
+              ((can_write mid two region array && true) && true)
+              (both_hold (all read) (list_all all rest) reads_it
+              (all_behind all (flat_map word_reads expr) rest
+              (reads_in two two_agree reads)))
+              (ap (λ b. (b && true) && true)
+              (sym (write_same tables mid (IsOld tables) s two two_agree region array named.own.0)
+              ∙ writes))
 
-        masks_same : (words : Words) → mask ≡ Some words → (u : List ℤ)
-            → value_in s cells words u
-            ≡ value_in two (cells_of array (word.Here temporary ∷ []) mask line) words u
-        masks_same words same u =
-            value_in_same tables mid (IsOld tables) s two two_agree cells
-            (cells_of array (word.Here temporary ∷ []) mask line) words
-            (every_both (λ w is (few : (word_cells w ≤ group_cells (put_group array expr mask line))
-            × (word_cells w ≤ group_cells (put_group array (word.Here temporary ∷ []) mask line))). (
-              is,
-              cells_there (group_cells (put_group array expr mask line))
-                  (group_cells (put_group array (word.Here temporary ∷ []) mask line)) w few.0 few.1,
-            ))
-            words (subst (λ m. MaskNamed tables mid (IsOld tables) m) same
-            (mask_named mask named.exprs.1)) few_cells) u
-          where
-            few_cells : Every (λ w. (word_cells w ≤ group_cells (put_group array expr mask line))
-                × (word_cells w
-                ≤ group_cells (put_group array (word.Here temporary ∷ []) mask line))) words
-            few_cells =
-                subst (λ m. Every (λ w. (word_cells w ≤ group_cells (put_group array expr m line))
-                × (word_cells w
-                ≤ group_cells (put_group array (word.Here temporary ∷ []) m line))) words) (sym same)
-                (every_both (λ w few less. (few, less)) words (mask_cells array expr words line)
-                (mask_cells array (word.Here temporary ∷ []) words line))
+          masks_same : (words : Words) → mask ≡ Some words → (u : List ℤ)
+              → value_in s cells words u
+              ≡ value_in two (cells_of array (word.Here temporary ∷ []) mask line) words u
+          masks_same words same u =
+              value_in_same tables mid (IsOld tables) s two two_agree cells
+              (cells_of array (word.Here temporary ∷ []) mask line) words
+              (every_both (λ w is (few : (word_cells w ≤ group_cells (put_group array expr mask line))
+              × (word_cells w ≤ group_cells (put_group array (word.Here temporary ∷ []) mask
+              line))). (
+                is,
+                cells_there (group_cells (put_group array expr mask line))
+                    (group_cells (put_group array (word.Here temporary ∷ []) mask line)) w few.0
+                    few.1,
+              ))
+              words (subst (λ m. MaskNamed tables mid (IsOld tables) m) same
+              (mask_named mask named.exprs.1)) few_cells) u
+            where
+              few_cells : Every (λ w. (word_cells w ≤ group_cells (put_group array expr mask line))
+                  × (word_cells w
+                  ≤ group_cells (put_group array (word.Here temporary ∷ []) mask line))) words
+              few_cells =
+                  subst (λ m. Every (λ w. (word_cells w ≤ group_cells (put_group array expr m line))
+                  × (word_cells w
+                  ≤ group_cells (put_group array (word.Here temporary ∷ []) m line))) words)
+                  (sym same)
+                  (every_both (λ w few less. (few, less)) words (mask_cells array expr words line)
+                  (mask_cells array (word.Here temporary ∷ []) words line))
 
-        out_goes : are_settled s old ≡ true → matches row region ≡ true
-            → list_all (can_read tables s region) (group_reads (put_group array expr mask line))
-            ≡ true
-            → can_write tables s region array ≡ true
-            → act mid n out two ≡ Does (after_sum array line ts two (AllGive os))
-        out_goes settled fine reads writes =
-            let group = put_group array (word.Here temporary ∷ []) mask line in
-            let rest = flat_map
-            (λ words. flat_map word_scalars words) (mask_words mask ++ []) in
-            let slot_is : slice_get two.slots slot ≡ Some region =
-            sym (alike.agree (thing.Slot slot) tt).1 ∙ here in
-            ap (λ b. if b then Does (looped mid n group two (slice_get two.slots slot))
-            else Does (Stops Wrong))
-            (all_behind (is_settled two) (flat_map word_scalars expr) rest
-            (settled_in two two_agree (row_scalars old) settled))
-            ∙ (ap (λ o. Does (looped mid n group two o)) slot_is
-            ∙ (ap Does (looped_put mid n array (word.Here temporary ∷ []) mask line two region)
-            ∙ (ap (λ b. Does (if b then put_does mid n array (word.Here temporary ∷ []) mask line
-            two region else Stops Wrong)) (out_stands fine reads writes)
-            ∙ ap (λ sum. Does (after_sum array line ts two sum))
-            (all_again region steps temporary s two cells
-            (cells_of array (word.Here temporary ∷ []) mask line) expr mask masks_same values
-            two_there ts os inside
-            (all_read region steps zeros ts os (zeros_are region steps) inside
-            (members_apart region)) sum_is))))
+          out_goes : are_settled s old ≡ true → matches row region ≡ true
+              → list_all (can_read tables s region) (group_reads (put_group array expr mask line))
+              ≡ true
+              → can_write tables s region array ≡ true
+              → act mid n out two ≡ Does (after_sum array line ts two (AllGive os))
+          out_goes settled fine reads writes =
+              let group = put_group array (word.Here temporary ∷ []) mask line in
+              let rest = flat_map
+              (λ words. flat_map word_scalars words) (mask_words mask ++ []) in
+              let slot_is : slice_get two.slots slot ≡ Some region =
+              sym (alike.agree (thing.Slot slot) tt).1 ∙ here in
+              ap (λ b. if b then Does (looped mid n group two (slice_get two.slots slot))
+              else Does (Stops Wrong))
+              (all_behind (is_settled two) (flat_map word_scalars expr) rest
+              (settled_in two two_agree (row_scalars old) settled))
+              ∙ (ap (λ o. Does (looped mid n group two o)) slot_is
+              ∙ (ap Does (looped_put mid n array (word.Here temporary ∷ []) mask line two region)
+              ∙ (ap (λ b. Does (if b then put_does mid n array (word.Here temporary ∷ []) mask line
+              two region else Stops Wrong)) (out_stands fine reads writes)
+              ∙ ap (λ sum. Does (after_sum array line ts two sum))
+              (all_again region steps temporary s two cells
+              (cells_of array (word.Here temporary ∷ []) mask line) expr mask masks_same values
+              two_there ts os inside
+              (all_read region steps zeros ts os (zeros_are region steps) inside
+              (members_apart region)) sum_is))))
 
-        -- ---- all three
-        abbrev AlikeNext : Option Whole → Option Whole → Type 0
-        AlikeNext a b = AlikeStates tables mid (IsOld tables) a b
+          -- ---- all three
+          abbrev AlikeNext : Option Whole → Option Whole → Type 0
+          AlikeNext a b = AlikeStates tables mid (IsOld tables) a b
 
-        last_tied : (a b : Option Whole) → puts array ts os s ≡ a → puts array ts os two ≡ b
-            → AlikeNext a b
-            → Tied IsAlike (flow_of (from_written a (λ next. Goes [] next)) (λ next. OnTo [] next))
-            (flow_behind [] (flow_behind [] (flow_of (from_written b (λ next. Goes [] next))
-            (λ next. OnTo [] next))))
-        last_tied a b e f NoState = TiedWrong
-        last_tied a b e f (BothStates {one = s'} {two = t'} agree) =
-            let left = leaves_rest array ts os s s' e in
-            let right = leaves_rest array ts os two t' f in
-            TiedOn (record {
-              agree = agree;
-              steps = record { steps = subst StepsIn (sym left.slots) alike.steps.steps };
-              long = right.long
-                  ∙ (set_length one.stores temporary (over region steps values)
-                  ∙ (set_length t.stores temporary (over region steps zeros) ∙ alike.long));
-            })
+          last_tied : (a b : Option Whole) → puts array ts os s ≡ a → puts array ts os two ≡ b
+              → AlikeNext a b
+              → Tied IsAlike (flow_of (from_written a (λ next. Goes [] next)) (λ next. OnTo [] next))
+              (flow_behind [] (flow_behind [] (flow_of (from_written b (λ next. Goes [] next))
+              (λ next. OnTo [] next))))
+          last_tied a b e f NoState = TiedWrong
+          last_tied a b e f (BothStates {one = s'} {two = t'} agree) =
+              let left = leaves_rest array ts os s s' e in
+              let right = leaves_rest array ts os two t' f in
+              TiedOn (record {
+                agree = agree;
+                steps = record { steps = subst StepsIn (sym left.slots) alike.steps.steps };
+                long = right.long
+                    ∙ (set_length one.stores temporary (over region steps values)
+                    ∙ (set_length t.stores temporary (over region steps zeros) ∙ alike.long));
+              })
 
       abbrev after_room : Whole → Flow Whole
       after_room next = through (act mid n) (into ∷ out ∷ []) next
@@ -353,7 +362,8 @@ module _ (tables : Tables) (extra : List ArrayRow) where
 
       by_sum : (sum : Sum) → summed (wanted s cells expr mask) ts ≡ sum
           → are_settled s old ≡ true → matches row region ≡ true
-          → list_all (can_read tables s region) (group_reads (put_group array expr mask line)) ≡ true
+          → list_all (can_read tables s region) (group_reads (put_group array expr mask line)) ≡
+          true
           → can_write tables s region array ≡ true
           → Tied IsAlike (flow_of (after_sum array line ts s sum) (λ next. OnTo [] next))
           (flow_behind [] (flow_of (after_sum temporary line ts one sum) after_into))
@@ -361,11 +371,13 @@ module _ (tables : Tables) (extra : List ArrayRow) where
       by_sum SomeLacks e settled fine reads writes = TiedWrong
       by_sum (AllGive os) e settled fine reads writes =
           subst (λ o. Tied IsAlike
-          (flow_of (from_written (puts array ts os s) (λ next. Goes [] next)) (λ next. OnTo [] next))
+          (flow_of (from_written (puts array ts os s) (λ next. Goes [] next))
+          (λ next. OnTo [] next))
           (flow_behind [] (flow_of (from_written o (λ next. Goes [] next)) after_into)))
           (sym (two_is os e))
           (subst (λ effect. Tied IsAlike
-          (flow_of (from_written (puts array ts os s) (λ next. Goes [] next)) (λ next. OnTo [] next))
+          (flow_of (from_written (puts array ts os s) (λ next. Goes [] next))
+          (λ next. OnTo [] next))
           (flow_behind [] (flow_behind [] (flow_step effect (λ next. OnTo [] next)))))
           (sym (out_goes os e settled fine reads writes))
           (last_tied os e (puts array ts os s) (puts array ts os (two os e)) refl refl

@@ -12,8 +12,8 @@ ghost use Rattle.flat_form.specs.Act.{flat_run};
 ghost use Rattle.temp_norm.specs.Normalised.{normalised};
 
 /// A flat program whose values go through temporaries shows what it showed without them, for every
-/// bound on its jumps and on the turns of loops in its groups, unless it comes to a row that may not
-/// stand there.
+/// bound on its jumps and on the turns of loops in its groups, unless it comes to a row that may
+/// not stand there.
 pub fn values_through_temporaries_keep_runs()
     ensures { (code : Code) → Fits code → (a n : ℕ) →
         Keeps (flat_run code a n) (flat_run (normalised code) a n) }

@@ -80,7 +80,11 @@ module _ (test : Instr → Bool) (on_loop : Bool) (cost : ℕ)
   through_count temporary read slot [] = omega (arith, alone (Runs slot []))
   through_count temporary read slot (member.Put array expr mask line ∷ two ∷ group) =
       omega (arith, alone (Runs slot (member.Put array expr mask line ∷ two ∷ group)))
-  through_count temporary read slot (first ∷ group) = omega (arith, alone (Runs slot (first ∷ group)))
+  through_count temporary read slot (first ∷ group) = omega (
+    arith,
+    alone (Runs slot
+        (first ∷ group)),
+  )
 
   module _ (tables : Tables) where
     abbrev extra : List ArrayRow
@@ -216,6 +220,7 @@ pub no_others : (tables : Tables) → count_of is_other (normalised tables) ≤ 
 no_others tables =
     omega (
       arith,
-      few_added is_other false 0 (λ slot group. refl) other_unmoved (λ array slot. omega arith) tables,
+      few_added is_other false 0 (λ slot group. refl) other_unmoved
+          (λ array slot. omega arith) tables,
       none_added (λ row. loops_on_itself tables (grouped tables row)) tables.code,
     )

@@ -41,7 +41,8 @@ module _ (R : List Member → Type 0) where
   abbrev Holds : Grouped → Type 0
   Holds row = AllByRecursion R (group_of row)
 
-  groups_hold : (rows : List Grouped) → AllByRecursion Holds rows → AllByRecursion R (groups_of rows)
+  groups_hold : (rows : List Grouped) → AllByRecursion Holds rows
+      → AllByRecursion R (groups_of rows)
   groups_hold [] all = tt
   groups_hold (row ∷ rows) all =
       every_append R (group_of row) (groups_of rows) all.0 (groups_hold rows all.1)
@@ -67,7 +68,8 @@ module _ (R : List Member → Type 0) where
 
     -- rows that are rewritten so that it stays
     module _ (rewrite : List Grouped → List Grouped)
-        (keeps : (rows : List Grouped) → AllByRecursion Holds rows → AllByRecursion Holds (rewrite rows))
+        (keeps : (rows : List Grouped) → AllByRecursion Holds rows
+        → AllByRecursion Holds (rewrite rows))
       where
         abbrev rewritten : List Instr → List Grouped
         rewritten rows = rewrite (map (grouped tables) rows)
@@ -187,7 +189,8 @@ module _ (R : List Member → Type 0) where
           (tt, joined_hold (known_behind known row) None rows tt every.1)
 
       pub fused_hold : All R (fused tables).groups
-      fused_hold = rewritten_hold (joined tables [] None) (λ rows every. joined_hold [] None rows tt every)
+      fused_hold = rewritten_hold (joined tables [] None) (λ rows every. joined_hold [] None rows
+          tt every)
 
 -- ---- what groups that can be joined have in common
 abbrev one_if : Bool → ℕ
@@ -230,7 +233,8 @@ share_right (number ∷ numbers) one other e f =
 
 share_left : (one other numbers : List ℕ) → share one numbers ≡ false
     → share other numbers ≡ false → share (one ++ other) numbers ≡ false
-share_left one other numbers e f = any_both (λ number. list_any (λ k. number == k) numbers) one other e f
+share_left one other numbers e f = any_both (λ number. list_any
+    (λ k. number == k) numbers) one other e f
 
 -- the parts of a test of seven
 record Joinable (a b c d : Bool) : Type 0 where
@@ -316,7 +320,8 @@ module _ (tables : Tables) where
   fused_loops most few =
       fused_hold (λ group. loops_in group ≤ most) tables (omega arith) few (both_few most)
 
-  pub normalised_loops : (most : ℕ) → HasLoopsUpTo most tables → HasLoopsUpTo most (normalised tables)
+  pub normalised_loops : (most : ℕ) → HasLoopsUpTo most tables
+      → HasLoopsUpTo most (normalised tables)
   normalised_loops most few =
       normalised_hold (λ group. loops_in group ≤ most) tables (omega arith) few
       (λ array expr mask line. omega (
@@ -351,7 +356,8 @@ module _ (tables : Tables) where
       ∙ ap (λ list. shifted_in one ++ list) (shifts_stay words)
 
   words_stay : (exprs : List (List ExprOp)) (expr : ℕ)
-      → flat_map shifted_in (rows_or_none (slice_get (map (map (word_contracted cell_of)) exprs) expr))
+      → flat_map shifted_in (rows_or_none (slice_get (map (map
+      (word_contracted cell_of)) exprs) expr))
       ≡ flat_map shifted_in (rows_or_none (slice_get exprs expr))
   words_stay [] expr = refl
   words_stay (words ∷ exprs) zero = shifts_stay words

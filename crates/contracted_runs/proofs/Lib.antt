@@ -1,0 +1,11 @@
+mod Examples
+pub mod FineLemmas
+pub mod InlineLemmas
+pub mod KeptLemmas
+pub mod LoopLemmas
+pub mod PointLemmas
+pub mod RowLemmas
+pub mod ShortLemmas
+pub mod StorageLemmas
+pub mod UnitLemmas
+pub mod WriteLemmas

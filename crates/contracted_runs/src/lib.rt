@@ -1,0 +1,21 @@
+//! Programs whose arrays become cells show what they showed before.
+//!
+//! The functions here do nothing: each has a law of `fuse_contract`'s tables as its contract, and a
+//! call brings the law into a proof.
+#![tactic(auto)]
+
+ghost use Rattle.std.specs.Prelude.{ℕ};
+ghost use Rattle.node_form.specs.declared.tables.Tables.{Tables as Code};
+ghost use Rattle.node_form.specs.Fits.{Fits};
+ghost use Rattle.row_runs.specs.Segments.{Keeps};
+ghost use Rattle.flat_form.specs.Act.{flat_run};
+ghost use Rattle.fuse_contract.specs.Contracting.{contracted};
+ghost use Rattle.contracted_runs.specs.Three.{HaveThreeDims};
+
+/// A flat program with cells in the place of arrays shows what it showed with the arrays, for every
+/// bound on its jumps and on the turns of loops in its groups, unless it comes to a row that may
+/// not stand there. Of the tables is asked that they fit, and what their type gives.
+pub fn cells_for_arrays_keep_runs()
+    ensures { (code : Code) → Fits code → HaveThreeDims code → (a n : ℕ) →
+        Keeps (flat_run code a n) (flat_run (contracted code) a n) }
+{}
