@@ -14,7 +14,8 @@ ghost use Rattle.flat_form.specs.Act.{flat_run};
 ghost use Rattle.flat_passes.specs.Rewritten.{has_goal};
 ghost use Rattle.bound_check.specs.Checked.{checked};
 
-pub use checks::place_checks;
+pub use checks::{is_decided, place_checks};
+pub use writes::Writes;
 
 /// No check is left whose slot `fix` rows alone write, and which passes for each of their regions.
 /// The code gets no larger, has as many jumps and tests, and nothing but its rows changes.

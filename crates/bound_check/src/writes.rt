@@ -17,7 +17,7 @@ pub(crate) struct Write {
 
 /// What the rows write into each slot, in their order. Contracts see a list for each slot.
 #[derive(Drop)]
-pub(crate) struct Writes {
+pub struct Writes {
     lists: Vec<Vec<Option<Region>>>,
 }
 
@@ -43,8 +43,8 @@ impl Writes {
         Ok(Writes { lists })
     }
 
-    /// What the code writes into each slot.
-    pub(crate) fn of(alloc: Global, tables: &Tables) -> Result<Writes, AllocError>
+    /// What the code writes into each slot. One walk over it finds all.
+    pub fn of(alloc: Global, tables: &Tables) -> Result<Writes, AllocError>
         ensures { IfOk result (λ writes.
             writes ≡ all_noted (length tables.now.slots) tables.now.code) }
     {

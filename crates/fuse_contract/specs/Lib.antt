@@ -1,2 +1,7 @@
+pub mod Behind
+pub mod Cells
 pub mod Contracting
 pub mod Fusing
+pub mod Joining
+pub mod Known
+pub mod Naming

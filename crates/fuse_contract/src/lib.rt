@@ -1,6 +1,13 @@
 //! Neighbouring loops become one, and arrays that one loop alone names become cells.
 #![tactic(auto)]
 
+mod cells;
+mod grown;
+mod joins;
+mod known;
+mod states;
+mod uses;
+
 ghost use Rattle.std.specs.Prelude.{◌≡◌, ◌+◌, ◌≤◌, length, sum_by};
 ghost use Rattle.node_form.specs.declared.tables.Tables.{Tables as Code};
 ghost use Rattle.code_parts.specs.Counts.{code_size, count_of};
@@ -8,6 +15,9 @@ ghost use Rattle.flat_passes.specs.Grouped.{loop_members};
 ghost use Rattle.flat_passes.specs.Rewritten.{has_goal};
 ghost use Rattle.fuse_contract.specs.Contracting.{contracted};
 ghost use Rattle.fuse_contract.specs.Fusing.{fused};
+
+pub use cells::contract;
+pub use joins::fuse;
 
 /// Where loops are joined, the code gets no longer, its groups have no more members than its loops
 /// ran before, and it has as many jumps and tests. Where no group is run by two loops, it gets no
