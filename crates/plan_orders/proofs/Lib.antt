@@ -1,0 +1,11 @@
+pub mod TestLemmas
+pub mod QuietLemmas
+pub mod ControlLemmas
+pub mod PrintLemmas
+pub mod AgreeLemmas
+pub mod PlaceLemmas
+pub mod DeliverLemmas
+pub mod MessageLemmas
+pub mod LoopLemmas
+pub mod WaitLemmas
+pub mod LoopRowLemmas

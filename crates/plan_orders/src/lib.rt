@@ -1,0 +1,2 @@
+//! Orders for plans.
+#![tactic(auto)]
