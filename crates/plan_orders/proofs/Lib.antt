@@ -9,3 +9,5 @@ pub mod MessageLemmas
 pub mod LoopLemmas
 pub mod WaitLemmas
 pub mod LoopRowLemmas
+pub mod PlanLemmas
+pub mod StartLemmas

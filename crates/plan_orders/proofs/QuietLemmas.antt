@@ -2,7 +2,9 @@
 use Rattle.std.proofs.Common.{◌≡◌, ◌≢◌, ℕ, ◌+◌, ◌<◌, ◌≤◌, ◌==◌, Bool, true, false, ◌&&◌, List, [], ◌∷◌, length, All, slice_get, Option, Some, None, refl, sym, ◌∙◌, ap, ap₂, subst, arith, eqb-true}
 use Rattle.std.specs.List.{flat_map}
 use Rattle.zpl_nums.specs.declared.ends.End.{End}
-use Rattle.zpl_nums.specs.declared.ends.End.TheVariants.{More}
+use Rattle.zpl_nums.specs.declared.ends.End.TheVariants.{Done, Trap, More}
+use Rattle.zpl_nums.specs.declared.ends.TrapKind.TheVariants.{DivideByZero, RegionLimit}
+use Rattle.zpl_region.specs.declared.regions.Region.{Region}
 use Rattle.zpl_nums.specs.declared.ends.TrapKind.{TrapKind}
 use Rattle.grid_links.specs.Machine.{Goes as Moves}
 use Rattle.grid_links.specs.Run.{count_of}
@@ -66,54 +68,69 @@ ends_way ending (control.Leaps goal) e = cc
 ends_way ending (control.Ends other) e = ap control.Ends (sym (same_ending ending other e))
 ends_way ending control.Outside e = cc
 
--- ---- a row never wants more
-abbrev pub IsDecided : Control → Type 0
-IsDecided way = (ending : End) → way ≡ control.Ends ending → ending ≢ More
+-- ---- a row never wants more, and leaps to a row or to the end
+pub record IsDecided (code : Tables) (way : Control) : Type 0 where
+  pub ends : (ending : End) → way ≡ control.Ends ending → ending ≢ More
+  pub leaps : (goal : ℕ) → way ≡ control.Leaps goal → goal ≤ length code.code
 
-pub goes_decided : (registers : Registers) → IsDecided (control.Steps registers)
-goes_decided registers ending e = cc
+module _ (code : Tables) where
+  pub goes_decided : (registers : Registers) → IsDecided code (control.Steps registers)
+  goes_decided registers = record { ends = λ ending e. cc; leaps = λ goal e. cc }
 
-pub row_decided : {X : Type 0} (row : Option X) (next : X → Control)
-    → ((x : X) → IsDecided (next x)) → IsDecided (with_row row next)
-row_decided (Some x) next each = each x
-row_decided None next each = λ ending e. cc
+  pub outside_decided : IsDecided code control.Outside
+  outside_decided = record { ends = λ ending e. cc; leaps = λ goal e. cc }
 
-pub computed_decided : {X : Type 0} (computed : Computed X) (line : ℕ) (next : X → Control)
-    → ((x : X) → IsDecided (next x)) → IsDecided (with_computed computed line next)
-computed_decided (Gives x) line next each = each x
-computed_decided Divides line next each = λ ending e more. cc
-computed_decided Lacks line next each = λ ending e. cc
+  pub trap_decided : (kind : TrapKind) (line : ℕ)
+      → IsDecided code (control.Ends (Trap kind line))
+  trap_decided kind line = record { ends = λ ending e more. cc; leaps = λ goal e. cc }
 
-pub checked_decided : (registers : Registers) (b : Bool) (kind : TrapKind) (line : ℕ)
-    → IsDecided (checked registers b kind line)
-checked_decided registers true kind line = λ ending e. cc
-checked_decided registers false kind line = λ ending e more. cc
+  pub done_decided : IsDecided code (control.Ends Done)
+  done_decided = record { ends = λ ending e more. cc; leaps = λ goal e. cc }
 
-pub limited_decided : (registers : Registers) (slot line : ℕ) (region : _) (b : Bool)
-    → IsDecided (limited registers slot line region b)
-limited_decided registers slot line region true = λ ending e. cc
-limited_decided registers slot line region false = λ ending e more. cc
+  pub leap_decided : (goal : ℕ) → goal ≤ length code.code → IsDecided code (control.Leaps goal)
+  leap_decided goal fits = record {
+    ends = λ ending e. cc;
+    leaps = λ other e. let same : goal ≡ other = cc in subst (λ g. g ≤ length code.code) same fits;
+  }
 
-pub branched_decided : (registers : Registers) (b : Bool) (goal : ℕ)
-    → IsDecided (branched registers b goal)
-branched_decided registers true goal = λ ending e. cc
-branched_decided registers false goal = λ ending e. cc
+  pub row_decided : {X : Type 0} (row : Option X) (next : X → Control)
+      → ((x : X) → IsDecided code (next x)) → IsDecided code (with_row row next)
+  row_decided (Some x) next each = each x
+  row_decided None next each = outside_decided
+
+  pub computed_decided : {X : Type 0} (computed : Computed X) (line : ℕ) (next : X → Control)
+      → ((x : X) → IsDecided code (next x)) → IsDecided code (with_computed computed line next)
+  computed_decided (Gives x) line next each = each x
+  computed_decided Divides line next each = trap_decided DivideByZero line
+  computed_decided Lacks line next each = outside_decided
+
+  pub checked_decided : (registers : Registers) (b : Bool) (kind : TrapKind) (line : ℕ)
+      → IsDecided code (checked registers b kind line)
+  checked_decided registers true kind line = goes_decided registers
+  checked_decided registers false kind line = trap_decided kind line
+
+  pub limited_decided : (registers : Registers) (slot line : ℕ) (region : Region) (b : Bool)
+      → IsDecided code (limited registers slot line region b)
+  limited_decided registers slot line region true = goes_decided _
+  limited_decided registers slot line region false = trap_decided RegionLimit line
+
+  pub branched_decided : (registers : Registers) (b : Bool) (goal : ℕ) → goal ≤ length code.code
+      → IsDecided code (branched registers b goal)
+  branched_decided registers true goal fits = goes_decided registers
+  branched_decided registers false goal fits = leap_decided goal fits
 
 -- ---- such a row
 module _ (code : Tables) (links : Option ℕ) (n at : ℕ) (row : Instr)
-    (here : slice_get code.code at ≡ Some row)
-    (plain : (p : ℕ) (local : Local)
-    → act_at code p local (Some row)
-    ≡ turn.controlled local (control_by code (turn.registers_of local) row))
-    (decided : (registers : Registers) → IsDecided (control_by code registers row))
+    (stands : (p : ℕ) (share : Share)
+    → act code p (standing_at at share)
+    ≡ turn.controlled (standing_at at share) (control_by code (registers_of share) row))
+    (decided : (registers : Registers) → IsDecided code (control_by code registers row))
     (all : Abreast) (open_now : AreOpen code links all) where
   turn_is : (p : ℕ) (way : Control) → control_of code row all p ≡ way
       → act code p (standing_at at (all.shares p))
       ≡ turn.controlled (standing_at at (all.shares p)) way
   turn_is p way is =
-      ap (act_at code p (standing_at at (all.shares p))) here
-      ∙ (plain p (standing_at at (all.shares p))
-      ∙ ap (turn.controlled (standing_at at (all.shares p))) is)
+      stands p (all.shares p) ∙ ap (turn.controlled (standing_at at (all.shares p))) is
 
   one_way : (way : Control) → control_of code row all 0 ≡ way → go_one_way code row all ≡ true
       → (p : ℕ) → p < processors code → is_way way (control_of code row all p) ≡ true
@@ -147,11 +164,13 @@ module _ (code : Tables) (links : Option ℕ) (n at : ℕ) (row : Instr)
   leaping : (goal : ℕ) (b : Bool) → control_of code row all 0 ≡ control.Leaps goal
       → go_one_way code row all ≡ b → GoesWell code links n at all (leaps_where b goal)
   leaping goal false is alike = tt
-  leaping goal true is alike =
-      brings_once code links (λ p. standing_at at (all.shares p))
-      (λ p. standing_at goal (all.shares p)) (λ p. []) all.flights open_now.flights open_now.room
-      (λ p below. turn_is p (control.Leaps goal) (leaps_way goal (control_of code row all p)
-      (one_way (control.Leaps goal) is alike p below)))
+  leaping goal true is alike = (
+    brings_once code links (λ p. standing_at at (all.shares p))
+        (λ p. standing_at goal (all.shares p)) (λ p. []) all.flights open_now.flights open_now.room
+        (λ p below. turn_is p (control.Leaps goal) (leaps_way goal (control_of code row all p)
+        (one_way (control.Leaps goal) is alike p below))),
+    (decided (registers_of (all.shares 0))).leaps goal is,
+  )
 
   ending_all : (ending : End) (b : Bool) → control_of code row all 0 ≡ control.Ends ending
       → (go_one_way code row all && is_quiet all) ≡ b
@@ -171,7 +190,7 @@ module _ (code : Tables) (links : Option ℕ) (n at : ℕ) (row : Instr)
         quiet = λ p q a b.
             ap (λ flights. flat_map (λ flight. flight_messages flight p q) flights)
             (no_flights all.flights parts.1);
-        last = decided (registers_of (all.shares 0)) ending is;
+        last = (decided (registers_of (all.shares 0))).ends ending is;
       })
 
   control_well : (way : Control) → control_of code row all 0 ≡ way

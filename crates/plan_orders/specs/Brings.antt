@@ -81,7 +81,7 @@ pub data Stopped (code : Tables) (links : Option ℕ) (n : ℕ) (one : Scene Loc
   ComesToEnd : {ending : End} → AllEnd code links one ending 1 [] → Stopped code links n one ending
   ComesToWait : AllWait code links one n [] → Stopped code links n one More
 
--- from in front of the row with a number
+-- From in front of the row with a number; a goal is a row, or the end behind the last one.
 abbrev pub GoesWell : Tables → Option ℕ → ℕ → ℕ → Abreast → Effect Abreast → Type 0
 GoesWell code links n at all (Does (Goes bytes next)) =
     Brings code links (in_front at all) (in_front (at + 1) next) 1 bytes × AreOpen code links next
@@ -89,7 +89,7 @@ GoesWell code links n at all (Does (Stops (Ends ending))) =
     Stopped code links n (in_front at all) ending
 GoesWell code links n at all (Does (Stops Wrong)) = ⊤
 GoesWell code links n at all (Leaps goal) =
-    Brings code links (in_front at all) (in_front goal all) 1 []
+    Brings code links (in_front at all) (in_front goal all) 1 [] × (goal ≤ length code.code)
 GoesWell code links n at all Passes =
     Brings code links (in_front at all) (in_front (at + 1) all) 1 []
 
