@@ -11,3 +11,6 @@ pub mod WaitLemmas
 pub mod LoopRowLemmas
 pub mod PlanLemmas
 pub mod StartLemmas
+pub mod ChainLemmas
+pub mod RemapLemmas
+pub mod RemapRowLemmas
