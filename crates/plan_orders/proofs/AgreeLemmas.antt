@@ -1,8 +1,8 @@
 -- Votes and folds, by the first processor or along the tree of halves.
-use Rattle.std.proofs.Common.{◌≡◌, ℕ, zero, suc, ◌+◌, ◌-◌, ◌<◌, ◌≤◌, Bool, true, false, cond, ◌&&◌, ℤ, pos, negsuc, List, [], ◌∷◌, ◌++◌, length, map, All, slice_get, slice_set, Option, Some, None, refl, sym, ◌∙◌, ap, ap₂, subst, arith, le-ltb, length-append}
+use Rattle.std.proofs.Common.{◌≡◌, ℕ, zero, suc, ◌+◌, ◌<◌, ◌≤◌, Bool, true, false, cond, ℤ, pos, negsuc, List, [], ◌∷◌, ◌++◌, length, map, slice_get, slice_set, Option, Some, None, refl, sym, ◌∙◌, ap, arith, le-ltb, length-append}
 use Rattle.std.specs.Prelude.{int_lt}
 use Rattle.std.specs.Int.{int_min}
-use Rattle.std.specs.List.{flat_map, range_with_len}
+use Rattle.std.specs.List.{flat_map}
 use Rattle.zpl_nums.specs.declared.ends.End.TheVariants.{Trap}
 use Rattle.zpl_nums.specs.declared.ends.TrapKind.TheVariants.{DivideByZero}
 use Rattle.zpl_nums.specs.declared.folds.Fold.{Fold}
@@ -17,17 +17,16 @@ use Rattle.node_form.specs.declared.instructions.Instr.{Instr}
 use Rattle.node_form.specs.declared.instructions.Instr.TheVariants as instr
 use Rattle.node_form.specs.declared.tables.Tables.{Tables}
 use Rattle.grid_meaning.specs.Action.{Action, ended_as, ends, goes_on, moves}
-use Rattle.grid_meaning.specs.Collective.{Kin, agreed, agreeing_stages, decided, flag_word, folded, group_line, least_flag, scalar_at, star, to_parent, tree, voted, word_flag, TakesFrom, Sends, Last, Stage}
+use Rattle.grid_meaning.specs.Collective.{Kin, agreeing_stages, decided, flag_word, folded, group_line, least_flag, scalar_at, star, to_parent, tree, voted, word_flag, TakesFrom, Sends, Last}
 use Rattle.grid_meaning.specs.Grid.{IsCapacity, system_over}
 use Rattle.grid_meaning.specs.Local.{Local, processors}
 use Rattle.grid_meaning.specs.Rows.{collective}
 use Rattle.row_orders.specs.Agreement.{IsAgreementRow, IsJoin, StandsBefore, joined_over}
 use Rattle.row_orders.specs.Rows.{Flight, flight_messages, flying, quiet_scene}
-use Rattle.row_orders.proofs.StarLemmas.{agree_as_star, processor_count}
+use Rattle.row_orders.proofs.StarLemmas.{agree_as_star}
 use Rattle.row_orders.proofs.SumLemmas.{agree_as_tree}
 use Rattle.row_runs.specs.Run.{Does}
-use Rattle.plan_meaning.specs.Abreast.{Abreast, Share, go_where, is_quiet, locals_of, standing}
-use Rattle.plan_meaning.specs.Act as act
+use Rattle.plan_meaning.specs.Abreast.{Abreast, Share, go_where, is_quiet, locals_of}
 use Rattle.plan_meaning.specs.Act.{ends_where, voted_as}
 use Rattle.plan_orders.specs.Brings.{AreOpen, Brings, ComesToEnd, GoesWell, HasOrder, in_front, standing_at}
 use Rattle.plan_orders.proofs.TestLemmas.{no_flights}
@@ -52,11 +51,13 @@ quiet_far count locals flights none = record {
 -- ---- each makes a turn at least
 stages_some : (kin : Kin) → 1 ≤ length (agreeing_stages kin)
 stages_some kin =
-    omega (arith,
-    length-append (map TakesFrom kin.children)
-    (to_parent kin.parent ++ (map Sends kin.children ++ Last ∷ [])),
-    length-append (to_parent kin.parent) (map Sends kin.children ++ Last ∷ []),
-    length-append (map Sends kin.children) (Last ∷ []))
+    omega (
+      arith,
+      length-append (map TakesFrom kin.children)
+          (to_parent kin.parent ++ (map Sends kin.children ++ Last ∷ [])),
+      length-append (to_parent kin.parent) (map Sends kin.children ++ Last ∷ []),
+      length-append (map Sends kin.children) (Last ∷ []),
+    )
 
 -- ---- a row in which all come to one value
 module _ (code : Tables) (links : Option ℕ) (n at : ℕ) (kin : ℕ → Kin) (join : ℤ → ℤ → ℤ)
@@ -110,8 +111,7 @@ module _ (code : Tables) (links : Option ℕ) (n at : ℕ) (kin : ℕ → Kin) (
           (Does (go_where b [] (record all { shares = shares })))
       by false e = tt
       by true e =
-          let none = no_flights all.flights e in
-          (
+          let none = no_flights all.flights e in (
             agree_brings (λ p. standing_at (at + 1) (shares p)) all.flights none none ends,
             record { flights = open_now.flights; room = open_now.room },
           )

@@ -1,5 +1,5 @@
 -- Sends and takes one after another, in rows whose turns are counted along with what they do.
-use Rattle.std.proofs.Common.{◌≡◌, ℕ, zero, suc, ◌+◌, ◌*◌, ◌<◌, ◌≤◌, Bool, true, false, ℤ, List, [], ◌∷◌, ◌++◌, length, map, All, slice_get, Option, Some, None, option_map, option_and_then, refl, sym, ◌∙◌, ap, ap₂, subst, arith, length-append, append_assoc}
+use Rattle.std.proofs.Common.{◌≡◌, ℕ, suc, ◌+◌, ◌*◌, ◌<◌, ◌≤◌, Bool, true, false, ℤ, List, [], ◌∷◌, ◌++◌, length, map, All, slice_get, Option, Some, None, option_map, option_and_then, refl, sym, ◌∙◌, ap, ap₂, subst, arith, length-append, append_assoc}
 use Rattle.std.proofs.lemmas.List.Elements.{All-head, All-tail}
 use Rattle.node_form.specs.declared.instructions.Instr.{Instr}
 use Rattle.node_form.specs.declared.tables.Tables.{Tables}
@@ -51,9 +51,9 @@ module _ (code : Tables) (p at : ℕ) (instr : Instr)
       → Sending code p row (2 * at + 1) words (re at m base) to (re at (m + length to) base)
   sends_chain words base running stages same low high [] front rest is m many from until says =
       let none : m ≡ m + 0 = omega arith in ap (λ k. re at k base) none
-  sends_chain words base running stages same low high (q ∷ to) front rest is m many from until says =
-      let none : m + 1 + length to ≡ m + suc (length to) = omega arith in
-      (
+  sends_chain words base running stages same low high (q ∷ to) front rest is m many from until
+      says =
+      let none : m + 1 + length to ≡ m + suc (length to) = omega arith in (
         at_row m base running,
         tagged m base,
         ap (λ s. slice_get s m) (same m ∙ is)
@@ -93,8 +93,7 @@ module _ (code : Tables) (p at : ℕ) (instr : Instr)
     pub takes_chain : (words : ℕ → List ℤ) (from : List ℕ) → Chained words from
     takes_chain words [] front stages m many above until passes base final kept is =
         let same : base ≡ final = cc in
-        let none : m ≡ m + 0 = omega arith in
-        (
+        let none : m ≡ m + 0 = omega arith in (
           subst Keeps same kept,
           ap₂ (λ k l. re at k l) none same,
         )
@@ -120,8 +119,7 @@ module _ (code : Tables) (p at : ℕ) (instr : Instr)
             (λ base kept m. next_stages base kept m (stages base kept m)) (m + 1)
             (longer front (TakesFrom q) m many) (omega (arith, above)) (omega (arith, until))
             (All-tail Passes q from passes) next final kept_next is in
-            let none : m + 1 + length from ≡ m + suc (length from) = omega arith in
-            (
+            let none : m + 1 + length from ≡ m + suc (length from) = omega arith in (
               kept_final,
               (
                 re at m next,

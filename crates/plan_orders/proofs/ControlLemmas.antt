@@ -1,5 +1,5 @@
 -- Which rows need scalars and slots alone, row by row.
-use Rattle.std.proofs.Common.{◌≡◌, ℕ, ◌≤◌, Bool, true, false, length, take, ap, slice_get, Option, Some, ℤ, refl, sym}
+use Rattle.std.proofs.Common.{◌≡◌, ℕ, ◌≤◌, Bool, true, false, length, take, ap, slice_get, Option, Some, ℤ, sym}
 use Rattle.zpl_nums.specs.Integer.{is_true}
 use Rattle.zpl_nums.specs.declared.ends.TrapKind.TheVariants as kind
 use Rattle.zpl_region.specs.Tests.{is_within_limit}
@@ -12,9 +12,7 @@ use Rattle.node_form.specs.Value.{Computed, Gives, Divides, Lacks}
 use Rattle.node_form.specs.declared.instructions.Instr.{Instr}
 use Rattle.node_form.specs.declared.instructions.Instr.TheVariants as instr
 use Rattle.node_form.specs.declared.tables.Tables.{Tables}
-use Rattle.row_runs.specs.Run.{Effect, Does, Leaps, Passes, Goes, Stops}
-use Rattle.plan_meaning.specs.Abreast.{Abreast, Share, go_where, is_quiet}
-use Rattle.plan_meaning.specs.Act.{controlled, controlled_as, control_of, ends_where, go_one_way, leaps_where, registers_of, shares_on, tested, with_registers}
+use Rattle.plan_meaning.specs.Abreast.{Share}
 use Rattle.grid_meaning.specs.Turn.{act, act_at}
 use Rattle.plan_orders.specs.Brings.{HasOrder, standing_at}
 use Rattle.plan_orders.proofs.QuietLemmas.{branched_decided, done_decided, leap_decided, trap_decided, checked_decided, computed_decided, controlled_well, tested_well, goes_decided, limited_decided, row_decided}
@@ -91,7 +89,8 @@ module _ (code : Tables) (links : Option ℕ) (n at : ℕ) (next : Option Instr)
       checked registers (conforms same region other) kind.RegionMismatch line))
       (λ region. row_decided code (slice_get registers.slots source)
       (λ other. checked registers (conforms same region other) kind.RegionMismatch line)
-      (λ other. checked_decided code registers (conforms same region other) kind.RegionMismatch line)))
+      (λ other. checked_decided code registers (conforms same region other)
+      kind.RegionMismatch line)))
       all open_now
 
   pub fits_ordered : (slot : ℕ) (shift : _) (line : ℕ) → Here (instr.Fits slot shift line)

@@ -1,8 +1,7 @@
 -- Rows with messages: deliveries and exchanges.
-use Rattle.std.proofs.Common.{◌≡◌, ℕ, zero, suc, ◌+◌, ◌*◌, ◌<◌, ◌≤◌, ◌==◌, nat_le, Bool, true, false, ◌&&◌, ℤ, List, [], ◌∷◌, ◌++◌, length, map, All, slice_get, Option, Some, None, option_map, is_some, refl, sym, ◌∙◌, ap, ap₂, subst, arith, eqb-true, leb-true, ltb-true, length-append}
-use Rattle.std.specs.Prelude.{unwrap_or, nat_lt}
-use Rattle.std.specs.List.{filter_map, flat_map, list_all}
-use Rattle.std.proofs.lemmas.List.Elements.{All-nil, All-cons, All-head, All-tail, All-append, filter_map-append}
+use Rattle.std.proofs.Common.{◌≡◌, ℕ, suc, ◌+◌, ◌*◌, ◌<◌, ◌≤◌, ◌==◌, nat_le, Bool, true, false, ◌&&◌, ℤ, List, [], ◌∷◌, ◌++◌, length, map, All, slice_get, Option, Some, None, option_map, is_some, refl, sym, ◌∙◌, ap, subst, arith, eqb-true, leb-true, ltb-true, length-append}
+use Rattle.std.specs.List.{list_all}
+use Rattle.std.proofs.lemmas.List.Elements.{All-nil, All-cons, All-tail, All-append}
 use Rattle.grid_links.specs.Machine.{Goes as Moves, Ended, Blocked, Awaits}
 use Rattle.grid_links.specs.Run.{count_of}
 use Rattle.grid_paths.specs.Path.{AreOthers}
@@ -13,21 +12,20 @@ use Rattle.code_parts.specs.Early.{is_roomy}
 use Rattle.node_form.specs.declared.instructions.Instr.{Instr}
 use Rattle.node_form.specs.declared.tables.Tables.{Tables}
 use Rattle.grid_meaning.specs.Action.{Action}
-use Rattle.grid_meaning.specs.Collective.{Collective, Stage, Alone, Sends, TakesFrom, Last}
+use Rattle.grid_meaning.specs.Collective.{Collective, Stage, Sends, TakesFrom, Last}
 use Rattle.grid_meaning.specs.Grid.{IsCapacity, system_over}
 use Rattle.grid_meaning.specs.Local.{Local, processors}
 use Rattle.grid_meaning.specs.Rows.{collective}
-use Rattle.row_orders.specs.Rows.{Acting, Delivering, Finishing, Flight, HasRoom, IsBlind, IsFlight, Starting, alone_stage, alone_where, delivery_stages, flying, quiet_scene, taking}
+use Rattle.row_orders.specs.Rows.{Acting, Flight, HasRoom, IsBlind, IsFlight, alone_stage, alone_where, delivery_stages, flying, quiet_scene}
 use Rattle.row_orders.proofs.ExchangeLemmas.{delivers, exchanges}
 use Rattle.row_orders.proofs.StarLemmas.{processor_count}
 use Rattle.row_runs.specs.Run.{Does}
-use Rattle.plan_meaning.specs.Abreast.{Abreast, Share, every, every_two, go_where, is_quiet, locals_of, share_of, standing}
-use Rattle.plan_meaning.specs.Messages as messages
-use Rattle.plan_meaning.specs.Messages.{are_partners, begun, bytes, delivered, does_well, final_of, finished, finished_in, finished_of, from_of, leaves_row, middle_of, next_or, next_with, receiver_of, receivers, sender_of, senders, shown_of, started, starts_alone, to_of, took, words_of}
-use Rattle.plan_orders.specs.Brings.{AreOpen, Brings, GoesWell, in_front, placed, standing_at}
+use Rattle.plan_meaning.specs.Abreast.{Abreast, every, every_two, go_where, is_quiet, locals_of}
+use Rattle.plan_meaning.specs.Messages.{are_partners, begun, bytes, delivered, does_well, final_of, finished, finished_in, from_of, leaves_row, middle_of, next_or, next_with, receivers, senders, shown_of, started, starts_alone, to_of, took, words_of}
+use Rattle.plan_orders.specs.Brings.{AreOpen, GoesWell, in_front, placed, standing_at}
 use Rattle.plan_orders.proofs.AgreeLemmas.{quiet_far, quiet_near}
 use Rattle.plan_orders.proofs.PlaceLemmas.{IsPlaceless, taking_placed}
-use Rattle.plan_orders.proofs.TestLemmas.{both, each_all, every_one, every_other, no_flights, there}
+use Rattle.plan_orders.proofs.TestLemmas.{both, each_all, every_one, every_other, no_flights, no_room, there}
 
 -- ---- the stages of a row
 sends_only : (to : List ℕ) → receivers (map Sends to) ≡ to
@@ -179,8 +177,8 @@ module _ (code : Tables) (links : Option ℕ) (at : ℕ) (instr : Instr)
           ∙ shape p (inside p below) (locals p);
       to_others = λ p below.
           subst (λ c. AreOthers c p (to_of code row locals p)) (sym (processor_count code links))
-          (subst (AreOthers (processors code) p) (sym (ap receivers ((kinds p (inside p below)).stages
-          (locals p)) ∙ receivers_of ((kinds p (inside p below)).alone (locals p)) _ _))
+          (subst (AreOthers (processors code) p) (sym (ap receivers
+          ((kinds p (inside p below)).stages (locals p)) ∙ receivers_of ((kinds p (inside p below)).alone (locals p)) _ _))
           ((kinds p (inside p below)).to_others (locals p)));
       from_others = λ p below.
           subst (λ c. AreOthers c p (from_of code row locals p)) (sym (processor_count code links))
@@ -219,10 +217,12 @@ module _ (code : Tables) (links : Option ℕ) (at : ℕ) (instr : Instr)
       where
         long : (b : Bool) (to from : List ℕ) → 1 ≤ length (delivery_stages b to from)
         long b to from =
-            omega (arith,
-            length-append (alone_stage b) (map Sends to ++ (map TakesFrom from ++ Last ∷ [])),
-            length-append (map Sends to) (map TakesFrom from ++ Last ∷ []),
-            length-append (map TakesFrom from) (Last ∷ []))
+            omega (
+              arith,
+              length-append (alone_stage b) (map Sends to ++ (map TakesFrom from ++ Last ∷ [])),
+              length-append (map Sends to) (map TakesFrom from ++ Last ∷ []),
+              length-append (map TakesFrom from) (Last ∷ []),
+            )
 
   partners_both : (to from : ℕ → List ℕ) → are_partners code to from ≡ true → (p q : ℕ)
       → p < count → q < count
@@ -232,10 +232,6 @@ module _ (code : Tables) (links : Option ℕ) (at : ℕ) (instr : Instr)
       (every_other code (λ r s. (times s (to r) == times r (from s)) && nat_le (times s (to r)) 1)
       e p q (inside p a) (inside q b)) in
       (eqb-true _ _ parts.0, leb-true _ _ parts.1)
-
-  no_room : (links : Option ℕ) → HasRoom links 0
-  no_room None = tt
-  no_room (Some capacity) = omega arith
 
   -- words are taken in the row in which they are sent
   pub delivered_well : (n : ℕ) → IsCapacity links
@@ -259,8 +255,7 @@ module _ (code : Tables) (links : Option ℕ) (at : ℕ) (instr : Instr)
           let (quiet, partners, well) = three_parts (is_quiet all)
           (are_partners code (to_of code row locals) (from_of code row locals))
           (every code (does_well code row locals (words_of code row locals))) e in
-          let turns : ℕ → ℕ = λ p. length ((row p).stages (one p)) in
-          (
+          let turns : ℕ → ℕ = λ p. length ((row p).stages (one p)) in (
             record {
               many = turns;
               shown = shown (words_of code row locals) well;
@@ -336,8 +331,7 @@ module _ (code : Tables) (links : Option ℕ) (at : ℕ) (instr : Instr)
           (All-nil (IsFlight count))) in
           let room : HasRoom links (length (all.flights ++ flight ∷ [])) =
           subst (HasRoom links) (sym (length-append all.flights (flight ∷ [])))
-          (more_room links (length all.flights) roomy) in
-          (
+          (more_room links (length all.flights) roomy) in (
             record {
               many = λ p. length ((row p).stages (one p));
               shown = shown (λ p q. []) well;
@@ -382,8 +376,7 @@ module _ (code : Tables) (links : Option ℕ) (at : ℕ) (instr : Instr)
           subst (All (IsFlight count)) are open_now.flights in
           let room : HasRoom links (length (flight ∷ flights)) =
           subst (λ f. HasRoom links (length f)) are open_now.room in
-          let turns : ℕ → ℕ = λ p. length ((row p).stages (one p)) in
-          (
+          let turns : ℕ → ℕ = λ p. length ((row p).stages (one p)) in (
             record {
               many = turns;
               shown = shown flight.words well;

@@ -14,3 +14,4 @@ pub mod StartLemmas
 pub mod ChainLemmas
 pub mod RemapLemmas
 pub mod RemapRowLemmas
+pub mod RowLemmas

@@ -1,5 +1,5 @@
 -- A loop on one processor: tuple by tuple, in one turn and as many more as go back.
-use Rattle.std.proofs.Common.{◌≡◌, ℕ, zero, suc, ◌+◌, ◌*◌, ◌^◌, ◌<◌, ◌≤◌, ℤ, List, [], ◌∷◌, ◌++◌, length, drop, map, replicate, slice_get, Option, Some, None, refl, sym, ◌∙◌, ap, ap₂, subst, arith, length-append}
+use Rattle.std.proofs.Common.{◌≡◌, ℕ, zero, suc, ◌+◌, ◌^◌, ◌≤◌, ℤ, List, [], ◌∷◌, ◌++◌, length, drop, map, replicate, slice_get, Option, Some, None, refl, sym, ◌∙◌, ap, ap₂, subst, arith, length-append}
 use Rattle.std.specs.List.{concat}
 use Rattle.zpl_region.specs.declared.regions.Region.{Region}
 use Rattle.zpl_region.specs.Region.{members}
@@ -23,7 +23,7 @@ use Rattle.grid_meaning.specs.Loop.{access_at, after_members, flagged, looped, t
 use Rattle.grid_meaning.specs.Place.{own_part}
 use Rattle.grid_meaning.specs.Turn.{act, act_at, processes}
 use Rattle.plan_meaning.specs.Abreast.{Share}
-use Rattle.plan_meaning.specs.Loops.{LacksPlace, Shared, Through, WantsTurn, least_of, point_of, share_behind, tuple_next, tuples_shared, unit_next, units_shared}
+use Rattle.plan_meaning.specs.Loops.{LacksPlace, Shared, Through, WantsTurn, share_behind, tuple_next, tuples_shared, unit_next, units_shared}
 use Rattle.plan_orders.specs.Brings.{standing_at}
 
 -- ---- so many turns without messages and bytes
@@ -98,10 +98,15 @@ past_is (ChoosingElse expr mask line body otherwise after) number =
     let inner = past_is body (number + 1) in
     let other = past_is otherwise (past body (number + 1) + 1) in
     let rest = past_is after (past otherwise (past body (number + 1) + 1) + 1) in
-    omega (arith, inner, other, rest,
-    length-append (members_of body)
-    (Otherwise ∷ (members_of otherwise ++ CloseIf ∷ members_of after)),
-    length-append (members_of otherwise) (CloseIf ∷ members_of after))
+    omega (
+      arith,
+      inner,
+      other,
+      rest,
+      length-append (members_of body)
+          (Otherwise ∷ (members_of otherwise ++ CloseIf ∷ members_of after)),
+      length-append (members_of otherwise) (CloseIf ∷ members_of after),
+    )
 past_is (Looping expr mask line body after) number =
     let inner = past_is body (number + 1) in
     let rest = past_is after (past body (number + 1) + 1) in
@@ -131,9 +136,13 @@ names_are (ChoosingElse expr mask line body otherwise after) number =
     let other = past_is otherwise (past body (number + 1) + 1) in
     let behind : past otherwise (past body (number + 1) + 1) + 1
     ≡ number + length (members_of (ChoosingElse expr mask line body otherwise Nothing)) =
-    omega (arith, inner, other,
-    length-append (members_of body) (Otherwise ∷ (members_of otherwise ++ CloseIf ∷ [])),
-    length-append (members_of otherwise) (CloseIf ∷ [])) in
+    omega (
+      arith,
+      inner,
+      other,
+      length-append (members_of body) (Otherwise ∷ (members_of otherwise ++ CloseIf ∷ [])),
+      length-append (members_of otherwise) (CloseIf ∷ []),
+    ) in
     ap (λ l. number ∷ l)
     (names_are after (past otherwise (past body (number + 1) + 1) + 1)
     ∙ ap (unit_names (units_of after)) behind)
@@ -213,7 +222,8 @@ looping at share index member flag point = record {
 -- how it comes on: it is behind the row; or it makes so many turns, and goes on
 pub data Comes (code : Tables) (p at n : ℕ) (share : Share) (one : Local) : Shared → Type 0 where
   ComesOut : {q : Point (List Array)} {flag : Option ℕ} (turns : ℕ) → 1 ≤ turns
-      → Steps code p turns one (standing_at (at + 1) (share_behind code (suc n) share (Through q flag)))
+      → Steps code p turns one
+      (standing_at (at + 1) (share_behind code (suc n) share (Through q flag)))
       → Comes code p at n share one (Through q flag)
   ComesToWant : (turns : ℕ) → n ≤ turns → (other next : Local) → Steps code p turns one other
       → act code p other ≡ Moves next None [] → Comes code p at n share one WantsTurn
@@ -224,7 +234,8 @@ comes_behind : (code : Tables) (p at n : ℕ) (share : Share) (one two : Local) 
     → Comes code p at n share one result
 comes_behind code p at n share one two k result first (ComesOut turns some rest) =
     ComesOut (k + turns) (omega (arith, some)) (steps_then code p k turns one two _ first rest)
-comes_behind code p at n share one two k result first (ComesToWant turns enough other next rest goes) =
+comes_behind code p at n share one two k result first
+    (ComesToWant turns enough other next rest goes) =
     ComesToWant (k + turns) (omega (arith, enough)) other next
     (steps_then code p k turns one two other first rest) goes
 comes_behind code p at n share one two k result first ComesToLack = ComesToLack
@@ -288,8 +299,7 @@ module _ (code : Tables) (p at slot number : ℕ) (all : List Member) (share : S
         ∙ ap (after_members (looping at share index member flag point)) again,
   )
   stays_steps index flag t is (suc k) member point (back, next, again, rest) =
-      let (other, more, steps, goes) = stays_steps index flag t is k back next rest in
-      (
+      let (other, more, steps, goes) = stays_steps index flag t is k back next rest in (
         other,
         more,
         (
@@ -333,7 +343,8 @@ module _ (code : Tables) (p at slot number : ℕ) (all : List Member) (share : S
         (ResultOf tuples flag point))
         → Comes code p at n share (looping at share index 0 flag point)
         (tuple_next flag result (λ point flag. ResultOf tuples flag point))
-    tuple_comes index flag t tuples point told result is (ComeThrough {q = q} k less leads) SameDone rest =
+    tuple_comes index flag t tuples point told result is (ComeThrough {q = q} k less leads) SameDone
+        rest =
         comes_behind code p at n share _ (looping at share (index + 1) 0 flag q) (suc k) _
         (leads_steps index flag t (group.Through q) _ is (λ member point. refl) k 0 point leads)
         (rest flag q)
@@ -365,8 +376,7 @@ module _ (code : Tables) (p at slot number : ℕ) (all : List Member) (share : S
         → Comes code p at n share (looping at share index 0 flag point)
         (ResultOf tuples flag point)
     tuples_come [] index flag point left =
-        ComesOut 1 (omega arith)
-        (
+        ComesOut 1 (omega arith) (
           _,
           turn_is index 0 flag point
               ∙ ap (turn_at_index code all (looping at share index 0 flag point))

@@ -1,11 +1,10 @@
 -- The row `loop` on all processors: all go through, or some want more turns and the others wait.
-use Rattle.std.proofs.Common.{◌≡◌, ◌⊎◌, ℕ, zero, suc, ◌+◌, ◌<◌, ◌≤◌, Bool, true, false, not, cond, ◌&&◌, ◌==◌, List, [], ◌∷◌, ◌++◌, length, map, All, replicate, slice_get, Option, Some, None, refl, sym, ◌∙◌, ap, ap₂, subst, inl, inr, arith, eqb-true, if◌then◌else◌}
-use Rattle.std.specs.List.{concat, flat_map, list_all, range_with_len}
+use Rattle.std.proofs.Common.{◌≡◌, ◌⊎◌, ℕ, zero, suc, ◌+◌, ◌<◌, ◌≤◌, Bool, true, false, not, ◌&&◌, List, [], ◌++◌, length, All, replicate, slice_get, Option, Some, None, refl, sym, ◌∙◌, ap, subst, inl, inr, arith, eqb-true, if◌then◌else◌}
+use Rattle.std.specs.List.{concat, list_all, range_with_len}
 use Rattle.std.proofs.lemmas.List.{length-replicate}
 use Rattle.zpl_region.specs.declared.regions.Region.{Region}
 use Rattle.grid_links.specs.Machine.{Goes as Moves}
 use Rattle.grid_links.specs.Run.{count_of}
-use Rattle.grid_links.specs.declared.messages.Message.{Message}
 use Rattle.grid_paths.specs.Path.{Quiet}
 use Rattle.grid_paths.specs.Scene.{AwaitsMessage, Leads, MovesIn, RestsIn}
 use Rattle.grid_paths.specs.Tree.{Halted, IsTree}
@@ -18,13 +17,13 @@ use Rattle.node_form.specs.declared.tables.Tables.{Tables}
 use Rattle.nest_meaning.specs.Tree.{nest_of}
 use Rattle.nest_meaning.specs.Units.{units_of}
 use Rattle.nest_meaning.proofs.TreeLemmas.{reads_only}
-use Rattle.grid_meaning.specs.Collective.{Kin, agreed, least_flag, star, tree, voted, word_flag}
+use Rattle.grid_meaning.specs.Collective.{Kin, least_flag, star, tree, voted, word_flag}
 use Rattle.grid_meaning.specs.Grid.{IsCapacity, system_over}
-use Rattle.grid_meaning.specs.Local.{Local, processor_numbers, processors}
+use Rattle.grid_meaning.specs.Local.{Local, processors}
 use Rattle.grid_meaning.specs.Rows.{collective}
 use Rattle.grid_meaning.specs.Turn.{act}
 use Rattle.row_orders.specs.Agreement.{Partly, tree_of}
-use Rattle.row_orders.specs.Rows.{Flight, HasRoom, IsAtRow, IsFlight, flight_messages, flying, quiet_scene}
+use Rattle.row_orders.specs.Rows.{Flight, HasRoom, IsAtRow, IsFlight, flying, quiet_scene}
 use Rattle.row_orders.proofs.HaltLemmas.{halt}
 use Rattle.row_orders.proofs.QuietLemmas.{go_alone}
 use Rattle.row_orders.proofs.StarLemmas.{processor_count}
@@ -33,7 +32,7 @@ use Rattle.row_runs.specs.Run.{Does, Ends, Goes, Stops, Wrong}
 use Rattle.zpl_nums.specs.declared.ends.End.TheVariants.{More}
 use Rattle.plan_meaning.specs.Abreast.{Abreast, Share, every, is_quiet}
 use Rattle.plan_meaning.specs.Act.{found, is_vote_of}
-use Rattle.plan_meaning.specs.Loops.{LacksPlace, Shared, Through, WantsTurn, all_shared, lacks, looped, part_shared, point_of, share_behind, shared, tree_looped, wants}
+use Rattle.plan_meaning.specs.Loops.{Shared, lacks, looped, part_shared, point_of, share_behind, shared, tree_looped, wants}
 use Rattle.plan_orders.specs.Brings.{AllWait, AreOpen, Brings, ComesToWait, GoesWell, HasOrder, IsFollowed, in_front, standing_at}
 use Rattle.plan_orders.proofs.AgreeLemmas.{decided_blind, flag_of, quiet_near, vote_last}
 use Rattle.plan_orders.proofs.LoopLemmas.{Comes, ComesOut, ComesToLack, ComesToWant, Steps, shows_none, steps_path, tuples_come}
@@ -221,8 +220,7 @@ module _ (code : Tables) (links : Option ℕ) (n at slot number : ℕ) (members 
       longest : (p : ℕ) × (p < count) × (away p ≡ true)
       longest =
           let (p, below, failed) = some_fails (λ q. not (wants code (suc n) (result q))) 0
-          (processors code) wanted in
-          (
+          (processors code) wanted in (
             p,
             subst (λ c. p < c) (sym (processor_count code links)) (omega (arith, below)),
             not_true (wants code (suc n) (result p)) failed,

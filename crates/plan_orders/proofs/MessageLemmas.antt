@@ -1,5 +1,5 @@
 -- The rows with messages, row by row.
-use Rattle.std.proofs.Common.{◌≡◌, ℕ, zero, suc, ◌+◌, ◌*◌, ◌<◌, ◌==◌, Bool, true, false, ℤ, List, [], ◌∷◌, ◌++◌, length, map, slice_get, Option, Some, None, option_map, refl, sym, ◌∙◌, ap, subst, arith, if◌then◌else◌}
+use Rattle.std.proofs.Common.{◌≡◌, ℕ, zero, suc, ◌+◌, ◌*◌, ◌<◌, ◌==◌, Bool, true, false, ℤ, List, [], ◌∷◌, length, slice_get, Option, Some, None, option_map, refl, ap, arith, if◌then◌else◌}
 use Rattle.std.proofs.lemmas.Bool.{ne_eqb}
 use Rattle.std.proofs.lemmas.List.Elements.{All-nil, All-cons}
 use Rattle.zpl_nums.specs.declared.ends.Border.{Border}
@@ -9,7 +9,7 @@ use Rattle.node_form.specs.declared.arrays.Item.{Item}
 use Rattle.node_form.specs.declared.instructions.Instr.{Instr}
 use Rattle.node_form.specs.declared.instructions.Instr.TheVariants as instr
 use Rattle.node_form.specs.declared.tables.Tables.{Tables}
-use Rattle.grid_meaning.specs.Collective.{Collective, Stage, Sends, TakesFrom, Last, others_where}
+use Rattle.grid_meaning.specs.Collective.{Sends, Last, others_where}
 use Rattle.grid_meaning.specs.Delivery as delivery
 use Rattle.grid_meaning.specs.Delivery.{Delivery, edging, flooding, parting}
 use Rattle.grid_meaning.specs.Exchange as exchange
@@ -17,16 +17,15 @@ use Rattle.grid_meaning.specs.Gather.{gathered, gather_stages}
 use Rattle.grid_meaning.specs.Grid.{IsCapacity}
 use Rattle.grid_meaning.specs.Local.{Local, processors}
 use Rattle.grid_meaning.specs.Owner.{region_in, tuples_of}
-use Rattle.grid_meaning.specs.Rows.{collective}
 use Rattle.grid_meaning.specs.Scan.{line_count, scanned_row}
 use Rattle.row_orders.specs.Rows.{delivery_stages}
 use Rattle.row_orders.proofs.BlindLemmas.{IsBySlots, delivered_blind, edging_by_slots, finished_blind, flooding_by_slots, gathered_blind, parting_by_slots, scanned_blind, started_blind}
 use Rattle.row_orders.proofs.PartnerLemmas.{others_where_others}
 use Rattle.row_runs.specs.Run.{Does}
-use Rattle.plan_meaning.specs.Abreast.{Abreast, locals_of}
+use Rattle.plan_meaning.specs.Abreast.{locals_of}
 use Rattle.plan_meaning.specs.Act.{found}
-use Rattle.plan_meaning.specs.Messages.{finished, receivers, senders, started}
-use Rattle.plan_orders.specs.Brings.{AreOpen, GoesWell, HasOrder}
+use Rattle.plan_meaning.specs.Messages.{finished, started}
+use Rattle.plan_orders.specs.Brings.{GoesWell, HasOrder}
 use Rattle.plan_orders.proofs.DeliverLemmas.{IsDelivery, delivered_well, finished_well, receivers_of, senders_of, started_well}
 use Rattle.plan_orders.proofs.PlaceLemmas.{IsPlaceless, edging_placeless, finished_placeless, flooding_placeless, gathered_placeless, parting_placeless, scanned_placeless, started_placeless}
 

@@ -1,7 +1,6 @@
 -- Rows that don't look at their own number: where they stand matters to the number of the next row
 -- alone, and to the tags of messages.
-use Rattle.std.proofs.Common.{◌≡◌, ℕ, zero, suc, ◌+◌, ◌<◌, ◌==◌, Bool, true, false, ℤ, List, [], ◌∷◌, ◌++◌, length, map, Option, Some, None, option_map, option_and_then, slice_get, refl, sym, ◌∙◌, ap, ap₂, subst}
-use Rattle.std.specs.Prelude.{unwrap_or, is_none}
+use Rattle.std.proofs.Common.{◌≡◌, ℕ, zero, suc, ◌==◌, Bool, true, false, ℤ, List, [], ◌∷◌, ◌++◌, length, map, Option, Some, None, option_map, option_and_then, refl, ◌∙◌, ap, ap₂}
 use Rattle.std.proofs.Math.Path.{fun_ext}
 use Rattle.zpl_arrays.specs.Row.{kept_values, running}
 use Rattle.zpl_nums.specs.Fold.{folded}
@@ -13,7 +12,7 @@ use Rattle.grid_links.specs.Machine.{Goes as Moves}
 use Rattle.node_form.specs.declared.arrays.Item.{Item}
 use Rattle.node_form.specs.declared.tables.Tables.{Tables}
 use Rattle.grid_meaning.specs.Action.{goes_on}
-use Rattle.grid_meaning.specs.Collective.{Collective, Stage, Alone, Sends, TakesFrom, Last, others_where, keeping}
+use Rattle.grid_meaning.specs.Collective.{Collective, Stage, Alone, Sends, TakesFrom, Last, others_where}
 use Rattle.grid_meaning.specs.Delivery.{Delivery, delivered, each_word, with_words, combined_into, edging, flooding, parting, with_combined}
 use Rattle.grid_meaning.specs.Exchange.{started, finished, words_written}
 use Rattle.grid_meaning.specs.Gather.{gathered, gather_last, prints_gathered}
@@ -23,9 +22,7 @@ use Rattle.grid_meaning.specs.Place.{values_at, with_values}
 use Rattle.grid_meaning.specs.Scan.{scanned_row, scan_value, scan_values, line_totals, line_heads, line_dim, line_of, with_lines, before_line, scan_last, scan_done}
 use Rattle.row_orders.proofs.BlindLemmas.{IsBySlots, edging_by_slots, flooding_by_slots, parting_by_slots}
 use Rattle.row_orders.specs.Rows.{taking, taken_where}
-use Rattle.plan_meaning.specs.Abreast.{share_of}
-use Rattle.plan_meaning.specs.Messages.{leaves_row, next_or, shown_of}
-use Rattle.plan_orders.specs.Brings.{placed, standing_at}
+use Rattle.plan_orders.specs.Brings.{placed}
 use Rattle.plan_orders.proofs.PrintLemmas.{IsLeft}
 use Rattle.plan_orders.proofs.TestLemmas.{none_there}
 

@@ -1,18 +1,17 @@
 -- From rows to bounded runs.
-use Rattle.std.proofs.Common.{◌≡◌, ◌≢◌, ◌⊎◌, ℕ, zero, suc, ◌+◌, ◌<◌, ◌≤◌, Bool, true, false, ◌&&◌, List, [], ◌∷◌, ◌++◌, length, drop, All, slice_get, Option, Some, None, refl, sym, ◌∙◌, ap, ap₂, subst, inl, inr, arith, length-append, append_assoc}
+use Rattle.std.proofs.Common.{◌≡◌, ◌≢◌, ◌⊎◌, ℕ, zero, suc, ◌+◌, ◌<◌, ◌≤◌, Bool, true, false, ◌&&◌, List, [], ◌∷◌, ◌++◌, length, drop, slice_get, Option, Some, None, refl, sym, ◌∙◌, ap, ap₂, subst, inl, inr, arith, length-append}
 use Rattle.zpl_nums.specs.declared.ends.End.{End}
 use Rattle.zpl_nums.specs.declared.ends.End.TheVariants.{Done, More}
 use Rattle.grid_links.specs.declared.messages.Message.{Message}
-use Rattle.grid_links.specs.Run.{count_of}
-use Rattle.grid_paths.specs.Scene.{Leads, Scene}
+use Rattle.grid_paths.specs.Scene.{Scene}
 use Rattle.grid_paths.proofs.RoundLemmas.{leads_nowhere, leads_through}
 use Rattle.node_form.specs.declared.instructions.Instr.{Instr}
 use Rattle.node_form.specs.declared.instructions.Instr.TheVariants as instr
 use Rattle.node_form.specs.declared.tables.Tables.{Tables}
 use Rattle.grid_meaning.specs.Grid.{system_over}
 use Rattle.grid_meaning.specs.Local.{Local}
-use Rattle.grid_meaning.specs.Turn.{act, act_at}
-use Rattle.row_runs.specs.Run.{Does, Effect, Ends, Goes, Leaps, Passes, Result, Stop, Stops, Wrong, printed, runs, stopped, walked, went}
+use Rattle.grid_meaning.specs.Turn.{act_at}
+use Rattle.row_runs.specs.Run.{Does, Effect, Ends, Goes, Leaps, Passes, Result, Stops, Wrong, printed, runs, stopped, walked, went}
 use Rattle.plan_meaning.specs.Abreast.{Abreast, is_quiet}
 use Rattle.plan_meaning.specs.Act.{Followed, all_followed, controlled, ends_where, go_one_way, is_vote_of, plan_act, plan_rows}
 use Rattle.plan_orders.specs.Brings.{AllEnd, AllWait, AreOpen, Brings, ComesToEnd, ComesToWait, GoesWell, HasOrder, IsFollowed, Stopped, in_front, standing_at}
@@ -81,7 +80,8 @@ arrives_behind code links n k left more one two bytes result fits first (AtEnd {
       quiet = end.quiet;
       last = end.last;
     })
-arrives_behind code links n k left more one two bytes result fits first (AtWait {bytes = then} wait) =
+arrives_behind code links n k left more one two bytes result fits first
+    (AtWait {bytes = then} wait) =
     AtWait (record {
       other = wait.other;
       brings =
@@ -113,8 +113,7 @@ followed_here [] zero one more e = cc
 followed_here [] (suc at) one more e = cc
 followed_here (row ∷ []) zero one more e =
     let same : record { row = row; next = None } ≡ one = cc in
-    let rest : [] ≡ more = cc in
-    (
+    let rest : [] ≡ more = cc in (
       ap (λ f. Some f.row) same,
       ap (λ f. f.next) same,
       rest,
@@ -123,16 +122,14 @@ followed_here (row ∷ []) (suc zero) one more e = cc
 followed_here (row ∷ []) (suc (suc at)) one more e = cc
 followed_here (row ∷ (next ∷ rows)) zero one more e =
     let same : record { row = row; next = Some next } ≡ one = cc in
-    let rest : all_followed (next ∷ rows) ≡ more = cc in
-    (
+    let rest : all_followed (next ∷ rows) ≡ more = cc in (
       ap (λ f. Some f.row) same,
       ap (λ f. f.next) same,
       rest,
     )
 followed_here (row ∷ (next ∷ rows)) (suc at) one more e =
     let (here, behind, rest) = followed_here (next ∷ rows) at one more e in
-    let up : suc at + 1 ≡ suc (at + 1) = omega arith in
-    (
+    let up : suc at + 1 ≡ suc (at + 1) = omega arith in (
       here,
       ap (slice_get (row ∷ (next ∷ rows))) up ∙ behind,
       ap (λ k. drop k (all_followed (row ∷ (next ∷ rows)))) up ∙ rest,
@@ -313,7 +310,8 @@ module _ (code : Tables) (links : Option ℕ) (n : ℕ)
   walk left again (one ∷ more) at all is fits open_now right =
       step left at all (runs does rows left) (runs does rows (suc left))
       (λ next. walked does (runs does rows left) (λ _. stopped (Ends Done)) (at + 1) more next)
-      (λ next. walked does (runs does rows (suc left)) (λ _. stopped (Ends Done)) (at + 1) more next)
+      (λ next. walked does (runs does rows (suc left)) (λ _. stopped (Ends Done)) (at + 1) more
+      next)
       (does one all) (row_is at all one more is open_now)
       (λ next open_next less ok. walk left again more (at + 1) next
       (followed_here (code.code ++ instr.End ∷ []) at one more is).2 (omega (arith, less)) open_next

@@ -1,5 +1,5 @@
 -- Rows of one turn, on each processor by itself: `room`, `clear` and prints.
-use Rattle.std.proofs.Common.{◌≡◌, ◌≢◌, ℕ, zero, suc, ◌+◌, ◌<◌, Bool, true, false, ◌&&◌, ℤ, List, [], slice_get, Option, Some, None, refl, sym, ◌∙◌, ap}
+use Rattle.std.proofs.Common.{◌≡◌, ◌≢◌, ℕ, zero, suc, ◌+◌, Bool, true, false, ◌&&◌, ℤ, List, [], slice_get, Option, Some, None, refl, sym, ◌∙◌, ap}
 use Rattle.std.specs.List.{flat_map}
 use Rattle.std.specs.Fmt.{signed_decimal}
 use Rattle.zpl_arrays.specs.Array.{Array}
@@ -15,9 +15,9 @@ use Rattle.node_form.specs.declared.instructions.Instr.{Instr}
 use Rattle.node_form.specs.declared.instructions.Instr.TheVariants as instr
 use Rattle.node_form.specs.declared.tables.Tables.{Tables}
 use Rattle.grid_meaning.specs.Action.{Action, ended_as, prints}
-use Rattle.grid_meaning.specs.Local.{Local, processors}
+use Rattle.grid_meaning.specs.Local.{Local}
 use Rattle.grid_meaning.specs.Room.{roomed, cleared}
-use Rattle.grid_meaning.specs.Turn.{act, act_at, expression_value, prints_text, prints_value}
+use Rattle.grid_meaning.specs.Turn.{act_at, expression_value, prints_text, prints_value}
 use Rattle.row_orders.specs.Rows.{flight_messages, flying}
 use Rattle.row_runs.specs.Run.{Does}
 use Rattle.plan_meaning.specs.Abreast.{Abreast, Share, every, go_where, is_quiet, locals_of, share_of, standing}
@@ -45,7 +45,8 @@ module _ (code : Tables) (links : Option ℕ) (n at : ℕ) (row : Instr)
   }
 
   alone_where : (b : Bool) → every code (λ p. leaves_row (action_of code row all p)) ≡ b
-      → GoesWell code links n at all (Does (go_where b (shown_of (action_of code row all 0)) behind))
+      → GoesWell code links n at all
+      (Does (go_where b (shown_of (action_of code row all 0)) behind))
   alone_where false is = tt
   alone_where true is = (
     brings_once code links (λ p. standing_at at (all.shares p))

@@ -1,5 +1,5 @@
 -- Rows that need scalars and slots alone: all processors go the same way, each in one turn.
-use Rattle.std.proofs.Common.{◌≡◌, ◌≢◌, ℕ, ◌+◌, ◌<◌, ◌≤◌, ◌==◌, Bool, true, false, ◌&&◌, List, [], ◌∷◌, length, All, slice_get, Option, Some, None, refl, sym, ◌∙◌, ap, ap₂, subst, arith, eqb-true}
+use Rattle.std.proofs.Common.{◌≡◌, ◌≢◌, ℕ, ◌+◌, ◌<◌, ◌≤◌, Bool, true, false, ◌&&◌, List, [], length, All, Option, Some, None, refl, sym, ◌∙◌, ap, subst, arith, eqb-true}
 use Rattle.std.specs.List.{flat_map}
 use Rattle.zpl_nums.specs.declared.ends.End.{End}
 use Rattle.zpl_nums.specs.declared.ends.End.TheVariants.{Done, Trap, More}
@@ -12,7 +12,6 @@ use Rattle.node_form.specs.Control as control
 use Rattle.node_form.specs.Control.{Control, Registers, control as control_by, with_computed, with_row, with_slot, limited, checked, branched}
 use Rattle.node_form.specs.Value.{Computed, Gives, Divides, Lacks}
 use Rattle.node_form.specs.declared.instructions.Instr.{Instr}
-use Rattle.node_form.specs.declared.instructions.Instr.TheVariants as instr
 use Rattle.node_form.specs.declared.tables.Tables.{Tables}
 use Rattle.grid_meaning.specs.Action.{ended_as}
 use Rattle.grid_meaning.specs.Grid.{system_over}
@@ -22,10 +21,10 @@ use Rattle.grid_meaning.specs.Turn.{act, act_at, unless_ended}
 use Rattle.row_orders.specs.Rows.{Flight, flight_messages, flying, HasRoom, IsFlight}
 use Rattle.row_orders.proofs.QuietLemmas.{goes_once}
 use Rattle.row_orders.proofs.StarLemmas.{processor_count}
-use Rattle.row_runs.specs.Run.{Effect, Does, Leaps, Passes}
-use Rattle.plan_meaning.specs.Abreast.{Abreast, Share, every, go_where, is_quiet}
+use Rattle.row_runs.specs.Run.{Does}
+use Rattle.plan_meaning.specs.Abreast.{Abreast, Share, go_where, is_quiet}
 use Rattle.plan_meaning.specs.Act.{controlled, controlled_as, control_of, ends_where, go_one_way, is_way, leaps_where, registers_or, registers_of, shares_on, tested, with_registers}
-use Rattle.plan_orders.specs.Brings.{AllEnd, AreOpen, Brings, ComesToEnd, GoesWell, HasOrder, Stopped, in_front, standing_at}
+use Rattle.plan_orders.specs.Brings.{AreOpen, Brings, ComesToEnd, GoesWell, standing_at}
 use Rattle.plan_orders.proofs.TestLemmas.{both, every_one, no_flights, same_ending, ways_within}
 
 -- ---- one turn of each

@@ -1,22 +1,17 @@
 -- A remap read on one processor: what its turns are when they are counted.
-use Rattle.std.proofs.Common.{◌≡◌, ◌≢◌, ◌⊎◌, ℕ, zero, suc, ◌+◌, ◌-◌, ◌*◌, ◌%◌, ◌<◌, ◌≤◌, ◌==◌, nat_le, Bool, true, false, not, cond, ◌&&◌, ℤ, List, [], ◌∷◌, ◌++◌, drop, filter, length, map, All, slice_get, Option, Some, None, option_map, option_and_then, refl, sym, ◌∙◌, ap, ap₂, subst, arith, length-append, append_assoc, if◌then◌else◌}
-use Rattle.std.specs.Prelude.{nat_lt, unwrap_or}
-use Rattle.std.specs.List.{filter_map}
+use Rattle.std.proofs.Common.{◌≡◌, ℕ, ◌+◌, ◌-◌, ◌*◌, ◌%◌, ◌<◌, ◌≤◌, ◌==◌, nat_le, Bool, true, false, not, cond, ℤ, List, [], ◌∷◌, ◌++◌, drop, filter, length, map, All, Option, Some, None, option_map, option_and_then, refl, sym, ◌∙◌, ap, subst, arith, if◌then◌else◌}
+use Rattle.std.specs.Prelude.{nat_lt}
 use Rattle.std.proofs.Math.Seq.{drop-append_seam}
 use Rattle.std.proofs.lemmas.List.Elements.{All-nil, All-cons, All-head, All-tail, All-filter}
 use Rattle.zpl_arrays.specs.Array.{Array}
-use Rattle.grid_links.specs.Machine.{Goes as Moves}
-use Rattle.grid_paths.specs.Path.{AreOthers}
 use Rattle.grid_paths.specs.Tree.{times}
 use Rattle.node_form.specs.declared.arrays.ArrayRow.{ArrayRow}
 use Rattle.node_form.specs.declared.tables.Tables.{Tables}
-use Rattle.grid_meaning.specs.Action.{goes_on}
 use Rattle.grid_meaning.specs.Collective.{Collective, Stage, Alone, Sends, TakesFrom, Last, kept_with, keeping, others}
 use Rattle.grid_meaning.specs.Local.{Local, processor_numbers, processors}
-use Rattle.grid_meaning.specs.Owner.{region_in, tuples_of}
 use Rattle.grid_meaning.specs.Place.{with_values}
 use Rattle.grid_meaning.specs.Remap.{Want, answer, first_values, owns_all, remap_own, remapped, request, request_taken, some_wants, wants, wants_at_once, written}
-use Rattle.grid_meaning.proofs.RemapLemmas.{IfApart, IsApart, length-others, same_stages, values_apart}
+use Rattle.grid_meaning.proofs.RemapLemmas.{IfApart, IsApart, values_apart}
 use Rattle.row_orders.proofs.PartnerLemmas.{below-range, same_turned, times-filter, times-range}
 use Rattle.plan_meaning.specs.Messages.{receivers, senders}
 use Rattle.plan_orders.proofs.ChainLemmas.{re}

@@ -1,40 +1,39 @@
 -- A remap read on all processors.
-use Rattle.std.proofs.Common.{◌≡◌, ◌≢◌, ℕ, zero, suc, ◌+◌, ◌-◌, ◌*◌, ◌<◌, ◌≤◌, ◌==◌, nat_le, Bool, true, false, not, cond, ◌&&◌, ℤ, List, [], ◌∷◌, ◌++◌, drop, filter, length, map, All, slice_get, Option, Some, None, option_map, is_some, refl, sym, ◌∙◌, ap, ap₂, subst, arith, length-append, append_assoc, eqb-true, leb-true, le-leb}
+use Rattle.std.proofs.Common.{◌≡◌, ◌≢◌, ℕ, ◌+◌, ◌-◌, ◌*◌, ◌<◌, ◌≤◌, ◌==◌, nat_le, Bool, true, false, ◌&&◌, List, [], ◌∷◌, ◌++◌, drop, length, map, All, slice_get, Option, Some, None, option_map, is_some, refl, sym, ◌∙◌, ap, ap₂, subst, arith, length-append, append_assoc, eqb-true, leb-true, le-leb}
 use Rattle.std.proofs.lemmas.Bool.{lt-leb}
 use Rattle.std.specs.Prelude.{unwrap_or}
-use Rattle.std.specs.List.{filter_map, list_all}
+use Rattle.std.specs.List.{list_all}
 use Rattle.std.proofs.lemmas.List.{length-map}
-use Rattle.std.proofs.lemmas.List.Elements.{All-nil, All-cons, All-head, All-tail, All-filter}
+use Rattle.std.proofs.lemmas.List.Elements.{All-nil, All-filter}
 use Rattle.grid_links.specs.Machine.{Goes as Moves}
 use Rattle.grid_links.specs.Run.{count_of}
 use Rattle.grid_paths.specs.Path.{AreOthers}
-use Rattle.grid_paths.specs.Scene.{Leads}
 use Rattle.grid_paths.specs.Tree.{times}
 use Rattle.grid_paths.proofs.RoundLemmas.{leads_agreed}
 use Rattle.node_form.specs.declared.arrays.ArrayRow.{ArrayRow}
 use Rattle.node_form.specs.declared.instructions.Instr.{Instr}
 use Rattle.node_form.specs.declared.tables.Tables.{Tables}
-use Rattle.grid_meaning.specs.Collective.{Alone, Collective, Last, Sends, Stage, TakesFrom, others, stage_of}
+use Rattle.grid_meaning.specs.Collective.{Alone, Collective, Last, Sends, Stage, TakesFrom, others}
 use Rattle.grid_meaning.specs.Grid.{IsCapacity, system_over}
 use Rattle.grid_meaning.specs.Local.{Local, processors}
 use Rattle.grid_meaning.specs.Rows.{collective}
 use Rattle.grid_meaning.specs.Turn.{act, act_in, steps_on}
 use Rattle.grid_meaning.proofs.RemapLemmas.{length-others, same_stages}
 use Rattle.row_orders.specs.Halves.{Remapping, Sending, Taking}
-use Rattle.row_orders.specs.Rows.{ArePartners, HasRoom, IsFlight, IsAtRow, quiet_scene, taking}
+use Rattle.row_orders.specs.Rows.{IsFlight, quiet_scene}
 use Rattle.row_orders.proofs.AgreementLemmas.{All-each}
 use Rattle.row_orders.proofs.HalfLemmas.{remaps}
 use Rattle.row_orders.proofs.StageLemmas.{act_here}
 use Rattle.row_orders.proofs.StarLemmas.{processor_count}
 use Rattle.row_runs.specs.Run.{Does}
-use Rattle.plan_meaning.specs.Abreast.{Abreast, Share, every, go_where, is_quiet, locals_of, share_of}
+use Rattle.plan_meaning.specs.Abreast.{Abreast, every, go_where, is_quiet, locals_of, share_of}
 use Rattle.plan_meaning.specs.Messages.{answered, answering, answers, answers_from, answers_to, are_partners, asked, asking, behind_answers, heard_by, leaves_row, next_or, receivers, remapped, remaps_well, requests, senders}
-use Rattle.plan_orders.specs.Brings.{AreOpen, GoesWell, in_front, standing_at}
+use Rattle.plan_orders.specs.Brings.{GoesWell, in_front, standing_at}
 use Rattle.plan_orders.proofs.AgreeLemmas.{quiet_far, quiet_near}
-use Rattle.plan_orders.proofs.ChainLemmas.{place_of, push, re, sends_chain, takes_chain}
+use Rattle.plan_orders.proofs.ChainLemmas.{place_of, re, sends_chain, takes_chain}
 use Rattle.plan_orders.proofs.PlaceLemmas.{goes_left}
 use Rattle.plan_orders.proofs.RemapLemmas.{Answers, Asks, IsOther, IsStored, Row, alone_re, alone_stored, answers_keep, are_others, asking_stages, asks_keep, awaits_same, back_from, most, names_of, others_both, receivers_are, senders_are, stages_are, taken_same, words_same}
-use Rattle.plan_orders.proofs.TestLemmas.{both, each_all, every_one, every_other, no_flights, there}
+use Rattle.plan_orders.proofs.TestLemmas.{both, each_all, every_one, every_other, no_flights, no_room, there}
 
 six_parts : (a b c d e f : Bool) → (a && b && c && d && e && f) ≡ true
     → (a ≡ true) × (b ≡ true) × (c ≡ true) × (d ≡ true) × (e ≡ true) × (f ≡ true)
@@ -51,10 +50,6 @@ three_parts true true true e = (refl, refl, refl)
 three_parts true true false e = cc
 three_parts true false c e = cc
 three_parts false b c e = cc
-
-no_room : (links : Option ℕ) → HasRoom links 0
-no_room None = tt
-no_room (Some capacity) = omega arith
 
 module _ (code : Tables) (links : Option ℕ) (at array slot from : ℕ) (parts : List ℕ)
     (row : ArrayRow) (instr : Instr) (here : slice_get code.code at ≡ Some instr)
@@ -258,8 +253,13 @@ module _ (code : Tables) (links : Option ℕ) (at array slot from : ℕ) (parts 
     front_answers_long =
         let s = length-map (others code p) Sends in
         let t = length-map (others code p) TakesFrom in
-        omega (arith, s, t, length-append (map Sends (others code p))
-        (map TakesFrom (others code p)))
+        omega (
+          arith,
+          s,
+          t,
+          length-append (map Sends (others code p))
+              (map TakesFrom (others code p)),
+        )
 
     abbrev front_gets : List Stage
     front_gets = front_answers ++ map Sends (to_back p)
@@ -476,8 +476,7 @@ module _ (code : Tables) (links : Option ℕ) (at array slot from : ℕ) (parts 
           1 + length (is.to p) + length (is.from p) + length (is.back_to p)
           + length (is.back_from p) + 1 in
           let other : ℕ → Local = λ p.
-          standing_at (at + 1) (share_of (next_or (final p) ((the_row p).last (final p)))) in
-          (
+          standing_at (at + 1) (share_of (next_or (final p) ((the_row p).last (final p)))) in (
             record {
               many = turns;
               shown = λ p. [];

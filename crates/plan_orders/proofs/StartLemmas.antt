@@ -1,5 +1,5 @@
 -- From the start of a plan to where its run comes.
-use Rattle.std.proofs.Common.{◌≡◌, ◌≢◌, ◌⊎◌, ◌↔◌, ℕ, zero, suc, ◌+◌, ◌*◌, ◌/◌, ◌%◌, ◌<◌, ◌≤◌, ◌==◌, Bool, true, false, List, [], ◌∷◌, ◌++◌, length, map, fold, All, slice_get, Option, Some, None, refl, sym, ◌∙◌, ap, ap₂, subst, inl, inr, arith, length-append, append_assoc, append-nil, get_or}
+use Rattle.std.proofs.Common.{◌≡◌, ◌⊎◌, ℕ, zero, suc, ◌+◌, ◌*◌, ◌/◌, ◌%◌, ◌<◌, ◌≤◌, ◌==◌, List, [], ◌∷◌, ◌++◌, length, map, fold, All, slice_get, Option, Some, None, refl, sym, ◌∙◌, ap, subst, inl, inr, arith, length-append, append_assoc, append-nil, get_or}
 use Rattle.std.specs.Prelude.{IsSome, option_and_then}
 use Rattle.std.specs.List.{range_with_len}
 use Rattle.std.proofs.Math.Nat.{div-lt_iff_lt-mul, mod-lt}
@@ -11,34 +11,34 @@ use Rattle.std.proofs.lemmas.List.Elements.{All-nil, All-cons, All-head, All-tai
 use Rattle.zpl_nums.specs.declared.ends.End.{End}
 use Rattle.zpl_nums.specs.declared.ends.End.TheVariants.{More}
 use Rattle.grid_links.specs.declared.messages.Message.{Message}
-use Rattle.grid_links.specs.Laws.{Reaches}
-use Rattle.grid_links.specs.Links.{link_number, link_of}
+use Rattle.grid_links.specs.Links.{link_of}
 use Rattle.grid_links.specs.Machine.{Ended, Move, Moves, Over, Stuck, Waiting, Turn as TurnOf}
 use Rattle.grid_links.specs.Run as run
 use Rattle.grid_links.specs.Run.{World, after_turn, count_of, move_in, moves_from, moves_of, shown_by, start_world, turn_or_over}
 use Rattle.grid_links.proofs.LapLemmas.{after-append, moves_of-append}
-use Rattle.grid_paths.specs.Laws.{HasCome, Reached}
-use Rattle.grid_paths.specs.Scene.{ComesTo, HasEnded, HasScene, OnlyMoves, Scene}
+use Rattle.grid_paths.specs.Laws.{Reached}
+use Rattle.grid_paths.specs.Scene.{HasEnded, HasScene, OnlyMoves, Scene}
 use Rattle.grid_paths.proofs.ReachLemmas.{moving_turn, reaches_from, starts, unstuck}
 use Rattle.grid_paths.proofs.StuckLemmas.{stays_stuck}
-use Rattle.node_form.specs.Grid.{factors_of, processors_of}
+use Rattle.node_form.specs.Grid.{factors_of}
 use Rattle.node_form.specs.declared.tables.Tables.{Tables}
 use Rattle.grid_meaning.specs.Action.{StuckKind}
-use Rattle.grid_meaning.specs.Grid.{EndsAs, Grid, HasEmptyLinks, IsOver, after, after_from, given_turn, next_turn, printed_by, shown_in, start_grid, system_over}
-use Rattle.grid_meaning.specs.Local.{Local, processor_numbers, processors, start_local}
+use Rattle.grid_meaning.specs.Grid.{Grid, HasEmptyLinks, IsOver, after, after_from, given_turn, next_turn, printed_by, shown_in, start_grid, system_over}
+use Rattle.grid_meaning.specs.Local.{Local, processors, start_local}
 use Rattle.grid_meaning.specs.Order.{IsOrder}
 use Rattle.grid_meaning.specs.Turn.{Turn, act, act_at, unless_ended}
 use Rattle.grid_meaning.proofs.GridLemmas.{world-after}
 use Rattle.grid_meaning.proofs.WorldLemmas.{IsOver-world}
 use Rattle.row_orders.proofs.StarLemmas.{processor_count}
 use Rattle.row_runs.specs.Run.{Ends, Result}
-use Rattle.plan_meaning.specs.Abreast.{Abreast, start_abreast}
-use Rattle.plan_orders.specs.Brings.{AllEnd, AllWait, Brings, in_front}
+use Rattle.plan_meaning.specs.Abreast.{start_abreast}
+use Rattle.plan_orders.specs.Brings.{in_front}
 use Rattle.plan_orders.specs.InStep.{IsInStep}
 use Rattle.plan_orders.proofs.PlanLemmas.{AllMove, AllRest, Arrives, AtEnd, AtRow, AtWait, Onward}
 
 -- ---- what a grid has printed is what processor 0 has shown
-shown_first : (p : ℕ) (turn : Turn) → printed_by p (shown_in turn) ≡ shown_by (move_in (p == 0) turn)
+shown_first : (p : ℕ) (turn : Turn)
+    → printed_by p (shown_in turn) ≡ shown_by (move_in (p == 0) turn)
 shown_first zero (Moves move) = sym (append-nil move.shown)
 shown_first zero Waiting = refl
 shown_first zero Over = refl
@@ -65,7 +65,7 @@ printed_is : (code : Tables) (links : Option ℕ) (order : List ℕ)
 printed_is code links order = printed_from code links (start_grid code) order
 
 -- ---- elements of lists
-all_at : {X : Type 0} (P : X → Type 0) (xs : List X) (i : ℕ) (x : X) → All P xs
+pub all_at : {X : Type 0} (P : X → Type 0) (xs : List X) (i : ℕ) (x : X) → All P xs
     → slice_get xs i ≡ Some x → P x
 all_at P [] i x all e = cc
 all_at P (y ∷ xs) zero x all e =
@@ -247,7 +247,7 @@ module _ (code : Tables) (links : Option ℕ) where
       (λ p q a b. has.link p q a b ∙ quiet p q a b))
 
   -- ---- where a run comes
-  in_step : (n left bound : ℕ) → bound ≤ left → bound ≤ n → (result : Result)
+  pub in_step : (n left bound : ℕ) → bound ≤ left → bound ≤ n → (result : Result)
       → Arrives code links n left (in_front 0 (start_abreast code)) result
       → (order : List ℕ) × IsInStep code links result bound order
   in_step n left bound low few result (AtEnd {bytes = bytes} {ending = ending} end) =
@@ -255,17 +255,16 @@ module _ (code : Tables) (links : Option ℕ) where
       reaches_from system (in_front 0 (start_abreast code)) end.over end.brings.many
       end.brings.shown bound start_is end.brings.leads
       (λ p below. inl (HasEnded (ended_act code p (end.over.locals p) ending
-      (end.ended p below)))) in
-      (
+      (end.ended p below)))) in (
         reached.order,
         record {
           turns = orders_below reached.order reached.only_moves;
+          only_moves = reached.only_moves;
           printed =
               printed_is code links reached.order
               ∙ (reached.shows 0 first_below ∙ end.brings.printed);
           ends = λ other same last.
-              let alike : ending ≡ other = cc in
-              (
+              let alike : ending ≡ other = cc in (
                 record {
                   over =
                       over_grid reached.order (reached.over (λ p below.
@@ -291,11 +290,11 @@ module _ (code : Tables) (links : Option ℕ) where
       let reached : Reached system wait.other wait.brings.many wait.brings.shown bound =
       reaches_from system (in_front 0 (start_abreast code)) wait.other wait.brings.many
       wait.brings.shown bound start_is wait.brings.leads
-      (λ p below. less (wait.brings.many p) (wait.each p below)) in
-      (
+      (λ p below. less (wait.brings.many p) (wait.each p below)) in (
         reached.order,
         record {
           turns = orders_below reached.order reached.only_moves;
+          only_moves = reached.only_moves;
           printed =
               printed_is code links reached.order
               ∙ (reached.shows 0 first_below ∙ wait.brings.printed);
@@ -311,8 +310,8 @@ module _ (code : Tables) (links : Option ℕ) where
             wait.longest,
             subst (λ n. wait.longest < n) (processor_count code links) wait.longest_below,
             (let moved = reached.moved wait.longest wait.longest_below in
-            let long = wait.longest_moves in
-            omega (arith, moved, long, few)),
+                let long = wait.longest_moves in
+                omega (arith, moved, long, few)),
           );
         },
       )
@@ -321,11 +320,11 @@ module _ (code : Tables) (links : Option ℕ) where
       less many (inl rests) = inl rests
       less many (inr (enough, moves)) = inr (omega (arith, enough, few), moves)
   in_step n left bound low few result (AtRow {bytes = bytes} there after_it brings onward) =
-      let comes = brings.leads (start_world system) start_is in
-      (
+      let comes = brings.leads (start_world system) start_is in (
         comes.order,
         record {
           turns = orders_below comes.order comes.only_moves;
+          only_moves = comes.only_moves;
           printed =
               printed_is code links comes.order ∙ (comes.shows 0 first_below ∙ brings.printed);
           ends = λ other same last. let alike : More ≡ other = cc in absurd (last (sym alike));
@@ -342,8 +341,8 @@ module _ (code : Tables) (links : Option ℕ) where
             0,
             subst (λ n. 0 < n) (processor_count code links) first_below,
             (let moved = comes.moved 0 first_below in
-            let enough = brings.enough 0 first_below in
-            omega (arith, moved, enough, low)),
+                let enough = brings.enough 0 first_below in
+                omega (arith, moved, enough, low)),
           );
         },
       )

@@ -1,11 +1,11 @@
 -- Tests that all pass, and what open exchanges have on the links.
-use Rattle.std.proofs.Common.{◌≡◌, ◌⊎◌, ℕ, zero, suc, ◌+◌, ◌*◌, ◌<◌, ◌≤◌, Bool, true, false, ◌&&◌, ◌==◌, List, [], ◌∷◌, length, All, Option, Some, None, refl, sym, ◌∙◌, ap, ap₂, subst, inl, inr, arith, eqb-true, eq-or-lt_of_le, length-append, le_trans, is_some}
+use Rattle.std.proofs.Common.{◌≡◌, ◌⊎◌, ℕ, zero, suc, ◌+◌, ◌*◌, ◌<◌, ◌≤◌, Bool, true, false, ◌&&◌, ◌==◌, List, [], ◌∷◌, length, All, Option, Some, None, refl, sym, ◌∙◌, ap, ap₂, inl, inr, arith, eqb-true, eq-or-lt_of_le, length-append, le_trans, is_some}
 use Rattle.std.specs.Prelude.{is_none, unwrap_or}
 use Rattle.std.specs.List.{list_all, range_with_len, flat_map}
 use Rattle.std.proofs.lemmas.List.{length-replicate}
 use Rattle.std.proofs.lemmas.List.Elements.{All-nil, All-cons, All-head, All-tail}
 use Rattle.zpl_nums.specs.declared.ends.End.{End}
-use Rattle.zpl_nums.specs.declared.ends.End.TheVariants.{Done, Trap, More}
+use Rattle.zpl_nums.specs.declared.ends.End.TheVariants.{Done, Trap}
 use Rattle.zpl_nums.specs.declared.ends.TrapKind.{TrapKind}
 use Rattle.zpl_nums.specs.declared.ends.TrapKind.TheVariants as kind
 use Rattle.grid_links.specs.Links.{IsWithin}
@@ -109,3 +109,7 @@ pub ways_within : (count : ℕ) (links : Option ℕ) (flights : List Flight)
     → q < count → IsWithin links (on_way flights p q)
 ways_within count links flights are room p q a b =
     roomy links (on_way flights p q) (length flights) room (few count flights p q a b are)
+
+pub no_room : (links : Option ℕ) → HasRoom links 0
+no_room None = tt
+no_room (Some capacity) = omega arith

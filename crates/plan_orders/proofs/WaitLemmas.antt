@@ -1,9 +1,7 @@
 -- Where some processors stay in their loop: all others come to the vote behind it, and wait there.
-use Rattle.std.proofs.Common.{◌≡◌, ℕ, zero, suc, ◌+◌, ◌<◌, ◌≤◌, Bool, true, false, ℤ, List, [], ◌∷◌, length, All, slice_get, Option, Some, None, refl, sym, ◌∙◌, ap, subst, arith}
+use Rattle.std.proofs.Common.{◌≡◌, ℕ, zero, suc, ◌+◌, ◌<◌, ◌≤◌, ℤ, List, [], ◌∷◌, All, refl, ◌∙◌, ap, arith}
 use Rattle.std.proofs.lemmas.List.Elements.{All-head, All-tail}
-use Rattle.grid_links.specs.Run.{count_of}
 use Rattle.grid_paths.specs.Tree.{IsTree}
-use Rattle.node_form.specs.declared.tables.Tables.{Tables}
 use Rattle.grid_meaning.specs.Collective.{Kin, joined_values, keeping}
 use Rattle.grid_meaning.specs.Local.{Local}
 use Rattle.row_orders.specs.Agreement.{gathered, tree_of}

@@ -1,14 +1,15 @@
 -- Some order of turns brings all processors from one place of a plan to another.
 --
 --   placed, in_front    a processor, and all of them, in front of the row with a number
---   AreOpen             there is room for the exchanges that are open, and for more words than one
---                       message in none
+--   AreOpen             links have room for the exchanges that are open
 --   Brings              some order leads all from one scene to another
 --   AllEnd              some order brings all to their end, and all links are empty
 --   AllWait             some order brings each to where it waits or has made many moves
 --   GoesWell            some order does what a row does in a plan
---   HasOrder            so it is wherever that row of the code is next
-use Rattle.std.specs.Prelude.{◌≡◌, ◌≢◌, ℕ, suc, ◌+◌, ◌<◌, ◌≤◌, Bool, true, List, [], All, length, slice_get, Option, Some, ⊤}
+--   HasOrder            so it does of each state of a plan in front of the row
+--   HaveOrders          so does one for each row of the code
+use Rattle.std.specs.Prelude.{◌≡◌, ◌≢◌, ℕ, suc, ◌+◌, ◌<◌, ◌≤◌, true, List, [], All, length}
+use Rattle.std.specs.Prelude.{slice_get, Option, Some, ⊤}
 use Rattle.zpl_nums.specs.declared.ends.End.{End}
 use Rattle.zpl_nums.specs.declared.ends.End.TheVariants.{More}
 use Rattle.grid_links.specs.declared.messages.Message.{Message}
@@ -36,8 +37,9 @@ standing_at at share = placed at (standing share)
 abbrev pub in_front : ℕ → Abreast → Scene Local Message
 in_front at all = flying (λ p. standing_at at (all.shares p)) all.flights
 
--- ---- open exchanges: in each there is at most one message from one processor to another, and links
--- have room for one message of each
+-- ---- open exchanges
+-- In each there is at most one message from one processor to another, and links have room for one
+-- message of each.
 pub record AreOpen (code : Tables) (links : Option ℕ) (all : Abreast) : Type 0 where
   pub flights : All (IsFlight (count_of (system_over code links))) all.flights
   pub room : HasRoom links (length all.flights)
@@ -105,8 +107,8 @@ abbrev pub IsFollowed : Tables → ℕ → Option Instr → Type 0
 IsFollowed code at next =
     (group : ℕ) → is_vote_of group next ≡ true → slice_get code.code (at + 1) ≡ next
 
--- all rows that pass a test have their orders
-abbrev pub HaveOrders : (Instr → Bool) → Tables → Option ℕ → Type 0
-HaveOrders test code links =
+-- every row of the code has its order
+abbrev pub HaveOrders : Tables → Option ℕ → Type 0
+HaveOrders code links =
     (n at : ℕ) (row : Instr) (next : Option Instr) → slice_get code.code at ≡ Some row
-    → IsFollowed code at next → test row ≡ true → HasOrder code links n at row next
+    → IsFollowed code at next → HasOrder code links n at row next

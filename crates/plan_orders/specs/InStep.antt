@@ -3,19 +3,22 @@ use Rattle.std.specs.Prelude.{◌≡◌, ◌≢◌, ℕ, suc, ◌<◌, ◌≤◌
 use Rattle.zpl_nums.specs.declared.ends.End.{End}
 use Rattle.zpl_nums.specs.declared.ends.End.TheVariants.{More}
 use Rattle.grid_links.specs.Laws.{Reaches}
-use Rattle.grid_links.specs.Run.{moves_of}
+use Rattle.grid_links.specs.Run.{moves_of, start_world}
+use Rattle.grid_paths.specs.Scene.{OnlyMoves}
 use Rattle.node_form.specs.declared.tables.Tables.{Tables}
 use Rattle.grid_meaning.specs.Grid.{EndsAs, HasEmptyLinks, IsOver, after, processors, system_over}
 use Rattle.grid_meaning.specs.Order.{IsOrder}
 use Rattle.row_runs.specs.Run.{Ends, Result, Wrong}
 use Rattle.plan_meaning.specs.Act.{plan_run}
 
--- The order brings the code to what a run shows: over as it ends, with all links empty, or not over
--- where it wants more; each processor rests or has made at least so many moves, and none is stuck;
--- and one has made as many where the run wants more.
+-- The order, of moves alone, brings the code to what a run shows: over as it ends, with all links
+-- empty, or not over where it wants more; each processor rests or has made at least so many moves,
+-- and none is stuck; and one has made as many where the run wants more.
 pub record IsInStep (code : Tables) (links : Option ℕ) (result : Result) (bound : ℕ)
     (order : List ℕ) : Type 0 where
   pub turns : IsOrder (processors code) order
+  pub only_moves :
+      OnlyMoves (system_over code links) (start_world (system_over code links)) order
   pub printed : (after code links order).printed ≡ result.bytes
   pub ends : (ending : End) → result.stop ≡ Ends ending → ending ≢ More
       → EndsAs (after code links order) ending × HasEmptyLinks (after code links order)
