@@ -1,6 +1,6 @@
 -- Votes and folds, by the first processor or along the tree of halves.
-use Rattle.std.proofs.Common.{◌≡◌, ℕ, zero, suc, ◌+◌, ◌<◌, ◌≤◌, Bool, true, false, cond, ℤ, pos, negsuc, List, [], ◌∷◌, ◌++◌, length, map, slice_get, slice_set, Option, Some, None, refl, sym, ◌∙◌, ap, arith, le-ltb, length-append}
-use Rattle.std.specs.Prelude.{int_lt}
+use Rattle.std.proofs.Common.{◌*◌, ◌-◌, ◌≡◌, ℕ, zero, suc, ◌+◌, ◌<◌, ◌≤◌, Bool, true, false, cond, ℤ, pos, negsuc, List, [], ◌∷◌, ◌++◌, length, map, slice_get, slice_set, Option, Some, None, refl, sym, ◌∙◌, ap, arith, le-ltb, length-append}
+use Rattle.std.specs.Prelude.{int_lt, nat_lt}
 use Rattle.std.specs.Int.{int_min}
 use Rattle.std.specs.List.{flat_map}
 use Rattle.zpl_nums.specs.declared.ends.End.TheVariants.{Trap}
@@ -28,8 +28,11 @@ use Rattle.row_orders.proofs.SumLemmas.{agree_as_tree}
 use Rattle.row_runs.specs.Run.{Does}
 use Rattle.plan_meaning.specs.Abreast.{Abreast, Share, go_where, is_quiet, locals_of}
 use Rattle.plan_meaning.specs.Act.{ends_where, voted_as}
-use Rattle.plan_orders.specs.Brings.{AreOpen, Brings, ComesToEnd, GoesWell, HasOrder, in_front, standing_at}
-use Rattle.plan_orders.proofs.TestLemmas.{no_flights}
+use Rattle.plan_orders.specs.Brings.{AreOpen, ComesToEnd, GoesWell, HasOrder, LeadsTo, in_front, standing_at}
+use Rattle.plan_orders.proofs.QuietLemmas.{most_some}
+use Rattle.std.proofs.lemmas.List.{length-map}
+use Rattle.std.proofs.lemmas.List.FromFn.{length-range_with_len}
+use Rattle.plan_orders.proofs.TestLemmas.{fewer, no_flights}
 
 -- ---- where no exchange is open
 pub quiet_near : (count : ℕ) (locals : ℕ → Local) (flights : List Flight) → flights ≡ []
@@ -49,6 +52,34 @@ quiet_far count locals flights none = record {
 }
 
 -- ---- each makes a turn at least
+parent_few : (parent : Option ℕ) → length (to_parent parent) ≤ 2
+parent_few None = omega arith
+parent_few (Some parent) = omega arith
+
+-- and a few at most
+stages_few : (kin : Kin) (many : ℕ) → length kin.children ≤ many
+    → length (agreeing_stages kin) ≤ many + many + 3
+stages_few kin many few =
+    omega (
+      arith,
+      few,
+      parent_few kin.parent,
+      length-map kin.children TakesFrom,
+      length-map kin.children Sends,
+      length-append (map TakesFrom kin.children)
+          (to_parent kin.parent ++ (map Sends kin.children ++ Last ∷ [])),
+      length-append (to_parent kin.parent) (map Sends kin.children ++ Last ∷ []),
+      length-append (map Sends kin.children) (Last ∷ []),
+    )
+
+star_few : (code : Tables) (p : ℕ) → length (star code p).children ≤ processors code
+star_few code zero =
+    let long = length-range_with_len 1 (processors code - 1) in omega (arith, long)
+star_few code (suc p) = omega arith
+
+tree_few : (code : Tables) (p : ℕ) → length (tree code p).children ≤ 2
+tree_few code p = fewer (λ q. nat_lt q (processors code)) ((2 * p + 1) ∷ (2 * p + 2) ∷ [])
+
 stages_some : (kin : Kin) → 1 ≤ length (agreeing_stages kin)
 stages_some kin =
     omega (
@@ -67,6 +98,7 @@ module _ (code : Tables) (links : Option ℕ) (n at : ℕ) (kin : ℕ → Kin) (
     → last (one p) (joined_over (processors code) join own one) ≡ Moves (other p) None (shown p))
     → Leads (system_over code links) (quiet_scene one) (quiet_scene other)
     (λ p. length (agreeing_stages (kin p))) shown)
+    (slim : (p : ℕ) → length (kin p).children ≤ processors code + 2)
     (all : Abreast) (open_now : AreOpen code links all) where
   abbrev one : ℕ → Local
   one p = standing_at at (all.shares p)
@@ -77,7 +109,7 @@ module _ (code : Tables) (links : Option ℕ) (n at : ℕ) (kin : ℕ → Kin) (
   pub agree_brings : (other : ℕ → Local) (flights : List Flight) → all.flights ≡ []
       → flights ≡ []
       → ((p : ℕ) → p < processors code → last (one p) value ≡ Moves (other p) None [])
-      → Brings code links (in_front at all) (flying other flights) 1 []
+      → LeadsTo code links n all (in_front at all) (flying other flights) []
   agree_brings other flights none behind ends = record {
     many = λ p. length (agreeing_stages (kin p));
     shown = λ p. [];
@@ -95,6 +127,10 @@ module _ (code : Tables) (links : Option ℕ) (n at : ℕ) (kin : ℕ → Kin) (
           kept = refl;
         }) ends);
     enough = λ p below. stages_some (kin p);
+    few = λ limited p below.
+        let some = most_some code (suc n) in
+        let short = stages_few (kin p) (processors code + 2) (slim p) in
+        omega (arith, some, short, limited.count);
     printed = refl;
   }
 
@@ -274,7 +310,7 @@ module _ (code : Tables) (links : Option ℕ) (capable : IsCapacity links) (n at
       (λ one other shown stands ends.
       agree_as_star code links capable (joined f) (scalar_at scalar) (fold_last scalar) at one other
       shown (fold_row (star code) scalar f (instr.Fold scalar f) here (λ p. refl)) stands ends)
-      all open_now _ (λ p below. refl)
+      (λ p. let few = star_few code p in omega (arith, few)) all open_now _ (λ p below. refl)
 
   pub tree_fold_ordered : (scalar : ℕ) (f : Fold) → Here (instr.TreeFold scalar f)
       → Ordered (instr.TreeFold scalar f)
@@ -284,10 +320,12 @@ module _ (code : Tables) (links : Option ℕ) (capable : IsCapacity links) (n at
       agree_as_tree code links capable (λ v. true) (joined f) (scalar_at scalar) (fold_last scalar)
       at one other shown (folds_join f) (λ p. refl)
       (fold_row (tree code) scalar f (instr.TreeFold scalar f) here (λ p. refl)) stands ends)
-      all open_now _ (λ p below. refl)
+      (λ p. let few = tree_few code p in omega (arith, few)) all open_now _ (λ p below. refl)
 
   -- ---- votes
-  vote_where : (kin : ℕ → Kin) (group : ℕ) (all : Abreast) → AreOpen code links all
+  vote_where : (kin : ℕ → Kin) (group : ℕ)
+      → ((p : ℕ) → length (kin p).children ≤ processors code + 2) → (all : Abreast)
+      → AreOpen code links all
       → ((one other : ℕ → Local) (shown : ℕ → List ℕ) → ((p : ℕ) → StandsBefore at (one p))
       → ((p : ℕ) → p < processors code
       → vote_last code group (one p) (joined_over (processors code) least_flag flag_of one)
@@ -297,17 +335,20 @@ module _ (code : Tables) (links : Option ℕ) (capable : IsCapacity links) (n at
       → (flag : Option ℕ)
       → word_flag (joined_over (processors code) least_flag flag_of (locals_of all)) ≡ flag
       → GoesWell code links n at all (Does (voted_as code all group flag))
-  vote_where kin group all open_now agree None is =
-      agree_goes code links n at kin least_flag flag_of (vote_last code group) agree all open_now _
+  vote_where kin group slim all open_now agree None is =
+      agree_goes code links n at kin least_flag flag_of (vote_last code group) agree slim all
+      open_now _
       (λ p below. ap (decided code group (standing_at at (all.shares p))) is)
-  vote_where kin group all open_now agree (Some member) is =
-      agree_ends code links n at kin least_flag flag_of (vote_last code group) agree all open_now
+  vote_where kin group slim all open_now agree (Some member) is =
+      agree_ends code links n at kin least_flag flag_of (vote_last code group) agree slim all
+      open_now
       (group_line code group member) (λ p. record (standing_at at (all.shares p)) { flag = None })
       (λ p below. ap (decided code group (standing_at at (all.shares p))) is)
 
   pub vote_ordered : (group : ℕ) → Here (instr.Vote group) → Ordered (instr.Vote group)
   vote_ordered group here all open_now =
-      vote_where (star code) group all open_now
+      vote_where (star code) group (λ p. let few = star_few code p in omega (arith, few)) all
+      open_now
       (λ one other shown stands ends.
       agree_as_star code links capable least_flag flag_of (vote_last code group) at one other shown
       (vote_row (star code) group (instr.Vote group) here (λ p. refl)) stands ends)
@@ -316,7 +357,8 @@ module _ (code : Tables) (links : Option ℕ) (capable : IsCapacity links) (n at
   pub tree_vote_ordered : (group : ℕ) → Here (instr.TreeVote group)
       → Ordered (instr.TreeVote group)
   tree_vote_ordered group here all open_now =
-      vote_where (tree code) group all open_now
+      vote_where (tree code) group (λ p. let few = tree_few code p in omega (arith, few)) all
+      open_now
       (λ one other shown stands ends.
       agree_as_tree code links capable is_flag_word least_flag flag_of (vote_last code group) at one
       other shown flags_join (λ p. flag_passes (one p).flag)

@@ -22,7 +22,9 @@ use Rattle.row_orders.proofs.StarLemmas.{processor_count}
 use Rattle.row_runs.specs.Run.{Does}
 use Rattle.plan_meaning.specs.Abreast.{Abreast, every, every_two, go_where, is_quiet, locals_of}
 use Rattle.plan_meaning.specs.Messages.{are_partners, begun, bytes, delivered, does_well, final_of, finished, finished_in, from_of, leaves_row, middle_of, next_or, next_with, receivers, senders, shown_of, started, starts_alone, to_of, took, words_of}
-use Rattle.plan_orders.specs.Brings.{AreOpen, GoesWell, in_front, placed, standing_at}
+use Rattle.plan_orders.specs.Brings.{AreOpen, GoesWell, IsLimited, in_front, placed, row_most, standing_at}
+use Rattle.plan_orders.proofs.QuietLemmas.{most_some}
+use Rattle.std.proofs.lemmas.List.{length-map}
 use Rattle.plan_orders.proofs.AgreeLemmas.{quiet_far, quiet_near}
 use Rattle.plan_orders.proofs.PlaceLemmas.{IsPlaceless, taking_placed}
 use Rattle.plan_orders.proofs.TestLemmas.{both, each_all, every_one, every_other, no_flights, no_room, there}
@@ -77,6 +79,8 @@ pub record IsDelivery (code : Tables) (p : ℕ) (row : Collective) : Type 0 wher
       → row.stages local ≡ delivery_stages (alone local) (to local) (from local)
   pub to_others : (local : Local) → AreOthers (processors code) p (to local)
   pub from_others : (local : Local) → AreOthers (processors code) p (from local)
+  pub few_to : (local : Local) → length (to local) ≤ processors code
+  pub few_from : (local : Local) → length (from local) ≤ processors code
 
 left_row : (local : Local) (action : Action) → leaves_row action ≡ true
     → action ≡ Moves (next_or local action) None (shown_of action)
@@ -178,7 +182,8 @@ module _ (code : Tables) (links : Option ℕ) (at : ℕ) (instr : Instr)
       to_others = λ p below.
           subst (λ c. AreOthers c p (to_of code row locals p)) (sym (processor_count code links))
           (subst (AreOthers (processors code) p) (sym (ap receivers
-          ((kinds p (inside p below)).stages (locals p)) ∙ receivers_of ((kinds p (inside p below)).alone (locals p)) _ _))
+          ((kinds p (inside p below)).stages (locals p))
+          ∙ receivers_of ((kinds p (inside p below)).alone (locals p)) _ _))
           ((kinds p (inside p below)).to_others (locals p)));
       from_others = λ p below.
           subst (λ c. AreOthers c p (from_of code row locals p)) (sym (processor_count code links))
@@ -219,6 +224,35 @@ module _ (code : Tables) (links : Option ℕ) (at : ℕ) (instr : Instr)
         long b to from =
             omega (
               arith,
+              length-append (alone_stage b) (map Sends to ++ (map TakesFrom from ++ Last ∷ [])),
+              length-append (map Sends to) (map TakesFrom from ++ Last ∷ []),
+              length-append (map TakesFrom from) (Last ∷ []),
+            )
+
+    turns_few : IsLimited code all → (n p : ℕ) → p < count
+        → length ((row p).stages (one p)) ≤ row_most code (suc n)
+    turns_few limited n p below =
+        let kind = kinds p (inside p below) in
+        let shape_is = ap length (kind.placeless.stages (locals p) at ∙ kind.stages (locals p)) in
+        let bound = long (kind.alone (locals p)) (kind.to (locals p)) (kind.from (locals p)) in
+        let some = most_some code (suc n) in
+        let few = limited.count in
+        let to_few = kind.few_to (locals p) in
+        let from_few = kind.few_from (locals p) in
+        omega (arith, shape_is, bound, some, few, to_few, from_few)
+      where
+        one_alone : (b : Bool) → length (alone_stage b) ≤ 1
+        one_alone true = omega arith
+        one_alone false = omega arith
+
+        long : (b : Bool) (to from : List ℕ)
+            → length (delivery_stages b to from) ≤ 1 + length to + length from + 1
+        long b to from =
+            omega (
+              arith,
+              one_alone b,
+              length-map to Sends,
+              length-map from TakesFrom,
               length-append (alone_stage b) (map Sends to ++ (map TakesFrom from ++ Last ∷ [])),
               length-append (map Sends to) (map TakesFrom from ++ Last ∷ []),
               length-append (map TakesFrom from) (Last ∷ []),
@@ -282,6 +316,7 @@ module _ (code : Tables) (links : Option ℕ) (at : ℕ) (instr : Instr)
                     };
                   }));
               enough = turns_some (words_of code row locals) well;
+              few = λ limited p below. turns_few (words_of code row locals) well limited n p below;
               printed = refl;
             },
             record { flights = All-nil (IsFlight count); room = no_room links },
@@ -345,6 +380,7 @@ module _ (code : Tables) (links : Option ℕ) (at : ℕ) (instr : Instr)
                     words = λ p q. refl;
                   }) few room;
               enough = turns_some (λ p q. []) well;
+              few = λ limited p below. turns_few (λ p q. []) well limited n p below;
               printed = refl;
             },
             record { flights = few; room = room },
@@ -394,6 +430,7 @@ module _ (code : Tables) (links : Option ℕ) (at : ℕ) (instr : Instr)
                     words = λ p q. refl;
                   }) flying_now room);
               enough = turns_some flight.words well;
+              few = λ limited p below. turns_few flight.words well limited n p below;
               printed = refl;
             },
             record {

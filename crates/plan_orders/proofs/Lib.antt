@@ -15,3 +15,4 @@ pub mod ChainLemmas
 pub mod RemapLemmas
 pub mod RemapRowLemmas
 pub mod RowLemmas
+pub mod ReachLemmas

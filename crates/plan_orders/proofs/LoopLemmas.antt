@@ -1,5 +1,5 @@
 -- A loop on one processor: tuple by tuple, in one turn and as many more as go back.
-use Rattle.std.proofs.Common.{◌≡◌, ℕ, zero, suc, ◌+◌, ◌^◌, ◌≤◌, ℤ, List, [], ◌∷◌, ◌++◌, length, drop, map, replicate, slice_get, Option, Some, None, refl, sym, ◌∙◌, ap, ap₂, subst, arith, length-append}
+use Rattle.std.proofs.Common.{fold, ◌*◌, ◌≡◌, ℕ, zero, suc, ◌+◌, ◌^◌, ◌≤◌, ℤ, List, [], ◌∷◌, ◌++◌, length, drop, map, replicate, slice_get, Option, Some, None, refl, sym, ◌∙◌, ap, ap₂, subst, arith, length-append}
 use Rattle.std.specs.List.{concat}
 use Rattle.zpl_region.specs.declared.regions.Region.{Region}
 use Rattle.zpl_region.specs.Region.{members}
@@ -9,7 +9,8 @@ use Rattle.grid_links.specs.declared.messages.Message.{Message}
 use Rattle.grid_paths.specs.Path.{Event, IsPath, Quiet}
 use Rattle.node_form.specs.declared.instructions.Instr.TheVariants as instr
 use Rattle.node_form.specs.declared.members.Member.{Member}
-use Rattle.node_form.specs.declared.members.Member.TheVariants.{CloseIf, CloseWhile, Otherwise, Until}
+use Rattle.node_form.specs.declared.members.Member.TheVariants.{Acc, Cell, CloseIf, CloseWhile, OpenIf, OpenRepeat, OpenWhile, Otherwise, Put, Until}
+use Rattle.std.specs.Prelude.{max}
 use Rattle.node_form.specs.declared.tables.Tables.{Tables}
 use Rattle.node_form.specs.Group as group
 use Rattle.node_form.specs.Group.{Point, Ran, Again, Divided, ran_from}
@@ -24,7 +25,7 @@ use Rattle.grid_meaning.specs.Place.{own_part}
 use Rattle.grid_meaning.specs.Turn.{act, act_at, processes}
 use Rattle.plan_meaning.specs.Abreast.{Share}
 use Rattle.plan_meaning.specs.Loops.{LacksPlace, Shared, Through, WantsTurn, share_behind, tuple_next, tuples_shared, unit_next, units_shared}
-use Rattle.plan_orders.specs.Brings.{standing_at}
+use Rattle.plan_orders.specs.Brings.{loops_among, standing_at}
 
 -- ---- so many turns without messages and bytes
 abbrev pub Steps : Tables → ℕ → ℕ → Local → Local → Type 0
@@ -220,25 +221,28 @@ looping at share index member flag point = record {
 }
 
 -- how it comes on: it is behind the row; or it makes so many turns, and goes on
-pub data Comes (code : Tables) (p at n : ℕ) (share : Share) (one : Local) : Shared → Type 0 where
-  ComesOut : {q : Point (List Array)} {flag : Option ℕ} (turns : ℕ) → 1 ≤ turns
+pub data Comes (code : Tables) (p at n : ℕ) (share : Share) (most : ℕ) (one : Local)
+    : Shared → Type 0 where
+  ComesOut : {q : Point (List Array)} {flag : Option ℕ} (turns : ℕ) → 1 ≤ turns → turns ≤ most
       → Steps code p turns one
       (standing_at (at + 1) (share_behind code (suc n) share (Through q flag)))
-      → Comes code p at n share one (Through q flag)
+      → Comes code p at n share most one (Through q flag)
   ComesToWant : (turns : ℕ) → n ≤ turns → (other next : Local) → Steps code p turns one other
-      → act code p other ≡ Moves next None [] → Comes code p at n share one WantsTurn
-  ComesToLack : Comes code p at n share one LacksPlace
+      → act code p other ≡ Moves next None [] → Comes code p at n share most one WantsTurn
+  ComesToLack : Comes code p at n share most one LacksPlace
 
-comes_behind : (code : Tables) (p at n : ℕ) (share : Share) (one two : Local) (k : ℕ)
-    (result : Shared) → Steps code p k one two → Comes code p at n share two result
-    → Comes code p at n share one result
-comes_behind code p at n share one two k result first (ComesOut turns some rest) =
-    ComesOut (k + turns) (omega (arith, some)) (steps_then code p k turns one two _ first rest)
-comes_behind code p at n share one two k result first
+comes_behind : (code : Tables) (p at n : ℕ) (share : Share) (most few : ℕ) (one two : Local)
+    (k : ℕ) (result : Shared) → k + few ≤ most → Steps code p k one two
+    → Comes code p at n share few two result → Comes code p at n share most one result
+comes_behind code p at n share most few one two k result fits first
+    (ComesOut turns some less rest) =
+    ComesOut (k + turns) (omega (arith, some)) (omega (arith, less, fits))
+    (steps_then code p k turns one two _ first rest)
+comes_behind code p at n share most few one two k result fits first
     (ComesToWant turns enough other next rest goes) =
     ComesToWant (k + turns) (omega (arith, enough)) other next
     (steps_then code p k turns one two other first rest) goes
-comes_behind code p at n share one two k result first ComesToLack = ComesToLack
+comes_behind code p at n share most few one two k result fits first ComesToLack = ComesToLack
 
 module _ (code : Tables) (p at slot number : ℕ) (all : List Member) (share : Share)
     (region : Region)
@@ -331,6 +335,13 @@ module _ (code : Tables) (p at slot number : ℕ) (all : List Member) (share : S
         (units_told (ways_of code (access_at t)) (suc n) 0 units point)) (names_are nest 0)
         (come_to_the_same (List Array) code (access_at t) nest (suc n) point))
 
+    -- the most turns at one tuple, and at several
+    abbrev wide : ℕ
+    wide = suc (suc n) ^ loops_in nest
+
+    abbrev most_of : List (List ℤ) → ℕ
+    most_of tuples = 1 + length tuples * wide
+
     -- one tuple, and those behind it
     tuple_comes : (index : ℕ) (flag : Option ℕ) (t : List ℤ) (tuples : List (List ℤ))
         (point : Point (List Array)) (told : UnitsTold (Point (List Array))) (result : Shared)
@@ -339,13 +350,14 @@ module _ (code : Tables) (p at slot number : ℕ) (all : List Member) (share : S
         (ran_from code (access_at t) all 0 point) told
         → AreSame (unit_names units 0) 0 told result
         → ((flag : Option ℕ) (point : Point (List Array))
-        → Comes code p at n share (looping at share (index + 1) 0 flag point)
+        → Comes code p at n share (most_of tuples) (looping at share (index + 1) 0 flag point)
         (ResultOf tuples flag point))
-        → Comes code p at n share (looping at share index 0 flag point)
+        → Comes code p at n share (most_of (t ∷ tuples)) (looping at share index 0 flag point)
         (tuple_next flag result (λ point flag. ResultOf tuples flag point))
     tuple_comes index flag t tuples point told result is (ComeThrough {q = q} k less leads) SameDone
         rest =
-        comes_behind code p at n share _ (looping at share (index + 1) 0 flag q) (suc k) _
+        comes_behind code p at n share (most_of (t ∷ tuples)) (most_of tuples) _
+        (looping at share (index + 1) 0 flag q) (suc k) _ (omega (arith, less))
         (leads_steps index flag t (group.Through q) _ is (λ member point. refl) k 0 point leads)
         (rest flag q)
     tuple_comes index flag t tuples point told result is
@@ -354,8 +366,8 @@ module _ (code : Tables) (p at slot number : ℕ) (all : List Member) (share : S
         let at_unit : slice_get (unit_names units 0) unit ≡ Some first =
         ap (slice_get (unit_names units 0)) (unit_is ∙ none_before i) ∙ first_is in
         let same : member ≡ first = some_same (sym named ∙ at_unit) in
-        comes_behind code p at n share _ (looping at share (index + 1) 0 (flagged flag first) q)
-        (suc k) _
+        comes_behind code p at n share (most_of (t ∷ tuples)) (most_of tuples) _
+        (looping at share (index + 1) 0 (flagged flag first) q) (suc k) _ (omega (arith, less))
         (leads_steps index flag t (Divided member q) _ is
         (λ m point. ap (λ f. Moves (looping at share (index + 1) 0 (flagged flag f) q) None [])
         same) k 0 point leads)
@@ -373,10 +385,10 @@ module _ (code : Tables) (p at slot number : ℕ) (all : List Member) (share : S
 
     pub tuples_come : (tuples : List (List ℤ)) (index : ℕ) (flag : Option ℕ)
         (point : Point (List Array)) → drop index tuples_all ≡ tuples
-        → Comes code p at n share (looping at share index 0 flag point)
+        → Comes code p at n share (most_of tuples) (looping at share index 0 flag point)
         (ResultOf tuples flag point)
     tuples_come [] index flag point left =
-        ComesOut 1 (omega arith) (
+        ComesOut 1 (omega arith) (omega arith) (
           _,
           turn_is index 0 flag point
               ∙ ap (turn_at_index code all (looping at share index 0 flag point))
@@ -390,3 +402,65 @@ module _ (code : Tables) (p at slot number : ℕ) (all : List Member) (share : S
         (units_shared code (suc n) 0 units t point) is (comes_at t point)
         (same_units code (suc n) t units 0 0 point)
         (λ flag point. tuples_come tuples (index + 1) flag point more)
+
+-- ---- how many loops are in a group
+loops_both : (xs ys : List Member) → loops_among (xs ++ ys) ≡ loops_among xs + loops_among ys
+loops_both [] ys = omega arith
+loops_both (Put array expr mask line ∷ xs) ys = loops_both xs ys
+loops_both (Cell cell expr mask line ∷ xs) ys = loops_both xs ys
+loops_both (Acc scalar fold expr mask line ∷ xs) ys = loops_both xs ys
+loops_both (OpenIf expr mask line ∷ xs) ys = loops_both xs ys
+loops_both (Otherwise ∷ xs) ys = loops_both xs ys
+loops_both (CloseIf ∷ xs) ys = loops_both xs ys
+loops_both (OpenWhile expr mask line ∷ xs) ys = let rest = loops_both xs ys in omega (arith, rest)
+loops_both (CloseWhile ∷ xs) ys = loops_both xs ys
+loops_both (OpenRepeat mask line ∷ xs) ys = let rest = loops_both xs ys in omega (arith, rest)
+loops_both (Until expr ∷ xs) ys = loops_both xs ys
+
+pub loops_are : (nest : Nest) → loops_among (members_of nest) ≡ loops_in nest
+loops_are Nothing = refl
+loops_are (Putting array expr mask line after) = loops_are after
+loops_are (Keeping cell expr mask line after) = loops_are after
+loops_are (Joining scalar fold expr mask line after) = loops_are after
+loops_are (Choosing expr mask line body after) =
+    let one = loops_are body in
+    let two = loops_are after in
+    let both = loops_both (members_of body) (CloseIf ∷ members_of after) in
+    omega (arith, one, two, both)
+loops_are (ChoosingElse expr mask line body otherwise after) =
+    let one = loops_are body in
+    let two = loops_are otherwise in
+    let three = loops_are after in
+    let first = loops_both (members_of body)
+    (Otherwise ∷ (members_of otherwise ++ CloseIf ∷ members_of after)) in
+    let second = loops_both (members_of otherwise) (CloseIf ∷ members_of after) in
+    omega (arith, one, two, three, first, second)
+loops_are (Looping expr mask line body after) =
+    let one = loops_are body in
+    let two = loops_are after in
+    let both = loops_both (members_of body) (CloseWhile ∷ members_of after) in
+    omega (arith, one, two, both)
+loops_are (Repeating mask line body until after) =
+    let one = loops_are body in
+    let two = loops_are after in
+    let both = loops_both (members_of body) (Until until ∷ members_of after) in
+    omega (arith, one, two, both)
+
+abbrev most_among : ℕ → List (List Member) → ℕ
+most_among most groups = fold (λ most members. max most (loops_among members)) most groups
+
+start_fits : (groups : List (List Member)) (most : ℕ) → most ≤ most_among most groups
+start_fits [] most = omega arith
+start_fits (members ∷ groups) most =
+    let rest = start_fits groups (max most (loops_among members)) in omega (arith, rest)
+
+pub group_fits : (groups : List (List Member)) (most number : ℕ) (members : List Member)
+    → slice_get groups number ≡ Some members → loops_among members ≤ most_among most groups
+group_fits [] most number members e = cc
+group_fits (first ∷ groups) most zero members e =
+    let same : first ≡ members = cc in
+    let rest = start_fits groups (max most (loops_among first)) in
+    let alike = ap loops_among same in
+    omega (arith, rest, alike)
+group_fits (first ∷ groups) most (suc number) members e =
+    group_fits groups (max most (loops_among first)) number members e

@@ -1,5 +1,5 @@
 -- The row `loop` on all processors: all go through, or some want more turns and the others wait.
-use Rattle.std.proofs.Common.{◌≡◌, ◌⊎◌, ℕ, zero, suc, ◌+◌, ◌<◌, ◌≤◌, Bool, true, false, not, ◌&&◌, List, [], ◌++◌, length, All, replicate, slice_get, Option, Some, None, refl, sym, ◌∙◌, ap, subst, inl, inr, arith, eqb-true, if◌then◌else◌}
+use Rattle.std.proofs.Common.{◌*◌, ◌^◌, ◌≡◌, ◌⊎◌, ℕ, zero, suc, ◌+◌, ◌<◌, ◌≤◌, Bool, true, false, not, ◌&&◌, List, [], ◌++◌, length, All, replicate, slice_get, Option, Some, None, refl, sym, ◌∙◌, ap, subst, inl, inr, arith, eqb-true, if◌then◌else◌}
 use Rattle.std.specs.List.{concat, list_all, range_with_len}
 use Rattle.std.proofs.lemmas.List.{length-replicate}
 use Rattle.zpl_region.specs.declared.regions.Region.{Region}
@@ -33,9 +33,17 @@ use Rattle.zpl_nums.specs.declared.ends.End.TheVariants.{More}
 use Rattle.plan_meaning.specs.Abreast.{Abreast, Share, every, is_quiet}
 use Rattle.plan_meaning.specs.Act.{found, is_vote_of}
 use Rattle.plan_meaning.specs.Loops.{Shared, lacks, looped, part_shared, point_of, share_behind, shared, tree_looped, wants}
-use Rattle.plan_orders.specs.Brings.{AllWait, AreOpen, Brings, ComesToWait, GoesWell, HasOrder, IsFollowed, in_front, standing_at}
+use Rattle.plan_orders.specs.Brings.{AllWait, AreOpen, ComesToWait, GoesWell, HasOrder, IsFollowed, IsLimited, LeadsTo, in_front, loops_among, most_loops, row_most, standing_at}
+use Rattle.zpl_region.specs.Region.{members as members_of_region}
+use Rattle.zpl_region.proofs.LawLemmas.{length-met}
+use Rattle.grid_layout.specs.Layout.{laid_out, own_first, own_last}
+use Rattle.grid_meaning.specs.Stored.{arrangement_of}
+use Rattle.grid_meaning.specs.Place.{own_part}
+use Rattle.nest_meaning.specs.Turns.{loops_in}
+use Rattle.std.proofs.Math.Nat.{one-le-pow, pow-le-pow_right}
+use Rattle.std.proofs.lemmas.Nat.{mul-le}
 use Rattle.plan_orders.proofs.AgreeLemmas.{decided_blind, flag_of, quiet_near, vote_last}
-use Rattle.plan_orders.proofs.LoopLemmas.{Comes, ComesOut, ComesToLack, ComesToWant, Steps, shows_none, steps_path, tuples_come}
+use Rattle.plan_orders.proofs.LoopLemmas.{group_fits, loops_are, Comes, ComesOut, ComesToLack, ComesToWant, Steps, shows_none, steps_path, tuples_come}
 use Rattle.plan_orders.proofs.TestLemmas.{both, every_one, no_flights, on_way, ways_within}
 use Rattle.plan_orders.proofs.WaitLemmas.{sum_is, sum_of}
 
@@ -78,34 +86,35 @@ not_true true e = refl
 not_true false e = cc
 
 -- ---- how a processor comes on
-module _ (code : Tables) (p at n : ℕ) (share : Share) (one : Local) where
-  turns_of : (result : Shared) → Comes code p at n share one result → ℕ
-  turns_of result (ComesOut turns some steps) = turns
+module _ (code : Tables) (p at n : ℕ) (share : Share) (most : ℕ) (one : Local) where
+  turns_of : (result : Shared) → Comes code p at n share most one result → ℕ
+  turns_of result (ComesOut turns some less steps) = turns
   turns_of result (ComesToWant turns enough other next steps goes) = turns
   turns_of result ComesToLack = 0
 
-  on_of : (result : Shared) → Comes code p at n share one result → Local
-  on_of result (ComesOut turns some steps) = one
+  on_of : (result : Shared) → Comes code p at n share most one result → Local
+  on_of result (ComesOut turns some less steps) = one
   on_of result (ComesToWant turns enough other next steps goes) = other
   on_of result ComesToLack = one
 
-  out_facts : (result : Shared) (comes : Comes code p at n share one result)
+  out_facts : (result : Shared) (comes : Comes code p at n share most one result)
       → lacks code (suc n) result ≡ false → wants code (suc n) result ≡ false
       → (1 ≤ turns_of result comes)
       × Steps code p (turns_of result comes) one
       (standing_at (at + 1) (share_behind code (suc n) share result))
+      × (turns_of result comes ≤ most)
   unfolding turns_of
-  out_facts result (ComesOut turns some steps) held done = (some, steps)
+  out_facts result (ComesOut turns some less steps) held done = (some, steps, less)
   out_facts result (ComesToWant turns enough other next steps goes) held done = cc
   out_facts result ComesToLack held done = cc
 
-  want_facts : (result : Shared) (comes : Comes code p at n share one result)
+  want_facts : (result : Shared) (comes : Comes code p at n share most one result)
       → wants code (suc n) result ≡ true
       → (n ≤ turns_of result comes)
       × Steps code p (turns_of result comes) one (on_of result comes)
       × ((next : Local) × (act code p (on_of result comes) ≡ Moves next None []))
   unfolding turns_of on_of
-  want_facts result (ComesOut turns some steps) want = cc
+  want_facts result (ComesOut turns some less steps) want = cc
   want_facts result (ComesToWant turns enough other next steps goes) want =
       (enough, steps, (next, goes))
   want_facts result ComesToLack want = cc
@@ -136,11 +145,20 @@ module _ (code : Tables) (links : Option ℕ) (n at slot number : ℕ) (members 
   abbrev result : ℕ → Shared
   result p = shared code (suc n) (units_of nest) slot all p
 
-  comes : (p : ℕ) → Comes code p at n (all.shares p) (one p) (result p)
+  -- by the tuples of its part of the region
+  abbrev loop_most : ℕ → Option Region → ℕ
+  loop_most p (Some region) =
+      1 + length (members_of_region (own_part code p region)) * suc (suc n) ^ loops_in nest
+  loop_most p None = 0
+
+  abbrev most : ℕ → ℕ
+  most p = loop_most p (slice_get (all.shares p).slots slot)
+
+  comes : (p : ℕ) → Comes code p at n (all.shares p) (most p) (one p) (result p)
   comes p = by (slice_get (all.shares p).slots slot) refl
     where
       by : (region : Option Region) → slice_get (all.shares p).slots slot ≡ region
-          → Comes code p at n (all.shares p) (one p)
+          → Comes code p at n (all.shares p) (loop_most p region) (one p)
           (part_shared code (suc n) (units_of nest) (all.shares p) p region)
       by (Some region) is =
           tuples_come code p at slot number members (all.shares p) region here group_here is nest
@@ -148,13 +166,38 @@ module _ (code : Tables) (links : Option ℕ) (n at slot number : ℕ) (members 
       by None is = ComesToLack
 
   abbrev turns : ℕ → ℕ
-  turns p = turns_of code p at n (all.shares p) (one p) (result p) (comes p)
+  turns p = turns_of code p at n (all.shares p) (most p) (one p) (result p) (comes p)
 
   abbrev on : ℕ → Local
-  on p = on_of code p at n (all.shares p) (one p) (result p) (comes p)
+  on p = on_of code p at n (all.shares p) (most p) (one p) (result p) (comes p)
 
   abbrev out : ℕ → Local
   out p = standing_at (at + 1) (share_behind code (suc n) (all.shares p) (result p))
+
+  loop_few : IsLimited code all → (p : ℕ) → p < processors code → (region : Option Region)
+      → slice_get (all.shares p).slots slot ≡ region
+      → loop_most p region ≤ row_most code (suc n)
+  loop_few limited p below None is = omega arith
+  loop_few limited p below (Some region) is =
+      let points = limited.regions p slot region below is in
+      let own = length-met region
+      (own_first (laid_out (arrangement_of code)) region.rank p)
+      (own_last (laid_out (arrangement_of code)) region.rank p) in
+      let deep : loops_in nest ≤ most_loops code =
+      subst (λ k. k ≤ most_loops code) (ap loops_among (sym spells) ∙ loops_are nest)
+      (group_fits code.groups 0 number members group_here) in
+      let wide : suc (suc n) ^ loops_in nest ≤ suc (suc n) ^ most_loops code =
+      pow-le-pow_right {n = suc (suc n)} (omega arith) deep in
+      let base : suc (suc n) ≡ suc n + 1 = omega arith in
+      let same : suc (suc n) ^ most_loops code ≡ (suc n + 1) ^ most_loops code =
+      ap (λ b. b ^ most_loops code) base in
+      let some : 1 ≤ suc (suc n) ^ most_loops code =
+      one-le-pow (most_loops code) (suc (suc n)) (omega arith) in
+      let times : length (members_of_region (own_part code p region)) * suc (suc n) ^ loops_in nest
+      ≤ 4194304 * suc (suc n) ^ most_loops code =
+      mul-le (length (members_of_region (own_part code p region))) (suc (suc n) ^ loops_in nest)
+      4194304 (suc (suc n) ^ most_loops code) (omega (arith, own, points)) wide in
+      omega (arith, times, some, same)
 
   module _ (held : every code (λ p. not (lacks code (suc n) (result p))) ≡ true) where
     is_held : (p : ℕ) → p < count → lacks code (suc n) (result p) ≡ false
@@ -164,7 +207,7 @@ module _ (code : Tables) (links : Option ℕ) (n at slot number : ℕ) (members 
 
     -- all go through
     loop_goes : every code (λ p. not (wants code (suc n) (result p))) ≡ true
-        → Brings code links (in_front at all) (flying out all.flights) 1 []
+        → LeadsTo code links n all (in_front at all) (flying out all.flights) []
     loop_goes done = record {
       many = turns;
       shown = λ p. [];
@@ -172,12 +215,19 @@ module _ (code : Tables) (links : Option ℕ) (n at slot number : ℕ) (members 
           steps_lead code links turns one out all.flights open_now.flights open_now.room
           (λ p below. (facts p below).1);
       enough = λ p below. (facts p below).0;
+      few = λ limited p below.
+          let less = (facts p below).2 in
+          let few = loop_few limited p (inside p below) (slice_get (all.shares p).slots slot) refl
+          in
+          omega (arith, less, few);
       printed = refl;
     }
       where
-        facts : (p : ℕ) → p < count → (1 ≤ turns p) × Steps code p (turns p) (one p) (out p)
+        facts : (p : ℕ) → p < count
+            → (1 ≤ turns p) × Steps code p (turns p) (one p) (out p) × (turns p ≤ most p)
         facts p below =
-            out_facts code p at n (all.shares p) (one p) (result p) (comes p) (is_held p below)
+            out_facts code p at n (all.shares p) (most p) (one p) (result p) (comes p)
+            (is_held p below)
             (not_false (wants code (suc n) (result p))
             (every_one code (λ q. not (wants code (suc n) (result q))) done p (inside p below)))
 
@@ -204,7 +254,8 @@ module _ (code : Tables) (links : Option ℕ) (n at slot number : ℕ) (members 
               → Steps code p (many_where b (turns p)) (one p) (mid_where b (one p) (out p))
           by true e = refl
           by false e =
-              (out_facts code p at n (all.shares p) (one p) (result p) (comes p) (is_held p below)
+              (out_facts code p at n (all.shares p) (most p) (one p) (result p) (comes p)
+              (is_held p below)
               e).1
 
       first_leads : Leads (system_over code links) (in_front at all) (quiet_scene mid) first
@@ -237,7 +288,7 @@ module _ (code : Tables) (links : Option ℕ) (n at slot number : ℕ) (members 
             steps_path code p (turns p) (mid p) (on p)
             (subst (λ l. Steps code p (turns p) l (on p))
             (sym (ap (λ b. mid_where b (one p) (out p)) stays))
-            (want_facts code p at n (all.shares p) (one p) (result p) (comes p) stays).1);
+            (want_facts code p at n (all.shares p) (most p) (one p) (result p) (comes p) stays).1);
         at_row = λ p below leaves.
             subst (IsAtRow code p (voted code (kin p) number))
             (sym (ap (λ b. mid_where b (one p) (out p)) leaves))
@@ -268,17 +319,14 @@ module _ (code : Tables) (links : Option ℕ) (n at slot number : ℕ) (members 
               (quiet_scene mid) on → AllWait code links (in_front at all) n []
           waits halted = record {
             other = halted.other;
-            brings = record {
-              many = λ p. first p + halted.many p;
-              shown = λ p. [] ++ (if away p then concat (replicate (turns p) []) else []);
-              leads =
-                  leads_through (system_over code links) (in_front at all) (quiet_scene mid)
-                  halted.other first halted.many (λ p. [])
-                  (λ p. if away p then concat (replicate (turns p) []) else []) first_leads
-                  halted.leads;
-              enough = λ p below. omega arith;
-              printed = shows (away 0) (turns 0);
-            };
+            many = λ p. first p + halted.many p;
+            shown = λ p. [] ++ (if away p then concat (replicate (turns p) []) else []);
+            leads =
+                leads_through (system_over code links) (in_front at all) (quiet_scene mid)
+                halted.other first halted.many (λ p. [])
+                (λ p. if away p then concat (replicate (turns p) []) else []) first_leads
+                halted.leads;
+            printed = shows (away 0) (turns 0);
             each = λ p below. by p below (away p) refl;
             longest = longest.0;
             longest_below = longest.1;
@@ -291,14 +339,16 @@ module _ (code : Tables) (links : Option ℕ) (n at slot number : ℕ) (members 
                   let made : halted.many p ≡ turns p =
                   (halted.alone p below stays).1 ∙ length-replicate (turns p) [] in
                   let long : n ≤ turns p =
-                  (want_facts code p at n (all.shares p) (one p) (result p) (comes p) stays).0 in
+                  (want_facts code p at n (all.shares p) (most p) (one p) (result p) (comes p)
+                  stays).0 in
                   omega (arith, made, long)
 
               goes : (p : ℕ) → p < count → away p ≡ true
                   → MovesIn (system_over code links) halted.other p
               goes p below stays =
                   let (next, moves) =
-                  (want_facts code p at n (all.shares p) (one p) (result p) (comes p) stays).2 in
+                  (want_facts code p at n (all.shares p) (most p) (one p) (result p) (comes p)
+                  stays).2 in
                   record {
                     event = Quiet [];
                     next = next;

@@ -1,5 +1,5 @@
 -- The rows with messages, row by row.
-use Rattle.std.proofs.Common.{◌≡◌, ℕ, zero, suc, ◌+◌, ◌*◌, ◌<◌, ◌==◌, Bool, true, false, ℤ, List, [], ◌∷◌, length, slice_get, Option, Some, None, option_map, refl, ap, arith, if◌then◌else◌}
+use Rattle.std.proofs.Common.{◌≤◌, not, ◌≡◌, ℕ, zero, suc, ◌+◌, ◌*◌, ◌<◌, ◌==◌, Bool, true, false, ℤ, List, [], ◌∷◌, length, slice_get, Option, Some, None, option_map, refl, ap, arith, if◌then◌else◌}
 use Rattle.std.proofs.lemmas.Bool.{ne_eqb}
 use Rattle.std.proofs.lemmas.List.Elements.{All-nil, All-cons}
 use Rattle.zpl_nums.specs.declared.ends.Border.{Border}
@@ -9,13 +9,13 @@ use Rattle.node_form.specs.declared.arrays.Item.{Item}
 use Rattle.node_form.specs.declared.instructions.Instr.{Instr}
 use Rattle.node_form.specs.declared.instructions.Instr.TheVariants as instr
 use Rattle.node_form.specs.declared.tables.Tables.{Tables}
-use Rattle.grid_meaning.specs.Collective.{Sends, Last, others_where}
+use Rattle.grid_meaning.specs.Collective.{others, Sends, Last, others_where}
 use Rattle.grid_meaning.specs.Delivery as delivery
 use Rattle.grid_meaning.specs.Delivery.{Delivery, edging, flooding, parting}
 use Rattle.grid_meaning.specs.Exchange as exchange
 use Rattle.grid_meaning.specs.Gather.{gathered, gather_stages}
 use Rattle.grid_meaning.specs.Grid.{IsCapacity}
-use Rattle.grid_meaning.specs.Local.{Local, processors}
+use Rattle.grid_meaning.specs.Local.{processor_numbers, Local, processors}
 use Rattle.grid_meaning.specs.Owner.{region_in, tuples_of}
 use Rattle.grid_meaning.specs.Scan.{line_count, scanned_row}
 use Rattle.row_orders.specs.Rows.{delivery_stages}
@@ -25,9 +25,21 @@ use Rattle.row_runs.specs.Run.{Does}
 use Rattle.plan_meaning.specs.Abreast.{locals_of}
 use Rattle.plan_meaning.specs.Act.{found}
 use Rattle.plan_meaning.specs.Messages.{finished, started}
+use Rattle.plan_orders.proofs.TestLemmas.{fewer}
+use Rattle.std.specs.Prelude.{nat_lt}
+use Rattle.std.proofs.lemmas.List.FromFn.{length-range_with_len}
 use Rattle.plan_orders.specs.Brings.{GoesWell, HasOrder}
 use Rattle.plan_orders.proofs.DeliverLemmas.{IsDelivery, delivered_well, finished_well, receivers_of, senders_of, started_well}
 use Rattle.plan_orders.proofs.PlaceLemmas.{IsPlaceless, edging_placeless, finished_placeless, flooding_placeless, gathered_placeless, parting_placeless, scanned_placeless, started_placeless}
+
+-- ---- no more than all processors
+pub others_few : (code : Tables) (p : ℕ) (many : ℕ → ℕ)
+    → length (others_where code p many) ≤ processors code
+others_few code p many =
+    let one = fewer (λ q. nat_lt 0 (many q)) (others code p) in
+    let two = fewer (λ q. not (q == p)) (processor_numbers code) in
+    let all = length-range_with_len 0 (processors code) in
+    omega (arith, one, two, all)
 
 -- ---- their stages
 module _ (code : Tables) (p : ℕ) where
@@ -42,6 +54,8 @@ module _ (code : Tables) (p : ℕ) where
     stages = λ local. refl;
     to_others = λ local. others_where_others code p (λ q. length (d.targets local p q));
     from_others = λ local. others_where_others code p (λ q. length (d.targets local q p));
+    few_to = λ local. others_few code p (λ q. length (d.targets local p q));
+    few_from = λ local. others_few code p (λ q. length (d.targets local q p));
   }
 
   scanned_kind : (f : Fold) (along from : ℕ) (mask : Option ℕ) (array slot : ℕ)
@@ -57,6 +71,8 @@ module _ (code : Tables) (p : ℕ) where
         others_where_others code p (λ q. line_count code p f along from mask local slot p);
     from_others = λ local.
         others_where_others code p (line_count code p f along from mask local slot);
+    few_to = λ local. others_few code p (λ q. line_count code p f along from mask local slot p);
+    few_from = λ local. others_few code p (line_count code p f along from mask local slot);
   }
 
   started_kind : (number : ℕ) (items : List Item)
@@ -70,6 +86,8 @@ module _ (code : Tables) (p : ℕ) where
     stages = λ local. refl;
     to_others = λ local. others_where_others code p (exchange.word_count code local items p);
     from_others = λ local. All-nil _;
+    few_to = λ local. others_few code p (exchange.word_count code local items p);
+    few_from = λ local. omega arith;
   }
 
   finished_kind : (number : ℕ) (items : List Item)
@@ -84,6 +102,8 @@ module _ (code : Tables) (p : ℕ) where
     to_others = λ local. All-nil _;
     from_others = λ local.
         others_where_others code p (λ q. exchange.word_count code local items q p);
+    few_to = λ local. omega arith;
+    few_from = λ local. others_few code p (λ q. exchange.word_count code local items q p);
   }
 
 -- processor 0 takes, and the others send to it
@@ -128,6 +148,23 @@ gather_from_others code slot zero local =
     others_where_others code 0 (λ q. length (tuples_of code q (region_in local slot)))
 gather_from_others code slot (suc p) local = All-nil _
 
+gather_to_few : (code : Tables) (slot p : ℕ) (local : Local) → p < processors code
+    → length (gather_to code slot p local) ≤ processors code
+gather_to_few code slot zero local below = omega arith
+gather_to_few code slot (suc p) local below =
+    by (length (tuples_of code (suc p) (region_in local slot)) == 0)
+  where
+    by : (b : Bool)
+        → length (let to : List ℕ = if b then [] else 0 ∷ [] in to) ≤ processors code
+    by true = omega arith
+    by false = omega (arith, below)
+
+gather_from_few : (code : Tables) (slot p : ℕ) (local : Local)
+    → length (gather_from code slot p local) ≤ processors code
+gather_from_few code slot zero local =
+    others_few code 0 (λ q. length (tuples_of code q (region_in local slot)))
+gather_from_few code slot (suc p) local = omega arith
+
 gathered_kind : (code : Tables) (p : ℕ) → p < processors code → (truth : Bool) (array slot : ℕ)
     → IsDelivery code p (gathered code p truth array slot)
 gathered_kind code p below truth array slot = record {
@@ -139,6 +176,8 @@ gathered_kind code p below truth array slot = record {
   stages = λ local. gather_shape code slot p local;
   to_others = λ local. gather_to_others code slot p local below;
   from_others = λ local. gather_from_others code slot p local;
+  few_to = λ local. gather_to_few code slot p local below;
+  few_from = λ local. gather_from_few code slot p local;
 }
 
 -- ---- the rows

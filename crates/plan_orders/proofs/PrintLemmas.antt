@@ -49,7 +49,7 @@ module _ (code : Tables) (links : Option ℕ) (n at : ℕ) (row : Instr)
       (Does (go_where b (shown_of (action_of code row all 0)) behind))
   alone_where false is = tt
   alone_where true is = (
-    brings_once code links (λ p. standing_at at (all.shares p))
+    brings_once code links n all (λ p. standing_at at (all.shares p))
         (λ p. standing_at (at + 1) (behind.shares p)) (λ p. shown_of (action_of code row all p))
         all.flights open_now.flights open_now.room
         (λ p below. ap (act_at code p (standing_at at (all.shares p))) here
@@ -124,7 +124,7 @@ module _ (code : Tables) (links : Option ℕ) (n at : ℕ) (row : Instr) (expr :
       ComesToEnd (record {
         over = flying (λ p. ended_as (standing_at at (all.shares p)) ending) all.flights;
         brings =
-            brings_once code links (λ p. standing_at at (all.shares p))
+            brings_once code links n all (λ p. standing_at at (all.shares p))
             (λ p. ended_as (standing_at at (all.shares p)) ending) (λ p. []) all.flights
             open_now.flights open_now.room
             (λ p below. ap (act_at code p (standing_at at (all.shares p))) here

@@ -1,6 +1,7 @@
 -- Rows that need scalars and slots alone: all processors go the same way, each in one turn.
-use Rattle.std.proofs.Common.{◌≡◌, ◌≢◌, ℕ, ◌+◌, ◌<◌, ◌≤◌, Bool, true, false, ◌&&◌, List, [], length, All, Option, Some, None, refl, sym, ◌∙◌, ap, subst, arith, eqb-true}
+use Rattle.std.proofs.Common.{suc, ◌^◌, ◌≡◌, ◌≢◌, ℕ, ◌+◌, ◌<◌, ◌≤◌, Bool, true, false, ◌&&◌, List, [], length, All, Option, Some, None, refl, sym, ◌∙◌, ap, subst, arith, eqb-true}
 use Rattle.std.specs.List.{flat_map}
+use Rattle.std.proofs.Math.Nat.{one-le-pow}
 use Rattle.zpl_nums.specs.declared.ends.End.{End}
 use Rattle.zpl_nums.specs.declared.ends.End.TheVariants.{Done, Trap, More}
 use Rattle.zpl_nums.specs.declared.ends.TrapKind.TheVariants.{DivideByZero, RegionLimit}
@@ -24,16 +25,22 @@ use Rattle.row_orders.proofs.StarLemmas.{processor_count}
 use Rattle.row_runs.specs.Run.{Does}
 use Rattle.plan_meaning.specs.Abreast.{Abreast, Share, go_where, is_quiet}
 use Rattle.plan_meaning.specs.Act.{controlled, controlled_as, control_of, ends_where, go_one_way, is_way, leaps_where, registers_or, registers_of, shares_on, tested, with_registers}
-use Rattle.plan_orders.specs.Brings.{AreOpen, Brings, ComesToEnd, GoesWell, standing_at}
+use Rattle.plan_orders.specs.Brings.{AreOpen, ComesToEnd, GoesWell, LeadsTo, most_loops, row_most, standing_at}
 use Rattle.plan_orders.proofs.TestLemmas.{both, every_one, no_flights, same_ending, ways_within}
 
 -- ---- one turn of each
-pub brings_once : (code : Tables) (links : Option ℕ) (one other : ℕ → Local) (shown : ℕ → List ℕ)
-    (flights : List Flight)
+pub most_some : (code : Tables) (m : ℕ) → 8388608 ≤ row_most code m
+most_some code m =
+    let some : 1 ≤ (m + 1) ^ most_loops code =
+    one-le-pow (most_loops code) (m + 1) (omega arith) in
+    omega (arith, some)
+
+pub brings_once : (code : Tables) (links : Option ℕ) (n : ℕ) (all : Abreast)
+    (one other : ℕ → Local) (shown : ℕ → List ℕ) (flights : List Flight)
     → All (IsFlight (count_of (system_over code links))) flights → HasRoom links (length flights)
     → ((p : ℕ) → p < processors code → act code p (one p) ≡ Moves (other p) None (shown p))
-    → Brings code links (flying one flights) (flying other flights) 1 (shown 0)
-brings_once code links one other shown flights are room acts = record {
+    → LeadsTo code links n all (flying one flights) (flying other flights) (shown 0)
+brings_once code links n all one other shown flights are room acts = record {
   many = λ p. 1;
   shown = shown;
   leads =
@@ -42,6 +49,7 @@ brings_once code links one other shown flights are room acts = record {
       (λ p below. acts p (subst (λ c. p < c) (processor_count code links) below))
       (ways_within (count_of (system_over code links)) links flights are room);
   enough = λ p below. omega arith;
+  few = λ limited p below. let some = most_some code (suc n) in omega (arith, some);
   printed = refl;
 }
 
@@ -143,7 +151,7 @@ module _ (code : Tables) (links : Option ℕ) (n at : ℕ) (row : Instr)
       → GoesWell code links n at all (Does (go_where b [] (shares_on code row all)))
   going registers false is alike = tt
   going registers true is alike = (
-    brings_once code links (λ p. standing_at at (all.shares p))
+    brings_once code links n all (λ p. standing_at at (all.shares p))
         (λ p. standing_at (at + 1) ((shares_on code row all).shares p)) (λ p. []) all.flights
         open_now.flights open_now.room
         (λ p below. goes p (steps_way registers (control_of code row all p)
@@ -164,7 +172,7 @@ module _ (code : Tables) (links : Option ℕ) (n at : ℕ) (row : Instr)
       → go_one_way code row all ≡ b → GoesWell code links n at all (leaps_where b goal)
   leaping goal false is alike = tt
   leaping goal true is alike = (
-    brings_once code links (λ p. standing_at at (all.shares p))
+    brings_once code links n all (λ p. standing_at at (all.shares p))
         (λ p. standing_at goal (all.shares p)) (λ p. []) all.flights open_now.flights open_now.room
         (λ p below. turn_is p (control.Leaps goal) (leaps_way goal (control_of code row all p)
         (one_way (control.Leaps goal) is alike p below))),
@@ -180,7 +188,7 @@ module _ (code : Tables) (links : Option ℕ) (n at : ℕ) (row : Instr)
       ComesToEnd (record {
         over = flying (λ p. ended_as (standing_at at (all.shares p)) ending) all.flights;
         brings =
-            brings_once code links (λ p. standing_at at (all.shares p))
+            brings_once code links n all (λ p. standing_at at (all.shares p))
             (λ p. ended_as (standing_at at (all.shares p)) ending) (λ p. []) all.flights
             open_now.flights open_now.room
             (λ p below. turn_is p (control.Ends ending) (ends_way ending (control_of code row all p)
@@ -211,7 +219,7 @@ module _ (code : Tables) (links : Option ℕ) (n at : ℕ) (row : Instr)
       → GoesWell code links n at all (tested (Does (go_where b [] (shares_on code row all))))
   passing registers false is alike stays = tt
   passing registers true is alike stays =
-      brings_once code links (λ p. standing_at at (all.shares p))
+      brings_once code links n all (λ p. standing_at at (all.shares p))
       (λ p. standing_at (at + 1) (all.shares p)) (λ p. []) all.flights open_now.flights
       open_now.room
       (λ p below. goes p (steps_way registers (control_of code row all p)

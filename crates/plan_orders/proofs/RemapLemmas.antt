@@ -1,5 +1,5 @@
 -- A remap read on one processor: what its turns are when they are counted.
-use Rattle.std.proofs.Common.{◌≡◌, ℕ, ◌+◌, ◌-◌, ◌*◌, ◌%◌, ◌<◌, ◌≤◌, ◌==◌, nat_le, Bool, true, false, not, cond, ℤ, List, [], ◌∷◌, ◌++◌, drop, filter, length, map, All, Option, Some, None, option_map, option_and_then, refl, sym, ◌∙◌, ap, subst, arith, if◌then◌else◌}
+use Rattle.std.proofs.Common.{suc, ◌≡◌, ℕ, ◌+◌, ◌-◌, ◌*◌, ◌%◌, ◌<◌, ◌≤◌, ◌==◌, nat_le, Bool, true, false, not, cond, ℤ, List, [], ◌∷◌, ◌++◌, drop, filter, length, map, All, Option, Some, None, option_map, option_and_then, refl, sym, ◌∙◌, ap, subst, arith, if◌then◌else◌}
 use Rattle.std.specs.Prelude.{nat_lt}
 use Rattle.std.proofs.Math.Seq.{drop-append_seam}
 use Rattle.std.proofs.lemmas.List.Elements.{All-nil, All-cons, All-head, All-tail, All-filter}
@@ -14,6 +14,7 @@ use Rattle.grid_meaning.specs.Remap.{Want, answer, first_values, owns_all, remap
 use Rattle.grid_meaning.proofs.RemapLemmas.{IfApart, IsApart, values_apart}
 use Rattle.row_orders.proofs.PartnerLemmas.{below-range, same_turned, times-filter, times-range}
 use Rattle.plan_meaning.specs.Messages.{receivers, senders}
+use Rattle.row_orders.specs.Rows.{taken_where, taking}
 use Rattle.plan_orders.proofs.ChainLemmas.{re}
 
 -- ---- the others
@@ -348,3 +349,74 @@ module _ (code : Tables) (p array slot from : ℕ) (parts : List ℕ) (row : Arr
   stages_are local =
       ap (λ l. Alone ∷ (map Sends (others code p) ++ (map TakesFrom (others code p)
       ++ (l ++ (map TakesFrom (back_from local) ++ Last ∷ []))))) (sends_to_names local.kept)
+
+  -- ---- how many requests are kept
+  kept_more : (q : ℕ) (words : List ℤ) (kept : List (ℕ × List ℤ))
+      → length (kept_with q words kept) ≤ length kept + 1
+  kept_more q words [] = omega arith
+  kept_more q words (entry ∷ kept) = by (nat_lt q entry.0) (kept_more q words kept)
+    where
+      by : (b : Bool) → length (kept_with q words kept) ≤ length kept + 1
+          → length (if b then (q, words) ∷ (entry ∷ kept) else entry ∷ kept_with q words kept)
+          ≤ suc (length kept) + 1
+      by true rest = omega arith
+      by false rest = omega (arith, rest)
+
+  request_more : (base next : Local) (q : ℕ) (words : List ℤ) (owns : Bool)
+      → request_taken code p array slot from parts row base q words owns ≡ Some next
+      → length next.kept ≤ length base.kept + 1
+  request_more base next q words true e = by (length words == 0) e
+    where
+      by : (b : Bool) → Some (if b then base else keeping base q words) ≡ Some next
+          → length next.kept ≤ length base.kept + 1
+      by true e =
+          let same : base ≡ next = cc in
+          let alike = ap (λ l. length l.kept) same in
+          omega (arith, alike)
+      by false e =
+          let same : keeping base q words ≡ next = cc in
+          let alike = ap (λ l. length l.kept) same in
+          let more = kept_more q words base.kept in
+          omega (arith, alike, more)
+  request_more base next q words false e = cc
+
+  taken_more : (base next : Local) (q : ℕ) (words : List ℤ)
+      → Row.taken base q words ≡ Some next → length next.kept ≤ length base.kept + 1
+  taken_more base next q words e = by (nat_le base.made most) e
+    where
+      by : (b : Bool)
+          → (if b then request_taken code p array slot from parts row base q words
+          (owns_all code p array slot from parts row words)
+          else written code p array slot from parts row (some_wants code p array slot from parts row
+          (wants code p array slot from parts row base) q) words base) ≡ Some next
+          → length next.kept ≤ length base.kept + 1
+      by true e =
+          request_more base next q words (owns_all code p array slot from parts row words) e
+      by false e =
+          let stored = written_stored (some_wants code p array slot from parts row
+          (wants code p array slot from parts row base) q) words base next e in
+          let alike = ap (λ l. length l.kept) stored.is in
+          omega (arith, alike)
+
+  pub taking_more : (words : ℕ → List ℤ) (qs : List ℕ) (base final : Local)
+      → taking Row words base qs ≡ Some final
+      → length final.kept ≤ length base.kept + length qs
+  taking_more words [] base final e =
+      let same : base ≡ final = cc in
+      let alike = ap (λ l. length l.kept) same in
+      omega (arith, alike)
+  taking_more words (q ∷ qs) base final e =
+      by (Row.awaits base q (length (words q))) (Row.taken base q (words q)) refl e
+      (λ next. taking_more words qs next final)
+    where
+      by : (b : Bool) (o : Option Local) → Row.taken base q (words q) ≡ o
+          → option_and_then (λ next. taking Row words next qs) (taken_where b o) ≡ Some final
+          → ((next : Local) → taking Row words next qs ≡ Some final
+          → length final.kept ≤ length next.kept + length qs)
+          → length final.kept ≤ length base.kept + length (q ∷ qs)
+      by true None takes e rest = cc
+      by true (Some next) takes e rest =
+          let first = taken_more base next q (words q) takes in
+          let later = rest next e in
+          omega (arith, first, later)
+      by false o takes e rest = cc

@@ -1,5 +1,5 @@
 -- A remap read on all processors.
-use Rattle.std.proofs.Common.{◌≡◌, ◌≢◌, ℕ, ◌+◌, ◌-◌, ◌*◌, ◌<◌, ◌≤◌, ◌==◌, nat_le, Bool, true, false, ◌&&◌, List, [], ◌∷◌, ◌++◌, drop, length, map, All, slice_get, Option, Some, None, option_map, is_some, refl, sym, ◌∙◌, ap, ap₂, subst, arith, length-append, append_assoc, eqb-true, leb-true, le-leb}
+use Rattle.std.proofs.Common.{suc, ◌≡◌, ◌≢◌, ℕ, ◌+◌, ◌-◌, ◌*◌, ◌<◌, ◌≤◌, ◌==◌, nat_le, Bool, true, false, ◌&&◌, List, [], ◌∷◌, ◌++◌, drop, length, map, All, slice_get, Option, Some, None, option_map, is_some, refl, sym, ◌∙◌, ap, ap₂, subst, arith, length-append, append_assoc, eqb-true, leb-true, le-leb}
 use Rattle.std.proofs.lemmas.Bool.{lt-leb}
 use Rattle.std.specs.Prelude.{unwrap_or}
 use Rattle.std.specs.List.{list_all}
@@ -28,12 +28,14 @@ use Rattle.row_orders.proofs.StarLemmas.{processor_count}
 use Rattle.row_runs.specs.Run.{Does}
 use Rattle.plan_meaning.specs.Abreast.{Abreast, every, go_where, is_quiet, locals_of, share_of}
 use Rattle.plan_meaning.specs.Messages.{answered, answering, answers, answers_from, answers_to, are_partners, asked, asking, behind_answers, heard_by, leaves_row, next_or, receivers, remapped, remaps_well, requests, senders}
-use Rattle.plan_orders.specs.Brings.{GoesWell, in_front, standing_at}
+use Rattle.plan_orders.specs.Brings.{GoesWell, IsLimited, in_front, row_most, standing_at}
+use Rattle.plan_orders.proofs.QuietLemmas.{most_some}
+use Rattle.grid_meaning.specs.Remap.{some_wants, wants}
 use Rattle.plan_orders.proofs.AgreeLemmas.{quiet_far, quiet_near}
 use Rattle.plan_orders.proofs.ChainLemmas.{place_of, re, sends_chain, takes_chain}
 use Rattle.plan_orders.proofs.PlaceLemmas.{goes_left}
-use Rattle.plan_orders.proofs.RemapLemmas.{Answers, Asks, IsOther, IsStored, Row, alone_re, alone_stored, answers_keep, are_others, asking_stages, asks_keep, awaits_same, back_from, most, names_of, others_both, receivers_are, senders_are, stages_are, taken_same, words_same}
-use Rattle.plan_orders.proofs.TestLemmas.{both, each_all, every_one, every_other, no_flights, no_room, there}
+use Rattle.plan_orders.proofs.RemapLemmas.{Answers, Asks, IsOther, IsStored, Row, alone_re, alone_stored, answers_keep, are_others, asking_stages, asks_keep, awaits_same, back_from, most, names_of, others_both, receivers_are, senders_are, stages_are, taken_same, taking_more, words_same}
+use Rattle.plan_orders.proofs.TestLemmas.{both, each_all, every_one, every_other, fewer, no_flights, no_room, there}
 
 six_parts : (a b c d e f : Bool) → (a && b && c && d && e && f) ≡ true
     → (a ≡ true) × (b ≡ true) × (c ≡ true) × (d ≡ true) × (e ≡ true) × (f ≡ true)
@@ -382,6 +384,31 @@ module _ (code : Tables) (links : Option ℕ) (at array slot from : ℕ) (parts 
         ∙ place_of front_last Last []))
         ∙ goes_left (final p) (final p) at [] facts.5)
 
+    -- ---- how many they are
+    back_few : length (to_back p) + length (from_back p) ≤ many p + many p
+    back_few =
+        let asked = taking_more code p array slot from parts row
+        (λ q. unwrap_or (requests code the_row all q p) []) (others code p)
+        (asking code the_row all p) (heard p)
+        (there (heard_by code the_row all p) (locals p) facts.2) in
+        let none = ap (λ l. length l.kept) begins_stored.is in
+        let to = ap length to_is in
+        let of = ap length from_is in
+        let names = length-map (heard p).kept (λ entry. entry.0) in
+        let few = fewer (λ q. nat_le 1 (length (some_wants code p array slot from parts row
+        (wants code p array slot from parts row first) q))) (others code p) in
+        omega (arith, asked, none, to, of, names, few)
+
+    row_few : (n : ℕ) → IsLimited code all
+        → 1 + many p + many p + length (to_back p) + length (from_back p) + 1
+        ≤ row_most code (suc n)
+    row_few n limited =
+        let some = most_some code (suc n) in
+        let few = limited.count in
+        let s = size in
+        let b = back_few in
+        omega (arith, some, few, s, b)
+
     -- ---- whom they name
     all_others : (qs : List ℕ) → All (IsOther code p) qs → AreOthers count p qs
     all_others qs are =
@@ -447,6 +474,7 @@ module _ (code : Tables) (links : Option ℕ) (at array slot from : ℕ) (parts 
 
   pub remapped_well : (n : ℕ) → IsCapacity links
       → GoesWell code links n at all (Does (remapped code the_row all))
+  unfolding remapping
   remapped_well n capable =
       by (is_quiet all && are_partners code to_back from_back
       && every code (remaps_well code the_row all)) refl
@@ -484,9 +512,12 @@ module _ (code : Tables) (links : Option ℕ) (at array slot from : ℕ) (parts 
                   leads_agreed (system_over code links) (quiet_scene one) (quiet_scene other)
                   (in_front at all) (in_front (at + 1) next) turns turns (λ p. []) (λ p. [])
                   (quiet_near count one all.flights (no_flights all.flights quiet))
-                  (quiet_far count other [] refl) (λ p below. refl) (λ p below. refl)
+                  (quiet_far count other [] refl) (λ p below. refl {a = turns p}) (λ p below. refl)
                   (remaps code links capable the_row one other is);
               enough = λ p below. omega arith;
+              few = λ limited p below.
+                  row_few p below (every_one code (remaps_well code the_row all) well p
+                  (inside p below)) n limited;
               printed = refl;
             },
             record { flights = All-nil (IsFlight count); room = no_room links },

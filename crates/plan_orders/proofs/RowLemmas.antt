@@ -1,5 +1,5 @@
 -- Every row of code that fits has its order; and so has every run.
-use Rattle.std.proofs.Common.{◌≡◌, ◌≢◌, ℕ, suc, List, drop, filter_map, take, All, slice_get, Option, Some, None, option_map, refl, ap, subst, arith}
+use Rattle.std.proofs.Common.{◌+◌, ◌*◌, ◌<◌, ◌++◌, ◌∷◌, [], ◌∙◌, length, length-append, ◌≡◌, ◌≢◌, ℕ, suc, List, drop, filter_map, take, All, slice_get, Option, Some, None, option_map, refl, ap, subst, arith}
 use Rattle.std.specs.Prelude.{IsNone}
 use Rattle.std.specs.Option.{IsSomeAnd}
 use Rattle.std.proofs.lemmas.List.{take-append-drop}
@@ -14,19 +14,24 @@ use Rattle.grid_meaning.specs.Remap as remap
 use Rattle.grid_meaning.proofs.RemapLemmas.{IsOther, parts_apart}
 use Rattle.row_runs.specs.Run.{Does}
 use Rattle.plan_meaning.specs.Abreast.{start_abreast}
-use Rattle.plan_meaning.specs.Act.{found, plan_run}
+use Rattle.plan_meaning.specs.Act.{found, plan_rows, plan_run}
 use Rattle.plan_meaning.specs.Messages.{remapped}
-use Rattle.plan_orders.specs.Brings.{GoesWell, HasOrder, HaveOrders, IsFollowed}
-use Rattle.plan_orders.specs.InStep.{ComesInStep}
+use Rattle.plan_orders.specs.Brings.{GoesWell, HasOrder, HaveOrders, IsFollowed, in_front, row_most}
+use Rattle.plan_orders.specs.InStep.{ComesInStep, run_most}
+use Rattle.grid_links.specs.Machine.{Awaits, Goes, Takes}
+use Rattle.grid_links.specs.declared.messages.Message.{Message}
+use Rattle.grid_meaning.specs.Local.{Local, processors, start_local}
+use Rattle.grid_meaning.specs.State.{HasThree, IsLocal, NextHasThree}
+use Rattle.grid_meaning.specs.Turn.{act, fed}
 use Rattle.plan_orders.proofs.AgreeLemmas.{fold_ordered, tree_fold_ordered, tree_vote_ordered, vote_ordered}
 use Rattle.plan_orders.proofs.ControlLemmas.{dims_ordered, end_ordered, fits_ordered, fix_ordered, formed_ordered, jump_ordered, need_ordered, same_ordered, set_ordered, trap_ordered, unless_ordered}
 use Rattle.plan_orders.proofs.LoopRowLemmas.{loop_ordered}
 use Rattle.plan_orders.proofs.MessageLemmas.{edge_ordered, finish_ordered, flood_ordered, gather_ordered, part_ordered, scan_ordered, start_ordered}
-use Rattle.plan_orders.proofs.PlanLemmas.{arrive}
+use Rattle.plan_orders.proofs.PlanLemmas.{Arrives, arrive, long_rows}
 use Rattle.plan_orders.proofs.PrintLemmas.{clear_ordered, number_ordered, print_ordered, room_ordered, truth_ordered}
 use Rattle.plan_orders.proofs.RemapRowLemmas.{remapped_well}
-use Rattle.plan_orders.proofs.StartLemmas.{all_at, in_step}
-use Rattle.plan_orders.proofs.TestLemmas.{no_room}
+use Rattle.plan_orders.proofs.StartLemmas.{Reach, in_step, reach_limits, reach_on, start_reach}
+use Rattle.plan_orders.proofs.TestLemmas.{all_at, no_room}
 
 -- ---- the index arrays of a remap read are others than its target
 remap_apart : (code : Tables) (array slot from : ℕ) (parts : List (Option ℕ)) (row : ArrayRow)
@@ -137,8 +142,23 @@ module _ (code : Tables) (links : Option ℕ) (capable : IsCapacity links) where
       row_ordered n at row next (all_at (FitsInstr code) code.code at row fits.code here) followed
       here
 
-  pub come_in_step : Fits code → ComesInStep code links
-  come_in_step fits a n bound low few right =
-      in_step code links n a bound low few (plan_run code links a (suc n))
-      (arrive code links n (have_orders fits n) a 0 (start_abreast code) (omega arith)
-      (record { flights = All-nil _; room = no_room links }) right)
+  pub come_in_step : (fits : Fits code)
+      (start_kept : (p : ℕ) → p < processors code → IsLocal code p (start_local code p))
+      (moves_keep : (p : ℕ) (local next : Local) (sent : Option (ℕ × Message)) (shown : List ℕ)
+      → NextHasThree code local → IsLocal code p local
+      → act code p local ≡ Goes next sent shown → IsLocal code p next)
+      (messages_keep : (p : ℕ) (local next : Local) (from : ℕ) (message : Message)
+      → IsLocal code p local → act code p local ≡ Awaits from
+      → fed code p local message ≡ Takes next → IsLocal code p next)
+      → ComesInStep code links
+  come_in_step fits start_kept moves_keep messages_keep a n bound low few right =
+      let long : length (plan_rows code) ≡ length code.code + 1 =
+      long_rows (code.code ++ instr.End ∷ []) ∙ length-append code.code (instr.End ∷ []) in
+      in_step code links n a bound (run_most code a (suc n)) low few (plan_run code links a (suc n))
+      (subst (λ k. Arrives code links n a (All (HasThree code) code.code)
+      (a * (k * row_most code (suc n))) (in_front 0 (start_abreast code))
+      (plan_run code links a (suc n))) long
+      (arrive code links n (have_orders fits n) (All (HasThree code) code.code) (Reach code links)
+      (reach_limits code links fits start_kept moves_keep messages_keep) (reach_on code links n) a 0
+      (start_abreast code) (omega arith) (start_reach code links)
+      (record { flights = All-nil _; room = no_room links }) right))

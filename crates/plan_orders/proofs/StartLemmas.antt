@@ -7,17 +7,17 @@ use Rattle.std.proofs.lemmas.Nat.{div-add-mod'}
 use Rattle.std.proofs.lemmas.Bool.{ne_eqb}
 use Rattle.std.proofs.lemmas.Grind.{flat_map-append}
 use Rattle.std.proofs.lemmas.List.{get_or_default, length-set}
-use Rattle.std.proofs.lemmas.List.Elements.{All-nil, All-cons, All-head, All-tail}
+use Rattle.std.proofs.lemmas.List.Elements.{All-nil, All-cons}
 use Rattle.zpl_nums.specs.declared.ends.End.{End}
 use Rattle.zpl_nums.specs.declared.ends.End.TheVariants.{More}
 use Rattle.grid_links.specs.declared.messages.Message.{Message}
 use Rattle.grid_links.specs.Links.{link_of}
-use Rattle.grid_links.specs.Machine.{Ended, Move, Moves, Over, Stuck, Waiting, Turn as TurnOf}
+use Rattle.grid_links.specs.Machine.{Awaits, Goes, Takes, Ended, Move, Moves, Over, Stuck, Waiting, Turn as TurnOf}
 use Rattle.grid_links.specs.Run as run
 use Rattle.grid_links.specs.Run.{World, after_turn, count_of, move_in, moves_from, moves_of, shown_by, start_world, turn_or_over}
 use Rattle.grid_links.proofs.LapLemmas.{after-append, moves_of-append}
 use Rattle.grid_paths.specs.Laws.{Reached}
-use Rattle.grid_paths.specs.Scene.{HasEnded, HasScene, OnlyMoves, Scene}
+use Rattle.grid_paths.specs.Scene.{Leads, HasEnded, HasScene, OnlyMoves, Scene}
 use Rattle.grid_paths.proofs.ReachLemmas.{moving_turn, reaches_from, starts, unstuck}
 use Rattle.grid_paths.proofs.StuckLemmas.{stays_stuck}
 use Rattle.node_form.specs.Grid.{factors_of}
@@ -26,13 +26,18 @@ use Rattle.grid_meaning.specs.Action.{StuckKind}
 use Rattle.grid_meaning.specs.Grid.{Grid, HasEmptyLinks, IsOver, after, after_from, given_turn, next_turn, printed_by, shown_in, start_grid, system_over}
 use Rattle.grid_meaning.specs.Local.{Local, processors, start_local}
 use Rattle.grid_meaning.specs.Order.{IsOrder}
-use Rattle.grid_meaning.specs.Turn.{Turn, act, act_at, unless_ended}
+use Rattle.grid_meaning.specs.State.{HasThree, IsLocal, NextHasThree}
+use Rattle.grid_meaning.specs.Turn.{fed, Turn, act, act_at, unless_ended}
 use Rattle.grid_meaning.proofs.GridLemmas.{world-after}
 use Rattle.grid_meaning.proofs.WorldLemmas.{IsOver-world}
 use Rattle.row_orders.proofs.StarLemmas.{processor_count}
 use Rattle.row_runs.specs.Run.{Ends, Result}
-use Rattle.plan_meaning.specs.Abreast.{start_abreast}
-use Rattle.plan_orders.specs.Brings.{in_front}
+use Rattle.plan_meaning.specs.Abreast.{Abreast, start_abreast}
+use Rattle.plan_orders.specs.Brings.{IsLimited, LeadsTo, in_front, standing_at}
+use Rattle.plan_orders.proofs.ReachLemmas.{order_kept, slot_fits}
+use Rattle.node_form.specs.Fits.{Fits}
+use Rattle.grid_paths.proofs.RoundLemmas.{leads_nowhere, leads_through}
+use Rattle.plan_orders.proofs.TestLemmas.{all_at}
 use Rattle.plan_orders.specs.InStep.{IsInStep}
 use Rattle.plan_orders.proofs.PlanLemmas.{AllMove, AllRest, Arrives, AtEnd, AtRow, AtWait, Onward}
 
@@ -65,13 +70,6 @@ printed_is : (code : Tables) (links : Option ℕ) (order : List ℕ)
 printed_is code links order = printed_from code links (start_grid code) order
 
 -- ---- elements of lists
-pub all_at : {X : Type 0} (P : X → Type 0) (xs : List X) (i : ℕ) (x : X) → All P xs
-    → slice_get xs i ≡ Some x → P x
-all_at P [] i x all e = cc
-all_at P (y ∷ xs) zero x all e =
-    let same : y ≡ x = cc in subst P same (All-head P y xs all)
-all_at P (y ∷ xs) (suc i) x all e = all_at P xs i x (All-tail P y xs all) e
-
 numbered : {X : Type 0} (f : ℕ → X) (a n p : ℕ) → p < n
     → slice_get (map f (range_with_len a n)) p ≡ Some (f (a + p))
 numbered f a zero p below = absurd (omega (arith, below))
@@ -80,6 +78,18 @@ numbered f a (suc n) zero below =
 numbered f a (suc n) (suc p) below =
     let same : a + 1 + p ≡ a + suc p = omega arith in
     numbered f (a + 1) n p (omega (arith, below)) ∙ ap (λ k. Some (f k)) same
+
+numbered_back : {X : Type 0} (f : ℕ → X) (a n p : ℕ) (x : X)
+    → slice_get (map f (range_with_len a n)) p ≡ Some x → (p < n) × (f (a + p) ≡ x)
+numbered_back f a zero p x e = cc
+numbered_back f a (suc n) zero x e =
+    let same : f a ≡ x = cc in
+    let none : a + 0 ≡ a = omega arith in
+    (omega arith, ap f none ∙ same)
+numbered_back f a (suc n) (suc p) x e =
+    let (below, is) = numbered_back f (a + 1) n p x e in
+    let same : a + suc p ≡ a + 1 + p = omega arith in
+    (omega (arith, below), ap f same ∙ is)
 
 some_processors : (grid : List ℕ) (count : ℕ) → 0 < count
     → 0 < fold (λ so_far factor. so_far * factor) count (factors_of grid)
@@ -181,23 +191,23 @@ module _ (code : Tables) (links : Option ℕ) where
   not_stuck : (order : List ℕ) (scene : Scene Local Message)
       → HasScene count (run.after system order) scene → Onward code links scene
       → run.IsStuck system (run.after system order) → ⊥
-  not_stuck order scene has (AllMove {other = other} brings) stuck =
-      let comes = brings.leads (run.after system order) has in
+  not_stuck order scene has (AllMove many shown leads each) stuck =
+      let comes = leads (run.after system order) has in
       let (still, same) = stays_stuck system order comes.order stuck.process stuck.kind stuck.there
       stuck.stuck in
       let long = length-append (moves_of system order stuck.process)
       (moves_from system (run.after system order) comes.order stuck.process) in
       let joined = ap length (moves_of-append system order comes.order stuck.process) in
       let alike = ap length same in
-      let many = comes.moved stuck.process stuck.there in
-      let enough = brings.enough stuck.process stuck.there in
-      omega (arith, long, joined, alike, many, enough)
+      let moved = comes.moved stuck.process stuck.there in
+      let enough = each stuck.process stuck.there in
+      omega (arith, long, joined, alike, moved, enough)
   not_stuck order scene has (AllRest {least = least} wait) stuck =
-      let comes = wait.brings.leads (run.after system order) has in
+      let comes = wait.leads (run.after system order) has in
       let (still, same) = stays_stuck system order comes.order stuck.process stuck.kind stuck.there
       stuck.stuck in
       unstuck system (run.after_from system (run.after system order) comes.order) wait.other
-      comes.arrives stuck.process stuck.there least (wait.brings.many stuck.process) stuck.kind
+      comes.arrives stuck.process stuck.there least (wait.many stuck.process) stuck.kind
       (wait.each stuck.process stuck.there)
       (sym (ap (λ world. run.next_turn system world stuck.process)
       (after-append system order comes.order)) ∙ still)
@@ -247,10 +257,11 @@ module _ (code : Tables) (links : Option ℕ) where
       (λ p q a b. has.link p q a b ∙ quiet p q a b))
 
   -- ---- where a run comes
-  pub in_step : (n left bound : ℕ) → bound ≤ left → bound ≤ n → (result : Result)
-      → Arrives code links n left (in_front 0 (start_abreast code)) result
-      → (order : List ℕ) × IsInStep code links result bound order
-  in_step n left bound low few result (AtEnd {bytes = bytes} {ending = ending} end) =
+  pub in_step : (n left bound most : ℕ) → bound ≤ left → bound ≤ n → (result : Result)
+      → Arrives code links n left (All (HasThree code) code.code) most
+      (in_front 0 (start_abreast code)) result
+      → (order : List ℕ) × IsInStep code links result bound most order
+  in_step n left bound most low few result (AtEnd {bytes = bytes} {ending = ending} end) =
       let reached : Reached system end.over end.brings.many end.brings.shown bound =
       reaches_from system (in_front 0 (start_abreast code)) end.over end.brings.many
       end.brings.shown bound start_is end.brings.leads
@@ -281,23 +292,28 @@ module _ (code : Tables) (links : Option ℕ) where
           goes_on = λ more. absurd (end.last (wanted ending more));
           reaches = reached.reaches;
           one_moved = λ more. absurd (end.last (wanted ending more));
+          few = λ three last p below.
+              let inside = subst (λ k. p < k) (sym (processor_count code links)) below in
+              let moved = reached.moved p inside in
+              let less = end.brings.few three p inside in
+              omega (arith, moved, less);
         },
       )
     where
       wanted : (ending : End) → Ends ending ≡ Ends More → ending ≡ More
       wanted ending e = cc
-  in_step n left bound low few result (AtWait {bytes = bytes} wait) =
-      let reached : Reached system wait.other wait.brings.many wait.brings.shown bound =
-      reaches_from system (in_front 0 (start_abreast code)) wait.other wait.brings.many
-      wait.brings.shown bound start_is wait.brings.leads
-      (λ p below. less (wait.brings.many p) (wait.each p below)) in (
+  in_step n left bound most low few result (AtWait {bytes = bytes} wait) =
+      let reached : Reached system wait.other wait.many wait.shown bound =
+      reaches_from system (in_front 0 (start_abreast code)) wait.other wait.many
+      wait.shown bound start_is wait.leads
+      (λ p below. less (wait.many p) (wait.each p below)) in (
         reached.order,
         record {
           turns = orders_below reached.order reached.only_moves;
           only_moves = reached.only_moves;
           printed =
               printed_is code links reached.order
-              ∙ (reached.shows 0 first_below ∙ wait.brings.printed);
+              ∙ (reached.shows 0 first_below ∙ wait.printed);
           ends = λ other same last. let alike : More ≡ other = cc in absurd (last (sym alike));
           goes_on = λ more over.
               let moves = moving_turn system (run.after system reached.order) wait.other
@@ -313,13 +329,14 @@ module _ (code : Tables) (links : Option ℕ) where
                 let long = wait.longest_moves in
                 omega (arith, moved, long, few)),
           );
+          few = λ three last. absurd (last refl);
         },
       )
     where
       less : {A B : Type 0} (many : ℕ) → A ⊎ ((n ≤ many) × B) → A ⊎ ((bound ≤ many) × B)
       less many (inl rests) = inl rests
       less many (inr (enough, moves)) = inr (omega (arith, enough, few), moves)
-  in_step n left bound low few result (AtRow {bytes = bytes} there after_it brings onward) =
+  in_step n left bound most low few result (AtRow {bytes = bytes} there after_it brings onward) =
       let comes = brings.leads (start_world system) start_is in (
         comes.order,
         record {
@@ -344,5 +361,64 @@ module _ (code : Tables) (links : Option ℕ) where
                 let enough = brings.enough 0 first_below in
                 omega (arith, moved, enough, low)),
           );
+          few = λ three last. absurd (last refl);
         },
       )
+
+  -- ---- in front of a row to which an order leads, regions are limited
+  pub record Reach (at : ℕ) (all : Abreast) : Type 0 where
+    pub many : ℕ → ℕ
+    pub shown : ℕ → List ℕ
+    pub leads : Leads system (in_front 0 (start_abreast code)) (in_front at all) many shown
+
+  pub start_reach : Reach 0 (start_abreast code)
+  start_reach = record {
+    many = λ p. 0;
+    shown = λ p. [];
+    leads = leads_nowhere system (in_front 0 (start_abreast code))
+        (in_front 0 (start_abreast code))
+        (record { local = λ p below. refl; link = λ p q a b. refl });
+  }
+
+  pub reach_on : (n at there : ℕ) (all next : Abreast) (bytes : List ℕ) → Reach at all
+      → LeadsTo code links n all (in_front at all) (in_front there next) bytes → Reach there next
+  reach_on n at there all next bytes reach brings = record {
+    many = λ p. reach.many p + brings.many p;
+    shown = λ p. reach.shown p ++ brings.shown p;
+    leads =
+        leads_through system (in_front 0 (start_abreast code)) (in_front at all)
+        (in_front there next) reach.many brings.many reach.shown brings.shown reach.leads
+        brings.leads;
+  }
+
+  module _ (fits : Fits code)
+      (start_kept : (p : ℕ) → p < processors code → IsLocal code p (start_local code p))
+      (moves_keep : (p : ℕ) (local next : Local) (sent : Option (ℕ × Message)) (shown : List ℕ)
+      → NextHasThree code local → IsLocal code p local
+      → act code p local ≡ Goes next sent shown → IsLocal code p next)
+      (messages_keep : (p : ℕ) (local next : Local) (from : ℕ) (message : Message)
+      → IsLocal code p local → act code p local ≡ Awaits from
+      → fed code p local message ≡ Takes next → IsLocal code p next) where
+    start_locals_are : (p : ℕ) (local : Local)
+        → slice_get (start_world system).locals p ≡ Some local → IsLocal code p local
+    start_locals_are p local here =
+        let (below, is) = numbered_back (start_local code) 0 (processors code) p local here in
+        subst (IsLocal code p) (ap (start_local code) (from_zero p) ∙ is) (start_kept p below)
+      where
+        from_zero : (p : ℕ) → p ≡ 0 + p
+        from_zero p = omega arith
+
+    pub reach_limits : All (HasThree code) code.code → (at : ℕ) (all : Abreast) → Reach at all
+        → IsLimited code all
+    reach_limits three at all reach =
+        let comes = reach.leads (start_world system) start_is in
+        let kept = order_kept code links three moves_keep messages_keep comes.order
+        (start_world system) start_locals_are comes.only_moves in
+        record {
+          count = fits.grid.few;
+          regions = λ p slot region below here.
+              (slot_fits code.slots (all.shares p).slots
+              (kept p (standing_at at (all.shares p))
+              (comes.arrives.local p (subst (λ k. p < k) (sym (processor_count code links)) below))
+              ).parts.slots slot region here).limit.points;
+        }

@@ -1,5 +1,5 @@
 -- Tests that all pass, and what open exchanges have on the links.
-use Rattle.std.proofs.Common.{◌≡◌, ◌⊎◌, ℕ, zero, suc, ◌+◌, ◌*◌, ◌<◌, ◌≤◌, Bool, true, false, ◌&&◌, ◌==◌, List, [], ◌∷◌, length, All, Option, Some, None, refl, sym, ◌∙◌, ap, ap₂, inl, inr, arith, eqb-true, eq-or-lt_of_le, length-append, le_trans, is_some}
+use Rattle.std.proofs.Common.{subst, slice_get, cond, filter, ◌≡◌, ◌⊎◌, ℕ, zero, suc, ◌+◌, ◌*◌, ◌<◌, ◌≤◌, Bool, true, false, ◌&&◌, ◌==◌, List, [], ◌∷◌, length, All, Option, Some, None, refl, sym, ◌∙◌, ap, ap₂, inl, inr, arith, eqb-true, eq-or-lt_of_le, length-append, le_trans, is_some}
 use Rattle.std.specs.Prelude.{is_none, unwrap_or}
 use Rattle.std.specs.List.{list_all, range_with_len, flat_map}
 use Rattle.std.proofs.lemmas.List.{length-replicate}
@@ -113,3 +113,21 @@ ways_within count links flights are room p q a b =
 pub no_room : (links : Option ℕ) → HasRoom links 0
 no_room None = tt
 no_room (Some capacity) = omega arith
+
+-- what passes a test is no more
+pub fewer : {X : Type 0} (test : X → Bool) (xs : List X) → length (filter test xs) ≤ length xs
+fewer test [] = omega arith
+fewer test (x ∷ xs) = by (test x) (fewer test xs)
+  where
+    by : (b : Bool) → length (filter test xs) ≤ length xs
+        → length (cond b (x ∷ filter test xs) (filter test xs)) ≤ suc (length xs)
+    by true less = omega (arith, less)
+    by false less = omega (arith, less)
+
+-- ---- elements of lists
+pub all_at : {X : Type 0} (P : X → Type 0) (xs : List X) (i : ℕ) (x : X) → All P xs
+    → slice_get xs i ≡ Some x → P x
+all_at P [] i x all e = cc
+all_at P (y ∷ xs) zero x all e =
+    let same : y ≡ x = cc in subst P same (All-head P y xs all)
+all_at P (y ∷ xs) (suc i) x all e = all_at P xs i x (All-tail P y xs all) e

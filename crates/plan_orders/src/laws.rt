@@ -8,6 +8,8 @@ ghost use Rattle.node_form.specs.declared.tables.Tables.{Tables as Code};
 ghost use Rattle.plan_orders.specs.Brings.{HaveOrders};
 ghost use Rattle.plan_orders.specs.InStep.{ComesInStep};
 
+use grid_meaning::states_are_kept;
+
 /// For each row of code that fits, some order leads all processors from where they stand in front
 /// of it to where it leads, unless it is wrong there: with the bytes that are printed, at least one
 /// move of each, and the words of open exchanges on the links. At a loop that wants a further turn
@@ -24,4 +26,6 @@ pub fn rows_have_orders()
 pub fn plans_come_in_step()
     ensures { (code : Code) (links : Option ℕ) → IsCapacity links → Fits code
         → ComesInStep code links }
-{}
+{
+    states_are_kept();
+}
