@@ -1,3 +1,4 @@
+mod Examples
 pub mod TestLemmas
 pub mod QuietLemmas
 pub mod ControlLemmas
