@@ -1,0 +1,73 @@
+-- Rows.
+use Rattle.std.proofs.Common.{◌≡◌, ℕ, zero, suc, List, [], ◌∷◌, pos, None, refl}
+use Rattle.node_form.specs.declared.instructions.Instr.TheVariants as instr
+use Rattle.node_form.specs.declared.members.Member.{Member}
+use Rattle.node_form.specs.declared.members.Member.TheVariants.{CloseIf, CloseWhile, OpenIf, OpenRepeat, OpenWhile, Until}
+use Rattle.node_form.specs.declared.tables.Tables.{Tables}
+use Rattle.plan_meaning.specs.Abreast.{Abreast, Share}
+use Rattle.plan_orders.specs.Brings.{in_front, loops_among, most_loops, row_most}
+use Rattle.plan_orders.specs.InStep.{run_most}
+
+-- a group with a loop in a choice and one behind it, and one with a loop
+two_loops : List Member
+two_loops =
+    OpenIf 0 None 1 ∷ OpenWhile 0 None 2 ∷ CloseWhile ∷ CloseIf ∷ OpenRepeat None 3 ∷ Until 0 ∷ []
+
+one_loop : List Member
+one_loop = OpenWhile 0 None 4 ∷ CloseWhile ∷ []
+
+code : Tables
+code = record {
+  grid = 2 ∷ [];
+  scalars = 0;
+  cells = 0;
+  slots = [];
+  arrays = [];
+  texts = [];
+  exprs = [];
+  groups = one_loop ∷ two_loops ∷ one_loop ∷ [];
+  exchanges = [];
+  code = instr.Loop 0 1 ∷ instr.End ∷ [];
+}
+
+counted : loops_among two_loops ≡ 2
+unfolding two_loops
+counted = refl
+
+most : most_loops code ≡ 2
+unfolding code two_loops one_loop
+most = refl
+
+-- 2 ^ 23 * 4 ^ 2, and as much for each of three rows, in a run of at most two jumps and tests
+in_a_row : row_most code 3 ≡ 134217728
+unfolding code two_loops one_loop
+in_a_row = refl
+
+in_a_run : run_most code 2 3 ≡ 805306368
+unfolding code two_loops one_loop
+in_a_run = refl
+
+-- ---- in front of a row, with the words of an open exchange on their way
+share : Share
+share = record { scalars = pos 5 ∷ []; slots = []; cells = []; stores = []; flag = None }
+
+to_of : ℕ → List ℕ
+to_of zero = 1 ∷ []
+to_of (suc p) = []
+
+abreast : Abreast
+abreast = record {
+  shares = λ p. share;
+  flights = record { exchange = 3; to = to_of; words = λ p q. pos 7 ∷ [] } ∷ [];
+}
+
+stands : ((in_front 4 abreast).locals 1).at ≡ 4
+stands = refl
+
+on_the_way : (in_front 4 abreast).links 0 1 ≡ record { tag = 6; words = pos 7 ∷ [] } ∷ []
+unfolding abreast to_of
+on_the_way = refl
+
+not_back : (in_front 4 abreast).links 1 0 ≡ []
+unfolding abreast to_of
+not_back = refl

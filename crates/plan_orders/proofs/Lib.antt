@@ -1,0 +1,19 @@
+mod Examples
+pub mod TestLemmas
+pub mod QuietLemmas
+pub mod ControlLemmas
+pub mod PrintLemmas
+pub mod AgreeLemmas
+pub mod PlaceLemmas
+pub mod DeliverLemmas
+pub mod MessageLemmas
+pub mod LoopLemmas
+pub mod WaitLemmas
+pub mod LoopRowLemmas
+pub mod PlanLemmas
+pub mod StartLemmas
+pub mod ChainLemmas
+pub mod RemapLemmas
+pub mod RemapRowLemmas
+pub mod RowLemmas
+pub mod ReachLemmas

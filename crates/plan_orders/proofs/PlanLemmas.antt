@@ -1,0 +1,469 @@
+-- From rows to bounded runs.
+use Rattle.std.proofs.Common.{◌*◌, ◌≡◌, ◌≢◌, ◌⊎◌, ℕ, zero, suc, ◌+◌, ◌<◌, ◌≤◌, Bool, true, false, ◌&&◌, List, [], ◌∷◌, ◌++◌, length, drop, slice_get, Option, Some, None, refl, sym, ◌∙◌, ap, ap₂, subst, inl, inr, arith, length-append}
+use Rattle.zpl_nums.specs.declared.ends.End.{End}
+use Rattle.zpl_nums.specs.declared.ends.End.TheVariants.{Done, More}
+use Rattle.grid_links.specs.declared.messages.Message.{Message}
+use Rattle.grid_paths.specs.Scene.{Leads, Scene}
+use Rattle.grid_paths.proofs.RoundLemmas.{leads_nowhere, leads_through}
+use Rattle.node_form.specs.declared.instructions.Instr.{Instr}
+use Rattle.node_form.specs.declared.instructions.Instr.TheVariants as instr
+use Rattle.node_form.specs.declared.tables.Tables.{Tables}
+use Rattle.grid_meaning.specs.Grid.{system_over}
+use Rattle.grid_meaning.specs.Local.{Local}
+use Rattle.grid_meaning.specs.Turn.{act_at}
+use Rattle.row_runs.specs.Run.{Does, Effect, Ends, Goes, Leaps, Passes, Result, Stops, Wrong, printed, runs, stopped, walked, went}
+use Rattle.plan_meaning.specs.Abreast.{Abreast, is_quiet}
+use Rattle.plan_meaning.specs.Act.{Followed, all_followed, controlled, ends_where, go_one_way, is_vote_of, plan_act, plan_rows}
+use Rattle.plan_orders.specs.Brings.{AllEnd, AllWait, AreOpen, Brings, ComesToEnd, ComesToWait, GoesWell, HasOrder, IsFollowed, IsLimited, LeadsTo, Stopped, in_front, row_most, standing_at}
+use Rattle.std.proofs.lemmas.Nat.{mul-le}
+use Rattle.grid_links.specs.Run.{count_of}
+use Rattle.plan_orders.proofs.QuietLemmas.{controlled_well, done_decided}
+
+-- ---- one order behind another
+module _ (code : Tables) (links : Option ℕ) where
+  -- without a bound on moves
+  pub brings_nowhere : (one : Scene Local Message) → Brings code links one one 0 ⊥ 0 []
+  brings_nowhere one = record {
+    many = λ p. 0;
+    shown = λ p. [];
+    leads =
+        leads_nowhere (system_over code links) one one
+        (record { local = λ p below. refl; link = λ p q a b. refl });
+    enough = λ p below. omega arith;
+    few = λ never p below. omega arith;
+    printed = refl;
+  }
+
+  -- under another premise
+  brings_under : (one other : Scene Local Message) (least most : ℕ) (bytes : List ℕ)
+      (Old New : Type 0) → (New → Old) → Brings code links one other least Old most bytes
+      → Brings code links one other least New most bytes
+  brings_under one other least most bytes Old New old brings = record {
+    many = brings.many;
+    shown = brings.shown;
+    leads = brings.leads;
+    enough = brings.enough;
+    few = λ new. brings.few (old new);
+    printed = brings.printed;
+  }
+
+  pub brings_through : (one two three : Scene Local Message) (least more all m k most : ℕ)
+      (Premise : Type 0) (bytes then : List ℕ) → all ≤ least + more → m + k ≤ most
+      → Brings code links one two least Premise m bytes
+      → Brings code links two three more Premise k then
+      → Brings code links one three all Premise most (bytes ++ then)
+  brings_through one two three least more all m k most Premise bytes then fits wide first second =
+      record {
+        many = λ p. first.many p + second.many p;
+        shown = λ p. first.shown p ++ second.shown p;
+        leads =
+            leads_through (system_over code links) one two three first.many second.many first.shown
+            second.shown first.leads second.leads;
+        enough = λ p below.
+            let a = first.enough p below in
+            let b = second.enough p below in
+            omega (arith, a, b, fits);
+        few = λ premise p below.
+            let a = first.few premise p below in
+            let b = second.few premise p below in
+            omega (arith, a, b, wide);
+        printed = ap₂ (λ x y. x ++ y) first.printed second.printed;
+      }
+
+-- some order leads on, by a move of each, or to where each waits or goes on
+pub data Onward (code : Tables) (links : Option ℕ) (one : Scene Local Message) : Type 0 where
+  AllMove : {other : Scene Local Message} (many : ℕ → ℕ) (shown : ℕ → List ℕ)
+      → Leads (system_over code links) one other many shown
+      → ((p : ℕ) → p < count_of (system_over code links) → 1 ≤ many p) → Onward code links one
+  AllRest : {least : ℕ} {bytes : List ℕ} → AllWait code links one least bytes
+      → Onward code links one
+
+-- What a run comes to: an end, under a premise with so many moves at most; a loop that wants more;
+-- or a row, behind so many jumps and tests.
+pub data Arrives (code : Tables) (links : Option ℕ) (n left : ℕ) (Premise : Type 0) (most : ℕ)
+    (one : Scene Local Message) : Result → Type 0 where
+  AtEnd : {bytes : List ℕ} {ending : End} → AllEnd code links one ending 1 Premise most bytes
+      → Arrives code links n left Premise most one
+      (record { bytes = bytes; stop = Ends ending })
+  AtWait : {bytes : List ℕ} → AllWait code links one n bytes
+      → Arrives code links n left Premise most one (record { bytes = bytes; stop = Ends More })
+  AtRow : {bytes : List ℕ} (there : ℕ) (after : Abreast)
+      → Brings code links one (in_front there after) left ⊥ 0 bytes
+      → Onward code links (in_front there after)
+      → Arrives code links n left Premise most one (record { bytes = bytes; stop = Ends More })
+
+arrives_behind : (code : Tables) (links : Option ℕ) (n k left more m few most : ℕ)
+    (Premise : Type 0) (one two : Scene Local Message) (bytes : List ℕ) (result : Result)
+    → more ≤ k + left → m + few ≤ most → Brings code links one two k Premise m bytes
+    → Arrives code links n left Premise few two result
+    → Arrives code links n more Premise most one (printed bytes result)
+arrives_behind code links n k left more m few most Premise one two bytes result fits wide first
+    (AtEnd {bytes = then} end) =
+    AtEnd (record {
+      over = end.over;
+      brings =
+          brings_through code links one two end.over k 1 1 m few most Premise bytes then
+          (omega arith) wide first end.brings;
+      ended = end.ended;
+      quiet = end.quiet;
+      last = end.last;
+    })
+arrives_behind code links n k left more m few most Premise one two bytes result fits wide first
+    (AtWait {bytes = then} wait) =
+    AtWait (record {
+      other = wait.other;
+      many = λ p. first.many p + wait.many p;
+      shown = λ p. first.shown p ++ wait.shown p;
+      leads =
+          leads_through (system_over code links) one two wait.other first.many wait.many first.shown
+          wait.shown first.leads wait.leads;
+      printed = ap₂ (λ x y. x ++ y) first.printed wait.printed;
+      each = λ p below. by p (wait.each p below);
+      longest = wait.longest;
+      longest_below = wait.longest_below;
+      longest_moves = let long = wait.longest_moves in omega (arith, long);
+      longest_goes = wait.longest_goes;
+    })
+  where
+    by : {A B : Type 0} (p : ℕ) → A ⊎ ((n ≤ wait.many p) × B)
+        → A ⊎ ((n ≤ first.many p + wait.many p) × B)
+    by p (inl rests) = inl rests
+    by p (inr (enough, moves)) = inr (omega (arith, enough), moves)
+arrives_behind code links n k left more m few most Premise one two bytes result fits wide first
+    (AtRow {bytes = then} there after brings onward) =
+    AtRow there after
+    (brings_through code links one two (in_front there after) k left more 0 0 0 ⊥ bytes then fits
+    (omega arith)
+    (record {
+      many = first.many;
+      shown = first.shown;
+      leads = first.leads;
+      enough = first.enough;
+      few = λ never. absurd never;
+      printed = first.printed;
+    }) brings) onward
+
+-- with more moves at most
+arrives_wider : (code : Tables) (links : Option ℕ) (n left few most : ℕ) (Premise : Type 0)
+    (one : Scene Local Message) (result : Result) → few ≤ most
+    → Arrives code links n left Premise few one result
+    → Arrives code links n left Premise most one result
+arrives_wider code links n left few most Premise one result wide (AtEnd end) =
+    AtEnd (record {
+      over = end.over;
+      brings = record {
+        many = end.brings.many;
+        shown = end.brings.shown;
+        leads = end.brings.leads;
+        enough = end.brings.enough;
+        few = λ premise p below.
+            let less = end.brings.few premise p below in omega (arith, less, wide);
+        printed = end.brings.printed;
+      };
+      ended = end.ended;
+      quiet = end.quiet;
+      last = end.last;
+    })
+arrives_wider code links n left few most Premise one result wide (AtWait wait) = AtWait wait
+arrives_wider code links n left few most Premise one result wide (AtRow there after brings onward) =
+    AtRow there after brings onward
+
+-- ---- rows of a plan are those of its code, and an end behind them
+followed_here : (rows : List Instr) (at : ℕ) (one : Followed) (more : List Followed)
+    → drop at (all_followed rows) ≡ one ∷ more
+    → (slice_get rows at ≡ Some one.row) × (slice_get rows (at + 1) ≡ one.next)
+    × (drop (at + 1) (all_followed rows) ≡ more)
+followed_here [] zero one more e = cc
+followed_here [] (suc at) one more e = cc
+followed_here (row ∷ []) zero one more e =
+    let same : record { row = row; next = None } ≡ one = cc in
+    let rest : [] ≡ more = cc in (
+      ap (λ f. Some f.row) same,
+      ap (λ f. f.next) same,
+      rest,
+    )
+followed_here (row ∷ []) (suc zero) one more e = cc
+followed_here (row ∷ []) (suc (suc at)) one more e = cc
+followed_here (row ∷ (next ∷ rows)) zero one more e =
+    let same : record { row = row; next = Some next } ≡ one = cc in
+    let rest : all_followed (next ∷ rows) ≡ more = cc in (
+      ap (λ f. Some f.row) same,
+      ap (λ f. f.next) same,
+      rest,
+    )
+followed_here (row ∷ (next ∷ rows)) (suc at) one more e =
+    let (here, behind, rest) = followed_here (next ∷ rows) at one more e in
+    let up : suc at + 1 ≡ suc (at + 1) = omega arith in (
+      here,
+      ap (slice_get (row ∷ (next ∷ rows))) up ∙ behind,
+      ap (λ k. drop k (all_followed (row ∷ (next ∷ rows)))) up ∙ rest,
+    )
+
+pub long_rows : (rows : List Instr) → length (all_followed rows) ≡ length rows
+long_rows [] = refl
+long_rows (row ∷ []) = refl
+long_rows (row ∷ (next ∷ rows)) = ap suc (long_rows (next ∷ rows))
+
+some_left : {X : Type 0} (at : ℕ) (xs : List X) → at < length xs → drop at xs ≡ [] → ⊥
+some_left at [] less e = omega (arith, less)
+some_left zero (x ∷ xs) less e = cc
+some_left (suc at) (x ∷ xs) less e = some_left at xs (below at (length xs) less) e
+  where
+    below : (a b : ℕ) → suc a < suc b → a < b
+    below a b less = omega (arith, less)
+
+-- a row of the code, or the end behind it
+in_code : (rows : List Instr) (at : ℕ) (last row : Instr)
+    → slice_get (rows ++ last ∷ []) at ≡ Some row
+    → (slice_get rows at ≡ Some row)
+    ⊎ ((at ≡ length rows) × (row ≡ last) × (slice_get rows at ≡ None))
+in_code [] zero last row e = let same : row ≡ last = cc in inr (refl, same, refl)
+in_code [] (suc at) last row e = cc
+in_code (first ∷ rows) zero last row e = inl e
+in_code (first ∷ rows) (suc at) last row e = by (in_code rows at last row e)
+  where
+    by : (slice_get rows at ≡ Some row)
+        ⊎ ((at ≡ length rows) × (row ≡ last) × (slice_get rows at ≡ None))
+        → (slice_get rows at ≡ Some row)
+        ⊎ ((suc at ≡ suc (length rows)) × (row ≡ last) × (slice_get rows at ≡ None))
+    by (inl is) = inl is
+    by (inr (end, is, none)) = inr (ap suc end, is, none)
+
+below_length : {X : Type 0} (xs : List X) (at : ℕ) (x : X) → slice_get xs at ≡ Some x
+    → at < length xs
+below_length [] at x e = cc
+below_length (y ∷ xs) zero x e = omega arith
+below_length (y ∷ xs) (suc at) x e =
+    let less = below_length xs at x e in up at (length xs) less
+  where
+    up : (a b : ℕ) → a < b → suc a < suc b
+    up a b less = omega (arith, less)
+
+not_vote : (group : ℕ) → is_vote_of group (Some instr.End) ≡ true → ⊥
+not_vote group e = cc
+
+vote_in_code : (code : Tables) (at group : ℕ) (next : Option Instr)
+    → slice_get (code.code ++ instr.End ∷ []) at ≡ next → is_vote_of group next ≡ true
+    → slice_get code.code at ≡ next
+vote_in_code code at group None is vote = cc
+vote_in_code code at group (Some row) is vote = by (in_code code.code at instr.End row is)
+  where
+    by : (slice_get code.code at ≡ Some row)
+        ⊎ ((at ≡ length code.code) × (row ≡ instr.End) × (slice_get code.code at ≡ None))
+        → slice_get code.code at ≡ Some row
+    by (inl here) = here
+    by (inr (end, last, none)) =
+        absurd (not_vote group (subst (λ r. is_vote_of group (Some r) ≡ true) last vote))
+
+-- ---- a run, row by row
+module _ (code : Tables) (links : Option ℕ) (n : ℕ)
+    (ordered : (at : ℕ) (row : Instr) (next : Option Instr) → slice_get code.code at ≡ Some row
+    → IsFollowed code at next → HasOrder code links n at row next)
+    (Premise : Type 0) (Reach : ℕ → Abreast → Type 0)
+    (limits : Premise → (at : ℕ) (all : Abreast) → Reach at all → IsLimited code all)
+    (reaches : (at there : ℕ) (all next : Abreast) (bytes : List ℕ) → Reach at all
+    → LeadsTo code links n all (in_front at all) (in_front there next) bytes → Reach there next)
+  where
+    abbrev does : Followed → Abreast → Effect Abreast
+    does = plan_act code links (suc n)
+
+    abbrev rows : List Followed
+    rows = plan_rows code
+
+    abbrev IsRight : Result → Type 0
+    IsRight result = result.stop ≢ Wrong
+
+    -- the most moves in a row, and in all rows
+    abbrev row_width : ℕ
+    row_width = row_most code (suc n)
+
+    abbrev code_width : ℕ
+    code_width = length rows * row_width
+
+    abbrev Comes : ℕ → ℕ → ℕ → Abreast → Result → Type 0
+    Comes left most at all result = Arrives code links n left Premise most (in_front at all) result
+
+    -- behind a row of the code is one, or the end
+    abbrev IsInside : ℕ → Effect Abreast → Type 0
+    IsInside at (Does (Stops stop)) = Unit {0}
+    IsInside at effect = at < length code.code
+
+    abbrev RowIs : ℕ → Abreast → Effect Abreast → Type 0
+    RowIs at all effect = GoesWell code links n at all effect × IsInside at effect
+
+    is_inside : (at : ℕ) → at < length code.code → (effect : Effect Abreast) → IsInside at effect
+    is_inside at less (Does (Goes bytes next)) = less
+    is_inside at less (Does (Stops stop)) = tt
+    is_inside at less (Leaps goal) = less
+    is_inside at less Passes = less
+
+    end_is : (at : ℕ) (all : Abreast) → slice_get code.code at ≡ None → AreOpen code links all
+        → RowIs at all (controlled code instr.End all)
+    end_is at all none open_now = (
+      controlled_well code links n at instr.End
+          (λ p share. ap (act_at code p (standing_at at share)) none)
+          (λ registers. done_decided code)
+          all open_now,
+      stops (go_one_way code instr.End all && is_quiet all),
+    )
+      where
+        stops : (b : Bool) → IsInside at (Does (ends_where b Done))
+        stops true = tt
+        stops false = tt
+
+    row_is : (at : ℕ) (all : Abreast) (one : Followed) (more : List Followed)
+        → drop at rows ≡ one ∷ more → AreOpen code links all → RowIs at all (does one all)
+    row_is at all one more left open_now =
+        let (here, behind, rest) = followed_here (code.code ++ instr.End ∷ []) at one more left in
+        by behind (in_code code.code at instr.End one.row here)
+      where
+        by : slice_get (code.code ++ instr.End ∷ []) (at + 1) ≡ one.next
+            → (slice_get code.code at ≡ Some one.row)
+            ⊎ ((at ≡ length code.code) × (one.row ≡ instr.End) × (slice_get code.code at ≡ None))
+            → RowIs at all (does one all)
+        by behind (inl here) = (
+          ordered at one.row one.next here
+              (λ group vote. vote_in_code code (at + 1) group one.next behind vote) all open_now,
+          is_inside at (below_length code.code at one.row here) (does one all),
+        )
+        by behind (inr (end, last, none)) =
+            subst (λ row. RowIs at all (plan_act code links (suc n)
+            (record { row = row; next = one.next }) all)) (sym last) (end_is at all none open_now)
+
+    stopped_onward : (one : Scene Local Message) (Old : Type 0) (most : ℕ) (ending : End)
+        → Stopped code links n one Old most ending → Onward code links one
+    stopped_onward one Old most ending (ComesToEnd end) =
+        AllMove end.brings.many end.brings.shown end.brings.leads end.brings.enough
+    stopped_onward one Old most ending (ComesToWait wait) = AllRest wait
+
+    stopped_arrives : (left most wide : ℕ) (one : Scene Local Message) (Old : Type 0) (ending : End)
+        → (Premise → Old) → most ≤ wide → Stopped code links n one Old most ending
+        → Arrives code links n left Premise wide one (stopped (Ends ending))
+    stopped_arrives left most wide one Old ending old fits (ComesToEnd end) =
+        arrives_wider code links n left most wide Premise one (stopped (Ends ending)) fits
+        (AtEnd (record {
+          over = end.over;
+          brings =
+              brings_under code links one end.over 1 most [] Old Premise old end.brings;
+          ended = end.ended;
+          quiet = end.quiet;
+          last = end.last;
+        }))
+    stopped_arrives left most wide one Old ending old fits (ComesToWait wait) = AtWait wait
+
+    onward_of : (at : ℕ) (all : Abreast) (leap : ℕ → Abreast → Result) (rest : Abreast → Result)
+        (effect : Effect Abreast) → GoesWell code links n at all effect
+        → IsRight (went leap at all effect rest) → Onward code links (in_front at all)
+    onward_of at all leap rest (Does (Goes bytes next)) well right =
+        AllMove well.0.many well.0.shown well.0.leads well.0.enough
+    onward_of at all leap rest (Does (Stops (Ends ending))) well right =
+        stopped_onward (in_front at all) (IsLimited code all) row_width ending well
+    onward_of at all leap rest (Does (Stops Wrong)) well right = absurd (right refl)
+    onward_of at all leap rest (Leaps goal) well right =
+        AllMove well.0.many well.0.shown well.0.leads well.0.enough
+    onward_of at all leap rest Passes well right =
+        AllMove well.many well.shown well.leads well.enough
+
+    step : (left at ahead most : ℕ) (all : Abreast) (leap leap' : ℕ → Abreast → Result)
+        (rest rest' : Abreast → Result) (effect : Effect Abreast) → Reach at all
+        → RowIs at all effect → row_width + ahead ≤ most → row_width + left * code_width ≤ most
+        → ((next : Abreast) → Reach (at + 1) next → AreOpen code links next
+        → at < length code.code → IsRight (rest' next)
+        → Comes (suc left) ahead (at + 1) next (rest next))
+        → ((goal : ℕ) → Reach goal all → goal ≤ length code.code → IsRight (leap' goal all)
+        → Comes left (left * code_width) goal all (leap goal all))
+        → IsRight (went leap' at all effect rest')
+        → Comes (suc left) most at all (went leap at all effect rest)
+    step left at ahead most all leap leap' rest rest' (Does (Goes bytes next))
+        reach (well, less) wide far on jump right =
+        arrives_behind code links n 1 (suc left) (suc left) row_width ahead most Premise
+        (in_front at all) (in_front (at + 1) next) bytes (rest next) (omega arith) wide
+        (brings_under code links (in_front at all) (in_front (at + 1) next) 1 row_width bytes
+        (IsLimited code all) Premise (λ premise. limits premise at all reach) well.0)
+        (on next (reaches at (at + 1) all next bytes reach well.0) well.1 less right)
+    step left at ahead most all leap leap' rest rest' (Does (Stops (Ends ending)))
+        reach (well, less) wide far on jump right =
+        stopped_arrives (suc left) row_width most (in_front at all) (IsLimited code all) ending
+        (λ premise. limits premise at all reach) (omega (arith, wide)) well
+    step left at ahead most all leap leap' rest rest' (Does (Stops Wrong))
+        reach (well, less) wide far on jump right = absurd (right refl)
+    step left at ahead most all leap leap' rest rest' (Leaps goal)
+        reach (well, less) wide far on jump right =
+        arrives_behind code links n 1 left (suc left) row_width (left * code_width) most Premise
+        (in_front at all) (in_front goal all) [] (leap goal all) (omega arith) far
+        (brings_under code links (in_front at all) (in_front goal all) 1 row_width []
+        (IsLimited code all) Premise (λ premise. limits premise at all reach) well.0)
+        (jump goal (reaches at goal all all [] reach well.0) well.1 right)
+    step left at ahead most all leap leap' rest rest' Passes
+        reach (well, less) wide far on jump right =
+        arrives_behind code links n 1 left (suc left) row_width (left * code_width) most Premise
+        (in_front at all) (in_front (at + 1) all) [] (leap (at + 1) all) (omega arith) far
+        (brings_under code links (in_front at all) (in_front (at + 1) all) 1 row_width []
+        (IsLimited code all) Premise (λ premise. limits premise at all reach) well)
+        (jump (at + 1) (reaches at (at + 1) all all [] reach well) (omega (arith, less)) right)
+
+    long : length rows ≡ length code.code + 1
+    long = long_rows (code.code ++ instr.End ∷ []) ∙ length-append code.code (instr.End ∷ [])
+
+    walk : (left : ℕ)
+        → ((at : ℕ) (all : Abreast) → at ≤ length code.code → Reach at all → AreOpen code links all
+        → IsRight (runs does rows (suc left) at all)
+        → Comes left (left * code_width) at all (runs does rows left at all))
+        → (rest : List Followed) (at : ℕ) (all : Abreast) → drop at rows ≡ rest
+        → at ≤ length code.code → Reach at all → AreOpen code links all
+        → IsRight (walked does (runs does rows (suc left)) (λ _. stopped (Ends Done)) at rest all)
+        → Comes (suc left) (length rest * row_width + left * code_width) at all
+        (walked does (runs does rows left) (λ _. stopped (Ends Done)) at rest all)
+    walk left again [] at all is fits reach open_now right =
+        absurd (some_left at rows (omega (arith, fits, long)) is)
+    walk left again (one ∷ more) at all is fits reach open_now right =
+        step left at (length more * row_width + left * code_width)
+        (suc (length more) * row_width + left * code_width) all (runs does rows left)
+        (runs does rows (suc left))
+        (λ next. walked does (runs does rows left) (λ _. stopped (Ends Done)) (at + 1) more next)
+        (λ next. walked does (runs does rows (suc left)) (λ _. stopped (Ends Done)) (at + 1) more
+        next)
+        (does one all) reach (row_is at all one more is open_now)
+        (sum (length more) row_width (left * code_width))
+        (part (length more) row_width (left * code_width))
+        (λ next reach_next open_next less ok. walk left again more (at + 1) next
+        (followed_here (code.code ++ instr.End ∷ []) at one more is).2 (omega (arith, less))
+        reach_next open_next ok)
+        (λ goal reach_goal below ok. again goal all below reach_goal open_now ok) right
+      where
+        sum : (k w r : ℕ) → w + (k * w + r) ≤ suc k * w + r
+        sum k w r = omega arith
+
+        part : (k w r : ℕ) → w + r ≤ suc k * w + r
+        part k w r = omega arith
+
+    shorter : {X : Type 0} (k : ℕ) (xs : List X) → length (drop k xs) ≤ length xs
+    shorter zero xs = omega arith
+    shorter (suc k) [] = omega arith
+    shorter (suc k) (x ∷ xs) = let less = shorter k xs in omega (arith, less)
+
+    pub arrive : (left at : ℕ) (all : Abreast) → at ≤ length code.code → Reach at all
+        → AreOpen code links all → IsRight (runs does rows (suc left) at all)
+        → Comes left (left * code_width) at all (runs does rows left at all)
+    arrive zero at all fits reach open_now right =
+        AtRow at all (brings_nowhere code links (in_front at all)) (by (drop at rows) refl right)
+      where
+        by : (rest : List Followed) → drop at rows ≡ rest
+            → IsRight (walked does (runs does rows 0) (λ _. stopped (Ends Done)) at rest all)
+            → Onward code links (in_front at all)
+        by [] is right = absurd (some_left at rows (omega (arith, fits, long)) is)
+        by (one ∷ more) is right =
+            onward_of at all (runs does rows 0)
+            (λ next. walked does (runs does rows 0) (λ _. stopped (Ends Done)) (at + 1) more next)
+            (does one all) (row_is at all one more is open_now).0 right
+    arrive (suc left) at all fits reach open_now right =
+        arrives_wider code links n (suc left)
+        (length (drop at rows) * row_width + left * code_width) (suc left * code_width) Premise
+        (in_front at all) (runs does rows (suc left) at all)
+        (fit (length (drop at rows) * row_width) code_width left
+        (mul-le (length (drop at rows)) row_width (length rows) row_width (shorter at rows)
+        (omega arith)))
+        (walk left (arrive left) (drop at rows) at all refl fits reach open_now right)
+      where
+        fit : (a w k : ℕ) → a ≤ w → a + k * w ≤ suc k * w
+        fit a w k less = omega (arith, less)

@@ -1,0 +1,47 @@
+-- Bounded runs of plans, and orders of turns that bring the code there.
+use Rattle.std.specs.Prelude.{◌≡◌, ◌≢◌, ℕ, suc, ◌+◌, ◌*◌, ◌<◌, ◌≤◌, List, All, length, Option}
+use Rattle.zpl_nums.specs.declared.ends.End.{End}
+use Rattle.zpl_nums.specs.declared.ends.End.TheVariants.{More}
+use Rattle.grid_links.specs.Laws.{Reaches}
+use Rattle.grid_links.specs.Run.{moves_of, start_world}
+use Rattle.grid_paths.specs.Scene.{OnlyMoves}
+use Rattle.node_form.specs.declared.tables.Tables.{Tables}
+use Rattle.grid_meaning.specs.Grid.{EndsAs, HasEmptyLinks, IsOver, after, processors, system_over}
+use Rattle.grid_meaning.specs.Order.{IsOrder}
+use Rattle.grid_meaning.specs.State.{HasThree}
+use Rattle.row_runs.specs.Run.{Ends, Result, Wrong}
+use Rattle.plan_meaning.specs.Act.{plan_run}
+use Rattle.plan_orders.specs.Brings.{row_most}
+
+-- The order, of moves alone, brings the code to what a run shows: over as it ends, with all links
+-- empty, or not over where it wants more; each processor rests or has made at least so many moves,
+-- and none is stuck; and one has made as many where the run wants more. Where it doesn't, none has
+-- made more moves than the most, if rows of three dimensions have three.
+pub record IsInStep (code : Tables) (links : Option ℕ) (result : Result) (bound most : ℕ)
+    (order : List ℕ) : Type 0 where
+  pub turns : IsOrder (processors code) order
+  pub only_moves :
+      OnlyMoves (system_over code links) (start_world (system_over code links)) order
+  pub printed : (after code links order).printed ≡ result.bytes
+  pub ends : (ending : End) → result.stop ≡ Ends ending → ending ≢ More
+      → EndsAs (after code links order) ending × HasEmptyLinks (after code links order)
+  pub goes_on : result.stop ≡ Ends More → ¬ IsOver (after code links order)
+  pub reaches : Reaches (system_over code links) order bound
+  pub one_moved : result.stop ≡ Ends More
+      → (p : ℕ) × (p < processors code)
+      × (bound ≤ length (moves_of (system_over code links) order p))
+  pub few : All (HasThree code) code.code → result.stop ≢ Ends More → (p : ℕ)
+      → p < processors code → length (moves_of (system_over code links) order p) ≤ most
+
+-- the most moves of a processor in a run of at most a jumps and tests, with n turns of each loop:
+-- fewer than a are made, and between two of them at most all rows and the end behind them
+abbrev pub run_most : Tables → ℕ → ℕ → ℕ
+run_most code a n = a * ((length code.code + 1) * row_most code n)
+
+-- There is such an order for a run of at most a jumps and tests, and n turns of each loop within a
+-- group, where one more of each isn't wrong: it has as many moves as the lesser of both.
+abbrev pub ComesInStep : Tables → Option ℕ → Type 0
+ComesInStep code links =
+    (a n bound : ℕ) → bound ≤ a → bound ≤ n → (plan_run code links (suc a) (suc n)).stop ≢ Wrong
+    → (order : List ℕ)
+    × IsInStep code links (plan_run code links a (suc n)) bound (run_most code a (suc n)) order

@@ -1,0 +1,33 @@
+//! The laws of orders for plans: where nothing goes wrong, some order of turns leads all processors
+//! as the plan goes, over links of every capacity (`None`: of any number of messages). Each is the
+//! contract of a function that does nothing. The statements stand in `specs/`.
+ghost use Rattle.std.specs.Prelude.{Option, ℕ};
+ghost use Rattle.grid_meaning.specs.Grid.{IsCapacity};
+ghost use Rattle.node_form.specs.Fits.{Fits};
+ghost use Rattle.node_form.specs.declared.tables.Tables.{Tables as Code};
+ghost use Rattle.plan_orders.specs.Brings.{HaveOrders};
+ghost use Rattle.plan_orders.specs.InStep.{ComesInStep};
+
+use grid_meaning::states_are_kept;
+
+/// For each row of code that fits, some order leads all processors from where they stand in front
+/// of it to where it leads, unless it is wrong there: with the bytes that are printed, at least one
+/// move of each and at most so many, and the words of open exchanges on the links. At a loop that
+/// wants a further turn it leads each to where it waits or has made as many moves as the loop may
+/// make turns.
+pub fn rows_have_orders()
+    ensures { (code : Code) (links : Option ℕ) → IsCapacity links → Fits code
+        → HaveOrders code links }
+{}
+
+/// For each bounded run of code that fits, some order brings all processors from their start to
+/// where it stops, unless it is wrong there or directly behind: what is printed is what the run
+/// prints; they have ended as it does, with all links empty, or each has made as many moves as the
+/// bounds say, or rests; and none is stuck. Where the run wants no more, each has made at most so
+/// many moves for each row that the run may come to.
+pub fn plans_come_in_step()
+    ensures { (code : Code) (links : Option ℕ) → IsCapacity links → Fits code
+        → ComesInStep code links }
+{
+    states_are_kept();
+}
