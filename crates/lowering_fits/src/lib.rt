@@ -1,0 +1,2 @@
+//! That the tables of a lowered program fit.
+#![tactic(auto)]
