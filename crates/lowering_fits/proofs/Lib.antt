@@ -1,2 +1,3 @@
 pub mod TableLemmas
 pub mod PieceLemmas
+pub mod TreeLemmas
