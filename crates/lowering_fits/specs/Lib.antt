@@ -1,2 +1,3 @@
 pub mod Inline
 pub mod Slates
+pub mod Reach

@@ -1,0 +1,76 @@
+-- What is in reach of a statement that is lowered, and fits: current regions, names, and what was
+-- computed before the run.
+use Rattle.std.specs.Prelude.{◌≡◌, ℕ, zero, suc, ◌<◌, ◌≤◌, Bool, true, false, ℤ, List, [], ◌∷◌, length, Option, Some, None, option_map, slice_get, All}
+use Rattle.std.specs.List.{AllByRecursion}
+use Rattle.std.specs.Option.{IsSomeAnd}
+use Rattle.zpl_region.specs.declared.regions.Region.{Region}
+use Rattle.zpl_region.specs.Dim.{HasStep}
+use Rattle.zpl_region.specs.Region.{IsPadded, IsWithinLimit}
+use Rattle.zpl_region.specs.Tests.{is_within_limit}
+use Rattle.zpl_tree.specs.Syntax.{Name, Dir}
+use Rattle.zpl_names.specs.Kinds.{Rank}
+use Rattle.zpl_names.specs.Scope.{Scope, kind_of}
+use Rattle.zpl_names.specs.Ranks.{dir_rank, region_shape, array_rank}
+use Rattle.zpl_binding.specs.Outcome.{Outcome, Gives, Fails}
+use Rattle.zpl_binding.specs.Regions.{Known, region_named}
+use Rattle.zpl_meaning.specs.Store.{Thing, ArrayAt, Environment, thing_of}
+use Rattle.zpl_meaning.specs.Regions.{vector_in}
+use Rattle.zpl_meaning.specs.Context.{Over, Currents, Edge, Place}
+use Rattle.node_form.specs.declared.tables.Tables.{Tables}
+use Rattle.node_form.specs.Fits.{IsRank, IsVector, HasSlot, FitsRegion}
+use Rattle.zpl_lowering.specs.Where.{Stored, Numbers, Slotted, SlotCurrents, slotted_or, Where}
+use Rattle.zpl_lowering.specs.Bracket.{region_slot}
+use Rattle.lowering_fits.specs.Slates.{FitsOver, FitNumbers}
+
+-- ---- regions
+
+-- of the rank, with steps of at least 1 and padded to three dimensions
+pub record IsBox (rank : ℕ) (region : Region) : Type 0 where
+  pub steps : AllByRecursion HasStep region.dims
+  pub padded : IsPadded region.rank region.dims
+  pub three : length region.dims ≡ 3
+  pub same : region.rank ≡ rank
+
+abbrev pub IsGivenBox : ℕ → Outcome Region → Type 0
+IsGivenBox rank (Gives region) = IsBox rank region
+IsGivenBox rank (Fails fault) = ⊥
+
+-- ---- what was computed before the run
+
+pub record FitsKnown (tables : Tables) (known : Known) (scope : Scope) : Type 0 where
+  pub dirs : (rank : ℕ) (dir : Dir) → dir_rank scope dir ≡ Some rank →
+      IsVector rank (vector_in known dir)
+  pub slots : (rank : ℕ) (name : Name) →
+      option_map length (region_shape (kind_of scope name)) ≡ Some rank →
+      HasSlot tables rank (region_slot known name)
+  pub boxes : (rank : ℕ) (name : Name) →
+      option_map length (region_shape (kind_of scope name)) ≡ Some rank →
+      IsGivenBox rank (region_named known name)
+
+-- ---- current regions
+
+abbrev pub FitsCurrent : Tables → Numbers → ℕ → Option Over → Option Slotted → Type 0
+FitsCurrent tables numbers rank None slotted = Unit {0}
+FitsCurrent tables numbers rank (Some over) slotted =
+    FitsOver tables numbers rank (slotted_or slotted)
+
+-- where the meaning has one of a rank, there is a slot for it
+pub record FitCurrents (tables : Tables) (numbers : Numbers) (currents : Currents)
+    (slots : SlotCurrents) : Type 0 where
+  pub one : FitsCurrent tables numbers 1 currents.one slots.one
+  pub two : FitsCurrent tables numbers 2 currents.two slots.two
+  pub three : FitsCurrent tables numbers 3 currents.three slots.three
+
+-- ---- places
+
+-- the place of the meaning that has the same in reach, with other regions
+abbrev pub place_at : Where → ℕ → Currents → Option Edge → Place
+place_at w result currents edge = record {
+  setup = w.setup;
+  scope = w.scope;
+  environment = w.environment;
+  result = result;
+  prefix = w.prefix;
+  currents = currents;
+  edge = edge;
+}
