@@ -1,6 +1,7 @@
 -- The rows of a bracket fit, and the slot that it is in has its rank.
 use Rattle.std.proofs.Common.{◌≡◌, ℕ, zero, suc, ◌+◌, ◌-◌, ◌<◌, ◌≤◌, Bool, true, false, if◌then◌else◌, ℤ, List, [], ◌∷◌, ◌++◌, map, length, drop, take, refl, sym, ap, ◌∙◌, subst, arith, length-append, append_assoc, append-nil}
-use Rattle.std.specs.Prelude.{pos, Option, Some, None, IsTrue, ◌↔◌, option_map, option_and_then, slice_get, All, replicate, cond}
+use Rattle.std.proofs.lemmas.Int.{ints}
+use Rattle.std.specs.Prelude.{◌≤ℤ◌, pos, Option, Some, None, IsTrue, ◌↔◌, option_map, option_and_then, slice_get, All, replicate, cond}
 use Rattle.std.specs.List.{AllByRecursion}
 use Rattle.std.proofs.lemmas.List.{length-map}
 use Rattle.std.proofs.lemmas.List.Elements.{All-from_recursion}
@@ -19,7 +20,7 @@ use Rattle.zpl_binding.proofs.KeptLemmas.{formed-kept}
 use Rattle.zpl_binding.specs.Outcome.{RegionLimit, Outcome, Gives, Fails, and_then, outcome_of, value_or}
 use Rattle.zpl_binding.specs.Regions.{Known, dims_of, region_over, limited, formed_by, behind, before, no_region, region_named}
 use Rattle.zpl_binding.specs.Vectors.{three_components, dir_of}
-use Rattle.zpl_meaning.specs.Store.{Thing, Scalar, ArrayAt, Fixed, thing_of}
+use Rattle.zpl_meaning.specs.Store.{Environment, Thing, Scalar, ArrayAt, Fixed, thing_of}
 use Rattle.zpl_meaning.specs.Regions.{vector_in}
 use Rattle.zpl_meaning.specs.Context.{Currents, Edge, Place}
 use Rattle.zpl_meaning.specs.Context.{no_currents}
@@ -49,7 +50,17 @@ rank_number None = 0
 rank_number (Some rank) = rank
 
 -- the bracket's slots and rows, and where its region is then
+abbrev pub SameRanks : ℕ → List ℕ → Type 0
+SameRanks rank [] = Unit {0}
+SameRanks rank (slot ∷ slots) = (slot ≡ rank) × SameRanks rank slots
+
+pub same_both : (rank : ℕ) (xs ys : List ℕ) → SameRanks rank xs → SameRanks rank ys →
+    SameRanks rank (xs ++ ys)
+same_both rank [] ys first rest = rest
+same_both rank (x ∷ xs) ys first rest = (first.0, same_both rank xs ys first.1 rest)
+
 pub record FitsOpened (tables : Tables) (rank : ℕ) (opened : Opened) : Type 0 where
+  pub slots : SameRanks rank opened.slots
   pub rows : FitRows tables 0 opened.rows
   pub has : HasSlot tables rank opened.slot
   pub floods : length opened.flood ≡ rank
@@ -150,6 +161,7 @@ module _ (base : Tables) (w : Where) (numbers : FitNumbers base w.numbers) where
       let counted : length (dims_flood current 0 dims) ≡ rank = floods_count current 0 dims in
       let here : HasSlot base rank next = subst (λ r. HasSlot base r next) counted at.0 in
       record {
+        slots = (counted, tt);
         rows = (
           record {
             rank = rank;
@@ -225,6 +237,7 @@ formed_fits base rank next line (one ∷ rest) opened all fits at =
       flood = opened.flood;
     }) all.1
     (record {
+      slots = same_both rank opened.slots (length opened.flood ∷ []) fits.slots (fits.floods, tt);
       rows = rows_both base opened.rows
           (row.Plain (instr.Formed one.form next opened.slot one.shift line) ∷ []) fits.rows
           ((record { rank = rank; fit = (at.0, fits.has, all.0) }, tt), tt);
@@ -252,6 +265,7 @@ module _ (base : Tables) (w : Where) (numbers : FitNumbers base w.numbers)
       option_map length (region_shape (kind_of w.scope name)) ≡ Some rank →
       FitsOpened base rank (named_region w.setup.known name)
   named_fits rank name few is = record {
+    slots = tt;
     rows = tt;
     has = known.slots rank name is;
     floods = by (region_named w.setup.known name) (known.boxes rank name is);
@@ -259,7 +273,7 @@ module _ (base : Tables) (w : Where) (numbers : FitNumbers base w.numbers)
     where
       by : (outcome : Outcome Region) → IsGivenBox rank outcome →
           length (flood_of (value_or no_region outcome)) ≡ rank
-      by (Gives region) is = flood_count rank region few is
+      by (Gives region) is = flood_count rank region few is.0
       by (Fails fault) is = absurd is
 
   all_forms : (rank : ℕ) (pre : List Pre) (post : Posts) →
@@ -308,7 +322,7 @@ module _ (base : Tables) (w : Where) (numbers : FitNumbers base w.numbers)
       (named_fits rank name few is) at
 
   -- what stands between brackets, of a rank
-  computed_fits : (currents : Currents) (result : ℕ) (edge : Option Edge) (hint : Rank)
+  pub computed_fits : (currents : Currents) (result : ℕ) (edge : Option Edge) (hint : Rank)
       (rank next line : ℕ) (current : Slotted) (inner : Inner) → rank ≤ 3 →
       inner_rank w.scope hint w.prefix inner ≡ Some rank →
       (HasCurrent currents (Some rank) →
@@ -324,7 +338,7 @@ module _ (base : Tables) (w : Where) (numbers : FitNumbers base w.numbers)
   computed_fits currents result edge hint rank next line current (Rexpr pre (Ditto at) post) few is
       has proper of slots =
       around_fits rank next line pre post (standing current.slot current.flood) refl of.0 of.1
-      (record { rows = tt; has = (has proper).0; floods = (has proper).1 }) slots
+      (record { slots = tt; rows = tt; has = (has proper).0; floods = (has proper).1 }) slots
   computed_fits currents result edge hint rank next line current (Dims dims) few is has proper of
       at =
       let same : dims_count dims ≡ rank = cc in
@@ -342,11 +356,6 @@ LimitsAreTold =
     (region : Region) → All HasStep region.dims →
     IsTrue (is_within_limit region) ↔ IsWithinLimit region
 
-abbrev HoldsBox : ℕ → Outcome Region → Type 0
-HoldsBox rank (Gives region) = IsBox rank region
-HoldsBox rank (Fails fault) = Unit {0}
-
--- within the limit too
 abbrev HoldsFixed : ℕ → Outcome Region → Type 0
 HoldsFixed rank (Gives region) = IsBox rank region × IsTrue (is_within_limit region)
 HoldsFixed rank (Fails fault) = Unit {0}
@@ -389,24 +398,25 @@ strided_box : (rank : ℕ) (d : List ℤ) (region : Region) → IsBox rank regio
 strided_box rank d region is =
     box_kept rank region dim_strided d is (formed-kept.strides d region (is.steps, is.padded))
 
-limited_box : (rank : ℕ) (region : Region) → IsBox rank region → HoldsBox rank (limited region)
-limited_box rank region is = by (is_within_limit region)
+limited_box : (rank : ℕ) (region : Region) → IsBox rank region → HoldsFixed rank (limited region)
+limited_box rank region is = by (is_within_limit region) (λ yes. yes)
   where
-    by : (b : Bool) → HoldsBox rank (if b then Gives region else Fails RegionLimit)
-    by true = is
-    by false = tt
+    by : (b : Bool) → (IsTrue b → IsTrue (is_within_limit region)) →
+        HoldsFixed rank (if b then Gives region else Fails RegionLimit)
+    by true told = (is, told refl)
+    by false told = tt
 
 form_box : (rank : ℕ) (form : List ℤ → Region → Region) (vector : Outcome (List ℤ))
     (region : Outcome Region) →
-    ((d : List ℤ) (r : Region) → IsBox rank r → IsBox rank (form d r)) → HoldsBox rank region →
-    HoldsBox rank (formed_by form vector region)
+    ((d : List ℤ) (r : Region) → IsBox rank r → IsBox rank (form d r)) →
+    HoldsFixed rank region → HoldsFixed rank (formed_by form vector region)
 form_box rank form vector (Fails fault) keeps is = tt
 form_box rank form (Fails fault) (Gives region) keeps is = tt
 form_box rank form (Gives d) (Gives region) keeps is =
-    limited_box rank (form d region) (keeps d region is)
+    limited_box rank (form d region) (keeps d region is.0)
 
 behind_box : (rank : ℕ) (known : Known) (post : Posts) (region : Outcome Region) →
-    HoldsBox rank region → HoldsBox rank (behind known region post)
+    HoldsFixed rank region → HoldsFixed rank (behind known region post)
 behind_box rank known NoPost region is = is
 behind_box rank known (ThenPost true dir rest) region is =
     behind_box rank known rest
@@ -418,7 +428,7 @@ behind_box rank known (ThenPost false dir rest) region is =
     (form_box rank moved (dir_of known.values known.directions dir) region (moved_box rank) is)
 
 before_box : (rank : ℕ) (known : Known) (pre : List Pre) (region : Outcome Region) →
-    HoldsBox rank region → HoldsBox rank (before known pre region)
+    HoldsFixed rank region → HoldsFixed rank (before known pre region)
 before_box rank known [] region is = is
 before_box rank known (pre ∷ rest) region is =
     by pre.outside (before_box rank known rest region is)
@@ -426,9 +436,176 @@ before_box rank known (pre ∷ rest) region is =
     vector : Outcome (List ℤ)
     vector = outcome_of (three_components []) known.directions pre.dir.text
 
-    by : (b : Bool) → HoldsBox rank (before known rest region) →
-        HoldsBox rank (formed_by (if b then outside_of else inside_of) vector
+    by : (b : Bool) → HoldsFixed rank (before known rest region) →
+        HoldsFixed rank (formed_by (if b then outside_of else inside_of) vector
         (before known rest region))
     by true is =
         form_box rank outside_of vector (before known rest region) (outside_box rank) is
     by false is = form_box rank inside_of vector (before known rest region) (inside_box rank) is
+
+abbrev OnFixed : ℕ → Option Region → Type 0
+OnFixed rank None = Unit {0}
+OnFixed rank (Some region) = IsBox rank region × IsTrue (is_within_limit region)
+
+within_fixed : (rank : ℕ) (outcome : Outcome Region) → HoldsFixed rank outcome →
+    OnFixed rank (within outcome)
+within_fixed rank (Gives region) holds = holds
+within_fixed rank (Fails fault) holds = tt
+
+abbrev OnDims : ℕ → Option (List Dim) → Type 0
+OnDims n None = Unit {0}
+OnDims n (Some dims) = (length dims ≡ n) × AllByRecursion HasStep dims
+
+abbrev OnDim : Option Dim → Type 0
+OnDim None = Unit {0}
+OnDim (Some one) = HasStep one
+
+one_step : pos 1 ≤ℤ pos 1
+one_step = omega (arith, ints)
+
+dim_steps : (environment : Environment) (one : DimText) → OnDim (constant_dim environment one)
+dim_steps environment (Blank at) = tt
+dim_steps environment (Star at) = tt
+dim_steps environment (One index) = by (constant_of environment index)
+  where
+    by : (value : Option ℤ) → OnDim (option_map (λ value. all_from value value) value)
+    by None = tt
+    by (Some value) = one_step
+dim_steps environment (Span low high) =
+    by (constant_of environment low) (constant_of environment high)
+  where
+    by : (low high : Option ℤ) → OnDim (both low high (λ a b. Some (all_from a b)))
+    by None None = tt
+    by None (Some high) = tt
+    by (Some low) None = tt
+    by (Some low) (Some high) = one_step
+
+dims_steps : (environment : Environment) (dims : DimTexts) →
+    OnDims (dims_count dims) (constant_dims environment dims)
+dims_steps environment NoDim = (refl, tt)
+dims_steps environment (ThenDim first rest) =
+    by (constant_dim environment first) (constant_dims environment rest)
+    (dim_steps environment first) (dims_steps environment rest)
+  where
+    by : (one : Option Dim) (all : Option (List Dim)) → OnDim one → OnDims (dims_count rest) all →
+        OnDims (suc (dims_count rest))
+        (option_and_then (λ dim. option_map (λ dims. dim ∷ dims) all) one)
+    by None all is are = tt
+    by (Some one) None is are = tt
+    by (Some one) (Some all) is are = (ap suc are.0, (is, are.1))
+
+three_dims : (n : ℕ) (dims : List Dim) → length (dims_of n dims) ≡ n
+three_dims zero dims = refl
+three_dims (suc n) [] = ap suc (three_dims n [])
+three_dims (suc n) (one ∷ dims) = ap suc (three_dims n dims)
+
+pub over_box : (dims : List Dim) → AllByRecursion HasStep dims →
+    IsBox (length dims) (region_over dims)
+over_box dims steps =
+    let kept = formed-kept.over dims steps in
+    record { steps = kept.0; padded = kept.1; three = three_dims 3 dims; same = refl }
+
+span_fixed : (rank : ℕ) (environment : Environment) (dims : DimTexts) → dims_count dims ≡ rank →
+    OnFixed rank (constant_span environment dims)
+span_fixed rank environment dims same =
+    by (constant_dims environment dims) (dims_steps environment dims)
+  where
+    by : (all : Option (List Dim)) → OnDims (dims_count dims) all →
+        OnFixed rank (option_and_then (λ all. within (limited (region_over all))) all)
+    by None are = tt
+    by (Some all) are =
+        within_fixed rank (limited (region_over all))
+        (limited_box rank (region_over all)
+        (subst (λ n. IsBox n (region_over all)) (are.0 ∙ same) (over_box all are.1)))
+
+module _ (base : Tables) (w : Where) (known : FitsKnown base w.setup.known w.scope) where
+  name_fixed : (index : Bool) (rank : ℕ) (pre : List Pre) (name : Name) (post : Posts) →
+      (if index then Some 1 else option_map length (region_shape (kind_of w.scope name)))
+      ≡ Some rank →
+      OnFixed rank (constant_name index w.environment w.setup.known pre name post)
+  name_fixed true rank pre name post is =
+      let one : 1 ≡ rank = cc in
+      span_fixed rank w.environment (ThenDim (One (Named name.at name)) NoDim) one
+  name_fixed false rank pre name post is =
+      within_fixed rank
+      (before w.setup.known pre
+      (behind w.setup.known (region_named w.setup.known name) post))
+      (before_box rank w.setup.known pre
+      (behind w.setup.known (region_named w.setup.known name) post)
+      (behind_box rank w.setup.known post (region_named w.setup.known name)
+      (given (region_named w.setup.known name) (known.boxes rank name is))))
+    where
+      given : (outcome : Outcome Region) → IsGivenBox rank outcome → HoldsFixed rank outcome
+      given (Gives region) is = is
+      given (Fails fault) is = absurd is
+
+  pub constant_fixed : (hint : Rank) (rank : ℕ) (inner : Inner) →
+      inner_rank w.scope hint w.prefix inner ≡ Some rank →
+      IsInnerOf w.scope (Some rank) inner → OnFixed rank (constant_region w inner)
+  constant_fixed hint rank (Rexpr pre (NamedRegion name) post) is of =
+      name_fixed (is_index w.scope pre name post) rank pre name post is
+  constant_fixed hint rank (Rexpr pre (Ditto at) post) is of = tt
+  constant_fixed hint rank (Dims dims) is of =
+      let same : dims_count dims ≡ rank = cc in span_fixed rank w.environment dims same
+
+-- such a region may stand in a row
+pub box_region : LimitsAreTold → (rank : ℕ) (region : Region) → IsRank rank → IsBox rank region →
+    IsTrue (is_within_limit region) → FitsRegion region
+box_region limits rank region is box within =
+    let steps : All HasStep region.dims = All-from_recursion HasStep region.dims box.steps in
+    record {
+      rank = subst IsRank (sym box.same) is;
+      steps = steps;
+      padded = box.padded;
+      limit = (limits region steps).0 within;
+    }
+
+module _ (limits : LimitsAreTold) (base : Tables) (w : Where) (numbers : FitNumbers base w.numbers)
+    (known : FitsKnown base w.setup.known w.scope) where
+  fixed_fits : (rank next : ℕ) (fixed : Option Region) (opened : Opened) → IsRank rank →
+      OnFixed rank fixed → (SlotsAt base next opened.slots → FitsOpened base rank opened) →
+      SlotsAt base next (fixed_or fixed next opened).slots →
+      FitsOpened base rank (fixed_or fixed next opened)
+  fixed_fits rank next None opened is on fits at = fits at
+  fixed_fits rank next (Some region) opened is on fits at = by opened.rows at
+    where
+      fixed : Opened
+      fixed = filled next (flood_of region) (row.Plain (instr.Fix next region))
+
+      by : (rows : List Row) → SlotsAt base next (one_row rows opened fixed).slots →
+          FitsOpened base rank (one_row rows opened fixed)
+      by [] at = fits at
+      by (one ∷ rows) at =
+          let below = is.1 in
+          let counted : length (flood_of region) ≡ rank = flood_count rank region below on.0 in
+          let here : HasSlot base rank next = subst (λ r. HasSlot base r next) counted at.0 in
+          record {
+            slots = (counted, tt);
+            rows = (
+              (
+                record {
+                  rank = rank;
+                  fit = (here, box_region limits rank region is on.0 on.1, on.0.same);
+                },
+                tt,
+              ),
+              tt,
+            );
+            has = here;
+            floods = counted;
+          }
+
+  pub bracket_fits : (currents : Currents) (result : ℕ) (edge : Option Edge) (hint : Rank)
+      (rank next line : ℕ) (current : Slotted) (inner : Inner) → IsRank rank →
+      inner_rank w.scope hint w.prefix inner ≡ Some rank →
+      (HasCurrent currents (Some rank) →
+      HasSlot base rank current.slot × (length current.flood ≡ rank)) →
+      IsProperInner (place_at w result currents edge) (Some rank) inner →
+      IsInnerOf w.scope (Some rank) inner →
+      SlotsAt base next (bracket w next line current inner).slots →
+      FitsOpened base rank (bracket w next line current inner)
+  bracket_fits currents result edge hint rank next line current inner is ranked has proper of at =
+      fixed_fits rank next (constant_region w inner) (computed w next line current inner) is
+      (constant_fixed base w known hint rank inner ranked of)
+      (computed_fits base w numbers known currents result edge hint rank next line current inner
+      is.1 ranked has proper of) at

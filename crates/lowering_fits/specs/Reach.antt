@@ -1,16 +1,17 @@
 -- What is in reach of a statement that is lowered, and fits: current regions, names, and what was
 -- computed before the run.
-use Rattle.std.specs.Prelude.{◌≡◌, ℕ, zero, suc, ◌<◌, ◌≤◌, Bool, true, false, ℤ, List, [], ◌∷◌, length, Option, Some, None, option_map, slice_get, All}
+use Rattle.std.specs.Prelude.{◌≡◌, ℕ, zero, suc, ◌<◌, ◌≤◌, Bool, true, false, ℤ, List, [], ◌∷◌, length, take, Option, Some, None, option_map, slice_get, All, IsTrue}
 use Rattle.std.specs.List.{AllByRecursion}
 use Rattle.std.specs.Option.{IsSomeAnd}
 use Rattle.zpl_region.specs.declared.regions.Region.{Region}
 use Rattle.zpl_region.specs.Dim.{HasStep}
 use Rattle.zpl_region.specs.Region.{IsPadded, IsWithinLimit}
 use Rattle.zpl_region.specs.Tests.{is_within_limit}
-use Rattle.zpl_tree.specs.Syntax.{Name, Dir}
-use Rattle.zpl_names.specs.Kinds.{Rank}
+use Rattle.zpl_tree.specs.Syntax.{Name, Dir, Expr, Number, Truth, Coord, Named, Shifted, Around, Remap, Call, Paren, Neg, Not, Abs, Pair, Reduce, Scan, Flood, Exprs, NoExpr, ThenExpr}
+use Rattle.zpl_names.specs.Kinds.{Shape, Rank}
+use Rattle.zpl_names.specs.Faults.{has_flood}
 use Rattle.zpl_names.specs.Scope.{Scope, kind_of}
-use Rattle.zpl_names.specs.Ranks.{dir_rank, region_shape, array_rank}
+use Rattle.zpl_names.specs.Ranks.{dir_rank, region_shape, array_shape}
 use Rattle.zpl_binding.specs.Outcome.{Outcome, Gives, Fails}
 use Rattle.zpl_binding.specs.Regions.{Known, region_named}
 use Rattle.zpl_meaning.specs.Store.{Thing, ArrayAt, Environment, thing_of}
@@ -20,7 +21,7 @@ use Rattle.node_form.specs.declared.tables.Tables.{Tables}
 use Rattle.node_form.specs.Fits.{IsRank, IsVector, HasSlot, FitsRegion}
 use Rattle.zpl_lowering.specs.Where.{Stored, Numbers, Slotted, SlotCurrents, slotted_or, Where}
 use Rattle.zpl_lowering.specs.Bracket.{region_slot}
-use Rattle.lowering_fits.specs.Slates.{FitsOver, FitNumbers}
+use Rattle.lowering_fits.specs.Slates.{AllRanges, FitsOver, FitNumbers}
 
 -- ---- regions
 
@@ -31,8 +32,9 @@ pub record IsBox (rank : ℕ) (region : Region) : Type 0 where
   pub three : length region.dims ≡ 3
   pub same : region.rank ≡ rank
 
+-- and within the limit
 abbrev pub IsGivenBox : ℕ → Outcome Region → Type 0
-IsGivenBox rank (Gives region) = IsBox rank region
+IsGivenBox rank (Gives region) = IsBox rank region × IsTrue (is_within_limit region)
 IsGivenBox rank (Fails fault) = ⊥
 
 -- ---- what was computed before the run
@@ -74,3 +76,52 @@ place_at w result currents edge = record {
   currents = currents;
   edge = edge;
 }
+
+-- ---- names of arrays
+
+-- the storage has the rank that the text says, and no flood dimension where the text has none
+pub record IsStoredAs (shape : Option Shape) (stored : Stored) : Type 0 where
+  pub rank : option_map length shape ≡ Some stored.storage.rank
+  pub ranges : has_flood shape ≡ false →
+      AllRanges (take stored.storage.rank stored.storage.dims)
+
+-- its array has a number, and its home box may stand in a row
+pub record FitsName (numbers : Numbers) (shape : Option Shape) (place : ℕ) (home : Region) : Type 0
+  where
+    pub has : IsSomeAnd (slice_get numbers.arrays place) (IsStoredAs shape)
+    pub box : FitsRegion home
+    pub same : option_map length shape ≡ Some home.rank
+
+abbrev pub FitNames : Scope → Environment → Numbers → Type 0
+FitNames scope environment numbers =
+    (name : Name) (place : ℕ) (home : Region) →
+    thing_of environment name.text ≡ Some (ArrayAt place home) →
+    FitsName numbers (array_shape (kind_of scope name)) place home
+
+-- ---- arrays that are read at computed tuples have no flood dimension
+
+abbrev mutual
+  pub HasFlatRemaps : Scope → Expr → Type 0
+  HasFlatRemaps scope (Number at value) = Unit {0}
+  HasFlatRemaps scope (Truth at value) = Unit {0}
+  HasFlatRemaps scope (Coord at k) = Unit {0}
+  HasFlatRemaps scope (Named at name) = Unit {0}
+  HasFlatRemaps scope (Shifted at name shift) = Unit {0}
+  HasFlatRemaps scope (Around at name shift) = Unit {0}
+  HasFlatRemaps scope (Remap at name indices) =
+      (has_flood (array_shape (kind_of scope name)) ≡ false) × HaveFlatRemaps scope indices
+  HasFlatRemaps scope (Call at name actuals) = Unit {0}
+  HasFlatRemaps scope (Paren at inside) = HasFlatRemaps scope inside
+  HasFlatRemaps scope (Neg at operand) = HasFlatRemaps scope operand
+  HasFlatRemaps scope (Not at operand) = HasFlatRemaps scope operand
+  HasFlatRemaps scope (Abs at operand) = HasFlatRemaps scope operand
+  HasFlatRemaps scope (Pair at op left right) =
+      HasFlatRemaps scope left × HasFlatRemaps scope right
+  HasFlatRemaps scope (Reduce at operator over operand) = HasFlatRemaps scope operand
+  HasFlatRemaps scope (Scan at operator along operand) = HasFlatRemaps scope operand
+  HasFlatRemaps scope (Flood at source operand) = HasFlatRemaps scope operand
+
+  pub HaveFlatRemaps : Scope → Exprs → Type 0
+  HaveFlatRemaps scope NoExpr = Unit {0}
+  HaveFlatRemaps scope (ThenExpr first rest) =
+      HasFlatRemaps scope first × HaveFlatRemaps scope rest
