@@ -5,6 +5,7 @@ use Rattle.std.specs.Option.{IsSomeAnd}
 use Rattle.std.proofs.lemmas.Int.{ints}
 use lib.Signed.{mag, mag_rem}
 use Rattle.zpl_nums.specs.declared.folds.Fold.{Fold}
+use Rattle.zpl_nums.specs.Integer.{truth}
 use Rattle.zpl_region.specs.declared.dims.Dim.{Dim}
 use Rattle.zpl_region.specs.declared.dims.Dim.TheVariants as dim
 use Rattle.zpl_region.specs.declared.regions.Region.{Region}
@@ -13,7 +14,7 @@ use Rattle.zpl_region.specs.Region.{moved}
 use Rattle.zpl_region.specs.Ends.{has_none}
 use Rattle.zpl_region.specs.Hull.{hull, hull_with, each_hull_with}
 use Rattle.zpl_arrays.specs.Around.{zeros, dim_rest, each_rest, copy_shift, copy_storage}
-use Rattle.zpl_tree.specs.Syntax.{Name, Expr, Number, Truth, Coord, Named, Shifted, Around, Remap, Call, Paren, Neg, Not, Abs, Pair, Reduce, Scan, Flood, Exprs, NoExpr, ThenExpr, Inner, NoBracket, Bracketed}
+use Rattle.zpl_tree.specs.Syntax.{Name, Expr, Number, Truth, Coord, Named, Shifted, Around, Remap, Call, Paren, Neg, Not, Abs, Pair, Reduce, Scan, Flood, Exprs, NoExpr, ThenExpr, Dir, Inner, NoBracket, Bracketed}
 use Rattle.zpl_names.specs.Kinds.{Shape, Rank}
 use Rattle.zpl_names.specs.Scope.{Scope, kind_of}
 use Rattle.zpl_names.specs.Ranks.{own_rank, operand_rank, inner_rank, array_rank, array_shape, exprs_count, dir_rank}
@@ -22,8 +23,8 @@ use Rattle.zpl_binding.specs.Regions.{no_region}
 use Rattle.zpl_meaning.specs.Store.{Thing, Scalar, ArrayAt, Fixed, Environment, thing_of}
 use Rattle.zpl_meaning.specs.Regions.{vector_in}
 use Rattle.zpl_meaning.specs.Context.{Over, Currents, with_over, Edge, Place}
-use Rattle.zpl_meaning.specs.Proper.{HasCurrent, IsArrayRank, IsRead, IsArrayRead, IsProper, AreProper}
-use Rattle.meaning_ranks.specs.Ranked.{HasDimension, GoesAlong, IsNameOf, IsOfRank as IsRankedAt, AreOfRank as AreRankedAt}
+use Rattle.zpl_meaning.specs.Proper.{HasCurrent, IsArrayRank, IsProperRegion, IsProperInner, IsRead, IsArrayRead, IsProper, AreProper}
+use Rattle.meaning_ranks.specs.Ranked.{IsRegionOf, IsInnerOf, HasDimension, GoesAlong, IsNameOf, IsOfRank as IsRankedAt, AreOfRank as AreRankedAt}
 use Rattle.node_form.specs.declared.arrays.ArrayRow.{ArrayRow}
 use Rattle.node_form.specs.declared.tables.Tables.{Tables}
 use Rattle.node_form.specs.Fits.{IsRank, IsVector, HasSlot, HasArray, IsStored, FitsRegion}
@@ -35,7 +36,7 @@ use Rattle.zpl_lowering.specs.Bracket.{Opened, bracket}
 use Rattle.zpl_lowering.specs.Hoist.{along_of}
 use Rattle.lowering_fits.specs.Inline.{FitRows}
 use Rattle.lowering_fits.specs.Slates.{SlotsAt, StoragesAt, AllRanges, IsRowOf, HasStorage, FitNumbers, IsOfRank, IsRemapOf, IsMaskOf, FitsOver, slates_count, FitsCopy, FitsSlate, FitsSlates}
-use Rattle.lowering_fits.specs.Reach.{FitsKnown, FitsCurrent, FitCurrents, place_at, IsStoredAs, FitsName, FitNames, HasFlatRemaps, HaveFlatRemaps}
+use Rattle.lowering_fits.specs.Reach.{FitsKnown, FitsCurrent, FitCurrents, place_at, IsStoredAs, FitsName, FitNames, HasFlatRemaps, HaveFlatRemaps, IsReach}
 use Rattle.lowering_fits.proofs.TreeLemmas.{slots_first, slots_rest, storages_first, storages_rest, array_of, stored_of}
 use Rattle.lowering_fits.proofs.VectorLemmas.{VectorBy, by_vector, vector_by}
 use Rattle.lowering_fits.proofs.SlateLemmas.{rows_both}
@@ -237,3 +238,376 @@ dimension_fits : (rank : Rank) (k : ℕ) → HasDimension rank k →
     (1 ≤ k) × (k ≤ rank_number rank)
 dimension_fits None k has = absurd has
 dimension_fits (Some rank) k has = has
+
+-- ---- names
+
+module _ (base : Tables) (w : Where) (currents : Currents) (reach : IsReach base w currents) where
+  over_here : (rank : Rank) → HasCurrent currents rank →
+      FitsOver base w.numbers (rank_number rank) (slotted_at w.currents rank)
+  over_here rank has = over_of base w.numbers currents w.currents rank reach.here has
+
+  element_slate : (rank : Rank) (name : Name) (place : ℕ) (home : Region) (shift : List ℤ) →
+      thing_of w.environment name.text ≡ Some (ArrayAt place home) →
+      array_rank (kind_of w.scope name) ≡ rank → HasCurrent currents rank →
+      IsVector (rank_number rank) shift →
+      FitsSlate base w.numbers (rank_number rank)
+      (slate.Element (slotted_at w.currents rank).slot place shift)
+  element_slate rank name place home shift e is has vector =
+      let over = over_here rank has in
+      let found = reach.names name place home e in
+      (
+        over.is_rank,
+        over.has,
+        stored_rank rank (array_shape (kind_of w.scope name)) (slice_get w.numbers.arrays place) is
+        found.has,
+        vector,
+      )
+
+  no_shift : (rank : ℕ) → IsVector rank []
+  no_shift rank = vector_by rank [] tt
+
+  named_fits : (rank : Rank) (name : Name) (thing : Option Thing) →
+      thing_of w.environment name.text ≡ thing → IsRead currents rank thing →
+      ((place : ℕ) (home : Region) → thing ≡ Some (ArrayAt place home) →
+      array_rank (kind_of w.scope name) ≡ rank) →
+      FitsSlate base w.numbers (rank_number rank) (named_slate (slotted_at w.currents rank) thing)
+  named_fits rank name (Some (Scalar place)) e read of = tt
+  named_fits rank name (Some (Fixed value)) e read of = tt
+  named_fits rank name (Some (ArrayAt place home)) e read of =
+      element_slate rank name place home [] e (of place home refl) read
+      (no_shift (rank_number rank))
+  named_fits rank name None e read of = tt
+
+  known_vector : (rank : Rank) (shift : Dir) → HasCurrent currents rank →
+      dir_rank w.scope shift ≡ rank →
+      IsVector (rank_number rank) (vector_in w.setup.known shift)
+  known_vector None shift has is = absurd has
+  known_vector (Some rank) shift has is = reach.known.dirs rank shift is
+
+  shifted_fits : (rank : Rank) (name : Name) (shift : List ℤ) (thing : Option Thing) →
+      thing_of w.environment name.text ≡ thing → IsArrayRead currents rank thing →
+      array_rank (kind_of w.scope name) ≡ rank → IsVector (rank_number rank) shift →
+      FitsSlate base w.numbers (rank_number rank)
+      (shifted_slate (slotted_at w.currents rank) shift thing)
+  shifted_fits rank name shift (Some (ArrayAt place home)) e read is vector =
+      element_slate rank name place home shift e is read.1 vector
+  shifted_fits rank name shift (Some (Scalar place)) e read is vector = tt
+  shifted_fits rank name shift (Some (Fixed value)) e read is vector = tt
+  shifted_fits rank name shift None e read is vector = tt
+
+  around_fits : (rank : Rank) (name : Name) (next : Next) (shift : List ℤ)
+      (thing : Option Thing) → thing_of w.environment name.text ≡ thing →
+      IsArrayRead currents rank thing → array_rank (kind_of w.scope name) ≡ rank →
+      IsVector (rank_number rank) shift →
+      IsLaid base next (around_slate next (slotted_at w.currents rank) shift thing) →
+      SlateFits base w.numbers (rank_number rank)
+      (around_slate next (slotted_at w.currents rank) shift thing)
+  around_fits rank name next shift (Some (ArrayAt place home)) e read is vector laid =
+      let over = over_here rank read.1 in
+      let found = reach.names name place home e in
+      let number : ℕ = rank_number rank in
+      let same : home.rank ≡ number =
+          number_is rank home.rank (array_shape (kind_of w.scope name)) is found.same in
+      let moves : List ℤ = copy_shift home shift in
+      let copied : (copy_storage home shift).rank ≡ number =
+          hull_rank home (moved moves home) refl ∙ same in
+      record {
+        own = record {
+          rows_fit = tt;
+          ranks = replicated_ranks home.rank (border_slots moves)
+              (subst IsRank (sym same) over.is_rank);
+        };
+        fits = (
+          over.is_rank,
+          over.has,
+          stored_rank rank (array_shape (kind_of w.scope name)) (slice_get w.numbers.arrays place)
+          is found.has,
+          copy_vector number home shift vector,
+          record {
+            box = found.box;
+            same = same;
+            has = array_of base number next.copies (copy_storage home shift) laid.copies_at.0
+                copied;
+            is_stored = stored_of base next.copies (copy_storage home shift) laid.copies_at.0;
+            slots = subst (λ n. SlotsAt base next.slots (replicate (border_slots moves) n)) same
+                laid.slots_at;
+          },
+        );
+      }
+  around_fits rank name next shift (Some (Scalar place)) e read is vector laid =
+      record { own = nothing_own base (slate.Constant (pos 0)); fits = tt }
+  around_fits rank name next shift (Some (Fixed value)) e read is vector laid =
+      record { own = nothing_own base (slate.Constant (pos 0)); fits = tt }
+  around_fits rank name next shift None e read is vector laid =
+      record { own = nothing_own base (slate.Constant (pos 0)); fits = tt }
+
+  remap_fits : (rank : Rank) (name : Name) (count : ℕ) (indices : Slates)
+      (thing : Option Thing) → thing_of w.environment name.text ≡ thing →
+      IsArrayRead currents rank thing → array_rank (kind_of w.scope name) ≡ Some count →
+      has_flood (array_shape (kind_of w.scope name)) ≡ false → slates_count indices ≡ count →
+      FitsSlates base w.numbers (rank_number rank) indices →
+      FitsSlate base w.numbers (rank_number rank)
+      (remap_slate (slotted_at w.currents rank) thing indices)
+  remap_fits rank name count indices (Some (ArrayAt place home)) e read is flat counted fits =
+      let found = reach.names name place home e in
+      (
+        over_here rank read.1,
+        subst (λ n. IsRemapOf n (slice_get w.numbers.arrays place)) (sym counted)
+        (stored_flat (Some count) (array_shape (kind_of w.scope name))
+        (slice_get w.numbers.arrays place) is flat found.has),
+        fits,
+      )
+  remap_fits rank name count indices (Some (Scalar place)) e read is flat counted fits = tt
+  remap_fits rank name count indices (Some (Fixed value)) e read is flat counted fits = tt
+  remap_fits rank name count indices None e read is flat counted fits = tt
+
+-- ---- the region of an operator
+
+pub source_fits : LimitsAreTold → (base : Tables) (w : Where) (result : ℕ) (currents : Currents)
+    (edge : Option Edge) → IsReach base w currents → (next : Next) (line : ℕ) (source : Inner)
+    (operand : Expr) → HasCurrent currents (source_rank w source operand) →
+    IsProperRegion (place_at w result currents edge) (own_rank w.scope w.prefix operand) source →
+    IsRegionOf (place_at w result currents edge) (own_rank w.scope w.prefix operand) source →
+    SlotsAt base next.slots (opened_source w next line source operand).slots →
+    FitsOpened base (rank_number (source_rank w source operand))
+    (opened_source w next line source operand)
+source_fits limits base w result currents edge reach next line source operand has proper of at =
+    let rank : Rank = source_rank w source operand in
+    let number : ℕ = rank_number rank in
+    let ranked = array_rank_number rank of.0 in
+    let over = over_of base w.numbers currents w.currents rank reach.here has in
+    bracket_fits limits base w reach.numbers reach.known currents result edge
+    (own_rank w.scope w.prefix operand) number next.slots line (slotted_at w.currents rank) source
+    ranked.0 ranked.1 (λ there. (over.has, over.floods))
+    (subst (λ r. IsProperInner (place_at w result currents edge) r source) ranked.1 proper)
+    (subst (λ r. IsInnerOf w.scope r source) ranked.1 of.1) at
+
+source_over : (base : Tables) (numbers : Numbers) (rank : ℕ) (opened : Opened) → IsRank rank →
+    FitsOpened base rank opened → FitsOver base numbers rank (source_of opened)
+source_over base numbers rank opened is fits =
+    record { is_rank = is; has = fits.has; floods = fits.floods; masked = tt }
+
+-- what is in reach of the operand
+reach_under : (base : Tables) (w : Where) (currents : Currents) → IsReach base w currents →
+    (rank : Rank) (region : Region) (source : Slotted) →
+    FitsOver base w.numbers (rank_number rank) source →
+    IsReach base (under_source w rank source)
+    (with_over currents rank (record { region = region; mask = None }))
+reach_under base w currents reach rank region source fits = record {
+  numbers = reach.numbers;
+  known = reach.known;
+  names = reach.names;
+  here = with_current base w.numbers currents w.currents rank
+      (record { region = region; mask = None }) source reach.here fits;
+}
+
+opened_own : (base : Tables) (rank : ℕ) (opened : Opened) → IsRank rank →
+    FitsOpened base rank opened → FitsSettled base (of_opened opened)
+opened_own base rank opened is fits =
+    record { rows_fit = fits.rows; ranks = same_ranks rank opened.slots is fits.slots }
+
+-- ---- expressions
+
+mutual
+  pub settled_fits : LimitsAreTold → (base : Tables) (w : Where) (result : ℕ)
+      (currents : Currents) (edge : Option Edge) → IsReach base w currents → (line : ℕ)
+      (next : Next) (rank : Rank) (one : Expr) →
+      IsProper (place_at w result currents edge) rank one →
+      IsRankedAt (place_at w result currents edge) rank one → HasFlatRemaps w.scope one →
+      IsLaid base next (settled w line next rank one) →
+      SlateFits base w.numbers (rank_number rank) (settled w line next rank one)
+  settled_fits limits base w result currents edge reach line next rank (Number at value) proper
+      ranked flat laid = record { own = nothing_own base (slate.Constant value); fits = tt }
+  settled_fits limits base w result currents edge reach line next rank (Truth at value) proper
+      ranked flat laid =
+      record { own = nothing_own base (slate.Constant (truth value)); fits = tt }
+  settled_fits limits base w result currents edge reach line next rank (Coord at k) proper ranked
+      flat laid =
+      record {
+        own = nothing_own base (slate.Coordinate k);
+        fits = dimension_fits rank k ranked;
+      }
+  settled_fits limits base w result currents edge reach line next rank (Named at name) proper
+      ranked flat laid =
+      let thing : Option Thing = thing_of w.environment name.text in
+      record {
+        own = nothing_own base (named_slate (slotted_at w.currents rank) thing);
+        fits = named_fits base w currents reach rank name thing refl proper
+            (λ place home e. subst (λ o. IsNameOf (place_at w result currents edge) rank name o) e
+            ranked);
+      }
+  settled_fits limits base w result currents edge reach line next rank (Shifted at name shift)
+      proper ranked flat laid =
+      let thing : Option Thing = thing_of w.environment name.text in
+      let vector : List ℤ = vector_in w.setup.known shift in
+      record {
+        own = nothing_own base (shifted_slate (slotted_at w.currents rank) vector thing);
+        fits = shifted_fits base w currents reach rank name vector thing refl proper ranked.0
+            (known_vector base w currents reach rank shift proper.1 ranked.1);
+      }
+  settled_fits limits base w result currents edge reach line next rank (Around at name shift)
+      proper ranked flat laid =
+      around_fits base w currents reach rank name next (vector_in w.setup.known shift)
+      (thing_of w.environment name.text) refl proper ranked.0
+      (known_vector base w currents reach rank shift proper.1 ranked.1) laid
+  settled_fits limits base w result currents edge reach line next rank (Remap at name indices)
+      proper ranked flat laid =
+      let inner = all_settled_fit limits base w result currents edge reach line next rank indices
+          proper.1 ranked.1 flat.1
+          (record { slots_at = laid.slots_at; copies_at = laid.copies_at }) in
+      record {
+        own = record { rows_fit = inner.own.rows_fit; ranks = inner.own.ranks };
+        fits = remap_fits base w currents reach rank name (exprs_count indices)
+            (settled_all w line next rank indices).slate (thing_of w.environment name.text) refl
+            proper.0 ranked.0 flat.0 inner.counted inner.fits;
+      }
+  settled_fits limits base w result currents edge reach line next rank (Call at name actuals)
+      proper ranked flat laid = absurd proper
+  settled_fits limits base w result currents edge reach line next rank (Paren at inside) proper
+      ranked flat laid =
+      settled_fits limits base w result currents edge reach line next rank inside proper ranked
+      flat laid
+  settled_fits limits base w result currents edge reach line next rank (Neg at operand) proper
+      ranked flat laid =
+      let inner = settled_fits limits base w result currents edge reach line next rank operand
+          proper ranked flat
+          (record { slots_at = laid.slots_at; copies_at = laid.copies_at }) in
+      record {
+        own = record { rows_fit = inner.own.rows_fit; ranks = inner.own.ranks };
+        fits = inner.fits;
+      }
+  settled_fits limits base w result currents edge reach line next rank (Not at operand) proper
+      ranked flat laid =
+      let inner = settled_fits limits base w result currents edge reach line next rank operand
+          proper ranked flat
+          (record { slots_at = laid.slots_at; copies_at = laid.copies_at }) in
+      record {
+        own = record { rows_fit = inner.own.rows_fit; ranks = inner.own.ranks };
+        fits = inner.fits;
+      }
+  settled_fits limits base w result currents edge reach line next rank (Abs at operand) proper
+      ranked flat laid =
+      let inner = settled_fits limits base w result currents edge reach line next rank operand
+          proper ranked flat
+          (record { slots_at = laid.slots_at; copies_at = laid.copies_at }) in
+      record {
+        own = record { rows_fit = inner.own.rows_fit; ranks = inner.own.ranks };
+        fits = inner.fits;
+      }
+  settled_fits limits base w result currents edge reach line next rank (Pair at op left right)
+      proper ranked flat laid =
+      let first : Settled Slate = settled w line next rank left in
+      let rest : Settled Slate = settled w line (behind next first) rank right in
+      let one = settled_fits limits base w result currents edge reach line next rank left proper.0
+          ranked.0 flat.0 (laid_first base next (slate.Binary op) first rest laid) in
+      let other = settled_fits limits base w result currents edge reach line (behind next first)
+          rank right proper.1 ranked.1 flat.1
+          (laid_rest base next (slate.Binary op) first rest laid) in
+      record {
+        own = own_both base (slate.Binary op) first rest one.own other.own;
+        fits = (one.fits, other.fits);
+      }
+  settled_fits limits base w result currents edge reach line next rank
+      (Reduce at operator NoBracket operand) proper ranked flat laid =
+      let over : Rank = operand_rank w.scope w.prefix operand in
+      let inner = settled_fits limits base w result currents edge reach line next over operand
+          proper.1 ranked flat
+          (record { slots_at = laid.slots_at; copies_at = laid.copies_at }) in
+      record {
+        own = record { rows_fit = inner.own.rows_fit; ranks = inner.own.ranks };
+        fits = (
+          rank_number over,
+          (over_here base w currents reach over proper.0, inner.fits),
+        );
+      }
+  settled_fits limits base w result currents edge reach line next rank
+      (Reduce at operator (Bracketed source) operand) proper ranked flat laid =
+      let over : Rank = source_rank w source operand in
+      let number : ℕ = rank_number over in
+      let opened : Opened = opened_source w next line source operand in
+      let under : Where = under_source w over (source_of opened) in
+      let first : Settled Slotted = of_opened opened in
+      let rest : Settled Slate = settled under line (behind next first) over operand in
+      let join : Slotted → Slate → Slate =
+          slate.PartFolded operator (slotted_at w.currents over) in
+      let of = ranked.1 in
+      let is : IsRank number = (array_rank_number over of.0).0 in
+      let fits = source_fits limits base w result currents edge reach next line source operand
+          proper.0 proper.1 of (laid_first base next join first rest laid).slots_at in
+      let from = source_over base w.numbers number opened is fits in
+      let inner = settled_fits limits base under result
+          (with_over currents over (record { region = no_region; mask = None })) edge
+          (reach_under base w currents reach over no_region (source_of opened) from) line
+          (behind next first) over operand (proper.2 no_region) (ranked.2 no_region) flat
+          (laid_rest base next join first rest laid) in
+      record {
+        own = own_both base join first rest (opened_own base number opened is fits) inner.own;
+        fits = subst
+            (λ n. FitsSlate base w.numbers n (join (source_of opened) rest.slate))
+            (ap rank_number ranked.0)
+            (over_here base w currents reach over proper.0, from, inner.fits);
+      }
+  settled_fits limits base w result currents edge reach line next rank
+      (Scan at operator along operand) proper ranked flat laid =
+      let inner = settled_fits limits base w result currents edge reach line next rank operand
+          proper.1 ranked.1 flat
+          (record { slots_at = laid.slots_at; copies_at = laid.copies_at }) in
+      record {
+        own = record { rows_fit = inner.own.rows_fit; ranks = inner.own.ranks };
+        fits = (
+          over_here base w currents reach rank proper.0,
+          along_fits rank along ranked.0,
+          inner.fits,
+        );
+      }
+  settled_fits limits base w result currents edge reach line next rank (Flood at source operand)
+      proper ranked flat laid =
+      let over : Rank = source_rank w source operand in
+      let number : ℕ = rank_number over in
+      let opened : Opened = opened_source w next line source operand in
+      let under : Where = under_source w over (source_of opened) in
+      let first : Settled Slotted = of_opened opened in
+      let rest : Settled Slate = settled under line (behind next first) over operand in
+      let join : Slotted → Slate → Slate = slate.Flooded (slotted_at w.currents over) in
+      let of = ranked.1 in
+      let is : IsRank number = (array_rank_number over of.0).0 in
+      let fits = source_fits limits base w result currents edge reach next line source operand
+          proper.0 proper.1 of (laid_first base next join first rest laid).slots_at in
+      let from = source_over base w.numbers number opened is fits in
+      let inner = settled_fits limits base under result
+          (with_over currents over (record { region = no_region; mask = None })) edge
+          (reach_under base w currents reach over no_region (source_of opened) from) line
+          (behind next first) over operand (proper.2 no_region) (ranked.2 no_region) flat
+          (laid_rest base next join first rest laid) in
+      record {
+        own = own_both base join first rest (opened_own base number opened is fits) inner.own;
+        fits = subst
+            (λ n. FitsSlate base w.numbers n (join (source_of opened) rest.slate))
+            (ap rank_number ranked.0)
+            (over_here base w currents reach over proper.0, from, inner.fits);
+      }
+
+  all_settled_fit : LimitsAreTold → (base : Tables) (w : Where) (result : ℕ)
+      (currents : Currents) (edge : Option Edge) → IsReach base w currents → (line : ℕ)
+      (next : Next) (rank : Rank) (all : Exprs) →
+      AreProper (place_at w result currents edge) rank all →
+      AreRankedAt (place_at w result currents edge) rank all → HaveFlatRemaps w.scope all →
+      IsLaid base next (settled_all w line next rank all) →
+      SlatesFit base w.numbers (rank_number rank) (exprs_count all)
+      (settled_all w line next rank all)
+  all_settled_fit limits base w result currents edge reach line next rank NoExpr proper ranked flat
+      laid = record { own = nothing_own base NoSlate; fits = tt; counted = refl }
+  all_settled_fit limits base w result currents edge reach line next rank (ThenExpr one others)
+      proper ranked flat laid =
+      let first : Settled Slate = settled w line next rank one in
+      let rest : Settled Slates = settled_all w line (behind next first) rank others in
+      let here = settled_fits limits base w result currents edge reach line next rank one proper.0
+          ranked.0 flat.0 (laid_first base next ThenSlate first rest laid) in
+      let there = all_settled_fit limits base w result currents edge reach line
+          (behind next first) rank others proper.1 ranked.1 flat.1
+          (laid_rest base next ThenSlate first rest laid) in
+      record {
+        own = own_both base ThenSlate first rest here.own there.own;
+        fits = (here.fits, there.fits);
+        counted = ap suc there.counted;
+      }

@@ -125,3 +125,11 @@ abbrev mutual
   HaveFlatRemaps scope NoExpr = Unit {0}
   HaveFlatRemaps scope (ThenExpr first rest) =
       HasFlatRemaps scope first × HaveFlatRemaps scope rest
+
+-- ---- all that is in reach
+
+pub record IsReach (tables : Tables) (w : Where) (currents : Currents) : Type 0 where
+  pub numbers : FitNumbers tables w.numbers
+  pub known : FitsKnown tables w.setup.known w.scope
+  pub names : FitNames w.scope w.environment w.numbers
+  pub here : FitCurrents tables w.numbers currents w.currents
