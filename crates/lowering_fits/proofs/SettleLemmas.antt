@@ -36,6 +36,7 @@ use Rattle.zpl_lowering.specs.Bracket.{Opened, bracket}
 use Rattle.zpl_lowering.specs.Hoist.{along_of}
 use Rattle.lowering_fits.specs.Inline.{FitRows}
 use Rattle.lowering_fits.specs.Slates.{SlotsAt, StoragesAt, AllRanges, IsRowOf, HasStorage, FitNumbers, IsOfRank, IsRemapOf, IsMaskOf, FitsOver, slates_count, FitsCopy, FitsSlate, FitsSlates}
+use Rattle.lowering_fits.specs.Lowerings.{AllRanks}
 use Rattle.lowering_fits.specs.Reach.{FitsKnown, FitsCurrent, FitCurrents, place_at, IsStoredAs, FitsName, FitNames, HasFlatRemaps, HaveFlatRemaps, IsReach}
 use Rattle.lowering_fits.proofs.TreeLemmas.{slots_first, slots_rest, storages_first, storages_rest, array_of, stored_of}
 use Rattle.lowering_fits.proofs.VectorLemmas.{VectorBy, by_vector, vector_by}
@@ -43,10 +44,6 @@ use Rattle.lowering_fits.proofs.SlateLemmas.{rows_both}
 use Rattle.lowering_fits.proofs.BracketLemmas.{rank_number, SameRanks, FitsOpened, LimitsAreTold, bracket_fits}
 
 -- ---- ranks of slots
-
-abbrev pub AllRanks : List ℕ → Type 0
-AllRanks [] = Unit {0}
-AllRanks (rank ∷ ranks) = IsRank rank × AllRanks ranks
 
 pub ranks_both : (xs ys : List ℕ) → AllRanks xs → AllRanks ys → AllRanks (xs ++ ys)
 ranks_both [] ys first rest = rest

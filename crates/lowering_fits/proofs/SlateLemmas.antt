@@ -221,13 +221,13 @@ module _ (base : Tables) where
       }
 
   -- the parts that two expressions have
-  first_placed : (free : Free) (s t : ℕ) (xs ys : List (List Bool)) →
+  pub first_placed : (free : Free) (s t : ℕ) (xs ys : List (List Bool)) →
       IsPlaced base free (s + t) (xs ++ ys) → IsPlaced base free s xs
   first_placed free s t xs ys placed =
       let below = placed.below in
       record { below = omega arith; temps_at = temps_first base free.temps xs ys placed.temps_at }
 
-  rest_placed : (free : Free) (s t : ℕ) (xs ys : List (List Bool)) →
+  pub rest_placed : (free : Free) (s t : ℕ) (xs ys : List (List Bool)) →
       IsPlaced base free (s + t) (xs ++ ys) →
       IsPlaced base (record { scalars = free.scalars + s; temps = free.temps + length xs }) t ys
   rest_placed free s t xs ys placed =

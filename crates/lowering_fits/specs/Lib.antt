@@ -1,3 +1,4 @@
 pub mod Inline
 pub mod Slates
 pub mod Reach
+pub mod Lowerings
