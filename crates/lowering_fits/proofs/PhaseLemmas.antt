@@ -278,3 +278,160 @@ mutual
       references_both base (referred numbers first) (all_referred numbers rest)
       (referred_fit base numbers rank first fits is.0)
       (all_referred_fit base numbers rank rest fits is.1)
+
+-- ---- the expressions of a statement
+
+-- each is proper and ranked where it stands, and reads no flood array at computed tuples
+abbrev pub AreSound : Where → Place → List Placed → Type 0
+AreSound w place [] = Unit {0}
+AreSound w place (one ∷ rest) =
+    (IsProper place one.rank one.expr × IsRankedAt place one.rank one.expr
+    × HasFlatRemaps w.scope one.expr) × AreSound w place rest
+
+abbrev pub FitsEach : Tables → Numbers → List Placed → Slates → Type 0
+FitsEach tables numbers [] NoSlate = Unit {0}
+FitsEach tables numbers [] (ThenSlate first rest) = ⊥
+FitsEach tables numbers (one ∷ placed) NoSlate = ⊥
+FitsEach tables numbers (one ∷ placed) (ThenSlate first rest) =
+    FitsSlate tables numbers (rank_number one.rank) first × FitsEach tables numbers placed rest
+
+abbrev pub FitLefts : Tables → List Placed → List Expression → Type 0
+FitLefts tables [] [] = Unit {0}
+FitLefts tables [] (first ∷ rest) = ⊥
+FitLefts tables (one ∷ placed) [] = ⊥
+FitLefts tables (one ∷ placed) (first ∷ rest) =
+    FitsTree tables (rank_number one.rank) first × FitLefts tables placed rest
+
+pub record EachFits (tables : Tables) (numbers : Numbers) (placed : List Placed)
+    (settled : Settled Slates) : Type 0 where
+  pub own : FitsSettled tables settled
+  pub fits : FitsEach tables numbers placed settled.slate
+
+pub each_settled : LimitsAreTold → (base : Tables) (w : Where) (result : ℕ) (currents : Currents)
+    (edge : Option Edge) → IsReach base w currents → (line : ℕ) (next : Next)
+    (placed : List Placed) → AreSound w (place_at w result currents edge) placed →
+    IsLaid base next (settled_each w line next placed) →
+    EachFits base w.numbers placed (settled_each w line next placed)
+each_settled limits base w result currents edge reach line next [] sound laid =
+    record { own = record { rows_fit = tt; ranks = tt }; fits = tt }
+each_settled limits base w result currents edge reach line next (one ∷ placed) sound laid =
+    let first : Settled Slate = settled w line next one.rank one.expr in
+    let rest : Settled Slates = settled_each w line (behind_settled next first) placed in
+    let here = settled_fits limits base w result currents edge reach line next one.rank one.expr
+        sound.0.0 sound.0.1 sound.0.2 (laid_first base next ThenSlate first rest laid) in
+    let there = each_settled limits base w result currents edge reach line
+        (behind_settled next first) placed sound.1
+        (laid_rest base next ThenSlate first rest laid) in
+    record {
+      own = own_both base ThenSlate first rest here.own there.own;
+      fits = (here.fits, there.fits);
+    }
+
+each_conforming : (base : Tables) (numbers : Numbers) (line : ℕ) (placed : List Placed)
+    (all : Slates) → FitsEach base numbers placed all → FitRows base 0 (all_conforming line all)
+each_conforming base numbers line [] NoSlate fits = tt
+each_conforming base numbers line [] (ThenSlate first rest) fits = absurd fits
+each_conforming base numbers line (one ∷ placed) NoSlate fits = tt
+each_conforming base numbers line (one ∷ placed) (ThenSlate first rest) fits =
+    rows_both base (conforming line first) (all_conforming line rest)
+    (conforming_fit base numbers (rank_number one.rank) line first fits.0)
+    (each_conforming base numbers line placed rest fits.1)
+
+each_referred : (base : Tables) (numbers : Numbers) (placed : List Placed) (all : Slates) →
+    FitNumbers base numbers → FitsEach base numbers placed all →
+    FitReferences base (all_referred numbers all)
+each_referred base numbers [] NoSlate fits is = tt
+each_referred base numbers [] (ThenSlate first rest) fits is = absurd is
+each_referred base numbers (one ∷ placed) NoSlate fits is = tt
+each_referred base numbers (one ∷ placed) (ThenSlate first rest) fits is =
+    references_both base (referred numbers first) (all_referred numbers rest)
+    (referred_fit base numbers (rank_number one.rank) first fits is.0)
+    (each_referred base numbers placed rest fits is.1)
+
+pub record EachLeft (tables : Tables) (placed : List Placed) (hoist : Hoisted (List Expression)) :
+    Type 0 where
+  pub rows : FitsHoist tables hoist
+  pub left : FitLefts tables placed hoist.left
+
+each_hoisted : (base : Tables) (numbers : Numbers) (line : ℕ) (free : Free)
+    (placed : List Placed) (all : Slates) → FitNumbers base numbers →
+    FitsEach base numbers placed all →
+    IsPlaced base free (all_hoisted numbers line free all).scalars
+    (all_hoisted numbers line free all).temps →
+    EachLeft base placed (all_hoisted numbers line free all)
+each_hoisted base numbers line free [] NoSlate fits is at =
+    record { rows = record { code = tt; temps = tt; shifts = tt }; left = tt }
+each_hoisted base numbers line free [] (ThenSlate first rest) fits is at = absurd is
+each_hoisted base numbers line free (one ∷ placed) NoSlate fits is at = absurd is
+each_hoisted base numbers line free (one ∷ placed) (ThenSlate slate others) fits is at =
+    let first : Hoisted Expression = hoisted numbers line free slate in
+    let after : Free = behind_hoisted free first in
+    let rest : Hoisted (List Expression) = all_hoisted numbers line after others in
+    let here = hoisted_fits base numbers line free (rank_number one.rank) slate fits is.0
+        (first_placed base free first.scalars rest.scalars first.temps rest.temps at) in
+    let there = each_hoisted base numbers line after placed others fits is.1
+        (rest_placed base free first.scalars rest.scalars first.temps rest.temps at) in
+    record {
+      rows = record {
+        code = (here.rows.code, there.rows.code);
+        temps = temps_both first.temps rest.temps here.rows.temps there.rows.temps;
+        shifts = shifts_both first.shifts rest.shifts here.rows.shifts there.rows.shifts;
+      };
+      left = (here.left, there.left);
+    }
+
+-- ---- the phases
+
+pub record FitsPhased (tables : Tables) (placed : List Placed) (phases : Phased) : Type 0 where
+  pub fits : FitsLowered tables phases.lowered
+  pub lefts : FitLefts tables placed phases.left
+
+pub phases_fit : LimitsAreTold → (base : Tables) (w : Where) (result : ℕ) (currents : Currents)
+    (edge : Option Edge) → IsReach base w currents → (line : ℕ) (next : Next)
+    (own last : List Reference) (placed : List Placed) → FitReferences base own →
+    FitReferences base last → AreSound w (place_at w result currents edge) placed →
+    IsLaidOut base next (phased_with w line next own last placed).lowered →
+    FitsPhased base placed (phased_with w line next own last placed)
+phases_fit limits base w result currents edge reach line next own last placed owns lasts sound
+    laid =
+    let settled : Settled Slates = settled_each w line next placed in
+    let free : Free = free_at next 0 in
+    let hoist : Hoisted (List Expression) = all_hoisted w.numbers line free settled.slate in
+    let one = each_settled limits base w result currents edge reach line next placed sound
+        (record { slots_at = laid.slots_at; copies_at = laid.copies_at }) in
+    let below = laid.below in
+    let two = each_hoisted base w.numbers line free placed settled.slate reach.numbers one.fits
+        (record { below = omega arith; temps_at = laid.temps_at }) in
+    let references : List Reference = all_referred w.numbers settled.slate ++ last in
+    record {
+      fits = record {
+        code_fits = (
+          rows_both base settled.rows
+          (all_conforming line settled.slate ++ needs line (own ++ references)) one.own.rows_fit
+          (rows_both base (all_conforming line settled.slate) (needs line (own ++ references))
+          (each_conforming base w.numbers line placed settled.slate one.fits)
+          (needs_fit base line (own ++ references)
+          (references_both base own references owns
+          (references_both base (all_referred w.numbers settled.slate) last
+          (each_referred base w.numbers placed settled.slate reach.numbers one.fits) lasts)))),
+          two.rows.code,
+        );
+        slot_ranks = one.own.ranks;
+        temp_ranks = two.rows.temps;
+        small_shifts = two.rows.shifts;
+      };
+      lefts = two.left;
+    }
+
+-- rows of the statement's own behind them
+pub then_fits : (base : Tables) (placed : List Placed) (phases : Phased) (rows : List Row) →
+    FitsPhased base placed phases → FitRows base 0 rows →
+    FitsLowered base (then_rows phases rows)
+then_fits base placed phases rows fits fit =
+    both_fit base phases.lowered (rows_alone rows) fits.fits (rows_alone_fit base rows fit)
+
+pub then_laid : (base : Tables) (next : Next) (phases : Phased) (rows : List Row) →
+    IsLaidOut base next (then_rows phases rows) → IsLaidOut base next phases.lowered
+then_laid base next phases rows laid =
+    laid_front base next (piece.Then phases.lowered.code (rows_alone rows).code) phases.lowered
+    (rows_alone rows) laid
