@@ -394,6 +394,7 @@ reach_under base w currents reach rank region source fits = record {
   numbers = reach.numbers;
   known = reach.known;
   names = reach.names;
+  variables = reach.variables;
   here = with_current base w.numbers currents w.currents rank
       (record { region = region; mask = None }) source reach.here fits;
 }

@@ -14,7 +14,7 @@ use Rattle.zpl_names.specs.Scope.{Scope, kind_of}
 use Rattle.zpl_names.specs.Ranks.{dir_rank, region_shape, array_shape}
 use Rattle.zpl_binding.specs.Outcome.{Outcome, Gives, Fails}
 use Rattle.zpl_binding.specs.Regions.{Known, region_named}
-use Rattle.zpl_meaning.specs.Store.{Thing, ArrayAt, Environment, thing_of}
+use Rattle.zpl_meaning.specs.Store.{Thing, Scalar, ArrayAt, Environment, thing_of}
 use Rattle.zpl_meaning.specs.Regions.{vector_in}
 use Rattle.zpl_meaning.specs.Context.{Over, Currents, Edge, Place}
 use Rattle.node_form.specs.declared.tables.Tables.{Tables}
@@ -110,7 +110,7 @@ abbrev mutual
   HasFlatRemaps scope (Around at name shift) = Unit {0}
   HasFlatRemaps scope (Remap at name indices) =
       (has_flood (array_shape (kind_of scope name)) ≡ false) × HaveFlatRemaps scope indices
-  HasFlatRemaps scope (Call at name actuals) = Unit {0}
+  HasFlatRemaps scope (Call at name actuals) = HaveFlatRemaps scope actuals
   HasFlatRemaps scope (Paren at inside) = HasFlatRemaps scope inside
   HasFlatRemaps scope (Neg at operand) = HasFlatRemaps scope operand
   HasFlatRemaps scope (Not at operand) = HasFlatRemaps scope operand
@@ -126,10 +126,19 @@ abbrev mutual
   HaveFlatRemaps scope (ThenExpr first rest) =
       HasFlatRemaps scope first × HaveFlatRemaps scope rest
 
+-- ---- names of scalars
+
+-- the scalar has a number
+abbrev pub FitScalars : Tables → Environment → Numbers → Type 0
+FitScalars tables environment numbers =
+    (text : List ℕ) (place : ℕ) → thing_of environment text ≡ Some (Scalar place) →
+    IsSomeAnd (slice_get numbers.scalars place) (λ n. n < tables.scalars)
+
 -- ---- all that is in reach
 
 pub record IsReach (tables : Tables) (w : Where) (currents : Currents) : Type 0 where
   pub numbers : FitNumbers tables w.numbers
   pub known : FitsKnown tables w.setup.known w.scope
   pub names : FitNames w.scope w.environment w.numbers
+  pub variables : FitScalars tables w.environment w.numbers
   pub here : FitCurrents tables w.numbers currents w.currents
