@@ -541,3 +541,233 @@ module _ (limits : LimitsAreTold) (base : Tables) (w : Where) (result : ℕ) (cu
   tested_fits next one at proper ranked flat laid =
       test_fits limits base w result currents edge reach next one at proper.0
       ((proper.1, ranked, flat), tt) laid
+
+-- ---- an arm
+
+-- what all statements of a body are lowered with
+pub record Lowers (tables : Tables) (setup : Setup) (call : Calling → Next → Lowered) : Type 0 where
+  pub limits : LimitsAreTold
+  pub right : AreRight setup
+  pub calls : CallsFit tables setup call
+
+arm_fits : (base : Tables) (setup : Setup) (call : Calling → Next → Lowered) →
+    Lowers base setup call → (answers : Bool) (w : Where) (result : ℕ) (currents : Currents)
+    (edge : Option Edge) → IsStanding base setup answers w currents → (next : Next) (at own : ℕ)
+    (test : Expr) (body : Stmts) (ends : Bool) (last : Next → Lowered) →
+    TestFits base next (test_of w next test at) →
+    ((after : Next) →
+    IsLaidOut base after (lowered_all (record { place = w; call = call }) after body) →
+    FitsLowered base (lowered_all (record { place = w; call = call }) after body)) →
+    ((after : Next) → IsLaidOut base after (last after) → FitsLowered base (last after)) →
+    IsLaidOut base next
+    (lowered_arm (record { place = w; call = call }) next at (Tested own test body) ends last) →
+    FitsLowered base
+    (lowered_arm (record { place = w; call = call }) next at (Tested own test body) ends last)
+arm_fits base setup call with_all answers w result currents edge stands next at own test body true
+    last tests bodies lasts laid =
+    when_fits base next (test_of w next test at)
+    (λ after. lowered_all (record { place = w; call = call }) after body) tests bodies laid
+arm_fits base setup call with_all answers w result currents edge stands next at own test body false
+    last tests bodies lasts laid =
+    chosen_fits base next (test_of w next test at)
+    (λ after. lowered_all (record { place = w; call = call }) after body) last tests bodies lasts
+    laid
+
+-- ---- all statements
+
+mutual
+  pub stmt_fits : (base : Tables) (setup : Setup) (call : Calling → Next → Lowered) →
+      Lowers base setup call → (answers : Bool) (w : Where) (result : ℕ) (currents : Currents)
+      (edge : Option Edge) → IsStanding base setup answers w currents → (next : Next)
+      (stmt : Stmt) → IsVisited setup (place_at w result currents edge) stmt →
+      IsSoundStmt w.scope answers stmt →
+      IsLaidOut base next (lowered (record { place = w; call = call }) next stmt) →
+      FitsLowered base (lowered (record { place = w; call = call }) next stmt)
+  stmt_fits base setup call with_all answers w result currents edge stands next
+      (Prefixed at prefixes form) visited sound laid =
+      let right = with_all.right (place_at w result currents edge) (Prefixed at prefixes form)
+          visited in
+      under_fits with_all.limits base call (is_border form) form
+      (λ inner after. lowered_form inner after at form) prefixes w result currents edge next
+      stands.reach stands.edges right.0 right.1
+      (λ inner currents' edge' after is laid'.
+      form_fits base setup call with_all answers inner result currents' edge'
+      (record {
+        reach = is.reach;
+        edges = is.edges;
+        own = is.same_setup ∙ stands.own;
+        answer = λ yes. subst (λ n. n < base.scalars) (sym is.same_result) (stands.answer yes);
+      }) after at form (place_at w result currents edge) at prefixes visited is.under is.proper
+      is.ranked (subst (λ scope. IsSoundForm scope answers form) (sym is.same_scope) sound) laid')
+      laid
+
+  all_fit : (base : Tables) (setup : Setup) (call : Calling → Next → Lowered) →
+      Lowers base setup call → (answers : Bool) (w : Where) (result : ℕ) (currents : Currents)
+      (edge : Option Edge) → IsStanding base setup answers w currents → (next : Next)
+      (stmts : Stmts) →
+      ((part : Stmt) → Contains (list_of stmts) part →
+      IsVisited setup (place_at w result currents edge) part) →
+      AreSoundStmts w.scope answers stmts →
+      IsLaidOut base next (lowered_all (record { place = w; call = call }) next stmts) →
+      FitsLowered base (lowered_all (record { place = w; call = call }) next stmts)
+  all_fit base setup call with_all answers w result currents edge stands next NoStmt visited sound
+      laid = rows_alone_fit base [] tt
+  all_fit base setup call with_all answers w result currents edge stands next
+      (ThenStmt first rest) visited sound laid =
+      followed_fits base next (lowered (record { place = w; call = call }) next first)
+      (λ after. lowered_all (record { place = w; call = call }) after rest) laid
+      (stmt_fits base setup call with_all answers w result currents edge stands next first
+      (visited first (contains_first first (list_of rest))) sound.0)
+      (all_fit base setup call with_all answers w result currents edge stands
+      (behind next (lowered (record { place = w; call = call }) next first)) rest
+      (λ part in_it. visited part (contains_later first part (list_of rest) in_it)) sound.1)
+
+  form_fits : (base : Tables) (setup : Setup) (call : Calling → Next → Lowered) →
+      Lowers base setup call → (answers : Bool) (w : Where) (result : ℕ) (currents : Currents)
+      (edge : Option Edge) → IsStanding base setup answers w currents → (next : Next) (at : ℕ)
+      (form : Form) (start : Place) (whole : ℕ) (prefixes : List Prefix) →
+      IsVisited setup start (Prefixed whole prefixes form) →
+      IsUnder prefixes start (place_at w result currents edge) →
+      IsProperForm (place_at w result currents edge) form →
+      IsRankedForm (place_at w result currents edge) form → IsSoundForm w.scope answers form →
+      IsLaidOut base next (lowered_form (record { place = w; call = call }) next at form) →
+      FitsLowered base (lowered_form (record { place = w; call = call }) next at form)
+  form_fits base setup call with_all answers w result currents edge stands next at
+      (Assign name op value) start whole prefixes visited under proper ranked sound laid =
+      assign_fits with_all.limits base w result currents edge stands.reach setup call
+      with_all.calls stands.own next name op value (line_of w at) start whole prefixes visited under
+      proper ranked sound laid
+  form_fits base setup call with_all answers w result currents edge stands next at
+      (Invoke name actuals) start whole prefixes visited under proper ranked sound laid =
+      invoke_fits with_all.limits base w result currents edge stands.reach setup call
+      with_all.calls stands.own next name actuals 0 (line_of w at) start whole prefixes
+      (Invoke name actuals) visited under AsStatement tt proper ranked sound laid
+  form_fits base setup call with_all answers w result currents edge stands next at (Block body)
+      start whole prefixes visited under proper ranked sound laid =
+      all_fit base setup call with_all answers w result currents edge stands next body
+      (λ part in_it. Holds start (place_at w result currents edge) whole prefixes (Block body) part
+      visited under in_it) sound laid
+  form_fits base setup call with_all answers w result currents edge stands next at
+      (If arms otherwise) start whole prefixes visited under proper ranked sound laid =
+      let context : Lowering = record { place = w; call = call } in
+      let form : Form = If arms otherwise in
+      let held : (part : Stmt) → Contains (arms_parts arms ++ else_parts otherwise) part →
+          IsVisited setup (place_at w result currents edge) part =
+          λ part in_it. Holds start (place_at w result currents edge) whole prefixes form part
+          visited under in_it in
+      choose_fits with_all.limits base w result currents edge stands.reach
+      (is_shattered (reach_of w) form) form (shattered w (line_of w at) next form)
+      (lowered_arms context next at arms otherwise
+      (λ after. lowered_otherwise context after otherwise)) next proper ranked
+      (λ has point of laid'. shattered_fits with_all.limits base w result currents edge
+      stands.reach (line_of w at) next form has point of laid')
+      (λ tests ranks laid'. arms_fit base setup call with_all answers w result currents edge stands
+      next at arms otherwise (λ after. lowered_otherwise context after otherwise)
+      (λ part in_it. held part
+      (contains_left (arms_parts arms) (else_parts otherwise) part in_it)) tests ranks sound.0
+      (λ after laid''. otherwise_fits base setup call with_all answers w result currents edge stands
+      after otherwise (λ part in_it. held part
+      (contains_right (arms_parts arms) (else_parts otherwise) part in_it)) sound.1 laid'')
+      laid') laid
+  form_fits base setup call with_all answers w result currents edge stands next at
+      (While test body) start whole prefixes visited under proper ranked sound laid =
+      let context : Lowering = record { place = w; call = call } in
+      let form : Form = While test body in
+      choose_fits with_all.limits base w result currents edge stands.reach
+      (is_shattered (reach_of w) form) form (shattered w (line_of w at) next form)
+      (while_code next (test_of w next test at) (λ after. lowered_all context after body)) next
+      proper ranked
+      (λ has point of laid'. shattered_fits with_all.limits base w result currents edge
+      stands.reach (line_of w at) next form has point of laid')
+      (λ tests ranks laid'. while_fits base next (test_of w next test at)
+      (λ after. lowered_all context after body)
+      (tested_fits with_all.limits base w result currents edge stands.reach next test at tests ranks
+      sound.0)
+      (λ after. all_fit base setup call with_all answers w result currents edge stands after body
+      (λ part in_it. Holds start (place_at w result currents edge) whole prefixes form part visited
+      under in_it) sound.1) laid') laid
+  form_fits base setup call with_all answers w result currents edge stands next at
+      (Repeat body until test) start whole prefixes visited under proper ranked sound laid =
+      let context : Lowering = record { place = w; call = call } in
+      let form : Form = Repeat body until test in
+      choose_fits with_all.limits base w result currents edge stands.reach
+      (is_shattered (reach_of w) form) form (shattered w (line_of w at) next form)
+      (repeat_code next (lowered_all context next body) (λ after. test_of w after test until)) next
+      proper ranked
+      (λ has point of laid'. shattered_fits with_all.limits base w result currents edge
+      stands.reach (line_of w at) next form has point of laid')
+      (λ tests ranks laid'. repeat_fits base next (lowered_all context next body)
+      (λ after. test_of w after test until)
+      (all_fit base setup call with_all answers w result currents edge stands next body
+      (λ part in_it. Holds start (place_at w result currents edge) whole prefixes form part visited
+      under in_it) sound.1)
+      (λ after. tested_fits with_all.limits base w result currents edge stands.reach after test
+      until tests ranks sound.0) laid') laid
+  form_fits base setup call with_all answers w result currents edge stands next at
+      (For head body) start whole prefixes visited under proper ranked sound laid =
+      for_fits with_all.limits base w result currents edge stands.reach (line_of w at) next head
+      (λ after. lowered_all (record { place = w; call = call }) after body) proper ranked sound.0
+      (λ after. all_fit base setup call with_all answers w result currents edge stands after body
+      (λ part in_it. Holds start (place_at w result currents edge) whole prefixes (For head body)
+      part visited under in_it) sound.1) laid
+  form_fits base setup call with_all answers w result currents edge stands next at
+      (Border kind names) start whole prefixes visited under proper ranked sound laid =
+      borders_fit with_all.limits base w result currents edge stands.reach kind w.edge (line_of w at)
+      next names stands.edges ranked laid
+  form_fits base setup call with_all answers w result currents edge stands next at
+      (Write ends items) start whole prefixes visited under proper ranked sound laid =
+      write_fits with_all.limits base w result currents edge stands.reach (line_of w at) next ends
+      items proper ranked sound laid
+  form_fits base setup call with_all answers w result currents edge stands next at
+      (Return value) start whole prefixes visited under proper ranked sound laid =
+      scalar_fits with_all.limits base w result currents edge stands.reach (line_of w at) next
+      (placed_in w (Result None) value) (Some w.result) proper.0
+      ((proper.1, ranked, sound.1), tt) (stands.answer sound.0) laid
+
+  arms_fit : (base : Tables) (setup : Setup) (call : Calling → Next → Lowered) →
+      Lowers base setup call → (answers : Bool) (w : Where) (result : ℕ) (currents : Currents)
+      (edge : Option Edge) → IsStanding base setup answers w currents → (next : Next) (at : ℕ)
+      (arms : Arms) (otherwise : Otherwise) (last : Next → Lowered) →
+      ((part : Stmt) → Contains (arms_parts arms) part →
+      IsVisited setup (place_at w result currents edge) part) →
+      AreProperTests (place_at w result currents edge) arms →
+      AreRankedTests (place_at w result currents edge) arms → AreSoundArms w.scope answers arms →
+      ((after : Next) → IsLaidOut base after (last after) → FitsLowered base (last after)) →
+      IsLaidOut base next
+      (lowered_arms (record { place = w; call = call }) next at arms otherwise last) →
+      FitsLowered base
+      (lowered_arms (record { place = w; call = call }) next at arms otherwise last)
+  arms_fit base setup call with_all answers w result currents edge stands next at NoArm otherwise
+      last visited tests ranks sound lasts laid = lasts next laid
+  arms_fit base setup call with_all answers w result currents edge stands next at
+      (ThenArm (Tested own test body) rest) otherwise last visited tests ranks sound lasts laid =
+      arm_fits base setup call with_all answers w result currents edge stands next at own test body
+      (ends_arms rest otherwise)
+      (λ after. lowered_arms (record { place = w; call = call }) after (arms_at rest) rest otherwise
+      last)
+      (tested_fits with_all.limits base w result currents edge stands.reach next test at tests.0
+      ranks.0 sound.0.0)
+      (λ after. all_fit base setup call with_all answers w result currents edge stands after body
+      (λ part in_it. visited part
+      (contains_left (list_of body) (arms_parts rest) part in_it)) sound.0.1)
+      (λ after. arms_fit base setup call with_all answers w result currents edge stands after
+      (arms_at rest) rest otherwise last
+      (λ part in_it. visited part
+      (contains_right (list_of body) (arms_parts rest) part in_it)) tests.1 ranks.1 sound.1 lasts)
+      laid
+
+  otherwise_fits : (base : Tables) (setup : Setup) (call : Calling → Next → Lowered) →
+      Lowers base setup call → (answers : Bool) (w : Where) (result : ℕ) (currents : Currents)
+      (edge : Option Edge) → IsStanding base setup answers w currents → (next : Next)
+      (otherwise : Otherwise) →
+      ((part : Stmt) → Contains (else_parts otherwise) part →
+      IsVisited setup (place_at w result currents edge) part) →
+      IsSoundElse w.scope answers otherwise →
+      IsLaidOut base next (lowered_otherwise (record { place = w; call = call }) next otherwise) →
+      FitsLowered base (lowered_otherwise (record { place = w; call = call }) next otherwise)
+  otherwise_fits base setup call with_all answers w result currents edge stands next NoElse visited
+      sound laid = rows_alone_fit base [] tt
+  otherwise_fits base setup call with_all answers w result currents edge stands next (Else body)
+      visited sound laid =
+      all_fit base setup call with_all answers w result currents edge stands next body visited sound
+      laid
