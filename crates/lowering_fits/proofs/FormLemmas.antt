@@ -31,6 +31,7 @@ use Rattle.lowering_fits.specs.Inline.{FitsScalar, FitRows, FitsPiece}
 use Rattle.lowering_fits.specs.Slates.{FitsTree}
 use Rattle.lowering_fits.specs.Reach.{place_at, HasFlatRemaps, HaveFlatRemaps, IsReach}
 use Rattle.lowering_fits.specs.Lowerings.{IsLaidOut, FitsLowered, FitsEdge, IsSoundStmt, AreSoundStmts, IsSoundForm, AreSoundArms, IsSoundArm, IsSoundElse}
+use Rattle.lowering_fits.specs.Standing.{HasAnswer, calling_of, IsCalled, CallsFit, IsStanding}
 use Rattle.lowering_fits.proofs.TreeLemmas.{scalar_tree, IsBelow, below_at}
 use Rattle.lowering_fits.proofs.SlateLemmas.{set_fits}
 use Rattle.lowering_fits.proofs.BracketLemmas.{LimitsAreTold}
@@ -39,53 +40,6 @@ use Rattle.lowering_fits.proofs.StatementLemmas.{test_fits, scalar_fits, to_fits
 use Rattle.lowering_fits.proofs.MemberLemmas.{shattered_fits}
 use Rattle.lowering_fits.proofs.WriteLemmas.{write_fits, borders_fit}
 use Rattle.lowering_fits.proofs.PrefixLemmas.{IsBehind, under_fits}
-
--- ---- calls
-
--- where an answer is taken, there is a scalar for it
-abbrev pub HasAnswer : Tables → ℕ → Form → Type 0
-HasAnswer tables target (Assign name op value) = target < tables.scalars
-HasAnswer tables target form = Unit {0}
-
--- what is called from a place
-abbrev pub calling_of : Where → Name → Exprs → ℕ → ℕ → ℕ → Calling
-calling_of w name actuals scalar target line = record {
-  name = name.text;
-  actuals = given_to w scalar (formals_in (kind_of w.scope name)) actuals;
-  currents = w.currents;
-  result = target;
-  numbers = w.numbers;
-  line = line;
-}
-
--- A call from a visited statement.
-pub record IsCalled (tables : Tables) (setup : Setup) (w : Where) (name : Name) (actuals : Exprs)
-    (scalar target : ℕ) : Type 0 where
-  pub result : ℕ
-  pub currents : Currents
-  pub edge : Option Edge
-  pub start : Place
-  pub at : ℕ
-  pub prefixes : List Prefix
-  pub form : Form
-  pub visited : IsVisited setup start (Prefixed at prefixes form)
-  pub under : IsUnder prefixes start (place_at w result currents edge)
-  pub is : IsCall form name actuals
-  pub reach : IsReach tables w currents
-  pub own : w.setup ≡ setup
-  pub proper : IsProperCall (place_at w result currents edge) name actuals
-  pub ranked : IsRankedCall (place_at w result currents edge) name actuals
-  pub answer : HasAnswer tables target form
-  pub values : scalar + length (value_exprs w (formals_in (kind_of w.scope name)) actuals)
-      ≤ tables.scalars
-
--- what is called so fits
-abbrev pub CallsFit : Tables → Setup → (Calling → Next → Lowered) → Type 0
-CallsFit tables setup call =
-    (w : Where) (name : Name) (actuals : Exprs) (scalar target line : ℕ) (next : Next) →
-    IsCalled tables setup w name actuals scalar target →
-    IsLaidOut tables next (call (calling_of w name actuals scalar target line) next) →
-    FitsLowered tables (call (calling_of w name actuals scalar target line) next)
 
 -- ---- lists
 
@@ -215,15 +169,6 @@ lefts_count base [] (first ∷ rest) fits = absurd fits
 lefts_count base (one ∷ placed) [] fits = absurd fits
 lefts_count base (one ∷ placed) (first ∷ rest) fits =
     ap suc (lefts_count base placed rest fits.1)
-
--- ---- a place where a statement is lowered
-
-pub record IsStanding (tables : Tables) (setup : Setup) (answers : Bool) (w : Where)
-    (currents : Currents) : Type 0 where
-  pub reach : IsReach tables w currents
-  pub edges : FitsEdge tables w currents w.edge
-  pub own : w.setup ≡ setup
-  pub answer : answers ≡ true → w.result < tables.scalars
 
 -- each visited statement is proper, and its ranks agree
 abbrev pub AreRight : Setup → Type 0

@@ -1,3 +1,13 @@
 pub mod TableLemmas
 pub mod PieceLemmas
 pub mod TreeLemmas
+pub mod VectorLemmas
+pub mod SlateLemmas
+pub mod BracketLemmas
+pub mod SettleLemmas
+pub mod PhaseLemmas
+pub mod StatementLemmas
+pub mod MemberLemmas
+pub mod WriteLemmas
+pub mod PrefixLemmas
+pub mod FormLemmas

@@ -2,3 +2,4 @@ pub mod Inline
 pub mod Slates
 pub mod Reach
 pub mod Lowerings
+pub mod Standing

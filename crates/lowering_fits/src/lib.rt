@@ -1,2 +1,10 @@
-//! That the tables of a lowered program fit.
+//! That the tables of a lowered program fit: the laws of its rows, its expressions and its
+//! statements.
+//!
+//! The functions here do nothing: each has a law of the definitions as its contract, and a call
+//! brings the law into a proof.
 #![tactic(auto)]
+
+mod laws;
+
+pub use laws::{operators_fit, rows_that_fit_make_flat_programs, statements_fit};

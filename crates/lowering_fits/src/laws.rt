@@ -1,0 +1,75 @@
+//! The laws of tables that lowered code comes to.
+ghost use Rattle.std.specs.Prelude.{◌≡◌, All, Bool, List, Option, ℕ};
+ghost use Rattle.zpl_tree.specs.Grammar.{IsProgram};
+ghost use Rattle.zpl_tree.specs.Syntax.{Program, Stmt};
+ghost use Rattle.zpl_names.specs.Accepted.{IsFaultless};
+ghost use Rattle.zpl_binding.specs.Settings.{Setting};
+ghost use Rattle.zpl_meaning.specs.Context.{Currents, Edge};
+ghost use Rattle.zpl_meaning.specs.Visited.{first_setup, IsVisited};
+ghost use Rattle.node_form.specs.Fits.{FitsArray, IsRank};
+ghost use Rattle.node_form.specs.Grid.{IsGrid};
+ghost use Rattle.node_form.specs.declared.tables.Tables.{Tables as Code};
+ghost use Rattle.flat_form.specs.Flat.{IsFlat};
+ghost use Rattle.flat_form.specs.Row.{Row, with_rows};
+ghost use Rattle.zpl_lowering.specs.Hoist.{Free, hoisted};
+ghost use Rattle.zpl_lowering.specs.Lowered.{Lowered};
+ghost use Rattle.zpl_lowering.specs.Slate.{Slate};
+ghost use Rattle.zpl_lowering.specs.Statement.{Calling, lowered};
+ghost use Rattle.zpl_lowering.specs.Tables.{empty_tables, tables_of};
+ghost use Rattle.zpl_lowering.specs.Where.{Next, Numbers, Where};
+ghost use Rattle.lowering_fits.specs.Inline.{FitRows, FitsPiece, IsGround};
+ghost use Rattle.lowering_fits.specs.Lowerings.{FitsLowered, IsLaidOut, IsSoundStmt};
+ghost use Rattle.lowering_fits.specs.Reach.{place_at};
+ghost use Rattle.lowering_fits.specs.Slates.{FitNumbers, FitsHoist, FitsSlate, FitsTree, IsPlaced};
+ghost use Rattle.lowering_fits.specs.Standing.{CallsFit, IsStanding};
+ghost use Rattle.std.specs.Prelude.{length};
+
+use meaning_ranks::ranks_agree;
+use zpl_meaning::no_stand_in_is_met;
+use zpl_region::tests_tell_the_facts;
+
+/// Rows that fit, laid out in tables that have only scalars, slots and arrays, make the tables of a
+/// flat program, where slots and arrays fit; and so does code whose rows and tests fit: each jump
+/// in it has a goal in the code.
+pub fn rows_that_fit_make_flat_programs()
+    ensures rows { (tables : Code) (rows : List Row) → IsGround tables → IsGrid tables.grid →
+        All IsRank tables.slots → All FitsArray tables.arrays →
+        FitRows tables (length rows) rows → IsFlat (with_rows tables rows) }
+    ensures code { (grid : List ℕ) (lowered : Lowered) → IsGrid grid →
+        All IsRank lowered.slots → All FitsArray (empty_tables grid lowered).arrays →
+        FitsPiece (empty_tables grid lowered) lowered.code → IsFlat (tables_of grid lowered) }
+{}
+
+/// Where an expression with slots fits, the rows of its operators fit, and what is left of it is an
+/// expression of its rank.
+pub fn operators_fit()
+    ensures rows { (tables : Code) (numbers : Numbers) (line : ℕ) (free : Free) (rank : ℕ)
+        (one : Slate) → FitNumbers tables numbers → FitsSlate tables numbers rank one →
+        IsPlaced tables free (hoisted numbers line free one).scalars
+        (hoisted numbers line free one).temps → FitsHoist tables (hoisted numbers line free one) }
+    ensures left { (tables : Code) (numbers : Numbers) (line : ℕ) (free : Free) (rank : ℕ)
+        (one : Slate) → FitNumbers tables numbers → FitsSlate tables numbers rank one →
+        IsPlaced tables free (hoisted numbers line free one).scalars
+        (hoisted numbers line free one).temps →
+        FitsTree tables rank (hoisted numbers line free one).left }
+{}
+
+/// In a program of the grammar without faults the code of each statement that a run visits fits,
+/// where what is in reach of it does, where what it calls does, and where what the code has of its
+/// own is laid out in the tables.
+pub fn statements_fit()
+    ensures { (program : Program) (settings : List Setting) → IsProgram program →
+        IsFaultless program → (tables : Code) (call : Calling → Next → Lowered) →
+        CallsFit tables (first_setup program settings) call →
+        (answers : Bool) (w : Where) (result : ℕ) (currents : Currents) (edge : Option Edge) →
+        IsStanding tables (first_setup program settings) answers w currents →
+        (next : Next) (stmt : Stmt) →
+        IsVisited (first_setup program settings) (place_at w result currents edge) stmt →
+        IsSoundStmt w.scope answers stmt →
+        IsLaidOut tables next (lowered (record { place = w; call = call }) next stmt) →
+        FitsLowered tables (lowered (record { place = w; call = call }) next stmt) }
+{
+    ranks_agree();
+    no_stand_in_is_met();
+    tests_tell_the_facts();
+}
