@@ -11,3 +11,4 @@ pub mod MemberLemmas
 pub mod WriteLemmas
 pub mod PrefixLemmas
 pub mod FormLemmas
+pub mod SoundLemmas

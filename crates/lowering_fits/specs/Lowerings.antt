@@ -1,6 +1,6 @@
 -- When the code of statements fits, and what it has of its own is laid out in the tables.
-use Rattle.std.specs.Prelude.{◌≡◌, ℕ, ◌+◌, ◌≤◌, Bool, true, List, [], ◌∷◌, Option, Some, None}
-use Rattle.zpl_tree.specs.Syntax.{Item, Str, Value, Stmt, Prefixed, Stmts, NoStmt, ThenStmt, Form, Assign, Invoke, Block, If, While, Repeat, For, Border, Write, Return, Arm, Tested, Arms, NoArm, ThenArm, Otherwise, NoElse, Else}
+use Rattle.std.specs.Prelude.{◌≡◌, ℕ, ◌+◌, ◌≤◌, Bool, true, false, List, [], ◌∷◌, Option, Some, None}
+use Rattle.zpl_tree.specs.Syntax.{Base, Item, Str, Value, Stmt, Prefixed, Stmts, NoStmt, ThenStmt, Form, Assign, Invoke, Block, If, While, Repeat, For, Border, Write, Return, Arm, Tested, Arms, NoArm, ThenArm, Otherwise, NoElse, Else}
 use Rattle.zpl_names.specs.Scope.{Scope}
 use Rattle.zpl_meaning.specs.Context.{Currents}
 use Rattle.zpl_meaning.specs.Proper.{HasCurrent}
@@ -92,3 +92,8 @@ abbrev mutual
   pub IsSoundElse : Scope → Bool → Otherwise → Type 0
   IsSoundElse scope answers NoElse = Unit {0}
   IsSoundElse scope answers (Else body) = AreSoundStmts scope answers body
+
+-- whether a procedure answers
+abbrev pub answering : Option Base → Bool
+answering None = false
+answering (Some base) = true

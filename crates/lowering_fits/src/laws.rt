@@ -1,8 +1,11 @@
 //! The laws of tables that lowered code comes to.
-ghost use Rattle.std.specs.Prelude.{◌≡◌, All, Bool, List, Option, ℕ};
-ghost use Rattle.zpl_tree.specs.Grammar.{IsProgram};
+ghost use Rattle.std.specs.Prelude.{◌≡◌, All, Bool, List, Option, length, ℕ};
+ghost use Rattle.zpl_tree.specs.Grammar.{IsBody, IsProgram};
 ghost use Rattle.zpl_tree.specs.Syntax.{Program, Stmt};
 ghost use Rattle.zpl_names.specs.Accepted.{IsFaultless};
+ghost use Rattle.zpl_names.specs.Declared.{Routine, routine_named, scope_of};
+ghost use Rattle.zpl_names.specs.Reached.{IsReached};
+ghost use Rattle.zpl_names.specs.Shapes.{Shapes};
 ghost use Rattle.zpl_binding.specs.Settings.{Setting};
 ghost use Rattle.zpl_meaning.specs.Context.{Currents, Edge};
 ghost use Rattle.zpl_meaning.specs.Visited.{first_setup, IsVisited};
@@ -18,14 +21,14 @@ ghost use Rattle.zpl_lowering.specs.Statement.{Calling, lowered};
 ghost use Rattle.zpl_lowering.specs.Tables.{empty_tables, tables_of};
 ghost use Rattle.zpl_lowering.specs.Where.{Next, Numbers, Where};
 ghost use Rattle.lowering_fits.specs.Inline.{FitRows, FitsPiece, IsGround};
-ghost use Rattle.lowering_fits.specs.Lowerings.{FitsLowered, IsLaidOut, IsSoundStmt};
+ghost use Rattle.lowering_fits.specs.Lowerings.{FitsLowered, IsLaidOut, IsSoundStmt, answering};
 ghost use Rattle.lowering_fits.specs.Reach.{place_at};
 ghost use Rattle.lowering_fits.specs.Slates.{FitNumbers, FitsHoist, FitsSlate, FitsTree, IsPlaced};
 ghost use Rattle.lowering_fits.specs.Standing.{CallsFit, IsStanding};
-ghost use Rattle.std.specs.Prelude.{length};
 
 use meaning_ranks::ranks_agree;
 use zpl_meaning::no_stand_in_is_met;
+use zpl_names::faultless_programs_have_faultless_sites;
 use zpl_region::tests_tell_the_facts;
 
 /// Rows that fit, laid out in tables that have only scalars, slots and arrays, make the tables of a
@@ -53,6 +56,18 @@ pub fn operators_fit()
         (hoisted numbers line free one).temps →
         FitsTree tables rank (hoisted numbers line free one).left }
 {}
+
+/// The body of a procedure that a program without faults reaches is sound: no array that is read at
+/// computed tuples has a flood dimension, and a `return` stands only where there is an answer.
+pub fn bodies_are_sound()
+    ensures { (program : Program) → IsFaultless program → (text : List ℕ) (shapes : Shapes)
+        (routine : Routine) → IsReached program text shapes →
+        routine_named program text ≡ Some routine → IsBody routine.procedure.body →
+        IsSoundStmt (scope_of program routine) (answering routine.procedure.result)
+        routine.procedure.body }
+{
+    faultless_programs_have_faultless_sites();
+}
 
 /// In a program of the grammar without faults the code of each statement that a run visits fits,
 /// where what is in reach of it does, where what it calls does, and where what the code has of its

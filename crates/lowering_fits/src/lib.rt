@@ -7,4 +7,6 @@
 
 mod laws;
 
-pub use laws::{operators_fit, rows_that_fit_make_flat_programs, statements_fit};
+pub use laws::{
+    bodies_are_sound, operators_fit, rows_that_fit_make_flat_programs, statements_fit,
+};
