@@ -356,7 +356,7 @@ LimitsAreTold =
     (region : Region) → All HasStep region.dims →
     IsTrue (is_within_limit region) ↔ IsWithinLimit region
 
-abbrev HoldsFixed : ℕ → Outcome Region → Type 0
+abbrev pub HoldsFixed : ℕ → Outcome Region → Type 0
 HoldsFixed rank (Gives region) = IsBox rank region × IsTrue (is_within_limit region)
 HoldsFixed rank (Fails fault) = Unit {0}
 
@@ -398,7 +398,7 @@ strided_box : (rank : ℕ) (d : List ℤ) (region : Region) → IsBox rank regio
 strided_box rank d region is =
     box_kept rank region dim_strided d is (formed-kept.strides d region (is.steps, is.padded))
 
-limited_box : (rank : ℕ) (region : Region) → IsBox rank region → HoldsFixed rank (limited region)
+pub limited_box : (rank : ℕ) (region : Region) → IsBox rank region → HoldsFixed rank (limited region)
 limited_box rank region is = by (is_within_limit region) (λ yes. yes)
   where
     by : (b : Bool) → (IsTrue b → IsTrue (is_within_limit region)) →
@@ -415,7 +415,7 @@ form_box rank form (Fails fault) (Gives region) keeps is = tt
 form_box rank form (Gives d) (Gives region) keeps is =
     limited_box rank (form d region) (keeps d region is.0)
 
-behind_box : (rank : ℕ) (known : Known) (post : Posts) (region : Outcome Region) →
+pub behind_box : (rank : ℕ) (known : Known) (post : Posts) (region : Outcome Region) →
     HoldsFixed rank region → HoldsFixed rank (behind known region post)
 behind_box rank known NoPost region is = is
 behind_box rank known (ThenPost true dir rest) region is =
@@ -427,7 +427,7 @@ behind_box rank known (ThenPost false dir rest) region is =
     (formed_by moved (dir_of known.values known.directions dir) region)
     (form_box rank moved (dir_of known.values known.directions dir) region (moved_box rank) is)
 
-before_box : (rank : ℕ) (known : Known) (pre : List Pre) (region : Outcome Region) →
+pub before_box : (rank : ℕ) (known : Known) (pre : List Pre) (region : Outcome Region) →
     HoldsFixed rank region → HoldsFixed rank (before known pre region)
 before_box rank known [] region is = is
 before_box rank known (pre ∷ rest) region is =

@@ -12,3 +12,5 @@ pub mod WriteLemmas
 pub mod PrefixLemmas
 pub mod FormLemmas
 pub mod SoundLemmas
+pub mod KnownLemmas
+pub mod RegionLemmas
