@@ -177,7 +177,7 @@ rank_counted n rank e = by (nat_le n 3) e
     by true e = cc
     by false e = let no : ⊥ = cc in absurd no
 
-vector_out : (values : List (Computed ℤ)) (parts : Exprs) →
+pub vector_out : (values : List (Computed ℤ)) (parts : Exprs) →
     IsOut (at_most_three (exprs_count parts)) (vector_of values parts)
 vector_out values parts =
     ranked (at_most_three (exprs_count parts)) refl

@@ -14,3 +14,5 @@ pub mod FormLemmas
 pub mod SoundLemmas
 pub mod KnownLemmas
 pub mod RegionLemmas
+pub mod ScopeLemmas
+pub mod DeclaredLemmas

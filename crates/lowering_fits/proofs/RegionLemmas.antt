@@ -28,6 +28,7 @@ use Rattle.node_form.specs.Fits.{HasSlot}
 use Rattle.zpl_lowering.specs.Bracket.{region_slot}
 use Rattle.lowering_fits.specs.Slates.{SlotsAt}
 use Rattle.lowering_fits.specs.Reach.{IsBox, IsGivenBox}
+use Rattle.lowering_fits.specs.Lowerings.{region_rank}
 use Rattle.lowering_fits.proofs.BracketLemmas.{HoldsFixed, behind_box, before_box, limited_box, over_box}
 use Rattle.lowering_fits.proofs.KnownLemmas.{AreAligned, push_both, push_one, push_names, nothing_aligned}
 
@@ -214,9 +215,6 @@ given_box rank all text are region is same =
 
 -- ---- slots of declared regions
 
-abbrev pub region_rank : Computed Region → ℕ
-region_rank one = (value_or no_region one.outcome).rank
-
 slot_found : (base : Tables) (n : ℕ) (all : List (Computed Region)) (text : List ℕ)
     (one : Computed Region) → SlotsAt base n (map region_rank all) →
     find (λ one. bytes_eq one.name text) all ≡ Some one →
@@ -279,3 +277,110 @@ has_slot base known name one at found =
     let zero_more : 0 + m ≡ m = omega arith in
     subst (λ k. HasSlot base (region_rank one) k) (zero_more ∙ sym (slot_at known name there.0))
     there.1
+
+-- ---- entries of regions
+
+abbrev pub IsEntered : Kind → Option (Computed Region) → Type 0
+IsEntered (kind.Region shape) None = ⊥
+IsEntered (kind.Region shape) (Some found) = Unit {0}
+IsEntered (kind.Config base) found = Unit {0}
+IsEntered (kind.Constant base) found = Unit {0}
+IsEntered (kind.Direction rank) found = Unit {0}
+IsEntered (kind.Scalar base) found = Unit {0}
+IsEntered (kind.Array base shape) found = Unit {0}
+IsEntered (kind.Procedure signature) found = Unit {0}
+
+pub entered_stays : (one : Kind) (found more : Option (Computed Region)) → IsEntered one found →
+    IsEntered one (option_or found more)
+entered_stays (kind.Region shape) None more is = absurd is
+entered_stays (kind.Region shape) (Some found) more is = tt
+entered_stays (kind.Config base) found more is = tt
+entered_stays (kind.Constant base) found more is = tt
+entered_stays (kind.Direction rank) found more is = tt
+entered_stays (kind.Scalar base) found more is = tt
+entered_stays (kind.Array base shape) found more is = tt
+entered_stays (kind.Procedure signature) found more is = tt
+
+abbrev pub Entered : List Entry → List (Computed Region) → Type 0
+Entered xs all = AreAligned IsEntered entered_stays xs all
+
+variable_unentered : (scope : Scope) (shape : Bracket) (base : Base) →
+    IsEntered (variable_kind scope shape base) None
+variable_unentered scope NoBracket base = tt
+variable_unentered scope (Bracketed inner) base = tt
+
+values_entered : (of_base : Base → Kind) → ((base : Base) → IsEntered (of_base base) None) →
+    (adds : Known → Define → Known) →
+    ((known : Known) (define : Define) → (adds known define).regions ≡ known.regions) →
+    (defines : List Define) (xs : List Entry) (known : Known) → Entered xs known.regions →
+    Entered (with_each (with_define of_base) xs defines) (with_all adds known defines).regions
+values_entered of_base none adds keeps [] xs known are = are
+values_entered of_base none adds keeps (define ∷ defines) xs known are =
+    values_entered of_base none adds keeps defines (with_define of_base xs define)
+    (adds known define)
+    (subst (Entered (with_define of_base xs define)) (sym (keeps known define))
+    (push_one IsEntered entered_stays xs known.regions define.name (of_base define.base)
+    (none define.base) are))
+
+regions_entered : (regions : List RegionDef) (xs : List Entry) (known : Known) →
+    Entered xs known.regions →
+    Entered (with_each with_region xs regions) (with_all known_region known regions).regions
+regions_entered [] xs known are = are
+regions_entered (region ∷ regions) xs known are =
+    regions_entered regions (with_region xs region) (known_region known region)
+    (push_both IsEntered entered_stays xs known.regions region.name
+    (kind.Region (declared_shape (declaring [] xs) region.body)) (region_of known region) tt are)
+
+directions_entered : (directions : List DirDef) (xs : List Entry) (known : Known) →
+    Entered xs known.regions →
+    Entered (with_each with_direction xs directions)
+    (with_all known_direction known directions).regions
+directions_entered [] xs known are = are
+directions_entered (direction ∷ directions) xs known are =
+    directions_entered directions (with_direction xs direction) (known_direction known direction)
+    (push_one IsEntered entered_stays xs known.regions direction.name
+    (kind.Direction (at_most_three (exprs_count direction.parts))) tt are)
+
+variables_entered : (vars : List VarDef) (xs : List Entry) (all : List (Computed Region)) →
+    Entered xs all → Entered (with_each with_variables xs vars) all
+variables_entered [] xs all are = are
+variables_entered (var ∷ vars) xs all are =
+    variables_entered vars (with_variables xs var) all
+    (push_names IsEntered entered_stays xs all var.names
+    (variable_kind (declaring [] xs) var.shape var.base)
+    (variable_unentered (declaring [] xs) var.shape var.base) are)
+
+decls_entered : (settings : List Setting) (decls : List Decl) (xs : List Entry) (known : Known) →
+    Entered xs known.regions →
+    Entered (with_each with_decl xs decls) (with_all (known_decl settings) known decls).regions
+decls_entered settings [] xs known are = are
+decls_entered settings (Config defines ∷ decls) xs known are =
+    decls_entered settings decls (with_decl xs (Config defines))
+    (known_decl settings known (Config defines))
+    (values_entered kind.Config (λ base. tt) (with_config settings) (λ known define. refl) defines
+    xs known are)
+decls_entered settings (Constant defines ∷ decls) xs known are =
+    decls_entered settings decls (with_decl xs (Constant defines))
+    (known_decl settings known (Constant defines))
+    (values_entered kind.Constant (λ base. tt) with_constant (λ known define. refl) defines xs
+    known are)
+decls_entered settings (Regions regions ∷ decls) xs known are =
+    decls_entered settings decls (with_decl xs (Regions regions))
+    (known_decl settings known (Regions regions)) (regions_entered regions xs known are)
+decls_entered settings (Directions directions ∷ decls) xs known are =
+    decls_entered settings decls (with_decl xs (Directions directions))
+    (known_decl settings known (Directions directions))
+    (directions_entered directions xs known are)
+decls_entered settings (Vars vars ∷ decls) xs known are =
+    decls_entered settings decls (with_decl xs (Vars vars)) known
+    (variables_entered vars xs known.regions are)
+decls_entered settings (Defined procedure ∷ decls) xs known are =
+    decls_entered settings decls (with_decl xs (Defined procedure)) known
+    (push_one IsEntered entered_stays xs known.regions procedure.name
+    (kind.Procedure (signature_of xs procedure)) tt are)
+
+pub globals_entered : (program : Program) (settings : List Setting) →
+    Entered (globals_of program) (known_of program settings).regions
+globals_entered program settings =
+    decls_entered settings program.decls [] nothing_known
+    (nothing_aligned IsEntered entered_stays)

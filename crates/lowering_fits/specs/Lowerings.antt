@@ -1,7 +1,10 @@
 -- When the code of statements fits, and what it has of its own is laid out in the tables.
 use Rattle.std.specs.Prelude.{◌≡◌, ℕ, ◌+◌, ◌≤◌, Bool, true, false, List, [], ◌∷◌, Option, Some, None}
 use Rattle.zpl_tree.specs.Syntax.{Base, Item, Str, Value, Stmt, Prefixed, Stmts, NoStmt, ThenStmt, Form, Assign, Invoke, Block, If, While, Repeat, For, Border, Write, Return, Arm, Tested, Arms, NoArm, ThenArm, Otherwise, NoElse, Else}
+use Rattle.zpl_region.specs.declared.regions.Region.{Region}
 use Rattle.zpl_names.specs.Scope.{Scope}
+use Rattle.zpl_binding.specs.Outcome.{Computed, value_or}
+use Rattle.zpl_binding.specs.Regions.{no_region}
 use Rattle.zpl_meaning.specs.Context.{Currents}
 use Rattle.zpl_meaning.specs.Proper.{HasCurrent}
 use Rattle.zpl_meaning.specs.Statement.{step_expr}
@@ -97,3 +100,9 @@ abbrev mutual
 abbrev pub answering : Option Base → Bool
 answering None = false
 answering (Some base) = true
+
+-- ---- declared regions
+
+-- the rank of a declared region
+abbrev pub region_rank : Computed Region → ℕ
+region_rank one = (value_or no_region one.outcome).rank

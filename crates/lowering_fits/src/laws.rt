@@ -1,11 +1,13 @@
 //! The laws of tables that lowered code comes to.
-ghost use Rattle.std.specs.Prelude.{◌≡◌, All, Bool, List, Option, length, ℕ};
+ghost use Rattle.std.specs.Prelude.{◌≡◌, All, Bool, List, Option, length, map, ℕ};
 ghost use Rattle.zpl_tree.specs.Grammar.{IsBody, IsProgram};
 ghost use Rattle.zpl_tree.specs.Syntax.{Program, Stmt};
 ghost use Rattle.zpl_names.specs.Accepted.{IsFaultless};
 ghost use Rattle.zpl_names.specs.Declared.{Routine, routine_named, scope_of};
 ghost use Rattle.zpl_names.specs.Reached.{IsReached};
 ghost use Rattle.zpl_names.specs.Shapes.{Shapes};
+ghost use Rattle.zpl_binding.specs.Bound.{IsAcceptedWith};
+ghost use Rattle.zpl_binding.specs.Declarations.{known_of};
 ghost use Rattle.zpl_binding.specs.Settings.{Setting};
 ghost use Rattle.zpl_meaning.specs.Context.{Currents, Edge};
 ghost use Rattle.zpl_meaning.specs.Visited.{first_setup, IsVisited};
@@ -21,13 +23,14 @@ ghost use Rattle.zpl_lowering.specs.Statement.{Calling, lowered};
 ghost use Rattle.zpl_lowering.specs.Tables.{empty_tables, tables_of};
 ghost use Rattle.zpl_lowering.specs.Where.{Next, Numbers, Where};
 ghost use Rattle.lowering_fits.specs.Inline.{FitRows, FitsPiece, IsGround};
-ghost use Rattle.lowering_fits.specs.Lowerings.{FitsLowered, IsLaidOut, IsSoundStmt, answering};
-ghost use Rattle.lowering_fits.specs.Reach.{place_at};
+ghost use Rattle.lowering_fits.specs.Lowerings.{FitsLowered, IsLaidOut, IsSoundStmt, answering, region_rank};
+ghost use Rattle.lowering_fits.specs.Reach.{FitsKnown, place_at};
 ghost use Rattle.lowering_fits.specs.Slates.{FitNumbers, FitsHoist, FitsSlate, FitsTree, IsPlaced};
+ghost use Rattle.lowering_fits.specs.Slates.{SlotsAt};
 ghost use Rattle.lowering_fits.specs.Standing.{CallsFit, IsStanding};
 
 use meaning_ranks::ranks_agree;
-use zpl_meaning::no_stand_in_is_met;
+use zpl_meaning::{no_stand_in_is_met, what_is_computed_has_a_value};
 use zpl_names::faultless_programs_have_faultless_sites;
 use zpl_region::tests_tell_the_facts;
 
@@ -67,6 +70,20 @@ pub fn bodies_are_sound()
         routine.procedure.body }
 {
     faultless_programs_have_faultless_sites();
+}
+
+/// In a program of the grammar without faults, under settings that it accepts, what was computed
+/// before the run fits the names in reach of a procedure: directions have vectors of their ranks,
+/// and declared regions may stand in rows, and have slots of their ranks where these are laid out
+/// first.
+pub fn declared_names_fit()
+    ensures { (program : Program) (settings : List Setting) → IsProgram program →
+        IsFaultless program → IsAcceptedWith program settings → (tables : Code) (text : List ℕ)
+        (routine : Routine) → routine_named program text ≡ Some routine →
+        SlotsAt tables 0 (map region_rank (known_of program settings).regions) →
+        FitsKnown tables (known_of program settings) (scope_of program routine) }
+{
+    what_is_computed_has_a_value();
 }
 
 /// In a program of the grammar without faults the code of each statement that a run visits fits,

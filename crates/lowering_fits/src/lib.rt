@@ -8,5 +8,6 @@
 mod laws;
 
 pub use laws::{
-    bodies_are_sound, operators_fit, rows_that_fit_make_flat_programs, statements_fit,
+    bodies_are_sound, declared_names_fit, operators_fit, rows_that_fit_make_flat_programs,
+    statements_fit,
 };
