@@ -1,45 +1,43 @@
 -- The rows of a bracket fit, and the slot that it is in has its rank.
-use Rattle.std.proofs.Common.{◌≡◌, ℕ, zero, suc, ◌+◌, ◌-◌, ◌<◌, ◌≤◌, Bool, true, false, if◌then◌else◌, ℤ, List, [], ◌∷◌, ◌++◌, map, length, drop, take, refl, sym, ap, ◌∙◌, subst, arith, length-append, append_assoc, append-nil}
+use Rattle.std.proofs.Common.{◌≡◌, ℕ, zero, suc, ◌≤◌, Bool, true, false, if◌then◌else◌, ℤ, List, [], ◌∷◌, ◌++◌, length, take, refl, sym, ap, ◌∙◌, subst, arith, append_assoc, append-nil}
 use Rattle.std.proofs.lemmas.Int.{ints}
-use Rattle.std.specs.Prelude.{◌≤ℤ◌, pos, Option, Some, None, IsTrue, ◌↔◌, option_map, option_and_then, slice_get, All, replicate, cond}
+use Rattle.std.specs.Prelude.{◌≤ℤ◌, pos, Option, Some, None, IsTrue, ◌↔◌, option_map, option_and_then, slice_get, All, replicate}
 use Rattle.std.specs.List.{AllByRecursion}
 use Rattle.std.proofs.lemmas.List.{length-map}
 use Rattle.std.proofs.lemmas.List.Elements.{All-from_recursion}
 use Rattle.zpl_region.specs.declared.dims.Dim.{Dim}
-use Rattle.zpl_region.specs.declared.dims.Dim.TheVariants as dim
 use Rattle.zpl_region.specs.declared.regions.Region.{Region}
 use Rattle.zpl_region.specs.Dim.{HasStep, dim_outside_of, dim_inside_of, dim_moved, dim_strided}
-use Rattle.zpl_region.specs.Region.{IsPadded, IsWithinLimit, each, outside_of, inside_of, moved, strided, formed, components, padding}
+use Rattle.zpl_region.specs.Region.{IsPadded, IsWithinLimit, each, outside_of, inside_of, moved, strided, formed, components}
 use Rattle.zpl_region.specs.Tests.{is_within_limit}
 use Rattle.zpl_region.specs.Hull.{all_from}
 use Rattle.zpl_tree.specs.Syntax.{Name, Pre, NamedRegion, Ditto, Expr, Number, Truth, Coord, Named, Shifted, Around, Remap, Call, Paren, Neg, Not, Abs, Pair, Reduce, Scan, Flood, NamedDir, Inner, Rexpr, Dims, Posts, NoPost, ThenPost, DimText, Blank, Star, One, Span, DimTexts, NoDim, ThenDim}
 use Rattle.zpl_names.specs.Kinds.{Rank}
 use Rattle.zpl_names.specs.Scope.{Scope, kind_of}
-use Rattle.zpl_names.specs.Ranks.{is_index, inner_rank, region_shape, direction_rank, dir_rank, dims_count, at_most_three}
+use Rattle.zpl_names.specs.Ranks.{is_index, inner_rank, region_shape, dims_count}
 use Rattle.zpl_binding.proofs.KeptLemmas.{formed-kept}
-use Rattle.zpl_binding.specs.Outcome.{RegionLimit, Outcome, Gives, Fails, and_then, outcome_of, value_or}
+use Rattle.zpl_binding.specs.Outcome.{RegionLimit, Outcome, Gives, Fails, outcome_of, value_or}
 use Rattle.zpl_binding.specs.Regions.{Known, dims_of, region_over, limited, formed_by, behind, before, no_region, region_named}
 use Rattle.zpl_binding.specs.Vectors.{three_components, dir_of}
 use Rattle.zpl_meaning.specs.Store.{Environment, Thing, Scalar, ArrayAt, Fixed, thing_of}
 use Rattle.zpl_meaning.specs.Regions.{vector_in}
-use Rattle.zpl_meaning.specs.Context.{Currents, Edge, Place}
+use Rattle.zpl_meaning.specs.Context.{Currents, Edge}
 use Rattle.zpl_meaning.specs.Context.{no_currents}
-use Rattle.zpl_meaning.specs.Proper.{HasCurrent, IsProperName, IsProperInner, AreProperDims, IsProperDim}
+use Rattle.zpl_meaning.specs.Proper.{HasCurrent, IsProperName, IsProperInner, AreProperDims}
 use Rattle.meaning_ranks.specs.Ranked.{ArePresOf, ArePostsOf, IsInnerOf}
-use Rattle.node_form.specs.Expression as expr
-use Rattle.node_form.specs.Expression.{Expression, words_of}
+use Rattle.node_form.specs.Expression.{words_of}
 use Rattle.node_form.specs.declared.tables.Tables.{Tables}
 use Rattle.node_form.specs.declared.instructions.Instr.TheVariants as instr
 use Rattle.node_form.specs.Fits.{IsRank, IsVector, HasSlot, FitsRegion}
 use Rattle.flat_form.specs.Row as row
 use Rattle.flat_form.specs.Row.{Row, Part}
-use Rattle.zpl_lowering.specs.Where.{Numbers, Slotted, Where, flood_of, is_flood}
+use Rattle.zpl_lowering.specs.Where.{Slotted, Where, flood_of, is_flood}
 use Rattle.zpl_lowering.specs.Words.{thing_code, scalar_code}
-use Rattle.zpl_lowering.specs.Bracket.{Form, Opened, standing, filled, part_of, parts_of, dim_flood, dims_flood, three_parts, spanned, post_forms, pre_form, pre_forms, forms_of, formed as formed_rows, named_region, name_opened, computed, one_row, fixed_or, bracket, both, constant_of, constant_dim, constant_dims, within, constant_span, constant_name, constant_region, region_slot}
-use Rattle.lowering_fits.specs.Inline.{FitsScalar, FitsRow, FitRows, FitsDims, AllDims, AllStars, StarsPast}
-use Rattle.lowering_fits.specs.Slates.{SlotsAt, FitNumbers, FitsOver, FitsTree}
+use Rattle.zpl_lowering.specs.Bracket.{Form, Opened, standing, filled, parts_of, dims_flood, three_parts, spanned, post_forms, pre_form, pre_forms, forms_of, formed as formed_rows, named_region, name_opened, computed, one_row, fixed_or, bracket, both, constant_of, constant_dim, constant_dims, within, constant_span, constant_name, constant_region}
+use Rattle.lowering_fits.specs.Inline.{FitsScalar, FitRows, AllDims, AllStars, StarsPast}
+use Rattle.lowering_fits.specs.Slates.{SlotsAt, FitNumbers, FitsTree}
 use Rattle.lowering_fits.specs.Reach.{IsBox, IsGivenBox, FitsKnown, place_at}
-use Rattle.lowering_fits.proofs.TreeLemmas.{scalar_tree, variable_fits, below_at, slots_rest}
+use Rattle.lowering_fits.proofs.TreeLemmas.{scalar_tree, variable_fits, below_at}
 use Rattle.lowering_fits.proofs.SlateLemmas.{rows_both}
 
 -- ---- ranks
@@ -111,16 +109,14 @@ module _ (base : Tables) (w : Where) (numbers : FitNumbers base w.numbers) where
       (has proper.0, dims_fit currents result edge rank current rest has proper.1)
   dims_fit currents result edge rank current (ThenDim (Star at) rest) has proper =
       (tt, dims_fit currents result edge rank current rest has proper.1)
-  dims_fit currents result edge rank current (ThenDim (One index) rest) has proper =
-      (
-        (words_fit index, words_fit index),
-        dims_fit currents result edge rank current rest has proper.1,
-      )
-  dims_fit currents result edge rank current (ThenDim (Span low high) rest) has proper =
-      (
-        (words_fit low, words_fit high),
-        dims_fit currents result edge rank current rest has proper.1,
-      )
+  dims_fit currents result edge rank current (ThenDim (One index) rest) has proper = (
+    (words_fit index, words_fit index),
+    dims_fit currents result edge rank current rest has proper.1,
+  )
+  dims_fit currents result edge rank current (ThenDim (Span low high) rest) has proper = (
+    (words_fit low, words_fit high),
+    dims_fit currents result edge rank current rest has proper.1,
+  )
 
   parts_count : (slot : ℕ) (dims : DimTexts) → length (parts_of w slot dims) ≡ dims_count dims
   parts_count slot NoDim = refl
@@ -294,9 +290,9 @@ module _ (base : Tables) (w : Where) (numbers : FitNumbers base w.numbers)
   around_fits rank next line pre post opened none pres posts fits at =
       let forms : List Form = forms_of w.setup.known pre post in
       let slots : (formed_rows next line forms opened).slots ≡ replicate (length forms) rank =
-          formed_slots next line forms opened
-          ∙ (ap (λ xs. xs ++ replicate (length forms) (length opened.flood)) none
-          ∙ ap (λ n. replicate (length forms) n) fits.floods) in
+      formed_slots next line forms opened
+      ∙ (ap (λ xs. xs ++ replicate (length forms) (length opened.flood)) none
+      ∙ ap (λ n. replicate (length forms) n) fits.floods) in
       formed_fits base rank next line forms opened (all_forms rank pre post pres posts) fits
       (subst (SlotsAt base next) slots at)
 

@@ -1,10 +1,10 @@
 -- What was computed before the run fits the names in reach of each procedure.
-use Rattle.std.proofs.Common.{◌≡◌, ℕ, List, [], map, length, refl, sym, ap, ◌∙◌, subst}
+use Rattle.std.proofs.Common.{◌≡◌, ℕ, List, [], map, length, sym, ◌∙◌, subst}
 use Rattle.std.specs.Prelude.{option_map, Option, Some, None}
 use Rattle.std.specs.List.{AllByRecursion}
 use Rattle.std.specs.Str.{bytes_eq}
 use Rattle.zpl_region.specs.declared.regions.Region.{Region}
-use Rattle.zpl_tree.specs.Syntax.{Name, Program}
+use Rattle.zpl_tree.specs.Syntax.{Program}
 use Rattle.zpl_tree.specs.Grammar.{IsDecl}
 use Rattle.zpl_names.specs.Kinds as kind
 use Rattle.zpl_names.specs.Kinds.{Kind, Shape}
@@ -54,7 +54,7 @@ pub declared_fit : (program : Program) (settings : List Setting) →
     FitsKnown tables (known_of program settings) (scope_of program routine)
 declared_fit program settings grammar clean given tables text routine named slots =
     let among = find_among (λ routine. bytes_eq routine.procedure.name.text text)
-        (routines_of program) routine named in
+    (routines_of program) routine named in
     let sound : IsSound routine = routine_sound program.decls [] routine tt grammar among in
     known_fits tables program settings routine
     (λ name. own_kind (kind_in routine.own name)

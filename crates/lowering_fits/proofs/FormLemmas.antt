@@ -1,37 +1,35 @@
 -- The code of all statements fits, where what they call does.
-use Rattle.std.proofs.Common.{◌≡◌, ℕ, zero, suc, ◌+◌, ◌<◌, ◌≤◌, Bool, true, false, ℤ, List, [], ◌∷◌, ◌++◌, length, refl, sym, ap, ◌∙◌, subst, arith, length-append}
-use Rattle.std.specs.Prelude.{pos, Option, Some, None, slice_get, slice_index_or, Contains}
+use Rattle.std.proofs.Common.{◌≡◌, ℕ, zero, suc, ◌+◌, ◌<◌, Bool, true, false, List, [], ◌∷◌, ◌++◌, length, refl, sym, ap, ◌∙◌, subst, arith}
+use Rattle.std.specs.Prelude.{Option, Some, None, slice_get, Contains}
 use Rattle.std.specs.Option.{IsSomeAnd}
 use Rattle.zpl_nums.specs.declared.operators.Op.{Op}
-use Rattle.zpl_tree.specs.Syntax.{Name, Expr, Number, Truth, Coord, Named, Shifted, Around, Remap, Call, Paren, Neg, Not, Abs, Pair, Reduce, Scan, Flood, Exprs, NoExpr, ThenExpr, Prefix, ForHead, Stmt, Prefixed, Stmts, NoStmt, ThenStmt, Form, Assign, Invoke, Block, If, While, Repeat, For, Border, Write, Return, Arm, Tested, Arms, NoArm, ThenArm, Otherwise, NoElse, Else}
-use Rattle.zpl_names.specs.Kinds.{Rank, Formal, ScalarFormal, ArrayFormal, Procedure}
-use Rattle.zpl_names.specs.Scope.{Scope, kind_of}
-use Rattle.zpl_names.specs.Sites.{Role, Limit, Result, Test, Actual, Assigned, is_shattered, tests_rank}
-use Rattle.zpl_meaning.specs.Store.{Thing, Scalar, ArrayAt, Fixed, Environment, thing_of}
+use Rattle.zpl_tree.specs.Syntax.{Name, Expr, Number, Truth, Coord, Named, Shifted, Around, Remap, Call, Paren, Neg, Not, Abs, Pair, Reduce, Scan, Flood, Exprs, NoExpr, ThenExpr, Prefix, ForHead, Stmt, Prefixed, Stmts, NoStmt, ThenStmt, Form, Assign, Invoke, Block, If, While, Repeat, For, Border, Write, Return, Tested, Arms, NoArm, ThenArm, Otherwise, NoElse, Else}
+use Rattle.zpl_names.specs.Kinds.{Formal, ScalarFormal, ArrayFormal}
+use Rattle.zpl_names.specs.Scope.{kind_of}
+use Rattle.zpl_names.specs.Sites.{Result, Test, Assigned, is_shattered, tests_rank}
+use Rattle.zpl_meaning.specs.Store.{Thing, Scalar, ArrayAt, Fixed, thing_of}
 use Rattle.zpl_meaning.specs.Context.{Currents, Edge, Setup, Place}
 use Rattle.zpl_meaning.specs.Points.{assigned_expr}
 use Rattle.zpl_meaning.specs.Calls.{formals_in}
 use Rattle.zpl_meaning.specs.Statement.{arms_at, step_expr}
-use Rattle.zpl_meaning.specs.Proper.{HasCurrent, IsProperScalar, IsVariable, IsTarget, IsPlainAssign, IsProperCall, AreProperActuals, IsPointForm, AreProperTests, HasProperTests, IsProperTested, IsProperStmt, IsProperForm}
-use Rattle.zpl_meaning.specs.Visited.{IsUnder, list_of, arms_parts, else_parts, parts_of, IsCall, AsStatement, AsAnswer, IsVisited, Begins, Holds, Calls}
+use Rattle.zpl_meaning.specs.Proper.{HasCurrent, IsProperScalar, IsVariable, IsPlainAssign, IsProperCall, AreProperActuals, IsPointForm, AreProperTests, HasProperTests, IsProperTested, IsProperStmt, IsProperForm}
+use Rattle.zpl_meaning.specs.Visited.{IsUnder, list_of, arms_parts, else_parts, IsCall, AsStatement, AsAnswer, IsVisited, Holds}
 use Rattle.meaning_ranks.specs.Ranked.{IsRanked, IsRankedValue, AreShapedActuals, IsRankedCall, IsPointFormOf, AreRankedTests, HasRankedTests, IsRankedTested, IsRankedStmt, IsRankedForm}
 use Rattle.node_form.specs.Expression as expr
 use Rattle.node_form.specs.Expression.{Expression, words_of}
 use Rattle.node_form.specs.declared.tables.Tables.{Tables}
 use Rattle.row_runs.specs.Structured as piece
 use Rattle.row_runs.specs.Structured.{Piece}
-use Rattle.flat_form.specs.Row as row
 use Rattle.flat_form.specs.Row.{Row}
 use Rattle.zpl_lowering.specs.Check.{Check}
-use Rattle.zpl_lowering.specs.Where.{Numbers, Where, Next, reach_of, rank_in, rank_for, line_of}
+use Rattle.zpl_lowering.specs.Where.{Where, Next, reach_of, line_of}
 use Rattle.zpl_lowering.specs.Slate.{Placed}
-use Rattle.zpl_lowering.specs.Lowered.{Lowered, rows_alone, behind, joined, both, followed, Phased, phased, check_of}
-use Rattle.zpl_lowering.specs.Statement.{Calling, Lowering, placed_in, Testing, test_of, set_row, lowered_scalar, lowered_to, value_exprs, value_rows, given_to, with_values, lowered_invoke, scalar_of, scalar_or, target_of, lowered_assign, is_border, Counter, counter_from, onward, enters, is_done, step_row, head_exprs, counted, lowered_for, shattered, choose_code, chosen, when, while_code, repeat_code, ends_arms, lowered, lowered_all, lowered_form, lowered_arms, lowered_arm, lowered_otherwise}
+use Rattle.zpl_lowering.specs.Lowered.{Lowered, rows_alone, behind, joined, followed, Phased, phased, check_of}
+use Rattle.zpl_lowering.specs.Statement.{Calling, Lowering, placed_in, Testing, test_of, set_row, lowered_to, value_exprs, value_rows, with_values, lowered_invoke, scalar_of, scalar_or, target_of, lowered_assign, is_border, Counter, counter_from, onward, enters, is_done, step_row, head_exprs, counted, lowered_for, shattered, choose_code, chosen, when, while_code, repeat_code, ends_arms, lowered, lowered_all, lowered_form, lowered_arms, lowered_arm, lowered_otherwise}
 use Rattle.lowering_fits.specs.Inline.{FitsScalar, FitRows, FitsPiece}
-use Rattle.lowering_fits.specs.Slates.{FitsTree}
 use Rattle.lowering_fits.specs.Reach.{place_at, HasFlatRemaps, HaveFlatRemaps, IsReach}
-use Rattle.lowering_fits.specs.Lowerings.{IsLaidOut, FitsLowered, FitsEdge, IsSoundStmt, AreSoundStmts, IsSoundForm, AreSoundArms, IsSoundArm, IsSoundElse}
-use Rattle.lowering_fits.specs.Standing.{HasAnswer, calling_of, IsCalled, CallsFit, IsStanding}
+use Rattle.lowering_fits.specs.Lowerings.{IsLaidOut, FitsLowered, IsSoundStmt, AreSoundStmts, IsSoundForm, AreSoundArms, IsSoundElse}
+use Rattle.lowering_fits.specs.Standing.{HasAnswer, calling_of, CallsFit, IsStanding}
 use Rattle.lowering_fits.proofs.TreeLemmas.{scalar_tree, IsBelow, below_at}
 use Rattle.lowering_fits.proofs.SlateLemmas.{set_fits}
 use Rattle.lowering_fits.proofs.BracketLemmas.{LimitsAreTold}
@@ -39,7 +37,7 @@ use Rattle.lowering_fits.proofs.PhaseLemmas.{laid_front, laid_behind, joined_fit
 use Rattle.lowering_fits.proofs.StatementLemmas.{test_fits, scalar_fits, to_fits, AllScalar, values_fit}
 use Rattle.lowering_fits.proofs.MemberLemmas.{shattered_fits}
 use Rattle.lowering_fits.proofs.WriteLemmas.{write_fits, borders_fit}
-use Rattle.lowering_fits.proofs.PrefixLemmas.{IsBehind, under_fits}
+use Rattle.lowering_fits.proofs.PrefixLemmas.{under_fits}
 
 -- ---- lists
 
@@ -131,7 +129,7 @@ when_fits base next test one tests ones laid =
     let whole = piece.Then test.before.code rest.code in
     let fits = tests (laid_front base next whole test.before rest laid) in
     let fit = ones after
-        (relaid base after code inside (laid_behind base next whole test.before rest laid)) in
+    (relaid base after code inside (laid_behind base next whole test.before rest laid)) in
     both_fit base test.before rest fits.0
     (recoded base code inside (fits.1, fit.code_fits) fit)
 
@@ -243,8 +241,7 @@ module _ (limits : LimitsAreTold) (base : Tables) (w : Where) (result : ℕ) (cu
   values_sound [] (ThenExpr actual rest) proper ranked flat = (tt, tt)
   values_sound (formal ∷ formals) NoExpr proper ranked flat = absurd proper
   values_sound (ScalarFormal false own ∷ formals) (ThenExpr actual rest) proper ranked flat =
-      let later = values_sound formals rest proper.1 ranked.1 flat.1 in
-      (
+      let later = values_sound formals rest proper.1 ranked.1 flat.1 in (
         (proper.0.0, later.0),
         ((proper.0.1, ranked.0, flat.0), later.1),
       )
@@ -275,8 +272,8 @@ module _ (limits : LimitsAreTold) (base : Tables) (w : Where) (result : ℕ) (cu
       let scalar : ℕ = next.scalars + phases.lowered.scalars in
       let values : Lowered = with_values line scalar phases in
       let taken : AreProperActuals (place_at w result currents edge) formals actuals =
-          subst (λ kind. AreProperActuals (place_at w result currents edge) (formals_in kind)
-          actuals) (sym proper.called) proper.taken in
+      subst (λ kind. AreProperActuals (place_at w result currents edge) (formals_in kind)
+      actuals) (sym proper.called) proper.taken in
       let sound = values_sound formals actuals taken ranked flat in
       let after : Next = behind next values in
       let later : Lowered = call (calling_of w name actuals scalar target line) after in
@@ -284,10 +281,10 @@ module _ (limits : LimitsAreTold) (base : Tables) (w : Where) (result : ℕ) (cu
       let first = laid_front base next code values later laid in
       let below = first.below in
       let inner = phases_fit limits base w result currents edge reach line next [] [] placed tt tt
-          sound.1
-          (laid_front base next values.code phases.lowered
-          (record (rows_alone (value_rows line scalar phases.left)) { scalars = length phases.left })
-          first) in
+      sound.1
+      (laid_front base next values.code phases.lowered
+      (record (rows_alone (value_rows line scalar phases.left)) { scalars = length phases.left })
+      first) in
       both_fit base values later
       (values_fit limits base w result currents edge reach line next placed sound.0 sound.1 first)
       (calls w name actuals scalar target line after (record {
@@ -389,14 +386,13 @@ module _ (limits : LimitsAreTold) (base : Tables) (w : Where) (result : ℕ) (cu
       let one : scalar < base.scalars = omega arith in
       let two : suc scalar < base.scalars = omega arith in
       let code = piece.When (check_of (enters down counter) line)
-          (piece.Repeat
-          (piece.Then inside.code (piece.Rows (step_row down counter line ∷ [])))
-          (piece.Rows []) (check_of (is_done down counter) line)) in
+      (piece.Repeat
+      (piece.Then inside.code (piece.Rows (step_row down counter line ∷ [])))
+      (piece.Rows []) (check_of (is_done down counter) line)) in
       let fit = followed_fits base next sets body (relaid base next code inside laid)
-          (λ at. rows_alone_fit base (set_row line (expr.Variable counter.at) target)
-          (row_fits target aims one)) (bodies (behind next sets)) in
-      recoded base code inside
-      (
+      (λ at. rows_alone_fit base (set_row line (expr.Variable counter.at) target)
+      (row_fits target aims one)) (bodies (behind next sets)) in
+      recoded base code inside (
         scalar_tree base (enters down counter) ((below, tt), (one, two)),
         (
           (
@@ -441,16 +437,15 @@ module _ (limits : LimitsAreTold) (base : Tables) (w : Where) (result : ℕ) (cu
       let code = piece.Then values.code later.code in
       let first = laid_front base next code values later laid in
       let below = first.below in
-      let sound : AreSound w (place_at w result currents edge) placed =
-          (
-            (proper.1.1, ranked.0, flat.0),
-            ((proper.2.1, ranked.1, flat.1), ((proper.3.1, ranked.2, flat.2), tt)),
-          ) in
+      let sound : AreSound w (place_at w result currents edge) placed = (
+        (proper.1.1, ranked.0, flat.0),
+        ((proper.2.1, ranked.1, flat.1), ((proper.3.1, ranked.2, flat.2), tt)),
+      ) in
       let inner = phases_fit limits base w result currents edge reach line next [] [] placed tt tt
-          sound
-          (laid_front base next values.code phases.lowered
-          (record (rows_alone (value_rows line scalar phases.left)) { scalars = length phases.left })
-          first) in
+      sound
+      (laid_front base next values.code phases.lowered
+      (record (rows_alone (value_rows line scalar phases.left)) { scalars = length phases.left })
+      first) in
       let three = lefts_count base placed phases.left inner.lefts in
       both_fit base values later
       (values_fit limits base w result currents edge reach line next placed
@@ -531,7 +526,7 @@ mutual
   stmt_fits base setup call with_all answers w result currents edge stands next
       (Prefixed at prefixes form) visited sound laid =
       let right = with_all.right (place_at w result currents edge) (Prefixed at prefixes form)
-          visited in
+      visited in
       under_fits with_all.limits base call (is_border form) form
       (λ inner after. lowered_form inner after at form) prefixes w result currents edge next
       stands.reach stands.edges right.0 right.1
@@ -597,9 +592,9 @@ mutual
       let context : Lowering = record { place = w; call = call } in
       let form : Form = If arms otherwise in
       let held : (part : Stmt) → Contains (arms_parts arms ++ else_parts otherwise) part →
-          IsVisited setup (place_at w result currents edge) part =
-          λ part in_it. Holds start (place_at w result currents edge) whole prefixes form part
-          visited under in_it in
+      IsVisited setup (place_at w result currents edge) part =
+      λ part in_it. Holds start (place_at w result currents edge) whole prefixes form part
+      visited under in_it in
       choose_fits with_all.limits base w result currents edge stands.reach
       (is_shattered (reach_of w) form) form (shattered w (line_of w at) next form)
       (lowered_arms context next at arms otherwise

@@ -1,19 +1,19 @@
 -- Directions have the vectors that their ranks ask for, and declared regions have entries.
-use Rattle.std.proofs.Common.{◌≡◌, ℕ, zero, suc, ◌+◌, ◌≤◌, Bool, true, false, if◌then◌else◌, ℤ, List, [], ◌∷◌, ◌++◌, map, length, refl, sym, ap, ◌∙◌, subst, arith, append_assoc, append-nil}
+use Rattle.std.proofs.Common.{◌≡◌, ℕ, zero, suc, Bool, true, false, if◌then◌else◌, ℤ, List, [], ◌∷◌, ◌++◌, map, length, refl, sym, ap, ◌∙◌, subst, arith, append_assoc, append-nil}
 use Rattle.std.specs.Prelude.{pos, cond, nat_le, ◌&&◌, find, option_map, Option, Some, None}
 use Rattle.std.specs.Option.{option_or}
 use Rattle.std.specs.List.{list_all}
 use Rattle.std.specs.Str.{bytes_eq}
 use Rattle.std.proofs.lemmas.Int.{ints}
 use Rattle.zpl_region.specs.Dim.{IsUpTo}
-use Rattle.zpl_tree.specs.Syntax.{Name, Exprs, NoExpr, ThenExpr, Dir, NamedDir, Vector, Bracket, NoBracket, Bracketed, Base, Define, RegionDef, DirDef, VarDef, Decl, Config, Constant, Regions, Directions, Vars, Defined, Program}
+use Rattle.zpl_tree.specs.Syntax.{Name, Exprs, NoExpr, ThenExpr, Bracket, NoBracket, Bracketed, Base, Define, RegionDef, DirDef, VarDef, Decl, Config, Constant, Regions, Directions, Vars, Defined, Program}
 use Rattle.zpl_names.specs.Kinds as kind
 use Rattle.zpl_names.specs.Kinds.{Kind, Rank}
 use Rattle.zpl_names.specs.Scope.{Entry, Scope, kind_in}
 use Rattle.zpl_names.specs.Ranks.{exprs_count, at_most_three}
 use Rattle.zpl_names.specs.Shapes.{declared_shape, variable_kind}
-use Rattle.zpl_names.specs.Declared.{entry_for, declaring, with_define, with_region, with_direction, with_variables, with_procedure, with_each, with_decl, signature_of, globals_of}
-use Rattle.zpl_binding.specs.Outcome.{DirectionLimit, Outcome, Gives, Fails, and_then, value_or, Computed, outcome_or, outcome_of}
+use Rattle.zpl_names.specs.Declared.{entry_for, declaring, with_define, with_region, with_direction, with_variables, with_each, with_decl, signature_of, globals_of}
+use Rattle.zpl_binding.specs.Outcome.{DirectionLimit, Outcome, Gives, Fails, and_then, value_or, Computed}
 use Rattle.zpl_binding.specs.Constants.{value_of}
 use Rattle.zpl_binding.specs.Vectors.{components_of, three_components, values_of, limited_vector, is_component, vector_of}
 use Rattle.zpl_binding.specs.Regions.{Known}

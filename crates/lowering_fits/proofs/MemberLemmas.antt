@@ -1,46 +1,42 @@
 -- The loop of a shattered statement fits.
-use Rattle.std.proofs.Common.{◌≡◌, ℕ, zero, suc, ◌+◌, ◌<◌, ◌≤◌, Bool, true, false, ℤ, List, [], ◌∷◌, ◌++◌, map, length, refl, sym, ap, ◌∙◌, subst, arith, length-append, append_assoc}
-use Rattle.std.specs.Prelude.{pos, Option, Some, None, option_map, option_and_then, slice_get, flat_map, ◌&&◌, ◌↔◌}
+use Rattle.std.proofs.Common.{◌≡◌, ℕ, ◌+◌, ◌≤◌, Bool, true, false, ℤ, List, [], ◌∷◌, ◌++◌, length, refl, sym, ap, ◌∙◌, subst, arith, length-append, append_assoc}
+use Rattle.std.specs.Prelude.{Option, Some, None, option_and_then, slice_get, flat_map, ◌&&◌}
 use Rattle.std.specs.Option.{IsSomeAnd}
 use Rattle.zpl_nums.specs.declared.operators.Op.{Op}
-use Rattle.zpl_tree.specs.Syntax.{Name, Expr, Number, Truth, Coord, Named, Shifted, Around, Remap, Call, Paren, Neg, Not, Abs, Pair, Reduce, Scan, Flood, Prefix, Stmt, Prefixed, Stmts, NoStmt, ThenStmt, Form, Assign, Invoke, Block, If, While, Repeat, For, Border, Write, Return, Arm, Tested, Arms, NoArm, ThenArm, Otherwise, NoElse, Else}
+use Rattle.zpl_tree.specs.Syntax.{Name, Expr, Number, Truth, Coord, Named, Shifted, Around, Remap, Call, Paren, Neg, Not, Abs, Pair, Reduce, Scan, Flood, Stmt, Prefixed, Stmts, NoStmt, ThenStmt, Form, Assign, Invoke, Block, If, While, Repeat, For, Border, Write, Return, Arm, Tested, Arms, NoArm, ThenArm, Otherwise, NoElse, Else}
 use Rattle.zpl_names.specs.Kinds.{Rank}
 use Rattle.zpl_names.specs.Scope.{Scope, kind_of}
 use Rattle.zpl_names.specs.Ranks.{array_rank, array_shape}
 use Rattle.zpl_names.specs.Types.{is_elementwise}
 use Rattle.zpl_names.specs.Sites.{tests_rank}
-use Rattle.zpl_meaning.specs.Store.{Thing, Scalar, ArrayAt, Fixed, Environment, thing_of}
-use Rattle.zpl_meaning.specs.Context.{Currents, Edge, Place}
+use Rattle.zpl_meaning.specs.Store.{Thing, Scalar, ArrayAt, Fixed, thing_of}
+use Rattle.zpl_meaning.specs.Context.{Currents, Edge}
 use Rattle.zpl_meaning.specs.Points.{assigned_expr}
 use Rattle.zpl_meaning.specs.Proper.{HasCurrent, IsArray, IsRead, IsProper, IsPoint, ArePoints, IsPointForm, ArePointArms, IsPointArm, IsPointElse}
-use Rattle.meaning_ranks.specs.Ranked.{IsNameOf, IsOfRank as IsRankedAt, IsPointExpr, IsPointOf, ArePointsOf, IsPointFormOf, ArePointArmsOf, IsPointArmOf, IsPointElseOf}
-use Rattle.node_form.specs.declared.members.Member as number
-use Rattle.node_form.specs.declared.members.Member.TheVariants as member
+use Rattle.meaning_ranks.specs.Ranked.{IsNameOf, IsPointExpr, IsPointOf, ArePointsOf, IsPointFormOf, ArePointArmsOf, IsPointArmOf, IsPointElseOf}
 use Rattle.node_form.specs.declared.tables.Tables.{Tables}
 use Rattle.node_form.specs.declared.nests.Opening.{Opening}
 use Rattle.node_form.specs.declared.nests.Opening.TheVariants as opening
 use Rattle.node_form.specs.Nest.{IsNest, opened}
-use Rattle.node_form.specs.Fits.{IsRank, HasSlot, HasArray}
-use Rattle.node_form.specs.Expression as expr
-use Rattle.node_form.specs.Expression.{Expression, words_of}
+use Rattle.node_form.specs.Fits.{HasArray}
+use Rattle.node_form.specs.Expression.{Expression}
 use Rattle.node_form.proofs.NestLemmas.{opened-append, IsNest-opened}
 use Rattle.flat_form.specs.Row as row
 use Rattle.flat_form.specs.Row.{Row, Member, Words, all_coded, member_words, member_coded, group_coded}
 use Rattle.zpl_lowering.specs.Where.{Stored, Numbers, Slotted, slotted_at, Where, Next, reach_of}
 use Rattle.zpl_lowering.specs.Slate as slate
 use Rattle.zpl_lowering.specs.Slate.{Slate, Settled, settled, named_slate, behind as behind_settled}
-use Rattle.zpl_lowering.specs.Reference.{Reference, at_place, needs, referred, over_reference}
+use Rattle.zpl_lowering.specs.Reference.{Reference, needs, over_reference}
 use Rattle.zpl_lowering.specs.Hoist.{Hoisted, Free, behind as behind_hoisted, hoisted, mask_code, stored_element}
-use Rattle.zpl_lowering.specs.Lowered.{Lowered, rows_alone}
-use Rattle.zpl_lowering.specs.Statement.{Inside, no_members, both_inside, Elementwise, elementwise, put_member, put_thing, opening as opening_members, otherwise_members, stmt_inside, stmts_inside, form_inside, arms_inside, arm_inside, otherwise_inside, masked_members, shattered_over, shattered}
-use Rattle.lowering_fits.specs.Inline.{FitsWords, FitsMask, FitRows, FitsLoop, FitsInside, AllInside}
-use Rattle.lowering_fits.specs.Slates.{SlotsAt, TempsAt, StoragesAt, FitNumbers, IsOfRank, FitsOver, FitsSlate, FitsTree, IsPlaced}
+use Rattle.zpl_lowering.specs.Statement.{Inside, no_members, both_inside, Elementwise, elementwise, put_member, put_thing, opening as opening_members, otherwise_members, stmt_inside, stmts_inside, form_inside, arms_inside, arm_inside, otherwise_inside, masked_members, shattered}
+use Rattle.lowering_fits.specs.Inline.{FitsWords, FitsMask, FitsInside, AllInside}
+use Rattle.lowering_fits.specs.Slates.{SlotsAt, TempsAt, StoragesAt}
 use Rattle.lowering_fits.specs.Reach.{place_at, IsStoredAs, HasFlatRemaps, IsReach}
 use Rattle.lowering_fits.specs.Lowerings.{IsLaidOut, FitsLowered}
 use Rattle.lowering_fits.proofs.TreeLemmas.{tree_fits, IsThere, stored_at, array_of, stored_of, unmoved_fits}
-use Rattle.lowering_fits.proofs.SlateLemmas.{rows_both, FitsLeft, hoisted_fits, mask_fits}
+use Rattle.lowering_fits.proofs.SlateLemmas.{rows_both, hoisted_fits, mask_fits}
 use Rattle.lowering_fits.proofs.BracketLemmas.{rank_number, LimitsAreTold}
-use Rattle.lowering_fits.proofs.SettleLemmas.{over_of, IsLaid, settled_fits}
+use Rattle.lowering_fits.proofs.SettleLemmas.{over_of, settled_fits}
 use Rattle.lowering_fits.proofs.PhaseLemmas.{rows_alone_fit, FitReferences, references_both, needs_fit, over_referred, referred_fit}
 
 -- ---- elementwise expressions have nothing of their own
@@ -174,8 +170,8 @@ coded_both n [] ys =
 coded_both n (x ∷ xs) ys =
     let later : ℕ = n + length (member_words x) in
     let same : later + length (flat_map member_words xs)
-        ≡ n + length (flat_map member_words (x ∷ xs)) =
-        omega (arith, length-append (member_words x) (flat_map member_words xs)) in
+    ≡ n + length (flat_map member_words (x ∷ xs)) =
+    omega (arith, length-append (member_words x) (flat_map member_words xs)) in
     ap (λ members. member_coded n x ∷ members)
     (coded_both later xs ys ∙ ap (λ k. group_coded later xs ++ group_coded k ys) same)
 
@@ -308,19 +304,19 @@ module _ (limits : LimitsAreTold) (base : Tables) (w : Where) (result : ℕ) (cu
       let all : Settled Slate = settled w line next rank one in
       let alone = alone_is w line next rank one point.0 in
       let fits = settled_fits limits base w result currents edge reach line next rank one proper
-          point.1 (flat_of w.scope one point.0)
-          (record {
-            slots_at = subst (SlotsAt base next.slots) (sym alone.no_slots) tt;
-            copies_at = subst (StoragesAt base next.copies) (sym alone.no_copies) tt;
-          }) in
+      point.1 (flat_of w.scope one point.0)
+      (record {
+        slots_at = subst (SlotsAt base next.slots) (sym alone.no_slots) tt;
+        copies_at = subst (StoragesAt base next.copies) (sym alone.no_copies) tt;
+      }) in
       let hoist : Hoisted Expression = hoisted w.numbers line free all.slate in
       let nothing = bare_nothing w.numbers line free all.slate alone.bare in
       let left = hoisted_fits base w.numbers line free (rank_number rank) all.slate reach.numbers
-          fits.fits
-          (record {
-            below = omega (arith, nothing.no_scalars);
-            temps_at = subst (λ temps. TempsAt base next.temps temps) (sym nothing.no_temps) tt;
-          }) in
+      fits.fits
+      (record {
+        below = omega (arith, nothing.no_scalars);
+        temps_at = subst (λ temps. TempsAt base next.temps temps) (sym nothing.no_temps) tt;
+      }) in
       record {
         words_fit = tree_fits base (rank_number rank) hoist.left left.left;
         refers = referred_fit base w.numbers (rank_number rank) all.slate reach.numbers fits.fits;
@@ -349,7 +345,7 @@ module _ (limits : LimitsAreTold) (base : Tables) (w : Where) (result : ℕ) (cu
           let one : Some stored.storage.rank ≡ rank = sym found.rank ∙ is in
           let same : stored.storage.rank ≡ rank_number rank = ap rank_number one in
           let array : HasArray base (rank_number rank) stored.array =
-              array_of base (rank_number rank) stored.array stored.storage there same in
+          array_of base (rank_number rank) stored.array stored.storage there same in
           record {
             closed = put_closed stored.array line value.expr;
             all = ((array, fits.words_fit, tt), tt);
@@ -602,7 +598,7 @@ shattered_fits limits base w result currents edge reach line next form has prope
     let inside : Inside = form_inside w line next rank form in
     let below = laid.below in
     let fits = form_fits base w result currents edge line next rank
-        (record { limits = limits; reach = reach; has = has; below = omega arith }) form proper of in
+    (record { limits = limits; reach = reach; has = has; below = omega arith }) form proper of in
     let mask : Option Words = mask_code w.numbers over.mask in
     let members : List Member = masked_members mask line inside.members in
     let references : List Reference = inside.references ++ over_reference w.numbers over in
@@ -610,8 +606,7 @@ shattered_fits limits base w result currents edge reach line next form has prope
     (rows_both base (needs line references) (row.Loop over.slot members ∷ [])
     (needs_fit base line references
     (references_both base inside.references (over_reference w.numbers over) fits.refers
-    (over_referred base w.numbers number over reach.numbers is)))
-    (
+    (over_referred base w.numbers number over reach.numbers is))) (
       record {
         rank = number;
         is_rank = is.is_rank;

@@ -1,39 +1,32 @@
 -- The rows of a statement's phases fit.
-use Rattle.std.proofs.Common.{◌≡◌, ℕ, zero, suc, ◌+◌, ◌<◌, ◌≤◌, Bool, true, false, ℤ, List, [], ◌∷◌, ◌++◌, map, length, refl, sym, ap, ◌∙◌, subst, arith, length-append}
-use Rattle.std.specs.Prelude.{pos, not, filter, cond, Option, Some, None, slice_get}
+use Rattle.std.proofs.Common.{◌≡◌, ℕ, Bool, true, false, ℤ, List, [], ◌∷◌, ◌++◌, map, arith}
+use Rattle.std.specs.Prelude.{not, filter, cond, Option, Some, None, slice_get}
 use Rattle.std.specs.Option.{IsSomeAnd}
-use Rattle.zpl_nums.specs.declared.folds.Fold.{Fold}
-use Rattle.zpl_tree.specs.Syntax.{Expr}
-use Rattle.zpl_names.specs.Kinds.{Rank}
 use Rattle.zpl_meaning.specs.Context.{Mask, Currents, Edge, Place}
 use Rattle.zpl_meaning.specs.Proper.{IsProper}
 use Rattle.meaning_ranks.specs.Ranked.{IsOfRank as IsRankedAt}
-use Rattle.node_form.specs.Expression as expr
-use Rattle.node_form.specs.Expression.{Expression, words_of}
-use Rattle.node_form.specs.Value.{unmoved}
+use Rattle.node_form.specs.Expression.{Expression}
 use Rattle.node_form.specs.declared.tables.Tables.{Tables}
-use Rattle.node_form.specs.declared.instructions.Instr.TheVariants as instr
-use Rattle.node_form.specs.Fits.{IsRank, IsVector, HasSlot, HasArray, IsStored}
+use Rattle.node_form.specs.Fits.{IsVector, HasSlot, HasArray, IsStored}
 use Rattle.row_runs.specs.Structured as piece
 use Rattle.row_runs.specs.Structured.{Piece}
-use Rattle.flat_form.specs.Row as row
 use Rattle.flat_form.specs.Row.{Row}
 use Rattle.zpl_lowering.specs.Check.{Check}
 use Rattle.zpl_lowering.specs.Where.{Stored, Numbers, Slotted, Where, Next}
 use Rattle.zpl_lowering.specs.Slate as slate
 use Rattle.zpl_lowering.specs.Slate.{Slate, Slates, NoSlate, ThenSlate, Settled, Placed, behind as behind_settled, alone, settled, settled_each}
-use Rattle.zpl_lowering.specs.Reference.{conforming, all_conforming, Reference, at_place, is_same, each_once, need_of, needs, vector_over, refer_to, mask_reference, over_reference, referred, all_referred}
+use Rattle.zpl_lowering.specs.Reference.{conforming, all_conforming, Reference, is_same, each_once, need_of, needs, refer_to, mask_reference, over_reference, referred, all_referred}
 use Rattle.zpl_lowering.specs.Hoist.{Hoisted, Free, behind as behind_hoisted, hoisted, all_hoisted}
-use Rattle.zpl_lowering.specs.Lowered.{Lowered, coded, rows_alone, behind, joined, both, followed, Phased, free_at, phases_of, phased_with, phased, first_left, then_rows}
+use Rattle.zpl_lowering.specs.Lowered.{Lowered, rows_alone, behind, joined, both, Phased, free_at, phased_with, then_rows}
 use Rattle.lowering_fits.specs.Inline.{FitRows, FitsPiece}
-use Rattle.lowering_fits.specs.Slates.{SlotsAt, StoragesAt, FitNumbers, IsOfRank, IsMaskOf, FitsOver, FitsSlate, FitsSlates, FitsTree, AllTemps, AllShifts, IsPlaced, FitsHoist}
+use Rattle.lowering_fits.specs.Slates.{FitNumbers, IsOfRank, IsMaskOf, FitsOver, FitsSlate, FitsSlates, FitsTree, IsPlaced, FitsHoist}
 use Rattle.lowering_fits.specs.Reach.{place_at, HasFlatRemaps, IsReach}
-use Rattle.lowering_fits.specs.Lowerings.{AllRanks, IsLaidOut, FitsLowered}
+use Rattle.lowering_fits.specs.Lowerings.{IsLaidOut, FitsLowered}
 use Rattle.lowering_fits.proofs.TreeLemmas.{IsThere, stored_at, array_of, stored_of, slots_first, slots_rest, temps_first, temps_rest, storages_first, storages_rest, temps_both, shifts_both, over_fits, unmoved_fits}
 use Rattle.lowering_fits.proofs.VectorLemmas.{vector_by}
-use Rattle.lowering_fits.proofs.SlateLemmas.{rows_both, FitsLeft, hoisted_fits, first_placed, rest_placed}
+use Rattle.lowering_fits.proofs.SlateLemmas.{rows_both, hoisted_fits, first_placed, rest_placed}
 use Rattle.lowering_fits.proofs.BracketLemmas.{rank_number, LimitsAreTold}
-use Rattle.lowering_fits.proofs.SettleLemmas.{ranks_both, IsLaid, FitsSettled, SlateFits, laid_first, laid_rest, own_both, settled_fits}
+use Rattle.lowering_fits.proofs.SettleLemmas.{ranks_both, IsLaid, FitsSettled, laid_first, laid_rest, own_both, settled_fits}
 
 -- ---- code of two parts
 
@@ -102,18 +95,16 @@ mutual
       (conforming_fit base numbers rank line right fits.1)
   conforming_fit base numbers rank line (slate.Folded operator over operand) fits =
       conforming_fit base numbers fits.0 line operand fits.1.1
-  conforming_fit base numbers rank line (slate.PartFolded operator over source operand) fits =
-      (
-        (record { rank = rank; fit = (fits.0.has, fits.1.has) }, tt),
-        conforming_fit base numbers rank line operand fits.2,
-      )
+  conforming_fit base numbers rank line (slate.PartFolded operator over source operand) fits = (
+    (record { rank = rank; fit = (fits.0.has, fits.1.has) }, tt),
+    conforming_fit base numbers rank line operand fits.2,
+  )
   conforming_fit base numbers rank line (slate.Scanned operator along over operand) fits =
       conforming_fit base numbers rank line operand fits.2
-  conforming_fit base numbers rank line (slate.Flooded over source operand) fits =
-      (
-        (record { rank = rank; fit = (fits.0.has, fits.1.has) }, tt),
-        conforming_fit base numbers rank line operand fits.2,
-      )
+  conforming_fit base numbers rank line (slate.Flooded over source operand) fits = (
+    (record { rank = rank; fit = (fits.0.has, fits.1.has) }, tt),
+    conforming_fit base numbers rank line operand fits.2,
+  )
   conforming_fit base numbers rank line (slate.Remapped over place indices) fits =
       all_conforming_fit base numbers rank line indices fits.2
 
@@ -158,12 +149,11 @@ filtered_fit base test (one ∷ rest) fit =
 once_fit : (base : Tables) (all : List Reference) → FitReferences base all →
     FitReferences base (each_once all)
 once_fit base [] fit = tt
-once_fit base (one ∷ rest) fit =
-    (
-      fit.0,
-      filtered_fit base (λ other. not (is_same one other)) (each_once rest)
+once_fit base (one ∷ rest) fit = (
+  fit.0,
+  filtered_fit base (λ other. not (is_same one other)) (each_once rest)
       (once_fit base rest fit.1),
-    )
+)
 
 pub needs_fit : (base : Tables) (line : ℕ) (all : List Reference) → FitReferences base all →
     FitRows base 0 (needs line all)
@@ -172,8 +162,7 @@ needs_fit base line all fit = by (each_once all) (once_fit base all fit)
     by : (all : List Reference) → FitReferences base all → FitRows base 0 (map (need_of line) all)
     by [] fit = tt
     by (one ∷ rest) fit =
-        let is = fit.0 in
-        (
+        let is = fit.0 in (
           (record { rank = is.rank; fit = (is.has, is.there, is.is_stored, is.vector) }, tt),
           by rest fit.1,
         )
@@ -182,17 +171,16 @@ pub refers_fit : (base : Tables) (rank slot : ℕ) (shift : List ℤ) (stored : 
     HasSlot base rank slot → IsThere base stored → IsOfRank rank stored → IsVector rank shift →
     FitReferences base (refer_to slot shift stored)
 refers_fit base rank slot shift None has there is vector = tt
-refers_fit base rank slot shift (Some stored) has there is vector =
-    (
-      record {
-        rank = rank;
-        has = has;
-        there = array_of base rank stored.array stored.storage there is;
-        is_stored = stored_of base stored.array stored.storage there;
-        vector = over_fits rank stored.storage shift vector;
-      },
-      tt,
-    )
+refers_fit base rank slot shift (Some stored) has there is vector = (
+  record {
+    rank = rank;
+    has = has;
+    there = array_of base rank stored.array stored.storage there is;
+    is_stored = stored_of base stored.array stored.storage there;
+    vector = over_fits rank stored.storage shift vector;
+  },
+  tt,
+)
 
 mask_rank_of : (rank : ℕ) (stored : Option Stored) →
     IsSomeAnd stored (λ stored. stored.storage.rank ≡ rank) → IsOfRank rank stored
@@ -223,26 +211,25 @@ mutual
   referred_fit base numbers rank (slate.Element slot place shift) fits is =
       refers_fit base rank slot shift (slice_get numbers.arrays place) is.1
       (stored_at base numbers.arrays place fits.arrays) is.2 is.3
-  referred_fit base numbers rank (slate.Wrapped slot place home shift copy first) fits is =
-      (
-        record {
-          rank = rank;
-          has = is.1;
-          there = is.4.has;
-          is_stored = is.4.is_stored;
-          vector = unmoved_fits rank;
-        },
-        (
-          record {
-            rank = rank;
-            has = is.1;
-            there = is.4.has;
-            is_stored = is.4.is_stored;
-            vector = is.3;
-          },
-          tt,
-        ),
-      )
+  referred_fit base numbers rank (slate.Wrapped slot place home shift copy first) fits is = (
+    record {
+      rank = rank;
+      has = is.1;
+      there = is.4.has;
+      is_stored = is.4.is_stored;
+      vector = unmoved_fits rank;
+    },
+    (
+      record {
+        rank = rank;
+        has = is.1;
+        there = is.4.has;
+        is_stored = is.4.is_stored;
+        vector = is.3;
+      },
+      tt,
+    ),
+  )
   referred_fit base numbers rank (slate.Unary operator operand) fits is =
       referred_fit base numbers rank operand fits is
   referred_fit base numbers rank (slate.Binary operator left right) fits is =
@@ -318,10 +305,10 @@ each_settled limits base w result currents edge reach line next (one ∷ placed)
     let first : Settled Slate = settled w line next one.rank one.expr in
     let rest : Settled Slates = settled_each w line (behind_settled next first) placed in
     let here = settled_fits limits base w result currents edge reach line next one.rank one.expr
-        sound.0.0 sound.0.1 sound.0.2 (laid_first base next ThenSlate first rest laid) in
+    sound.0.0 sound.0.1 sound.0.2 (laid_first base next ThenSlate first rest laid) in
     let there = each_settled limits base w result currents edge reach line
-        (behind_settled next first) placed sound.1
-        (laid_rest base next ThenSlate first rest laid) in
+    (behind_settled next first) placed sound.1
+    (laid_rest base next ThenSlate first rest laid) in
     record {
       own = own_both base ThenSlate first rest here.own there.own;
       fits = (here.fits, there.fits);
@@ -368,9 +355,9 @@ each_hoisted base numbers line free (one ∷ placed) (ThenSlate slate others) fi
     let after : Free = behind_hoisted free first in
     let rest : Hoisted (List Expression) = all_hoisted numbers line after others in
     let here = hoisted_fits base numbers line free (rank_number one.rank) slate fits is.0
-        (first_placed base free first.scalars rest.scalars first.temps rest.temps at) in
+    (first_placed base free first.scalars rest.scalars first.temps rest.temps at) in
     let there = each_hoisted base numbers line after placed others fits is.1
-        (rest_placed base free first.scalars rest.scalars first.temps rest.temps at) in
+    (rest_placed base free first.scalars rest.scalars first.temps rest.temps at) in
     record {
       rows = record {
         code = (here.rows.code, there.rows.code);
@@ -398,22 +385,22 @@ phases_fit limits base w result currents edge reach line next own last placed ow
     let free : Free = free_at next 0 in
     let hoist : Hoisted (List Expression) = all_hoisted w.numbers line free settled.slate in
     let one = each_settled limits base w result currents edge reach line next placed sound
-        (record { slots_at = laid.slots_at; copies_at = laid.copies_at }) in
+    (record { slots_at = laid.slots_at; copies_at = laid.copies_at }) in
     let below = laid.below in
     let two = each_hoisted base w.numbers line free placed settled.slate reach.numbers one.fits
-        (record { below = omega arith; temps_at = laid.temps_at }) in
+    (record { below = omega arith; temps_at = laid.temps_at }) in
     let references : List Reference = all_referred w.numbers settled.slate ++ last in
     record {
       fits = record {
         code_fits = (
           rows_both base settled.rows
-          (all_conforming line settled.slate ++ needs line (own ++ references)) one.own.rows_fit
-          (rows_both base (all_conforming line settled.slate) (needs line (own ++ references))
-          (each_conforming base w.numbers line placed settled.slate one.fits)
-          (needs_fit base line (own ++ references)
-          (references_both base own references owns
-          (references_both base (all_referred w.numbers settled.slate) last
-          (each_referred base w.numbers placed settled.slate reach.numbers one.fits) lasts)))),
+              (all_conforming line settled.slate ++ needs line (own ++ references)) one.own.rows_fit
+              (rows_both base (all_conforming line settled.slate) (needs line (own ++ references))
+              (each_conforming base w.numbers line placed settled.slate one.fits)
+              (needs_fit base line (own ++ references)
+              (references_both base own references owns
+              (references_both base (all_referred w.numbers settled.slate) last
+              (each_referred base w.numbers placed settled.slate reach.numbers one.fits) lasts)))),
           two.rows.code,
         );
         slot_ranks = one.own.ranks;

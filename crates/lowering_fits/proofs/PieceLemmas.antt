@@ -1,11 +1,10 @@
 -- Code that fits is laid out in rows that fit, whose goals are rows of it or the end.
-use Rattle.std.proofs.Common.{◌≡◌, ℕ, zero, suc, ◌+◌, ◌≤◌, List, [], ◌∷◌, ◌++◌, map, length, refl, arith, length-append}
-use Rattle.std.specs.Prelude.{All, replicate}
+use Rattle.std.proofs.Common.{◌≡◌, ℕ, ◌+◌, ◌≤◌, List, [], ◌∷◌, ◌++◌, map, length, refl, arith, length-append}
+use Rattle.std.specs.Prelude.{All}
 use Rattle.std.proofs.lemmas.List.{length-map, length-replicate}
-use Rattle.node_form.specs.declared.instructions.Instr.{Instr}
 use Rattle.node_form.specs.declared.instructions.Instr.TheVariants as instr
 use Rattle.node_form.specs.declared.tables.Tables.{Tables}
-use Rattle.node_form.specs.Fits.{IsRank, FitsArray, FitsInstr, Grows}
+use Rattle.node_form.specs.Fits.{IsRank, FitsArray, Grows}
 use Rattle.node_form.specs.Grid.{IsGrid}
 use Rattle.node_form.proofs.GrowthLemmas.{Keeps-same, FitsInstr-grows}
 use Rattle.row_runs.specs.Code.{CodeRow, Straight, Jump, Unless}
@@ -17,7 +16,7 @@ use Rattle.flat_form.specs.Row.{Row}
 use Rattle.zpl_lowering.specs.Check.{Check, flat_row}
 use Rattle.zpl_lowering.specs.Lowered.{Lowered}
 use Rattle.zpl_lowering.specs.Tables.{empty_tables, rows_of, tables_of}
-use Rattle.lowering_fits.specs.Inline.{long, FitsScalar, FitsRow, FitRows, FitsPiece, IsGround}
+use Rattle.lowering_fits.specs.Inline.{long, FitsRow, FitRows, FitsPiece, IsGround}
 use Rattle.lowering_fits.proofs.TableLemmas.{rows_make_flat}
 
 -- ---- rows in longer code
@@ -81,36 +80,32 @@ laid_out base count at (piece.When test body) fits within =
     ((fits.0, omega arith), laid_out base count (at + 1) body fits.1 (omega arith))
 laid_out base count at (piece.Choose test one other) fits within =
     let goal : ℕ = at + size one + size other + 2 in
-    let behind : List (CodeRow Row Check) = flattened (at + size one + 2) other in
-    (
+    let behind : List (CodeRow Row Check) = flattened (at + size one + 2) other in (
       (fits.0, omega arith),
       code_both base count (flattened (at + 1) one) (Jump goal ∷ behind)
-      (laid_out base count (at + 1) one fits.1 (omega arith))
-      (
-        jump_fits base count goal (omega arith),
-        laid_out base count (at + size one + 2) other fits.2 (omega arith),
-      ),
+          (laid_out base count (at + 1) one fits.1 (omega arith)) (
+            jump_fits base count goal (omega arith),
+            laid_out base count (at + size one + 2) other fits.2 (omega arith),
+          ),
     )
 laid_out base count at (piece.While head test body) fits within =
     let goal : ℕ = at + size head + size body + 2 in
     let inside : List (CodeRow Row Check) = flattened (at + size head + 1) body in
     code_both base count (flattened at head) (Unless test goal ∷ (inside ++ Jump at ∷ []))
-    (laid_out base count at head fits.0 (omega arith))
-    (
+    (laid_out base count at head fits.0 (omega arith)) (
       (fits.1, omega arith),
       code_both base count inside (Jump at ∷ [])
-      (laid_out base count (at + size head + 1) body fits.2 (omega arith))
-      (jump_fits base count at (omega arith), tt),
+          (laid_out base count (at + size head + 1) body fits.2 (omega arith))
+          (jump_fits base count at (omega arith), tt),
     )
 laid_out base count at (piece.Repeat body head test) fits within =
-    let before : List (CodeRow Row Check) = flattened (at + size body + 1) head in
-    (
+    let before : List (CodeRow Row Check) = flattened (at + size body + 1) head in (
       jump_fits base count (at + 1) (omega arith),
       code_both base count (flattened (at + 1) body) (before ++ Unless test (at + 1) ∷ [])
-      (laid_out base count (at + 1) body fits.0 (omega arith))
-      (code_both base count before (Unless test (at + 1) ∷ [])
-      (laid_out base count (at + size body + 1) head fits.1 (omega arith))
-      ((fits.2, omega arith), tt)),
+          (laid_out base count (at + 1) body fits.0 (omega arith))
+          (code_both base count before (Unless test (at + 1) ∷ [])
+          (laid_out base count (at + size body + 1) head fits.1 (omega arith))
+          ((fits.2, omega arith), tt)),
     )
 
 code_length : (at : ℕ) (code : Piece Row Check) → length (flattened at code) ≡ size code

@@ -1,31 +1,29 @@
 -- The code of prefixes fits, and what is in reach behind them.
-use Rattle.std.proofs.Common.{◌≡◌, ℕ, zero, suc, ◌+◌, ◌<◌, ◌≤◌, Bool, true, false, if◌then◌else◌, ℤ, List, [], ◌∷◌, ◌++◌, map, length, refl, sym, ap, ◌∙◌, subst, arith, length-append}
-use Rattle.std.specs.Prelude.{pos, Option, Some, None, option_map, slice_get}
+use Rattle.std.proofs.Common.{◌≡◌, ℕ, zero, suc, Bool, true, false, List, [], ◌∷◌, length, refl, sym, ap, ◌∙◌, subst}
+use Rattle.std.specs.Prelude.{Option, Some, None, slice_get}
 use Rattle.std.specs.Option.{IsSomeAnd}
-use Rattle.zpl_region.specs.declared.regions.Region.{Region}
-use Rattle.zpl_tree.specs.Syntax.{Name, Pre, NamedRegion, Ditto, NamedDir, Inner, Rexpr, Dims, Posts, NoPost, ThenPost, Mask as MaskText, Prefix, Form}
+use Rattle.zpl_tree.specs.Syntax.{NamedRegion, Ditto, NamedDir, Inner, Rexpr, Dims, NoPost, ThenPost, Mask as MaskText, Prefix, Form}
 use Rattle.zpl_names.specs.Kinds.{Rank}
 use Rattle.zpl_names.specs.Scope.{Scope, kind_of}
-use Rattle.zpl_names.specs.Ranks.{array_rank, array_shape, inner_rank, mask_rank, dir_rank, direction_rank, region_shape}
+use Rattle.zpl_names.specs.Ranks.{array_shape, inner_rank, mask_rank}
 use Rattle.zpl_names.specs.Shapes.{prefix_rank}
 use Rattle.zpl_binding.specs.Regions.{Known, no_region}
-use Rattle.zpl_meaning.specs.Store.{Thing, Scalar, ArrayAt, Fixed, Environment, thing_of}
-use Rattle.zpl_meaning.specs.Context.{Mask, Over, Currents, with_over, Edge, Place}
-use Rattle.zpl_meaning.specs.Regions.{vector_in, mask_thing, mask_in, edge_in, current_for as region_for, under_prefix as place_under}
-use Rattle.zpl_meaning.specs.Proper.{HasCurrent, IsArray, IsArrayRank, IsProperInner, IsProperRegion, IsProperMask, IsProperPrefix, IsProperUnder, IsProperForm}
+use Rattle.zpl_meaning.specs.Store.{Thing, Scalar, ArrayAt, Fixed, thing_of}
+use Rattle.zpl_meaning.specs.Context.{Over, Currents, with_over, Edge, Place}
+use Rattle.zpl_meaning.specs.Regions.{mask_thing, mask_in, edge_in, current_for as region_for}
+use Rattle.zpl_meaning.specs.Proper.{HasCurrent, IsArray, IsArrayRank, IsProperInner, IsProperMask, IsProperPrefix, IsProperUnder, IsProperForm}
 use Rattle.zpl_meaning.specs.Visited.{IsUnder, Itself, Behind}
-use Rattle.meaning_ranks.specs.Ranked.{IsInnerOf, IsRegionOf, IsMaskOf as IsRankedMask, IsRankedPrefix, IsRankedUnder, IsRankedForm}
+use Rattle.meaning_ranks.specs.Ranked.{IsInnerOf, IsMaskOf as IsRankedMask, IsRankedPrefix, IsRankedUnder, IsRankedForm}
 use Rattle.node_form.specs.declared.tables.Tables.{Tables}
 use Rattle.node_form.specs.Fits.{IsRank, IsVector, HasSlot}
 use Rattle.row_runs.specs.Structured as piece
-use Rattle.flat_form.specs.Row.{Row}
-use Rattle.zpl_lowering.specs.Where.{Stored, Numbers, Slotted, slotted_at, with_slotted, SlotEdge, Where, Next, line_of}
-use Rattle.zpl_lowering.specs.Bracket.{Opened, bracket, computed, region_slot}
-use Rattle.zpl_lowering.specs.Lowered.{Lowered, rows_alone, behind, both, followed}
-use Rattle.zpl_lowering.specs.Statement.{Lowering, Calling, prefix_opened, current_for, base_slot, edge_of, under_prefix, of_opened, is_last, lowered_under}
-use Rattle.lowering_fits.specs.Slates.{SlotsAt, FitNumbers, IsMaskOf, FitsOver}
-use Rattle.lowering_fits.specs.Reach.{place_at, IsStoredAs, FitsName, FitsKnown, IsReach}
-use Rattle.lowering_fits.specs.Lowerings.{AllRanks, IsLaidOut, FitsLowered, FitsEdge}
+use Rattle.zpl_lowering.specs.Where.{Stored, Slotted, slotted_at, SlotEdge, Where, Next, line_of}
+use Rattle.zpl_lowering.specs.Bracket.{Opened}
+use Rattle.zpl_lowering.specs.Lowered.{Lowered, behind}
+use Rattle.zpl_lowering.specs.Statement.{Lowering, Calling, prefix_opened, current_for, edge_of, under_prefix, of_opened, is_last, lowered_under}
+use Rattle.lowering_fits.specs.Slates.{SlotsAt, IsMaskOf, FitsOver}
+use Rattle.lowering_fits.specs.Reach.{place_at, IsStoredAs, FitsKnown, IsReach}
+use Rattle.lowering_fits.specs.Lowerings.{IsLaidOut, FitsLowered, FitsEdge}
 use Rattle.lowering_fits.proofs.BracketLemmas.{rank_number, LimitsAreTold, FitsOpened, bracket_fits, computed_fits}
 use Rattle.lowering_fits.proofs.SettleLemmas.{over_of, with_current, array_rank_number, same_ranks}
 use Rattle.lowering_fits.proofs.PhaseLemmas.{laid_front, laid_behind, both_fit}
@@ -110,10 +108,10 @@ module _ (limits : LimitsAreTold) (base : Tables) (w : Where) (result : ℕ) (cu
       let is = array_rank_number rank ranked.0.0 in
       let below = is.0.1 in
       let inner : IsProperInner (place_at w result currents edge) (Some number) prefix.region =
-          subst (λ r. IsProperInner (place_at w result currents edge) r prefix.region) is.1
-          proper.0 in
+      subst (λ r. IsProperInner (place_at w result currents edge) r prefix.region) is.1
+      proper.0 in
       let of : IsInnerOf w.scope (Some number) prefix.region =
-          subst (λ r. IsInnerOf w.scope r prefix.region) is.1 ranked.0.1 in
+      subst (λ r. IsInnerOf w.scope r prefix.region) is.1 ranked.0.1 in
       by own number is.0 is.1 inner of
       (λ has. over_has number is.1 has) at
     where
@@ -216,7 +214,7 @@ module _ (limits : LimitsAreTold) (base : Tables) (w : Where) (result : ℕ) (cu
       slot_here has =
           let is = array_rank_number (prefix_rank w.scope w.prefix prefix) ranked.0.0 in
           let there : HasCurrent currents (prefix_rank w.scope w.prefix prefix) =
-              subst (HasCurrent currents) (sym is.1) has in
+          subst (HasCurrent currents) (sym is.1) has in
           (over_of base w.numbers currents w.currents (prefix_rank w.scope w.prefix prefix)
           reach.here there).has
 
@@ -225,16 +223,15 @@ module _ (limits : LimitsAreTold) (base : Tables) (w : Where) (result : ℕ) (cu
           FitsEdge base (under_prefix w prefix opened)
           (with_over currents (prefix_rank w.scope w.prefix prefix) some_over) own
       by None fits = tt
-      by (Some own) fits =
-          (
-            rank_number (prefix_rank w.scope w.prefix prefix),
-            (
-              (array_rank_number (prefix_rank w.scope w.prefix prefix) ranked.0.0).1,
-              current_there (prefix_rank w.scope w.prefix prefix) ranked.0.0,
-              fits.0,
-              fits.1,
-            ),
-          )
+      by (Some own) fits = (
+        rank_number (prefix_rank w.scope w.prefix prefix),
+        (
+          (array_rank_number (prefix_rank w.scope w.prefix prefix) ranked.0.0).1,
+          current_there (prefix_rank w.scope w.prefix prefix) ranked.0.0,
+          fits.0,
+          fits.1,
+        ),
+      )
 
   opened_fits : (opened : Opened) →
       FitsOpened base (rank_number (prefix_rank w.scope w.prefix prefix)) opened →
@@ -292,17 +289,17 @@ under_fits limits base call borders form rest (prefix ∷ prefixes) w result cur
     edges proper ranked fits laid =
     let rank : Rank = prefix_rank w.scope w.prefix prefix in
     let opened : Opened =
-        prefix_opened (is_last borders prefixes) w next.slots (line_of w prefix.at)
-        (current_for w prefix) prefix.region in
+    prefix_opened (is_last borders prefixes) w next.slots (line_of w prefix.at)
+    (current_for w prefix) prefix.region in
     let inner : Where = under_prefix w prefix opened in
     let over : Over = record { region = no_region; mask = mask_in w.environment prefix.mask } in
     let after : Next = behind next (of_opened opened) in
     let later : Lowered =
-        lowered_under borders (record { place = inner; call = call }) after prefixes rest in
+    lowered_under borders (record { place = inner; call = call }) after prefixes rest in
     let code = piece.Then (of_opened opened).code later.code in
     let first = laid_front base next code (of_opened opened) later laid in
     let opens = prefix_opens limits base w result currents edge reach prefix proper.0 ranked.0
-        (is_last borders prefixes) next.slots (line_of w prefix.at) first.slots_at in
+    (is_last borders prefixes) next.slots (line_of w prefix.at) first.slots_at in
     both_fit base (of_opened opened) later
     (opened_fits limits base w result currents edge reach prefix proper.0 ranked.0 opened opens)
     (under_fits limits base call borders form rest prefixes inner result

@@ -1,6 +1,6 @@
 -- Declared regions may stand in rows, and have slots of their ranks.
-use Rattle.std.proofs.Common.{◌≡◌, ℕ, zero, suc, ◌+◌, ◌<◌, ◌≤◌, Bool, true, false, if◌then◌else◌, ℤ, List, [], ◌∷◌, ◌++◌, map, length, refl, sym, ap, ◌∙◌, subst, arith, append_assoc, append-nil}
-use Rattle.std.specs.Prelude.{pos, cond, find, not, nat_lt, option_map, Option, Some, None, IsTrue, ◌≤ℤ◌}
+use Rattle.std.proofs.Common.{◌≡◌, ℕ, suc, ◌+◌, ◌<◌, Bool, true, false, if◌then◌else◌, ℤ, List, [], ◌∷◌, ◌++◌, map, length, refl, sym, ◌∙◌, subst, arith}
+use Rattle.std.specs.Prelude.{pos, cond, find, not, nat_lt, Option, Some, None, IsTrue, ◌≤ℤ◌}
 use Rattle.std.specs.Option.{option_or}
 use Rattle.std.specs.List.{AllByRecursion, position_or_len}
 use Rattle.std.proofs.lemmas.Bool.Decides.{nat_tests}
@@ -14,13 +14,13 @@ use Rattle.zpl_region.specs.Tests.{is_within_limit}
 use Rattle.zpl_tree.specs.Syntax.{Name, Pre, NamedRegion, Ditto, Inner, Rexpr, Dims, Posts, NoPost, ThenPost, DimText, Blank, Star, One, Span, DimTexts, NoDim, ThenDim, Bracket, NoBracket, Bracketed, Base, Define, RegionDef, DirDef, VarDef, Decl, Config, Constant, Regions, Directions, Vars, Defined, Program}
 use Rattle.zpl_names.specs.Kinds as kind
 use Rattle.zpl_names.specs.Kinds.{Kind}
-use Rattle.zpl_names.specs.Scope.{Entry, Scope, kind_in}
+use Rattle.zpl_names.specs.Scope.{Entry, Scope}
 use Rattle.zpl_names.specs.Ranks.{exprs_count, at_most_three}
 use Rattle.zpl_names.specs.Shapes.{declared_shape, variable_kind}
-use Rattle.zpl_names.specs.Declared.{entry_for, declaring, with_define, with_region, with_direction, with_variables, with_procedure, with_each, with_decl, signature_of, globals_of}
-use Rattle.zpl_binding.specs.Outcome.{RegionLimit, Outcome, Gives, Fails, and_then, value_or, Computed, outcome_or, outcome_of}
+use Rattle.zpl_names.specs.Declared.{declaring, with_define, with_region, with_direction, with_variables, with_each, with_decl, signature_of, globals_of}
+use Rattle.zpl_binding.specs.Outcome.{Outcome, Gives, Fails, and_then, Computed, outcome_or, outcome_of}
 use Rattle.zpl_binding.specs.Constants.{value_of}
-use Rattle.zpl_binding.specs.Regions.{Known, region_over, limited, dim_of, each_dim_of, spanned, behind, before, no_region, is_region_name, region_named, index_of, named_or_index, inner_of, region_of}
+use Rattle.zpl_binding.specs.Regions.{Known, region_over, limited, dim_of, each_dim_of, spanned, behind, before, no_region, is_region_name, region_named, index_of, inner_of, region_of}
 use Rattle.zpl_binding.specs.Settings.{Setting}
 use Rattle.zpl_binding.specs.Declarations.{with_all, with_config, with_constant, with_direction as known_direction, with_region as known_region, with_decl as known_decl, nothing_known, known_of}
 use Rattle.node_form.specs.declared.tables.Tables.{Tables}
@@ -240,18 +240,17 @@ slot_found base n (first ∷ rest) text one at found =
         (n + cond (not b) (1 + position_or_len (λ one. bytes_eq one.name text) rest) 0)
     by true later e =
         let same : first ≡ one = cc in
-        let here : n ≡ n + 0 = omega arith in
-        (
+        let here : n ≡ n + 0 = omega arith in (
           omega arith,
           subst (λ k. HasSlot base (region_rank one) k) here
-          (subst (λ found. HasSlot base (region_rank found) n) same at.0),
+              (subst (λ found. HasSlot base (region_rank found) n) same at.0),
         )
     by false later e =
         let there = later e in
         let below = there.0 in
         let same : suc n + position_or_len (λ (one : Computed Region). bytes_eq one.name text) rest
-            ≡ n + (1 + position_or_len (λ (one : Computed Region). bytes_eq one.name text) rest) =
-            omega arith in
+        ≡ n + (1 + position_or_len (λ (one : Computed Region). bytes_eq one.name text) rest) =
+        omega arith in
         (omega arith, subst (λ k. HasSlot base (region_rank one) k) same there.1)
 
 is_less : (m n : ℕ) → m < n → nat_lt m n ≡ true
@@ -262,8 +261,8 @@ slot_at : (known : Known) (name : Name) →
     region_slot known name ≡ position_or_len (λ one. bytes_eq one.name name.text) known.regions
 slot_at known name below =
     let less = is_less
-        (position_or_len (λ (one : Computed Region). bytes_eq one.name name.text) known.regions)
-        (length known.regions) below in
+    (position_or_len (λ (one : Computed Region). bytes_eq one.name name.text) known.regions)
+    (length known.regions) below in
     rw less refl
 
 pub has_slot : (base : Tables) (known : Known) (name : Name) (one : Computed Region) →
@@ -273,7 +272,7 @@ pub has_slot : (base : Tables) (known : Known) (name : Name) (one : Computed Reg
 has_slot base known name one at found =
     let there = slot_found base 0 known.regions name.text one at found in
     let m : ℕ = position_or_len (λ (one : Computed Region). bytes_eq one.name name.text)
-        known.regions in
+    known.regions in
     let zero_more : 0 + m ≡ m = omega arith in
     subst (λ k. HasSlot base (region_rank one) k) (zero_more ∙ sym (slot_at known name there.0))
     there.1

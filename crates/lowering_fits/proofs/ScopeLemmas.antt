@@ -1,17 +1,17 @@
 -- What was computed before the run fits the names in reach of a procedure.
-use Rattle.std.proofs.Common.{◌≡◌, ℕ, zero, suc, ◌+◌, ◌≤◌, Bool, true, false, ℤ, List, [], ◌∷◌, ◌++◌, map, length, refl, sym, ap, ◌∙◌, subst, arith}
-use Rattle.std.specs.Prelude.{pos, find, option_map, Option, Some, None}
+use Rattle.std.proofs.Common.{◌≡◌, ℕ, ℤ, List, [], map, length, refl, subst}
+use Rattle.std.specs.Prelude.{find, option_map, Option, Some, None}
 use Rattle.std.specs.Option.{option_or}
 use Rattle.std.specs.Str.{bytes_eq}
 use Rattle.zpl_region.specs.declared.regions.Region.{Region}
-use Rattle.zpl_tree.specs.Syntax.{Name, Dir, NamedDir, Vector, Exprs, Program}
+use Rattle.zpl_tree.specs.Syntax.{Name, Dir, NamedDir, Vector, Program}
 use Rattle.zpl_names.specs.Kinds as kind
 use Rattle.zpl_names.specs.Kinds.{Kind, Shape, Rank}
-use Rattle.zpl_names.specs.Scope.{Entry, Scope, kind_in, kind_of}
-use Rattle.zpl_names.specs.Ranks.{dir_rank, direction_rank, region_shape, exprs_count, at_most_three}
+use Rattle.zpl_names.specs.Scope.{kind_in, kind_of}
+use Rattle.zpl_names.specs.Ranks.{dir_rank, direction_rank, region_shape}
 use Rattle.zpl_names.specs.Declared.{Routine, globals_of, scope_of}
 use Rattle.zpl_binding.specs.Outcome.{Outcome, Gives, Fails, value_or, Computed, outcome_or, outcome_of}
-use Rattle.zpl_binding.specs.Vectors.{three_components, vector_of, dir_of}
+use Rattle.zpl_binding.specs.Vectors.{three_components, vector_of}
 use Rattle.zpl_binding.specs.Regions.{Known, no_region, region_named}
 use Rattle.zpl_binding.specs.Settings.{Setting}
 use Rattle.zpl_binding.specs.Declarations.{known_of}
@@ -151,10 +151,10 @@ module _ (tables : Tables) (program : Program) (settings : List Setting) (routin
   slot_of rank name is =
       let known : Known = known_of program settings in
       let there = entered_region rank (kind_in (globals_of program) name.text)
-          (find (λ one. bytes_eq one.name name.text) known.regions)
-          (globals_entered program settings name.text)
-          (global_region rank (kind_in routine.own name.text)
-          (kind_in (globals_of program) name.text) (own name.text) is) in
+      (find (λ one. bytes_eq one.name name.text) known.regions)
+      (globals_entered program settings name.text)
+      (global_region rank (kind_in routine.own name.text)
+      (kind_in (globals_of program) name.text) (own name.text) is) in
       subst (λ r. HasSlot tables r (region_slot known name))
       (rank_of_found rank name there.0 there.1 (box_of rank name is))
       (has_slot tables known name there.0 slots there.1)

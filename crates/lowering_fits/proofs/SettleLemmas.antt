@@ -1,10 +1,9 @@
 -- Expressions that are proper and whose ranks agree become expressions with slots that fit.
-use Rattle.std.proofs.Common.{◌≡◌, ℕ, zero, suc, ◌+◌, ◌<◌, ◌≤◌, ◌^◌, Bool, true, false, if◌then◌else◌, ℤ, List, [], ◌∷◌, ◌++◌, map, length, drop, take, refl, sym, ap, ◌∙◌, subst, arith, length-append}
-use Rattle.std.specs.Prelude.{pos, negsuc, Option, Some, None, IsSome, option_map, slice_get, All, replicate, int_rem, unsigned_abs}
+use Rattle.std.proofs.Common.{◌≡◌, ℕ, zero, suc, ◌≤◌, Bool, true, false, if◌then◌else◌, ℤ, List, [], ◌∷◌, ◌++◌, length, refl, sym, ap, ◌∙◌, subst, arith}
+use Rattle.std.specs.Prelude.{pos, Option, Some, None, IsSome, option_map, slice_get, replicate, int_rem, unsigned_abs}
 use Rattle.std.specs.Option.{IsSomeAnd}
 use Rattle.std.proofs.lemmas.Int.{ints}
-use lib.Signed.{mag, mag_rem}
-use Rattle.zpl_nums.specs.declared.folds.Fold.{Fold}
+use lib.Signed.{mag_rem}
 use Rattle.zpl_nums.specs.Integer.{truth}
 use Rattle.zpl_region.specs.declared.dims.Dim.{Dim}
 use Rattle.zpl_region.specs.declared.dims.Dim.TheVariants as dim
@@ -13,31 +12,29 @@ use Rattle.zpl_region.specs.Dim.{IsUpTo, extent}
 use Rattle.zpl_region.specs.Region.{moved}
 use Rattle.zpl_region.specs.Ends.{has_none}
 use Rattle.zpl_region.specs.Hull.{hull, hull_with, each_hull_with}
-use Rattle.zpl_arrays.specs.Around.{zeros, dim_rest, each_rest, copy_shift, copy_storage}
+use Rattle.zpl_arrays.specs.Around.{zeros, each_rest, copy_shift, copy_storage}
 use Rattle.zpl_tree.specs.Syntax.{Name, Expr, Number, Truth, Coord, Named, Shifted, Around, Remap, Call, Paren, Neg, Not, Abs, Pair, Reduce, Scan, Flood, Exprs, NoExpr, ThenExpr, Dir, Inner, NoBracket, Bracketed}
 use Rattle.zpl_names.specs.Kinds.{Shape, Rank}
-use Rattle.zpl_names.specs.Scope.{Scope, kind_of}
-use Rattle.zpl_names.specs.Ranks.{own_rank, operand_rank, inner_rank, array_rank, array_shape, exprs_count, dir_rank}
+use Rattle.zpl_names.specs.Scope.{kind_of}
+use Rattle.zpl_names.specs.Ranks.{own_rank, operand_rank, array_rank, array_shape, exprs_count, dir_rank}
 use Rattle.zpl_names.specs.Faults.{has_flood}
 use Rattle.zpl_binding.specs.Regions.{no_region}
-use Rattle.zpl_meaning.specs.Store.{Thing, Scalar, ArrayAt, Fixed, Environment, thing_of}
+use Rattle.zpl_meaning.specs.Store.{Thing, Scalar, ArrayAt, Fixed, thing_of}
 use Rattle.zpl_meaning.specs.Regions.{vector_in}
-use Rattle.zpl_meaning.specs.Context.{Over, Currents, with_over, Edge, Place}
+use Rattle.zpl_meaning.specs.Context.{Over, Currents, with_over, Edge}
 use Rattle.zpl_meaning.specs.Proper.{HasCurrent, IsArrayRank, IsProperRegion, IsProperInner, IsRead, IsArrayRead, IsProper, AreProper}
 use Rattle.meaning_ranks.specs.Ranked.{IsRegionOf, IsInnerOf, HasDimension, GoesAlong, IsNameOf, IsOfRank as IsRankedAt, AreOfRank as AreRankedAt}
-use Rattle.node_form.specs.declared.arrays.ArrayRow.{ArrayRow}
 use Rattle.node_form.specs.declared.tables.Tables.{Tables}
-use Rattle.node_form.specs.Fits.{IsRank, IsVector, HasSlot, HasArray, IsStored, FitsRegion}
-use Rattle.flat_form.specs.Row.{Row}
+use Rattle.node_form.specs.Fits.{IsRank, IsVector}
 use Rattle.zpl_lowering.specs.Where.{Stored, Numbers, Slotted, SlotCurrents, slotted_or, slotted_at, with_slotted, Where, Next}
 use Rattle.zpl_lowering.specs.Slate as slate
 use Rattle.zpl_lowering.specs.Slate.{Slate, Slates, NoSlate, ThenSlate, Settled, alone, behind, both, named_slate, shifted_slate, remap_slate, border_slots, around_slate, source_of, under_source, source_rank, opened_source, of_opened, settled, settled_all}
-use Rattle.zpl_lowering.specs.Bracket.{Opened, bracket}
+use Rattle.zpl_lowering.specs.Bracket.{Opened}
 use Rattle.zpl_lowering.specs.Hoist.{along_of}
 use Rattle.lowering_fits.specs.Inline.{FitRows}
-use Rattle.lowering_fits.specs.Slates.{SlotsAt, StoragesAt, AllRanges, IsRowOf, HasStorage, FitNumbers, IsOfRank, IsRemapOf, IsMaskOf, FitsOver, slates_count, FitsCopy, FitsSlate, FitsSlates}
+use Rattle.lowering_fits.specs.Slates.{SlotsAt, StoragesAt, IsOfRank, IsRemapOf, FitsOver, slates_count, FitsSlate, FitsSlates}
 use Rattle.lowering_fits.specs.Lowerings.{AllRanks}
-use Rattle.lowering_fits.specs.Reach.{FitsKnown, FitsCurrent, FitCurrents, place_at, IsStoredAs, FitsName, FitNames, HasFlatRemaps, HaveFlatRemaps, IsReach}
+use Rattle.lowering_fits.specs.Reach.{FitsCurrent, FitCurrents, place_at, IsStoredAs, HasFlatRemaps, HaveFlatRemaps, IsReach}
 use Rattle.lowering_fits.proofs.TreeLemmas.{slots_first, slots_rest, storages_first, storages_rest, array_of, stored_of}
 use Rattle.lowering_fits.proofs.VectorLemmas.{VectorBy, by_vector, vector_by}
 use Rattle.lowering_fits.proofs.SlateLemmas.{rows_both}
@@ -251,12 +248,11 @@ module _ (base : Tables) (w : Where) (currents : Currents) (reach : IsReach base
       (slate.Element (slotted_at w.currents rank).slot place shift)
   element_slate rank name place home shift e is has vector =
       let over = over_here rank has in
-      let found = reach.names name place home e in
-      (
+      let found = reach.names name place home e in (
         over.is_rank,
         over.has,
         stored_rank rank (array_shape (kind_of w.scope name)) (slice_get w.numbers.arrays place) is
-        found.has,
+            found.has,
         vector,
       )
 
@@ -304,10 +300,10 @@ module _ (base : Tables) (w : Where) (currents : Currents) (reach : IsReach base
       let found = reach.names name place home e in
       let number : ℕ = rank_number rank in
       let same : home.rank ≡ number =
-          number_is rank home.rank (array_shape (kind_of w.scope name)) is found.same in
+      number_is rank home.rank (array_shape (kind_of w.scope name)) is found.same in
       let moves : List ℤ = copy_shift home shift in
       let copied : (copy_storage home shift).rank ≡ number =
-          hull_rank home (moved moves home) refl ∙ same in
+      hull_rank home (moved moves home) refl ∙ same in
       record {
         own = record {
           rows_fit = tt;
@@ -318,7 +314,7 @@ module _ (base : Tables) (w : Where) (currents : Currents) (reach : IsReach base
           over.is_rank,
           over.has,
           stored_rank rank (array_shape (kind_of w.scope name)) (slice_get w.numbers.arrays place)
-          is found.has,
+              is found.has,
           copy_vector number home shift vector,
           record {
             box = found.box;
@@ -346,12 +342,11 @@ module _ (base : Tables) (w : Where) (currents : Currents) (reach : IsReach base
       FitsSlate base w.numbers (rank_number rank)
       (remap_slate (slotted_at w.currents rank) thing indices)
   remap_fits rank name count indices (Some (ArrayAt place home)) e read is flat counted fits =
-      let found = reach.names name place home e in
-      (
+      let found = reach.names name place home e in (
         over_here rank read.1,
         subst (λ n. IsRemapOf n (slice_get w.numbers.arrays place)) (sym counted)
-        (stored_flat (Some count) (array_shape (kind_of w.scope name))
-        (slice_get w.numbers.arrays place) is flat found.has),
+            (stored_flat (Some count) (array_shape (kind_of w.scope name))
+            (slice_get w.numbers.arrays place) is flat found.has),
         fits,
       )
   remap_fits rank name count indices (Some (Scalar place)) e read is flat counted fits = tt
@@ -451,8 +446,8 @@ mutual
   settled_fits limits base w result currents edge reach line next rank (Remap at name indices)
       proper ranked flat laid =
       let inner = all_settled_fit limits base w result currents edge reach line next rank indices
-          proper.1 ranked.1 flat.1
-          (record { slots_at = laid.slots_at; copies_at = laid.copies_at }) in
+      proper.1 ranked.1 flat.1
+      (record { slots_at = laid.slots_at; copies_at = laid.copies_at }) in
       record {
         own = record { rows_fit = inner.own.rows_fit; ranks = inner.own.ranks };
         fits = remap_fits base w currents reach rank name (exprs_count indices)
@@ -468,8 +463,8 @@ mutual
   settled_fits limits base w result currents edge reach line next rank (Neg at operand) proper
       ranked flat laid =
       let inner = settled_fits limits base w result currents edge reach line next rank operand
-          proper ranked flat
-          (record { slots_at = laid.slots_at; copies_at = laid.copies_at }) in
+      proper ranked flat
+      (record { slots_at = laid.slots_at; copies_at = laid.copies_at }) in
       record {
         own = record { rows_fit = inner.own.rows_fit; ranks = inner.own.ranks };
         fits = inner.fits;
@@ -477,8 +472,8 @@ mutual
   settled_fits limits base w result currents edge reach line next rank (Not at operand) proper
       ranked flat laid =
       let inner = settled_fits limits base w result currents edge reach line next rank operand
-          proper ranked flat
-          (record { slots_at = laid.slots_at; copies_at = laid.copies_at }) in
+      proper ranked flat
+      (record { slots_at = laid.slots_at; copies_at = laid.copies_at }) in
       record {
         own = record { rows_fit = inner.own.rows_fit; ranks = inner.own.ranks };
         fits = inner.fits;
@@ -486,8 +481,8 @@ mutual
   settled_fits limits base w result currents edge reach line next rank (Abs at operand) proper
       ranked flat laid =
       let inner = settled_fits limits base w result currents edge reach line next rank operand
-          proper ranked flat
-          (record { slots_at = laid.slots_at; copies_at = laid.copies_at }) in
+      proper ranked flat
+      (record { slots_at = laid.slots_at; copies_at = laid.copies_at }) in
       record {
         own = record { rows_fit = inner.own.rows_fit; ranks = inner.own.ranks };
         fits = inner.fits;
@@ -497,10 +492,10 @@ mutual
       let first : Settled Slate = settled w line next rank left in
       let rest : Settled Slate = settled w line (behind next first) rank right in
       let one = settled_fits limits base w result currents edge reach line next rank left proper.0
-          ranked.0 flat.0 (laid_first base next (slate.Binary op) first rest laid) in
+      ranked.0 flat.0 (laid_first base next (slate.Binary op) first rest laid) in
       let other = settled_fits limits base w result currents edge reach line (behind next first)
-          rank right proper.1 ranked.1 flat.1
-          (laid_rest base next (slate.Binary op) first rest laid) in
+      rank right proper.1 ranked.1 flat.1
+      (laid_rest base next (slate.Binary op) first rest laid) in
       record {
         own = own_both base (slate.Binary op) first rest one.own other.own;
         fits = (one.fits, other.fits);
@@ -509,8 +504,8 @@ mutual
       (Reduce at operator NoBracket operand) proper ranked flat laid =
       let over : Rank = operand_rank w.scope w.prefix operand in
       let inner = settled_fits limits base w result currents edge reach line next over operand
-          proper.1 ranked flat
-          (record { slots_at = laid.slots_at; copies_at = laid.copies_at }) in
+      proper.1 ranked flat
+      (record { slots_at = laid.slots_at; copies_at = laid.copies_at }) in
       record {
         own = record { rows_fit = inner.own.rows_fit; ranks = inner.own.ranks };
         fits = (
@@ -527,17 +522,17 @@ mutual
       let first : Settled Slotted = of_opened opened in
       let rest : Settled Slate = settled under line (behind next first) over operand in
       let join : Slotted → Slate → Slate =
-          slate.PartFolded operator (slotted_at w.currents over) in
+      slate.PartFolded operator (slotted_at w.currents over) in
       let of = ranked.1 in
       let is : IsRank number = (array_rank_number over of.0).0 in
       let fits = source_fits limits base w result currents edge reach next line source operand
-          proper.0 proper.1 of (laid_first base next join first rest laid).slots_at in
+      proper.0 proper.1 of (laid_first base next join first rest laid).slots_at in
       let from = source_over base w.numbers number opened is fits in
       let inner = settled_fits limits base under result
-          (with_over currents over (record { region = no_region; mask = None })) edge
-          (reach_under base w currents reach over no_region (source_of opened) from) line
-          (behind next first) over operand (proper.2 no_region) (ranked.2 no_region) flat
-          (laid_rest base next join first rest laid) in
+      (with_over currents over (record { region = no_region; mask = None })) edge
+      (reach_under base w currents reach over no_region (source_of opened) from) line
+      (behind next first) over operand (proper.2 no_region) (ranked.2 no_region) flat
+      (laid_rest base next join first rest laid) in
       record {
         own = own_both base join first rest (opened_own base number opened is fits) inner.own;
         fits = subst
@@ -548,8 +543,8 @@ mutual
   settled_fits limits base w result currents edge reach line next rank
       (Scan at operator along operand) proper ranked flat laid =
       let inner = settled_fits limits base w result currents edge reach line next rank operand
-          proper.1 ranked.1 flat
-          (record { slots_at = laid.slots_at; copies_at = laid.copies_at }) in
+      proper.1 ranked.1 flat
+      (record { slots_at = laid.slots_at; copies_at = laid.copies_at }) in
       record {
         own = record { rows_fit = inner.own.rows_fit; ranks = inner.own.ranks };
         fits = (
@@ -570,13 +565,13 @@ mutual
       let of = ranked.1 in
       let is : IsRank number = (array_rank_number over of.0).0 in
       let fits = source_fits limits base w result currents edge reach next line source operand
-          proper.0 proper.1 of (laid_first base next join first rest laid).slots_at in
+      proper.0 proper.1 of (laid_first base next join first rest laid).slots_at in
       let from = source_over base w.numbers number opened is fits in
       let inner = settled_fits limits base under result
-          (with_over currents over (record { region = no_region; mask = None })) edge
-          (reach_under base w currents reach over no_region (source_of opened) from) line
-          (behind next first) over operand (proper.2 no_region) (ranked.2 no_region) flat
-          (laid_rest base next join first rest laid) in
+      (with_over currents over (record { region = no_region; mask = None })) edge
+      (reach_under base w currents reach over no_region (source_of opened) from) line
+      (behind next first) over operand (proper.2 no_region) (ranked.2 no_region) flat
+      (laid_rest base next join first rest laid) in
       record {
         own = own_both base join first rest (opened_own base number opened is fits) inner.own;
         fits = subst
@@ -600,10 +595,10 @@ mutual
       let first : Settled Slate = settled w line next rank one in
       let rest : Settled Slates = settled_all w line (behind next first) rank others in
       let here = settled_fits limits base w result currents edge reach line next rank one proper.0
-          ranked.0 flat.0 (laid_first base next ThenSlate first rest laid) in
+      ranked.0 flat.0 (laid_first base next ThenSlate first rest laid) in
       let there = all_settled_fit limits base w result currents edge reach line
-          (behind next first) rank others proper.1 ranked.1 flat.1
-          (laid_rest base next ThenSlate first rest laid) in
+      (behind next first) rank others proper.1 ranked.1 flat.1
+      (laid_rest base next ThenSlate first rest laid) in
       record {
         own = own_both base ThenSlate first rest here.own there.own;
         fits = (here.fits, there.fits);

@@ -1,48 +1,41 @@
 -- What comes of expressions with slots fits: the rows of their operators, and what is left.
-use Rattle.std.proofs.Common.{◌≡◌, ℕ, zero, suc, ◌+◌, ◌<◌, ◌≤◌, Bool, true, false, ℤ, List, [], ◌∷◌, ◌++◌, map, length, drop, take, refl, sym, ap, ◌∙◌, subst, arith, length-append}
+use Rattle.std.proofs.Common.{◌≡◌, ℕ, zero, suc, ◌+◌, ◌<◌, ◌≤◌, Bool, true, false, ℤ, List, [], ◌∷◌, ◌++◌, map, length, drop, take, refl, sym, ap, ◌∙◌, subst, arith}
 use Rattle.std.specs.Prelude.{pos, neg_ℤ, Option, Some, None, slice_get, All, replicate}
 use Rattle.std.specs.List.{AllByRecursion}
 use Rattle.std.specs.Option.{IfSome, IsSomeAnd, IsNone}
-use Rattle.std.proofs.lemmas.Int.{ints}
-use Rattle.std.proofs.lemmas.List.{length-replicate}
-use Rattle.std.proofs.lemmas.List.Elements.{All-append, All-cons, All-nil, All-head, All-tail, All-from_recursion, All-weaker}
+use Rattle.std.proofs.lemmas.List.Elements.{All-from_recursion}
 use Rattle.zpl_nums.specs.declared.folds.Fold.{Fold}
 use Rattle.zpl_nums.specs.declared.folds.Fold.TheVariants as fold
 use Rattle.zpl_nums.specs.declared.operators.UnaryOp.{UnaryOp}
 use Rattle.zpl_nums.specs.declared.operators.UnaryOp.TheVariants as unary
 use Rattle.zpl_nums.specs.declared.operators.Op.TheVariants as op
-use Rattle.zpl_nums.specs.declared.ends.TrapKind.TheVariants as trap
 use Rattle.zpl_nums.specs.Fold.{unit_of}
 use Rattle.zpl_region.specs.declared.dims.Dim.{Dim}
 use Rattle.zpl_region.specs.declared.dims.Dim.TheVariants as dim
 use Rattle.zpl_region.specs.declared.regions.Region.{Region}
-use Rattle.zpl_region.specs.Dim.{IsUpTo}
 use Rattle.zpl_meaning.specs.Context.{Mask}
 use Rattle.node_form.specs.declared.arrays.ArrayRow.{ArrayRow}
-use Rattle.node_form.specs.declared.instructions.Instr.{Instr}
 use Rattle.node_form.specs.declared.instructions.Instr.TheVariants as instr
 use Rattle.node_form.specs.declared.tables.Tables.{Tables}
 use Rattle.node_form.specs.Expression as expr
 use Rattle.node_form.specs.Expression.{Expression, words_of}
-use Rattle.node_form.specs.Value.{unmoved}
 use Rattle.node_form.specs.Nest as nest
 use Rattle.node_form.specs.Nest.{IsNest}
-use Rattle.node_form.specs.Fits.{IsRank, IsVector, HasSlot, HasArray, IsStored, IsTemporary, FitsWord, IsScalarWord, FitsRegion, FitsRemap, IsIndexArray}
+use Rattle.node_form.specs.Fits.{IsRank, IsVector, HasSlot, HasArray, IsTemporary, FitsRemap, IsIndexArray}
 use Rattle.row_runs.specs.Structured as piece
 use Rattle.row_runs.specs.Structured.{Piece}
 use Rattle.flat_form.specs.Row as row
 use Rattle.flat_form.specs.Row.{Row, Member, Words, group_coded}
-use Rattle.zpl_lowering.specs.Check.{Check}
 use Rattle.zpl_lowering.specs.Where.{Stored, Numbers, Slotted}
 use Rattle.zpl_lowering.specs.Words.{variable_code}
 use Rattle.zpl_lowering.specs.Reference.{is_unmoved, vector_over}
 use Rattle.zpl_lowering.specs.Slate as slate
 use Rattle.zpl_lowering.specs.Slate.{Slate, Slates, NoSlate, ThenSlate, border_slots}
-use Rattle.zpl_lowering.specs.Hoist.{Shifted, Hoisted, Free, alone, behind, both, neighbour_if, element_code, shifted_if, shifts_of, element_of, stored_element, array_code, mask_word, mask_code, unary_code, fold_rows, folding, kept_rows, part_folding, flooding, along_of, scan_row, scan_with, scan_without, masked_scan, number_of, scanning, temps_from, some_of, three_of, rooms, index_puts, past_dim, past_dims, any_of, outside_code, trap_if, remap_code, remapping, border_vectors, border_rows, copy_rows, wrapping, hoisted, all_hoisted}
-use Rattle.lowering_fits.specs.Inline.{long, FitsWords, FitsScalar, FitsMask, FitsRow, FitRows, FitsPiece, FitsLoop, AllInside}
+use Rattle.zpl_lowering.specs.Hoist.{Hoisted, Free, alone, behind, both, neighbour_if, element_code, shifted_if, shifts_of, stored_element, array_code, mask_word, mask_code, unary_code, fold_rows, folding, kept_rows, part_folding, flooding, along_of, scan_row, scan_with, scan_without, masked_scan, number_of, scanning, temps_from, some_of, three_of, rooms, index_puts, past_dims, any_of, outside_code, trap_if, remap_code, remapping, border_vectors, border_rows, wrapping, hoisted, all_hoisted}
+use Rattle.lowering_fits.specs.Inline.{long, FitsMask, FitsRow, FitRows, FitsPiece, AllInside}
 use Rattle.lowering_fits.specs.Slates.{SlotsAt, TempsAt, AllRanges, IsRowOf, HasStorage, FitNumbers, IsOfRank, IsRemapOf, IsMaskOf, FitsOver, slates_count, FitsCopy, FitsSlate, FitsSlates, FitsTree, FitTrees, AllTemps, AllShifts, IsPlaced, FitsHoist}
-use Rattle.lowering_fits.proofs.VectorLemmas.{VectorBy, by_vector, vector_by, opposite_by, VectorsBy, borders_by, double, border_count}
-use Rattle.lowering_fits.proofs.TreeLemmas.{tree_fits, tree_of_rank, scalar_tree, IsBelow, below_at, variable_fits, IsThere, stored_at, array_of, stored_of, temps_first, temps_rest, temps_both, shifts_both, over_fits}
+use Rattle.lowering_fits.proofs.VectorLemmas.{by_vector, vector_by, opposite_by, VectorsBy, borders_by, double, border_count}
+use Rattle.lowering_fits.proofs.TreeLemmas.{tree_fits, scalar_tree, below_at, variable_fits, IsThere, stored_at, array_of, temps_first, temps_rest, temps_both, shifts_both, over_fits}
 
 -- ---- groups of one and of two members
 
@@ -122,11 +115,10 @@ module _ (base : Tables) where
       IsRank rank → HasSlot base rank slot → HasArray base rank temp → IsTemporary base temp →
       FitsTree base rank tree → FitsMask base rank mask →
       FitRows base 0 (kept_rows line temp slot tree mask)
-  kept_fits rank line temp slot tree mask is has there temporary fits masked =
-      (
-        room_fits rank temp slot has there temporary,
-        (put_loop rank slot temp tree mask line is has there fits masked, tt),
-      )
+  kept_fits rank line temp slot tree mask is has there temporary fits masked = (
+    room_fits rank temp slot has there temporary,
+    (put_loop rank slot temp tree mask line is has there fits masked, tt),
+  )
 
   -- ---- masks
 
@@ -272,13 +264,12 @@ module _ (base : Tables) where
       let top = placed.below in
       let below : scalar < base.scalars = omega arith in
       rows_behind rank under operand (fold_rows numbers line scalar operator over operand.left) 1 []
-      (expr.Variable scalar) left
-      (
+      (expr.Variable scalar) left (
         set_fits base scalar (expr.Constant (unit_of operator)) line below tt,
         (
           acc_loop base under over.slot scalar operator operand.left (mask_code numbers over.mask)
-          line is.is_rank is.has below left.left
-          (mask_fits base numbers under over.mask fits is.is_rank is.masked),
+              line is.is_rank is.has below left.left
+              (mask_fits base numbers under over.mask fits is.is_rank is.masked),
           (fold_fits base scalar operator below, tt),
         ),
       ) tt below
@@ -301,10 +292,10 @@ module _ (base : Tables) where
   part_fit numbers rank line free operator over source operand is from left placed =
       let temp : ℕ = free.temps + length operand.temps in
       let temps = temps_rest base free.temps operand.temps (source.flood ∷ over.flood ∷ [])
-          placed.temps_at in
+      placed.temps_at in
       let first : HasArray base rank temp = temp_of rank temp source.flood from.floods temps.0 in
       let second : HasArray base rank (suc temp) =
-          temp_of rank (suc temp) over.flood is.floods temps.1.0 in
+      temp_of rank (suc temp) over.flood is.floods temps.1.0 in
       rows_behind rank rank operand
       (kept_rows line temp source.slot operand.left None
       ++ row.Plain (instr.Room (suc temp) over.slot)
@@ -314,12 +305,10 @@ module _ (base : Tables) where
       (row.Plain (instr.Room (suc temp) over.slot)
       ∷ row.Plain (instr.Part (suc temp) over.slot operator temp source.slot) ∷ [])
       (kept_fits base rank line temp source.slot operand.left None is.is_rank from.has first
-      temps.0.1 left.left tt)
-      (
+      temps.0.1 left.left tt) (
         room_fits base rank (suc temp) over.slot is.has second temps.1.0.1,
         ((record { rank = rank; fit = (is.has, from.has, second, first) }, tt), tt),
-      ))
-      (
+      )) (
         rank_of_flood rank source.flood from.floods is.is_rank,
         (rank_of_flood rank over.flood is.floods is.is_rank, tt),
       ) (is.is_rank, second)
@@ -333,10 +322,10 @@ module _ (base : Tables) where
   flood_fit numbers rank line free over source operand is from left placed =
       let temp : ℕ = free.temps + length operand.temps in
       let temps = temps_rest base free.temps operand.temps (source.flood ∷ over.flood ∷ [])
-          placed.temps_at in
+      placed.temps_at in
       let first : HasArray base rank temp = temp_of rank temp source.flood from.floods temps.0 in
       let second : HasArray base rank (suc temp) =
-          temp_of rank (suc temp) over.flood is.floods temps.1.0 in
+      temp_of rank (suc temp) over.flood is.floods temps.1.0 in
       rows_behind rank rank operand
       (kept_rows line temp source.slot operand.left None
       ++ row.Plain (instr.Room (suc temp) over.slot)
@@ -346,12 +335,10 @@ module _ (base : Tables) where
       (row.Plain (instr.Room (suc temp) over.slot)
       ∷ row.Plain (instr.Flood (suc temp) over.slot temp source.slot) ∷ [])
       (kept_fits base rank line temp source.slot operand.left None is.is_rank from.has first
-      temps.0.1 left.left tt)
-      (
+      temps.0.1 left.left tt) (
         room_fits base rank (suc temp) over.slot is.has second temps.1.0.1,
         ((record { rank = rank; fit = (is.has, from.has, second, first) }, tt), tt),
-      ))
-      (
+      )) (
         rank_of_flood rank source.flood from.floods is.is_rank,
         (rank_of_flood rank over.flood is.floods is.is_rank, tt),
       ) (is.is_rank, second)
@@ -364,8 +351,7 @@ module _ (base : Tables) where
       HasArray base rank from → IfSome mask (HasArray base rank) →
       FitRows base 0 (scan_row temp from operator along over mask)
   scan_row_fits numbers rank temp from operator along over mask is within there temporary has
-      masked =
-      (
+      masked = (
         room_fits base rank temp over.slot is.has there temporary,
         ((record { rank = rank; fit = (is.has, there, has, masked, within) }, tt), tt),
       )
@@ -395,8 +381,7 @@ module _ (base : Tables) where
   scan_without_fits numbers rank line from operator along over tree mask fits is within first one
       second two third three left masked =
       let masks = mask_fits base numbers rank over.mask fits is.is_rank is.masked in
-      let inverse : Expression = expr.Denial (expr.Element mask) in
-      (
+      let inverse : Expression = expr.Denial (expr.Element mask) in (
         room_fits base rank from over.slot is.has first one,
         (
           room_fits base rank (suc from) over.slot is.has second two,
@@ -414,7 +399,7 @@ module _ (base : Tables) where
               );
             },
             scan_row_fits numbers rank (suc (suc from)) from operator along over
-            (Some (suc from)) is within third three first second,
+                (Some (suc from)) is within third three first second,
           ),
         ),
       )
@@ -438,10 +423,10 @@ module _ (base : Tables) where
       placed =
       let temp : ℕ = free.temps + length operand.temps in
       let temps = temps_rest base free.temps operand.temps (over.flood ∷ over.flood ∷ [])
-          placed.temps_at in
+      placed.temps_at in
       let first : HasArray base rank temp = temp_of rank temp over.flood is.floods temps.0 in
       let second : HasArray base rank (suc temp) =
-          temp_of rank (suc temp) over.flood is.floods temps.1.0 in
+      temp_of rank (suc temp) over.flood is.floods temps.1.0 in
       let ranked = rank_of_flood rank over.flood is.floods is.is_rank in
       rows_behind rank rank operand
       (scan_with numbers line temp operator along over operand.left mask) 0
@@ -466,12 +451,12 @@ module _ (base : Tables) where
       masked placed =
       let temp : ℕ = free.temps + length operand.temps in
       let temps = temps_rest base free.temps operand.temps
-          (over.flood ∷ over.flood ∷ over.flood ∷ []) placed.temps_at in
+      (over.flood ∷ over.flood ∷ over.flood ∷ []) placed.temps_at in
       let first : HasArray base rank temp = temp_of rank temp over.flood is.floods temps.0 in
       let second : HasArray base rank (suc temp) =
-          temp_of rank (suc temp) over.flood is.floods temps.1.0 in
+      temp_of rank (suc temp) over.flood is.floods temps.1.0 in
       let third : HasArray base rank (suc (suc temp)) =
-          temp_of rank (suc (suc temp)) over.flood is.floods temps.1.1.0 in
+      temp_of rank (suc (suc temp)) over.flood is.floods temps.1.1.0 in
       let ranked = rank_of_flood rank over.flood is.floods is.is_rank in
       rows_behind rank rank operand
       (scan_without numbers line temp operator along over operand.left mask) 0
@@ -504,15 +489,13 @@ module _ (base : Tables) where
       TempsAt base n (replicate count flood)
       × (HasArray base (length flood) (n + count) × IsTemporary base (n + count))
   all_but_last n zero flood at =
-      let same : n ≡ n + 0 = omega arith in
-      (
+      let same : n ≡ n + 0 = omega arith in (
         tt,
         subst (λ k. HasArray base (length flood) k × IsTemporary base k) same at.0,
       )
   all_but_last n (suc count) flood at =
       let rest = all_but_last (suc n) count flood at.1 in
-      let same : suc n + count ≡ n + suc count = omega arith in
-      (
+      let same : suc n + count ≡ n + suc count = omega arith in (
         (at.0, rest.0),
         subst (λ k. HasArray base (length flood) k × IsTemporary base k) same rest.1,
       )
@@ -522,11 +505,10 @@ module _ (base : Tables) where
       TempsAt base temp (replicate (length exprs) flood) →
       FitRows base 0 (rooms slot (temps_from temp exprs))
   rooms_fit rank temp slot flood [] same has at = tt
-  rooms_fit rank temp slot flood (one ∷ exprs) same has at =
-      (
-        room_fits base rank temp slot has (temp_of rank temp flood same at.0) at.0.1,
-        rooms_fit rank (suc temp) slot flood exprs same has at.1,
-      )
+  rooms_fit rank temp slot flood (one ∷ exprs) same has at = (
+    room_fits base rank temp slot has (temp_of rank temp flood same at.0) at.0.1,
+    rooms_fit rank (suc temp) slot flood exprs same has at.1,
+  )
 
   puts_nest : (line temp : ℕ) (mask : Option Words) (exprs : List Expression) (n : ℕ) →
       IsNest (group_coded n (index_puts line mask temp exprs))
@@ -540,11 +522,10 @@ module _ (base : Tables) where
       FitTrees base rank exprs → TempsAt base temp (replicate (length exprs) flood) →
       AllInside base rank (index_puts line mask temp exprs)
   puts_fit rank line temp mask flood [] same masked fit at = tt
-  puts_fit rank line temp mask flood (one ∷ exprs) same masked fit at =
-      (
-        (temp_of rank temp flood same at.0, tree_fits base rank one fit.0, masked),
-        puts_fit rank line (suc temp) mask flood exprs same masked fit.1 at.1,
-      )
+  puts_fit rank line temp mask flood (one ∷ exprs) same masked fit at = (
+    (temp_of rank temp flood same at.0, tree_fits base rank one fit.0, masked),
+    puts_fit rank line (suc temp) mask flood exprs same masked fit.1 at.1,
+  )
 
   trees_both : (rank : ℕ) (xs ys : List Expression) → FitTrees base rank xs →
       FitTrees base rank ys → FitTrees base rank (xs ++ ys)
@@ -558,8 +539,7 @@ module _ (base : Tables) where
   past_fit rank temp flood [] exprs is same few at = tt
   past_fit rank temp flood (one ∷ dims) [] is same few at = absurd (omega arith)
   past_fit rank temp flood (dim.Range lo hi step align ∷ dims) (expr ∷ exprs) is same few at =
-      let has = temp_of rank temp flood same at.0 in
-      (
+      let has = temp_of rank temp flood same at.0 in (
         ((is, has), tt),
         (((is, has), tt), past_fit rank (suc temp) flood dims exprs is same (omega arith) at.1),
       )
@@ -592,11 +572,10 @@ module _ (base : Tables) where
   given_fit rank zero temp target flood [] same below at = tt
   given_fit rank zero temp target flood (one ∷ exprs) same below at = tt
   given_fit rank (suc n) temp target flood [] same below at = tt
-  given_fit rank (suc n) temp target flood (one ∷ exprs) same below at =
-      (
-        (temp_of rank temp flood same at.0, at.0.1, λ is. absurd (omega arith)),
-        given_fit rank n (suc temp) target flood exprs same (omega arith) at.1,
-      )
+  given_fit rank (suc n) temp target flood (one ∷ exprs) same below at = (
+    (temp_of rank temp flood same at.0, at.0.1, λ is. absurd (omega arith)),
+    given_fit rank n (suc temp) target flood exprs same (omega arith) at.1,
+  )
 
   absent_fit : (n temp : ℕ) (exprs : List Expression) →
       AllByRecursion (λ (part : Option ℕ). IsNone part) (drop (length exprs) (some_of n (temps_from temp exprs)))
@@ -613,8 +592,7 @@ module _ (base : Tables) where
       FitsRow base 0
       (row.Plain (instr.Remap target slot array (three_of (temps_from temp exprs))))
   remap_instr rank slot target array storage temp flood exprs same has there temporary stored
-      counted ranges below at =
-      (
+      counted ranges below at = (
         record {
           rank = rank;
           fit = (has, there, temporary, by (slice_get base.arrays array) stored);
@@ -643,11 +621,10 @@ module _ (base : Tables) where
           }
 
   trap_fits : (scalar line : ℕ) → scalar < base.scalars → FitsPiece base (trap_if scalar line)
-  trap_fits scalar line below =
-      (
-        scalar_tree base (expr.Variable scalar) below,
-        ((record { rank = 1; fit = tt }, tt), tt),
-      )
+  trap_fits scalar line below = (
+    scalar_tree base (expr.Variable scalar) below,
+    ((record { rank = 1; fit = tt }, tt), tt),
+  )
 
   remap_fits : (numbers : Numbers) (rank line scalar temp : ℕ) (over : Slotted) (array : ℕ)
       (storage : Region) (exprs : List Expression) → FitNumbers base numbers →
@@ -664,42 +641,40 @@ module _ (base : Tables) where
       let target : ℕ = temp + length exprs in
       let has : HasArray base rank target = temp_of rank target over.flood is.floods two.1 in
       let few : length (take storage.rank storage.dims) ≤ length exprs =
-          omega (arith, few_taken storage.rank storage.dims) in
-      (
+      omega (arith, few_taken storage.rank storage.dims) in (
         rows_both base (rooms over.slot (temps_from temp exprs))
-        (row.Loop over.slot (index_puts line mask temp exprs)
-        ∷ row.Set scalar (words_of (expr.Constant (pos 0))) line
-        ∷ row.Loop over.slot
-        (row.Acc scalar fold.Any (words_of (outside_code temp storage)) mask line ∷ [])
-        ∷ row.Plain (instr.Fold scalar fold.Any) ∷ [])
-        (rooms_fit rank temp over.slot over.flood exprs is.floods is.has two.0)
-        (
-          record {
-            rank = rank;
-            is_rank = is.is_rank;
-            over = is.has;
-            nest = puts_nest line temp mask exprs;
-            fit = puts_fit rank line temp mask over.flood exprs is.floods masks fit two.0;
-          },
-          (
-            set_fits base scalar (expr.Constant (pos 0)) line below tt,
-            (
-              acc_loop base rank over.slot scalar fold.Any (outside_code temp storage) mask line
-              is.is_rank is.has below
-              (any_of_fits rank (past_dims temp (take storage.rank storage.dims))
-              (past_fit rank temp over.flood (take storage.rank storage.dims) exprs is.is_rank
-              is.floods few two.0)) masks,
-              (fold_fits base scalar fold.Any below, tt),
+            (row.Loop over.slot (index_puts line mask temp exprs)
+            ∷ row.Set scalar (words_of (expr.Constant (pos 0))) line
+            ∷ row.Loop over.slot
+            (row.Acc scalar fold.Any (words_of (outside_code temp storage)) mask line ∷ [])
+            ∷ row.Plain (instr.Fold scalar fold.Any) ∷ [])
+            (rooms_fit rank temp over.slot over.flood exprs is.floods is.has two.0) (
+              record {
+                rank = rank;
+                is_rank = is.is_rank;
+                over = is.has;
+                nest = puts_nest line temp mask exprs;
+                fit = puts_fit rank line temp mask over.flood exprs is.floods masks fit two.0;
+              },
+              (
+                set_fits base scalar (expr.Constant (pos 0)) line below tt,
+                (
+                  acc_loop base rank over.slot scalar fold.Any (outside_code temp storage) mask line
+                      is.is_rank is.has below
+                      (any_of_fits rank (past_dims temp (take storage.rank storage.dims))
+                      (past_fit rank temp over.flood (take storage.rank storage.dims) exprs is.is_rank
+                      is.floods few two.0)) masks,
+                  (fold_fits base scalar fold.Any below, tt),
+                ),
+              ),
             ),
-          ),
-        ),
         (
           trap_fits scalar line below,
           (
             room_fits base rank target over.slot is.has has two.1.1,
             (
               remap_instr rank over.slot target array storage temp over.flood exprs is.floods
-              is.has has two.1.1 stored counted ranges (omega arith) two.0,
+                  is.has has two.1.1 stored counted ranges (omega arith) two.0,
               tt,
             ),
           ),
@@ -732,16 +707,16 @@ module _ (base : Tables) where
       let top = placed.below in
       let more : length exprs + 1 ≡ suc (length exprs) = omega arith in
       let at : TempsAt base temp (replicate (suc (length exprs)) over.flood) =
-          subst (λ n. TempsAt base temp (replicate n over.flood)) more
-          (temps_rest base free.temps indices.temps (replicate (length exprs + 1) over.flood)
-          placed.temps_at) in
+      subst (λ n. TempsAt base temp (replicate n over.flood)) more
+      (temps_rest base free.temps indices.temps (replicate (length exprs + 1) over.flood)
+      placed.temps_at) in
       let two = all_but_last temp (length exprs) over.flood at in
       record {
         rows = record {
           code = (
             left.rows.code,
             remap_fits numbers rank line scalar temp over stored.array stored.storage exprs fits is
-            (omega arith) there (remap.0 ∙ sym left.counted) remap.1 left.left at,
+                (omega arith) there (remap.0 ∙ sym left.counted) remap.1 left.left at,
           );
           temps = temps_both indices.temps (replicate (length exprs + 1) over.flood)
               left.rows.temps (all_ranked rank (length exprs + 1) over.flood is.floods is.is_rank);
@@ -760,23 +735,22 @@ module _ (base : Tables) where
       SlotsAt base next (replicate (double vectors) rank) →
       FitRows base 0 (border_rows line copy home next vectors)
   borders_fit rank line copy home next [] is has there by at = tt
-  borders_fit rank line copy home next (v ∷ vectors) is has there by at =
+  borders_fit rank line copy home next (v ∷ vectors) is has there by at = (
+    (record { rank = rank; fit = (at.0, has, vector_by rank v by.0) }, tt),
+    (
       (
-        (record { rank = rank; fit = (at.0, has, vector_by rank v by.0) }, tt),
-        (
-          (
-            record {
-              rank = rank;
-              fit = (at.1.0, has, vector_by rank (map neg_ℤ v) (opposite_by rank v by.0));
-            },
-            tt,
-          ),
-          (
-            (record { rank = rank; fit = (has, there, vector_by rank v by.0) }, tt),
-            borders_fit rank line copy home (suc (suc next)) vectors is has there by.1 at.1.1,
-          ),
-        ),
-      )
+        record {
+          rank = rank;
+          fit = (at.1.0, has, vector_by rank (map neg_ℤ v) (opposite_by rank v by.0));
+        },
+        tt,
+      ),
+      (
+        (record { rank = rank; fit = (has, there, vector_by rank v by.0) }, tt),
+        borders_fit rank line copy home (suc (suc next)) vectors is has there by.1 at.1.1,
+      ),
+    ),
+  )
 
   wrap_fit : (rank line : ℕ) (stored : Option Stored) (home : Region) (shift : List ℤ)
       (copy first : ℕ) → IsRank rank → IsThere base stored → IsOfRank rank stored →
@@ -786,17 +760,17 @@ module _ (base : Tables) where
       alone_fits rank (expr.Constant (pos 0)) tt
   wrap_fit rank line (Some stored) home shift copy first is there same vector fits =
       let slots : SlotsAt base first (replicate (suc (double (border_vectors shift))) rank) =
-          subst (λ n. SlotsAt base first (replicate n rank)) (border_count shift) fits.slots in
+      subst (λ n. SlotsAt base first (replicate n rank)) (border_count shift) fits.slots in
       record {
         rows = record {
           code = (
             (record { rank = rank; fit = (slots.0, fits.box, fits.same) }, tt),
             (
               put_loop base rank first copy (expr.Element stored.array) None line is slots.0
-              fits.has
-              (is, array_of base rank stored.array stored.storage there same) tt,
+                  fits.has
+                  (is, array_of base rank stored.array stored.storage there same) tt,
               borders_fit rank line copy first (suc first) (border_vectors shift) is slots.0
-              fits.has (borders_by rank shift (by_vector rank shift vector)) slots.1,
+                  fits.has (borders_by rank shift (by_vector rank shift vector)) slots.1,
             ),
           );
           temps = tt;
@@ -886,9 +860,9 @@ mutual
       let first : Hoisted Expression = hoisted numbers line free left in
       let rest : Hoisted Expression = hoisted numbers line (behind free first) right in
       let one = hoisted_fits base numbers line free rank left fits is.0
-          (first_placed base free first.scalars rest.scalars first.temps rest.temps placed) in
+      (first_placed base free first.scalars rest.scalars first.temps rest.temps placed) in
       let other = hoisted_fits base numbers line (behind free first) rank right fits is.1
-          (rest_placed base free first.scalars rest.scalars first.temps rest.temps placed) in
+      (rest_placed base free first.scalars rest.scalars first.temps rest.temps placed) in
       record {
         rows = record {
           code = (one.rows.code, other.rows.code);

@@ -1,10 +1,10 @@
 -- The text of a procedure that is reached is sound: its sites have no fault.
-use Rattle.std.proofs.Common.{◌≡◌, ℕ, zero, suc, Bool, true, false, List, [], ◌∷◌, ◌++◌, refl, sym, ap, ◌∙◌, subst}
+use Rattle.std.proofs.Common.{◌≡◌, ℕ, suc, Bool, true, false, List, [], ◌∷◌, ◌++◌, refl, sym, ap, ◌∙◌, subst}
 use Rattle.std.proofs.Common.{arith}
-use Rattle.std.specs.Prelude.{Contains, not, ◌||◌, Option, Some, None, flat_map, map, if◌then◌else◌}
-use Rattle.std.specs.Option.{is_none, is_some}
+use Rattle.std.specs.Prelude.{Contains, ◌||◌, Option, Some, None, flat_map}
+use Rattle.std.specs.Option.{is_none}
 use Rattle.zpl_nums.specs.declared.operators.Op.{Op}
-use Rattle.zpl_tree.specs.Syntax.{Name, Expr, Number, Truth, Coord, Named, Shifted, Around, Remap, Call, Paren, Neg, Not, Abs, Pair, Reduce, Scan, Flood, Exprs, NoExpr, ThenExpr, NoBracket, Bracketed, Inner, Prefix, ForHead, Item, Str, Value, Base, Stmt, Prefixed, Stmts, NoStmt, ThenStmt, Form, Assign, Invoke, Block, If, While, Repeat, For, Border, Write, Return, Arm, Tested, Arms, NoArm, ThenArm, Otherwise, NoElse, Else}
+use Rattle.zpl_tree.specs.Syntax.{Name, Expr, Number, Truth, Coord, Named, Shifted, Around, Remap, Call, Paren, Neg, Not, Abs, Pair, Reduce, Scan, Flood, Exprs, NoExpr, ThenExpr, NoBracket, Bracketed, Prefix, Item, Str, Value, Base, Stmt, Prefixed, Stmts, NoStmt, ThenStmt, Form, Assign, Invoke, Block, If, While, Repeat, For, Border, Write, Return, Arm, Tested, Arms, NoArm, ThenArm, Otherwise, NoElse, Else}
 use Rattle.zpl_tree.specs.Syntax.{Program}
 use Rattle.zpl_tree.specs.Grammar.{IsBody}
 use Rattle.zpl_names.specs.Kinds.{Rank}
@@ -12,10 +12,10 @@ use Rattle.zpl_names.specs.Shapes.{Shapes}
 use Rattle.zpl_names.specs.Declared.{Routine, routine_named, scope_of}
 use Rattle.zpl_names.specs.Reached.{IsReached, sites_of, sites_at}
 use Rattle.zpl_names.specs.Accepted.{HasNoFault, HasNoFaultUnder}
-use Rattle.zpl_names.specs.Scope.{Scope, kind_of}
+use Rattle.zpl_names.specs.Scope.{kind_of}
 use Rattle.zpl_names.specs.Ranks.{own_rank, inner_rank, array_shape}
 use Rattle.zpl_names.specs.Faults.{at_if, has_flood, flood_clashes, return_places}
-use Rattle.zpl_names.specs.Sites.{Reach, in_body, under_prefix, under_prefixes, inside, over_source, Role, Operand, Limit, Result, Test, Printed, Actual, Assigned, whole_rank, Site, AtWhole, AtExpr, AtCall, AtNamed, AtStmt, CallRole, AsStatement, Elsewhere, expr_sites, exprs_sites, actuals_sites, region_sites, whole_sites, prefixes_sites, call_place, value_sites, item_sites, step_sites, test_rank, arms_rank, stmt_sites, stmts_sites, form_sites, arms_sites, arm_sites, otherwise_sites, body_sites, outermost_sites}
+use Rattle.zpl_names.specs.Sites.{Reach, in_body, under_prefix, under_prefixes, inside, over_source, Role, Operand, Limit, Result, Test, Printed, Actual, Assigned, whole_rank, Site, AtStmt, expr_sites, exprs_sites, actuals_sites, region_sites, whole_sites, prefixes_sites, value_sites, item_sites, step_sites, test_rank, arms_rank, stmt_sites, stmts_sites, form_sites, arms_sites, arm_sites, otherwise_sites, body_sites, outermost_sites}
 use Rattle.zpl_meaning.specs.Statement.{step_expr}
 use Rattle.lowering_fits.specs.Reach.{HasFlatRemaps, HaveFlatRemaps}
 use Rattle.lowering_fits.specs.Lowerings.{answering, AreSoundItems, IsSoundStmt, AreSoundStmts, IsSoundForm, AreSoundArms, IsSoundArm, IsSoundElse}
@@ -57,23 +57,21 @@ mutual
   expr_flat reach rank (Named at name) are = tt
   expr_flat reach rank (Shifted at name shift) are = tt
   expr_flat reach rank (Around at name shift) are = tt
-  expr_flat reach rank (Remap at name indices) are =
-      (
-        neither (has_flood (array_shape (kind_of reach.scope name))) _ (not_at _ at are.0.floods),
-        exprs_flat reach rank indices are.1,
-      )
+  expr_flat reach rank (Remap at name indices) are = (
+    neither (has_flood (array_shape (kind_of reach.scope name))) _ (not_at _ at are.0.floods),
+    exprs_flat reach rank indices are.1,
+  )
   expr_flat reach rank (Call at name actuals) are = actuals_flat reach actuals are.1
   expr_flat reach rank (Paren at inside) are = expr_flat reach rank inside are.1
   expr_flat reach rank (Neg at operand) are = expr_flat reach rank operand are.1
   expr_flat reach rank (Not at operand) are = expr_flat reach rank operand are.1
   expr_flat reach rank (Abs at operand) are = expr_flat reach rank operand are.1
-  expr_flat reach rank (Pair at op left right) are =
-      (
-        expr_flat reach rank left
+  expr_flat reach rank (Pair at op left right) are = (
+    expr_flat reach rank left
         (quiet_left (expr_sites reach rank left) (expr_sites reach rank right) are.1),
-        expr_flat reach rank right
+    expr_flat reach rank right
         (quiet_right (expr_sites reach rank left) (expr_sites reach rank right) are.1),
-      )
+  )
   expr_flat reach rank (Reduce at operator NoBracket operand) are =
       expr_flat reach (whole_rank reach Operand operand) operand are.1.1
   expr_flat reach rank (Reduce at operator (Bracketed source) operand) are =
@@ -94,13 +92,12 @@ mutual
   exprs_flat : (reach : Reach) (rank : Rank) (all : Exprs) →
       AreQuiet (exprs_sites reach rank all) → HaveFlatRemaps reach.scope all
   exprs_flat reach rank NoExpr are = tt
-  exprs_flat reach rank (ThenExpr first rest) are =
-      (
-        expr_flat reach rank first
+  exprs_flat reach rank (ThenExpr first rest) are = (
+    expr_flat reach rank first
         (quiet_left (expr_sites reach rank first) (exprs_sites reach rank rest) are),
-        exprs_flat reach rank rest
+    exprs_flat reach rank rest
         (quiet_right (expr_sites reach rank first) (exprs_sites reach rank rest) are),
-      )
+  )
 
   actuals_flat : (reach : Reach) (all : Exprs) → AreQuiet (actuals_sites reach all) →
       HaveFlatRemaps reach.scope all
@@ -108,138 +105,123 @@ mutual
   actuals_flat reach (ThenExpr (Named at name) rest) are = (tt, actuals_flat reach rest are.1)
   actuals_flat reach (ThenExpr (Number at value) rest) are =
       let one : Expr = Number at value in
-      let rank : Rank = whole_rank reach Actual one in
-      (
+      let rank : Rank = whole_rank reach Actual one in (
         expr_flat reach rank (Number at value)
-        (quiet_left (expr_sites reach rank one) (actuals_sites reach rest) are.1),
+            (quiet_left (expr_sites reach rank one) (actuals_sites reach rest) are.1),
         actuals_flat reach rest
-        (quiet_right (expr_sites reach rank one) (actuals_sites reach rest) are.1),
+            (quiet_right (expr_sites reach rank one) (actuals_sites reach rest) are.1),
       )
   actuals_flat reach (ThenExpr (Truth at value) rest) are =
       let one : Expr = Truth at value in
-      let rank : Rank = whole_rank reach Actual one in
-      (
+      let rank : Rank = whole_rank reach Actual one in (
         expr_flat reach rank (Truth at value)
-        (quiet_left (expr_sites reach rank one) (actuals_sites reach rest) are.1),
+            (quiet_left (expr_sites reach rank one) (actuals_sites reach rest) are.1),
         actuals_flat reach rest
-        (quiet_right (expr_sites reach rank one) (actuals_sites reach rest) are.1),
+            (quiet_right (expr_sites reach rank one) (actuals_sites reach rest) are.1),
       )
   actuals_flat reach (ThenExpr (Coord at k) rest) are =
       let one : Expr = Coord at k in
-      let rank : Rank = whole_rank reach Actual one in
-      (
+      let rank : Rank = whole_rank reach Actual one in (
         expr_flat reach rank (Coord at k)
-        (quiet_left (expr_sites reach rank one) (actuals_sites reach rest) are.1),
+            (quiet_left (expr_sites reach rank one) (actuals_sites reach rest) are.1),
         actuals_flat reach rest
-        (quiet_right (expr_sites reach rank one) (actuals_sites reach rest) are.1),
+            (quiet_right (expr_sites reach rank one) (actuals_sites reach rest) are.1),
       )
   actuals_flat reach (ThenExpr (Shifted at name shift) rest) are =
       let one : Expr = Shifted at name shift in
-      let rank : Rank = whole_rank reach Actual one in
-      (
+      let rank : Rank = whole_rank reach Actual one in (
         expr_flat reach rank (Shifted at name shift)
-        (quiet_left (expr_sites reach rank one) (actuals_sites reach rest) are.1),
+            (quiet_left (expr_sites reach rank one) (actuals_sites reach rest) are.1),
         actuals_flat reach rest
-        (quiet_right (expr_sites reach rank one) (actuals_sites reach rest) are.1),
+            (quiet_right (expr_sites reach rank one) (actuals_sites reach rest) are.1),
       )
   actuals_flat reach (ThenExpr (Around at name shift) rest) are =
       let one : Expr = Around at name shift in
-      let rank : Rank = whole_rank reach Actual one in
-      (
+      let rank : Rank = whole_rank reach Actual one in (
         expr_flat reach rank (Around at name shift)
-        (quiet_left (expr_sites reach rank one) (actuals_sites reach rest) are.1),
+            (quiet_left (expr_sites reach rank one) (actuals_sites reach rest) are.1),
         actuals_flat reach rest
-        (quiet_right (expr_sites reach rank one) (actuals_sites reach rest) are.1),
+            (quiet_right (expr_sites reach rank one) (actuals_sites reach rest) are.1),
       )
   actuals_flat reach (ThenExpr (Remap at name indices) rest) are =
       let one : Expr = Remap at name indices in
-      let rank : Rank = whole_rank reach Actual one in
-      (
+      let rank : Rank = whole_rank reach Actual one in (
         expr_flat reach rank (Remap at name indices)
-        (quiet_left (expr_sites reach rank one) (actuals_sites reach rest) are.1),
+            (quiet_left (expr_sites reach rank one) (actuals_sites reach rest) are.1),
         actuals_flat reach rest
-        (quiet_right (expr_sites reach rank one) (actuals_sites reach rest) are.1),
+            (quiet_right (expr_sites reach rank one) (actuals_sites reach rest) are.1),
       )
   actuals_flat reach (ThenExpr (Call at name actuals) rest) are =
       let one : Expr = Call at name actuals in
-      let rank : Rank = whole_rank reach Actual one in
-      (
+      let rank : Rank = whole_rank reach Actual one in (
         expr_flat reach rank (Call at name actuals)
-        (quiet_left (expr_sites reach rank one) (actuals_sites reach rest) are.1),
+            (quiet_left (expr_sites reach rank one) (actuals_sites reach rest) are.1),
         actuals_flat reach rest
-        (quiet_right (expr_sites reach rank one) (actuals_sites reach rest) are.1),
+            (quiet_right (expr_sites reach rank one) (actuals_sites reach rest) are.1),
       )
   actuals_flat reach (ThenExpr (Paren at inner) rest) are =
       let one : Expr = Paren at inner in
-      let rank : Rank = whole_rank reach Actual one in
-      (
+      let rank : Rank = whole_rank reach Actual one in (
         expr_flat reach rank (Paren at inner)
-        (quiet_left (expr_sites reach rank one) (actuals_sites reach rest) are.1),
+            (quiet_left (expr_sites reach rank one) (actuals_sites reach rest) are.1),
         actuals_flat reach rest
-        (quiet_right (expr_sites reach rank one) (actuals_sites reach rest) are.1),
+            (quiet_right (expr_sites reach rank one) (actuals_sites reach rest) are.1),
       )
   actuals_flat reach (ThenExpr (Neg at operand) rest) are =
       let one : Expr = Neg at operand in
-      let rank : Rank = whole_rank reach Actual one in
-      (
+      let rank : Rank = whole_rank reach Actual one in (
         expr_flat reach rank (Neg at operand)
-        (quiet_left (expr_sites reach rank one) (actuals_sites reach rest) are.1),
+            (quiet_left (expr_sites reach rank one) (actuals_sites reach rest) are.1),
         actuals_flat reach rest
-        (quiet_right (expr_sites reach rank one) (actuals_sites reach rest) are.1),
+            (quiet_right (expr_sites reach rank one) (actuals_sites reach rest) are.1),
       )
   actuals_flat reach (ThenExpr (Not at operand) rest) are =
       let one : Expr = Not at operand in
-      let rank : Rank = whole_rank reach Actual one in
-      (
+      let rank : Rank = whole_rank reach Actual one in (
         expr_flat reach rank (Not at operand)
-        (quiet_left (expr_sites reach rank one) (actuals_sites reach rest) are.1),
+            (quiet_left (expr_sites reach rank one) (actuals_sites reach rest) are.1),
         actuals_flat reach rest
-        (quiet_right (expr_sites reach rank one) (actuals_sites reach rest) are.1),
+            (quiet_right (expr_sites reach rank one) (actuals_sites reach rest) are.1),
       )
   actuals_flat reach (ThenExpr (Abs at operand) rest) are =
       let one : Expr = Abs at operand in
-      let rank : Rank = whole_rank reach Actual one in
-      (
+      let rank : Rank = whole_rank reach Actual one in (
         expr_flat reach rank (Abs at operand)
-        (quiet_left (expr_sites reach rank one) (actuals_sites reach rest) are.1),
+            (quiet_left (expr_sites reach rank one) (actuals_sites reach rest) are.1),
         actuals_flat reach rest
-        (quiet_right (expr_sites reach rank one) (actuals_sites reach rest) are.1),
+            (quiet_right (expr_sites reach rank one) (actuals_sites reach rest) are.1),
       )
   actuals_flat reach (ThenExpr (Pair at op left right) rest) are =
       let one : Expr = Pair at op left right in
-      let rank : Rank = whole_rank reach Actual one in
-      (
+      let rank : Rank = whole_rank reach Actual one in (
         expr_flat reach rank (Pair at op left right)
-        (quiet_left (expr_sites reach rank one) (actuals_sites reach rest) are.1),
+            (quiet_left (expr_sites reach rank one) (actuals_sites reach rest) are.1),
         actuals_flat reach rest
-        (quiet_right (expr_sites reach rank one) (actuals_sites reach rest) are.1),
+            (quiet_right (expr_sites reach rank one) (actuals_sites reach rest) are.1),
       )
   actuals_flat reach (ThenExpr (Reduce at operator over operand) rest) are =
       let one : Expr = Reduce at operator over operand in
-      let rank : Rank = whole_rank reach Actual one in
-      (
+      let rank : Rank = whole_rank reach Actual one in (
         expr_flat reach rank (Reduce at operator over operand)
-        (quiet_left (expr_sites reach rank one) (actuals_sites reach rest) are.1),
+            (quiet_left (expr_sites reach rank one) (actuals_sites reach rest) are.1),
         actuals_flat reach rest
-        (quiet_right (expr_sites reach rank one) (actuals_sites reach rest) are.1),
+            (quiet_right (expr_sites reach rank one) (actuals_sites reach rest) are.1),
       )
   actuals_flat reach (ThenExpr (Scan at operator along operand) rest) are =
       let one : Expr = Scan at operator along operand in
-      let rank : Rank = whole_rank reach Actual one in
-      (
+      let rank : Rank = whole_rank reach Actual one in (
         expr_flat reach rank (Scan at operator along operand)
-        (quiet_left (expr_sites reach rank one) (actuals_sites reach rest) are.1),
+            (quiet_left (expr_sites reach rank one) (actuals_sites reach rest) are.1),
         actuals_flat reach rest
-        (quiet_right (expr_sites reach rank one) (actuals_sites reach rest) are.1),
+            (quiet_right (expr_sites reach rank one) (actuals_sites reach rest) are.1),
       )
   actuals_flat reach (ThenExpr (Flood at source operand) rest) are =
       let one : Expr = Flood at source operand in
-      let rank : Rank = whole_rank reach Actual one in
-      (
+      let rank : Rank = whole_rank reach Actual one in (
         expr_flat reach rank (Flood at source operand)
-        (quiet_left (expr_sites reach rank one) (actuals_sites reach rest) are.1),
+            (quiet_left (expr_sites reach rank one) (actuals_sites reach rest) are.1),
         actuals_flat reach rest
-        (quiet_right (expr_sites reach rank one) (actuals_sites reach rest) are.1),
+            (quiet_right (expr_sites reach rank one) (actuals_sites reach rest) are.1),
       )
 
 whole_flat : (reach : Reach) (role : Role) (one : Expr) → AreQuiet (whole_sites reach role one) →
@@ -285,13 +267,12 @@ items_flat : (reach : Reach) (items : List Item) → AreQuiet (flat_map (item_si
     AreSoundItems reach.scope items
 items_flat reach [] are = tt
 items_flat reach (Str bytes ∷ items) are = items_flat reach items are
-items_flat reach (Value one ∷ items) are =
-    (
-      whole_flat reach Printed one
+items_flat reach (Value one ∷ items) are = (
+  whole_flat reach Printed one
       (quiet_left (whole_sites reach Printed one) (flat_map (item_sites reach) items) are),
-      items_flat reach items
+  items_flat reach items
       (quiet_right (whole_sites reach Printed one) (flat_map (item_sites reach) items) are),
-    )
+)
 
 step_flat : (reach : Reach) (step : Option Expr) → AreQuiet (step_sites reach step) →
     HasFlatRemaps reach.scope (step_expr step)
@@ -325,7 +306,7 @@ mutual
   stmt_sound answers reach (Prefixed at prefixes form) may are =
       let inner : Reach = under_prefixes reach prefixes in
       let here = quiet_right (prefixes_sites reach prefixes)
-          (AtStmt inner at prefixes form ∷ form_sites inner form) are in
+      (AtStmt inner at prefixes form ∷ form_sites inner form) are in
       subst (λ scope. IsSoundForm scope answers form) (scope_under prefixes reach)
       (form_sound answers inner at prefixes form
       (λ e. may (ap is_none (sym (result_under prefixes reach)) ∙ e)) here.0 here.1)
@@ -333,13 +314,12 @@ mutual
   stmts_sound : (answers : Bool) (reach : Reach) (stmts : Stmts) → MayAnswer reach answers →
       AreQuiet (stmts_sites reach stmts) → AreSoundStmts reach.scope answers stmts
   stmts_sound answers reach NoStmt may are = tt
-  stmts_sound answers reach (ThenStmt first rest) may are =
-      (
-        stmt_sound answers reach first may
+  stmts_sound answers reach (ThenStmt first rest) may are = (
+    stmt_sound answers reach first may
         (quiet_left (stmt_sites reach first) (stmts_sites reach rest) are),
-        stmts_sound answers reach rest may
+    stmts_sound answers reach rest may
         (quiet_right (stmt_sites reach first) (stmts_sites reach rest) are),
-      )
+  )
 
   form_sound : (answers : Bool) (reach : Reach) (at : ℕ) (prefixes : List Prefix) (form : Form) →
       MayAnswer reach answers → IsQuiet (AtStmt reach at prefixes form) →
@@ -351,28 +331,25 @@ mutual
   form_sound answers reach at prefixes (Block body) may quiet are =
       stmts_sound answers (inside reach (Some 0)) body (never reach (Some 0) answers) are
   form_sound answers reach at prefixes (If arms otherwise) may quiet are =
-      let within : Reach = inside reach (arms_rank reach arms) in
-      (
+      let within : Reach = inside reach (arms_rank reach arms) in (
         arms_sound answers reach within arms refl (never reach (arms_rank reach arms) answers)
-        (quiet_left (arms_sites reach within arms) (otherwise_sites within otherwise) are),
+            (quiet_left (arms_sites reach within arms) (otherwise_sites within otherwise) are),
         otherwise_sound answers within otherwise (never reach (arms_rank reach arms) answers)
-        (quiet_right (arms_sites reach within arms) (otherwise_sites within otherwise) are),
+            (quiet_right (arms_sites reach within arms) (otherwise_sites within otherwise) are),
       )
   form_sound answers reach at prefixes (While test body) may quiet are =
-      let within : Reach = inside reach (test_rank reach test) in
-      (
+      let within : Reach = inside reach (test_rank reach test) in (
         whole_flat reach Test test
-        (quiet_left (whole_sites reach Test test) (stmts_sites within body) are),
+            (quiet_left (whole_sites reach Test test) (stmts_sites within body) are),
         stmts_sound answers within body (never reach (test_rank reach test) answers)
-        (quiet_right (whole_sites reach Test test) (stmts_sites within body) are),
+            (quiet_right (whole_sites reach Test test) (stmts_sites within body) are),
       )
   form_sound answers reach at prefixes (Repeat body until test) may quiet are =
-      let within : Reach = inside reach (test_rank reach test) in
-      (
+      let within : Reach = inside reach (test_rank reach test) in (
         whole_flat reach Test test
-        (quiet_right (stmts_sites within body) (whole_sites reach Test test) are),
+            (quiet_right (stmts_sites within body) (whole_sites reach Test test) are),
         stmts_sound answers within body (never reach (test_rank reach test) answers)
-        (quiet_left (stmts_sites within body) (whole_sites reach Test test) are),
+            (quiet_left (stmts_sites within body) (whole_sites reach Test test) are),
       )
   form_sound answers reach at prefixes (For head body) may quiet are =
       let within : Reach = inside reach (Some 0) in
@@ -381,48 +358,44 @@ mutual
       let step : List Site = step_sites reach head.step in
       let inner : List Site = stmts_sites within body in
       let three = quiet_left (first ++ last ++ step) inner are in
-      let two = quiet_left (first ++ last) step three in
-      (
+      let two = quiet_left (first ++ last) step three in (
         (
           whole_flat reach Limit head.first (quiet_left first last two),
           whole_flat reach Limit head.last (quiet_right first last two),
           step_flat reach head.step (quiet_right (first ++ last) step three),
         ),
         stmts_sound answers within body (never reach (Some 0) answers)
-        (quiet_right (first ++ last ++ step) inner are),
+            (quiet_right (first ++ last ++ step) inner are),
       )
   form_sound answers reach at prefixes (Border kind names) may quiet are = tt
   form_sound answers reach at prefixes (Write ends items) may quiet are =
       items_flat reach items are
-  form_sound answers reach at prefixes (Return value) may quiet are =
-      (
-        may (not_at (is_none reach.result) at quiet.returns),
-        whole_flat reach (Result reach.result) value are,
-      )
+  form_sound answers reach at prefixes (Return value) may quiet are = (
+    may (not_at (is_none reach.result) at quiet.returns),
+    whole_flat reach (Result reach.result) value are,
+  )
 
   arms_sound : (answers : Bool) (reach within : Reach) (arms : Arms) →
       within.scope ≡ reach.scope → MayAnswer within answers →
       AreQuiet (arms_sites reach within arms) → AreSoundArms reach.scope answers arms
   arms_sound answers reach within NoArm same may are = tt
-  arms_sound answers reach within (ThenArm first rest) same may are =
-      (
-        arm_sound answers reach within first same may
+  arms_sound answers reach within (ThenArm first rest) same may are = (
+    arm_sound answers reach within first same may
         (quiet_left (arm_sites reach within first) (arms_sites reach within rest) are),
-        arms_sound answers reach within rest same may
+    arms_sound answers reach within rest same may
         (quiet_right (arm_sites reach within first) (arms_sites reach within rest) are),
-      )
+  )
 
   arm_sound : (answers : Bool) (reach within : Reach) (arm : Arm) → within.scope ≡ reach.scope →
       MayAnswer within answers → AreQuiet (arm_sites reach within arm) →
       IsSoundArm reach.scope answers arm
-  arm_sound answers reach within (Tested at test body) same may are =
-      (
-        whole_flat reach Test test
+  arm_sound answers reach within (Tested at test body) same may are = (
+    whole_flat reach Test test
         (quiet_left (whole_sites reach Test test) (stmts_sites within body) are),
-        subst (λ scope. AreSoundStmts scope answers body) same
+    subst (λ scope. AreSoundStmts scope answers body) same
         (stmts_sound answers within body may
         (quiet_right (whole_sites reach Test test) (stmts_sites within body) are)),
-      )
+  )
 
   otherwise_sound : (answers : Bool) (within : Reach) (otherwise : Otherwise) →
       MayAnswer within answers → AreQuiet (otherwise_sites within otherwise) →
@@ -439,19 +412,17 @@ answers_it (Some base) e = refl
 body_sound : (reach : Reach) (result : Option Base) (body : Stmts) → reach.result ≡ None →
     AreQuiet (body_sites reach result body) → AreSoundStmts reach.scope (answering result) body
 body_sound reach result NoStmt none are = tt
-body_sound reach result (ThenStmt last NoStmt) none are =
-    (
-      stmt_sound (answering result) (record reach { result = result }) last (answers_it result) are,
-      tt,
-    )
-body_sound reach result (ThenStmt first (ThenStmt next rest)) none are =
-    (
-      stmt_sound (answering result) reach first
+body_sound reach result (ThenStmt last NoStmt) none are = (
+  stmt_sound (answering result) (record reach { result = result }) last (answers_it result) are,
+  tt,
+)
+body_sound reach result (ThenStmt first (ThenStmt next rest)) none are = (
+  stmt_sound (answering result) reach first
       (λ e. let no : ⊥ = cc (none) in absurd no)
       (quiet_left (stmt_sites reach first) (body_sites reach result (ThenStmt next rest)) are),
-      body_sound reach result (ThenStmt next rest) none
+  body_sound reach result (ThenStmt next rest) none
       (quiet_right (stmt_sites reach first) (body_sites reach result (ThenStmt next rest)) are),
-    )
+)
 
 pub outermost_sound : (reach : Reach) (result : Option Base) (at : ℕ) (prefixes : List Prefix)
     (body : Stmts) → reach.result ≡ None →
@@ -468,11 +439,10 @@ outermost_sound reach result at prefixes body none are =
 all_quiet : (sites : List Site) → ((site : Site) → Contains sites site → IsQuiet site) →
     AreQuiet sites
 all_quiet [] quiet = tt
-all_quiet (site ∷ sites) quiet =
-    (
-      quiet site (0, omega arith, refl),
-      all_quiet sites (λ other in_it. quiet other (later other in_it)),
-    )
+all_quiet (site ∷ sites) quiet = (
+  quiet site (0, omega arith, refl),
+  all_quiet sites (λ other in_it. quiet other (later other in_it)),
+)
   where
     later : (other : Site) → Contains sites other → Contains (site ∷ sites) other
     later other in_it = let below = in_it.1 in (suc in_it.0, omega arith, in_it.2)

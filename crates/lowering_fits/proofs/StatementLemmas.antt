@@ -1,43 +1,38 @@
 -- The code of statements without others in them fits.
-use Rattle.std.proofs.Common.{◌≡◌, ℕ, zero, suc, ◌+◌, ◌<◌, ◌≤◌, Bool, true, false, ℤ, List, [], ◌∷◌, ◌++◌, map, length, refl, sym, ap, ◌∙◌, subst, arith, length-append}
-use Rattle.std.specs.Prelude.{◌⊎◌, pos, Option, Some, None, option_map, slice_get}
+use Rattle.std.proofs.Common.{◌≡◌, ℕ, suc, ◌+◌, ◌≤◌, List, [], ◌∷◌, length, sym, ap, ◌∙◌, subst, arith}
+use Rattle.std.specs.Prelude.{◌⊎◌, Option, Some, None, option_map, slice_get}
 use Rattle.std.specs.Option.{IsSomeAnd}
 use Rattle.std.proofs.Common.{inl, inr}
 use Rattle.zpl_nums.specs.declared.operators.Op.{Op}
-use Rattle.zpl_nums.specs.declared.operators.Op.TheVariants as op
-use Rattle.zpl_tree.specs.Syntax.{Name, Expr, Call, Exprs, NoExpr, ThenExpr, ForHead, Item, Str, Value}
+use Rattle.zpl_tree.specs.Syntax.{Name, Expr}
 use Rattle.zpl_names.specs.Kinds.{Rank, Kind, Config, Constant, Region, Direction, Scalar as ScalarKind, Array as ArrayKind, Procedure}
-use Rattle.zpl_names.specs.Scope.{Scope, kind_of}
+use Rattle.zpl_names.specs.Scope.{kind_of}
 use Rattle.zpl_names.specs.Ranks.{array_shape, array_rank}
-use Rattle.zpl_names.specs.Sites.{Role, Test, Assigned, target_rank, handed}
-use Rattle.zpl_meaning.specs.Store.{Thing, Scalar, ArrayAt, Fixed, Environment, thing_of}
-use Rattle.zpl_meaning.specs.Context.{Mask, Currents, Edge, Place}
-use Rattle.zpl_meaning.specs.Proper.{HasCurrent, IsTarget, IsProper}
-use Rattle.meaning_ranks.specs.Ranked.{IsOfRank as IsRankedAt, IsArrayOf, TakesRank}
-use Rattle.node_form.specs.Expression as expr
-use Rattle.node_form.specs.Expression.{Expression, words_of}
+use Rattle.zpl_names.specs.Sites.{Role, Test, Assigned, target_rank}
+use Rattle.zpl_meaning.specs.Store.{Thing, Scalar, ArrayAt, Fixed, thing_of}
+use Rattle.zpl_meaning.specs.Context.{Currents, Edge}
+use Rattle.zpl_meaning.specs.Proper.{IsTarget}
+use Rattle.meaning_ranks.specs.Ranked.{TakesRank}
+use Rattle.node_form.specs.Expression.{Expression}
 use Rattle.node_form.specs.declared.tables.Tables.{Tables}
-use Rattle.node_form.specs.Fits.{IsRank, IsVector, HasSlot, HasArray}
 use Rattle.row_runs.specs.Structured as piece
-use Rattle.flat_form.specs.Row as row
 use Rattle.flat_form.specs.Row.{Row}
-use Rattle.zpl_lowering.specs.Check.{Check}
-use Rattle.zpl_lowering.specs.Where.{Stored, Numbers, Slotted, slotted_at, Where, Next, rank_in, rank_for, line_of}
+use Rattle.zpl_lowering.specs.Where.{Stored, Slotted, slotted_at, Where, Next, rank_in, rank_for, line_of}
 use Rattle.zpl_lowering.specs.Slate.{Placed}
 use Rattle.zpl_lowering.specs.Reference.{Reference, refer_to, over_reference}
 use Rattle.zpl_lowering.specs.Hoist.{mask_code}
-use Rattle.zpl_lowering.specs.Lowered.{Lowered, rows_alone, behind, both, followed, Phased, phased_with, phased, first_left, then_rows, check_of}
-use Rattle.zpl_lowering.specs.Statement.{placed_in, Testing, test_of, set_row, put_row, lowered_scalar, lowered_array, lowered_to, value_rows, with_values}
-use Rattle.lowering_fits.specs.Inline.{FitsScalar, FitRows, FitsPiece}
-use Rattle.lowering_fits.specs.Slates.{FitNumbers, IsOfRank, FitsOver, FitsTree}
-use Rattle.lowering_fits.specs.Reach.{place_at, IsStoredAs, FitsName, HasFlatRemaps, IsReach}
-use Rattle.lowering_fits.specs.Lowerings.{AllRanks, IsLaidOut, FitsLowered}
+use Rattle.zpl_lowering.specs.Lowered.{Lowered, rows_alone, Phased, phased_with, phased, first_left}
+use Rattle.zpl_lowering.specs.Statement.{placed_in, test_of, set_row, put_row, lowered_scalar, lowered_array, lowered_to, value_rows, with_values}
+use Rattle.lowering_fits.specs.Inline.{FitsScalar, FitRows}
+use Rattle.lowering_fits.specs.Slates.{IsOfRank, FitsOver, FitsTree}
+use Rattle.lowering_fits.specs.Reach.{place_at, IsStoredAs, IsReach}
+use Rattle.lowering_fits.specs.Lowerings.{IsLaidOut, FitsLowered}
 use Rattle.lowering_fits.proofs.TreeLemmas.{scalar_tree, tree_of_rank, IsBelow, below_at, IsThere, stored_at, array_of}
 use Rattle.lowering_fits.proofs.VectorLemmas.{vector_by}
 use Rattle.lowering_fits.proofs.SlateLemmas.{set_fits, put_loop, mask_fits}
 use Rattle.lowering_fits.proofs.BracketLemmas.{rank_number, LimitsAreTold}
 use Rattle.lowering_fits.proofs.SettleLemmas.{over_of}
-use Rattle.lowering_fits.proofs.PhaseLemmas.{laid_front, laid_behind, both_fit, rows_alone_fit, FitReferences, refers_fit, over_referred, AreSound, FitLefts, FitsPhased, phases_fit, then_fits, then_laid}
+use Rattle.lowering_fits.proofs.PhaseLemmas.{laid_front, laid_behind, both_fit, rows_alone_fit, refers_fit, over_referred, AreSound, FitLefts, phases_fit, then_fits, then_laid}
 
 -- ---- what is left of one expression
 
@@ -59,12 +54,11 @@ module _ (limits : LimitsAreTold) (base : Tables) (w : Where) (result : ℕ) (cu
       let placed : Placed = placed_in w Test one in
       let phases : Phased = phased w (line_of w at) next (placed ∷ []) in
       let fit = phases_fit limits base w result currents edge reach (line_of w at) next [] []
-          (placed ∷ []) tt tt sound laid in
-      (
+      (placed ∷ []) tt tt sound laid in (
         fit.fits,
         scalar_tree base (first_left phases.left)
-        (subst (λ n. FitsTree base n (first_left phases.left)) (ap rank_number scalar)
-        (first_fits base placed phases.left fit.lefts)),
+            (subst (λ n. FitsTree base n (first_left phases.left)) (ap rank_number scalar)
+            (first_fits base placed phases.left fit.lefts)),
       )
 
   -- ---- a scalar is set
@@ -83,7 +77,7 @@ module _ (limits : LimitsAreTold) (base : Tables) (w : Where) (result : ℕ) (cu
       let phases : Phased = phased w line next (value ∷ []) in
       let tree : Expression = first_left phases.left in
       let fit = phases_fit limits base w result currents edge reach line next [] [] (value ∷ []) tt
-          tt sound (then_laid base next phases (set_row line tree target) laid) in
+      tt sound (then_laid base next phases (set_row line tree target) laid) in
       then_fits base (value ∷ []) phases (set_row line tree target) fit
       (set_row_fits line tree target
       (subst (λ n. FitsTree base n tree) (ap rank_number scalar)
@@ -95,13 +89,12 @@ module _ (limits : LimitsAreTold) (base : Tables) (w : Where) (result : ℕ) (cu
       FitsOver base w.numbers rank over → IsThere base target → IsOfRank rank target →
       FitsTree base rank tree → FitRows base 0 (put_row w line over tree target)
   put_row_fits line rank over tree None is there same fits = tt
-  put_row_fits line rank over tree (Some stored) is there same fits =
-      (
-        put_loop base rank over.slot stored.array tree (mask_code w.numbers over.mask) line
+  put_row_fits line rank over tree (Some stored) is there same fits = (
+    put_loop base rank over.slot stored.array tree (mask_code w.numbers over.mask) line
         is.is_rank is.has (array_of base rank stored.array stored.storage there same) fits
         (mask_fits base w.numbers rank over.mask reach.numbers is.is_rank is.masked),
-        tt,
-      )
+    tt,
+  )
 
   pub array_fits : (line : ℕ) (next : Next) (rank : ℕ) (over : Slotted) (value : Placed)
       (target : Option Stored) → FitsOver base w.numbers rank over → IsThere base target →
@@ -116,10 +109,10 @@ module _ (limits : LimitsAreTold) (base : Tables) (w : Where) (result : ℕ) (cu
       let tree : Expression = first_left phases.left in
       let rows : List Row = put_row w line over tree target in
       let fit = phases_fit limits base w result currents edge reach line next own last
-          (value ∷ [])
-          (refers_fit base rank over.slot [] target is.has there same (vector_by rank [] tt))
-          (over_referred base w.numbers rank over reach.numbers is) sound
-          (then_laid base next phases rows laid) in
+      (value ∷ [])
+      (refers_fit base rank over.slot [] target is.has there same (vector_by rank [] tt))
+      (over_referred base w.numbers rank over reach.numbers is) sound
+      (then_laid base next phases rows laid) in
       then_fits base (value ∷ []) phases rows fit
       (put_row_fits line rank over tree target is there same
       (taken (first_left phases.left) takes (first_fits base value phases.left fit.lefts)))
@@ -164,8 +157,8 @@ module _ (limits : LimitsAreTold) (base : Tables) (w : Where) (result : ℕ) (cu
       let over : Slotted = slotted_at w.currents (rank_for w role) in
       let is = over_of base w.numbers currents w.currents (rank_for w role) reach.here aim in
       let aimed : rank_for w role ≡ Some home.rank =
-          ap (λ role. rank_for w role) r
-          ∙ target_is name (kind_of w.scope name) w.prefix home.rank found.same in
+      ap (λ role. rank_for w role) r
+      ∙ target_is name (kind_of w.scope name) w.prefix home.rank found.same in
       array_fits line next (rank_number (rank_for w role)) over (placed_in w role value)
       (slice_get w.numbers.arrays target) is
       (stored_at base w.numbers.arrays target reach.numbers.arrays)
@@ -200,12 +193,11 @@ module _ (limits : LimitsAreTold) (base : Tables) (w : Where) (result : ℕ) (cu
   value_rows_fit line scalar [] [] all fits below = tt
   value_rows_fit line scalar [] (first ∷ rest) all fits below = absurd fits
   value_rows_fit line scalar (one ∷ placed) [] all fits below = tt
-  value_rows_fit line scalar (one ∷ placed) (first ∷ rest) all fits below =
-      (
-        set_fits base scalar first line (omega arith)
+  value_rows_fit line scalar (one ∷ placed) (first ∷ rest) all fits below = (
+    set_fits base scalar first line (omega arith)
         (subst (λ n. FitsTree base n first) (ap rank_number all.0) fits.0),
-        value_rows_fit line (suc scalar) placed rest all.1 fits.1 (omega arith),
-      )
+    value_rows_fit line (suc scalar) placed rest all.1 fits.1 (omega arith),
+  )
 
   pub values_fit : (line : ℕ) (next : Next) (placed : List Placed) → AllScalar placed →
       AreSound w (place_at w result currents edge) placed →
@@ -219,15 +211,15 @@ module _ (limits : LimitsAreTold) (base : Tables) (w : Where) (result : ℕ) (cu
       let phases : Phased = phased w line next placed in
       let scalar : ℕ = next.scalars + phases.lowered.scalars in
       let rows : Lowered =
-          record (rows_alone (value_rows line scalar phases.left)) {
-            scalars = length phases.left;
-          } in
+      record (rows_alone (value_rows line scalar phases.left)) {
+        scalars = length phases.left;
+      } in
       let code = piece.Then phases.lowered.code rows.code in
       let first = laid_front base next code phases.lowered rows laid in
       let rest = laid_behind base next code phases.lowered rows laid in
       let below = rest.below in
       let fit = phases_fit limits base w result currents edge reach line next [] [] placed tt tt
-          sound first in
+      sound first in
       both_fit base phases.lowered rows fit.fits (record {
         code_fits = value_rows_fit line scalar placed phases.left all fit.lefts (omega arith);
         slot_ranks = tt;

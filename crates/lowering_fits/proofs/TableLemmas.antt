@@ -1,27 +1,22 @@
 -- Rows that fit, laid out in tables without rows, make tables that fit.
-use Rattle.std.proofs.Common.{◌≡◌, ℕ, zero, suc, ◌+◌, ◌<◌, ◌≤◌, List, [], ◌∷◌, ◌++◌, length, drop, refl, sym, ap, ◌∙◌, subst, arith, length-append, append-nil, append_assoc}
-use Rattle.std.specs.Prelude.{Option, Some, None, slice_get, All, replicate, flat_map, fold}
+use Rattle.std.proofs.Common.{◌≡◌, ℕ, zero, suc, ◌+◌, ◌<◌, ◌≤◌, List, [], ◌∷◌, ◌++◌, length, drop, refl, sym, ap, ◌∙◌, subst, arith, length-append, append_assoc}
+use Rattle.std.specs.Prelude.{Option, Some, None, slice_get, All, replicate, flat_map}
 use Rattle.std.specs.List.{AllByRecursion}
 use Rattle.std.specs.Option.{IfSome, IsSomeAnd}
 use Rattle.std.proofs.lemmas.List.{length-replicate}
 use Rattle.std.proofs.lemmas.List.Elements.{All-append, All-cons, All-nil, All-from_recursion, All-weaker}
-use Rattle.node_form.specs.declared.words.ExprOp.{ExprOp}
 use Rattle.node_form.specs.declared.words.ExprOp.TheVariants as word
 use Rattle.node_form.specs.declared.members.Member as number
-use Rattle.node_form.specs.declared.members.Member.TheVariants as member
-use Rattle.node_form.specs.declared.instructions.DimRow.{DimRow}
-use Rattle.node_form.specs.declared.instructions.DimRow.TheVariants as part
 use Rattle.node_form.specs.declared.instructions.Instr.{Instr}
 use Rattle.node_form.specs.declared.instructions.Instr.TheVariants as instr
 use Rattle.node_form.specs.declared.tables.Tables.{Tables}
-use Rattle.node_form.specs.Fits.{IsRank, HasSlot, HasArray, FitsArray, FitsWord, FitsExpr, IsScalarWord, HasScalarExpr, HasExpr, FitsMember, FitsGroup, HasGroup, FitsPart, IsStar, FitParts, FitsAt, FitsInstr, Fits, Keeps, Grows, FitsExchange}
+use Rattle.node_form.specs.Fits.{IsRank, HasArray, FitsArray, FitsWord, FitsExpr, IsScalarWord, HasScalarExpr, HasExpr, FitsMember, FitsGroup, FitsPart, IsStar, FitsInstr, Keeps, Grows, FitsExchange}
 use Rattle.node_form.specs.Grid.{IsGrid}
-use Rattle.node_form.specs.Nest.{IsNest}
 use Rattle.node_form.proofs.GrowthLemmas.{Keeps-append, Keeps-same, FitsWord-grows, FitsExpr-grows, FitsGroup-grows, FitsInstr-grows}
 use Rattle.flat_form.specs.Flat.{IsFlatRow, IsFlat}
 use Rattle.flat_form.specs.Row as row
 use Rattle.flat_form.specs.Row.{Words, Member, Part, Row, with_row, with_rows, all_coded, member_words, member_coded, mask_words, numbered, part_words, part_coded, row_words, row_groups, row_texts, coded, group_coded}
-use Rattle.lowering_fits.specs.Inline.{FitsWords, FitsScalar, FitsMask, FitsInside, AllInside, FitsLoop, FitsDim, AllDims, IsStarPart, AllStars, StarsPast, FitsDims, long, FitsRow, FitRows, IsGround}
+use Rattle.lowering_fits.specs.Inline.{FitsWords, FitsScalar, FitsMask, FitsInside, AllInside, FitsDim, AllDims, AllStars, StarsPast, long, FitsRow, FitRows, IsGround}
 
 -- ---- what stands behind other things
 
@@ -38,12 +33,11 @@ StandFrom all n (one ∷ rest) = (slice_get all n ≡ Some one) × StandFrom all
 stand_behind : (all front words : List Words) → all ≡ front ++ words →
     StandFrom all (length front) words
 stand_behind all front [] is = tt
-stand_behind all front (one ∷ words) is =
-    (
-      subst (λ xs. slice_get xs (length front) ≡ Some one) (sym is) (last_placed front one words),
-      subst (λ n. StandFrom all n words) (length-append front (one ∷ []))
+stand_behind all front (one ∷ words) is = (
+  subst (λ xs. slice_get xs (length front) ≡ Some one) (sym is) (last_placed front one words),
+  subst (λ n. StandFrom all n words) (length-append front (one ∷ []))
       (stand_behind all (front ++ one ∷ []) words (is ∙ sym (append_assoc front (one ∷ []) words))),
-    )
+)
 
 stand_first : (all : List Words) (n : ℕ) (xs ys : List Words) → StandFrom all n (xs ++ ys) →
     StandFrom all n xs
@@ -92,22 +86,19 @@ module _ (base now : Tables) (grows : Grows base now) where
   -- a member whose words stand from n on
   member_fits : (rank n : ℕ) (one : Member) → StandFrom now.exprs n (member_words one) →
       FitsInside base rank one → FitsMember now rank (member_coded n one)
-  member_fits rank n (row.Put array expr mask line) stand fits =
-      (
-        has_array rank array fits.0,
-        has_expr rank n expr stand.0 fits.1,
-        has_mask rank (n + 1) mask stand.1 fits.2,
-      )
+  member_fits rank n (row.Put array expr mask line) stand fits = (
+    has_array rank array fits.0,
+    has_expr rank n expr stand.0 fits.1,
+    has_mask rank (n + 1) mask stand.1 fits.2,
+  )
   member_fits rank n (row.Cell cell expr mask line) stand fits =
-      let more = grows.cells in let inside = fits.0 in
-      (
+      let more = grows.cells in let inside = fits.0 in (
         omega arith,
         has_expr rank n expr stand.0 fits.1,
         has_mask rank (n + 1) mask stand.1 fits.2,
       )
   member_fits rank n (row.Acc scalar operator expr mask line) stand fits =
-      let more = grows.scalars in let inside = fits.0 in
-      (
+      let more = grows.scalars in let inside = fits.0 in (
         omega arith,
         has_expr rank n expr stand.0 fits.1,
         has_mask rank (n + 1) mask stand.1 fits.2,
@@ -126,13 +117,12 @@ module _ (base now : Tables) (grows : Grows base now) where
       StandFrom now.exprs n (flat_map member_words group) → AllInside base rank group →
       AllByRecursion (FitsMember now rank) (group_coded n group)
   members_fit rank n [] stand fits = tt
-  members_fit rank n (one ∷ group) stand fits =
-      (
-        member_fits rank n one
+  members_fit rank n (one ∷ group) stand fits = (
+    member_fits rank n one
         (stand_first now.exprs n (member_words one) (flat_map member_words group) stand) fits.0,
-        members_fit rank (n + length (member_words one)) group
+    members_fit rank (n + length (member_words one)) group
         (stand_rest now.exprs n (member_words one) (flat_map member_words group) stand) fits.1,
-      )
+  )
 
   -- a dimension
   part_fits : (rank n : ℕ) (one : Part) → StandFrom now.exprs n (part_words one) →
@@ -146,13 +136,12 @@ module _ (base now : Tables) (grows : Grows base now) where
       StandFrom now.exprs n (flat_map part_words parts) → AllDims base rank parts →
       AllByRecursion (FitsPart now rank) (all_coded part_words part_coded n parts)
   parts_fit rank n [] stand fits = tt
-  parts_fit rank n (one ∷ parts) stand fits =
-      (
-        part_fits rank n one
+  parts_fit rank n (one ∷ parts) stand fits = (
+    part_fits rank n one
         (stand_first now.exprs n (part_words one) (flat_map part_words parts) stand) fits.0,
-        parts_fit rank (n + length (part_words one)) parts
+    parts_fit rank (n + length (part_words one)) parts
         (stand_rest now.exprs n (part_words one) (flat_map part_words parts) stand) fits.1,
-      )
+  )
 
   -- and the expressions that they are made of
   mask_exprs : (rank : ℕ) (mask : Option Words) → IsRank rank → FitsMask base rank mask →
@@ -341,7 +330,7 @@ module _ (base now : Tables) (count : ℕ) (laid : Laid base now count) where
   laid_scalar expr one fits instr_fits flat =
       let new : Tables = more now (expr ∷ []) [] [] one in
       let grows : Grows base new =
-          grows_on base now new laid.grows (more_grows now (expr ∷ []) [] [] one) in
+      grows_on base now new laid.grows (more_grows now (expr ∷ []) [] [] one) in
       laid_more (expr ∷ []) [] [] one (one_scalar base new grows expr fits)
       (All-nil (FitsGroup new))
       (instr_fits (has_scalar base new grows (length now.exprs) expr (behind_exprs (expr ∷ [])).0 fits))
@@ -357,11 +346,11 @@ module _ (base now : Tables) (count : ℕ) (laid : Laid base now count) where
       (λ has. record { rank = 1; fit = (more_scalars, has) }) tt
   laid_row (row.Dims slot parts line) fits =
       let one : Instr =
-          instr.Dims slot (all_coded part_words part_coded (length now.exprs) parts) line in
+      instr.Dims slot (all_coded part_words part_coded (length now.exprs) parts) line in
       let exprs : List Words = flat_map part_words parts in
       let new : Tables = more now exprs [] [] one in
       let grows : Grows base new =
-          grows_on base now new laid.grows (more_grows now exprs [] [] one) in
+      grows_on base now new laid.grows (more_grows now exprs [] [] one) in
       laid_more exprs [] [] one (parts_exprs base new grows fits.rank parts fits.fit)
       (All-nil (FitsGroup new))
       (record {
@@ -370,12 +359,12 @@ module _ (base now : Tables) (count : ℕ) (laid : Laid base now count) where
           grows.slots slot fits.rank fits.over,
           (
             All-from_recursion (FitsPart (long new count) fits.rank)
-            (all_coded part_words part_coded (length now.exprs) parts)
-            (parts_fit base new grows fits.rank (length now.exprs) parts (behind_exprs exprs)
-            fits.fit),
+                (all_coded part_words part_coded (length now.exprs) parts)
+                (parts_fit base new grows fits.rank (length now.exprs) parts (behind_exprs exprs)
+                fits.fit),
             All-from_recursion IsStar
-            (drop fits.rank (all_coded part_words part_coded (length now.exprs) parts))
-            (stars_past fits.rank (length now.exprs) parts fits.stars),
+                (drop fits.rank (all_coded part_words part_coded (length now.exprs) parts))
+                (stars_past fits.rank (length now.exprs) parts fits.stars),
           ),
         );
       }) tt
@@ -385,11 +374,11 @@ module _ (base now : Tables) (count : ℕ) (laid : Laid base now count) where
       let members : List number.Member = group_coded (length now.exprs) group in
       let new : Tables = more now exprs (members ∷ []) [] one in
       let grows : Grows base new =
-          grows_on base now new laid.grows (more_grows now exprs (members ∷ []) [] one) in
+      grows_on base now new laid.grows (more_grows now exprs (members ∷ []) [] one) in
       let all : All (FitsMember new fits.rank) members =
-          All-from_recursion (FitsMember new fits.rank) members
-          (members_fit base new grows fits.rank (length now.exprs) group (behind_exprs exprs)
-          fits.fit) in
+      All-from_recursion (FitsMember new fits.rank) members
+      (members_fit base new grows fits.rank (length now.exprs) group (behind_exprs exprs)
+      fits.fit) in
       laid_more exprs (members ∷ []) [] one
       (members_exprs base new grows fits.rank group fits.is_rank fits.fit)
       (All-cons (FitsGroup new) members []
@@ -404,14 +393,14 @@ module _ (base now : Tables) (count : ℕ) (laid : Laid base now count) where
         fit = (
           grows.slots slot fits.rank fits.over,
           subst (λ o. IsSomeAnd o (All (FitsMember new fits.rank)))
-          (sym (last_placed now.groups members [])) all,
+              (sym (last_placed now.groups members [])) all,
         );
       }) tt
   laid_row (row.Print text) fits =
       let one : Instr = instr.Print (length now.texts) in
       let new : Tables = more now [] [] (text ∷ []) one in
       let inside : length now.texts < length (now.texts ++ text ∷ []) =
-          omega (arith, length-append now.texts (text ∷ [])) in
+      omega (arith, length-append now.texts (text ∷ [])) in
       laid_more [] [] (text ∷ []) one (All-nil (FitsExpr new)) (All-nil (FitsGroup new))
       (record { rank = 1; fit = inside }) tt
   laid_row (row.Number expr) fits =
@@ -423,13 +412,13 @@ module _ (base now : Tables) (count : ℕ) (laid : Laid base now count) where
   laid_row (row.Unless expr goal line) fits =
       let below = fits.1 in
       let within : goal ≤ length (replicate count instr.End) =
-          omega (arith, length-replicate count instr.End) in
+      omega (arith, length-replicate count instr.End) in
       laid_scalar expr (instr.Unless (length now.exprs) goal line) fits.0
       (λ has. record { rank = 1; fit = (has, within) }) tt
   laid_row (row.Plain one) fits =
       let new : Tables = more now [] [] [] one in
       let grows : Grows base new =
-          grows_on base now new laid.grows (more_grows now [] [] [] one) in
+      grows_on base now new laid.grows (more_grows now [] [] [] one) in
       laid_more [] [] [] one (All-nil (FitsExpr new)) (All-nil (FitsGroup new))
       (FitsInstr-grows (long base count) (long new count) (long_grows base new count grows) one
       fits.0) fits.1
@@ -491,9 +480,9 @@ rows_make_flat base rows ground grid slots arrays fit =
     let count : ℕ = length rows in
     let new : Tables = with_rows base rows in
     let laid : Laid base new count =
-        laid_rows base count base rows (nothing_laid base count ground) fit in
+    laid_rows base count base rows (nothing_laid base count ground) fit in
     let counted : length new.code ≡ count =
-        rows_counted base rows ∙ omega (arith, ap length ground.code) in
+    rows_counted base rows ∙ omega (arith, ap length ground.code) in
     record {
       fits = record {
         grid = subst IsGrid (sym laid.grid) grid;

@@ -1,29 +1,26 @@
 -- Expressions whose parts fit are words that fit; and what is laid out in tables, by its numbers.
-use Rattle.std.proofs.Common.{◌≡◌, ℕ, zero, suc, ◌+◌, ◌<◌, ◌≤◌, ◌^◌, Bool, true, false, ℤ, List, [], ◌∷◌, ◌++◌, length, drop, take, refl, sym, ap, ◌∙◌, subst, arith, length-append}
-use Rattle.std.specs.Prelude.{pos, neg_ℤ, ◌≤ℤ◌, Option, Some, None, slice_get, All, replicate}
-use Rattle.std.specs.List.{AllByRecursion}
+use Rattle.std.proofs.Common.{◌≡◌, ℕ, zero, suc, ◌+◌, ◌<◌, Bool, true, ℤ, List, [], ◌∷◌, ◌++◌, length, drop, refl, ◌∙◌, subst, arith}
+use Rattle.std.specs.Prelude.{pos, Option, Some, None, slice_get, All}
 use Rattle.std.specs.Option.{IsSomeAnd}
 use Rattle.std.proofs.lemmas.Int.{ints}
-use Rattle.std.proofs.lemmas.List.Elements.{All-append, All-cons, All-nil, All-head, All-tail, All-from_recursion, All-weaker}
+use Rattle.std.proofs.lemmas.List.Elements.{All-append, All-cons, All-nil, All-head, All-tail, All-from_recursion}
 use Rattle.zpl_region.specs.declared.dims.Dim.{Dim}
 use Rattle.zpl_region.specs.declared.dims.Dim.TheVariants as dim
 use Rattle.zpl_region.specs.declared.regions.Region.{Region}
 use Rattle.zpl_region.specs.Dim.{IsUpTo}
-use Rattle.zpl_meaning.specs.Context.{Mask}
 use Rattle.node_form.specs.declared.arrays.ArrayRow.{ArrayRow}
-use Rattle.node_form.specs.declared.words.ExprOp.{ExprOp}
 use Rattle.node_form.specs.declared.words.ExprOp.TheVariants as word
 use Rattle.node_form.specs.declared.tables.Tables.{Tables}
 use Rattle.node_form.specs.Expression as expr
 use Rattle.node_form.specs.Expression.{Expression, words_of}
 use Rattle.node_form.specs.Value.{unmoved}
-use Rattle.node_form.specs.Fits.{IsRank, IsVector, HasSlot, HasArray, IsStored, FitsWord, IsScalarWord}
-use Rattle.zpl_lowering.specs.Where.{Stored, Numbers, Slotted}
+use Rattle.node_form.specs.Fits.{IsVector, HasArray, IsStored, FitsWord, IsScalarWord}
+use Rattle.zpl_lowering.specs.Where.{Stored}
 use Rattle.zpl_lowering.specs.Words.{variable_code}
-use Rattle.zpl_lowering.specs.Reference.{dim_shift, shift_in, vector_over}
+use Rattle.zpl_lowering.specs.Reference.{shift_in, vector_over}
 use Rattle.zpl_lowering.specs.Hoist.{Shifted}
 use Rattle.lowering_fits.specs.Inline.{FitsWords, FitsScalar}
-use Rattle.lowering_fits.specs.Slates.{SlotsAt, TempsAt, AllRanges, IsRowOf, HasStorage, StoragesAt, AllBelow, AllStored, FitNumbers, IsOfRank, FitsTree, FitTrees, AllTemps, AllShifts}
+use Rattle.lowering_fits.specs.Slates.{SlotsAt, TempsAt, IsRowOf, HasStorage, StoragesAt, AllBelow, AllStored, FitsTree, AllTemps, AllShifts}
 
 -- ---- trees
 
@@ -212,12 +209,10 @@ shifts_both (x ∷ xs) ys first rest = (first.0, shifts_both xs ys first.1 rest)
 zero_up_to : IsUpTo 31 (pos 0)
 zero_up_to = (omega (arith, ints), omega (arith, ints))
 
-
 pub unmoved_fits : (rank : ℕ) → IsVector rank unmoved
 unmoved_fits rank =
     let zeros : All (λ component. component ≡ pos 0) unmoved =
-        All-from_recursion (λ component. component ≡ pos 0) unmoved (refl, (refl, (refl, tt))) in
-    (
+    All-from_recursion (λ component. component ≡ pos 0) unmoved (refl, (refl, (refl, tt))) in (
       All-from_recursion (IsUpTo 31) unmoved (zero_up_to, (zero_up_to, (zero_up_to, tt))),
       dropped rank unmoved zeros,
     )

@@ -1,6 +1,6 @@
 -- Vectors of a rank, and those of the borders of a read that wraps round.
-use Rattle.std.proofs.Common.{◌≡◌, ℕ, zero, suc, ◌+◌, ◌*◌, ◌-◌, ◌^◌, ◌≤◌, Bool, true, false, ℤ, List, [], ◌∷◌, ◌++◌, map, length, drop, refl, sym, ap, ◌∙◌, subst, arith, length-append}
-use Rattle.std.specs.Prelude.{cond, pos, negsuc, neg_ℤ, All, flat_map, filter}
+use Rattle.std.proofs.Common.{◌≡◌, ℕ, zero, suc, ◌*◌, ◌-◌, ◌^◌, Bool, true, false, ℤ, List, [], ◌∷◌, ◌++◌, map, length, drop, refl, sym, ap, ◌∙◌, subst, arith}
+use Rattle.std.specs.Prelude.{cond, pos, negsuc, neg_ℤ, flat_map, filter}
 use Rattle.std.specs.List.{AllByRecursion}
 use native.Mathlib.Numerals.{unary_clauses}
 use Rattle.std.proofs.lemmas.Int.{ints}
@@ -31,11 +31,10 @@ none_by zero (d ∷ v) by = (by.1, none_by zero v by.2)
 none_by (suc rank) (d ∷ v) by = none_by rank v by.1
 
 pub vector_by : (rank : ℕ) (v : List ℤ) → VectorBy rank v → IsVector rank v
-vector_by rank v by =
-    (
-      All-from_recursion (IsUpTo 31) v (small_by rank v by),
-      All-from_recursion (λ component. component ≡ pos 0) (drop rank v) (none_by rank v by),
-    )
+vector_by rank v by = (
+  All-from_recursion (IsUpTo 31) v (small_by rank v by),
+  All-from_recursion (λ component. component ≡ pos 0) (drop rank v) (none_by rank v by),
+)
 
 from_both : (rank : ℕ) (v : List ℤ) → AllByRecursion (IsUpTo 31) v →
     AllByRecursion (λ component. component ≡ pos 0) (drop rank v) → VectorBy rank v

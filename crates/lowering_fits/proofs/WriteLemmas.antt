@@ -1,45 +1,38 @@
 -- The code of prints, borders and prefixes fits.
-use Rattle.std.proofs.Common.{◌≡◌, ℕ, zero, suc, ◌+◌, ◌<◌, ◌≤◌, Bool, true, false, ℤ, List, [], ◌∷◌, ◌++◌, map, length, refl, sym, ap, ◌∙◌, subst, arith, length-append}
-use Rattle.std.specs.Prelude.{pos, neg_ℤ, Option, Some, None, option_map, slice_get}
+use Rattle.std.proofs.Common.{◌≡◌, ℕ, zero, suc, ◌+◌, ◌<◌, ◌≤◌, Bool, true, false, ℤ, List, [], ◌∷◌, length, refl, sym, ap, ◌∙◌, subst, arith}
+use Rattle.std.specs.Prelude.{Option, Some, None, slice_get}
 use Rattle.std.specs.Option.{IsSomeAnd}
 use Rattle.zpl_nums.specs.declared.ends.Border.{Border as BorderKind}
 use Rattle.zpl_nums.specs.declared.ends.Border.TheVariants as border
-use Rattle.zpl_text.specs.Escapes.{unescaped}
-use Rattle.zpl_tree.specs.Syntax.{Name, Pre, NamedRegion, Ditto, NamedDir, Inner, Rexpr, Dims, Posts, NoPost, ThenPost, Mask as MaskText, Prefix, Item, Str, Value, Expr, Base}
+use Rattle.zpl_tree.specs.Syntax.{Name, Item, Str, Value}
 use Rattle.zpl_names.specs.Kinds.{Rank}
-use Rattle.zpl_names.specs.Scope.{Scope, kind_of}
-use Rattle.zpl_names.specs.Ranks.{array_rank, array_shape, inner_rank, mask_rank, dir_rank, direction_rank, region_shape}
-use Rattle.zpl_names.specs.Shapes.{prefix_rank}
-use Rattle.zpl_names.specs.Sites.{Role, Printed}
+use Rattle.zpl_names.specs.Scope.{kind_of}
+use Rattle.zpl_names.specs.Ranks.{array_rank, array_shape}
+use Rattle.zpl_names.specs.Sites.{Printed}
 use Rattle.zpl_names.specs.Types.{type_of}
-use Rattle.zpl_meaning.specs.Store.{Thing, Scalar, ArrayAt, Fixed, Environment, thing_of}
-use Rattle.zpl_meaning.specs.Context.{Mask, Over, Currents, with_over, Edge, Place}
-use Rattle.zpl_meaning.specs.Regions.{vector_in, mask_thing, mask_in}
-use Rattle.zpl_meaning.specs.Proper.{HasCurrent, IsUnderCurrent, IsArray, IsArrayRank, IsProper, IsProperInner, IsProperRegion, IsProperMask, IsProperPrefix, AreArrays, AreProperItems}
-use Rattle.meaning_ranks.specs.Ranked.{IsOfRank as IsRankedAt, IsInnerOf, IsRegionOf, IsMaskOf as IsRankedMask, IsRankedPrefix, AreArraysOf, AreRankedItems}
+use Rattle.zpl_meaning.specs.Store.{Thing, Scalar, ArrayAt, Fixed, thing_of}
+use Rattle.zpl_meaning.specs.Context.{Currents, Edge}
+use Rattle.zpl_meaning.specs.Proper.{HasCurrent, IsUnderCurrent, AreProperItems}
+use Rattle.meaning_ranks.specs.Ranked.{AreArraysOf, AreRankedItems}
 use Rattle.node_form.specs.Expression as expr
 use Rattle.node_form.specs.Expression.{Expression, words_of}
 use Rattle.node_form.specs.declared.tables.Tables.{Tables}
-use Rattle.node_form.specs.declared.instructions.Instr.TheVariants as instr
-use Rattle.node_form.specs.Fits.{IsRank, IsVector, HasSlot, HasArray, IsStored, IsTemporary}
+use Rattle.node_form.specs.Fits.{IsRank, IsVector, HasSlot, HasArray, IsStored}
 use Rattle.row_runs.specs.Structured as piece
 use Rattle.flat_form.specs.Row as row
 use Rattle.flat_form.specs.Row.{Row, Words}
-use Rattle.zpl_lowering.specs.Where.{Stored, Numbers, Slotted, slotted_at, with_slotted, SlotEdge, Where, Next, rank_in}
-use Rattle.zpl_lowering.specs.Bracket.{Opened, bracket, computed, region_slot}
-use Rattle.zpl_lowering.specs.Slate.{Placed}
-use Rattle.zpl_lowering.specs.Lowered.{Lowered, rows_alone, behind, both, followed, Phased, phased}
-use Rattle.zpl_lowering.specs.Statement.{placed_in, border_rows, border_thing, each_border, source_shift, borders_under, lowered_borders, prefix_opened, current_for, base_slot, edge_of, under_prefix, of_opened, printed_exprs, Shown, scalar_print, shown_at, shown_of, Prints, with_shown, newline, items_of, of_prints, lowered_write, is_truth}
-use Rattle.zpl_lowering.specs.Hoist.{kept_rows}
+use Rattle.zpl_lowering.specs.Where.{Stored, Slotted, slotted_at, SlotEdge, Where, Next, rank_in}
+use Rattle.zpl_lowering.specs.Lowered.{Lowered, behind, Phased, phased}
+use Rattle.zpl_lowering.specs.Statement.{border_rows, border_thing, each_border, source_shift, lowered_borders, printed_exprs, Shown, scalar_print, shown_at, shown_of, Prints, newline, items_of, of_prints, lowered_write, is_truth}
 use Rattle.lowering_fits.specs.Inline.{FitsScalar, FitRows}
-use Rattle.lowering_fits.specs.Slates.{SlotsAt, TempsAt, FitNumbers, IsMaskOf, FitsOver, FitsTree, AllTemps}
-use Rattle.lowering_fits.specs.Reach.{place_at, IsStoredAs, FitsName, HasFlatRemaps, FitsKnown, IsReach}
-use Rattle.lowering_fits.specs.Lowerings.{AllRanks, IsLaidOut, FitsLowered, FitsEdge, AreSoundItems}
+use Rattle.lowering_fits.specs.Slates.{TempsAt, FitsOver, FitsTree, AllTemps}
+use Rattle.lowering_fits.specs.Reach.{place_at, IsStoredAs, IsReach}
+use Rattle.lowering_fits.specs.Lowerings.{IsLaidOut, FitsLowered, FitsEdge, AreSoundItems}
 use Rattle.lowering_fits.proofs.TreeLemmas.{scalar_tree, IsThere, stored_at, array_of, stored_of, temps_first, temps_rest, temps_both, unmoved_fits}
 use Rattle.lowering_fits.proofs.VectorLemmas.{VectorBy, by_vector, vector_by, opposite_by}
 use Rattle.lowering_fits.proofs.SlateLemmas.{rows_both, set_fits, kept_fits}
-use Rattle.lowering_fits.proofs.BracketLemmas.{rank_number, LimitsAreTold, FitsOpened, bracket_fits, computed_fits}
-use Rattle.lowering_fits.proofs.SettleLemmas.{over_of, with_current, array_rank_number, same_ranks}
+use Rattle.lowering_fits.proofs.BracketLemmas.{rank_number, LimitsAreTold}
+use Rattle.lowering_fits.proofs.SettleLemmas.{over_of}
 use Rattle.lowering_fits.proofs.PhaseLemmas.{laid_front, laid_behind, both_fit, rows_alone_fit, AreSound, FitLefts, phases_fit}
 
 -- ---- prints
@@ -89,7 +82,7 @@ module _ (limits : LimitsAreTold) (base : Tables) (w : Where) (result : ℕ) (cu
   shown_fits line truth scalar temp over (Some (suc rank)) tree under has fits below at =
       let is = has under in
       let array : HasArray base (suc rank) temp =
-          subst (λ n. HasArray base n temp) is.floods at.0.0 in
+      subst (λ n. HasArray base n temp) is.floods at.0.0 in
       record {
         values_fit = kept_fits base (suc rank) line temp over.slot tree None is.is_rank is.has array
             at.0.1 fits tt;
@@ -121,14 +114,14 @@ module _ (limits : LimitsAreTold) (base : Tables) (w : Where) (result : ℕ) (cu
       let rank : Rank = rank_in w Printed one in
       let shown : Shown = shown_of w line scalar temp one first in
       let rest : Prints =
-          items_of w line (scalar + shown.scalars) (temp + length shown.temps) ends items left in
+      items_of w line (scalar + shown.scalars) (temp + length shown.temps) ends items left in
       let here = shown_fits line (is_truth (type_of w.scope one)) scalar temp
-          (slotted_at w.currents rank) rank first proper.0.0
-          (over_of base w.numbers currents w.currents rank reach.here) fits.0 (omega arith)
-          (temps_first base temp shown.temps rest.temps at) in
+      (slotted_at w.currents rank) rank first proper.0.0
+      (over_of base w.numbers currents w.currents rank reach.here) fits.0 (omega arith)
+      (temps_first base temp shown.temps rest.temps at) in
       let there = items_fit line (scalar + shown.scalars) (temp + length shown.temps) ends items
-          left proper.1 fits.1 (omega arith)
-          (temps_rest base temp shown.temps rest.temps at) in
+      left proper.1 fits.1 (omega arith)
+      (temps_rest base temp shown.temps rest.temps at) in
       record {
         values_fit = rows_both base shown.values rest.values here.values_fit there.values_fit;
         prints_fit = (here.print_fits.0, there.prints_fit);
@@ -140,11 +133,10 @@ module _ (limits : LimitsAreTold) (base : Tables) (w : Where) (result : ℕ) (cu
       AreSound w (place_at w result currents edge) (printed_exprs w items)
   sound_items [] proper ranked sound = tt
   sound_items (Str bytes ∷ items) proper ranked sound = sound_items items proper ranked sound
-  sound_items (Value one ∷ items) proper ranked sound =
-      (
-        (proper.0.1, ranked.0, sound.0),
-        sound_items items proper.1 ranked.1 sound.1,
-      )
+  sound_items (Value one ∷ items) proper ranked sound = (
+    (proper.0.1, ranked.0, sound.0),
+    sound_items items proper.1 ranked.1 sound.1,
+  )
 
   pub write_fits : (line : ℕ) (next : Next) (ends : Bool) (items : List Item) →
       AreProperItems (place_at w result currents edge) items →
@@ -160,9 +152,9 @@ module _ (limits : LimitsAreTold) (base : Tables) (w : Where) (result : ℕ) (cu
       let first = laid_front base next code phases.lowered rows laid in
       let rest = laid_behind base next code phases.lowered rows laid in
       let fit = phases_fit limits base w result currents edge reach line next [] []
-          (printed_exprs w items) tt tt (sound_items items proper ranked sound) first in
+      (printed_exprs w items) tt tt (sound_items items proper ranked sound) first in
       let all = items_fit line after.scalars after.temps ends items phases.left proper fit.lefts
-          rest.below rest.temps_at in
+      rest.below rest.temps_at in
       both_fit base phases.lowered rows fit.fits (record {
         code_fits = rows_both base prints.values prints.prints all.values_fit all.prints_fit;
         slot_ranks = tt;
@@ -211,10 +203,9 @@ module _ (limits : LimitsAreTold) (base : Tables) (w : Where) (result : ℕ) (cu
           let both : Some stored.storage.rank ≡ Some rank = sym found.rank ∙ is in
           let same : stored.storage.rank ≡ rank = ap rank_number both in
           let array : HasArray base rank stored.array =
-              array_of base rank stored.array stored.storage there same in
+          array_of base rank stored.array stored.storage there same in
           let is_stored : IsStored base stored.array =
-              stored_of base stored.array stored.storage there in
-          (
+          stored_of base stored.array stored.storage there in (
             (
               record { rank = rank; fit = (one, array, is_stored, unmoved_fits rank) },
               tt,
@@ -254,9 +245,9 @@ module _ (limits : LimitsAreTold) (base : Tables) (w : Where) (result : ℕ) (cu
       let found = over_of base w.numbers currents w.currents w.prefix reach.here fits.1.1 in
       let number : rank_number w.prefix ≡ rank = ap rank_number fits.1.0 in
       let is : FitsOver base w.numbers rank over =
-          subst (λ n. FitsOver base w.numbers n over) number found in
+      subst (λ n. FitsOver base w.numbers n over) number found in
       let here : HasSlot base rank next.slots =
-          subst (λ n. HasSlot base n next.slots) is.floods laid.slots_at.0 in
+      subst (λ n. HasSlot base n next.slots) is.floods laid.slots_at.0 in
       record {
         code_fits = (
           (record { rank = rank; fit = (fits.1.2, fits.1.3) }, tt),
@@ -269,7 +260,7 @@ module _ (limits : LimitsAreTold) (base : Tables) (w : Where) (result : ℕ) (cu
               tt,
             ),
             each_fits kind own over.slot next.slots line rank names fits.1.0 are is.has here
-            fits.1.2 fits.1.3,
+                fits.1.2 fits.1.3,
           ),
         );
         slot_ranks = (subst IsRank (sym is.floods) is.is_rank, tt);

@@ -1,7 +1,6 @@
 -- When rows that are seen inline fit: what their numbers name is asked of tables that have as many
 -- scalars, the same slots and the same arrays as those that the rows are laid out in.
 use Rattle.std.specs.Prelude.{◌≡◌, ℕ, zero, suc, ◌<◌, ◌≤◌, List, [], ◌∷◌, Option, Some, None, All, replicate}
-use Rattle.node_form.specs.declared.instructions.Instr.{Instr}
 use Rattle.node_form.specs.declared.instructions.Instr.TheVariants as instr
 use Rattle.node_form.specs.declared.tables.Tables.{Tables}
 use Rattle.node_form.specs.Expression.{IsExpression}

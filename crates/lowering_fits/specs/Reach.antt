@@ -1,24 +1,24 @@
 -- What is in reach of a statement that is lowered, and fits: current regions, names, and what was
 -- computed before the run.
-use Rattle.std.specs.Prelude.{◌≡◌, ℕ, zero, suc, ◌<◌, ◌≤◌, Bool, true, false, ℤ, List, [], ◌∷◌, length, take, Option, Some, None, option_map, slice_get, All, IsTrue}
+use Rattle.std.specs.Prelude.{◌≡◌, ℕ, ◌<◌, false, List, length, take, Option, Some, None, option_map, slice_get, IsTrue}
 use Rattle.std.specs.List.{AllByRecursion}
 use Rattle.std.specs.Option.{IsSomeAnd}
 use Rattle.zpl_region.specs.declared.regions.Region.{Region}
 use Rattle.zpl_region.specs.Dim.{HasStep}
-use Rattle.zpl_region.specs.Region.{IsPadded, IsWithinLimit}
+use Rattle.zpl_region.specs.Region.{IsPadded}
 use Rattle.zpl_region.specs.Tests.{is_within_limit}
 use Rattle.zpl_tree.specs.Syntax.{Name, Dir, Expr, Number, Truth, Coord, Named, Shifted, Around, Remap, Call, Paren, Neg, Not, Abs, Pair, Reduce, Scan, Flood, Exprs, NoExpr, ThenExpr}
-use Rattle.zpl_names.specs.Kinds.{Shape, Rank}
+use Rattle.zpl_names.specs.Kinds.{Shape}
 use Rattle.zpl_names.specs.Faults.{has_flood}
 use Rattle.zpl_names.specs.Scope.{Scope, kind_of}
 use Rattle.zpl_names.specs.Ranks.{dir_rank, region_shape, array_shape}
 use Rattle.zpl_binding.specs.Outcome.{Outcome, Gives, Fails}
 use Rattle.zpl_binding.specs.Regions.{Known, region_named}
-use Rattle.zpl_meaning.specs.Store.{Thing, Scalar, ArrayAt, Environment, thing_of}
+use Rattle.zpl_meaning.specs.Store.{Scalar, ArrayAt, Environment, thing_of}
 use Rattle.zpl_meaning.specs.Regions.{vector_in}
 use Rattle.zpl_meaning.specs.Context.{Over, Currents, Edge, Place}
 use Rattle.node_form.specs.declared.tables.Tables.{Tables}
-use Rattle.node_form.specs.Fits.{IsRank, IsVector, HasSlot, FitsRegion}
+use Rattle.node_form.specs.Fits.{IsVector, HasSlot, FitsRegion}
 use Rattle.zpl_lowering.specs.Where.{Stored, Numbers, Slotted, SlotCurrents, slotted_or, Where}
 use Rattle.zpl_lowering.specs.Bracket.{region_slot}
 use Rattle.lowering_fits.specs.Slates.{AllRanges, FitsOver, FitNumbers}

@@ -1,6 +1,6 @@
 -- Where a statement is lowered, and what calls come of it.
 use Rattle.std.specs.Prelude.{◌≡◌, ℕ, ◌+◌, ◌<◌, ◌≤◌, Bool, true, List, length, Option}
-use Rattle.zpl_tree.specs.Syntax.{Name, Exprs, Prefix, Prefixed, Form, Assign, Invoke, Block, If, While, Repeat, For, Border, Write, Return}
+use Rattle.zpl_tree.specs.Syntax.{Name, Exprs, Prefix, Prefixed, Form, Assign}
 use Rattle.zpl_names.specs.Scope.{kind_of}
 use Rattle.zpl_meaning.specs.Context.{Currents, Edge, Setup, Place}
 use Rattle.zpl_meaning.specs.Calls.{formals_in}

@@ -8,10 +8,9 @@ returns c = λ program settings grammar clean tables call calls answers w result
     stmt_fits tables (first_setup program settings) call
     (record {
       limits = λ region steps. c.tests_tell_the_facts.ensures.limit region steps;
-      right = λ place stmt visited.
-          (
-            c.no_stand_in_is_met.ensures program settings grammar clean place stmt visited,
-            c.ranks_agree.ensures program settings grammar clean place stmt visited,
-          );
+      right = λ place stmt visited. (
+        c.no_stand_in_is_met.ensures program settings grammar clean place stmt visited,
+        c.ranks_agree.ensures program settings grammar clean place stmt visited,
+      );
       calls = calls;
     }) answers w result currents edge stands next stmt visited sound laid
