@@ -16,3 +16,6 @@ pub mod KnownLemmas
 pub mod RegionLemmas
 pub mod ScopeLemmas
 pub mod DeclaredLemmas
+pub mod ArrayLemmas
+pub mod FrameLemmas
+pub mod BodyLemmas

@@ -3,3 +3,4 @@ pub mod Slates
 pub mod Reach
 pub mod Lowerings
 pub mod Standing
+pub mod Whole

@@ -1,5 +1,5 @@
 //! The laws of tables that lowered code comes to.
-ghost use Rattle.std.specs.Prelude.{◌≡◌, All, Bool, List, Option, length, map, ℕ};
+ghost use Rattle.std.specs.Prelude.{◌≡◌, ◌++◌, All, Bool, List, Option, length, map, ℕ};
 ghost use Rattle.zpl_tree.specs.Grammar.{IsBody, IsProgram};
 ghost use Rattle.zpl_tree.specs.Syntax.{Program, Stmt};
 ghost use Rattle.zpl_names.specs.Accepted.{IsFaultless};
@@ -18,16 +18,20 @@ ghost use Rattle.flat_form.specs.Flat.{IsFlat};
 ghost use Rattle.flat_form.specs.Row.{Row, with_rows};
 ghost use Rattle.zpl_lowering.specs.Hoist.{Free, hoisted};
 ghost use Rattle.zpl_lowering.specs.Lowered.{Lowered};
+ghost use Rattle.zpl_lowering.specs.Program.{Entry, body_code, where_in};
 ghost use Rattle.zpl_lowering.specs.Slate.{Slate};
 ghost use Rattle.zpl_lowering.specs.Statement.{Calling, lowered};
 ghost use Rattle.zpl_lowering.specs.Tables.{empty_tables, tables_of};
 ghost use Rattle.zpl_lowering.specs.Where.{Next, Numbers, Where};
 ghost use Rattle.lowering_fits.specs.Inline.{FitRows, FitsPiece, IsGround};
-ghost use Rattle.lowering_fits.specs.Lowerings.{FitsLowered, IsLaidOut, IsSoundStmt, answering, region_rank};
+ghost use Rattle.lowering_fits.specs.Lowerings.{FitsLowered, IsLaidOut, IsSoundStmt, answering};
+ghost use Rattle.lowering_fits.specs.Lowerings.{region_rank};
 ghost use Rattle.lowering_fits.specs.Reach.{FitsKnown, place_at};
 ghost use Rattle.lowering_fits.specs.Slates.{FitNumbers, FitsHoist, FitsSlate, FitsTree, IsPlaced};
 ghost use Rattle.lowering_fits.specs.Slates.{SlotsAt};
 ghost use Rattle.lowering_fits.specs.Standing.{CallsFit, IsStanding};
+ghost use Rattle.lowering_fits.specs.Whole.{AllKept, AllStorages, AllVars, FitsGivens, IsNumbered};
+ghost use Rattle.lowering_fits.specs.Whole.{body_frames};
 
 use meaning_ranks::ranks_agree;
 use zpl_meaning::{no_stand_in_is_met, what_is_computed_has_a_value};
@@ -105,3 +109,38 @@ pub fn statements_fit()
     no_stand_in_is_met();
     tests_tell_the_facts();
 }
+
+/// In such a program the code of a procedure that is called fits: the rows of its parameters and of
+/// its local variables, and its body, where the body stands as it must behind these.
+pub fn bodies_fit()
+    ensures { (program : Program) (settings : List Setting) → IsProgram program →
+        IsFaultless program → (tables : Code) (call : Calling → Next → Lowered) →
+        CallsFit tables (first_setup program settings) call →
+        (answers : Bool) (entry : Entry) (routine : Routine) (calling : Calling) (next : Next)
+        (result : ℕ) (currents : Currents) (edge : Option Edge) →
+        FitsGivens tables calling.actuals → FitNumbers tables calling.numbers →
+        AllKept calling.numbers.arrays →
+        AllVars (first_setup program settings) routine.procedure.locals →
+        (let setup = first_setup program settings in
+        let last = body_frames setup entry routine calling next in
+        let w = where_in setup routine calling last.frame in
+        IsStanding tables setup answers w currents →
+        IsVisited setup (place_at w result currents edge) routine.procedure.body →
+        IsSoundStmt w.scope answers routine.procedure.body →
+        IsLaidOut tables next (body_code setup entry call routine calling next) →
+        FitsLowered tables (body_code setup entry call routine calling next)) }
+{
+    ranks_agree();
+    no_stand_in_is_met();
+    tests_tell_the_facts();
+}
+
+/// Code that is numbered as it is laid out has what is its own in its tables; and if it fits them
+/// then, and its storages are boxes within the limit, they are a flat program's.
+pub fn numbered_code_makes_a_flat_program()
+    ensures laid { (grid : List ℕ) (next : Next) (lowered : Lowered) → IsNumbered next lowered →
+        IsLaidOut (empty_tables grid lowered) next lowered }
+    ensures flat { (grid : List ℕ) (lowered : Lowered) → IsGrid grid →
+        AllStorages (lowered.arrays ++ (lowered.copies ++ lowered.later)) →
+        FitsLowered (empty_tables grid lowered) lowered → IsFlat (tables_of grid lowered) }
+{}
