@@ -1,6 +1,6 @@
 -- The rows of arrays fit, and what code has of its own is laid out in its tables.
-use Rattle.std.proofs.Common.{◌≡◌, ℕ, zero, suc, ◌+◌, ◌-◌, ◌<◌, ◌≤◌, ◌^◌, Bool, true, false, ℤ, List, [], ◌∷◌, ◌++◌, map, length, drop, take, refl, sym, ap, ◌∙◌, subst, arith, length-append, append_assoc, append-nil}
-use Rattle.std.specs.Prelude.{pos, neg_ℤ, cond, filter, ◌==◌, ◌≤ℤ◌, replicate, Option, Some, None, slice_get, All}
+use Rattle.std.proofs.Common.{◌≡◌, ℕ, zero, suc, ◌+◌, ◌-◌, ◌^◌, Bool, true, false, ℤ, List, [], ◌∷◌, ◌++◌, map, length, drop, take, refl, sym, ap, ◌∙◌, subst, arith, length-append, append_assoc}
+use Rattle.std.specs.Prelude.{pos, neg_ℤ, cond, filter, ◌==◌, ◌≤ℤ◌, replicate, Some, slice_get, All}
 use Rattle.std.specs.List.{AllByRecursion}
 use Rattle.std.specs.Option.{IsSomeAnd}
 use Rattle.std.specs.Int.{int_max}
@@ -10,19 +10,18 @@ use Rattle.zpl_region.specs.declared.dims.Dim.{Dim}
 use Rattle.zpl_region.specs.declared.dims.Dim.TheVariants as dim
 use Rattle.zpl_region.specs.declared.regions.Region.{Region}
 use Rattle.zpl_region.specs.Dim.{IsUpTo}
-use Rattle.zpl_region.specs.Region.{padding, IsPadded, IsWithinLimit}
+use Rattle.zpl_region.specs.Region.{padding, IsWithinLimit}
 use Rattle.node_form.specs.declared.arrays.ArrayDim.{ArrayDim}
-use Rattle.node_form.specs.declared.arrays.ArrayDim.TheVariants as array
 use Rattle.node_form.specs.declared.arrays.ArrayRow.{ArrayRow}
 use Rattle.node_form.specs.declared.tables.Tables.{Tables}
-use Rattle.node_form.specs.Fits.{IsRank, HasSlot, HasArray, IsTemporary, storage_dim, storage_of, IsWidth, HasFringe, IsUnused, IsUnusedOrStar, IsRange, FitsArray}
+use Rattle.node_form.specs.Fits.{IsRank, storage_dim, IsWidth, HasFringe, IsUnused, IsUnusedOrStar, IsRange, FitsArray}
 use Rattle.node_form.specs.Grid.{IsGrid}
 use Rattle.flat_form.specs.Flat.{IsFlat}
 use Rattle.zpl_lowering.specs.Hoist.{Shifted}
 use Rattle.zpl_lowering.specs.Where.{Next}
 use Rattle.zpl_lowering.specs.Lowered.{Lowered}
-use Rattle.zpl_lowering.specs.Tables.{Fringe, no_fringe, wider, all_wider, widened, fringes_of, no_range, stored_dim, stored_dims, stored_row, stored_rows, temp_dim, temp_dims, temp_row, empty_tables, tables_of}
-use Rattle.lowering_fits.specs.Slates.{SlotsAt, TempsAt, AllRanges, IsRowOf, HasStorage, StoragesAt, AllTemps, AllShifts}
+use Rattle.zpl_lowering.specs.Tables.{Fringe, no_fringe, wider, all_wider, widened, fringes_of, stored_dims, stored_row, stored_rows, temp_dims, temp_row, empty_tables, tables_of}
+use Rattle.lowering_fits.specs.Slates.{SlotsAt, TempsAt, AllRanges, IsRowOf, StoragesAt, AllTemps, AllShifts}
 use Rattle.lowering_fits.specs.Lowerings.{AllRanks, IsLaidOut, FitsLowered}
 use Rattle.lowering_fits.specs.Whole.{AllBoxed, IsStorage, AllStorages, IsNumbered}
 use Rattle.lowering_fits.proofs.PieceLemmas.{code_makes_flat}
@@ -44,8 +43,7 @@ greater_width width d is small =
 
 wider_fits : (fringe : Fringe) (d : ℤ) → IsFringe fringe → IsUpTo 31 d → IsFringe (wider fringe d)
 wider_fits fringe d is small =
-    let low = small.0 in let high = small.1 in
-    (
+    let low = small.0 in let high = small.1 in (
       greater_width fringe.low (neg_ℤ d) is.0 (omega (arith, ints)),
       greater_width fringe.high d is.1 high,
     )
@@ -54,11 +52,10 @@ all_wider_fit : (fringes : List Fringe) (shift : List ℤ) → AreFringes fringe
     All (IsUpTo 31) shift → AreFringes (all_wider fringes shift)
 all_wider_fit [] shift are small = tt
 all_wider_fit (fringe ∷ fringes) [] are small = are
-all_wider_fit (fringe ∷ fringes) (d ∷ shift) are small =
-    (
-      wider_fits fringe d are.0 (All-head (IsUpTo 31) d shift small),
-      all_wider_fit fringes shift are.1 (All-tail (IsUpTo 31) d shift small),
-    )
+all_wider_fit (fringe ∷ fringes) (d ∷ shift) are small = (
+  wider_fits fringe d are.0 (All-head (IsUpTo 31) d shift small),
+  all_wider_fit fringes shift are.1 (All-tail (IsUpTo 31) d shift small),
+)
 
 wider_count : (fringes : List Fringe) (shift : List ℤ) →
     length (all_wider fringes shift) ≡ length fringes
@@ -182,8 +179,8 @@ row_fits k shifts storage small is =
     let fringes : List Fringe = fringes_of k shifts in
     let dims : List ArrayDim = stored_dims storage.rank storage.dims fringes in
     let same : map storage_dim dims ≡ storage.dims =
-        dims_same storage.rank storage.dims fringes (is.three ∙ sym (fringes_count k shifts))
-        is.boxed (pads (3 - storage.rank) storage.rank storage.dims is.padded) in
+    dims_same storage.rank storage.dims fringes (is.three ∙ sym (fringes_count k shifts))
+    is.boxed (pads (3 - storage.rank) storage.rank storage.dims is.padded) in
     record {
       rank = is.is_rank;
       padded = All-from_recursion IsUnused (drop storage.rank dims)
@@ -263,14 +260,13 @@ storages_stand base shifts front (storage ∷ storages) rest is =
     let next : ℕ = length (front ++ one ∷ []) in
     let same : next ≡ suc k = one_more front one in
     let whole : base.arrays ≡ (front ++ one ∷ []) ++ (stored_rows next shifts storages ++ rest) =
-        is ∙ (sym (append_assoc front (one ∷ []) (more ++ rest))
-        ∙ ap (λ n. (front ++ one ∷ []) ++ (stored_rows n shifts storages ++ rest)) (sym same)) in
-    (
+    is ∙ (sym (append_assoc front (one ∷ []) (more ++ rest))
+    ∙ ap (λ n. (front ++ one ∷ []) ++ (stored_rows n shifts storages ++ rest)) (sym same)) in (
       subst (λ found. IsSomeAnd found (IsRowOf storage))
-      (sym (ap (λ all. slice_get all k) is ∙ placed front one (more ++ rest)))
-      (row_of k shifts storage),
+          (sym (ap (λ all. slice_get all k) is ∙ placed front one (more ++ rest)))
+          (row_of k shifts storage),
       subst (λ n. StoragesAt base n storages) same
-      (storages_stand base shifts (front ++ one ∷ []) storages rest whole),
+          (storages_stand base shifts (front ++ one ∷ []) storages rest whole),
     )
 
 temps_stand : (base : Tables) (front : List ArrayRow) (temps : List (List Bool)) →
@@ -280,28 +276,26 @@ temps_stand base front (flood ∷ temps) is =
     let one : ArrayRow = temp_row flood in
     let same : length (front ++ one ∷ []) ≡ suc (length front) = one_more front one in
     let whole : base.arrays ≡ (front ++ one ∷ []) ++ map temp_row temps =
-        is ∙ sym (append_assoc front (one ∷ []) (map temp_row temps)) in
+    is ∙ sym (append_assoc front (one ∷ []) (map temp_row temps)) in
     let found : slice_get base.arrays (length front) ≡ Some one =
-        ap (λ all. slice_get all (length front)) is ∙ placed front one (map temp_row temps) in
-    (
+    ap (λ all. slice_get all (length front)) is ∙ placed front one (map temp_row temps) in (
       (
         subst (λ o. IsSomeAnd o (λ row. row.rank ≡ length flood)) (sym found) refl,
         subst (λ o. IsSomeAnd o (λ row. row.stored ≡ false)) (sym found) refl,
       ),
       subst (λ n. TempsAt base n temps) same
-      (temps_stand base (front ++ one ∷ []) temps whole),
+          (temps_stand base (front ++ one ∷ []) temps whole),
     )
 
 slots_stand : (base : Tables) (front slots : List ℕ) → base.slots ≡ front ++ slots →
     SlotsAt base (length front) slots
 slots_stand base front [] is = tt
 slots_stand base front (slot ∷ slots) is =
-    let same : length (front ++ slot ∷ []) ≡ suc (length front) = one_more front slot in
-    (
+    let same : length (front ++ slot ∷ []) ≡ suc (length front) = one_more front slot in (
       ap (λ all. slice_get all (length front)) is ∙ placed front slot slots,
       subst (λ n. SlotsAt base n slots) same
-      (slots_stand base (front ++ slot ∷ []) slots
-      (is ∙ sym (append_assoc front (slot ∷ []) slots))),
+          (slots_stand base (front ++ slot ∷ []) slots
+          (is ∙ sym (append_assoc front (slot ∷ []) slots))),
     )
 
 rows_count : (k : ℕ) (shifts : List Shifted) (storages : List Region) →
@@ -321,16 +315,16 @@ whole_laid grid next lowered is =
     let front = storages_first base 0 lowered.arrays (lowered.copies ++ lowered.later) stand in
     let behind = storages_rest base 0 lowered.arrays (lowered.copies ++ lowered.later) stand in
     let none : lowered.copies ++ lowered.later ≡ lowered.later =
-        ap (λ copies. copies ++ lowered.later) is.no_copies in
+    ap (λ copies. copies ++ lowered.later) is.no_copies in
     let at_later : 0 + length lowered.arrays ≡ next.later = omega (arith, is.later) in
     let counted : length rows ≡ next.temps =
-        rows_count 0 lowered.shifts all
-        ∙ omega (
-          arith,
-          length-append lowered.arrays (lowered.copies ++ lowered.later),
-          ap length none,
-          is.temps,
-        ) in
+    rows_count 0 lowered.shifts all
+    ∙ omega (
+      arith,
+      length-append lowered.arrays (lowered.copies ++ lowered.later),
+      ap length none,
+      is.temps,
+    ) in
     let none_at : StoragesAt base next.copies [] = tt in
     record {
       below = omega (arith, is.scalars);

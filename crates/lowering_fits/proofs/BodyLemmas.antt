@@ -1,5 +1,5 @@
 -- The code of a procedure that is called fits, where its body stands as it must.
-use Rattle.std.proofs.Common.{◌≡◌, ℕ, Bool, List, [], ◌∷◌, ◌++◌, refl}
+use Rattle.std.proofs.Common.{ℕ, Bool, List, [], ◌∷◌}
 use Rattle.std.specs.Prelude.{Option}
 use Rattle.zpl_tree.specs.Syntax.{VarDef}
 use Rattle.zpl_names.specs.Declared.{Routine}
@@ -10,12 +10,12 @@ use Rattle.node_form.specs.declared.tables.Tables.{Tables}
 use Rattle.zpl_lowering.specs.Where.{Next}
 use Rattle.zpl_lowering.specs.Lowered.{Lowered}
 use Rattle.zpl_lowering.specs.Statement.{Calling, lowered}
-use Rattle.zpl_lowering.specs.Program.{Framed, Entry, names_code, locals_code, where_in, body_code}
+use Rattle.zpl_lowering.specs.Program.{Framed, Entry, locals_code, where_in, body_code}
 use Rattle.lowering_fits.specs.Slates.{FitNumbers}
 use Rattle.lowering_fits.specs.Reach.{place_at}
 use Rattle.lowering_fits.specs.Lowerings.{IsLaidOut, FitsLowered, IsSoundStmt}
 use Rattle.lowering_fits.specs.Standing.{IsStanding}
-use Rattle.lowering_fits.specs.Whole.{AllKept, FitsGivens, AllVars, Frames, given_frames, name_frames, local_frames, body_frames}
+use Rattle.lowering_fits.specs.Whole.{AllKept, FitsGivens, AllVars, given_frames, name_frames, local_frames, body_frames}
 use Rattle.lowering_fits.proofs.FormLemmas.{Lowers, stmt_fits}
 use Rattle.lowering_fits.proofs.FrameLemmas.{givens_fit, names_fit}
 
@@ -50,12 +50,12 @@ body_fits base setup call with_all answers entry routine calling next result cur
     fits kept vars stands visited sound laid =
     let first : Framed = record { names = []; numbers = calling.numbers } in
     let given = given_frames entry.line (formal_names routine.procedure.params) calling.actuals
-        first next in
+    first next in
     let last = body_frames setup entry routine calling next in
     let body : Framed → Next → Lowered =
-        λ frame last. lowered
-        (record { place = where_in setup routine calling frame; call = call }) last
-        routine.procedure.body in
+    λ frame last. lowered
+    (record { place = where_in setup routine calling frame; call = call }) last
+    routine.procedure.body in
     givens_fit base entry.line (formal_names routine.procedure.params) calling.actuals first next
     (λ frame after. locals_code setup entry routine.procedure.locals frame after body) givens fits
     kept

@@ -1,6 +1,6 @@
 -- The rows of parameters and local variables fit, and so do the numbers behind them.
-use Rattle.std.proofs.Common.{◌≡◌, ℕ, zero, suc, ◌+◌, ◌<◌, ◌≤◌, Bool, true, false, List, [], ◌∷◌, ◌++◌, length, refl, sym, ap, ◌∙◌, subst, arith}
-use Rattle.std.specs.Prelude.{pos, Some, None}
+use Rattle.std.proofs.Common.{ℕ, ◌<◌, Bool, true, false, List, [], ◌∷◌, ◌++◌, refl, arith}
+use Rattle.std.specs.Prelude.{pos, None}
 use Rattle.std.proofs.lemmas.Int.{ints}
 use Rattle.std.proofs.lemmas.List.Elements.{All-from_recursion}
 use Rattle.std.specs.List.{AllByRecursion}
@@ -8,25 +8,22 @@ use Rattle.zpl_region.specs.declared.dims.Dim.{Dim}
 use Rattle.zpl_region.specs.declared.dims.Dim.TheVariants as dim
 use Rattle.zpl_region.specs.declared.regions.Region.{Region}
 use Rattle.zpl_region.specs.Dim.{HasStep}
-use Rattle.zpl_tree.specs.Syntax.{Name, Bracket, NoBracket, Bracketed, VarDef}
+use Rattle.zpl_tree.specs.Syntax.{Name, Bracket, NoBracket, Bracketed}
 use Rattle.zpl_names.specs.Expansion.{FormalName}
 use Rattle.zpl_meaning.specs.Context.{Setup}
 use Rattle.zpl_meaning.specs.Variables.{home_box, storage_box}
 use Rattle.node_form.specs.Expression as expr
 use Rattle.node_form.specs.declared.tables.Tables.{Tables}
-use Rattle.node_form.specs.declared.instructions.Instr.TheVariants as instr
-use Rattle.node_form.specs.Fits.{IsRank, FitsRegion}
+use Rattle.node_form.specs.Fits.{FitsRegion}
 use Rattle.row_runs.specs.Structured as piece
-use Rattle.flat_form.specs.Row as row
-use Rattle.flat_form.specs.Row.{Row}
 use Rattle.zpl_lowering.specs.Where.{Stored, Numbers, Next}
-use Rattle.zpl_lowering.specs.Lowered.{Lowered, rows_alone, behind, followed}
+use Rattle.zpl_lowering.specs.Lowered.{Lowered, rows_alone, behind}
 use Rattle.zpl_lowering.specs.Statement.{Given, Valued, Copied, Referring}
-use Rattle.zpl_lowering.specs.Program.{Framed, with_scalar, with_array, Entry, zero_row, clear_row, copy_rows, made_copy, given_code, givens_code, local_code, names_code, locals_code}
+use Rattle.zpl_lowering.specs.Program.{Framed, with_scalar, with_array, Entry, zero_row, clear_row, made_copy, givens_code, names_code}
 use Rattle.lowering_fits.specs.Inline.{FitRows}
 use Rattle.lowering_fits.specs.Slates.{HasStorage, AllBelow, AllStored, FitNumbers}
 use Rattle.lowering_fits.specs.Lowerings.{IsLaidOut, FitsLowered}
-use Rattle.lowering_fits.specs.Whole.{AllBoxed, IsStorage, AllKept, FitsGivens, FitsVars, given_frame, given_frames, local_frame, name_frames, local_frames, Frames}
+use Rattle.lowering_fits.specs.Whole.{AllBoxed, IsStorage, AllKept, FitsGivens, FitsVars, given_frames, name_frames}
 use Rattle.lowering_fits.proofs.TreeLemmas.{array_of, stored_of}
 use Rattle.lowering_fits.proofs.SlateLemmas.{set_fits, put_loop}
 use Rattle.lowering_fits.proofs.PhaseLemmas.{laid_front, laid_behind, both_fit}
@@ -98,8 +95,8 @@ module _ (base : Tables) where
           ),
           (
             put_loop base rank next.slots next.arrays (expr.Element from.array) None line is.is_rank
-            laid.slots_at.0 (array_of base rank next.arrays from.storage laid.arrays_at.0 refl)
-            (is.is_rank, array_of base rank from.array from.storage has refl) tt,
+                laid.slots_at.0 (array_of base rank next.arrays from.storage laid.arrays_at.0 refl)
+                (is.is_rank, array_of base rank from.array from.storage has refl) tt,
             tt,
           ),
         );
@@ -199,7 +196,7 @@ module _ (base : Tables) where
       let storage : Region = storage_box setup.known setup.borders inner in
       let stored : Stored = record { array = next.arrays; storage = storage } in
       let first : Lowered =
-          record (rows_alone (clear_row entry next.arrays)) { arrays = storage ∷ [] } in
+      record (rows_alone (clear_row entry next.arrays)) { arrays = storage ∷ [] } in
       let more : Framed = with_array frame name (home_box setup.known inner) stored in
       let after : Next = behind next first in
       let later : Lowered = names_code setup entry (Bracketed inner) names more after rest in

@@ -124,5 +124,5 @@ AllVars setup (var ∷ vars) = FitsVars setup var.shape × AllVars setup vars
 abbrev pub body_frames : Setup → Entry → Routine → Calling → Next → Frames
 body_frames setup entry routine calling next =
     let given = given_frames entry.line (formal_names routine.procedure.params) calling.actuals
-        (record { names = []; numbers = calling.numbers }) next in
+    (record { names = []; numbers = calling.numbers }) next in
     local_frames setup entry routine.procedure.locals given.frame given.next
