@@ -103,7 +103,7 @@ fringes_count k shifts =
 -- ---- stored arrays
 
 -- past the rank all is padding
-abbrev PadsFrom : ℕ → List Dim → Type 0
+abbrev pub PadsFrom : ℕ → List Dim → Type 0
 PadsFrom rank [] = Unit {0}
 PadsFrom zero (one ∷ dims) = (one ≡ padding) × PadsFrom zero dims
 PadsFrom (suc rank) (one ∷ dims) = PadsFrom rank dims
@@ -116,7 +116,7 @@ pads_all (suc n) (one ∷ dims) is =
     let rest : dims ≡ replicate n padding = cc in
     (first, pads_all n dims rest)
 
-pads : (n rank : ℕ) (dims : List Dim) → drop rank dims ≡ replicate n padding → PadsFrom rank dims
+pub pads : (n rank : ℕ) (dims : List Dim) → drop rank dims ≡ replicate n padding → PadsFrom rank dims
 pads n rank [] is = tt
 pads n zero (one ∷ dims) is = pads_all n (one ∷ dims) is
 pads n (suc rank) (one ∷ dims) is = pads n rank dims is

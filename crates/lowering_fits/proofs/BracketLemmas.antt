@@ -374,7 +374,7 @@ box_kept rank region form d is kept = record {
   same = is.same;
 }
 
-outside_box : (rank : ℕ) (d : List ℤ) (region : Region) → IsBox rank region →
+pub outside_box : (rank : ℕ) (d : List ℤ) (region : Region) → IsBox rank region →
     IsBox rank (outside_of d region)
 outside_box rank d region is =
     box_kept rank region dim_outside_of d is (formed-kept.outside d region (is.steps, is.padded))

@@ -30,7 +30,7 @@ use Rattle.lowering_fits.proofs.PhaseLemmas.{laid_front, laid_behind, both_fit}
 
 -- ---- storages in rows
 
-boxed_steps : (dims : List Dim) → AllBoxed dims → AllByRecursion HasStep dims
+pub boxed_steps : (dims : List Dim) → AllBoxed dims → AllByRecursion HasStep dims
 boxed_steps [] boxed = tt
 boxed_steps (dim.Range lo hi step align ∷ dims) boxed =
     let one = boxed.0.0 in (omega (arith, ints), boxed_steps dims boxed.1)

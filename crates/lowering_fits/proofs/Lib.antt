@@ -19,3 +19,4 @@ pub mod DeclaredLemmas
 pub mod ArrayLemmas
 pub mod FrameLemmas
 pub mod BodyLemmas
+pub mod StorageLemmas

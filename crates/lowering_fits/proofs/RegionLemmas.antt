@@ -146,7 +146,7 @@ index_good known name = by (outcome_of (pos 0) known.values name.text)
     by (Gives value) = over_good (all_from value value ∷ []) (one_step, tt)
     by (Fails fault) = tt
 
-inner_good : (known : Known) (inner : Inner) → AreGood known.regions →
+pub inner_good : (known : Known) (inner : Inner) → AreGood known.regions →
     IsGoodRegion (inner_of known inner)
 inner_good known (Rexpr [] (NamedRegion name) NoPost) are = by (is_region_name known name)
   where

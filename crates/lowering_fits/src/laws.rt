@@ -1,14 +1,17 @@
 //! The laws of tables that lowered code comes to.
 ghost use Rattle.std.specs.Prelude.{◌≡◌, ◌++◌, All, Bool, List, Option, length, map, ℕ};
 ghost use Rattle.zpl_tree.specs.Grammar.{IsBody, IsProgram};
-ghost use Rattle.zpl_tree.specs.Syntax.{Program, Stmt};
+ghost use Rattle.zpl_tree.specs.Syntax.{Inner, Program, Stmt};
 ghost use Rattle.zpl_names.specs.Accepted.{IsFaultless};
 ghost use Rattle.zpl_names.specs.Declared.{Routine, routine_named, scope_of};
 ghost use Rattle.zpl_names.specs.Reached.{IsReached};
 ghost use Rattle.zpl_names.specs.Shapes.{Shapes};
 ghost use Rattle.zpl_binding.specs.Bound.{IsAcceptedWith};
 ghost use Rattle.zpl_binding.specs.Declarations.{known_of};
+ghost use Rattle.zpl_binding.specs.Outcome.{Gives};
 ghost use Rattle.zpl_binding.specs.Settings.{Setting};
+ghost use Rattle.zpl_binding.specs.Storages.{borders_of, storage_of};
+ghost use Rattle.zpl_region.specs.declared.regions.Region.{Region};
 ghost use Rattle.zpl_meaning.specs.Context.{Currents, Edge};
 ghost use Rattle.zpl_meaning.specs.Visited.{first_setup, IsVisited};
 ghost use Rattle.node_form.specs.Fits.{FitsArray, IsRank};
@@ -31,7 +34,7 @@ ghost use Rattle.lowering_fits.specs.Slates.{FitNumbers, FitsHoist, FitsSlate, F
 ghost use Rattle.lowering_fits.specs.Slates.{SlotsAt};
 ghost use Rattle.lowering_fits.specs.Standing.{CallsFit, IsStanding};
 ghost use Rattle.lowering_fits.specs.Whole.{AllKept, AllStorages, AllVars, FitsGivens, IsNumbered};
-ghost use Rattle.lowering_fits.specs.Whole.{body_frames};
+ghost use Rattle.lowering_fits.specs.Whole.{IsStorage, body_frames};
 
 use meaning_ranks::ranks_agree;
 use zpl_meaning::{no_stand_in_is_met, what_is_computed_has_a_value};
@@ -144,3 +147,13 @@ pub fn numbered_code_makes_a_flat_program()
         AllStorages (lowered.arrays ++ (lowered.copies ++ lowered.later)) →
         FitsLowered (empty_tables grid lowered) lowered → IsFlat (tables_of grid lowered) }
 {}
+
+/// The storage of a declared array, where it has one, is a box within the limit, if its rank is one
+/// from 1 to 3.
+pub fn declared_storages_are_boxes()
+    ensures { (program : Program) (settings : List Setting) (inner : Inner) (storage : Region) →
+        storage_of (known_of program settings) (borders_of program) inner ≡ Gives storage →
+        IsRank storage.rank → IsStorage storage }
+{
+    tests_tell_the_facts();
+}
