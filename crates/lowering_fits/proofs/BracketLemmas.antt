@@ -384,7 +384,7 @@ inside_box : (rank : ℕ) (d : List ℤ) (region : Region) → IsBox rank region
 inside_box rank d region is =
     box_kept rank region dim_inside_of d is (formed-kept.inside d region (is.steps, is.padded))
 
-moved_box : (rank : ℕ) (d : List ℤ) (region : Region) → IsBox rank region →
+pub moved_box : (rank : ℕ) (d : List ℤ) (region : Region) → IsBox rank region →
     IsBox rank (moved d region)
 moved_box rank d region is =
     box_kept rank region dim_moved d is (formed-kept.moves d region (is.steps, is.padded))

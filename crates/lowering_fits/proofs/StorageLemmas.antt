@@ -1,26 +1,27 @@
 -- Storages of declared arrays are boxes within the limit.
-use Rattle.std.proofs.Common.{◌≡◌, ℕ, zero, suc, ◌+◌, ◌-◌, ◌≤◌, Bool, true, false, if◌then◌else◌, ℤ, List, [], ◌∷◌, map, length, drop, refl, sym, ap, ◌∙◌, subst, arith}
-use Rattle.std.specs.Prelude.{pos, replicate, All, IsTrue}
+use Rattle.std.proofs.Common.{◌≡◌, ℕ, zero, suc, ◌-◌, Bool, true, false, if◌then◌else◌, ℤ, List, [], ◌∷◌, map, length, drop, refl, sym, ap, ◌∙◌, subst, arith}
+use Rattle.std.specs.Prelude.{replicate, All, IsTrue}
 use Rattle.std.proofs.lemmas.List.{length-map}
 use Rattle.std.proofs.lemmas.List.Elements.{All-from_recursion}
 use Rattle.zpl_region.specs.declared.dims.Dim.{Dim}
 use Rattle.zpl_region.specs.declared.dims.Dim.TheVariants as dim
 use Rattle.zpl_region.specs.declared.regions.Region.{Region}
 use Rattle.zpl_region.specs.Dim.{HasStep}
-use Rattle.zpl_region.specs.Region.{padding, IsPadded, IsWithinLimit, outside_of}
+use Rattle.zpl_region.specs.Region.{padding, outside_of, moved}
 use Rattle.zpl_region.specs.Ends.{has_none}
-use Rattle.zpl_region.specs.Hull.{all_from, IsBoxed, dim_hull, dim_emptied, emptied, hull, dim_hull_with, each_hull_with, hull_with}
+use Rattle.zpl_region.specs.Hull.{IsBoxed, dim_hull, emptied, hull, dim_hull_with, each_hull_with, hull_with}
 use Rattle.zpl_region.specs.Tests.{is_within_limit}
+use Rattle.zpl_arrays.specs.Around.{copy_shift, copy_storage}
 use Rattle.zpl_tree.specs.Syntax.{Inner}
-use Rattle.zpl_binding.specs.Outcome.{RegionLimit, Outcome, Gives, Fails, and_then, value_or, outcome_of}
+use Rattle.zpl_binding.specs.Outcome.{RegionLimit, Outcome, Gives, Fails, and_then, outcome_of}
 use Rattle.zpl_binding.specs.Vectors.{three_components}
-use Rattle.zpl_binding.specs.Regions.{Known, limited, no_region, inner_of}
+use Rattle.zpl_binding.specs.Regions.{Known, limited, inner_of}
 use Rattle.zpl_binding.specs.Storages.{Border, widened, shape_borders, storage_of}
 use Rattle.node_form.specs.Fits.{IsRank}
 use Rattle.lowering_fits.specs.Reach.{IsBox}
 use Rattle.lowering_fits.specs.Whole.{AllBoxed, IsStorage}
 use Rattle.lowering_fits.proofs.ArrayLemmas.{PadsFrom, pads}
-use Rattle.lowering_fits.proofs.BracketLemmas.{LimitsAreTold, outside_box}
+use Rattle.lowering_fits.proofs.BracketLemmas.{LimitsAreTold, outside_box, moved_box}
 use Rattle.lowering_fits.proofs.FrameLemmas.{boxed_steps}
 use Rattle.lowering_fits.proofs.RegionLemmas.{AreGood, IsGoodRegion, inner_good}
 
@@ -139,11 +140,10 @@ pairs_padded : (rank : ℕ) (ds es : List Dim) → PadsFrom rank ds → PadsFrom
     PadsFrom rank (each_hull_with ds es)
 pairs_padded rank [] es one other = tt
 pairs_padded rank (d ∷ ds) [] one other = tt
-pairs_padded zero (d ∷ ds) (e ∷ es) one other =
-    (
-      ap (λ a. dim_hull_with a e) one.0 ∙ (ap (dim_hull_with padding) other.0 ∙ pair_pad),
-      pairs_padded zero ds es one.1 other.1,
-    )
+pairs_padded zero (d ∷ ds) (e ∷ es) one other = (
+  ap (λ a. dim_hull_with a e) one.0 ∙ (ap (dim_hull_with padding) other.0 ∙ pair_pad),
+  pairs_padded zero ds es one.1 other.1,
+)
 pairs_padded (suc rank) (d ∷ ds) (e ∷ es) one other = pairs_padded rank ds es one other
 
 pairs_count : (ds es : List Dim) → length ds ≡ length es →
@@ -243,7 +243,7 @@ storage_is limits known borders inner are storage is rank =
     by kept =
         let hulls = kept.0 in
         let steps : All HasStep storage.dims =
-            All-from_recursion HasStep storage.dims (boxed_steps storage.dims hulls.boxed) in
+        All-from_recursion HasStep storage.dims (boxed_steps storage.dims hulls.boxed) in
         record {
           is_rank = rank;
           boxed = hulls.boxed;
@@ -252,3 +252,26 @@ storage_is limits known borders inner are storage is rank =
               hulls.is_three.padded;
           limit = (limits storage steps).0 kept.1;
         }
+
+-- ---- copies
+
+pub copy_is : LimitsAreTold → (rank : ℕ) (home : Region) (shift : List ℤ) → IsRank rank →
+    IsBox rank home → IsTrue (is_within_limit (copy_storage home shift)) →
+    IsStorage (copy_storage home shift)
+copy_is limits rank home shift is box within =
+    let storage : Region = copy_storage home shift in
+    let moves : List ℤ = copy_shift home shift in
+    let hulls : IsHull rank storage =
+    hull_with_is rank home (moved moves home) (three_of rank home box)
+    (three_of rank (moved moves home) (moved_box rank moves home box)) in
+    let steps : All HasStep storage.dims =
+    All-from_recursion HasStep storage.dims (boxed_steps storage.dims hulls.boxed) in
+    let same : storage.rank ≡ rank = hulls.is_three.same in
+    record {
+      is_rank = subst IsRank (sym same) is;
+      boxed = hulls.boxed;
+      three = hulls.is_three.three;
+      padded = padded_from 3 storage.rank storage.dims hulls.is_three.three
+          (subst (λ n. PadsFrom n storage.dims) (sym same) hulls.is_three.padded);
+      limit = (limits storage steps).0 within;
+    }

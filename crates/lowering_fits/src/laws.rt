@@ -1,5 +1,5 @@
 //! The laws of tables that lowered code comes to.
-ghost use Rattle.std.specs.Prelude.{◌≡◌, ◌++◌, All, Bool, List, Option, length, map, ℕ};
+ghost use Rattle.std.specs.Prelude.{◌≡◌, ◌++◌, All, Bool, IsTrue, List, Option, length, map, ℕ, ℤ};
 ghost use Rattle.zpl_tree.specs.Grammar.{IsBody, IsProgram};
 ghost use Rattle.zpl_tree.specs.Syntax.{Inner, Program, Stmt};
 ghost use Rattle.zpl_names.specs.Accepted.{IsFaultless};
@@ -11,7 +11,9 @@ ghost use Rattle.zpl_binding.specs.Declarations.{known_of};
 ghost use Rattle.zpl_binding.specs.Outcome.{Gives};
 ghost use Rattle.zpl_binding.specs.Settings.{Setting};
 ghost use Rattle.zpl_binding.specs.Storages.{borders_of, storage_of};
+ghost use Rattle.zpl_region.specs.Tests.{is_within_limit};
 ghost use Rattle.zpl_region.specs.declared.regions.Region.{Region};
+ghost use Rattle.zpl_arrays.specs.Around.{copy_storage};
 ghost use Rattle.zpl_meaning.specs.Context.{Currents, Edge};
 ghost use Rattle.zpl_meaning.specs.Visited.{first_setup, IsVisited};
 ghost use Rattle.node_form.specs.Fits.{FitsArray, IsRank};
@@ -29,7 +31,7 @@ ghost use Rattle.zpl_lowering.specs.Where.{Next, Numbers, Where};
 ghost use Rattle.lowering_fits.specs.Inline.{FitRows, FitsPiece, IsGround};
 ghost use Rattle.lowering_fits.specs.Lowerings.{FitsLowered, IsLaidOut, IsSoundStmt, answering};
 ghost use Rattle.lowering_fits.specs.Lowerings.{region_rank};
-ghost use Rattle.lowering_fits.specs.Reach.{FitsKnown, place_at};
+ghost use Rattle.lowering_fits.specs.Reach.{FitsKnown, IsBox, place_at};
 ghost use Rattle.lowering_fits.specs.Slates.{FitNumbers, FitsHoist, FitsSlate, FitsTree, IsPlaced};
 ghost use Rattle.lowering_fits.specs.Slates.{SlotsAt};
 ghost use Rattle.lowering_fits.specs.Standing.{CallsFit, IsStanding};
@@ -149,11 +151,15 @@ pub fn numbered_code_makes_a_flat_program()
 {}
 
 /// The storage of a declared array, where it has one, is a box within the limit, if its rank is one
-/// from 1 to 3.
-pub fn declared_storages_are_boxes()
-    ensures { (program : Program) (settings : List Setting) (inner : Inner) (storage : Region) →
+/// from 1 to 3; and so is that of a copy that is read round a home box, if it is within the limit.
+pub fn storages_are_boxes()
+    ensures declared { (program : Program) (settings : List Setting) (inner : Inner)
+        (storage : Region) →
         storage_of (known_of program settings) (borders_of program) inner ≡ Gives storage →
         IsRank storage.rank → IsStorage storage }
+    ensures copies { (rank : ℕ) (home : Region) (shift : List ℤ) → IsRank rank →
+        IsBox rank home → IsTrue (is_within_limit (copy_storage home shift)) →
+        IsStorage (copy_storage home shift) }
 {
     tests_tell_the_facts();
 }
