@@ -1,0 +1,67 @@
+-- What was computed before the run fits the names in reach of each procedure.
+use Rattle.std.proofs.Common.{◌≡◌, ℕ, List, [], map, length, sym, ◌∙◌, subst}
+use Rattle.std.specs.Prelude.{option_map, Option, Some, None}
+use Rattle.std.specs.List.{AllByRecursion}
+use Rattle.std.specs.Str.{bytes_eq}
+use Rattle.zpl_region.specs.declared.regions.Region.{Region}
+use Rattle.zpl_tree.specs.Syntax.{Program}
+use Rattle.zpl_tree.specs.Grammar.{IsDecl}
+use Rattle.zpl_names.specs.Kinds as kind
+use Rattle.zpl_names.specs.Kinds.{Kind, Shape}
+use Rattle.zpl_names.specs.Scope.{kind_in, kind_of}
+use Rattle.zpl_names.specs.Ranks.{region_shape}
+use Rattle.zpl_names.specs.Declared.{Routine, own_entries, routine_named, routines_of, scope_of}
+use Rattle.zpl_names.specs.Accepted.{IsFaultless}
+use Rattle.zpl_binding.specs.Outcome.{Outcome, Gives, Fails, outcome_of}
+use Rattle.zpl_binding.specs.Regions.{no_region, region_named}
+use Rattle.zpl_binding.specs.Settings.{Setting}
+use Rattle.zpl_binding.specs.Declarations.{known_of}
+use Rattle.zpl_meaning.specs.Given.{IsGiven}
+use Rattle.zpl_meaning.proofs.NamesLemmas.{IsSound, routine_sound}
+use Rattle.zpl_meaning.proofs.VisitLemmas.{find_among, IsOwn, all_own, own_in}
+use Rattle.meaning_ranks.proofs.ShapeLemmas.{Fits}
+use Rattle.meaning_ranks.proofs.RegionLemmas.{reach_fits}
+use Rattle.node_form.specs.declared.tables.Tables.{Tables}
+use Rattle.lowering_fits.specs.Slates.{SlotsAt}
+use Rattle.lowering_fits.specs.Reach.{FitsKnown}
+use Rattle.lowering_fits.specs.Lowerings.{region_rank}
+use Rattle.lowering_fits.proofs.ScopeLemmas.{IsVariableKind, HasRankOf, known_fits}
+
+own_kind : (one : Option Kind) → IsOwn one → IsVariableKind one
+own_kind None is = tt
+own_kind (Some (kind.Scalar base)) is = tt
+own_kind (Some (kind.Array base shape)) is = tt
+own_kind (Some (kind.Config base)) is = absurd is
+own_kind (Some (kind.Constant base)) is = absurd is
+own_kind (Some (kind.Region shape)) is = absurd is
+own_kind (Some (kind.Direction rank)) is = absurd is
+own_kind (Some (kind.Procedure signature)) is = absurd is
+
+shaped_rank : (rank : ℕ) (shape : Option Shape) (outcome : Outcome Region) → Fits shape outcome →
+    option_map length shape ≡ Some rank → HasRankOf rank outcome
+shaped_rank rank None outcome fits is = let no : ⊥ = cc in absurd no
+shaped_rank rank (Some shape) (Gives region) fits is =
+    let same : length shape ≡ rank = cc in fits.rank ∙ same
+shaped_rank rank (Some shape) (Fails fault) fits is = tt
+
+pub declared_fit : (program : Program) (settings : List Setting) →
+    AllByRecursion IsDecl program.decls → IsFaultless program →
+    ((text : List ℕ) (default : Region) →
+    IsGiven Region (outcome_of default (known_of program settings).regions text)) →
+    (tables : Tables) (text : List ℕ) (routine : Routine) →
+    routine_named program text ≡ Some routine →
+    SlotsAt tables 0 (map region_rank (known_of program settings).regions) →
+    FitsKnown tables (known_of program settings) (scope_of program routine)
+declared_fit program settings grammar clean given tables text routine named slots =
+    let among = find_among (λ routine. bytes_eq routine.procedure.name.text text)
+    (routines_of program) routine named in
+    let sound : IsSound routine = routine_sound program.decls [] routine tt grammar among in
+    known_fits tables program settings routine
+    (λ name. own_kind (kind_in routine.own name)
+    (subst (λ entries. IsOwn (kind_in entries name)) (sym sound.own)
+    (own_in (own_entries sound.earlier routine.procedure) name
+    (all_own sound.earlier routine.procedure))))
+    (λ name. given name no_region)
+    (λ name rank is. shaped_rank rank (region_shape (kind_of (scope_of program routine) name))
+    (region_named (known_of program settings) name)
+    (reach_fits program settings clean routine sound name) is) slots

@@ -1,0 +1,5 @@
+use Rattle.lowering_fits.proofs.ArrayLemmas.{whole_laid, whole_flat}
+use Rattle.lowering_fits.proofs.laws.numbered_code_makes_a_flat_program.Goals as goal
+
+pub returns : goal.returns
+returns c = record { laid = whole_laid; flat = whole_flat }

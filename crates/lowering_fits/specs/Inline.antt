@@ -1,0 +1,140 @@
+-- When rows that are seen inline fit: what their numbers name is asked of tables that have as many
+-- scalars, the same slots and the same arrays as those that the rows are laid out in.
+use Rattle.std.specs.Prelude.{◌≡◌, ℕ, zero, suc, ◌<◌, ◌≤◌, List, [], ◌∷◌, Option, Some, None, All, replicate}
+use Rattle.node_form.specs.declared.instructions.Instr.TheVariants as instr
+use Rattle.node_form.specs.declared.tables.Tables.{Tables}
+use Rattle.node_form.specs.Expression.{IsExpression}
+use Rattle.node_form.specs.Fits.{IsRank, HasSlot, HasArray, FitsWord, IsScalarWord, FitsInstr}
+use Rattle.node_form.specs.Nest.{IsNest}
+use Rattle.flat_form.specs.Flat.{IsFlatRow}
+use Rattle.flat_form.specs.Row as row
+use Rattle.flat_form.specs.Row.{Words, Member, Part, Row, group_coded}
+use Rattle.row_runs.specs.Structured as piece
+use Rattle.row_runs.specs.Structured.{Piece}
+use Rattle.zpl_lowering.specs.Check.{Check}
+
+-- ---- expressions
+
+-- the words are those of an expression, and fit at the rank
+pub record FitsWords (tables : Tables) (rank : ℕ) (words : Words) : Type 0 where
+  pub stack : IsExpression words
+  pub fit : All (FitsWord tables rank) words
+
+-- and none of them needs an index
+pub record FitsScalar (tables : Tables) (words : Words) : Type 0 where
+  pub stands : FitsWords tables 1 words
+  pub scalar : All IsScalarWord words
+
+abbrev pub FitsMask : Tables → ℕ → Option Words → Type 0
+FitsMask tables rank None = Unit {0}
+FitsMask tables rank (Some words) = FitsWords tables rank words
+
+-- ---- groups
+
+abbrev pub FitsInside : Tables → ℕ → Member → Type 0
+FitsInside tables rank (row.Put array expr mask line) =
+    HasArray tables rank array × FitsWords tables rank expr × FitsMask tables rank mask
+FitsInside tables rank (row.Cell cell expr mask line) =
+    (cell < tables.cells) × FitsWords tables rank expr × FitsMask tables rank mask
+FitsInside tables rank (row.Acc scalar operator expr mask line) =
+    (scalar < tables.scalars) × FitsWords tables rank expr × FitsMask tables rank mask
+FitsInside tables rank (row.OpenIf expr mask line) =
+    FitsWords tables rank expr × FitsMask tables rank mask
+FitsInside tables rank row.Otherwise = Unit {0}
+FitsInside tables rank row.CloseIf = Unit {0}
+FitsInside tables rank (row.OpenWhile expr mask line) =
+    FitsWords tables rank expr × FitsMask tables rank mask
+FitsInside tables rank row.CloseWhile = Unit {0}
+FitsInside tables rank (row.OpenRepeat mask line) = FitsMask tables rank mask
+FitsInside tables rank (row.Until expr) = FitsWords tables rank expr
+
+abbrev pub AllInside : Tables → ℕ → List Member → Type 0
+AllInside tables rank [] = Unit {0}
+AllInside tables rank (member ∷ members) =
+    FitsInside tables rank member × AllInside tables rank members
+
+-- members that open and close as they must, run over a slot of their rank
+pub record FitsLoop (tables : Tables) (slot : ℕ) (group : List Member) : Type 0 where
+  pub rank : ℕ
+  pub is_rank : IsRank rank
+  pub over : HasSlot tables rank slot
+  pub nest : (n : ℕ) → IsNest (group_coded n group)
+  pub fit : AllInside tables rank group
+
+-- ---- regions that rows make
+
+abbrev pub FitsDim : Tables → ℕ → Part → Type 0
+FitsDim tables rank (row.Span low high) = FitsScalar tables low × FitsScalar tables high
+FitsDim tables rank row.Star = Unit {0}
+FitsDim tables rank (row.Copied slot) = HasSlot tables rank slot
+
+abbrev pub IsStarPart : Part → Type 0
+IsStarPart (row.Span low high) = ⊥
+IsStarPart row.Star = Unit {0}
+IsStarPart (row.Copied slot) = ⊥
+
+abbrev pub AllDims : Tables → ℕ → List Part → Type 0
+AllDims tables rank [] = Unit {0}
+AllDims tables rank (part ∷ parts) = FitsDim tables rank part × AllDims tables rank parts
+
+abbrev pub AllStars : List Part → Type 0
+AllStars [] = Unit {0}
+AllStars (part ∷ parts) = IsStarPart part × AllStars parts
+
+abbrev pub StarsPast : ℕ → List Part → Type 0
+StarsPast rank [] = Unit {0}
+StarsPast zero (part ∷ parts) = AllStars (part ∷ parts)
+StarsPast (suc rank) (part ∷ parts) = StarsPast rank parts
+
+-- past the rank stands a star
+pub record FitsDims (tables : Tables) (slot : ℕ) (parts : List Part) : Type 0 where
+  pub rank : ℕ
+  pub over : HasSlot tables rank slot
+  pub fit : AllDims tables rank parts
+  pub stars : StarsPast rank parts
+
+-- ---- rows
+
+-- the tables, with so many rows of code
+abbrev pub long : Tables → ℕ → Tables
+long tables count = record tables { code = replicate count instr.End }
+
+-- in code of so many rows
+abbrev pub FitsRow : Tables → ℕ → Row → Type 0
+FitsRow tables count (row.Set scalar expr line) =
+    (scalar < tables.scalars) × FitsScalar tables expr
+FitsRow tables count (row.Dims slot parts line) = FitsDims tables slot parts
+FitsRow tables count (row.Loop slot group) = FitsLoop tables slot group
+FitsRow tables count (row.Print text) = Unit {0}
+FitsRow tables count (row.Number expr) = FitsScalar tables expr
+FitsRow tables count (row.Truth expr) = FitsScalar tables expr
+FitsRow tables count (row.Unless expr goal line) = FitsScalar tables expr × (goal ≤ count)
+FitsRow tables count (row.Plain one) = FitsInstr (long tables count) one × IsFlatRow one
+
+abbrev pub FitRows : Tables → ℕ → List Row → Type 0
+FitRows tables count [] = Unit {0}
+FitRows tables count (one ∷ rows) = FitsRow tables count one × FitRows tables count rows
+
+-- ---- tables that rows are laid out in
+
+-- they have scalars, slots and arrays, and nothing else yet
+pub record IsGround (tables : Tables) : Type 0 where
+  pub exprs : tables.exprs ≡ []
+  pub groups : tables.groups ≡ []
+  pub texts : tables.texts ≡ []
+  pub exchanges : tables.exchanges ≡ []
+  pub code : tables.code ≡ []
+
+-- ---- code
+
+-- a test has a value by itself
+abbrev pub FitsPiece : Tables → Piece Row Check → Type 0
+FitsPiece tables (piece.Rows rows) = FitRows tables 0 rows
+FitsPiece tables (piece.Then first rest) = FitsPiece tables first × FitsPiece tables rest
+FitsPiece tables (piece.When test body) = FitsScalar tables test.expr × FitsPiece tables body
+FitsPiece tables (piece.Choose test one other) =
+    FitsScalar tables test.expr × FitsPiece tables one × FitsPiece tables other
+FitsPiece tables (piece.While head test body) =
+    FitsPiece tables head × FitsScalar tables test.expr × FitsPiece tables body
+FitsPiece tables (piece.Repeat body head test) =
+    FitsPiece tables body × FitsPiece tables head × FitsScalar tables test.expr
