@@ -1,9 +1,8 @@
 -- Lowered tables: what their loops run stands in their rows.
-use Rattle.std.proofs.Common.{◌≡◌, refl, sym, ap, ap₂, ◌∙◌, arith, subst, ℕ, zero, suc, ◌+◌, ◌*◌}
-use Rattle.std.proofs.Common.{◌≤◌, ◌<◌, Bool, true, false}
-use Rattle.std.proofs.Common.{List, [], ◌∷◌, ◌++◌, length, map, length-append, Option, Some, None}
+use Rattle.std.proofs.Common.{◌≡◌, refl, sym, ap, ◌∙◌, arith, subst, ℕ, zero, suc, ◌+◌}
+use Rattle.std.proofs.Common.{◌≤◌, Bool, true, false}
+use Rattle.std.proofs.Common.{List, [], ◌∷◌, length, map, length-append, Some, None}
 use Rattle.std.specs.Prelude.{All, cond, count_by, flat_map, slice_get, slice_index_or, sum_by}
-use Rattle.std.specs.Option.{option_map}
 use Rattle.std.proofs.lemmas.List.{length-map}
 use Rattle.std.proofs.lemmas.List.Sums.{sum_by-append, sum_by-cons, sum_by-le-sum_by}
 use Rattle.row_runs.specs.Straight.{Every}
@@ -17,8 +16,8 @@ use Rattle.node_form.specs.declared.tables.Tables.{Tables}
 use Rattle.node_form.specs.Fits.{Fits, FitsArray, FitsExchange, FitsExpr, FitsGroup, FitsInstr}
 use Rattle.node_form.specs.Fits.{IsRank}
 use Rattle.node_form.specs.Grid.{IsGrid}
-use Rattle.code_parts.specs.Counts.{code_size, count_of, is_loop, is_vote}
-use Rattle.code_parts.specs.Uses.{as_list, exprs_of, members_of, rows_or_none, shifted_in, words_of}
+use Rattle.code_parts.specs.Counts.{count_of}
+use Rattle.code_parts.specs.Uses.{exprs_of, rows_or_none, shifted_in}
 use Rattle.flat_form.specs.Flat.{IsFlat, IsFlatRow}
 use Rattle.flat_form.specs.Laws.{IsInline}
 use Rattle.flat_form.specs.Row as row
@@ -29,13 +28,13 @@ use Rattle.flat_form.proofs.ReadLemmas.{read_again}
 use Rattle.flat_passes.specs.Grouped.{grouped, loop_members, members_run}
 use Rattle.pass_sizes.specs.Sizes.{expr_shifts, group_shifts, is_unflat, loop_shifts, member_shifts}
 use Rattle.pass_sizes.specs.Sizes.{run_by}
-use Rattle.pass_sizes.proofs.SumLemmas.{flat_sum, map_sum, same_sum, zero_sum}
+use Rattle.pass_sizes.proofs.SumLemmas.{flat_sum, map_sum, same_sum}
 use Rattle.text_sharing.proofs.RowLemmas.{shared-inline}
 use Rattle.zpl_tree.specs.Syntax.{Program}
 use Rattle.zpl_binding.specs.Settings.{Setting}
 use Rattle.zpl_lowering.specs.Lowered.{Lowered}
 use Rattle.zpl_lowering.specs.Program.{lowered_program}
-use Rattle.zpl_lowering.specs.Tables.{empty_tables, flat_tables, rows_of, unshared_tables}
+use Rattle.zpl_lowering.specs.Tables.{empty_tables, flat_tables, rows_of}
 
 -- ---- rows seen inline
 abbrev shifts : Words → ℕ

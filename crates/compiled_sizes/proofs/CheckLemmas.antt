@@ -1,9 +1,8 @@
 -- No check is left that always passes: passes behind the one that leaves these out keep it so.
-use Rattle.std.proofs.Common.{◌≡◌, refl, sym, ap, ap₂, ◌∙◌, arith, ℕ, zero, suc, ◌+◌, ◌<◌, Bool}
+use Rattle.std.proofs.Common.{◌≡◌, refl, sym, ap, ◌∙◌, arith, ℕ, zero, suc, ◌+◌, Bool}
 use Rattle.std.proofs.Common.{true, false}
-use Rattle.std.proofs.Common.{List, [], ◌∷◌, length, map, ℤ, Option}
-use Rattle.std.specs.Prelude.{All, cond, count_by, not, ◌&&◌, ◌||◌, ◌==◌, slice_get, slice_index_or}
-use Rattle.std.specs.Prelude.{sum_by}
+use Rattle.std.proofs.Common.{List, [], ◌∷◌, map, ℤ, Option}
+use Rattle.std.specs.Prelude.{All, cond, count_by, not, ◌&&◌, ◌||◌, ◌==◌, slice_get}
 use Rattle.std.specs.List.{list_all}
 use Rattle.std.proofs.lemmas.List.Sums.{sum_by-cons}
 use Rattle.node_form.specs.declared.instructions.Instr.{Instr}
@@ -31,7 +30,7 @@ use Rattle.pass_sizes.proofs.SettledLemmas.{fused_count}
 use Rattle.zpl_tree.specs.Syntax.{Program}
 use Rattle.zpl_lowering.specs.Tables.{flat_tables}
 use Rattle.zpl_claims.specs.Build.{Build}
-use Rattle.zpl_compile.specs.Compile.{compiled, emitted_for, if_asked, plan_of, settled}
+use Rattle.zpl_compile.specs.Compile.{compiled, if_asked}
 
 -- ---- tests that no pass behind checks changes: of rows that stay
 record IsStill (test : Instr → Bool) : Type 0 where

@@ -1,7 +1,7 @@
 -- The arrays of compiled code.
-use Rattle.std.proofs.Common.{◌≡◌, refl, sym, ap, ap₂, ◌∙◌, subst, Bool, true, false}
-use Rattle.std.proofs.Common.{List, [], ◌∷◌, ◌++◌, ℕ, map, append-nil}
-use Rattle.std.specs.Prelude.{cond, filter, flat_map, fold}
+use Rattle.std.proofs.Common.{◌≡◌, refl, sym, ap, ◌∙◌, subst, Bool, true, false}
+use Rattle.std.proofs.Common.{List, [], ◌∷◌, ◌++◌, map, append-nil}
+use Rattle.std.specs.Prelude.{cond, flat_map, fold}
 use Rattle.std.specs.List.{list_any}
 use Rattle.node_form.specs.declared.arrays.ArrayRow.{ArrayRow}
 use Rattle.node_form.specs.declared.tables.Tables.{Tables}
@@ -21,7 +21,7 @@ use Rattle.node_emit.proofs.TreeLemmas.{by_trees}
 use Rattle.zpl_tree.specs.Syntax.{Program}
 use Rattle.zpl_lowering.specs.Tables.{flat_tables}
 use Rattle.zpl_claims.specs.Build.{Build}
-use Rattle.zpl_compile.specs.Compile.{compiled, emitted_for, if_asked, plan_of, settled}
+use Rattle.zpl_compile.specs.Compile.{compiled, if_asked, plan_of, settled}
 
 -- ---- temporaries are no stored arrays
 stored_both : (xs ys : List ArrayRow) → stored (xs ++ ys) ≡ stored xs ++ stored ys

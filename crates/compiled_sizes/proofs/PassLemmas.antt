@@ -1,10 +1,8 @@
 -- Sizes through all passes.
-use Rattle.std.proofs.Common.{◌≡◌, refl, sym, ap, ◌∙◌, arith, ℕ, ◌+◌, ◌*◌, ◌≤◌, Bool, true, false}
-use Rattle.std.proofs.Common.{List, [], ◌∷◌, ◌++◌, length, length-append, Option}
-use Rattle.std.specs.Prelude.{cond, count_by, filter, fold, flat_map, map, sum_by}
-use Rattle.std.specs.List.{list_any}
-use Rattle.std.proofs.lemmas.List.Sums.{count_by-le-length, sum_by-cons, sum_by-le-sum_by}
-use Rattle.node_form.specs.declared.arrays.ArrayRow.{ArrayRow}
+use Rattle.std.proofs.Common.{◌≡◌, refl, ◌∙◌, arith, ℕ, ◌+◌, ◌*◌, ◌≤◌, Bool, true, false}
+use Rattle.std.proofs.Common.{List, length, length-append, Option}
+use Rattle.std.specs.Prelude.{cond, fold, sum_by}
+use Rattle.std.proofs.lemmas.List.Sums.{count_by-le-length, sum_by-le-sum_by}
 use Rattle.node_form.specs.declared.instructions.Instr.{Instr}
 use Rattle.node_form.specs.declared.instructions.Instr.TheVariants as instr
 use Rattle.node_form.specs.declared.tables.Tables.{Tables}

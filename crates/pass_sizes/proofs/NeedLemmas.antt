@@ -247,6 +247,56 @@ module _ (tables : Tables) where
         cost_sum tables.code,
       )
 
+  -- each start has its finish and its exchange
+  same_votes : (b : Bool) (group : ℕ) →
+      sum_by (unit_weight row_pair) (vote_if b group)
+      ≡ sum_by (unit_weight row_size) (vote_if b group)
+  same_votes true group = refl
+  same_votes false group = refl
+
+  pair_row : (row : Instr) →
+      row_sum (unit_weight row_pair) row ≡ row_sum (unit_weight row_size) row
+  pair_row (instr.Loop slot group) =
+      omega (
+        arith,
+        loop_sum (unit_weight row_pair) 3 (λ items. refl) slot group,
+        loop_sum (unit_weight row_size) 3 (λ items. refl) slot group,
+        same_votes (is_voted_on tables group) group,
+      )
+  pair_row row = refl
+
+  pair_last : (moved : ℕ → ℕ) (row : Instr) → ends_stretch row ≡ true →
+      row_pair (ended_by moved row) ≡ row_sum (unit_weight row_size) row
+  pair_last moved (instr.Loop slot group) e = cc
+  pair_last moved (instr.Start exchange) e = cc
+  pair_last moved (instr.Finish exchange) e = cc
+  pair_last moved (instr.Jump goal) e = refl
+  pair_last moved (instr.Unless expr goal line) e = refl
+  pair_last moved (instr.Trap kind line) e = refl
+  pair_last moved instr.End e = refl
+  pair_last moved row e = cc
+
+  size_last : (moved : ℕ → ℕ) (row : Instr) → ends_stretch row ≡ true →
+      row_size (ended_by moved row) ≡ row_sum (unit_weight row_size) row
+  size_last moved (instr.Loop slot group) e = cc
+  size_last moved (instr.Start exchange) e = cc
+  size_last moved (instr.Finish exchange) e = cc
+  size_last moved row e = refl
+
+  pub planned_paired : (grid : List ℕ) →
+      pair_size (planned grid tables) ≡ plan_size (planned grid tables)
+  planned_paired grid =
+      let rewrite = rows_by tables (flat_map (with_needs tables)) in
+      let sum = row_sum (unit_weight row_size) in
+      laid_pairs 0 new_rows
+      ∙ passed_same row_pair sum rewrite ended_by
+      (λ rows straight. front_sum row_pair rows
+      ∙ same_sum (row_sum (unit_weight row_pair)) sum pair_row rows)
+      pair_last tables.code
+      ∙ sym (passed_same row_size sum rewrite ended_by
+      (λ rows straight. front_sum row_size rows) size_last tables.code)
+      ∙ sym (laid_size 0 new_rows)
+
   -- ---- counts
   module _ (test : Instr → Bool) (none : PassesNoExchange test) (blind : IsBlind test) where
     abbrev votes : ℕ → ℕ

@@ -17,7 +17,8 @@ ghost use Rattle.pass_sizes.specs.Sizes.{loop_shifts, pair_size, plan_size};
 /// The plan of a flat program is larger by at most one for each loop, three for each word that a
 /// loop reads with a shift, and two for each row that no flat program has. So it is at most four
 /// times as large where expressions that are read with a shift stand in one loop each. It has as
-/// many loops and counted rows, and at most one vote more for each loop.
+/// many loops and counted rows, and at most one vote more for each loop. Each start has its finish and
+/// an exchange of its own.
 pub fn needs_are_few()
     ensures size { (grid : List ℕ) (code : Tables) → code_size (planned grid code) ≤
         code_size code + (count_of is_loop code
@@ -28,6 +29,8 @@ pub fn needs_are_few()
     ensures pairs { (grid : List ℕ) (code : Tables) → pair_size (planned grid code) ≤
         length code.code + (count_of is_loop code
         + (2 * count_of is_unflat code + 3 * loop_shifts code)) }
+    ensures paired { (grid : List ℕ) (code : Tables) →
+        pair_size (planned grid code) ≡ plan_size (planned grid code) }
     ensures votes { (grid : List ℕ) (code : Tables) →
         count_of is_vote (planned grid code) ≤ count_of is_vote code + count_of is_loop code }
     ensures rows { (grid : List ℕ) (code : Tables) (test : Instr → Bool) → PassesNoExchange test →
@@ -35,16 +38,21 @@ pub fn needs_are_few()
         count_of test (planned grid code) ≡ count_of test code }
 {}
 
-/// A plan whose exchanges are left out or merged gets no larger, by pairs; and what it has of rows
-/// and exchanges is no more than it had by pairs. It has as many rows that pass a test, but for
-/// starts and finishes.
+/// A plan whose exchanges are left out or merged gets no larger, by pairs; what it has of rows and
+/// exchanges is no more than it had by pairs. So its code is no larger where each start has its
+/// finish and an exchange of its own. It has as many rows that pass a test, but for starts and
+/// finishes.
 pub fn exchanges_get_fewer()
     ensures dropped { (plan : Tables) → plan_size (repeats_dropped plan) ≤ pair_size plan }
     ensures dropped_pairs { (plan : Tables) → pair_size (repeats_dropped plan) ≤ pair_size plan }
+    ensures dropped_factor { (plan : Tables) → pair_size plan ≤ plan_size plan →
+        code_size (repeats_dropped plan) ≤ code_size plan }
     ensures dropped_rows { (plan : Tables) (test : Instr → Bool) → PassesNoExchange test →
         IsBlind test → count_of test (repeats_dropped plan) ≡ count_of test plan }
     ensures merged { (plan : Tables) → plan_size (neighbours_merged plan) ≤ pair_size plan }
     ensures merged_pairs { (plan : Tables) → pair_size (neighbours_merged plan) ≤ pair_size plan }
+    ensures merged_factor { (plan : Tables) → pair_size plan ≤ plan_size plan →
+        code_size (neighbours_merged plan) ≤ code_size plan }
     ensures merged_rows { (plan : Tables) (test : Instr → Bool) → PassesNoExchange test →
         IsBlind test → count_of test (neighbours_merged plan) ≡ count_of test plan }
 {}

@@ -1,8 +1,8 @@
-use Rattle.std.proofs.Common.{◌≡◌, ℕ, ◌+◌, ◌*◌, ◌≤◌, arith, length}
+use Rattle.std.proofs.Common.{ℕ, ◌+◌, ◌*◌, ◌≤◌, arith, length}
 use Rattle.zpl_tree.specs.Syntax.{Program}
 use Rattle.zpl_tree.specs.Spelling.{program_words}
 use Rattle.zpl_names.specs.Expansion.{other_size, plain_assignments, source_size}
-use Rattle.code_parts.specs.Counts.{code_size, count_of, is_counted, is_loop, is_vote}
+use Rattle.code_parts.specs.Counts.{code_size, count_of, is_counted}
 use Rattle.temp_norm.specs.Normalised.{loops_on_themselves}
 use Rattle.zpl_lowering.specs.Tables.{flat_tables}
 use Rattle.lowering_sizes.proofs.CountedProgram.{count_law}

@@ -5,7 +5,8 @@ use Rattle.node_form.specs.declared.tables.Tables.{Tables}
 use Rattle.code_parts.specs.Counts.{code_size, count_of, is_loop}
 use Rattle.comm_needs.specs.Needs.{planned}
 use Rattle.pass_sizes.specs.Sizes.{is_unflat, loop_shifts}
-use Rattle.pass_sizes.proofs.NeedLemmas.{planned_count, planned_pairs, planned_size, planned_votes}
+use Rattle.pass_sizes.proofs.NeedLemmas.{planned_count, planned_paired, planned_pairs}
+use Rattle.pass_sizes.proofs.NeedLemmas.{planned_size, planned_votes}
 use Rattle.pass_sizes.proofs.laws.needs_are_few.Goals as goal
 
 factor_law : (grid : List ℕ) (code : Tables) → count_of is_unflat code ≡ 0 →
@@ -19,6 +20,7 @@ returns c = record {
   size = λ grid code. omega (arith, planned_size code grid);
   factor = factor_law;
   pairs = λ grid code. planned_pairs code grid;
+  paired = λ grid code. planned_paired code grid;
   votes = λ grid code. planned_votes code grid;
   rows = λ grid code test none blind quiet. planned_count code test none blind quiet grid;
 }
