@@ -1,5 +1,6 @@
-mod Programs
+pub mod FitLemmas
 pub mod KeptLemmas
+mod Programs
 pub mod RegionLemmas
 pub mod SizeLemmas
 pub mod UndecidedLemmas

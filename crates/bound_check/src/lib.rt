@@ -32,3 +32,8 @@ pub fn checks_left_out_keep_runs()
     ensures { (code : Code) → Fits code → (a n : ℕ) →
         Keeps (flat_run code a n) (flat_run (checked code) a n) }
 {}
+
+/// Tables that fit do so without these checks.
+pub fn checked_tables_fit()
+    ensures { (code : Code) → Fits code → Fits (checked code) }
+{}
