@@ -1,0 +1,2 @@
+//! That lowered code does what programs mean.
+#![tactic(auto)]
