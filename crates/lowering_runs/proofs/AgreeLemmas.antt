@@ -56,6 +56,18 @@ module _ (IsAlike : Store → Whole → Type 0) where
   behind_agrees turns spare more bytes steps jumps outcome course e (Wanting {jumps = j} many) =
       Wanting (omega (arith, sum_of jumps j, many))
 
+  -- behind jumps alone
+  pub led_agrees : (turns spare jumps : ℕ) (outcome : Outcome) (course : Course Whole)
+      → Agrees IsAlike turns spare outcome course
+      → Agrees IsAlike turns (jumps + spare) outcome (code.behind [] jumps course)
+  led_agrees turns spare jumps outcome course (Going {jumps = j} alike few) =
+      Going alike (omega (arith, sum_of jumps j, few))
+  led_agrees turns spare jumps outcome course (Trapping {jumps = j} few) =
+      Trapping (omega (arith, sum_of jumps j, few))
+  led_agrees turns spare jumps outcome course Shattering = Shattering
+  led_agrees turns spare jumps outcome course (Wanting {jumps = j} many) =
+      Wanting (omega (arith, sum_of jumps j, many))
+
   -- steps that are counted give room for jumps
   pub counting_agrees : (turns spare less n : ℕ) (outcome : Outcome) (course : Course Whole)
       → spare ≤ 2 * n + less → Agrees IsAlike turns spare outcome course

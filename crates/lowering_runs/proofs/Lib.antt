@@ -1,1 +1,2 @@
 pub mod AgreeLemmas
+pub mod LoopLemmas

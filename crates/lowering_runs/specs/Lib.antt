@@ -1,3 +1,4 @@
 pub mod Seen
 pub mod Run
 pub mod Agrees
+pub mod Heads
