@@ -1,2 +1,3 @@
 pub mod AgreeLemmas
 pub mod LoopLemmas
+pub mod TopLemmas

@@ -2,3 +2,4 @@ pub mod Seen
 pub mod Run
 pub mod Agrees
 pub mod Heads
+pub mod Shown
