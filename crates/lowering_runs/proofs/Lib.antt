@@ -1,3 +1,4 @@
 pub mod AgreeLemmas
 pub mod LoopLemmas
 pub mod TopLemmas
+pub mod NumberLemmas

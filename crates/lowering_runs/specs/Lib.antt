@@ -3,3 +3,4 @@ pub mod Run
 pub mod Agrees
 pub mod Heads
 pub mod Shown
+pub mod Stands
