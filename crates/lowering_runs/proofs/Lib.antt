@@ -2,3 +2,6 @@ pub mod AgreeLemmas
 pub mod LoopLemmas
 pub mod TopLemmas
 pub mod NumberLemmas
+pub mod ValueLemmas
+pub mod RowLemmas
+pub mod BareLemmas

@@ -4,3 +4,4 @@ pub mod Agrees
 pub mod Heads
 pub mod Shown
 pub mod Stands
+pub mod Scalars
