@@ -5,3 +5,4 @@ pub mod NumberLemmas
 pub mod ValueLemmas
 pub mod RowLemmas
 pub mod BareLemmas
+pub mod FitLemmas

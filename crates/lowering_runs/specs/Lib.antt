@@ -5,3 +5,4 @@ pub mod Heads
 pub mod Shown
 pub mod Stands
 pub mod Scalars
+pub mod Goes
