@@ -6,3 +6,4 @@ pub mod ValueLemmas
 pub mod RowLemmas
 pub mod BareLemmas
 pub mod FitLemmas
+pub mod ScalarLemmas

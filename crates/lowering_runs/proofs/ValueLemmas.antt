@@ -162,3 +162,35 @@ module _ (tables : Tables) (spots : List Spot) (w : Where) (next : Next) (now : 
   value_same (Reduce at operator over operand) h s = absurd h
   value_same (Scan at operator along operand) h s = absurd h
   value_same (Flood at source operand) h s = absurd h
+
+-- ---- the same of names as they are in the lowering
+
+thing_unseen : (spots : List Spot) (thing : Option Thing)
+    → IsScalarName (option_map (seen_thing spots) thing) → IsScalarName thing
+thing_unseen spots (Some (Scalar place)) h = tt
+thing_unseen spots (Some (Fixed value)) h = tt
+thing_unseen spots (Some (ArrayAt place home)) h = h
+thing_unseen spots None h = tt
+
+pub scalar_unseen : (spots : List Spot) (environment : Environment) (expr : Expr)
+    → IsScalar (record { names = seen_names spots environment.names }) expr
+    → IsScalar environment expr
+scalar_unseen spots environment (Number at value) h = tt
+scalar_unseen spots environment (Truth at value) h = tt
+scalar_unseen spots environment (Named at name) h =
+    thing_unseen spots (thing_of environment name.text)
+    (subst (λ (o : Option Thing). IsScalarName o) (thing_seen spots environment.names name.text) h)
+scalar_unseen spots environment (Paren at inside) h = scalar_unseen spots environment inside h
+scalar_unseen spots environment (Neg at operand) h = scalar_unseen spots environment operand h
+scalar_unseen spots environment (Not at operand) h = scalar_unseen spots environment operand h
+scalar_unseen spots environment (Abs at operand) h = scalar_unseen spots environment operand h
+scalar_unseen spots environment (Pair at op left right) h =
+    (scalar_unseen spots environment left h.0, scalar_unseen spots environment right h.1)
+scalar_unseen spots environment (Coord at k) h = h
+scalar_unseen spots environment (Shifted at name shift) h = h
+scalar_unseen spots environment (Around at name shift) h = h
+scalar_unseen spots environment (Remap at name indices) h = h
+scalar_unseen spots environment (Call at name actuals) h = h
+scalar_unseen spots environment (Reduce at operator over operand) h = h
+scalar_unseen spots environment (Scan at operator along operand) h = h
+scalar_unseen spots environment (Flood at source operand) h = h

@@ -4,6 +4,8 @@ use Rattle.zpl_nums.specs.Integer.{IsInteger}
 use Rattle.zpl_nums.specs.declared.ends.TrapKind.TheVariants.{DivideByZero}
 use Rattle.zpl_tree.specs.Syntax.{Expr, Number, Truth, Coord, Named, Shifted, Around, Remap, Call, Paren, Neg, Not, Abs, Pair, Reduce, Scan, Flood}
 use Rattle.zpl_meaning.specs.Computed as mean
+use Rattle.zpl_meaning.specs.Context.{Place}
+use Rattle.zpl_meaning.specs.Scalars.{IsScalar}
 use Rattle.node_form.specs.Value as flat
 
 -- numbers of 64 bits, truth values, names and operators on them
@@ -24,6 +26,10 @@ IsScalarExpr (Call at name actuals) = ⊥
 IsScalarExpr (Reduce at operator over operand) = ⊥
 IsScalarExpr (Scan at operator along operand) = ⊥
 IsScalarExpr (Flood at source operand) = ⊥
+
+-- at a place: no name in it is an array's
+abbrev pub IsScalarAt : Place → Expr → Type 0
+IsScalarAt place expr = IsScalarExpr expr × IsScalar place.environment expr
 
 -- The meaning and the code give the same integer, or both divide by 0.
 pub data IsSameValue : mean.Computed ℤ → flat.Computed ℤ → Type 0 where
