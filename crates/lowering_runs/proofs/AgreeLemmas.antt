@@ -1,6 +1,6 @@
 -- What joins runs keeps that they agree.
 use Rattle.std.proofs.Common.{◌≡◌, ℕ, zero, suc, ◌+◌, ◌*◌, ◌≤◌, Bool, true, false, ℤ, List, [], ◌∷◌}
-use Rattle.std.proofs.Common.{◌++◌, refl, sym, ap, ◌∙◌, subst, arith}
+use Rattle.std.proofs.Common.{◌++◌, refl, sym, ap, ◌∙◌, subst, arith, append-nil}
 use Rattle.zpl_nums.specs.declared.ends.End.{End}
 use Rattle.zpl_nums.specs.declared.ends.End.TheVariants.{Done, Trap, More}
 use Rattle.zpl_nums.specs.declared.ends.TrapKind.{TrapKind}
@@ -95,6 +95,21 @@ module _ (IsAlike : Store → Whole → Type 0) where
   turned_agrees turns spare outcome course (Trapping few) = Trapping (omega (arith, few))
   turned_agrees turns spare outcome course Shattering = Shattering
   turned_agrees turns spare outcome course (Wanting many) = Wanting (omega (arith, many))
+
+-- a jump behind it
+pub leaving_agrees : (IsAlike : Store → Whole → Type 0) (turns spare : ℕ) (outcome : Outcome)
+    (course : Course Whole) → Agrees IsAlike turns spare outcome course
+    → Agrees IsAlike turns (suc spare) outcome
+    (code.then_do course (λ state. code.jumping (code.goes_on state)))
+leaving_agrees IsAlike turns spare outcome course
+    (Going {store = s} {after = w} {bytes = b} {steps = n} {jumps = j} alike few) =
+    subst (λ (bytes : List ℕ). Agrees IsAlike turns (suc spare)
+    (record { store = s; bytes = b; ending = Done; steps = n })
+    (record { close = GoesOn; state = w; bytes = bytes; jumps = and_then j 1 }))
+    (sym (append-nil b)) (Going alike (omega (arith, few, sum_of j 1)))
+leaving_agrees IsAlike turns spare outcome course (Trapping few) = Trapping (omega (arith, few))
+leaving_agrees IsAlike turns spare outcome course Shattering = Shattering
+leaving_agrees IsAlike turns spare outcome course (Wanting many) = Wanting many
 
 -- one after the other
 pub then_agrees : (One Other : Store → Whole → Type 0) (turns spare more : ℕ) (first : Outcome)

@@ -7,3 +7,5 @@ pub mod RowLemmas
 pub mod BareLemmas
 pub mod FitLemmas
 pub mod ScalarLemmas
+pub mod ControlLemmas
+pub mod ListLemmas
