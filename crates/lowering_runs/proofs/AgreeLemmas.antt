@@ -96,6 +96,26 @@ module _ (IsAlike : Store → Whole → Type 0) where
   turned_agrees turns spare outcome course Shattering = Shattering
   turned_agrees turns spare outcome course (Wanting many) = Wanting (omega (arith, many))
 
+-- rows behind it that only change the state
+pub trailed_agrees : (One Other : Store → Whole → Type 0) (turns spare : ℕ) (outcome : Outcome)
+    (course : Course Whole) (others : Whole → Course Whole) (after : Whole → Whole)
+    → ((store : Store) (whole : Whole) → One store whole
+    → (others whole ≡ code.goes_on (after whole)) × Other store (after whole))
+    → Agrees One turns spare outcome course
+    → Agrees Other turns spare outcome (code.then_do course others)
+trailed_agrees One Other turns spare outcome course others after h
+    (Going {store = s} {after = w} {bytes = b} {steps = n} {jumps = j} alike few) =
+    let k = h s w alike in
+    subst (λ (c : Course Whole). Agrees Other turns spare
+    (record { store = s; bytes = b; ending = Done; steps = n }) (code.behind b j c)) (sym k.0)
+    (subst (λ (bytes : List ℕ). Agrees Other turns spare
+    (record { store = s; bytes = b; ending = Done; steps = n })
+    (record { close = GoesOn; state = after w; bytes = bytes; jumps = and_then j 0 }))
+    (sym (append-nil b)) (Going k.1 (omega (arith, few, sum_of j 0))))
+trailed_agrees One Other turns spare outcome course others after h (Trapping few) = Trapping few
+trailed_agrees One Other turns spare outcome course others after h Shattering = Shattering
+trailed_agrees One Other turns spare outcome course others after h (Wanting many) = Wanting many
+
 -- a jump behind it
 pub leaving_agrees : (IsAlike : Store → Whole → Type 0) (turns spare : ℕ) (outcome : Outcome)
     (course : Course Whole) → Agrees IsAlike turns spare outcome course

@@ -124,6 +124,26 @@ module _ (tables : Tables) (spots : List Spot) (w : Where) where
 -- ---- a part of a statement, behind others
 
 module _ (world : World) where
+  pub inner_goes : (IsServed : Place → Type 0) (run : Context → Store → Outcome)
+      (made : Lowering → Next → Lowered) (spare : ℕ) → Goes world IsServed run made spare
+      → (sight : Sight) (w : Where) (next more : Next) (start : Whole) → IsBefore next more
+      → Stands sight.spots w next → IsServed (seen_place sight w start)
+      → HasRoom world.tables more (made (lowering world w) more) → (store : Store) (mid : Whole)
+      → IsLike world.tables sight.spots w next start store mid
+      → Agrees (IsLike world.tables sight.spots w more mid) world.turns spare
+      (run (context world sight w start) store)
+      (does world.tables world.turns (made (lowering world w) more).code mid)
+  inner_goes IsServed run made spare goes sight w next more start b stands served room store mid
+      like =
+      let same : seen_place sight w mid ≡ seen_place sight w start =
+        place_kept start mid next.slots like.kept.slots sight w stands.taken stands.edge in
+      let made_of = does world.tables world.turns (made (lowering world w) more).code mid in
+      subst (λ (p : Place). Agrees (IsLike world.tables sight.spots w more mid) world.turns spare
+      (run (record { place = p; call = world.call }) store) made_of) same
+      (goes sight w more mid (stands_on sight.spots w next more b stands)
+      (subst (λ (p : Place). IsServed p) (sym same) served) room store mid
+      (like_anew world.tables sight.spots w next more start store mid like))
+
   pub later_goes : (IsServed : Place → Type 0) (run : Context → Store → Outcome)
       (made : Lowering → Next → Lowered) (spare : ℕ) → Goes world IsServed run made spare
       → (sight : Sight) (w : Where) (next more : Next) (start : Whole) → IsBefore next more
@@ -135,14 +155,8 @@ module _ (world : World) where
       (does world.tables world.turns (made (lowering world w) more).code mid)
   later_goes IsServed run made spare goes sight w next more start b stands served room store mid
       like =
-      let same : seen_place sight w mid ≡ seen_place sight w start =
-        place_kept start mid next.slots like.kept.slots sight w stands.taken stands.edge in
-      let made_of = does world.tables world.turns (made (lowering world w) more).code mid in
       alike_agrees (IsLike world.tables sight.spots w more mid)
       (IsLike world.tables sight.spots w next start) world.turns spare _ _
       (λ s v l. like_then world.tables sight.spots w next more start store mid s v b like l)
-      (subst (λ (p : Place). Agrees (IsLike world.tables sight.spots w more mid) world.turns spare
-      (run (record { place = p; call = world.call }) store) made_of) same
-      (goes sight w more mid (stands_on sight.spots w next more b stands)
-      (subst (λ (p : Place). IsServed p) (sym same) served) room store mid
-      (like_anew world.tables sight.spots w next more start store mid like)))
+      (inner_goes IsServed run made spare goes sight w next more start b stands served room store
+      mid like)

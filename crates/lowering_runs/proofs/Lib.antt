@@ -9,3 +9,4 @@ pub mod FitLemmas
 pub mod ScalarLemmas
 pub mod ControlLemmas
 pub mod ListLemmas
+pub mod StepLemmas

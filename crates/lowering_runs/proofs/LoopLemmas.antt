@@ -156,7 +156,7 @@ module _ {R T : Type 0} (step : R → Whole → Step Whole) (decide : T → Whol
   again m = code.repeat_turns step decide m run head check
 
   -- where the next value is past the last, no turn is wanted
-  over : (m : ℕ) (v : ℤ) (store : Store) → is_past count v ≡ true
+  pub over : (m : ℕ) (v : ℤ) (store : Store) → is_past count v ≡ true
       → out.for_turns m count set body v store ≡ out.goes_on store
   over zero v store e = ap (λ b. out.choose b out.goes_on out.wants_more store) e
   over (suc m) v store e =

@@ -36,6 +36,14 @@ number_below from (number ∷ numbers) to zero k h e =
 number_below from (number ∷ numbers) to (suc p) k h e =
     let l = number_below (suc number) numbers to p k h.1 e in (omega (arith, h.0, l.0), l.1)
 
+-- numbers that are free are no variable's
+pub misses_free : (from : ℕ) (numbers : List ℕ) (to k : ℕ) → Rises from numbers to → to ≤ k
+    → Misses numbers k
+misses_free from [] to k h le = tt
+misses_free from (number ∷ numbers) to k h le =
+    let l = rises_le (suc number) numbers to h.1 in
+    ((λ e. absurd (omega (arith, l, le, e))), misses_free (suc number) numbers to k h.1 le)
+
 -- ---- spots
 
 module _ (before after : Whole) where
