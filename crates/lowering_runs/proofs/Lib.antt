@@ -10,3 +10,4 @@ pub mod ScalarLemmas
 pub mod ControlLemmas
 pub mod ListLemmas
 pub mod StepLemmas
+pub mod ForLemmas
