@@ -67,7 +67,7 @@ moved true v by = v -ℤ by
 moved false v by = v +ℤ by
 
 -- whether the value isn't past the last one
-abbrev within : Bool → ℤ → ℤ → Bool
+abbrev pub within : Bool → ℤ → ℤ → Bool
 within true v last = int_le last v
 within false v last = int_le v last
 
@@ -75,6 +75,11 @@ within false v last = int_le v last
 abbrev ended : Bool → ℤ → ℤ → ℤ → Bool
 ended true v by last = int_le (wrapped (v +ℤ by)) v || int_lt v last
 ended false v by last = int_le v (wrapped (v -ℤ by)) || int_lt last v
+
+pub within_is : (d : Bool) (v by last : ℤ)
+    → within d v last ≡ not (is_past (record { down = d; by = by; last = last }) v)
+within_is true v by last = le_not last v
+within_is false v by last = le_not v last
 
 enters_is : (down : Bool) (v last by : ℤ)
     → enters_of down (flat.Gives v) (flat.Gives last) (flat.Gives by)
@@ -170,7 +175,7 @@ module _ (world : World) (sight : Sight) (w : Where) (next : Next) (start : Whol
       (BothGive (IsInteger-truth b)))
       ∙ ap (λ b. Says b) (is_true-truth b)
 
-  enters_says : (v : ℤ) (store : Store) (now : Whole) → AtTurn v store now
+  pub enters_says : (v : ℤ) (store : Store) (now : Whole) → AtTurn v store now
       → decide world.tables world.turns (check_of (low.enters down counter) line) now
       ≡ Says (int_le (pos 1) by && within down v last)
   enters_says v store now h =

@@ -11,3 +11,4 @@ pub mod ControlLemmas
 pub mod ListLemmas
 pub mod StepLemmas
 pub mod ForLemmas
+pub mod HeadLemmas
