@@ -12,3 +12,4 @@ pub mod ListLemmas
 pub mod StepLemmas
 pub mod ForLemmas
 pub mod HeadLemmas
+pub mod PrintLemmas
