@@ -89,6 +89,8 @@ stands_on spots w next more b h = record {
   numbers = h.numbers;
   rises = rises_on 0 (numbered spots) next.scalars more.scalars b.scalars h.rises;
   known = h.known;
+  globals = h.globals;
+  unmoved = h.unmoved;
   taken = all_taken_on w.currents next.slots more.slots b.slots h.taken;
   edge = edge_on w.edge next.slots more.slots b.slots h.edge;
 }

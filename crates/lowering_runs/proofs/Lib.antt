@@ -13,3 +13,5 @@ pub mod StepLemmas
 pub mod ForLemmas
 pub mod HeadLemmas
 pub mod PrintLemmas
+pub mod FrameLemmas
+pub mod BodyLemmas

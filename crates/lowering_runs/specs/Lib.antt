@@ -6,3 +6,4 @@ pub mod Shown
 pub mod Stands
 pub mod Scalars
 pub mod Goes
+pub mod Frames

@@ -9,7 +9,7 @@ use Rattle.flat_form.specs.States.{IsWhole}
 use Rattle.flat_form.specs.Right.{is_settled}
 use Rattle.zpl_lowering.specs.Where.{Numbers, Slotted, SlotCurrents, SlotEdge, Where, Next}
 use Rattle.zpl_lowering.specs.Lowered.{Lowered}
-use Rattle.lowering_runs.specs.Seen.{scalar_in, slot_in, Spot, seen_store, numbered}
+use Rattle.lowering_runs.specs.Seen.{scalar_in, slot_in, Spot, seen_store, seen_names, numbered}
 
 -- ---- numbers
 
@@ -63,6 +63,9 @@ pub record Stands (spots : List Spot) (w : Where) (next : Next) : Type 0 where
   pub numbers : numbered spots ≡ w.numbers.scalars
   pub rises : Rises 0 (numbered spots) next.scalars
   pub known : AreKnown (length (numbered spots)) (length w.numbers.arrays) w.environment.names
+  -- the global names stand for what the meaning has, wherever they are seen
+  pub globals : AreKnown (length (numbered spots)) (length w.numbers.arrays) w.setup.globals
+  pub unmoved : seen_names spots w.setup.globals ≡ w.setup.globals
   pub taken : AreTaken w.currents next.slots
   pub edge : IsTakenEdge w.edge next.slots
 
