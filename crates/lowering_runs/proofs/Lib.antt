@@ -15,3 +15,5 @@ pub mod HeadLemmas
 pub mod PrintLemmas
 pub mod FrameLemmas
 pub mod BodyLemmas
+pub mod CallLemmas
+pub mod StatementLemmas

@@ -47,6 +47,10 @@ abbrev pub meant : List low.Placed → List mean_settled.Placed
 meant [] = []
 meant (placed ∷ rest) = record { rank = placed.rank; expr = placed.expr } ∷ meant rest
 
+pub meant_length : (exprs : List low.Placed) → length (meant exprs) ≡ length exprs
+meant_length [] = refl
+meant_length (placed ∷ exprs) = ap suc (meant_length exprs)
+
 abbrev pub AreScalarsAt : Place → List low.Placed → Type 0
 AreScalarsAt place [] = Unit {0}
 AreScalarsAt place (placed ∷ rest) = IsScalarAt place placed.expr × AreScalarsAt place rest

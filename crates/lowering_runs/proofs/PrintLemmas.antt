@@ -52,7 +52,7 @@ use Rattle.lowering_runs.specs.Goes.{World, context, lowering, Goes}
 use Rattle.lowering_runs.proofs.NumberLemmas.{get_some}
 use Rattle.lowering_runs.proofs.BareLemmas.{codes_of, all_passed}
 use Rattle.lowering_runs.proofs.RowLemmas.{print_step, number_step, truth_step}
-use Rattle.lowering_runs.proofs.ListLemmas.{Hold, AreScalarsAt, AreSet, meant, values_agree}
+use Rattle.lowering_runs.proofs.ListLemmas.{Hold, AreScalarsAt, AreSet, meant, meant_length, values_agree}
 use Rattle.lowering_runs.proofs.HeadLemmas.{scalars_of}
 
 -- scalars alone are printed
@@ -325,10 +325,6 @@ meant_items sight w start (Value expr ∷ items) =
     low_placed : Sight → Where → Whole → Expr → mean_settled.Placed
     low_placed sight w start expr =
         record { rank = rank_in (seen_place sight w start) Printed expr; expr = expr }
-
-meant_length : (exprs : List low_slate.Placed) → length (meant exprs) ≡ length exprs
-meant_length [] = refl
-meant_length (placed ∷ exprs) = ap suc (meant_length exprs)
 
 codes_length : (w : Where) (exprs : List low_slate.Placed)
     → length (codes_of w exprs) ≡ length exprs

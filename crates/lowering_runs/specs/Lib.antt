@@ -7,3 +7,6 @@ pub mod Stands
 pub mod Scalars
 pub mod Goes
 pub mod Frames
+pub mod Called
+pub mod ScalarText
+pub mod Served
