@@ -26,6 +26,17 @@ alike_agrees One Other turns spare outcome course f (Trapping few) = Trapping fe
 alike_agrees One Other turns spare outcome course f Shattering = Shattering
 alike_agrees One Other turns spare outcome course f (Wanting many) = Wanting many
 
+-- with another store
+pub stored_agrees : (One Other : Store → Whole → Type 0) (turns spare : ℕ) (outcome : Outcome)
+    (course : Course Whole) (f : Store → Store)
+    → ((store : Store) (whole : Whole) → One store whole → Other (f store) whole)
+    → Agrees One turns spare outcome course
+    → Agrees Other turns spare (record outcome { store = f outcome.store }) course
+stored_agrees One Other turns spare outcome course f h (Going alike few) = Going (h _ _ alike) few
+stored_agrees One Other turns spare outcome course f h (Trapping few) = Trapping few
+stored_agrees One Other turns spare outcome course f h Shattering = Shattering
+stored_agrees One Other turns spare outcome course f h (Wanting many) = Wanting many
+
 module _ (IsAlike : Store → Whole → Type 0) where
   pub goes_agrees : (turns : ℕ) (store : Store) (whole : Whole) → IsAlike store whole
       → Agrees IsAlike turns 0 (out.goes_on store) (code.goes_on whole)

@@ -17,3 +17,4 @@ pub mod FrameLemmas
 pub mod BodyLemmas
 pub mod CallLemmas
 pub mod StatementLemmas
+pub mod RoutineLemmas
