@@ -18,3 +18,4 @@ pub mod BodyLemmas
 pub mod CallLemmas
 pub mod StatementLemmas
 pub mod RoutineLemmas
+pub mod EntryLemmas

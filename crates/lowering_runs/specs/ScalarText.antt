@@ -2,7 +2,11 @@
 -- goes as they do. Of text alone.
 use Rattle.std.specs.Prelude.{◌≡◌, ℕ, zero, suc, false, List, [], ◌∷◌, Some, None}
 use Rattle.zpl_nums.specs.Integer.{IsInteger}
-use Rattle.zpl_tree.specs.Syntax.{Expr, Exprs, NoExpr, ThenExpr, Item, Str, Value, Prefix, Stmt, Prefixed, Stmts, NoStmt, ThenStmt, Form, Assign, Invoke, Block, If, While, Repeat, For, Border, Write, Return, Arm, Tested, Arms, NoArm, ThenArm, Otherwise, NoElse, Else, Program}
+use Rattle.std.specs.Prelude.{pos}
+use Rattle.zpl_binding.specs.Outcome.{value_or, outcome_of}
+use Rattle.zpl_binding.specs.Settings.{Setting}
+use Rattle.zpl_binding.specs.Declarations.{known_of}
+use Rattle.zpl_tree.specs.Syntax.{Decl, Vars, Config, Constant, Regions, Directions, Defined, Expr, Exprs, NoExpr, ThenExpr, Item, Str, Value, Prefix, Stmt, Prefixed, Stmts, NoStmt, ThenStmt, Form, Assign, Invoke, Block, If, While, Repeat, For, Border, Write, Return, Arm, Tested, Arms, NoArm, ThenArm, Otherwise, NoElse, Else, Program}
 use Rattle.zpl_names.specs.Kinds.{Formal, ScalarFormal, ArrayFormal}
 use Rattle.zpl_names.specs.Scope.{kind_of}
 use Rattle.zpl_names.specs.Shapes.{unknown_shapes}
@@ -97,3 +101,21 @@ pub record IsRoutine (program : Program) (IsCallable : List ℕ → Type 0) (nam
 abbrev pub IsScalarCall : Program → ℕ → List ℕ → Type 0
 IsScalarCall program zero name = ⊥
 IsScalarCall program (suc depth) name = IsRoutine program (IsScalarCall program depth) name
+
+-- no array is declared beside the procedures
+abbrev pub AreScalarDecls : List Decl → Type 0
+AreScalarDecls [] = Unit {0}
+AreScalarDecls (Vars vars ∷ decls) = AreScalarLocals vars × AreScalarDecls decls
+AreScalarDecls (Config configs ∷ decls) = AreScalarDecls decls
+AreScalarDecls (Constant constants ∷ decls) = AreScalarDecls decls
+AreScalarDecls (Regions regions ∷ decls) = AreScalarDecls decls
+AreScalarDecls (Directions directions ∷ decls) = AreScalarDecls decls
+AreScalarDecls (Defined procedure ∷ decls) = AreScalarDecls decls
+
+-- A program of scalars, under settings: its variables are scalars, and so is all that its
+-- procedures do, from the entry procedure on. Configs and constants have values of 64 bits.
+pub record IsScalarProgram (program : Program) (settings : List Setting) : Type 0 where
+  pub decls : AreScalarDecls program.decls
+  pub values : (text : List ℕ)
+      → IsInteger (value_or (pos 0) (outcome_of (pos 0) (known_of program settings).values text))
+  pub entry : IsScalarCall program longest_chain program.name.text
