@@ -19,3 +19,4 @@ pub mod CallLemmas
 pub mod StatementLemmas
 pub mod RoutineLemmas
 pub mod EntryLemmas
+pub mod InlineLemmas

@@ -138,7 +138,7 @@ assign_plain context name None (Scan at operator along operand) line store h = r
 assign_plain context name None (Flood at source operand) line store h = refl
 assign_plain context name None (Call at it actuals) line store h = absurd h
 
-lowered_plain : (l : Lowering) (next : Next) (name : Name) (op : Option Op) (value : Expr)
+pub lowered_plain : (l : Lowering) (next : Next) (name : Name) (op : Option Op) (value : Expr)
     (line : ℕ) → IsScalarExpr (assigned_expr name op value)
     → low.lowered_assign l next name op value line
     ≡ low.lowered_to l.place (Assigned name op) line next (assigned_expr name op value)
