@@ -20,3 +20,4 @@ pub mod StatementLemmas
 pub mod RoutineLemmas
 pub mod EntryLemmas
 pub mod InlineLemmas
+pub mod ProgramLemmas
