@@ -269,9 +269,5 @@ module _ (program : Program) (settings : List Setting) (s : IsScalarProgram prog
         ap (λ (c : Course Whole). code.then_do c (does tables n entry_own.code)) r.course in
       let shown = shows tables n (Ended r.after) 0 own.code start (outcome_of program settings n)
         (does tables n entry_own.code r.after) (omega arith) code_is agrees in
-      record {
-        bound = shown.bound;
-        same = ap (λ (rows : List Row). runs (act tables n) rows shown.bound 0 start) rows_are
-            ∙ shown.same;
-        size = shown.size;
-      }
+      subst (λ (rows : List Row). Shows (λ a. runs (act tables n) rows a 0 start) n
+      (outcome_of program settings n)) (sym rows_are) shown

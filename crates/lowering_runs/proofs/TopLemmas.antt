@@ -1,5 +1,5 @@
 -- Laid-out code that goes as the meaning does shows what it shows.
-use Rattle.std.proofs.Common.{◌≡◌, ℕ, zero, suc, ◌+◌, ◌*◌, ◌≤◌, Bool, true, false, ℤ, List, [], ◌∷◌}
+use Rattle.std.proofs.Common.{◌≡◌, ℕ, zero, suc, ◌+◌, ◌-◌, ◌*◌, ◌≤◌, Bool, true, false, ℤ, List, [], ◌∷◌}
 use Rattle.std.specs.Prelude.{if◌then◌else◌}
 use Rattle.std.proofs.Common.{◌++◌, map, drop, length, refl, sym, ap, ◌∙◌, subst, arith, append-nil}
 use Rattle.zpl_nums.specs.declared.ends.End.{End}
@@ -151,20 +151,34 @@ module _ (tables : Tables) (n : ℕ) where
         (follows piece start course 0 e
         ∙ ap (λ (r : Result). record { bytes = b ++ r.bytes; stop = r.stop }) (at_end piece 0 w)
         ∙ ap (λ (bytes : List ℕ). record { bytes = bytes; stop = Ends Done }) (append-nil b));
-    size = Few (omega (arith, few, le, sum_of j 0));
+    size = Few (λ q. done_more q) (omega (arith, few, le, sum_of j 0));
   }
+    where
+      done_more : Done ≡ More → ⊥
+      done_more q = cc
   shows IsAlike spare piece start outcome course le e
       (Trapping {bytes = b} {steps = s} {jumps = j} {kind = kind} {line = line} few) = record {
     bound = suc (and_then j 0);
     same = kept piece start (suc (and_then j 0)) b (Trap kind line) (follows piece start course 0 e);
-    size = Few (omega (arith, few, le, sum_of j 0));
+    size = Few (λ q. trap_more q) (omega (arith, few, le, sum_of j 0));
   }
+    where
+      trap_more : Trap kind line ≡ More → ⊥
+      trap_more q = cc
   shows IsAlike spare piece start outcome course le e
-      (Shattering {bytes = b} {jumps = j}) = record {
-    bound = suc (and_then j 0);
-    same = kept piece start (suc (and_then j 0)) b More (follows piece start course 0 e);
-    size = Shattered refl;
-  }
+      (Shattering {after = w} {bytes = b} {jumps = j}) =
+      let run : ℕ → Result = λ a. runs (act tables n) (map flat_row (ended piece)) a 0 start in
+      let at : (left : ℕ) → run (suc (and_then j left)) ≡ record { bytes = b; stop = Ends More } =
+        λ left. kept piece start (suc (and_then j left)) b More (follows piece start course left e) in
+      record {
+        bound = suc (and_then j 0);
+        same = at 0;
+        size = Shattered refl (λ more l.
+            let left = more - suc (and_then j 0) in
+            let as_many : suc (and_then j left) ≡ more =
+              omega (arith, sum_of j left, sum_of j 0, l) in
+            ap run (sym as_many) ∙ at left ∙ sym (at 0));
+      }
   shows IsAlike spare piece start outcome course le e (Wanting {bytes = b} {jumps = j} many) =
       record {
     bound = suc j;
