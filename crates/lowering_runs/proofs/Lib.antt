@@ -21,3 +21,4 @@ pub mod RoutineLemmas
 pub mod EntryLemmas
 pub mod InlineLemmas
 pub mod ProgramLemmas
+pub mod WrongLemmas

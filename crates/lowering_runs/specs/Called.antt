@@ -5,6 +5,9 @@ use Rattle.zpl_names.specs.Kinds.{Formal, ScalarFormal, ArrayFormal}
 use Rattle.zpl_meaning.specs.Store.{Store}
 use Rattle.zpl_meaning.specs.Context.{Setup}
 use Rattle.zpl_meaning.specs.Calls.{Called}
+use Rattle.zpl_meaning.specs.Program.{call_at}
+use Rattle.node_form.specs.declared.tables.Tables.{Tables}
+use Rattle.zpl_lowering.specs.Program.{call_code}
 use Rattle.zpl_meaning.specs.Visited.{IsVisitedCall}
 use Rattle.flat_form.specs.Whole.{Whole}
 use Rattle.zpl_lowering.specs.Where.{Where, Next}
@@ -47,3 +50,12 @@ pub record CallsAgree (world : World) (setup : Setup) (IsServed : List ℕ → T
       → Agrees (IsLike world.tables spots w low start) world.turns 0
       (world.call (called_at spots w start now name givens 0) store)
       (does world.tables world.turns (world.code (calling_at w name givens 0 line) next).code now)
+
+-- what calls do and become down a chain of so many
+abbrev pub world_at : Tables → ℕ → Setup → ℕ → World
+world_at tables n setup depth = record {
+  tables = tables;
+  turns = n;
+  call = call_at setup n depth;
+  code = call_code setup depth;
+}
