@@ -1,7 +1,6 @@
 -- Expressions of scalars have no rows before them: what is left of each is its own code.
 use Rattle.std.proofs.Common.{◌≡◌, ℕ, ◌+◌, ℤ, pos, List, [], ◌∷◌, ◌++◌, map, Option, Some, None, refl}
 use Rattle.std.proofs.Common.{sym, ap, ◌∙◌, subst}
-use Rattle.zpl_nums.specs.declared.operators.Op.{Op}
 use Rattle.zpl_nums.specs.declared.operators.UnaryOp.{UnaryOp}
 use Rattle.zpl_nums.specs.declared.operators.UnaryOp.TheVariants as unary
 use Rattle.zpl_nums.specs.Integer.{truth}
@@ -18,7 +17,7 @@ use Rattle.zpl_lowering.specs.Where.{Where, Next, Slotted, slotted_at}
 use Rattle.zpl_lowering.specs.Words.{thing_code, scalar_code}
 use Rattle.zpl_lowering.specs.Slate as slate
 use Rattle.zpl_lowering.specs.Slate.{Slate, Slates, NoSlate, ThenSlate, Settled, Placed, named_slate, settled, settled_each}
-use Rattle.zpl_lowering.specs.Reference.{Reference, needs, conforming, all_conforming, referred, all_referred}
+use Rattle.zpl_lowering.specs.Reference.{needs, conforming, all_conforming, referred, all_referred}
 use Rattle.zpl_lowering.specs.Hoist as hoist
 use Rattle.zpl_lowering.specs.Hoist.{Hoisted, Free, hoisted, all_hoisted, unary_code}
 use Rattle.zpl_lowering.specs.Lowered as low
@@ -47,14 +46,21 @@ pub record Settles (w : Where) (line : ℕ) (next : Next) (rank : Rank) (expr : 
 
 alone_idle : {A : Type 0} (left : A) → IsIdle A (hoist.alone left) left
 alone_idle left = record {
-  left_is = refl; scalars = refl; temps = refl; shifts = refl; still = λ tables n whole. refl;
+  left_is = refl;
+  scalars = refl;
+  temps = refl;
+  shifts = refl;
+  still = λ tables n whole. refl;
 }
 
 mapped_idle : {A B : Type 0} (f : A → B) (one : Hoisted A) (left : A) → IsIdle A one left
     → IsIdle B (hoist.mapped f one) (f left)
 mapped_idle f one left h = record {
   left_is = ap f h.left_is;
-  scalars = h.scalars; temps = h.temps; shifts = h.shifts; still = h.still;
+  scalars = h.scalars;
+  temps = h.temps;
+  shifts = h.shifts;
+  still = h.still;
 }
 
 both_idle : {A B C : Type 0} (f : A → B → C) (one : Hoisted A) (other : Hoisted B) (a : A) (b : B)
@@ -72,13 +78,17 @@ both_idle f one other a b h k = record {
 constant_bare : (w : Where) (line : ℕ) (value : ℤ)
     → IsBare w line (slate.Constant value) (word.Constant value)
 constant_bare w line value = record {
-  conforms = refl; refers = refl; hoists = λ free. alone_idle (word.Constant value);
+  conforms = refl;
+  refers = refl;
+  hoists = λ free. alone_idle (word.Constant value);
 }
 
 thing_bare : (w : Where) (line : ℕ) (over : Slotted) (thing : Option Thing) → IsScalarName thing
     → IsBare w line (named_slate over thing) (thing_code w.numbers thing)
 thing_bare w line over (Some (Scalar place)) h = record {
-  conforms = refl; refers = refl; hoists = λ free. alone_idle _;
+  conforms = refl;
+  refers = refl;
+  hoists = λ free. alone_idle _;
 }
 thing_bare w line over (Some (Fixed value)) h = constant_bare w line value
 thing_bare w line over (Some (ArrayAt place home)) h = absurd h
@@ -174,7 +184,11 @@ pub record AllSettle (w : Where) (line : ℕ) (next : Next) (exprs : List Placed
 pub all_settle : (w : Where) (line : ℕ) (next : Next) (exprs : List Placed) → AreScalarsOf w exprs
     → AllSettle w line next exprs
 all_settle w line next [] h = record {
-  all = NoSlate; is = refl; conforms = refl; refers = refl; hoists = λ free. alone_idle [];
+  all = NoSlate;
+  is = refl;
+  conforms = refl;
+  refers = refl;
+  hoists = λ free. alone_idle [];
 }
 all_settle w line next (placed ∷ rest) h =
     let s = settles w line next placed.rank placed.expr h.0 in

@@ -1,25 +1,21 @@
 -- A procedure that is entered: its parameters, and its local variables, which are cleared.
-use Rattle.std.proofs.Common.{◌≡◌, ◌≢◌, ℕ, zero, suc, ◌+◌, ◌≤◌, ◌<◌, Bool, true, false, ℤ, pos, List, []}
-use Rattle.std.proofs.Common.{◌∷◌, ◌++◌, map, length, take, Option, Some, None, refl, sym, ap, ◌∙◌, subst}
-use Rattle.std.proofs.Common.{arith, append_assoc, append-nil, length-append}
-use Rattle.zpl_nums.specs.Integer.{IsInteger}
+use Rattle.std.proofs.Common.{◌≡◌, ◌≢◌, ℕ, suc, ◌≤◌, ◌<◌, Bool, true, false, pos, List, []}
+use Rattle.std.proofs.Common.{◌∷◌, ◌++◌, map, length, refl, sym, ap, ◌∙◌, subst}
+use Rattle.std.proofs.Common.{arith}
 use Rattle.zpl_nums.proofs.IntegerLemmas.{IsInteger-truth}
 use Rattle.std.specs.Prelude.{slice_index_or}
 use Rattle.zpl_region.specs.declared.regions.Region.{Region}
 use Rattle.zpl_arrays.specs.Array.{Array}
 use Rattle.zpl_binding.specs.Regions.{no_region}
 use Rattle.zpl_meaning.specs.Store.{no_array}
-use Rattle.zpl_tree.specs.Syntax.{Name, Inner, Bracket, NoBracket, Bracketed, VarDef}
+use Rattle.zpl_tree.specs.Syntax.{Name, Bracket, NoBracket, Bracketed, VarDef}
 use Rattle.zpl_names.specs.Expansion.{FormalName}
-use Rattle.zpl_binding.specs.Regions.{Known}
-use Rattle.zpl_binding.specs.Storages.{Border}
-use Rattle.zpl_meaning.specs.Store.{Thing, Scalar, Names, Store}
+use Rattle.zpl_meaning.specs.Store.{Thing, Names, Store}
 use Rattle.zpl_meaning.specs.Context.{Setup}
 use Rattle.zpl_meaning.specs.Outcome.{Outcome}
 use Rattle.zpl_meaning.specs.Variables.{Frame, with_scalar_named, with_name, with_names, with_variables}
 use Rattle.zpl_meaning.specs.Calls.{with_handed, with_formals}
 use Rattle.node_form.specs.Expression.{Constant, words_of}
-use Rattle.node_form.specs.Value as flat
 use Rattle.node_form.specs.Value.{scalar_operands}
 use Rattle.node_form.proofs.ValueLemmas.{value_of-words_of}
 use Rattle.node_form.specs.declared.tables.Tables.{Tables}
@@ -32,15 +28,14 @@ use Rattle.zpl_lowering.specs.Lowered.{Lowered, behind, rows_alone}
 use Rattle.zpl_lowering.specs.Statement.{Given, Valued, Copied, Referring}
 use Rattle.zpl_lowering.specs.Program as low
 use Rattle.zpl_lowering.specs.Program.{Framed, Entry}
-use Rattle.lowering_runs.specs.Seen.{scalar_in, array_in, Spot, At, Answer, seen_spot, seen_store, numbered, seen_thing, seen_names}
-use Rattle.lowering_runs.specs.Run.{step, decide, does}
+use Rattle.lowering_runs.specs.Seen.{scalar_in, Spot, At, Answer, seen_spot, seen_store, numbered, seen_thing, seen_names}
+use Rattle.lowering_runs.specs.Run.{does}
 use Rattle.lowering_runs.specs.Agrees.{Agrees}
-use Rattle.lowering_runs.specs.Stands.{Rises, Misses, IsBefore, IsKnown, AreKnown, HasRoom, IsSound, Keeps}
+use Rattle.lowering_runs.specs.Stands.{IsBefore, IsKnown, HasRoom, IsSound, Keeps}
 use Rattle.lowering_runs.specs.Frames.{seen_frame, seen_given, Framing, AreGiven, IsScalarShape, AreScalarLocals, IsFresh}
 use Rattle.lowering_runs.proofs.NumberLemmas.{rises_on, same_spots, get_set_same, get_set_other}
 use Rattle.lowering_runs.proofs.RowLemmas.{set, set_to, set_step, set_sound}
-use Rattle.lowering_runs.proofs.FitLemmas.{itself, before_behind}
-use Rattle.lowering_runs.proofs.FrameLemmas.{map_append, thing_below, names_below, known_both, thing_more, framing_with, scalar_frame}
+use Rattle.lowering_runs.proofs.FrameLemmas.{map_append, thing_below, known_both, thing_more, framing_with, scalar_frame}
 
 -- ---- parameters
 
@@ -53,10 +48,13 @@ thing_frame : (base more : List Spot) (framed : Framed) (spots : List Spot) (arr
 thing_frame base more framed spots arrays name thing now is known =
     ap (λ (t : Thing). record {
       names = seen_names spots framed.names ++ (name.text, t) ∷ [];
-      store = seen_store spots framed.numbers.arrays now })
+      store = seen_store spots framed.numbers.arrays now;
+    })
     (sym (ap (λ (xs : List Spot). seen_thing xs thing) is ∙ thing_below base more arrays thing known))
     ∙ ap (λ (ns : Names). record {
-      names = ns; store = seen_store spots framed.numbers.arrays now })
+      names = ns;
+      store = seen_store spots framed.numbers.arrays now;
+    })
     (sym (map_append (λ (e : List ℕ × Thing). (e.0, seen_thing spots e.1)) framed.names
     ((name.text, thing) ∷ [])))
 
@@ -90,8 +88,13 @@ framing_on : (base : List Spot) (bottom : ℕ) (arrays : List Stored) (framed : 
     (spots : List Spot) (bound more : ℕ) → bound ≤ more
     → Framing base bottom arrays framed spots bound → Framing base bottom arrays framed spots more
 framing_on base bottom arrays framed spots bound more le h = record {
-  more = h.more; is = h.is; above = h.above; numbers = h.numbers; arrays_are = h.arrays_are;
-  rises = rises_on 0 (numbered spots) bound more le h.rises; known = h.known;
+  more = h.more;
+  is = h.is;
+  above = h.above;
+  numbers = h.numbers;
+  arrays_are = h.arrays_are;
+  rises = rises_on 0 (numbered spots) bound more le h.rises;
+  known = h.known;
 }
 
 given_le : (scalars arrays from : ℕ) (givens : List Given) (to : ℕ)
@@ -130,8 +133,8 @@ givens_framed base bottom arrays (formal ∷ formals) (Valued k ∷ givens) fram
     let inner = low.with_scalar framed formal.name k in
     let here = spots ++ At k ∷ [] in
     let r = givens_framed base bottom arrays formals givens inner here line next now (suc k) to
-      (omega (arith, le, g.0)) g.1
-      (framing_with base bottom arrays framed spots from k formal.name g.0 (omega (arith, le, g.0)) h) in
+    (omega (arith, le, g.0)) g.1
+    (framing_with base bottom arrays framed spots from k formal.name g.0 (omega (arith, le, g.0)) h) in
     record {
       frame = r.frame;
       sight = r.sight;
@@ -146,14 +149,18 @@ givens_framed base bottom arrays (formal ∷ formals) (Valued k ∷ givens) fram
 givens_framed base bottom arrays (formal ∷ formals) (Referring thing ∷ givens) framed spots line next
     now from to le g h =
     let inner : Framed =
-      record framed { names = framed.names ++ (formal.name.text, thing) ∷ [] } in
+    record framed { names = framed.names ++ (formal.name.text, thing) ∷ [] } in
     let r = givens_framed base bottom arrays formals givens inner spots line next now from to le g.1
-      (record {
-        more = h.more; is = h.is; above = h.above; numbers = h.numbers; arrays_are = h.arrays_are;
-        rises = h.rises;
-        known = known_both (length (numbered spots)) (length arrays) framed.names _ h.known
-            (longer_known base h.more (length arrays) thing spots h.is g.0, tt);
-      }) in
+    (record {
+      more = h.more;
+      is = h.is;
+      above = h.above;
+      numbers = h.numbers;
+      arrays_are = h.arrays_are;
+      rises = h.rises;
+      known = known_both (length (numbered spots)) (length arrays) framed.names _ h.known
+          (longer_known base h.more (length arrays) thing spots h.is g.0, tt);
+    }) in
     record {
       frame = r.frame;
       sight = r.sight;
@@ -194,15 +201,15 @@ module _ (tables : Tables) (n : ℕ) (setup : Setup) (entry : Entry) (base : Lis
   fresh_after false k to now le h = λ j l. h j (omega (arith, le, l))
 
   record IsCleared (clears : Bool) (line k : ℕ) (now : Whole) (f : Whole → Course Whole) : Type 0
-      where
-    course : code.then_do (does tables n
-        (code.Rows (low.zero_row (record { clears = clears; line = line }) k)) now) f
-        ≡ f (cleared clears k now)
-    here : scalar_in (cleared clears k now) k ≡ pos 0
-    other : (j : ℕ) → j ≢ k → scalar_in (cleared clears k now) j ≡ scalar_in now j
-    sound : IsSound tables (cleared clears k now)
-    slots : (cleared clears k now).slots ≡ now.slots
-    stores : (cleared clears k now).stores ≡ now.stores
+    where
+      course : code.then_do (does tables n
+          (code.Rows (low.zero_row (record { clears = clears; line = line }) k)) now) f
+          ≡ f (cleared clears k now)
+      here : scalar_in (cleared clears k now) k ≡ pos 0
+      other : (j : ℕ) → j ≢ k → scalar_in (cleared clears k now) j ≡ scalar_in now j
+      sound : IsSound tables (cleared clears k now)
+      slots : (cleared clears k now).slots ≡ now.slots
+      stores : (cleared clears k now).stores ≡ now.stores
 
   clears_it : (clears : Bool) (line k : ℕ) (now : Whole) (f : Whole → Course Whole)
       → k < tables.scalars → IsSound tables now → IsFresh clears k now
@@ -248,13 +255,13 @@ module _ (tables : Tables) (n : ℕ) (setup : Setup) (entry : Entry) (base : Lis
       let c = clears_it entry.clears entry.line k now go lt sound fresh in
       let after = cleared entry.clears k now in
       let same : map (seen_spot after) spots ≡ map (seen_spot now) spots =
-        same_spots now after 0 spots k f.rises
-        (λ j a b. c.other j (λ e. absurd (omega (arith, b, e)))) in
+      same_spots now after 0 spots k f.rises
+      (λ j a b. c.other j (λ e. absurd (omega (arith, b, e)))) in
       let frame : with_scalar_named (seen_frame spots framed now) name (pos 0)
-        ≡ seen_frame here inner after =
-        scalar_frame spots framed (length arrays) k name (pos 0) now after f.known f.numbers same
-        c.here (ap (λ (xs : List Array). map (λ (s : Stored). slice_index_or xs s.array no_array)
-        framed.numbers.arrays) c.stores) in
+      ≡ seen_frame here inner after =
+      scalar_frame spots framed (length arrays) k name (pos 0) now after f.known f.numbers same
+      c.here (ap (λ (xs : List Array). map (λ (s : Stored). slice_index_or xs s.array no_array)
+      framed.numbers.arrays) c.stores) in
       subst (λ (x : Frame). Agrees IsAlike n spare (run x)
       (does tables n (low.local_code setup entry NoBracket name framed next rest).code now))
       (sym frame)

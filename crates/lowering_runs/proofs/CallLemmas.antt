@@ -1,14 +1,13 @@
 -- A call as a statement.
-use Rattle.std.proofs.Common.{◌≡◌, ℕ, zero, suc, ◌+◌, ◌≤◌, ◌<◌, Bool, true, false, ℤ, pos, List, [], ◌∷◌}
+use Rattle.std.proofs.Common.{◌≡◌, ℕ, suc, ◌+◌, ◌≤◌, true, false, ℤ, List, [], ◌∷◌}
 use Rattle.std.proofs.Common.{◌++◌, map, length, Option, Some, None, refl, sym, ap, ◌∙◌, subst, arith}
 use Rattle.std.specs.Option.{option_map}
 use Rattle.std.specs.Prelude.{IsSome}
-use Rattle.zpl_tree.specs.Syntax.{Name, Expr, Number, Truth, Coord, Named, Shifted, Around, Remap, Call, Paren, Neg, Not, Abs, Pair, Reduce, Scan, Flood, Exprs, NoExpr, ThenExpr, Form, Invoke}
+use Rattle.zpl_tree.specs.Syntax.{Name, Expr, Number, Truth, Coord, Named, Shifted, Around, Remap, Call, Paren, Neg, Not, Abs, Pair, Reduce, Scan, Flood, Exprs, NoExpr, ThenExpr, Invoke}
 use Rattle.zpl_names.specs.Kinds.{Formal, ScalarFormal, ArrayFormal}
 use Rattle.zpl_names.specs.Scope.{kind_of}
-use Rattle.zpl_names.specs.Sites.{Role, Actual}
-use Rattle.zpl_meaning.specs.Computed as mean
-use Rattle.zpl_meaning.specs.Store.{Store, Thing, Scalar, ArrayAt, Fixed, Environment, thing_of}
+use Rattle.zpl_names.specs.Sites.{Actual}
+use Rattle.zpl_meaning.specs.Store.{Store, Thing, Environment, thing_of}
 use Rattle.zpl_meaning.specs.Context.{Place, Setup}
 use Rattle.zpl_meaning.specs.Phases as mean_phases
 use Rattle.zpl_meaning.specs.Phases.{scalars_in}
@@ -23,20 +22,19 @@ use Rattle.row_runs.specs.Structured as code
 use Rattle.row_runs.specs.Structured.{Course}
 use Rattle.flat_form.specs.Whole.{Whole}
 use Rattle.zpl_lowering.specs.Where.{Where, Next, line_of}
-use Rattle.zpl_lowering.specs.Lowered.{Lowered, behind, phased}
-use Rattle.zpl_lowering.specs.Slate as low_slate
+use Rattle.zpl_lowering.specs.Lowered.{behind, phased}
 use Rattle.zpl_lowering.specs.Statement as low
 use Rattle.zpl_lowering.specs.Statement.{Given, Lowering}
-use Rattle.lowering_runs.specs.Seen.{scalar_in, Spot, Sight, numbered, seen_place, seen_thing, seen_names, seen_currents}
+use Rattle.lowering_runs.specs.Seen.{scalar_in, Spot, Sight, numbered, seen_place, seen_thing, seen_names}
 use Rattle.lowering_runs.specs.Run.{does}
 use Rattle.lowering_runs.specs.Agrees.{Agrees}
 use Rattle.lowering_runs.specs.Scalars.{IsScalarAt}
-use Rattle.lowering_runs.specs.Stands.{IsBefore, IsKnown, Stands, HasRoom, IsLike}
+use Rattle.lowering_runs.specs.Stands.{IsKnown, Stands, IsLike}
 use Rattle.lowering_runs.specs.Frames.{seen_given, AreGiven}
-use Rattle.lowering_runs.specs.Goes.{World, context, lowering, Goes}
-use Rattle.lowering_runs.specs.Called.{calling_at, called_at, CallsAgree}
+use Rattle.lowering_runs.specs.Goes.{World, Goes}
+use Rattle.lowering_runs.specs.Called.{calling_at, CallsAgree}
 use Rattle.lowering_runs.proofs.ValueLemmas.{thing_seen, known_thing}
-use Rattle.lowering_runs.proofs.ListLemmas.{Hold, AreScalarsAt, AreSet, meant, meant_length}
+use Rattle.lowering_runs.proofs.ListLemmas.{Hold, AreScalarsAt, meant, meant_length}
 use Rattle.lowering_runs.proofs.HeadLemmas.{with_computed_value, valued_agrees, left_length}
 
 -- what parameters of scalars take, and references; arrays by value are left out
@@ -247,9 +245,9 @@ module _ (world : World) (setup : Setup) (IsCallable : List ℕ → Type 0)
       let scalars = value_scalars sight w start formals actuals served.actuals_are in
       let many = left_length sight w line next start exprs scalars in
       let handed : List ℤ → List Handed =
-        λ values. handed_on p.environment store formals actuals values in
+      λ values. handed_on p.environment store formals actuals values in
       let called : List Handed → Called = λ hs.
-        record { name = name.text; actuals = hs; currents = p.currents; result = 0 } in
+      record { name = name.text; actuals = hs; currents = p.currents; result = 0 } in
       subst (λ (o : Outcome). Agrees Like n 0 o
       (code.then_do (does tables n own.code now) (does tables n (world.code calling more).code)))
       (sym (with_computed_value (scalars_in p store (mean_calls.value_exprs p formals actuals)) handed
@@ -262,19 +260,19 @@ module _ (world : World) (setup : Setup) (IsCallable : List ℕ → Type 0)
       (record { scalars = omega (arith, room.scalars) }) store now like
       (λ vs. world.call (called (handed vs)) store) (does tables n (world.code calling more).code)
       (λ vs after l are.
-        let same : handed vs ≡ map (seen_given sight.spots after) givens =
-          handed_is sight w start formals actuals first vs store after served.actuals_are are.as_many
-          are.held in
-        subst (λ (hs : List Handed). Agrees Like n 0 (world.call (called hs) store)
-        (does tables n (world.code calling more).code after)) (sym same)
-        (calls.by sight.spots w next more start name.text givens line served.setup_is stands
-        (record { scalars = omega arith; slots = omega arith }) served.callable
-        (given_earlier (length (numbered sight.spots)) (length w.numbers.arrays) next.scalars first
-        givens more.scalars (omega arith)
-        (given_is sight w start next stands formals actuals first more.scalars served.actuals_are
-        (omega (arith, many))))
-        (record { scalars = omega (arith, room.scalars) }) store after l
-        (subst (λ (hs : List Handed). IsVisitedCall setup (called hs)) same
-        (served.visited vs store (are.as_many
-        ∙ sym (meant_length exprs)
-        ∙ ap (λ es. length es) (value_meant sight w start formals actuals))))))))
+      let same : handed vs ≡ map (seen_given sight.spots after) givens =
+      handed_is sight w start formals actuals first vs store after served.actuals_are are.as_many
+      are.held in
+      subst (λ (hs : List Handed). Agrees Like n 0 (world.call (called hs) store)
+      (does tables n (world.code calling more).code after)) (sym same)
+      (calls.by sight.spots w next more start name.text givens line served.setup_is stands
+      (record { scalars = omega arith; slots = omega arith }) served.callable
+      (given_earlier (length (numbered sight.spots)) (length w.numbers.arrays) next.scalars first
+      givens more.scalars (omega arith)
+      (given_is sight w start next stands formals actuals first more.scalars served.actuals_are
+      (omega (arith, many))))
+      (record { scalars = omega (arith, room.scalars) }) store after l
+      (subst (λ (hs : List Handed). IsVisitedCall setup (called hs)) same
+      (served.visited vs store (are.as_many
+      ∙ sym (meant_length exprs)
+      ∙ ap (λ es. length es) (value_meant sight w start formals actuals))))))))

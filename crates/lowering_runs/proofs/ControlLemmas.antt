@@ -1,9 +1,8 @@
 -- Sequences, choices and loops of statements.
-use Rattle.std.proofs.Common.{◌≡◌, ℕ, zero, suc, ◌+◌, ◌*◌, ◌≤◌, Bool, true, false, ℤ, List, [], ◌∷◌}
-use Rattle.std.proofs.Common.{◌++◌, refl, sym, ap, ◌∙◌, subst, arith}
-use Rattle.zpl_tree.specs.Syntax.{Expr, Stmt, Stmts, Form, Arm, Tested, Arms, Otherwise}
+use Rattle.std.proofs.Common.{◌≡◌, ℕ, ◌≤◌, Bool, true, false, []}
+use Rattle.std.proofs.Common.{sym, subst, arith}
+use Rattle.zpl_tree.specs.Syntax.{Expr, Stmts, Form, Tested}
 use Rattle.zpl_names.specs.Sites.{is_shattered}
-use Rattle.zpl_names.specs.Counts.{expr_nodes}
 use Rattle.zpl_meaning.specs.Store.{Store}
 use Rattle.zpl_meaning.specs.Context.{Place, reach_of}
 use Rattle.zpl_meaning.specs.Outcome as out
@@ -25,7 +24,7 @@ use Rattle.lowering_runs.specs.Seen.{Sight, seen_place}
 use Rattle.lowering_runs.specs.Run.{step, decide, does}
 use Rattle.lowering_runs.specs.Agrees.{Agrees}
 use Rattle.lowering_runs.specs.Scalars.{IsScalarAt}
-use Rattle.lowering_runs.specs.Stands.{Stands, HasRoom, IsLike}
+use Rattle.lowering_runs.specs.Stands.{HasRoom, IsLike}
 use Rattle.lowering_runs.specs.Goes.{World, context, lowering, Goes}
 use Rattle.lowering_runs.proofs.AgreeLemmas.{goes_agrees, weaker_agrees, jumping_agrees}
 use Rattle.lowering_runs.proofs.AgreeLemmas.{leaving_agrees, then_agrees}
@@ -111,7 +110,7 @@ module _ (world : World) where
         let more = behind next t.before in
         let inside = low.lowered_all l more body in
         let here = room_here world.tables next
-          (low.lowered_arm l next at (Tested offset test body) true (last l)) room in
+        (low.lowered_arm l next at (Tested offset test body) true (last l)) room in
         tested_agrees (Like sight w next start) (Like sight w next start) world.turns
         (mean.test_of (seen_place sight w start) test at)
         (decide world.tables world.turns t.check) 0 2 0 store
@@ -145,10 +144,10 @@ module _ (world : World) where
         let far = behind more inside in
         let other = last l far in
         let here = room_here world.tables next
-          (low.lowered_arm l next at (Tested offset test body) false (last l)) room in
+        (low.lowered_arm l next at (Tested offset test body) false (last l)) room in
         let rooms : HasRoom world.tables more
-          (joined (code.Then inside.code other.code) inside other) =
-          record { scalars = omega (arith, room.scalars) } in
+        (joined (code.Then inside.code other.code) inside other) =
+        record { scalars = omega (arith, room.scalars) } in
         let leave : Whole → Course Whole = λ state. code.jumping (code.goes_on state) in
         tested_agrees (Like sight w next start) (Like sight w next start) world.turns
         (mean.test_of (seen_place sight w start) test at)
@@ -194,7 +193,7 @@ module _ (world : World) where
         let more = behind next t.before in
         let inside = low.lowered_all l more body in
         let here = room_here world.tables next
-          (joined (code.While t.before.code t.check inside.code) t.before inside) room in
+        (joined (code.While t.before.code t.check inside.code) t.before inside) room in
         while_agrees (step world.tables world.turns) (decide world.tables world.turns)
         (Like sight w next start) (mean.test_of (seen_place sight w start) test at) t.check 0
         (omega arith) (does world.tables world.turns t.before.code)
@@ -219,7 +218,7 @@ module _ (world : World) where
         let inside = low.lowered_all l next body in
         let t = low.test_of w (behind next inside) test at in
         let here = room_here world.tables next
-          (joined (code.Repeat inside.code t.before.code t.check) inside t.before) room in
+        (joined (code.Repeat inside.code t.before.code t.check) inside t.before) room in
         repeat_agrees (step world.tables world.turns) (decide world.tables world.turns)
         (Like sight w next start) (mean.test_of (seen_place sight w start) test at) t.check 0
         (omega arith) (does world.tables world.turns t.before.code)

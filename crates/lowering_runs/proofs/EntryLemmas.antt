@@ -1,19 +1,18 @@
 -- The start of a run: global variables, declared regions, and the entry procedure.
-use Rattle.std.proofs.Common.{◌≡◌, ℕ, zero, suc, ◌+◌, ◌≤◌, ◌<◌, Bool, true, false, ℤ, pos, List, [], ◌∷◌}
-use Rattle.std.proofs.Common.{◌++◌, map, length, Option, Some, None, refl, sym, ap, ◌∙◌, subst, arith}
+use Rattle.std.proofs.Common.{◌≡◌, ℕ, zero, suc, ◌+◌, ◌≤◌, true, false, ℤ, pos, List, [], ◌∷◌}
+use Rattle.std.proofs.Common.{◌++◌, map, length, Option, None, refl, sym, ap, ◌∙◌, subst, arith}
 use Rattle.std.proofs.Common.{length-append}
 use Rattle.std.specs.Prelude.{replicate, slice_get, slice_set, slice_index_or, option_and_then, is_none}
 use Rattle.zpl_nums.specs.Integer.{IsInteger}
 use Rattle.zpl_nums.proofs.IntegerLemmas.{IsInteger-truth}
 use Rattle.zpl_nums.specs.declared.folds.Fold.{Fold}
 use Rattle.zpl_region.specs.declared.regions.Region.{Region}
-use Rattle.zpl_arrays.specs.Array.{Array}
 use Rattle.zpl_tree.specs.Syntax.{Name, Bracket, NoBracket, Bracketed, Define, VarDef, Decl, Vars, Config, Constant, Regions, Directions, Defined}
 use Rattle.zpl_binding.specs.Outcome.{Computed, value_or, outcome_of}
 use Rattle.zpl_binding.specs.Regions.{Known, no_region}
 use Rattle.zpl_binding.specs.Storages.{Border}
-use Rattle.zpl_meaning.specs.Store.{Thing, Scalar, ArrayAt, Fixed, Names, Store}
-use Rattle.zpl_meaning.specs.Variables.{Frame, empty_frame, with_name, with_names, with_variables, with_values, with_declared, with_declarations}
+use Rattle.zpl_meaning.specs.Store.{Thing, Scalar, ArrayAt, Fixed, Names}
+use Rattle.zpl_meaning.specs.Variables.{Frame, empty_frame, with_name, with_names, with_variables, with_values, with_declarations}
 use Rattle.node_form.specs.declared.tables.Tables.{Tables}
 use Rattle.node_form.specs.declared.instructions.Instr.TheVariants as instr
 use Rattle.row_runs.specs.Run.{Step, Goes}
@@ -21,12 +20,11 @@ use Rattle.row_runs.specs.Structured as code
 use Rattle.row_runs.specs.Structured.{Course, rows_do, by_step}
 use Rattle.flat_form.specs.Row as row
 use Rattle.flat_form.specs.Whole.{Whole, start_whole}
-use Rattle.flat_form.specs.Right.{is_settled}
 use Rattle.flat_form.proofs.WholeLemmas.{begin_whole}
 use Rattle.zpl_lowering.specs.Program as low
 use Rattle.lowering_runs.specs.Seen.{scalar_in, Spot, At, seen_spot, seen_names, seen_thing, numbered, place_of}
 use Rattle.lowering_runs.specs.Run.{straight, step, decide}
-use Rattle.lowering_runs.specs.Stands.{Rises, IsKnown, AreKnown, IsSound}
+use Rattle.lowering_runs.specs.Stands.{Rises, AreKnown, IsSound}
 use Rattle.lowering_runs.specs.Frames.{IsScalarShape, AreScalarLocals}
 use Rattle.lowering_runs.specs.ScalarText.{AreScalarDecls}
 use Rattle.lowering_runs.proofs.NumberLemmas.{length_set}
@@ -51,68 +49,68 @@ pub record IsGlobal (frame : Frame) : Type 0 where
 
 module _ (known : Known) (borders : List Border)
     (integers : (text : List ℕ) → IsInteger (value_or (pos 0) (outcome_of (pos 0) known.values text)))
-    where
-  name_global : (shape : Bracket) (frame : Frame) (name : Name) → IsScalarShape shape
-      → IsGlobal frame → IsGlobal (with_name known borders shape frame name)
-  name_global (Bracketed inner) frame name s h = absurd s
-  name_global NoBracket frame name s h =
-      let longer = length-append frame.store.scalars (pos 0 ∷ []) in
-      record {
-        zeros = zero_more frame.store.scalars h.zeros;
-        none = h.none;
-        known = known_both (length (frame.store.scalars ++ pos 0 ∷ [])) 0 frame.names _
-            (known_more (length frame.store.scalars) (length (frame.store.scalars ++ pos 0 ∷ [])) 0
-            frame.names (omega (arith, longer)) h.known)
-            (omega (arith, longer), tt);
-      }
+  where
+    name_global : (shape : Bracket) (frame : Frame) (name : Name) → IsScalarShape shape
+        → IsGlobal frame → IsGlobal (with_name known borders shape frame name)
+    name_global (Bracketed inner) frame name s h = absurd s
+    name_global NoBracket frame name s h =
+        let longer = length-append frame.store.scalars (pos 0 ∷ []) in
+        record {
+          zeros = zero_more frame.store.scalars h.zeros;
+          none = h.none;
+          known = known_both (length (frame.store.scalars ++ pos 0 ∷ [])) 0 frame.names _
+              (known_more (length frame.store.scalars) (length (frame.store.scalars ++ pos 0 ∷ [])) 0
+              frame.names (omega (arith, longer)) h.known)
+              (omega (arith, longer), tt);
+        }
 
-  names_global : (shape : Bracket) (names : List Name) (frame : Frame) → IsScalarShape shape
-      → IsGlobal frame → IsGlobal (with_names known borders shape frame names)
-  names_global shape [] frame s h = h
-  names_global shape (name ∷ names) frame s h =
-      names_global shape names (with_name known borders shape frame name) s
-      (name_global shape frame name s h)
+    names_global : (shape : Bracket) (names : List Name) (frame : Frame) → IsScalarShape shape
+        → IsGlobal frame → IsGlobal (with_names known borders shape frame names)
+    names_global shape [] frame s h = h
+    names_global shape (name ∷ names) frame s h =
+        names_global shape names (with_name known borders shape frame name) s
+        (name_global shape frame name s h)
 
-  variables_global : (vars : List VarDef) (frame : Frame) → AreScalarLocals vars → IsGlobal frame
-      → IsGlobal (with_variables known borders frame vars)
-  variables_global [] frame s h = h
-  variables_global (var ∷ vars) frame s h =
-      variables_global vars (with_names known borders var.shape frame var.names) s.1
-      (names_global var.shape var.names frame s.0 h)
+    variables_global : (vars : List VarDef) (frame : Frame) → AreScalarLocals vars → IsGlobal frame
+        → IsGlobal (with_variables known borders frame vars)
+    variables_global [] frame s h = h
+    variables_global (var ∷ vars) frame s h =
+        variables_global vars (with_names known borders var.shape frame var.names) s.1
+        (names_global var.shape var.names frame s.0 h)
 
-  values_global : (defines : List Define) (frame : Frame) → IsGlobal frame
-      → IsGlobal (with_values known frame defines)
-  values_global [] frame h = h
-  values_global (define ∷ defines) frame h =
-      let value = value_or (pos 0) (outcome_of (pos 0) known.values define.name.text) in
-      values_global defines
-      (record frame { names = frame.names ++ (define.name.text, Fixed value) ∷ [] })
-      (record {
-        zeros = h.zeros;
-        none = h.none;
-        known = known_both (length frame.store.scalars) 0 frame.names _ h.known
-            (integers define.name.text, tt);
-      })
+    values_global : (defines : List Define) (frame : Frame) → IsGlobal frame
+        → IsGlobal (with_values known frame defines)
+    values_global [] frame h = h
+    values_global (define ∷ defines) frame h =
+        let value = value_or (pos 0) (outcome_of (pos 0) known.values define.name.text) in
+        values_global defines
+        (record frame { names = frame.names ++ (define.name.text, Fixed value) ∷ [] })
+        (record {
+          zeros = h.zeros;
+          none = h.none;
+          known = known_both (length frame.store.scalars) 0 frame.names _ h.known
+              (integers define.name.text, tt);
+        })
 
-  pub declarations_global : (decls : List Decl) (frame : Frame) → AreScalarDecls decls
-      → IsGlobal frame → IsGlobal (with_declarations known borders frame decls)
-  declarations_global [] frame s h = h
-  declarations_global (Vars vars ∷ decls) frame s h =
-      declarations_global decls (with_variables known borders frame vars) s.1
-      (variables_global vars frame s.0 h)
-  declarations_global (Config configs ∷ decls) frame s h =
-      declarations_global decls (with_values known frame configs) s (values_global configs frame h)
-  declarations_global (Constant constants ∷ decls) frame s h =
-      declarations_global decls (with_values known frame constants) s
-      (values_global constants frame h)
-  declarations_global (Regions regions ∷ decls) frame s h = declarations_global decls frame s h
-  declarations_global (Directions directions ∷ decls) frame s h = declarations_global decls frame s h
-  declarations_global (Defined procedure ∷ decls) frame s h = declarations_global decls frame s h
+    pub declarations_global : (decls : List Decl) (frame : Frame) → AreScalarDecls decls
+        → IsGlobal frame → IsGlobal (with_declarations known borders frame decls)
+    declarations_global [] frame s h = h
+    declarations_global (Vars vars ∷ decls) frame s h =
+        declarations_global decls (with_variables known borders frame vars) s.1
+        (variables_global vars frame s.0 h)
+    declarations_global (Config configs ∷ decls) frame s h =
+        declarations_global decls (with_values known frame configs) s (values_global configs frame h)
+    declarations_global (Constant constants ∷ decls) frame s h =
+        declarations_global decls (with_values known frame constants) s
+        (values_global constants frame h)
+    declarations_global (Regions regions ∷ decls) frame s h = declarations_global decls frame s h
+    declarations_global (Directions directions ∷ decls) frame s h = declarations_global decls frame s h
+    declarations_global (Defined procedure ∷ decls) frame s h = declarations_global decls frame s h
 
-  pub first_global : (decls : List Decl) → AreScalarDecls decls
-      → IsGlobal (with_declarations known borders empty_frame decls)
-  first_global decls s =
-      declarations_global decls empty_frame s (record { zeros = tt; none = refl; known = tt })
+    pub first_global : (decls : List Decl) → AreScalarDecls decls
+        → IsGlobal (with_declarations known borders empty_frame decls)
+    first_global decls s =
+        declarations_global decls empty_frame s (record { zeros = tt; none = refl; known = tt })
 
 -- ---- their spots
 
@@ -225,7 +223,7 @@ module _ (tables : Tables) (n : ℕ) where
   regions_fixed slot (one ∷ rest) whole sound =
       let region = value_or no_region one.outcome in
       let r = regions_fixed (suc slot) rest (fixed whole slot region)
-        (fixed_sound whole sound slot region) in
+      (fixed_sound whole sound slot region) in
       record {
         after = r.after;
         course =

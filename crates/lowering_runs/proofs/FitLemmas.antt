@@ -1,6 +1,6 @@
 -- What holds where a statement stands holds behind what comes before it.
-use Rattle.std.proofs.Common.{◌≡◌, ◌≢◌, ℕ, zero, suc, ◌+◌, ◌≤◌, ◌<◌, ℤ, pos, List, [], ◌∷◌, ◌++◌, map}
-use Rattle.std.proofs.Common.{length, Option, Some, None, refl, sym, ap, ◌∙◌, subst, arith}
+use Rattle.std.proofs.Common.{◌≡◌, ℕ, ◌≤◌, ◌<◌, List}
+use Rattle.std.proofs.Common.{Option, Some, None, refl, sym, ap, ◌∙◌, subst, arith}
 use Rattle.std.specs.Option.{option_map}
 use Rattle.zpl_region.specs.declared.regions.Region.{Region}
 use Rattle.zpl_meaning.specs.Store.{Store}
@@ -8,12 +8,11 @@ use Rattle.zpl_meaning.specs.Context.{Over, Currents, Edge, Place}
 use Rattle.zpl_meaning.specs.Outcome.{Outcome}
 use Rattle.zpl_meaning.specs.Statement.{Context}
 use Rattle.node_form.specs.declared.tables.Tables.{Tables}
-use Rattle.row_runs.specs.Structured.{Course}
 use Rattle.flat_form.specs.Whole.{Whole}
 use Rattle.zpl_lowering.specs.Where.{Slotted, SlotCurrents, SlotEdge, Where, Next}
 use Rattle.zpl_lowering.specs.Lowered.{Lowered, behind}
 use Rattle.zpl_lowering.specs.Statement.{Lowering}
-use Rattle.lowering_runs.specs.Seen.{scalar_in, slot_in, Spot, Sight, numbered, seen_over, seen_currents, seen_edge, seen_place}
+use Rattle.lowering_runs.specs.Seen.{slot_in, Spot, Sight, numbered, seen_over, seen_currents, seen_edge, seen_place}
 use Rattle.lowering_runs.specs.Run.{does}
 use Rattle.lowering_runs.specs.Agrees.{Agrees}
 use Rattle.lowering_runs.specs.Stands.{IsBefore, IsTaken, IsTakenEdge, AreTaken, Stands, HasRoom, Keeps, IsLike}
@@ -69,7 +68,9 @@ module _ (before after : Whole) (slots : ℕ)
       ap (λ (o : Option Over). record (seen_currents after currents) { one = o })
       (over_kept currents.one h.one)
       ∙ ap (λ (o : Option Over). record (seen_currents after currents) {
-        one = option_map (seen_over before) currents.one; two = o }) (over_kept currents.two h.two)
+        one = option_map (seen_over before) currents.one;
+        two = o;
+      }) (over_kept currents.two h.two)
       ∙ ap (λ (o : Option Over). record (seen_currents before currents) { three = o })
       (over_kept currents.three h.three)
 
@@ -112,14 +113,17 @@ module _ (tables : Tables) (spots : List Spot) (w : Where) where
   pub like_anew : (next more : Next) (start : Whole) (store : Store) (now : Whole)
       → IsLike tables spots w next start store now → IsLike tables spots w more now store now
   like_anew next more start store now h = record {
-    seen = h.seen; sound = h.sound; kept = keeps_all (numbered spots) more now;
+    seen = h.seen;
+    sound = h.sound;
+    kept = keeps_all (numbered spots) more now;
   }
 
   pub like_then : (next more : Next) (start : Whole) (store : Store) (mid : Whole) (later : Store)
       (after : Whole) → IsBefore next more → IsLike tables spots w next start store mid
       → IsLike tables spots w more mid later after → IsLike tables spots w next start later after
   like_then next more start store mid later after b h k = record {
-    seen = k.seen; sound = k.sound;
+    seen = k.seen;
+    sound = k.sound;
     kept = keeps_then (numbered spots) next more start mid after b h.kept k.kept;
   }
 
@@ -138,7 +142,7 @@ module _ (world : World) where
   inner_goes IsServed run made spare goes sight w next more start b stands served room store mid
       like =
       let same : seen_place sight w mid ≡ seen_place sight w start =
-        place_kept start mid next.slots like.kept.slots sight w stands.taken stands.edge in
+      place_kept start mid next.slots like.kept.slots sight w stands.taken stands.edge in
       let made_of = does world.tables world.turns (made (lowering world w) more).code mid in
       subst (λ (p : Place). Agrees (IsLike world.tables sight.spots w more mid) world.turns spare
       (run (record { place = p; call = world.call }) store) made_of) same

@@ -1,8 +1,8 @@
 -- Counted loops: three scalars that are free hold the counter, the last value and the step.
-use Rattle.std.proofs.Common.{◌≡◌, ◌≢◌, ℕ, zero, suc, ◌+◌, ◌*◌, ◌≤◌, ◌<◌, Bool, true, false, not, ◌&&◌}
-use Rattle.std.proofs.Common.{◌||◌, ℤ, pos, ◌+ℤ◌, ◌-ℤ◌, ◌≤ℤ◌, List, [], ◌∷◌, ◌++◌, length, Option, Some}
-use Rattle.std.proofs.Common.{None, refl, sym, ap, ◌∙◌, subst, arith}
-use Rattle.std.specs.Prelude.{slice_get, slice_index_or, int_lt, int_le}
+use Rattle.std.proofs.Common.{◌≡◌, ◌≢◌, ℕ, suc, ◌+◌, ◌≤◌, ◌<◌, Bool, true, false, not, ◌&&◌}
+use Rattle.std.proofs.Common.{◌||◌, ℤ, pos, ◌+ℤ◌, ◌-ℤ◌, ◌≤ℤ◌, [], ◌∷◌, length, Option, Some}
+use Rattle.std.proofs.Common.{refl, sym, ap, ◌∙◌, subst, arith}
+use Rattle.std.specs.Prelude.{slice_get, int_lt, int_le}
 use Rattle.zpl_nums.specs.declared.operators.Op.{Op}
 use Rattle.zpl_nums.specs.declared.operators.Op.TheVariants as op
 use Rattle.zpl_nums.specs.Integer.{IsInteger, wrapped, is_true, truth}
@@ -15,37 +15,32 @@ use Rattle.zpl_meaning.specs.Context.{Place}
 use Rattle.zpl_meaning.specs.Outcome as out
 use Rattle.zpl_meaning.specs.Outcome.{Outcome, Count, is_past, next_value}
 use Rattle.zpl_meaning.specs.Statement.{Context}
-use Rattle.node_form.specs.declared.tables.Tables.{Tables}
-use Rattle.node_form.specs.Expression.{Expression, Constant, Variable, Operation, words_of}
+use Rattle.node_form.specs.Expression.{Expression, Variable, Operation, words_of}
 use Rattle.node_form.specs.Value as flat
 use Rattle.node_form.specs.Value.{scalar_operands, value_of, tree_value}
 use Rattle.node_form.proofs.ValueLemmas.{value_of-words_of}
 use Rattle.row_runs.specs.Run.{Step}
-use Rattle.row_runs.specs.Code.{Decision, Says}
+use Rattle.row_runs.specs.Code.{Says}
 use Rattle.row_runs.specs.Structured as code
 use Rattle.row_runs.specs.Structured.{Course, rows_do, by_step}
-use Rattle.flat_form.specs.Row as row
 use Rattle.flat_form.specs.Whole.{Whole}
-use Rattle.zpl_lowering.specs.Check.{Check}
 use Rattle.zpl_lowering.specs.Where.{Where, Next}
 use Rattle.zpl_lowering.specs.Lowered.{Lowered, check_of}
 use Rattle.zpl_lowering.specs.Statement as low
 use Rattle.zpl_lowering.specs.Statement.{Lowering, Counter, counter_from}
-use Rattle.lowering_runs.specs.Seen.{scalar_in, Spot, Sight, numbered, place_of, seen_place}
+use Rattle.lowering_runs.specs.Seen.{scalar_in, Sight, numbered, place_of, seen_place}
 use Rattle.lowering_runs.specs.Run.{step, decide, does}
 use Rattle.lowering_runs.specs.Agrees.{Agrees}
-use Rattle.lowering_runs.specs.Heads.{says_of}
 use Rattle.lowering_runs.specs.Scalars.{BothGive, IsSameValue}
 use Rattle.lowering_runs.specs.Stands.{IsBefore, Stands, HasRoom, IsLike}
 use Rattle.lowering_runs.specs.Goes.{World, context, lowering, Goes}
 use Rattle.lowering_runs.proofs.NumberLemmas.{get_some, get_set_same, get_set_other, misses_free}
 use Rattle.lowering_runs.proofs.NumberLemmas.{number_below}
-use Rattle.lowering_runs.proofs.AgreeLemmas.{goes_agrees, weaker_agrees, jumping_agrees}
 use Rattle.lowering_runs.proofs.AgreeLemmas.{trailed_agrees}
-use Rattle.lowering_runs.proofs.LoopLemmas.{over, for_agrees}
+use Rattle.lowering_runs.proofs.LoopLemmas.{for_agrees}
 use Rattle.lowering_runs.proofs.FitLemmas.{like_then, inner_goes}
 use Rattle.lowering_runs.proofs.RowLemmas.{set, set_to, set_step, check_says, like_variable, like_hidden}
-use Rattle.lowering_runs.proofs.StepLemmas.{le_not, not_below, next_up, next_down, done_up, done_down}
+use Rattle.lowering_runs.proofs.StepLemmas.{le_not, next_up, next_down, done_up, done_down}
 
 -- ---- the tests' values, by those of the three scalars
 
@@ -279,44 +274,45 @@ module _ (world : World) (sight : Sight) (w : Where) (next : Next) (start : Whol
           let was : IsInteger v = subst (λ (y : ℤ). IsInteger y) h.at (h.like.sound.integers c) in
           let k1 : k < world.tables.scalars = omega (arith, below, free, fits) in
           let first = like_variable world.tables world.turns sight.spots w next start store now
-            h.like stands.rises v was p k found k1 in
+          h.like stands.rises v was p k found k1 in
           let far = like_then world.tables sight.spots w next more start
-            (set_variable v store) (at_first now v) s after before first l in
+          (set_variable v store) (at_first now v) s after before first l in
           let keep = frame v store now h s after l in
           let here : scalar_in after c ≡ v = keep c (omega arith) (omega arith) ∙ h.at in
           let to : scalar_in after (suc c) ≡ last =
-            keep (suc c) (omega arith) (omega arith) ∙ h.to in
+          keep (suc c) (omega arith) (omega arith) ∙ h.to in
           let gap : scalar_in after (suc (suc c)) ≡ by =
-            keep (suc (suc c)) (omega arith) (omega arith) ∙ h.step_by in
+          keep (suc (suc c)) (omega arith) (omega arith) ∙ h.step_by in
           let lt : c < world.tables.scalars = omega (arith, fits) in
           let within_after : c < length after.scalars = inside s after far c (omega arith) in
           let value : value_of (scalar_operands after.scalars)
-            (words_of (Operation (low.onward down) (Variable c) (Variable (suc (suc c)))))
-            ≡ flat.Gives x =
-            value_of-words_of (scalar_operands after.scalars)
-            (Operation (low.onward down) (Variable c) (Variable (suc (suc c))))
-            ∙ ap (λ (a : flat.Computed ℤ). pair (low.onward down) a
-            (tree_value (scalar_operands after.scalars) (Variable (suc (suc c)))))
-            (held after c v within_after here)
-            ∙ ap (λ (b : flat.Computed ℤ). pair (low.onward down) (flat.Gives v) b)
-            (held after (suc (suc c)) by (inside s after far (suc (suc c)) (omega arith)) gap)
-            ∙ step_is down v by in
-          (ap (λ (o : Step Whole). by_step after o (λ w'. code.goes_on w'))
-          (set_step world.tables world.turns after far.sound.settled c line
-          (words_of (Operation (low.onward down) (Variable c) (Variable (suc (suc c))))))
-          ∙ ap (λ (y : flat.Computed ℤ). by_step after
-          (set_to world.tables world.turns after c line y) (λ w'. code.goes_on w')) value,
-          record {
-            turn = record {
-              like = like_hidden world.tables world.turns sight.spots w next start s after far
-                  stands.rises x (IsInteger-wrapped (moved down v by)) c free lt;
-              at = get_set_same after.scalars c x within_after;
-              to = get_set_other after.scalars c (suc c) x (λ e. absurd (omega (arith, e))) ∙ to;
-              step_by = get_set_other after.scalars c (suc (suc c)) x
-                  (λ e. absurd (omega (arith, e))) ∙ gap;
-            };
-            was = was;
-          })
+          (words_of (Operation (low.onward down) (Variable c) (Variable (suc (suc c)))))
+          ≡ flat.Gives x =
+          value_of-words_of (scalar_operands after.scalars)
+          (Operation (low.onward down) (Variable c) (Variable (suc (suc c))))
+          ∙ ap (λ (a : flat.Computed ℤ). pair (low.onward down) a
+          (tree_value (scalar_operands after.scalars) (Variable (suc (suc c)))))
+          (held after c v within_after here)
+          ∙ ap (λ (b : flat.Computed ℤ). pair (low.onward down) (flat.Gives v) b)
+          (held after (suc (suc c)) by (inside s after far (suc (suc c)) (omega arith)) gap)
+          ∙ step_is down v by in (
+            ap (λ (o : Step Whole). by_step after o (λ w'. code.goes_on w'))
+                (set_step world.tables world.turns after far.sound.settled c line
+                (words_of (Operation (low.onward down) (Variable c) (Variable (suc (suc c))))))
+                ∙ ap (λ (y : flat.Computed ℤ). by_step after
+                (set_to world.tables world.turns after c line y) (λ w'. code.goes_on w')) value,
+            record {
+              turn = record {
+                like = like_hidden world.tables world.turns sight.spots w next start s after far
+                    stands.rises x (IsInteger-wrapped (moved down v by)) c free lt;
+                at = get_set_same after.scalars c x within_after;
+                to = get_set_other after.scalars c (suc c) x (λ e. absurd (omega (arith, e))) ∙ to;
+                step_by = get_set_other after.scalars c (suc (suc c)) x
+                    (λ e. absurd (omega (arith, e))) ∙ gap;
+              };
+              was = was;
+            },
+          )
 
       turn_agrees : (v : ℤ) (store : Store) (now : Whole) → AtTurn v store now
           → Agrees (AtPast v) world.turns 0
@@ -325,7 +321,7 @@ module _ (world : World) (sight : Sight) (w : Where) (next : Next) (start : Whol
           let was : IsInteger v = subst (λ (y : ℤ). IsInteger y) h.at (h.like.sound.integers c) in
           let k1 : k < world.tables.scalars = omega (arith, below, free, fits) in
           let first = like_variable world.tables world.turns sight.spots w next start store now
-            h.like stands.rises v was p k found k1 in
+          h.like stands.rises v was p k found k1 in
           subst (λ (o : Course Whole). Agrees (AtPast v) world.turns 0
           (run (context world sight w start) (set_variable v store))
           (code.then_do (code.then_do o body) step_rows)) (sym (variable_set v store now h))

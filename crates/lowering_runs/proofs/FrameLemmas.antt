@@ -1,37 +1,20 @@
 -- Parameters and local variables: the frame that a procedure has is what is seen of the state.
-use Rattle.std.proofs.Common.{◌≡◌, ◌≢◌, ℕ, zero, suc, ◌+◌, ◌≤◌, ◌<◌, Bool, true, false, ℤ, pos, List, []}
-use Rattle.std.proofs.Common.{◌∷◌, ◌++◌, map, length, take, Option, Some, None, refl, sym, ap, ◌∙◌, subst}
+use Rattle.std.proofs.Common.{◌≡◌, ℕ, zero, suc, ◌≤◌, ◌<◌, ℤ, List, []}
+use Rattle.std.proofs.Common.{◌∷◌, ◌++◌, map, length, take, refl, sym, ap, ◌∙◌, subst}
 use Rattle.std.proofs.Common.{arith, append_assoc, append-nil, length-append}
 use Rattle.std.proofs.lemmas.List.{length-map}
-use Rattle.zpl_nums.proofs.IntegerLemmas.{IsInteger-truth}
-use Rattle.zpl_region.specs.declared.regions.Region.{Region}
 use Rattle.zpl_arrays.specs.Array.{Array}
-use Rattle.zpl_tree.specs.Syntax.{Name, Inner, Bracket, NoBracket, Bracketed, VarDef}
-use Rattle.zpl_names.specs.Expansion.{FormalName}
-use Rattle.zpl_meaning.specs.Store.{Thing, Scalar, ArrayAt, Fixed, Names, Store, cut_back}
-use Rattle.zpl_meaning.specs.Context.{Setup}
-use Rattle.zpl_meaning.specs.Outcome.{Outcome}
-use Rattle.zpl_meaning.specs.Variables.{Frame, with_scalar_named, with_name, with_names, with_variables, with_new_scalar}
-use Rattle.zpl_meaning.specs.Calls.{with_handed, with_formals}
-use Rattle.node_form.specs.Expression.{Constant, words_of}
-use Rattle.node_form.specs.Value as flat
-use Rattle.node_form.specs.declared.tables.Tables.{Tables}
-use Rattle.row_runs.specs.Run.{Step}
-use Rattle.row_runs.specs.Structured as code
-use Rattle.row_runs.specs.Structured.{Course, by_step}
+use Rattle.zpl_tree.specs.Syntax.{Name}
+use Rattle.zpl_meaning.specs.Store.{Thing, Scalar, ArrayAt, Fixed, Names, cut_back}
+use Rattle.zpl_meaning.specs.Variables.{with_scalar_named, with_new_scalar}
 use Rattle.flat_form.specs.Whole.{Whole}
-use Rattle.zpl_lowering.specs.Where.{Stored, Next}
-use Rattle.zpl_lowering.specs.Lowered.{Lowered, behind, rows_alone}
-use Rattle.zpl_lowering.specs.Statement.{Given, Valued, Copied, Referring}
+use Rattle.zpl_lowering.specs.Where.{Stored}
 use Rattle.zpl_lowering.specs.Program as low
 use Rattle.zpl_lowering.specs.Program.{Framed, Entry}
 use Rattle.lowering_runs.specs.Seen.{scalar_in, array_in, Spot, At, Answer, seen_spot, seen_store, numbered, place_of, seen_thing, seen_names}
-use Rattle.lowering_runs.specs.Run.{step, decide, does}
-use Rattle.lowering_runs.specs.Agrees.{Agrees}
-use Rattle.lowering_runs.specs.Stands.{Rises, Misses, IsBefore, IsKnown, AreKnown, HasRoom, IsSound, Keeps}
-use Rattle.lowering_runs.specs.Frames.{seen_frame, seen_given, AreAbove, Framing, AreGiven, IsScalarShape, AreScalarLocals, IsFresh}
-use Rattle.lowering_runs.proofs.NumberLemmas.{rises_on, rises_with, same_spots, get_set_same, get_set_other}
-use Rattle.lowering_runs.proofs.RowLemmas.{set, set_to, set_step, set_sound}
+use Rattle.lowering_runs.specs.Stands.{Rises, Misses, IsKnown, AreKnown}
+use Rattle.lowering_runs.specs.Frames.{seen_frame, AreAbove, Framing}
+use Rattle.lowering_runs.proofs.NumberLemmas.{rises_on, rises_with}
 
 -- ---- lists of spots
 
@@ -128,9 +111,9 @@ pub framing_with : (base : List Spot) (bottom : ℕ) (arrays : List Stored) (fra
     → Framing base bottom arrays (low.with_scalar framed name k) (spots ++ At k ∷ []) (suc k)
 framing_with base bottom arrays framed spots bound k name le l h =
     let numbers : numbered (spots ++ At k ∷ []) ≡ numbered spots ++ k ∷ [] =
-      numbered_append spots (At k ∷ []) in
+    numbered_append spots (At k ∷ []) in
     let longer : length (numbered spots) < length (numbered (spots ++ At k ∷ [])) =
-      omega (arith, ap length numbers ∙ length-append (numbered spots) (k ∷ [])) in
+    omega (arith, ap length numbers ∙ length-append (numbered spots) (k ∷ [])) in
     record {
       more = h.more ++ At k ∷ [];
       is = ap (λ (xs : List Spot). xs ++ At k ∷ []) h.is ∙ append_assoc base h.more (At k ∷ []);
@@ -158,14 +141,18 @@ pub scalar_frame : (spots : List Spot) (framed : Framed) (arrays k : ℕ) (name 
     ≡ seen_frame (spots ++ At k ∷ []) (low.with_scalar framed name k) after
 scalar_frame spots framed arrays k name value now after known numbers same here stores =
     ap (λ (names : Names). record {
-      names = names; store = with_new_scalar (seen_store spots framed.numbers.arrays now) value })
+      names = names;
+      store = with_new_scalar (seen_store spots framed.numbers.arrays now) value;
+    })
     names_are
     ∙ ap (λ (xs : List ℤ). record {
       names = seen_names (spots ++ At k ∷ []) (low.with_scalar framed name k).names;
-      store = record (seen_store spots framed.numbers.arrays now) { scalars = xs } }) scalars_are
+      store = record (seen_store spots framed.numbers.arrays now) { scalars = xs };
+    }) scalars_are
     ∙ ap (λ (xs : List Array). record {
       names = seen_names (spots ++ At k ∷ []) (low.with_scalar framed name k).names;
-      store = record (seen_store (spots ++ At k ∷ []) framed.numbers.arrays after) { arrays = xs } })
+      store = record (seen_store (spots ++ At k ∷ []) framed.numbers.arrays after) { arrays = xs };
+    })
     (sym stores)
   where
     place_is : place_of (spots ++ At k ∷ []) (length framed.numbers.scalars)

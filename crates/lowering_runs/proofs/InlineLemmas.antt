@@ -1,23 +1,21 @@
 -- The rows of programs of scalars are rows seen inline, which are read again from the tables.
-use Rattle.std.proofs.Common.{◌≡◌, ℕ, zero, suc, ◌+◌, Bool, true, false, ℤ, pos, List, [], ◌∷◌, ◌++◌, map}
+use Rattle.std.proofs.Common.{◌≡◌, ℕ, zero, suc, ◌+◌, Bool, true, false, List, [], ◌∷◌, ◌++◌, map}
 use Rattle.std.proofs.Common.{length, Option, Some, None, refl, sym, ap, ◌∙◌, subst}
 use Rattle.std.specs.Prelude.{slice_get}
-use Rattle.zpl_nums.specs.declared.operators.Op.{Op}
 use Rattle.zpl_region.specs.declared.regions.Region.{Region}
-use Rattle.zpl_tree.specs.Syntax.{Name, Expr, Number, Truth, Coord, Named, Shifted, Around, Remap, Call, Paren, Neg, Not, Abs, Pair, Reduce, Scan, Flood, Exprs, NoExpr, ThenExpr, Bracket, NoBracket, Bracketed, VarDef, Item, Str, Value, Stmt, Prefixed, Stmts, NoStmt, ThenStmt, Form, Assign, Invoke, Block, If, While, Repeat, For, Border, Write, Return, Arm, Tested, Arms, NoArm, ThenArm, Otherwise, NoElse, Else}
+use Rattle.zpl_tree.specs.Syntax.{Name, Expr, Number, Truth, Coord, Named, Shifted, Around, Remap, Call, Paren, Neg, Not, Abs, Pair, Reduce, Scan, Flood, Exprs, NoExpr, ThenExpr, Bracket, NoBracket, Bracketed, VarDef, Item, Str, Value, Stmt, Prefixed, Stmts, NoStmt, ThenStmt, Form, Assign, Invoke, Block, If, While, Repeat, For, Border, Write, Return, Tested, Arms, NoArm, ThenArm, Otherwise, NoElse, Else}
 use Rattle.zpl_names.specs.Kinds.{Rank, Formal, ScalarFormal, ArrayFormal}
 use Rattle.zpl_names.specs.Scope.{kind_of}
 use Rattle.zpl_names.specs.Sites.{Role, Assigned, Printed, Test as TestRole, Reach, is_shattered}
 use Rattle.zpl_names.specs.Types.{type_of}
-use Rattle.zpl_names.specs.Declared.{Routine, routine_named}
+use Rattle.zpl_names.specs.Declared.{Routine}
 use Rattle.zpl_names.specs.Expansion.{FormalName, formal_names}
 use Rattle.zpl_meaning.specs.Store.{Thing, Scalar, ArrayAt, Fixed, thing_of}
 use Rattle.zpl_meaning.specs.Context.{Setup}
 use Rattle.zpl_meaning.specs.Calls.{formals_in}
 use Rattle.zpl_meaning.specs.Points.{assigned_expr}
-use Rattle.zpl_meaning.specs.Statement.{step_expr, arms_at}
+use Rattle.zpl_meaning.specs.Statement.{arms_at}
 use Rattle.zpl_binding.specs.Outcome.{Computed}
-use Rattle.node_form.specs.declared.instructions.Instr.TheVariants as instr
 use Rattle.node_form.specs.Expression as low_expr
 use Rattle.node_form.specs.Expression.{Expression}
 use Rattle.row_runs.specs.Straight.{Every}
@@ -80,23 +78,29 @@ flat_inline at (Then first rest) h =
     flat_append (flattened at first) (flattened (at + size first) rest) (flat_inline at first h.0)
     (flat_inline (at + size first) rest h.1)
 flat_inline at (When test body) h = (tt, flat_inline (at + 1) body h)
-flat_inline at (Choose test one other) h =
-    (tt, flat_append (flattened (at + 1) one)
-    (Jump (at + size one + size other + 2) ∷ flattened (at + size one + 2) other)
-    (flat_inline (at + 1) one h.0) (tt, flat_inline (at + size one + 2) other h.1))
+flat_inline at (Choose test one other) h = (
+  tt,
+  flat_append (flattened (at + 1) one)
+      (Jump (at + size one + size other + 2) ∷ flattened (at + size one + 2) other)
+      (flat_inline (at + 1) one h.0) (tt, flat_inline (at + size one + 2) other h.1),
+)
 flat_inline at (piece.While head test body) h =
     flat_append (flattened at head)
     (Unless test (at + size head + size body + 2)
     ∷ (flattened (at + size head + 1) body ++ Jump at ∷ []))
-    (flat_inline at head h.0)
-    (tt, flat_append (flattened (at + size head + 1) body) (Jump at ∷ [])
-    (flat_inline (at + size head + 1) body h.1) (tt, tt))
-flat_inline at (piece.Repeat body head test) h =
-    (tt, flat_append (flattened (at + 1) body)
-    (flattened (at + size body + 1) head ++ Unless test (at + 1) ∷ [])
-    (flat_inline (at + 1) body h.0)
-    (flat_append (flattened (at + size body + 1) head) (Unless test (at + 1) ∷ [])
-    (flat_inline (at + size body + 1) head h.1) (tt, tt)))
+    (flat_inline at head h.0) (
+      tt,
+      flat_append (flattened (at + size head + 1) body) (Jump at ∷ [])
+          (flat_inline (at + size head + 1) body h.1) (tt, tt),
+    )
+flat_inline at (piece.Repeat body head test) h = (
+  tt,
+  flat_append (flattened (at + 1) body)
+      (flattened (at + size body + 1) head ++ Unless test (at + 1) ∷ [])
+      (flat_inline (at + 1) body h.0)
+      (flat_append (flattened (at + size body + 1) head) (Unless test (at + 1) ∷ [])
+      (flat_inline (at + size body + 1) head h.1) (tt, tt)),
+)
 
 -- ---- phases
 
@@ -196,12 +200,13 @@ phases_inline : (w : Where) (line : ℕ) (next : Next) (own last : List Referenc
 phases_inline w line next own last exprs h =
     let all = settled_each w line next exprs in
     let p = all_plain w line next exprs h in
-    let refs = own ++ (reference.all_referred w.numbers all.slate ++ last) in
-    (subst (λ (rows : List Row). Every IsInline (rows ++ (all_conforming line all.slate ++ needs line refs)))
-    (sym p.rows)
-    (subst (λ (rows : List Row). Every IsInline (rows ++ needs line refs)) (sym p.conforms)
-    (needs_inline line (each_once refs))),
-    p.code (low_code.free_at next 0))
+    let refs = own ++ (reference.all_referred w.numbers all.slate ++ last) in (
+      subst (λ (rows : List Row). Every IsInline (rows ++ (all_conforming line all.slate ++ needs line refs)))
+          (sym p.rows)
+          (subst (λ (rows : List Row). Every IsInline (rows ++ needs line refs)) (sym p.conforms)
+          (needs_inline line (each_once refs))),
+      p.code (low_code.free_at next 0),
+    )
 
 -- ---- statements
 
@@ -224,19 +229,21 @@ to_inline : (w : Where) (role : Role) (line : ℕ) (next : Next) (value : Expr)
     (thing : Option Thing) → IsScalarExpr value
     → Inline (low.lowered_to w role line next value thing).code
 to_inline w role line next value (Some (Scalar target)) h =
-    let placed = low.placed_in w role value in
-    (phases_inline w line next [] [] (placed ∷ []) (h, tt),
-    set_inline line (low_code.first_left (phased w line next (placed ∷ [])).left)
-    (slice_get w.numbers.scalars target))
+    let placed = low.placed_in w role value in (
+      phases_inline w line next [] [] (placed ∷ []) (h, tt),
+      set_inline line (low_code.first_left (phased w line next (placed ∷ [])).left)
+          (slice_get w.numbers.scalars target),
+    )
 to_inline w role line next value (Some (ArrayAt target home)) h =
     let over = slotted_at w.currents (rank_for w role) in
     let placed = low.placed_in w role value in
     let stored = slice_get w.numbers.arrays target in
     let own = refer_to over.slot [] stored in
-    let last = over_reference w.numbers over in
-    (phases_inline w line next own last (placed ∷ []) (h, tt),
-    put_inline w line over
-    (low_code.first_left (phased_with w line next own last (placed ∷ [])).left) stored)
+    let last = over_reference w.numbers over in (
+      phases_inline w line next own last (placed ∷ []) (h, tt),
+      put_inline w line over
+          (low_code.first_left (phased_with w line next own last (placed ∷ [])).left) stored,
+    )
 to_inline w role line next value (Some (Fixed number)) h = tt
 to_inline w role line next value None h = tt
 
@@ -292,9 +299,10 @@ items_inline w line scalar temp ends (Value expr ∷ items) (first ∷ left) =
     let rank = rank_in w Printed expr in
     let over = slotted_at w.currents rank in
     let shown = low.shown_at line truth scalar temp over rank first in
-    let r = items_inline w line (scalar + shown.scalars) (temp + length shown.temps) ends items left in
-    (every_append shown.values _ (shown_values line truth scalar temp over rank first) r.0,
-    (shown_print line truth scalar temp over rank first, r.1))
+    let r = items_inline w line (scalar + shown.scalars) (temp + length shown.temps) ends items left in (
+      every_append shown.values _ (shown_values line truth scalar temp over rank first) r.0,
+      (shown_print line truth scalar temp over rank first, r.1),
+    )
 
 choice_inline : (b : Bool) (one other : Lowered) → b ≡ false → Inline other.code
     → Inline (low.choose_code b one other).code
@@ -314,9 +322,10 @@ module _ (IsCallable : List ℕ → Type 0) (call : Calling → Next → Lowered
 
   with_values_inline : (w : Where) (line : ℕ) (next : Next) (exprs : List Placed) → AllScalar exprs
       → (scalar : ℕ) → Inline (low.with_values line scalar (phased w line next exprs)).code
-  with_values_inline w line next exprs h scalar =
-      (phases_inline w line next [] [] exprs h,
-      values_inline line scalar (phased w line next exprs).left)
+  with_values_inline w line next exprs h scalar = (
+    phases_inline w line next [] [] exprs h,
+    values_inline line scalar (phased w line next exprs).left,
+  )
 
   mutual
     pub stmt_inline : (stmt : Stmt) (w : Where) (next : Next)
@@ -329,9 +338,10 @@ module _ (IsCallable : List ℕ → Type 0) (call : Calling → Next → Lowered
         → AreScalarStmts IsCallable (reach_of w) stmts
         → Inline (low.lowered_all (at_place w) next stmts).code
     all_inline NoStmt w next h = tt
-    all_inline (ThenStmt first rest) w next h =
-        (stmt_inline first w next h.0,
-        all_inline rest w (behind next (low.lowered (at_place w) next first)) h.1)
+    all_inline (ThenStmt first rest) w next h = (
+      stmt_inline first w next h.0,
+      all_inline rest w (behind next (low.lowered (at_place w) next first)) h.1,
+    )
 
     form_inline : (form : Form) (w : Where) (next : Next) (at : ℕ)
         → IsScalarForm IsCallable (reach_of w) form
@@ -346,12 +356,17 @@ module _ (IsCallable : List ℕ → Type 0) (call : Calling → Next → Lowered
         let formals = formals_in (kind_of w.scope name) in
         let exprs = low.value_exprs w formals actuals in
         let scalar = next.scalars + (phased w line next exprs).lowered.scalars in
-        let own = low.with_values line scalar (phased w line next exprs) in
-        (with_values_inline w line next exprs (actuals_scalar w formals actuals h.0) scalar,
-        calls (record {
-          name = name.text; actuals = low.given_to w scalar formals actuals;
-          currents = w.currents; result = 0; numbers = w.numbers; line = line;
-        }) (behind next own) h.1)
+        let own = low.with_values line scalar (phased w line next exprs) in (
+          with_values_inline w line next exprs (actuals_scalar w formals actuals h.0) scalar,
+          calls (record {
+            name = name.text;
+            actuals = low.given_to w scalar formals actuals;
+            currents = w.currents;
+            result = 0;
+            numbers = w.numbers;
+            line = line;
+          }) (behind next own) h.1,
+        )
     form_inline (Block body) w next at h = all_inline body w next h
     form_inline (If arms otherwise) w next at h =
         choice_inline (is_shattered (reach_of w) (If arms otherwise))
@@ -364,16 +379,18 @@ module _ (IsCallable : List ℕ → Type 0) (call : Calling → Next → Lowered
         choice_inline (is_shattered (reach_of w) (While test body))
         (low.shattered w (line_of w at) next (While test body))
         (low.while_code next (low.test_of w next test at)
-        (λ after. low.lowered_all (at_place w) after body)) h.0
-        (test_inline w next test at h.1,
-        all_inline body w (behind next (low.test_of w next test at).before) h.2)
+        (λ after. low.lowered_all (at_place w) after body)) h.0 (
+          test_inline w next test at h.1,
+          all_inline body w (behind next (low.test_of w next test at).before) h.2,
+        )
     form_inline (Repeat body until test) w next at h =
         choice_inline (is_shattered (reach_of w) (Repeat body until test))
         (low.shattered w (line_of w at) next (Repeat body until test))
         (low.repeat_code next (low.lowered_all (at_place w) next body)
-        (λ after. low.test_of w after test until)) h.0
-        (all_inline body w next h.2,
-        test_inline w (behind next (low.lowered_all (at_place w) next body)) test until h.1)
+        (λ after. low.test_of w after test until)) h.0 (
+          all_inline body w next h.2,
+          test_inline w (behind next (low.lowered_all (at_place w) next body)) test until h.1,
+        )
     form_inline (For head body) w next at h =
         let line = line_of w at in
         let exprs = low.head_exprs w head in
@@ -381,18 +398,29 @@ module _ (IsCallable : List ℕ → Type 0) (call : Calling → Next → Lowered
         let own = low.with_values line scalar (phased w line next exprs) in
         let after = behind next own in
         let target = low.scalar_of w.numbers (thing_of w.environment head.name.text) in
-        let set_row = low.set_row line (low_expr.Variable scalar) target in
-        (with_values_inline w line next exprs (h.0, (h.1, (h.2, tt))) scalar,
-        (((set_inline line (low_expr.Variable scalar) target,
-        all_inline body w (behind after (low_code.rows_alone set_row)) h.3), (tt, tt)), tt))
+        let set_row = low.set_row line (low_expr.Variable scalar) target in (
+          with_values_inline w line next exprs (h.0, (h.1, (h.2, tt))) scalar,
+          (
+            (
+              (
+                set_inline line (low_expr.Variable scalar) target,
+                all_inline body w (behind after (low_code.rows_alone set_row)) h.3,
+              ),
+              (tt, tt),
+            ),
+            tt,
+          ),
+        )
     form_inline (Border kind names) w next at h = absurd h
     form_inline (Write ends items) w next at h =
         let line = line_of w at in
         let phases = phased w line next (low.printed_exprs w items) in
         let r = items_inline w line (next.scalars + phases.lowered.scalars)
-          (next.temps + length phases.lowered.temps) ends items phases.left in
-        (phases_inline w line next [] [] (low.printed_exprs w items)
-        (printed_scalar w (reach_of w) items h), every_append _ _ r.0 r.1)
+        (next.temps + length phases.lowered.temps) ends items phases.left in (
+          phases_inline w line next [] [] (low.printed_exprs w items)
+              (printed_scalar w (reach_of w) items h),
+          every_append _ _ r.0 r.1,
+        )
     form_inline (Return value) w next at h = absurd h
 
     arms_inline : (arms : Arms) (w : Where) (next : Next) (at : ℕ) (otherwise : Otherwise)
@@ -401,20 +429,27 @@ module _ (IsCallable : List ℕ → Type 0) (call : Calling → Next → Lowered
         → Inline (low.lowered_arms (at_place w) next at arms otherwise
         (λ after. low.lowered_otherwise (at_place w) after otherwise)).code
     arms_inline NoArm w next at otherwise h last = last next
-    arms_inline (ThenArm (Tested own test body) NoArm) w next at NoElse h last =
-        (test_inline w next test at h.0.0,
-        all_inline body w (behind next (low.test_of w next test at).before) h.0.1)
+    arms_inline (ThenArm (Tested own test body) NoArm) w next at NoElse h last = (
+      test_inline w next test at h.0.0,
+      all_inline body w (behind next (low.test_of w next test at).before) h.0.1,
+    )
     arms_inline (ThenArm (Tested own test body) NoArm) w next at (Else other) h last =
-        let after = behind next (low.test_of w next test at).before in
-        (test_inline w next test at h.0.0,
-        (all_inline body w after h.0.1,
-        last (behind after (low.lowered_all (at_place w) after body))))
+        let after = behind next (low.test_of w next test at).before in (
+          test_inline w next test at h.0.0,
+          (
+            all_inline body w after h.0.1,
+            last (behind after (low.lowered_all (at_place w) after body)),
+          ),
+        )
     arms_inline (ThenArm (Tested own test body) (ThenArm second rest)) w next at otherwise h last =
-        let after = behind next (low.test_of w next test at).before in
-        (test_inline w next test at h.0.0,
-        (all_inline body w after h.0.1,
-        arms_inline (ThenArm second rest) w (behind after (low.lowered_all (at_place w) after body))
-        (arms_at (ThenArm second rest)) otherwise h.1 last))
+        let after = behind next (low.test_of w next test at).before in (
+          test_inline w next test at h.0.0,
+          (
+            all_inline body w after h.0.1,
+            arms_inline (ThenArm second rest) w (behind after (low.lowered_all (at_place w) after body))
+                (arms_at (ThenArm second rest)) otherwise h.1 last,
+          ),
+        )
 
     else_inline : (otherwise : Otherwise) (w : Where) (next : Next)
         → IsScalarElse IsCallable (reach_of w) otherwise
@@ -440,12 +475,13 @@ givens_inline line (formal ∷ formals) (low.Valued scalar ∷ givens) framed ne
 givens_inline line (formal ∷ formals) (low.Referring thing ∷ givens) framed next rest h =
     givens_inline line formals givens
     (record framed { names = framed.names ++ (formal.name.text, thing) ∷ [] }) next rest h
-givens_inline line (formal ∷ formals) (low.Copied stored home ∷ givens) framed next rest h =
-    ((tt, (tt, tt)),
-    givens_inline line formals givens
-    (prog.with_array framed formal.name home
-    (record { array = next.arrays; storage = stored.storage }))
-    (behind next (prog.made_copy line next stored)) rest h)
+givens_inline line (formal ∷ formals) (low.Copied stored home ∷ givens) framed next rest h = (
+  (tt, (tt, tt)),
+  givens_inline line formals givens
+      (prog.with_array framed formal.name home
+      (record { array = next.arrays; storage = stored.storage }))
+      (behind next (prog.made_copy line next stored)) rest h,
+)
 
 module _ (setup : Setup) (entry : Entry) where
   local_inline : (shape : Bracket) (name : Name) (framed : Framed) (next : Next)
@@ -486,8 +522,8 @@ pub routine_inline : (setup : Setup) (IsCallable : List ℕ → Type 0)
 routine_inline setup IsCallable call calls clears routine h calling next =
     let entry : Entry = record { clears = clears; line = calling.line } in
     let rest : Framed → Next → Lowered = λ frame last.
-      low.lowered (record { place = prog.where_in setup routine calling frame; call = call }) last
-      routine.procedure.body in
+    low.lowered (record { place = prog.where_in setup routine calling frame; call = call }) last
+    routine.procedure.body in
     givens_inline calling.line (formal_names routine.procedure.params) calling.actuals
     (record { names = []; numbers = calling.numbers })
     (prog.in_call (prog.reads_round setup.program routine) next)

@@ -22,3 +22,4 @@ pub mod EntryLemmas
 pub mod InlineLemmas
 pub mod ProgramLemmas
 pub mod WrongLemmas
+mod Examples

@@ -1,13 +1,13 @@
 -- Values that are computed one after another, each into a free scalar of its own.
-use Rattle.std.proofs.Common.{◌≡◌, ℕ, zero, suc, ◌+◌, ◌≤◌, ◌<◌, ℤ, pos, List, [], ◌∷◌, ◌++◌, map, length}
-use Rattle.std.proofs.Common.{Some, None, refl, sym, ap, ◌∙◌, subst, arith}
+use Rattle.std.proofs.Common.{◌≡◌, ℕ, suc, ◌+◌, ◌≤◌, ◌<◌, ℤ, List, [], ◌∷◌, length}
+use Rattle.std.proofs.Common.{refl, sym, ap, ◌∙◌, subst, arith}
 use Rattle.zpl_nums.specs.Integer.{IsInteger}
 use Rattle.zpl_meaning.specs.Computed as mean
-use Rattle.zpl_meaning.specs.Store.{Store, Environment}
+use Rattle.zpl_meaning.specs.Store.{Store}
 use Rattle.zpl_meaning.specs.Context.{Place}
 use Rattle.zpl_meaning.specs.Value as mean_value
 use Rattle.zpl_meaning.specs.Settled as mean_settled
-use Rattle.zpl_meaning.specs.Scalars.{IsScalar, AreScalars, values_of}
+use Rattle.zpl_meaning.specs.Scalars.{values_of}
 use Rattle.zpl_meaning.specs.Outcome as out
 use Rattle.zpl_meaning.specs.Outcome.{Outcome}
 use Rattle.node_form.specs.declared.tables.Tables.{Tables}
@@ -23,10 +23,10 @@ use Rattle.zpl_lowering.specs.Where.{Where, Next}
 use Rattle.zpl_lowering.specs.Words.{scalar_code}
 use Rattle.zpl_lowering.specs.Slate as low
 use Rattle.zpl_lowering.specs.Statement.{value_rows}
-use Rattle.lowering_runs.specs.Seen.{scalar_in, Spot, Sight, seen_store, seen_place}
+use Rattle.lowering_runs.specs.Seen.{scalar_in, Sight, seen_place}
 use Rattle.lowering_runs.specs.Run.{step, decide}
 use Rattle.lowering_runs.specs.Agrees.{Agrees, Trapping}
-use Rattle.lowering_runs.specs.Scalars.{IsScalarExpr, IsScalarAt, IsSameValue, BothGive, BothDivide}
+use Rattle.lowering_runs.specs.Scalars.{IsScalarAt, IsSameValue, BothGive, BothDivide}
 use Rattle.lowering_runs.specs.Stands.{Stands, IsLike}
 use Rattle.lowering_runs.proofs.NumberLemmas.{get_set_same, get_set_other}
 use Rattle.lowering_runs.proofs.ValueLemmas.{value_same}
@@ -102,14 +102,14 @@ module _ (tables : Tables) (n : ℕ) (sight : Sight) (w : Where) (next : Next) (
   values_agree (placed ∷ exprs) k now rest others s free fits like h =
       let words = words_of (scalar_code w placed.expr) in
       let same : IsSameValue (mean_value.value_of place.environment store placed.expr)
-        (value_of (scalar_operands now.scalars) words) =
-        subst (λ (v : flat.Computed ℤ).
-        IsSameValue (mean_value.value_of place.environment store placed.expr) v)
-        (sym (value_of-words_of (scalar_operands now.scalars) (scalar_code w placed.expr)))
-        (subst (λ (t : Store). IsSameValue (mean_value.value_of place.environment t placed.expr)
-        (flat.tree_value (scalar_operands now.scalars) (scalar_code w placed.expr)))
-        (sym like.seen)
-        (value_same tables sight.spots w next now stands room like.sound placed.expr s.0.0 s.0.1)) in
+      (value_of (scalar_operands now.scalars) words) =
+      subst (λ (v : flat.Computed ℤ).
+      IsSameValue (mean_value.value_of place.environment store placed.expr) v)
+      (sym (value_of-words_of (scalar_operands now.scalars) (scalar_code w placed.expr)))
+      (subst (λ (t : Store). IsSameValue (mean_value.value_of place.environment t placed.expr)
+      (flat.tree_value (scalar_operands now.scalars) (scalar_code w placed.expr)))
+      (sym like.seen)
+      (value_same tables sight.spots w next now stands room like.sound placed.expr s.0.0 s.0.1)) in
       let lt : k < tables.scalars = omega (arith, fits) in
       let inside : k < length now.scalars = omega (arith, lt, like.sound.filled.scalars) in
       subst (λ (one : Step Whole). Agrees IsAlike turns spare

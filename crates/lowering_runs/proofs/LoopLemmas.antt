@@ -1,78 +1,77 @@
 -- Tests, choices and loops keep that runs agree.
-use Rattle.std.proofs.Common.{◌≡◌, ℕ, zero, suc, ◌+◌, ◌*◌, ◌≤◌, Bool, true, false, ℤ, List, [], ◌∷◌}
-use Rattle.std.proofs.Common.{◌++◌, refl, sym, ap, ◌∙◌, subst, arith}
-use Rattle.zpl_nums.specs.declared.ends.End.TheVariants.{Done, Trap, More}
-use Rattle.zpl_nums.specs.declared.ends.TrapKind.{TrapKind}
+use Rattle.std.proofs.Common.{◌≡◌, ℕ, zero, suc, ◌+◌, ◌*◌, ◌≤◌, Bool, true, false, ℤ, []}
+use Rattle.std.proofs.Common.{refl, sym, ap, subst, arith}
+use Rattle.zpl_nums.specs.declared.ends.End.TheVariants.{Trap}
 use Rattle.zpl_nums.specs.Integer.{is_true}
 use Rattle.zpl_meaning.specs.Computed.{Computed, Gives, Traps}
 use Rattle.zpl_meaning.specs.Store.{Store}
 use Rattle.zpl_meaning.specs.Outcome as out
 use Rattle.zpl_meaning.specs.Outcome.{Outcome, Test, Count, is_past, next_value}
 use Rattle.row_runs.specs.Run.{Step, Ends}
-use Rattle.row_runs.specs.Code.{Decision, Says, Fails}
+use Rattle.row_runs.specs.Code.{Decision, Says}
 use Rattle.row_runs.specs.Structured as code
 use Rattle.row_runs.specs.Structured.{Course, GoesOn, Over, Wants, and_then}
 use Rattle.flat_form.specs.Whole.{Whole}
-use Rattle.lowering_runs.specs.Agrees.{Agrees, Going, Trapping, Shattering, Wanting}
+use Rattle.lowering_runs.specs.Agrees.{Agrees, Trapping, Wanting}
 use Rattle.lowering_runs.specs.Heads.{Heads, Comes, Stumbles, says_of}
-use Rattle.lowering_runs.proofs.AgreeLemmas.{sum_of, alike_agrees, goes_agrees, weaker_agrees}
+use Rattle.lowering_runs.proofs.AgreeLemmas.{goes_agrees, weaker_agrees}
 use Rattle.lowering_runs.proofs.AgreeLemmas.{led_agrees, counting_agrees, jumping_agrees}
 use Rattle.lowering_runs.proofs.AgreeLemmas.{turned_agrees, then_agrees}
 
 -- ---- one test
 
 module _ (One Other : Store → Whole → Type 0) (turns : ℕ) (test : Test) (decide : Whole → Decision)
-    where
-  -- what is chosen behind the head of a test
-  abbrev pub chosen : (Whole → Course Whole) → (Whole → Course Whole) → Whole → Course Whole
-  chosen holds fails whole = code.choose (decide whole) holds fails whole
+  where
+    -- what is chosen behind the head of a test
+    abbrev pub chosen : (Whole → Course Whole) → (Whole → Course Whole) → Whole → Course Whole
+    chosen holds fails whole = code.choose (decide whole) holds fails whole
 
-  either : (spare : ℕ) (b : Bool) (store : Store) (whole : Whole) (one other : Store → Outcome)
-      (holds fails : Whole → Course Whole)
-      → Agrees Other turns spare (one store) (holds whole)
-      → Agrees Other turns spare (other store) (fails whole)
-      → Agrees Other turns spare (out.choose b one other store)
-      (code.choose (Says b) holds fails whole)
-  either spare true store whole one other holds fails h k = h
-  either spare false store whole one other holds fails h k = k
+    either : (spare : ℕ) (b : Bool) (store : Store) (whole : Whole) (one other : Store → Outcome)
+        (holds fails : Whole → Course Whole)
+        → Agrees Other turns spare (one store) (holds whole)
+        → Agrees Other turns spare (other store) (fails whole)
+        → Agrees Other turns spare (out.choose b one other store)
+        (code.choose (Says b) holds fails whole)
+    either spare true store whole one other holds fails h k = h
+    either spare false store whole one other holds fails h k = k
 
-  valued : (spare : ℕ) (value : Computed ℤ) (store : Store) (whole : Whole)
-      (one other : Store → Outcome) (holds fails : Whole → Course Whole)
-      → Agrees Other turns spare (one store) (holds whole)
-      → Agrees Other turns spare (other store) (fails whole)
-      → Agrees Other turns spare
-      (out.with_value value store test.line (λ v. out.choose (is_true v) one other store))
-      (code.choose (says_of test.line value) holds fails whole)
-  valued spare (Gives v) store whole one other holds fails h k =
-      either spare (is_true v) store whole one other holds fails h k
-  valued spare (Traps kind) store whole one other holds fails h k = Trapping (omega arith)
+    valued : (spare : ℕ) (value : Computed ℤ) (store : Store) (whole : Whole)
+        (one other : Store → Outcome) (holds fails : Whole → Course Whole)
+        → Agrees Other turns spare (one store) (holds whole)
+        → Agrees Other turns spare (other store) (fails whole)
+        → Agrees Other turns spare
+        (out.with_value value store test.line (λ v. out.choose (is_true v) one other store))
+        (code.choose (says_of test.line value) holds fails whole)
+    valued spare (Gives v) store whole one other holds fails h k =
+        either spare (is_true v) store whole one other holds fails h k
+    valued spare (Traps kind) store whole one other holds fails h k = Trapping (omega arith)
 
-  -- the head, and then one of two
-  pub tested_agrees : (most spare less : ℕ) (store : Store) (head : Course Whole)
-      (one other : Store → Outcome) (holds fails : Whole → Course Whole)
-      → most + spare ≤ 2 * test.steps + less
-      → Heads (One store) (test.value store) test.line most decide head
-      → ((whole : Whole) → One store whole → Agrees Other turns spare (one store) (holds whole))
-      → ((whole : Whole) → One store whole → Agrees Other turns spare (other store) (fails whole))
-      → Agrees Other turns less (out.tested test one other store)
-      (code.then_do head (chosen holds fails))
-  tested_agrees most spare less store head one other holds fails e
-      (Comes {after = w} {jumps = j} alike says few) h k =
-      counting_agrees Other turns (most + spare) less test.steps _ _ e
-      (weaker_agrees Other turns turns (j + spare) (most + spare) _ _ (omega arith)
-      (omega (arith, few))
-      (led_agrees Other turns spare j _ _
-      (subst (λ (d : Decision). Agrees Other turns spare
-      (out.with_value (test.value store) store test.line (λ v. out.choose (is_true v) one other store))
-      (code.choose d holds fails w)) (sym says)
-      (valued spare (test.value store) store w one other holds fails (h w alike) (k w alike)))))
-  tested_agrees most spare less store head one other holds fails e
-      (Stumbles {after = w} {jumps = j} {kind = kind} is few) h k =
-      subst (λ (c : Computed ℤ). Agrees Other turns less
-      (out.counting test.steps
-      (out.with_value c store test.line (λ v. out.choose (is_true v) one other store)))
-      (record { close = Over (Ends (Trap kind test.line)); state = w; bytes = []; jumps = j }))
-      (sym is) (Trapping (omega (arith, e, few)))
+    -- the head, and then one of two
+    pub tested_agrees : (most spare less : ℕ) (store : Store) (head : Course Whole)
+        (one other : Store → Outcome) (holds fails : Whole → Course Whole)
+        → most + spare ≤ 2 * test.steps + less
+        → Heads (One store) (test.value store) test.line most decide head
+        → ((whole : Whole) → One store whole → Agrees Other turns spare (one store) (holds whole))
+        → ((whole : Whole) → One store whole → Agrees Other turns spare (other store) (fails whole))
+        → Agrees Other turns less (out.tested test one other store)
+        (code.then_do head (chosen holds fails))
+    tested_agrees most spare less store head one other holds fails e
+        (Comes {after = w} {jumps = j} alike says few) h k =
+        counting_agrees Other turns (most + spare) less test.steps _ _ e
+        (weaker_agrees Other turns turns (j + spare) (most + spare) _ _ (omega arith)
+        (omega (arith, few))
+        (led_agrees Other turns spare j _ _
+        (subst (λ (d : Decision). Agrees Other turns spare
+        (out.with_value (test.value store) store test.line (λ v. out.choose (is_true v) one other store))
+        (code.choose d holds fails w)) (sym says)
+        (valued spare (test.value store) store w one other holds fails (h w alike) (k w alike)))))
+    tested_agrees most spare less store head one other holds fails e
+        (Stumbles {after = w} {jumps = j} {kind = kind} is few) h k =
+        subst (λ (c : Computed ℤ). Agrees Other turns less
+        (out.counting test.steps
+        (out.with_value c store test.line (λ v. out.choose (is_true v) one other store)))
+        (record { close = Over (Ends (Trap kind test.line)); state = w; bytes = []; jumps = j }))
+        (sym is) (Trapping (omega (arith, e, few)))
 
 -- ---- loops
 
@@ -84,7 +83,6 @@ module _ {R T : Type 0} (step : R → Whole → Step Whole) (decide : T → Whol
     (turns : ℕ) (body : Store → Outcome) (run : Whole → Course Whole)
     (each : (store : Store) (whole : Whole) → IsAlike store whole
     → Agrees IsAlike turns 0 (body store) (run whole)) where
-
   out_agrees : (m : ℕ) (store : Store) (whole : Whole) → IsAlike store whole
       → Agrees IsAlike m 2 (out.goes_on store) (code.jumping (code.goes_on whole))
   out_agrees m store whole h =
@@ -106,7 +104,7 @@ module _ {R T : Type 0} (step : R → Whole → Step Whole) (decide : T → Whol
   while_agrees (suc m) le store whole h =
       let again : Store → Outcome = out.while_turns m test body in
       let anew : Whole → Course Whole =
-        λ after. code.jumping (code.while_turns step decide m head check run after) in
+      λ after. code.jumping (code.while_turns step decide m head check run after) in
       tested_agrees IsAlike IsAlike (suc m) test (decide check) most 2 0 store (head whole)
       (λ store. out.then_do (body store) again) out.goes_on
       (λ state. code.jumping (code.then_do (run state) anew))
@@ -124,8 +122,8 @@ module _ {R T : Type 0} (step : R → Whole → Step Whole) (decide : T → Whol
   repeat_agrees (suc m) le store whole h =
       let again : Store → Outcome = out.tested test out.goes_on (out.repeat_turns m test body) in
       let anew : Whole → Course Whole =
-        code.tested step decide head check (λ after. code.jumping (code.goes_on after))
-        (code.repeat_turns step decide m run head check) in
+      code.tested step decide head check (λ after. code.jumping (code.goes_on after))
+      (code.repeat_turns step decide m run head check) in
       turned_agrees IsAlike m 0 _ _
       (then_agrees IsAlike IsAlike m 0 0 (body store) (run whole) again anew
       (body_agrees m (omega (arith, le)) store whole h)
@@ -151,7 +149,6 @@ module _ {R T : Type 0} (step : R → Whole → Step Whole) (decide : T → Whol
     (ends : (v : ℤ) (store : Store) (whole : Whole) → IsPast v store whole → IsAlike store whole)
     (goes : (v : ℤ) (store : Store) (whole : Whole) → IsPast v store whole
     → is_past count (next_value count v) ≡ false → IsAt (next_value count v) store whole) where
-
   abbrev again : ℕ → Whole → Course Whole
   again m = code.repeat_turns step decide m run head check
 
@@ -173,7 +170,7 @@ module _ {R T : Type 0} (step : R → Whole → Step Whole) (decide : T → Whol
   for_agrees (suc m) le v store whole h e =
       let next : Store → Outcome = out.for_turns m count set body (next_value count v) in
       let anew : Whole → Course Whole =
-        code.tested step decide head check (λ after. code.jumping (code.goes_on after)) (again m) in
+      code.tested step decide head check (λ after. code.jumping (code.goes_on after)) (again m) in
       subst (λ (b : Bool). Agrees IsAlike (suc m) 0
       (out.choose b out.goes_on
       (λ store. out.counting 1 (out.then_do (body (set v store)) next)) store)

@@ -1,15 +1,13 @@
 -- Prints of scalars: all values are computed before the first is printed.
-use Rattle.std.proofs.Common.{◌≡◌, ℕ, zero, suc, ◌+◌, ◌≤◌, ◌<◌, Bool, true, false, ℤ, pos, List, [], ◌∷◌}
-use Rattle.std.proofs.Common.{◌++◌, map, length, Option, Some, None, refl, sym, ap, ◌∙◌, subst, arith}
-use Rattle.std.proofs.Common.{append_assoc, add-one}
-use Rattle.std.specs.Prelude.{slice_index_or, if◌then◌else◌}
-use Rattle.std.specs.Fmt.{signed_decimal}
-use Rattle.zpl_arrays.specs.ArrayText.{truth_text, number_text}
+use Rattle.std.proofs.Common.{◌≡◌, ℕ, suc, ◌+◌, ◌≤◌, ◌<◌, Bool, true, false, ℤ, pos, List, [], ◌∷◌}
+use Rattle.std.proofs.Common.{◌++◌, length, Option, Some, None, refl, sym, ap, ◌∙◌, subst, arith}
+use Rattle.std.proofs.Common.{append_assoc}
+use Rattle.std.specs.Prelude.{if◌then◌else◌}
 use Rattle.zpl_text.specs.Escapes.{unescaped}
-use Rattle.zpl_tree.specs.Syntax.{Expr, Item, Str, Value, Base, Boolean, Form, Write}
+use Rattle.zpl_tree.specs.Syntax.{Expr, Item, Str, Value, Base, Boolean, Write}
 use Rattle.zpl_names.specs.Kinds.{Rank}
 use Rattle.zpl_names.specs.Scope.{Scope}
-use Rattle.zpl_names.specs.Sites.{Role, Printed}
+use Rattle.zpl_names.specs.Sites.{Printed}
 use Rattle.zpl_names.specs.Types.{type_of}
 use Rattle.zpl_meaning.specs.Computed as mean
 use Rattle.zpl_meaning.specs.Store.{Store}
@@ -39,7 +37,7 @@ use Rattle.flat_form.specs.Whole.{Whole}
 use Rattle.zpl_lowering.specs.Where.{Where, Next, line_of, slotted_at}
 use Rattle.zpl_lowering.specs.Where as low_where
 use Rattle.zpl_lowering.specs.Words.{scalar_code}
-use Rattle.zpl_lowering.specs.Lowered.{Lowered, behind, phased}
+use Rattle.zpl_lowering.specs.Lowered.{phased}
 use Rattle.zpl_lowering.specs.Slate as low_slate
 use Rattle.zpl_lowering.specs.Statement as low
 use Rattle.zpl_lowering.specs.Statement.{Lowering, Prints}
@@ -47,12 +45,12 @@ use Rattle.lowering_runs.specs.Seen.{scalar_in, Sight, seen_place}
 use Rattle.lowering_runs.specs.Run.{step, decide, does}
 use Rattle.lowering_runs.specs.Agrees.{Agrees, Going}
 use Rattle.lowering_runs.specs.Scalars.{IsScalarAt}
-use Rattle.lowering_runs.specs.Stands.{IsSound, Stands, HasRoom, IsLike}
-use Rattle.lowering_runs.specs.Goes.{World, context, lowering, Goes}
+use Rattle.lowering_runs.specs.Stands.{IsSound, IsLike}
+use Rattle.lowering_runs.specs.Goes.{World, Goes}
 use Rattle.lowering_runs.proofs.NumberLemmas.{get_some}
 use Rattle.lowering_runs.proofs.BareLemmas.{codes_of, all_passed}
 use Rattle.lowering_runs.proofs.RowLemmas.{print_step, number_step, truth_step}
-use Rattle.lowering_runs.proofs.ListLemmas.{Hold, AreScalarsAt, AreSet, meant, meant_length, values_agree}
+use Rattle.lowering_runs.proofs.ListLemmas.{Hold, AreScalarsAt, meant, meant_length, values_agree}
 use Rattle.lowering_runs.proofs.HeadLemmas.{scalars_of}
 
 -- scalars alone are printed
@@ -199,7 +197,7 @@ items_rows sight w start line scalar temp ends (Value expr ∷ items) h =
     let left = codes_of w (low.printed_exprs w items) in
     let shown = low.shown_at line truth scalar temp over (Some 0) one in
     let r = items_rows sight w start line (scalar + shown.scalars) (temp + length shown.temps) ends
-      items h.2 in
+    items h.2 in
     let next : scalar + 1 ≡ suc scalar = omega arith in
     subst (λ (rank : Rank). AreRows w line scalar ends (Value expr ∷ items) (one ∷ left)
     (let shown = low.shown_at line truth scalar temp over rank one in
@@ -226,7 +224,9 @@ behind_then bytes course f = by course.close course.state course.bytes course.ju
         code.then_do (code.behind bytes 0 c) f ≡ code.behind bytes 0 (code.then_do c f))
     by GoesOn state b j =
         ap (λ (bs : List ℕ). record (f state) {
-          bytes = bs; jumps = code.and_then j (f state).jumps }) (append_assoc bytes b (f state).bytes)
+          bytes = bs;
+          jumps = code.and_then j (f state).jumps;
+        }) (append_assoc bytes b (f state).bytes)
     by (code.Over stop) state b j = refl
     by code.Wants state b j = refl
 
@@ -358,28 +358,31 @@ module _ (world : World) (at : ℕ) (ends : Bool) (items : List Item) where
       let are = items_rows sight w start line first temp ends items served in
       let text : List ℤ → List ℕ = λ vs. text_of w.scope items vs ++ line_end ends in
       let rows : Prints → Whole → Course Whole = λ prints now.
-        rows_do (step tables n) (decide tables n) (prints.values ++ prints.prints) now in
+      rows_do (step tables n) (decide tables n) (prints.values ++ prints.prints) now in
       let fits : first + length exprs ≤ tables.scalars =
-        omega (arith, room.scalars,
-        ap (λ l. (all l).scalars) passed.left_is ∙ are.scalars ∙ codes_length w exprs) in
+      omega (
+        arith,
+        room.scalars,
+        ap (λ l. (all l).scalars) passed.left_is ∙ are.scalars ∙ codes_length w exprs,
+      ) in
       let prints = print_rows w.scope first ends items in
       let outcome : mean.Computed (List ℤ) → Outcome =
-        λ c. out.with_value c store line (λ vs. out.prints store (text vs)) in
+      λ c. out.with_value c store line (λ vs. out.prints store (text vs)) in
       let values = values_of place.environment store (meant exprs) in
       let code_is : rows (all left) now ≡ code.then_do
-        (rows_do (step tables n) (decide tables n) (low.value_rows line first left) now)
-        (rows_do (step tables n) (decide tables n) prints) =
-        ap (λ rs. rows_do (step tables n) (decide tables n) (rs ++ (all left).prints) now) are.values
-        ∙ ap (λ rs. rows_do (step tables n) (decide tables n)
-        (low.value_rows line first left ++ rs) now) are.rows
-        ∙ rows_append tables n (low.value_rows line first left) prints now in
+      (rows_do (step tables n) (decide tables n) (low.value_rows line first left) now)
+      (rows_do (step tables n) (decide tables n) prints) =
+      ap (λ rs. rows_do (step tables n) (decide tables n) (rs ++ (all left).prints) now) are.values
+      ∙ ap (λ rs. rows_do (step tables n) (decide tables n)
+      (low.value_rows line first left ++ rs) now) are.rows
+      ∙ rows_append tables n (low.value_rows line first left) prints now in
       let printed : out.with_value (print_text place store ends items) store line (out.prints store)
-        ≡ outcome values =
-        ap (λ c. out.with_value c store line (out.prints store)) (text_is place store ends items served)
-        ∙ computed_text (values_of place.environment store (mean_text.printed_exprs place items)) text
-        store line
-        ∙ ap (λ es. outcome (values_of place.environment store es))
-        (sym (meant_items sight w start items)) in
+      ≡ outcome values =
+      ap (λ c. out.with_value c store line (out.prints store)) (text_is place store ends items served)
+      ∙ computed_text (values_of place.environment store (mean_text.printed_exprs place items)) text
+      store line
+      ∙ ap (λ es. outcome (values_of place.environment store es))
+      (sym (meant_items sight w start items)) in
       subst (λ (o : Outcome). Agrees Like n 0 o
       (code.then_do (does tables n phases.lowered.code now) (rows (all phases.left)))) (sym printed)
       (subst (λ (c : Course Whole). Agrees Like n 0 (outcome values)
@@ -391,9 +394,9 @@ module _ (world : World) (at : ℕ) (ends : Bool) (items : List Item) where
       store exprs first now (λ vs. out.prints store (text vs))
       (rows_do (step tables n) (decide tables n) prints) scalars (omega arith) fits like
       (λ vs after l set_.
-        subst (λ (c : Course Whole). Agrees Like n 0 (out.prints store (text vs)) c)
-        (sym (rows_print tables n after l.sound w.scope first ends items vs place store served
-        (set_.as_many ∙ sym (meant_length exprs)
-        ∙ ap (λ es. length es) (meant_items sight w start items))
-        (omega (arith, fits, set_.as_many)) set_.held))
-        (Going l (omega arith)))))))
+      subst (λ (c : Course Whole). Agrees Like n 0 (out.prints store (text vs)) c)
+      (sym (rows_print tables n after l.sound w.scope first ends items vs place store served
+      (set_.as_many ∙ sym (meant_length exprs)
+      ∙ ap (λ es. length es) (meant_items sight w start items))
+      (omega (arith, fits, set_.as_many)) set_.held))
+      (Going l (omega arith)))))))

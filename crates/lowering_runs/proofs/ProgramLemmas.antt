@@ -1,32 +1,27 @@
 -- The flat program of a program of scalars shows what the program means.
-use Rattle.std.proofs.Common.{◌≡◌, ℕ, zero, suc, ◌+◌, ◌≤◌, Bool, true, false, ℤ, pos, List, [], ◌∷◌, ◌++◌}
+use Rattle.std.proofs.Common.{◌≡◌, ℕ, zero, suc, false, ℤ, pos, List, [], ◌∷◌, ◌++◌}
 use Rattle.std.proofs.Common.{map, length, Option, Some, None, refl, sym, ap, ◌∙◌, subst, arith}
 use Rattle.std.proofs.lemmas.List.Elements.{All-from_recursion}
-use Rattle.std.specs.Prelude.{All, replicate, slice_index_or}
-use Rattle.zpl_region.specs.declared.regions.Region.{Region}
+use Rattle.std.specs.Prelude.{All, slice_index_or}
 use Rattle.zpl_tree.specs.Syntax.{Stmt, Program}
-use Rattle.zpl_names.specs.Declared.{Routine, routine_named, scope_of}
+use Rattle.zpl_names.specs.Declared.{Routine, scope_of}
 use Rattle.zpl_names.specs.Reached.{longest_chain}
 use Rattle.zpl_binding.specs.Settings.{Setting}
 use Rattle.zpl_binding.specs.Declarations.{known_of}
 use Rattle.zpl_binding.specs.Regions.{Known}
 use Rattle.zpl_binding.specs.Storages.{Border, borders_of}
 use Rattle.zpl_arrays.specs.Array.{Array}
-use Rattle.zpl_meaning.specs.Store.{Names, Store}
+use Rattle.zpl_meaning.specs.Store.{Store}
 use Rattle.zpl_meaning.specs.Context.{Setup, Place}
-use Rattle.zpl_meaning.specs.Outcome.{Outcome}
 use Rattle.zpl_meaning.specs.Variables.{Frame}
-use Rattle.zpl_meaning.specs.Calls.{entered, place_in}
 use Rattle.zpl_meaning.specs.Proper.{IsProperStmt}
-use Rattle.zpl_meaning.specs.Program.{run_routine, call_at, entry_call, first_frame, setup_of, outcome_of}
+use Rattle.zpl_meaning.specs.Program.{run_routine, call_at, entry_call, first_frame, outcome_of}
 use Rattle.zpl_meaning.specs.Visited.{IsVisited, Begins, first_setup}
-use Rattle.node_form.specs.declared.arrays.ArrayRow.{ArrayRow}
-use Rattle.node_form.specs.declared.instructions.Instr.{Instr}
 use Rattle.node_form.specs.declared.instructions.Instr.TheVariants as instr
 use Rattle.node_form.specs.declared.tables.Tables.{Tables}
 use Rattle.node_form.specs.Fits.{Fits, FitsInstr, FitsExpr, FitsGroup, FitsExchange, FitsArray, IsRank}
 use Rattle.row_runs.specs.Straight.{Every}
-use Rattle.row_runs.specs.Code.{CodeRow, Straight}
+use Rattle.row_runs.specs.Code.{Straight}
 use Rattle.row_runs.specs.Run.{runs}
 use Rattle.row_runs.specs.Structured as code
 use Rattle.row_runs.specs.Structured.{Course, flattened}
@@ -36,32 +31,39 @@ use Rattle.flat_form.specs.Row.{Row, with_row, with_rows, all_inlined}
 use Rattle.flat_form.specs.Laws.{IsInline}
 use Rattle.flat_form.specs.Whole.{Whole, start_whole}
 use Rattle.flat_form.proofs.ReadLemmas.{read_again}
-use Rattle.zpl_lowering.specs.Check.{Check, flat_row}
+use Rattle.zpl_lowering.specs.Check.{flat_row}
 use Rattle.zpl_lowering.specs.Where.{Where, Next, Stored, no_slots}
 use Rattle.zpl_lowering.specs.Lowered.{Lowered, behind}
 use Rattle.zpl_lowering.specs.Statement.{Calling}
 use Rattle.zpl_lowering.specs.Program as low
 use Rattle.zpl_lowering.specs.Tables.{empty_tables, rows_of, flat_tables}
-use Rattle.lowering_runs.specs.Seen.{scalar_in, array_in, Spot, seen_store, numbered}
+use Rattle.lowering_runs.specs.Seen.{scalar_in, Spot, seen_store, numbered}
 use Rattle.lowering_runs.specs.Run.{does}
 use Rattle.lowering_runs.specs.Agrees.{Agrees}
 use Rattle.lowering_runs.specs.Shown.{Shows}
 use Rattle.lowering_runs.specs.Stands.{AreKnown, Stands, HasRoom, IsSound, IsLike}
-use Rattle.lowering_runs.specs.Goes.{World}
 use Rattle.lowering_runs.specs.ScalarText.{IsScalarCall, IsScalarProgram}
 use Rattle.lowering_runs.proofs.TopLemmas.{shows}
 use Rattle.lowering_runs.proofs.AgreeLemmas.{alike_agrees}
 use Rattle.lowering_runs.proofs.FitLemmas.{itself, keeps_all}
 use Rattle.lowering_runs.proofs.RoutineLemmas.{routine_agrees, calls_agree}
 use Rattle.lowering_runs.proofs.EntryLemmas.{IsGlobal, first_global, spots_from, spots_numbered, spots_rise, spots_length, spots_names, spots_zero, start_zero, start_sound, regions_fixed}
-use Rattle.lowering_runs.proofs.InlineLemmas.{Inline, every_append, flat_inline, entry_inline, regions_inline}
+use Rattle.lowering_runs.proofs.InlineLemmas.{every_append, flat_inline, entry_inline, regions_inline}
 
 -- ---- rows are read again
 
 abbrev bare : Tables
 bare = record {
-  grid = 1 ∷ 0 ∷ 0 ∷ []; scalars = 0; cells = 0; slots = []; arrays = []; texts = []; exprs = [];
-  groups = []; exchanges = []; code = [];
+  grid = 1 ∷ 0 ∷ 0 ∷ [];
+  scalars = 0;
+  cells = 0;
+  slots = [];
+  arrays = [];
+  texts = [];
+  exprs = [];
+  groups = [];
+  exchanges = [];
+  code = [];
 }
 
 none : {X : Type 0} (P : X → Type 0) → All P []
@@ -85,7 +87,10 @@ bare_fits = record {
 -- tables with the rows of others
 abbrev dressed : Tables → Tables → Tables
 dressed tables other = record tables {
-  exprs = other.exprs; groups = other.groups; texts = other.texts; code = other.code;
+  exprs = other.exprs;
+  groups = other.groups;
+  texts = other.texts;
+  code = other.code;
 }
 
 row_dressed : (tables other : Tables) (one : Row)
@@ -195,11 +200,11 @@ module _ (program : Program) (settings : List Setting) (s : IsScalarProgram prog
   stands : (routine : Routine) → Stands spots (outside routine) next
   stands routine =
       let names : AreKnown (length (numbered spots)) (length (low.arrays_from 0 frame.store.arrays))
-        frame.names =
-        subst (λ (xs : List Stored). AreKnown (length (numbered spots)) (length xs) frame.names)
-        (sym (no_arrays 0))
-        (subst (λ (m : ℕ). AreKnown m 0 frame.names) (sym (spots_length 0 frame.store.scalars))
-        global.known) in
+      frame.names =
+      subst (λ (xs : List Stored). AreKnown (length (numbered spots)) (length xs) frame.names)
+      (sym (no_arrays 0))
+      (subst (λ (m : ℕ). AreKnown m 0 frame.names) (sym (spots_length 0 frame.store.scalars))
+      global.known) in
       record {
         numbers = spots_numbered 0 frame.store.scalars;
         rises = spots_rise 0 frame.store.scalars next.scalars (omega arith);
@@ -261,13 +266,13 @@ module _ (program : Program) (settings : List Setting) (s : IsScalarProgram prog
       let start = start_whole tables in
       let r = regions_fixed tables n 0 known.regions start (start_sound tables) in
       let zero_ : (k : ℕ) → scalar_in r.after k ≡ pos 0 =
-        λ k. ap (λ (xs : List ℤ). slice_index_or xs k (pos 0)) r.scalars ∙ start_zero tables k in
+      λ k. ap (λ (xs : List ℤ). slice_index_or xs k (pos 0)) r.scalars ∙ start_zero tables k in
       let room : HasRoom tables next entry_own =
-        record { scalars = omega (arith, scalars_are) } in
+      record { scalars = omega (arith, scalars_are) } in
       let agrees = entry_agrees n longest_chain s.entry r.after r.sound zero_ room in
       let code_is : does tables n own.code start ≡ does tables n entry_own.code r.after =
-        ap (λ (c : Course Whole). code.then_do c (does tables n entry_own.code)) r.course in
+      ap (λ (c : Course Whole). code.then_do c (does tables n entry_own.code)) r.course in
       let shown = shows tables n (Ended r.after) 0 own.code start (outcome_of program settings n)
-        (does tables n entry_own.code r.after) (omega arith) code_is agrees in
+      (does tables n entry_own.code r.after) (omega arith) code_is agrees in
       subst (λ (rows : List Row). Shows (λ a. runs (act tables n) rows a 0 start) n
       (outcome_of program settings n)) (sym rows_are) shown

@@ -1,10 +1,10 @@
 -- What rows of scalars do, and what they leave.
-use Rattle.std.proofs.Common.{◌≡◌, ◌≢◌, ℕ, zero, suc, ◌+◌, ◌≤◌, ◌<◌, Bool, true, false, ◌&&◌, ℤ, pos}
-use Rattle.std.proofs.Common.{List, [], ◌∷◌, ◌++◌, map, length, Option, Some, None, refl, sym, ap, ◌∙◌}
+use Rattle.std.proofs.Common.{◌≡◌, ◌≢◌, ℕ, zero, suc, ◌≤◌, ◌<◌, Bool, true, false, ◌&&◌, ℤ}
+use Rattle.std.proofs.Common.{List, [], ◌∷◌, length, Some, refl, sym, ap, ◌∙◌}
 use Rattle.std.proofs.Common.{subst, arith}
 use Rattle.std.proofs.Common.{◌⊎◌, inl, inr}
 use Rattle.std.proofs.lemmas.Bool.{cases_eq}
-use Rattle.std.specs.Prelude.{slice_get, slice_set, slice_index_or, if◌then◌else◌}
+use Rattle.std.specs.Prelude.{slice_get, slice_set, if◌then◌else◌}
 use Rattle.std.specs.List.{list_all}
 use Rattle.std.specs.Fmt.{signed_decimal}
 use Rattle.zpl_nums.specs.declared.ends.End.TheVariants.{Trap}
@@ -18,23 +18,23 @@ use Rattle.node_form.specs.declared.tables.Tables.{Tables}
 use Rattle.node_form.specs.Value as flat
 use Rattle.node_form.specs.Value.{scalar_operands, value_of}
 use Rattle.node_form.specs.Control.{with_computed, branched, with_scalar}
-use Rattle.row_runs.specs.Run.{Ends, Wrong, Step, Goes, Stops, Effect, Does}
-use Rattle.row_runs.specs.Code.{Decision, Says, Fails}
+use Rattle.row_runs.specs.Run.{Ends, Wrong, Step, Goes, Stops, Does}
+use Rattle.row_runs.specs.Code.{Says}
 use Rattle.flat_form.specs.Row as row
 use Rattle.flat_form.specs.Row.{Row, Words}
 use Rattle.flat_form.specs.Names.{row_scalars}
-use Rattle.flat_form.specs.Right.{is_settled, are_settled}
+use Rattle.flat_form.specs.Right.{is_settled}
 use Rattle.flat_form.specs.Whole.{Whole, registers_of}
 use Rattle.flat_form.specs.Act.{act, row_does, controlled, tested, value_printed}
 use Rattle.zpl_lowering.specs.Check.{Check}
 use Rattle.zpl_lowering.specs.Where.{Where, Next}
-use Rattle.lowering_runs.specs.Seen.{scalar_in, slot_in, Spot, seen_spot, seen_store, numbered, place_of}
+use Rattle.lowering_runs.specs.Seen.{scalar_in, Spot, seen_store, numbered, place_of}
 use Rattle.lowering_runs.specs.Run.{straight, decision, step, decide}
 use Rattle.lowering_runs.specs.Heads.{says_of}
 use Rattle.lowering_runs.specs.Scalars.{IsSameValue, BothGive, BothDivide}
-use Rattle.lowering_runs.specs.Stands.{Rises, Misses, IsSound, Keeps, IsLike}
+use Rattle.lowering_runs.specs.Stands.{Rises, Misses, IsSound, IsLike}
 use Rattle.lowering_runs.proofs.NumberLemmas.{same_spots, set_spot, get_set_same, get_set_other}
-use Rattle.lowering_runs.proofs.NumberLemmas.{length_set, number_below}
+use Rattle.lowering_runs.proofs.NumberLemmas.{length_set}
 
 -- ---- rows that name settled scalars
 

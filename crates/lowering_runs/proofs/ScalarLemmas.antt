@@ -1,10 +1,8 @@
 -- Tests and assignments of scalars.
-use Rattle.std.proofs.Common.{◌≡◌, ℕ, zero, suc, ◌+◌, ◌≤◌, ◌<◌, Bool, true, false, ℤ, pos, List, []}
-use Rattle.std.proofs.Common.{◌∷◌, ◌++◌, map, length, Option, Some, None, refl, sym, ap, ◌∙◌, subst, arith}
-use Rattle.std.specs.Prelude.{slice_get, slice_index_or}
+use Rattle.std.proofs.Common.{◌≡◌, ℕ, ◌≤◌, ◌<◌, ℤ, List, []}
+use Rattle.std.proofs.Common.{◌∷◌, Some, sym, ap, subst, arith}
+use Rattle.std.specs.Prelude.{slice_get}
 use Rattle.zpl_nums.specs.Integer.{IsInteger}
-use Rattle.zpl_nums.specs.declared.ends.End.TheVariants.{Trap}
-use Rattle.zpl_nums.specs.declared.ends.TrapKind.TheVariants.{DivideByZero}
 use Rattle.zpl_tree.specs.Syntax.{Expr}
 use Rattle.zpl_names.specs.Sites.{Role, Test as TestRole}
 use Rattle.zpl_meaning.specs.Computed as mean
@@ -22,24 +20,20 @@ use Rattle.node_form.specs.Expression.{Expression, words_of}
 use Rattle.node_form.specs.Value as flat
 use Rattle.node_form.specs.Value.{scalar_operands, value_of}
 use Rattle.node_form.proofs.ValueLemmas.{value_of-words_of}
-use Rattle.row_runs.specs.Run.{Ends, Step}
+use Rattle.row_runs.specs.Run.{Step}
 use Rattle.row_runs.specs.Structured as code
 use Rattle.row_runs.specs.Structured.{Course, rows_do, by_step}
-use Rattle.flat_form.specs.Row as row
-use Rattle.flat_form.specs.Row.{Row}
 use Rattle.flat_form.specs.Whole.{Whole}
-use Rattle.zpl_lowering.specs.Check.{Check}
 use Rattle.zpl_lowering.specs.Where.{Where, Next, line_of}
 use Rattle.zpl_lowering.specs.Words.{scalar_code}
-use Rattle.zpl_lowering.specs.Lowered.{Lowered, phased, first_left}
+use Rattle.zpl_lowering.specs.Lowered.{phased, first_left}
 use Rattle.zpl_lowering.specs.Statement as low
-use Rattle.lowering_runs.specs.Seen.{Spot, Sight, seen_store, seen_names, seen_place, numbered, place_of, seen_thing}
+use Rattle.lowering_runs.specs.Seen.{Sight, seen_place, numbered, place_of}
 use Rattle.lowering_runs.specs.Run.{step, decide, does}
-use Rattle.lowering_runs.specs.Agrees.{Agrees, Going, Trapping}
-use Rattle.lowering_runs.specs.Heads.{Heads, Comes, says_of}
-use Rattle.lowering_runs.specs.Scalars.{IsScalarExpr, IsScalarAt, IsSameValue, BothGive, BothDivide}
-use Rattle.lowering_runs.specs.Stands.{Stands, HasRoom, IsSound, IsLike}
-use Rattle.lowering_runs.specs.Goes.{World}
+use Rattle.lowering_runs.specs.Agrees.{Agrees, Trapping}
+use Rattle.lowering_runs.specs.Heads.{Heads, Comes}
+use Rattle.lowering_runs.specs.Scalars.{IsScalarAt, IsSameValue, BothGive, BothDivide}
+use Rattle.lowering_runs.specs.Stands.{Stands, IsLike}
 use Rattle.lowering_runs.proofs.AgreeLemmas.{goes_agrees}
 use Rattle.lowering_runs.proofs.ValueLemmas.{value_same, scalar_unseen}
 use Rattle.lowering_runs.proofs.BareLemmas.{all_passed}
@@ -79,10 +73,10 @@ module _ (tables : Tables) (n : ℕ) (sight : Sight) (w : Where) (next : Next) (
       let line = line_of w at in
       let placed = low.placed_in w TestRole expr in
       let passed = all_passed w line from (placed ∷ [])
-        (scalar_unseen sight.spots w.environment expr s.1, tt) in
+      (scalar_unseen sight.spots w.environment expr s.1, tt) in
       let test = low.test_of w from expr at in
       let code_is : first_left (phased w line from (placed ∷ [])).left ≡ scalar_code w expr =
-        ap first_left passed.left_is in
+      ap first_left passed.left_is in
       subst (λ (c : Course Whole). Heads (Like store)
       ((mean_statement.test_of place expr at).value store) line 0 (decide tables n test.check) c)
       (sym (passed.still tables n now))
@@ -120,11 +114,11 @@ module _ (tables : Tables) (n : ℕ) (sight : Sight) (w : Where) (next : Next) (
   assigned_agrees role line p k expr s e lt store now like =
       let placed = low.placed_in w role expr in
       let passed = all_passed w line next (placed ∷ [])
-        (scalar_unseen sight.spots w.environment expr s.1, tt) in
+      (scalar_unseen sight.spots w.environment expr s.1, tt) in
       let phases = phased w line next (placed ∷ []) in
       let outcome : Outcome =
-        out.with_value (value_in place store role expr) store line (λ new.
-        out.goes_on (mean_store.with_scalar store (place_of sight.spots p) new)) in
+      out.with_value (value_in place store role expr) store line (λ new.
+      out.goes_on (mean_store.with_scalar store (place_of sight.spots p) new)) in
       subst (λ (c : Course Whole). Agrees Like n 0 outcome
       (code.then_do c (rows_do (step tables n) (decide tables n)
       (low.set_row line (first_left phases.left) (Some k))))) (sym (passed.still tables n now))

@@ -1,10 +1,9 @@
 -- How a counter that wraps goes on, and when it is done.
 use Rattle.std.proofs.Common.{◌≡◌, ◌-◌, ◌^◌, Bool, true, false, not, ◌&&◌, ◌||◌, ℤ, pos, negsuc}
-use Rattle.std.proofs.Common.{◌+ℤ◌, ◌-ℤ◌, neg_ℤ, ◌≤ℤ◌, ◌<ℤ◌, refl, sym, ap, ◌∙◌, arith, w64}
+use Rattle.std.proofs.Common.{◌+ℤ◌, ◌-ℤ◌, neg_ℤ, ◌≤ℤ◌, refl, sym, ap, ◌∙◌, arith, w64}
 use Rattle.std.specs.Prelude.{int_lt, int_le}
 use Rattle.std.proofs.lemmas.Int.{ints, int_wrap_fits, int_wrap-add_left}
 use Rattle.zpl_nums.specs.Integer.{IsInteger, wrapped}
-use Rattle.row_runs.specs.Counter.{goes_up, goes_down}
 use Rattle.row_runs.proofs.CounterLemmas.{tell_their_end}
 
 pub not_below : (x y : ℤ) → int_lt x y ≡ false → y ≤ℤ x

@@ -1,5 +1,5 @@
 -- Laid-out code that goes as the meaning does shows what it shows.
-use Rattle.std.proofs.Common.{◌≡◌, ℕ, zero, suc, ◌+◌, ◌-◌, ◌*◌, ◌≤◌, Bool, true, false, ℤ, List, [], ◌∷◌}
+use Rattle.std.proofs.Common.{◌≡◌, ℕ, suc, ◌+◌, ◌-◌, ◌≤◌, Bool, true, false, ℤ, List, [], ◌∷◌}
 use Rattle.std.specs.Prelude.{if◌then◌else◌}
 use Rattle.std.proofs.Common.{◌++◌, map, drop, length, refl, sym, ap, ◌∙◌, subst, arith, append-nil}
 use Rattle.zpl_nums.specs.declared.ends.End.{End}
@@ -11,13 +11,13 @@ use Rattle.node_form.specs.declared.tables.Tables.{Tables}
 use Rattle.node_form.specs.declared.instructions.Instr.TheVariants as instr
 use Rattle.node_form.specs.Value.{Computed, Gives, Divides, Lacks, scalar_operands, value_of}
 use Rattle.node_form.specs.Control.{with_computed, branched}
-use Rattle.row_runs.specs.Run.{Stop, Ends, Wrong, Result, Step, Goes, Stops, Effect, Does, Leaps}
+use Rattle.row_runs.specs.Run.{Ends, Wrong, Result, Goes, Stops, Effect, Does, Leaps}
 use Rattle.row_runs.specs.Run.{Passes, runs, stopped, walked}
 use Rattle.row_runs.specs.Code.{CodeRow, Straight, Jump, Unless, code_act, decided}
-use Rattle.row_runs.specs.Structured.{Piece, Course, GoesOn, Over, Wants, size, flattened}
-use Rattle.row_runs.specs.Structured.{left_before, shown_by, StandsAt, and_then}
+use Rattle.row_runs.specs.Structured.{Piece, Course, size, flattened}
+use Rattle.row_runs.specs.Structured.{left_before, shown_by, and_then}
 use Rattle.row_runs.specs.Rows.{AreEffects, BothGo, BothStop, BothLeap, BothPass, OldWrong}
-use Rattle.row_runs.specs.Rows.{AreLike, AreLikeRows, NoRows, MoreRows}
+use Rattle.row_runs.specs.Rows.{AreLikeRows, NoRows, MoreRows}
 use Rattle.row_runs.specs.Segments.{Keeps, WasWrong, Same}
 use Rattle.row_runs.proofs.CodeLemmas.{follow}
 use Rattle.row_runs.proofs.RowLemmas.{rows_keep_runs}
@@ -30,7 +30,7 @@ use Rattle.flat_form.specs.Act.{act, row_does, tested}
 use Rattle.zpl_lowering.specs.Check.{Check, flat_row}
 use Rattle.lowering_runs.specs.Run.{straight, decision, step, decide, does}
 use Rattle.lowering_runs.specs.Agrees.{Agrees, Going, Trapping, Shattering, Wanting}
-use Rattle.lowering_runs.specs.Shown.{shown, IsBound, Few, Many, Shattered, Shows}
+use Rattle.lowering_runs.specs.Shown.{Few, Many, Shattered, Shows}
 use Rattle.lowering_runs.proofs.AgreeLemmas.{sum_of}
 
 -- ---- rows do in structured code what they do in flat code, unless that is wrong
@@ -83,9 +83,11 @@ module _ (tables : Tables) (n : ℕ) where
       (map flat_row rows)
   all_like [] = NoRows
   all_like (one ∷ rows) =
-      MoreRows (record { like = λ s t same. subst (λ (u : Whole).
-        AreEffects IsSame (code_act (step tables n) (decide tables n) one s)
-        (act tables n (flat_row one) u)) same (row_like one s) }) (all_like rows)
+      MoreRows (record {
+        like = λ s t same. subst (λ (u : Whole).
+            AreEffects IsSame (code_act (step tables n) (decide tables n) one s)
+            (act tables n (flat_row one) u)) same (row_like one s);
+      }) (all_like rows)
 
   -- ---- a piece with the end behind it
 
@@ -99,7 +101,7 @@ module _ (tables : Tables) (n : ℕ) where
       → drop (0 + size piece) (ended piece) ≡ Straight (row.Plain instr.End) ∷ []
   end_stands piece =
       let e : 0 + length (flattened 0 piece) ≡ 0 + size piece =
-        omega (arith, flat_length 0 piece) in
+      omega (arith, flat_length 0 piece) in
       past (ended piece) 0 (0 + size piece) (flattened 0 piece)
       (Straight (row.Plain instr.End) ∷ []) e refl
 
@@ -146,22 +148,22 @@ module _ (tables : Tables) (n : ℕ) where
       → Shows (λ a. runs (act tables n) (map flat_row (ended piece)) a 0 start) n outcome
   shows IsAlike spare piece start outcome course le e
       (Going {after = w} {bytes = b} {steps = s} {jumps = j} alike few) = record {
-    bound = suc (and_then j 0);
-    same = kept piece start (suc (and_then j 0)) b Done
-        (follows piece start course 0 e
-        ∙ ap (λ (r : Result). record { bytes = b ++ r.bytes; stop = r.stop }) (at_end piece 0 w)
-        ∙ ap (λ (bytes : List ℕ). record { bytes = bytes; stop = Ends Done }) (append-nil b));
-    size = Few (λ q. done_more q) (omega (arith, few, le, sum_of j 0));
-  }
+        bound = suc (and_then j 0);
+        same = kept piece start (suc (and_then j 0)) b Done
+            (follows piece start course 0 e
+            ∙ ap (λ (r : Result). record { bytes = b ++ r.bytes; stop = r.stop }) (at_end piece 0 w)
+            ∙ ap (λ (bytes : List ℕ). record { bytes = bytes; stop = Ends Done }) (append-nil b));
+        size = Few (λ q. done_more q) (omega (arith, few, le, sum_of j 0));
+      }
     where
       done_more : Done ≡ More → ⊥
       done_more q = cc
   shows IsAlike spare piece start outcome course le e
       (Trapping {bytes = b} {steps = s} {jumps = j} {kind = kind} {line = line} few) = record {
-    bound = suc (and_then j 0);
-    same = kept piece start (suc (and_then j 0)) b (Trap kind line) (follows piece start course 0 e);
-    size = Few (λ q. trap_more q) (omega (arith, few, le, sum_of j 0));
-  }
+        bound = suc (and_then j 0);
+        same = kept piece start (suc (and_then j 0)) b (Trap kind line) (follows piece start course 0 e);
+        size = Few (λ q. trap_more q) (omega (arith, few, le, sum_of j 0));
+      }
     where
       trap_more : Trap kind line ≡ More → ⊥
       trap_more q = cc
@@ -169,19 +171,19 @@ module _ (tables : Tables) (n : ℕ) where
       (Shattering {after = w} {bytes = b} {jumps = j}) =
       let run : ℕ → Result = λ a. runs (act tables n) (map flat_row (ended piece)) a 0 start in
       let at : (left : ℕ) → run (suc (and_then j left)) ≡ record { bytes = b; stop = Ends More } =
-        λ left. kept piece start (suc (and_then j left)) b More (follows piece start course left e) in
+      λ left. kept piece start (suc (and_then j left)) b More (follows piece start course left e) in
       record {
         bound = suc (and_then j 0);
         same = at 0;
         size = Shattered refl (λ more l.
             let left = more - suc (and_then j 0) in
             let as_many : suc (and_then j left) ≡ more =
-              omega (arith, sum_of j left, sum_of j 0, l) in
+            omega (arith, sum_of j left, sum_of j 0, l) in
             ap run (sym as_many) ∙ at left ∙ sym (at 0));
       }
   shows IsAlike spare piece start outcome course le e (Wanting {bytes = b} {jumps = j} many) =
       record {
-    bound = suc j;
-    same = kept piece start (suc j) b More (follows piece start course 0 e);
-    size = Many refl (omega (arith, many));
-  }
+        bound = suc j;
+        same = kept piece start (suc j) b More (follows piece start course 0 e);
+        size = Many refl (omega (arith, many));
+      }

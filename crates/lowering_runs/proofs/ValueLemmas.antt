@@ -1,17 +1,17 @@
 -- Expressions of scalars give the same in the meaning and in code.
-use Rattle.std.proofs.Common.{◌≡◌, ℕ, zero, suc, ◌≤◌, ◌<◌, Bool, true, false, cond, ℤ, pos, List, []}
-use Rattle.std.proofs.Common.{◌∷◌, map, length, Option, Some, None, refl, sym, ap, ◌∙◌, subst, arith}
-use Rattle.std.specs.Prelude.{slice_get, slice_index_or, find, IfSome}
+use Rattle.std.proofs.Common.{◌≡◌, ℕ, ◌≤◌, ◌<◌, Bool, true, false, cond, ℤ, pos, List, []}
+use Rattle.std.proofs.Common.{◌∷◌, length, Option, Some, None, refl, sym, subst, arith}
+use Rattle.std.specs.Prelude.{slice_get, find, IfSome}
 use Rattle.std.specs.Option.{option_map}
 use Rattle.std.specs.Str.{bytes_eq}
 use Rattle.zpl_nums.specs.declared.operators.Op.{Op}
-use Rattle.zpl_nums.specs.Integer.{IsInteger, truth, negated, denied, absolute, is_true}
+use Rattle.zpl_nums.specs.Integer.{IsInteger, negated, denied, absolute}
 use Rattle.zpl_nums.specs.Op.{applied}
 use Rattle.zpl_nums.proofs.IntegerLemmas.{IsInteger-truth}
 use Rattle.zpl_nums.proofs.OperatorLemmas.{IsInteger-applied, IsInteger-negated, IsInteger-absolute}
 use Rattle.zpl_tree.specs.Syntax.{Expr, Number, Truth, Coord, Named, Shifted, Around, Remap, Call, Paren, Neg, Not, Abs, Pair, Reduce, Scan, Flood}
 use Rattle.zpl_meaning.specs.Computed as mean
-use Rattle.zpl_meaning.specs.Store.{Thing, Scalar, ArrayAt, Fixed, Names, Environment, Store, thing_of, scalar_at}
+use Rattle.zpl_meaning.specs.Store.{Thing, Scalar, ArrayAt, Fixed, Names, Environment, Store, thing_of}
 use Rattle.zpl_meaning.specs.Value as mean_value
 use Rattle.zpl_meaning.specs.Scalars.{IsScalarName, IsScalar}
 use Rattle.node_form.specs.declared.tables.Tables.{Tables}
@@ -21,7 +21,7 @@ use Rattle.flat_form.specs.Whole.{Whole}
 use Rattle.zpl_lowering.specs.Where.{Where, Next}
 use Rattle.zpl_lowering.specs.Words.{variable_code, thing_code, scalar_code}
 use Rattle.lowering_runs.specs.Seen.{scalar_in, Spot, seen_store, numbered, seen_thing, seen_names}
-use Rattle.lowering_runs.specs.Stands.{Rises, IsKnown, AreKnown, Stands, IsSound}
+use Rattle.lowering_runs.specs.Stands.{IsKnown, AreKnown, Stands, IsSound}
 use Rattle.lowering_runs.specs.Scalars.{IsScalarExpr, IsSameValue, BothGive, BothDivide}
 use Rattle.lowering_runs.proofs.NumberLemmas.{scalar_or, read_spot, get_some, number_below}
 

@@ -1,5 +1,5 @@
 -- A flat program that shows what a program means comes to no row that may not stand there.
-use Rattle.std.proofs.Common.{◌≡◌, ◌≢◌, ℕ, ◌+◌, ◌≤◌, ◌<◌, ◌⊎◌, inl, inr, refl, sym, ap, ◌∙◌, arith}
+use Rattle.std.proofs.Common.{◌≡◌, ◌≢◌, ℕ, ◌+◌, ◌≤◌, ◌<◌, ◌⊎◌, inl, inr, sym, ap, ◌∙◌, arith}
 use Rattle.std.proofs.lemmas.Bool.{cases_lt}
 use Rattle.zpl_nums.specs.declared.ends.End.{End}
 use Rattle.zpl_nums.specs.declared.ends.End.TheVariants.{More}

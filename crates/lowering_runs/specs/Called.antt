@@ -1,7 +1,5 @@
 -- Calls: what is called goes as its code does.
-use Rattle.std.specs.Prelude.{◌≡◌, ℕ, List, [], ◌∷◌, ◌++◌, length, map}
-use Rattle.zpl_tree.specs.Syntax.{Exprs, NoExpr, ThenExpr}
-use Rattle.zpl_names.specs.Kinds.{Formal, ScalarFormal, ArrayFormal}
+use Rattle.std.specs.Prelude.{◌≡◌, ℕ, List, length, map}
 use Rattle.zpl_meaning.specs.Store.{Store}
 use Rattle.zpl_meaning.specs.Context.{Setup}
 use Rattle.zpl_meaning.specs.Calls.{Called}

@@ -1,16 +1,16 @@
 -- Programs of scalars: their procedures' statements are those for which it is proved here that code
 -- goes as they do. Of text alone.
-use Rattle.std.specs.Prelude.{◌≡◌, ℕ, zero, suc, false, List, [], ◌∷◌, Some, None}
+use Rattle.std.specs.Prelude.{◌≡◌, ℕ, zero, suc, false, List, [], ◌∷◌, Some}
 use Rattle.zpl_nums.specs.Integer.{IsInteger}
 use Rattle.std.specs.Prelude.{pos}
 use Rattle.zpl_binding.specs.Outcome.{value_or, outcome_of}
 use Rattle.zpl_binding.specs.Settings.{Setting}
 use Rattle.zpl_binding.specs.Declarations.{known_of}
-use Rattle.zpl_tree.specs.Syntax.{Decl, Vars, Config, Constant, Regions, Directions, Defined, Expr, Exprs, NoExpr, ThenExpr, Item, Str, Value, Prefix, Stmt, Prefixed, Stmts, NoStmt, ThenStmt, Form, Assign, Invoke, Block, If, While, Repeat, For, Border, Write, Return, Arm, Tested, Arms, NoArm, ThenArm, Otherwise, NoElse, Else, Program}
+use Rattle.zpl_tree.specs.Syntax.{Decl, Vars, Config, Constant, Regions, Directions, Defined, Exprs, NoExpr, ThenExpr, Item, Str, Value, Stmt, Prefixed, Stmts, NoStmt, ThenStmt, Form, Assign, Invoke, Block, If, While, Repeat, For, Border, Write, Return, Arm, Tested, Arms, NoArm, ThenArm, Otherwise, NoElse, Else, Program}
 use Rattle.zpl_names.specs.Kinds.{Formal, ScalarFormal, ArrayFormal}
 use Rattle.zpl_names.specs.Scope.{kind_of}
 use Rattle.zpl_names.specs.Shapes.{unknown_shapes}
-use Rattle.zpl_names.specs.Sites.{Reach, in_body, Role, Assigned, Printed, whole_rank, handed, is_shattered}
+use Rattle.zpl_names.specs.Sites.{Reach, in_body, Assigned, Printed, whole_rank, handed, is_shattered}
 use Rattle.zpl_names.specs.Declared.{Routine, routine_named, scope_of}
 use Rattle.zpl_names.specs.Reached.{longest_chain}
 use Rattle.zpl_meaning.specs.Points.{assigned_expr}

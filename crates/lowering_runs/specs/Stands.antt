@@ -1,13 +1,13 @@
 -- What holds where a statement is lowered, what holds of a state there, and what the statement's
 -- code keeps of it.
-use Rattle.std.specs.Prelude.{◌≡◌, ◌≢◌, ℕ, zero, suc, ◌+◌, ◌<◌, ◌≤◌, true, ℤ, List, [], ◌∷◌, length, map, All, Option, Some, None}
+use Rattle.std.specs.Prelude.{◌≡◌, ◌≢◌, ℕ, suc, ◌+◌, ◌<◌, ◌≤◌, true, List, [], ◌∷◌, length, Option, Some, None}
 use Rattle.zpl_nums.specs.Integer.{IsInteger}
 use Rattle.zpl_meaning.specs.Store.{Thing, Scalar, ArrayAt, Fixed, Names, Store}
 use Rattle.node_form.specs.declared.tables.Tables.{Tables}
 use Rattle.flat_form.specs.Whole.{Whole}
 use Rattle.flat_form.specs.States.{IsWhole}
 use Rattle.flat_form.specs.Right.{is_settled}
-use Rattle.zpl_lowering.specs.Where.{Numbers, Slotted, SlotCurrents, SlotEdge, Where, Next}
+use Rattle.zpl_lowering.specs.Where.{Slotted, SlotCurrents, SlotEdge, Where, Next}
 use Rattle.zpl_lowering.specs.Lowered.{Lowered}
 use Rattle.lowering_runs.specs.Seen.{scalar_in, slot_in, Spot, seen_store, seen_names, numbered}
 
