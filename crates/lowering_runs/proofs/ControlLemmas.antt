@@ -1,0 +1,234 @@
+-- Sequences, choices and loops of statements.
+use Rattle.std.proofs.Common.{◌≡◌, ℕ, ◌≤◌, Bool, true, false, []}
+use Rattle.std.proofs.Common.{sym, subst, arith}
+use Rattle.zpl_tree.specs.Syntax.{Expr, Stmts, Form, Tested}
+use Rattle.zpl_names.specs.Sites.{is_shattered}
+use Rattle.zpl_meaning.specs.Store.{Store}
+use Rattle.zpl_meaning.specs.Context.{Place, reach_of}
+use Rattle.zpl_meaning.specs.Outcome as out
+use Rattle.zpl_meaning.specs.Outcome.{Outcome}
+use Rattle.zpl_meaning.specs.Statement as mean
+use Rattle.zpl_meaning.specs.Statement.{Context}
+use Rattle.node_form.specs.declared.tables.Tables.{Tables}
+use Rattle.row_runs.specs.Structured as code
+use Rattle.row_runs.specs.Structured.{Piece, Course}
+use Rattle.flat_form.specs.Row.{Row}
+use Rattle.flat_form.specs.Whole.{Whole}
+use Rattle.zpl_lowering.specs.Check.{Check}
+use Rattle.zpl_lowering.specs.Where.{Where, Next}
+use Rattle.zpl_lowering.specs.Where.{reach_of as where_reach}
+use Rattle.zpl_lowering.specs.Lowered.{Lowered, behind, joined, followed, rows_alone}
+use Rattle.zpl_lowering.specs.Statement as low
+use Rattle.zpl_lowering.specs.Statement.{Lowering}
+use Rattle.lowering_runs.specs.Seen.{Sight, seen_place}
+use Rattle.lowering_runs.specs.Run.{step, decide, does}
+use Rattle.lowering_runs.specs.Agrees.{Agrees}
+use Rattle.lowering_runs.specs.Scalars.{IsScalarAt}
+use Rattle.lowering_runs.specs.Stands.{HasRoom, IsLike}
+use Rattle.lowering_runs.specs.Goes.{World, context, lowering, Goes}
+use Rattle.lowering_runs.proofs.AgreeLemmas.{goes_agrees, weaker_agrees, jumping_agrees}
+use Rattle.lowering_runs.proofs.AgreeLemmas.{leaving_agrees, then_agrees}
+use Rattle.lowering_runs.proofs.LoopLemmas.{tested_agrees, while_agrees, repeat_agrees}
+use Rattle.lowering_runs.proofs.FitLemmas.{itself, before_behind, later_goes}
+use Rattle.lowering_runs.proofs.ScalarLemmas.{heads}
+
+-- ---- room for both parts
+
+pub room_first : (tables : Tables) (next : Next) (piece : Piece Row Check) (one other : Lowered)
+    → HasRoom tables next (joined piece one other) → HasRoom tables next one
+room_first tables next piece one other h = record { scalars = omega (arith, h.scalars) }
+
+pub room_rest : (tables : Tables) (next : Next) (piece : Piece Row Check) (one other : Lowered)
+    → HasRoom tables next (joined piece one other) → HasRoom tables (behind next one) other
+room_rest tables next piece one other h = record { scalars = omega (arith, h.scalars) }
+
+pub room_here : (tables : Tables) (next : Next) (own : Lowered) → HasRoom tables next own
+    → next.scalars ≤ tables.scalars
+room_here tables next own h = omega (arith, h.scalars)
+
+module _ (world : World) where
+  abbrev Like : Sight → Where → Next → Whole → Store → Whole → Type 0
+  Like sight w next start = IsLike world.tables sight.spots w next start
+
+  pub nothing_goes : (IsServed : Place → Type 0)
+      → Goes world IsServed (λ c store. out.goes_on store) (λ l next. rows_alone []) 0
+  nothing_goes IsServed sight w next start stands served room store now like =
+      goes_agrees (Like sight w next start) world.turns store now like
+
+  -- ---- one after the other
+
+  pub two_go : (One Other : Place → Type 0) (run rest : Context → Store → Outcome)
+      (made more : Lowering → Next → Lowered)
+      → Goes world One run made 0 → Goes world Other rest more 0
+      → Goes world (λ p. One p × Other p) (λ c store. out.then_do (run c store) (rest c))
+      (λ l next. followed next (made l next) (λ after. more l after)) 0
+  two_go One Other run rest made more first second sight w next start stands served room store now
+      like =
+      let l = lowering world w in
+      let one = made l next in
+      let other = more l (behind next one) in
+      then_agrees (Like sight w next start) (Like sight w next start) world.turns 0 0 _ _ _ _
+      (first sight w next start stands served.0
+      (room_first world.tables next (code.Then one.code other.code) one other room) store now like)
+      (λ s v k. later_goes world Other rest more 0 second sight w next (behind next one) start
+      (before_behind next one) stands served.1
+      (room_rest world.tables next (code.Then one.code other.code) one other room) s v k)
+
+  -- ---- statements that are not shattered
+
+  pub unsplit_goes : (IsServed : Place → Type 0) (form : Form)
+      (split plain : Context → Store → Outcome) (shattered made : Lowering → Next → Lowered)
+      (spare : ℕ) → Goes world IsServed plain made spare
+      → Goes world (λ p. (is_shattered (reach_of p) form ≡ false) × IsServed p)
+      (λ c store. out.choose (is_shattered (reach_of c.place) form) (split c) (plain c) store)
+      (λ l next. low.choose_code (is_shattered (where_reach l.place) form) (shattered l next)
+      (made l next)) spare
+  unsplit_goes IsServed form split plain shattered made spare goes sight w next start stands served
+      room store now like =
+      let l = lowering world w in
+      let c = context world sight w start in
+      subst (λ (b : Bool). HasRoom world.tables next
+      (low.choose_code b (shattered l next) (made l next))
+      → Agrees (Like sight w next start) world.turns spare
+      (out.choose b (split c) (plain c) store)
+      (does world.tables world.turns (low.choose_code b (shattered l next) (made l next)).code now))
+      (sym served.0)
+      (λ room. goes sight w next start stands served.1 room store now like) room
+
+  -- ---- choices
+
+  module _ (at offset : ℕ) (test : Expr) (body : Stmts) (IsServed : Place → Type 0)
+      (goes : Goes world IsServed (λ c. mean.exec_all c world.turns body)
+      (λ l next. low.lowered_all l next body) 0) where
+    pub when_goes : (last : Lowering → Next → Lowered)
+        → Goes world (λ p. IsScalarAt p test × IsServed p)
+        (λ c store. mean.exec_arm c world.turns at (Tested offset test body) out.goes_on store)
+        (λ l next. low.lowered_arm l next at (Tested offset test body) true (last l)) 0
+    when_goes last sight w next start stands served room store now like =
+        let l = lowering world w in
+        let t = low.test_of w next test at in
+        let more = behind next t.before in
+        let inside = low.lowered_all l more body in
+        let here = room_here world.tables next
+        (low.lowered_arm l next at (Tested offset test body) true (last l)) room in
+        tested_agrees (Like sight w next start) (Like sight w next start) world.turns
+        (mean.test_of (seen_place sight w start) test at)
+        (decide world.tables world.turns t.check) 0 2 0 store
+        (does world.tables world.turns t.before.code now)
+        (mean.exec_all (context world sight w start) world.turns body) out.goes_on
+        (λ state. code.jumping (does world.tables world.turns inside.code state))
+        (λ state. code.jumping (code.goes_on state)) (omega arith)
+        (heads world.tables world.turns sight w next start stands here next at test served.0 store
+        now like)
+        (λ v k. weaker_agrees (Like sight w next start) world.turns world.turns 1 2 _ _ (omega arith)
+        (omega arith) (jumping_agrees (Like sight w next start) world.turns 0 _ _
+        (later_goes world IsServed (λ c. mean.exec_all c world.turns body)
+        (λ l next. low.lowered_all l next body) 0 goes sight w next more start
+        (before_behind next t.before) stands served.1
+        (room_rest world.tables next (code.Then t.before.code inside.code) t.before inside
+        (record { scalars = room.scalars })) store v k)))
+        (λ v k. weaker_agrees (Like sight w next start) world.turns world.turns 1 2 _ _ (omega arith)
+        (omega arith) (jumping_agrees (Like sight w next start) world.turns 0 _ _
+        (goes_agrees (Like sight w next start) world.turns store v k)))
+
+    pub chosen_goes : (Other : Place → Type 0) (rest : Context → Store → Outcome)
+        (last : Lowering → Next → Lowered) → Goes world Other rest last 0
+        → Goes world (λ p. IsScalarAt p test × IsServed p × Other p)
+        (λ c store. mean.exec_arm c world.turns at (Tested offset test body) (rest c) store)
+        (λ l next. low.lowered_arm l next at (Tested offset test body) false (last l)) 0
+    chosen_goes Other rest last others sight w next start stands served room store now like =
+        let l = lowering world w in
+        let t = low.test_of w next test at in
+        let more = behind next t.before in
+        let inside = low.lowered_all l more body in
+        let far = behind more inside in
+        let other = last l far in
+        let here = room_here world.tables next
+        (low.lowered_arm l next at (Tested offset test body) false (last l)) room in
+        let rooms : HasRoom world.tables more
+        (joined (code.Then inside.code other.code) inside other) =
+        record { scalars = omega (arith, room.scalars) } in
+        let leave : Whole → Course Whole = λ state. code.jumping (code.goes_on state) in
+        tested_agrees (Like sight w next start) (Like sight w next start) world.turns
+        (mean.test_of (seen_place sight w start) test at)
+        (decide world.tables world.turns t.check) 0 2 0 store
+        (does world.tables world.turns t.before.code now)
+        (mean.exec_all (context world sight w start) world.turns body)
+        (rest (context world sight w start))
+        (λ state. code.jumping
+        (code.then_do (does world.tables world.turns inside.code state) leave))
+        (λ state. code.jumping (does world.tables world.turns other.code state)) (omega arith)
+        (heads world.tables world.turns sight w next start stands here next at test served.0 store
+        now like)
+        (λ v k. jumping_agrees (Like sight w next start) world.turns 1 _ _
+        (leaving_agrees (Like sight w next start) world.turns 0 _ _
+        (later_goes world IsServed (λ c. mean.exec_all c world.turns body)
+        (λ l next. low.lowered_all l next body) 0 goes sight w next more start
+        (before_behind next t.before) stands served.1
+        (room_first world.tables more (code.Then inside.code other.code) inside other rooms)
+        store v k)))
+        (λ v k. weaker_agrees (Like sight w next start) world.turns world.turns 1 2 _ _ (omega arith)
+        (omega arith) (jumping_agrees (Like sight w next start) world.turns 0 _ _
+        (later_goes world Other rest last 0 others sight w next far start
+        (record {
+          scalars = omega arith;
+          slots = omega arith;
+        }) stands served.2
+        (room_rest world.tables more (code.Then inside.code other.code) inside other rooms)
+        store v k)))
+
+  -- ---- loops
+
+  module _ (at : ℕ) (test : Expr) (body : Stmts) (IsServed : Place → Type 0)
+      (goes : Goes world IsServed (λ c. mean.exec_all c world.turns body)
+      (λ l next. low.lowered_all l next body) 0) where
+    pub while_goes : Goes world (λ p. IsScalarAt p test × IsServed p)
+        (λ c store. out.while_turns world.turns (mean.test_of c.place test at)
+        (mean.exec_all c world.turns body) store)
+        (λ l next. low.while_code next (low.test_of l.place next test at)
+        (λ after. low.lowered_all l after body)) 0
+    while_goes sight w next start stands served room store now like =
+        let l = lowering world w in
+        let t = low.test_of w next test at in
+        let more = behind next t.before in
+        let inside = low.lowered_all l more body in
+        let here = room_here world.tables next
+        (joined (code.While t.before.code t.check inside.code) t.before inside) room in
+        while_agrees (step world.tables world.turns) (decide world.tables world.turns)
+        (Like sight w next start) (mean.test_of (seen_place sight w start) test at) t.check 0
+        (omega arith) (does world.tables world.turns t.before.code)
+        (λ s v k. heads world.tables world.turns sight w next start stands here next at test
+        served.0 s v k)
+        world.turns (mean.exec_all (context world sight w start) world.turns body)
+        (does world.tables world.turns inside.code)
+        (λ s v k. later_goes world IsServed (λ c. mean.exec_all c world.turns body)
+        (λ l next. low.lowered_all l next body) 0 goes sight w next more start
+        (before_behind next t.before) stands served.1
+        (room_rest world.tables next (code.While t.before.code t.check inside.code) t.before inside
+        room) s v k)
+        world.turns (omega arith) store now like
+
+    pub repeat_goes : Goes world (λ p. IsScalarAt p test × IsServed p)
+        (λ c store. out.repeat_turns world.turns (mean.test_of c.place test at)
+        (mean.exec_all c world.turns body) store)
+        (λ l next. low.repeat_code next (low.lowered_all l next body)
+        (λ after. low.test_of l.place after test at)) 1
+    repeat_goes sight w next start stands served room store now like =
+        let l = lowering world w in
+        let inside = low.lowered_all l next body in
+        let t = low.test_of w (behind next inside) test at in
+        let here = room_here world.tables next
+        (joined (code.Repeat inside.code t.before.code t.check) inside t.before) room in
+        repeat_agrees (step world.tables world.turns) (decide world.tables world.turns)
+        (Like sight w next start) (mean.test_of (seen_place sight w start) test at) t.check 0
+        (omega arith) (does world.tables world.turns t.before.code)
+        (λ s v k. heads world.tables world.turns sight w next start stands here
+        (behind next inside) at test served.0 s v k)
+        world.turns (mean.exec_all (context world sight w start) world.turns body)
+        (does world.tables world.turns inside.code)
+        (λ s v k. later_goes world IsServed (λ c. mean.exec_all c world.turns body)
+        (λ l next. low.lowered_all l next body) 0 goes sight w next next start
+        (itself next) stands served.1
+        (room_first world.tables next (code.Repeat inside.code t.before.code t.check) inside
+        t.before room) s v k)
+        world.turns (omega arith) store now like

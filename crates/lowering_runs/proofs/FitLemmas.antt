@@ -1,0 +1,168 @@
+-- What holds where a statement stands holds behind what comes before it.
+use Rattle.std.proofs.Common.{◌≡◌, ℕ, ◌≤◌, ◌<◌, List}
+use Rattle.std.proofs.Common.{Option, Some, None, refl, sym, ap, ◌∙◌, subst, arith}
+use Rattle.std.specs.Option.{option_map}
+use Rattle.zpl_region.specs.declared.regions.Region.{Region}
+use Rattle.zpl_meaning.specs.Store.{Store}
+use Rattle.zpl_meaning.specs.Context.{Over, Currents, Edge, Place}
+use Rattle.zpl_meaning.specs.Outcome.{Outcome}
+use Rattle.zpl_meaning.specs.Statement.{Context}
+use Rattle.node_form.specs.declared.tables.Tables.{Tables}
+use Rattle.flat_form.specs.Whole.{Whole}
+use Rattle.zpl_lowering.specs.Where.{Slotted, SlotCurrents, SlotEdge, Where, Next}
+use Rattle.zpl_lowering.specs.Lowered.{Lowered, behind}
+use Rattle.zpl_lowering.specs.Statement.{Lowering}
+use Rattle.lowering_runs.specs.Seen.{slot_in, Spot, Sight, numbered, seen_over, seen_currents, seen_edge, seen_place}
+use Rattle.lowering_runs.specs.Run.{does}
+use Rattle.lowering_runs.specs.Agrees.{Agrees}
+use Rattle.lowering_runs.specs.Stands.{IsBefore, IsTaken, IsTakenEdge, AreTaken, Stands, HasRoom, Keeps, IsLike}
+use Rattle.lowering_runs.specs.Goes.{World, context, lowering, Goes}
+use Rattle.lowering_runs.proofs.NumberLemmas.{rises_on}
+use Rattle.lowering_runs.proofs.AgreeLemmas.{alike_agrees}
+
+-- ---- numbers that are free
+
+pub itself : (next : Next) → IsBefore next next
+itself next = record { scalars = omega arith; slots = omega arith }
+
+pub before_behind : (next : Next) (own : Lowered) → IsBefore next (behind next own)
+before_behind next own = record { scalars = omega arith; slots = omega arith }
+
+-- ---- regions in slots that are kept
+
+taken_on : (one : Option Slotted) (slots more : ℕ) → slots ≤ more → IsTaken one slots
+    → IsTaken one more
+taken_on None slots more le h = tt
+taken_on (Some one) slots more le h = omega (arith, le, h)
+
+edge_on : (one : Option SlotEdge) (slots more : ℕ) → slots ≤ more → IsTakenEdge one slots
+    → IsTakenEdge one more
+edge_on None slots more le h = tt
+edge_on (Some one) slots more le h = omega (arith, le, h)
+
+pub all_taken_on : (currents : SlotCurrents) (slots more : ℕ) → slots ≤ more
+    → AreTaken currents slots → AreTaken currents more
+all_taken_on currents slots more le h = record {
+  one = taken_on currents.one slots more le h.one;
+  two = taken_on currents.two slots more le h.two;
+  three = taken_on currents.three slots more le h.three;
+}
+
+module _ (before after : Whole) (slots : ℕ)
+    (kept : (k : ℕ) → k < slots → slot_in after k ≡ slot_in before k) where
+  over_kept : (one : Option Slotted) → IsTaken one slots
+      → option_map (seen_over after) one ≡ option_map (seen_over before) one
+  over_kept None h = refl
+  over_kept (Some one) h =
+      ap (λ (r : Region). Some (record { region = r; mask = one.mask })) (kept one.slot h)
+
+  edge_kept : (one : Option SlotEdge) → IsTakenEdge one slots
+      → option_map (seen_edge after) one ≡ option_map (seen_edge before) one
+  edge_kept None h = refl
+  edge_kept (Some one) h =
+      ap (λ (r : Region). Some (record { shift = one.shift; region = r })) (kept one.slot h)
+
+  pub currents_kept : (currents : SlotCurrents) → AreTaken currents slots
+      → seen_currents after currents ≡ seen_currents before currents
+  currents_kept currents h =
+      ap (λ (o : Option Over). record (seen_currents after currents) { one = o })
+      (over_kept currents.one h.one)
+      ∙ ap (λ (o : Option Over). record (seen_currents after currents) {
+        one = option_map (seen_over before) currents.one;
+        two = o;
+      }) (over_kept currents.two h.two)
+      ∙ ap (λ (o : Option Over). record (seen_currents before currents) { three = o })
+      (over_kept currents.three h.three)
+
+  pub place_kept : (sight : Sight) (w : Where) → AreTaken w.currents slots
+      → IsTakenEdge w.edge slots → seen_place sight w after ≡ seen_place sight w before
+  place_kept sight w h e =
+      ap (λ (c : Currents). record (seen_place sight w after) { currents = c })
+      (currents_kept w.currents h)
+      ∙ ap (λ (o : Option Edge). record (seen_place sight w before) { edge = o })
+      (edge_kept w.edge e)
+
+-- ---- places
+
+pub stands_on : (spots : List Spot) (w : Where) (next more : Next) → IsBefore next more
+    → Stands spots w next → Stands spots w more
+stands_on spots w next more b h = record {
+  numbers = h.numbers;
+  rises = rises_on 0 (numbered spots) next.scalars more.scalars b.scalars h.rises;
+  known = h.known;
+  globals = h.globals;
+  unmoved = h.unmoved;
+  taken = all_taken_on w.currents next.slots more.slots b.slots h.taken;
+  edge = edge_on w.edge next.slots more.slots b.slots h.edge;
+}
+
+-- ---- what is kept
+
+pub keeps_all : (numbers : List ℕ) (next : Next) (whole : Whole) → Keeps numbers next whole whole
+keeps_all numbers next whole = record { hidden = λ k l m. refl; slots = λ k l. refl }
+
+pub keeps_then : (numbers : List ℕ) (next more : Next) (before mid after : Whole)
+    → IsBefore next more → Keeps numbers next before mid → Keeps numbers more mid after
+    → Keeps numbers next before after
+keeps_then numbers next more before mid after b k h = record {
+  hidden = λ i l m. h.hidden i (omega (arith, l, b.scalars)) m ∙ k.hidden i l m;
+  slots = λ i l. h.slots i (omega (arith, l, b.slots)) ∙ k.slots i l;
+}
+
+module _ (tables : Tables) (spots : List Spot) (w : Where) where
+  pub like_anew : (next more : Next) (start : Whole) (store : Store) (now : Whole)
+      → IsLike tables spots w next start store now → IsLike tables spots w more now store now
+  like_anew next more start store now h = record {
+    seen = h.seen;
+    sound = h.sound;
+    kept = keeps_all (numbered spots) more now;
+  }
+
+  pub like_then : (next more : Next) (start : Whole) (store : Store) (mid : Whole) (later : Store)
+      (after : Whole) → IsBefore next more → IsLike tables spots w next start store mid
+      → IsLike tables spots w more mid later after → IsLike tables spots w next start later after
+  like_then next more start store mid later after b h k = record {
+    seen = k.seen;
+    sound = k.sound;
+    kept = keeps_then (numbered spots) next more start mid after b h.kept k.kept;
+  }
+
+-- ---- a part of a statement, behind others
+
+module _ (world : World) where
+  pub inner_goes : (IsServed : Place → Type 0) (run : Context → Store → Outcome)
+      (made : Lowering → Next → Lowered) (spare : ℕ) → Goes world IsServed run made spare
+      → (sight : Sight) (w : Where) (next more : Next) (start : Whole) → IsBefore next more
+      → Stands sight.spots w next → IsServed (seen_place sight w start)
+      → HasRoom world.tables more (made (lowering world w) more) → (store : Store) (mid : Whole)
+      → IsLike world.tables sight.spots w next start store mid
+      → Agrees (IsLike world.tables sight.spots w more mid) world.turns spare
+      (run (context world sight w start) store)
+      (does world.tables world.turns (made (lowering world w) more).code mid)
+  inner_goes IsServed run made spare goes sight w next more start b stands served room store mid
+      like =
+      let same : seen_place sight w mid ≡ seen_place sight w start =
+      place_kept start mid next.slots like.kept.slots sight w stands.taken stands.edge in
+      let made_of = does world.tables world.turns (made (lowering world w) more).code mid in
+      subst (λ (p : Place). Agrees (IsLike world.tables sight.spots w more mid) world.turns spare
+      (run (record { place = p; call = world.call }) store) made_of) same
+      (goes sight w more mid (stands_on sight.spots w next more b stands)
+      (subst (λ (p : Place). IsServed p) (sym same) served) room store mid
+      (like_anew world.tables sight.spots w next more start store mid like))
+
+  pub later_goes : (IsServed : Place → Type 0) (run : Context → Store → Outcome)
+      (made : Lowering → Next → Lowered) (spare : ℕ) → Goes world IsServed run made spare
+      → (sight : Sight) (w : Where) (next more : Next) (start : Whole) → IsBefore next more
+      → Stands sight.spots w next → IsServed (seen_place sight w start)
+      → HasRoom world.tables more (made (lowering world w) more) → (store : Store) (mid : Whole)
+      → IsLike world.tables sight.spots w next start store mid
+      → Agrees (IsLike world.tables sight.spots w next start) world.turns spare
+      (run (context world sight w start) store)
+      (does world.tables world.turns (made (lowering world w) more).code mid)
+  later_goes IsServed run made spare goes sight w next more start b stands served room store mid
+      like =
+      alike_agrees (IsLike world.tables sight.spots w more mid)
+      (IsLike world.tables sight.spots w next start) world.turns spare _ _
+      (λ s v l. like_then world.tables sight.spots w next more start store mid s v b like l)
+      (inner_goes IsServed run made spare goes sight w next more start b stands served room store
+      mid like)

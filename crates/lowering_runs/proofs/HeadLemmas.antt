@@ -1,0 +1,317 @@
+-- Statements whose expressions are computed one after another into free scalars; `for`.
+use Rattle.std.proofs.Common.{◌≡◌, ℕ, zero, suc, ◌+◌, ◌≤◌, ◌<◌, Bool, true, false, not, ◌&&◌, ℤ}
+use Rattle.std.proofs.Common.{pos, List, [], ◌∷◌, length, Option, Some, None, refl, sym}
+use Rattle.std.proofs.Common.{ap, ◌∙◌, subst, arith}
+use Rattle.std.specs.Prelude.{slice_get, slice_index_or, int_lt}
+use Rattle.std.specs.Option.{option_map}
+use Rattle.zpl_tree.specs.Syntax.{ForHead, Stmts, For}
+use Rattle.zpl_meaning.specs.Computed as mean
+use Rattle.zpl_meaning.specs.Store.{Store, Thing, Scalar, ArrayAt, Fixed, Environment, thing_of}
+use Rattle.zpl_meaning.specs.Store as mean_store
+use Rattle.zpl_meaning.specs.Context.{Place}
+use Rattle.zpl_meaning.specs.Scalars.{AreScalars, values_of}
+use Rattle.zpl_meaning.specs.Phases.{scalars_in}
+use Rattle.zpl_meaning.specs.Proper.{IsVariable}
+use Rattle.zpl_meaning.specs.Outcome as out
+use Rattle.zpl_meaning.specs.Outcome.{Outcome, Count, is_past}
+use Rattle.zpl_meaning.specs.Statement as mean_statement
+use Rattle.zpl_meaning.specs.Statement.{Context, step_expr, start_of, Start}
+use Rattle.zpl_meaning.proofs.ScalarLemmas.{scalars_are_values}
+use Rattle.node_form.specs.declared.tables.Tables.{Tables}
+use Rattle.node_form.specs.Expression.{Expression, Variable}
+use Rattle.row_runs.specs.Code.{Decision, Says}
+use Rattle.row_runs.specs.Structured as code
+use Rattle.row_runs.specs.Structured.{Course, rows_do}
+use Rattle.flat_form.specs.Whole.{Whole}
+use Rattle.zpl_lowering.specs.Where.{Where, Next, line_of}
+use Rattle.zpl_lowering.specs.Lowered.{Lowered, behind, check_of, phased, rows_alone}
+use Rattle.zpl_lowering.specs.Slate as low_slate
+use Rattle.zpl_lowering.specs.Statement as low
+use Rattle.zpl_lowering.specs.Statement.{Lowering}
+use Rattle.lowering_runs.specs.Seen.{Sight, numbered, place_of, seen_place, seen_thing}
+use Rattle.lowering_runs.specs.Run.{step, decide, does}
+use Rattle.lowering_runs.specs.Agrees.{Agrees}
+use Rattle.lowering_runs.specs.Scalars.{IsScalarAt}
+use Rattle.lowering_runs.specs.Stands.{IsBefore, Stands, HasRoom, IsLike}
+use Rattle.lowering_runs.specs.Goes.{World, context, lowering, Goes}
+use Rattle.lowering_runs.proofs.NumberLemmas.{get_some}
+use Rattle.lowering_runs.proofs.AgreeLemmas.{goes_agrees, jumping_agrees}
+use Rattle.lowering_runs.proofs.ValueLemmas.{thing_seen, known_thing, scalar_unseen}
+use Rattle.lowering_runs.proofs.BareLemmas.{AreScalarsOf, codes_of, all_passed}
+use Rattle.lowering_runs.proofs.ListLemmas.{AreScalarsAt, AreSet, meant, values_agree}
+use Rattle.lowering_runs.proofs.StepLemmas.{le_not, not_below}
+use Rattle.lowering_runs.proofs.ForLemmas.{AtTurn, enters_says, turns_agree, within, within_is}
+
+-- ---- lists of expressions
+
+scalars_meant : (place : Place) (exprs : List low_slate.Placed) → AreScalarsAt place exprs
+    → AreScalars place.environment (meant exprs)
+scalars_meant place [] h = tt
+scalars_meant place (placed ∷ exprs) h = (h.0.1, scalars_meant place exprs h.1)
+
+pub scalars_of : (sight : Sight) (w : Where) (start : Whole) (exprs : List low_slate.Placed)
+    → AreScalarsAt (seen_place sight w start) exprs → AreScalarsOf w exprs
+scalars_of sight w start [] h = tt
+scalars_of sight w start (placed ∷ exprs) h =
+    (scalar_unseen sight.spots w.environment placed.expr h.0.1, scalars_of sight w start exprs h.1)
+
+codes_length : (w : Where) (exprs : List low_slate.Placed)
+    → length (codes_of w exprs) ≡ length exprs
+codes_length w [] = refl
+codes_length w (placed ∷ exprs) = ap suc (codes_length w exprs)
+
+pub left_length : (sight : Sight) (w : Where) (line : ℕ) (next : Next) (start : Whole)
+    (exprs : List low_slate.Placed) → AreScalarsAt (seen_place sight w start) exprs
+    → length (phased w line next exprs).left ≡ length exprs
+left_length sight w line next start exprs s =
+    ap length (all_passed w line next exprs (scalars_of sight w start exprs s)).left_is
+    ∙ codes_length w exprs
+
+pub with_computed_value : {A B : Type 0} (c : mean.Computed A) (g : A → B) (store : Store)
+    (line : ℕ) (rest : B → Outcome)
+    → out.with_value (mean.computed_then c (λ x. mean.Gives (g x))) store line rest
+    ≡ out.with_value c store line (λ x. rest (g x))
+with_computed_value (mean.Gives x) g store line rest = refl
+with_computed_value (mean.Traps kind) g store line rest = refl
+
+module _ (tables : Tables) (n : ℕ) (sight : Sight) (w : Where) (next : Next) (start : Whole)
+    (stands : Stands sight.spots w next) (line : ℕ) (exprs : List low_slate.Placed)
+    (s : AreScalarsAt (seen_place sight w start) exprs) where
+  abbrev first : ℕ
+  first = next.scalars + (phased w line next exprs).lowered.scalars
+
+  abbrev own : Lowered
+  own = low.with_values line first (phased w line next exprs)
+
+  pub valued_agrees : (IsAlike : Store → Whole → Type 0) (turns spare : ℕ)
+      → HasRoom tables next own → (store : Store) (now : Whole)
+      → IsLike tables sight.spots w next start store now → (rest : List ℤ → Outcome)
+      (others : Whole → Course Whole)
+      → ((values : List ℤ) (after : Whole)
+      → IsLike tables sight.spots w next start store after
+      → AreSet first (length exprs) now values after
+      → Agrees IsAlike turns spare (rest values) (others after))
+      → Agrees IsAlike turns spare
+      (out.with_value (scalars_in (seen_place sight w start) store (meant exprs)) store line rest)
+      (code.then_do (does tables n own.code now) others)
+  valued_agrees IsAlike turns spare room store now like rest others h =
+      let phases = phased w line next exprs in
+      let place = seen_place sight w start in
+      let passed = all_passed w line next exprs (scalars_of sight w start exprs s) in
+      let here : next.scalars ≤ tables.scalars = omega (arith, room.scalars) in
+      let outcome : mean.Computed (List ℤ) → Outcome = λ c. out.with_value c store line rest in
+      let rows : List Expression → Whole → Course Whole = λ left now.
+      rows_do (step tables n) (decide tables n) (low.value_rows line first left) now in
+      subst (λ (c : mean.Computed (List ℤ)). Agrees IsAlike turns spare (outcome c)
+      (code.then_do (does tables n own.code now) others))
+      (sym (scalars_are_values place store (meant exprs) (scalars_meant place exprs s)))
+      (subst (λ (c : Course Whole). Agrees IsAlike turns spare
+      (outcome (values_of place.environment store (meant exprs)))
+      (code.then_do (code.then_do c (rows phases.left)) others)) (sym (passed.still tables n now))
+      (subst (λ (left : List Expression). Agrees IsAlike turns spare
+      (outcome (values_of place.environment store (meant exprs)))
+      (code.then_do (rows left now) others)) (sym passed.left_is)
+      (values_agree tables n sight w next start stands here IsAlike turns spare line store exprs
+      first now rest others s (omega arith)
+      (omega (arith, room.scalars, left_length sight w line next start exprs s)) like h)))
+
+-- ---- `for`
+
+past_turns : (count : Count) (set : ℤ → Store → Store) (body : Store → Outcome) (m : ℕ) (v : ℤ)
+    (store : Store) → is_past count v ≡ true
+    → out.for_turns m count set body v store ≡ out.goes_on store
+past_turns count set body zero v store e =
+    ap (λ b. out.choose b out.goes_on out.wants_more store) e
+past_turns count set body (suc m) v store e =
+    ap (λ b. out.choose b out.goes_on (λ store. out.counting 1 (out.then_do (body (set v store))
+    (out.for_turns m count set body (out.next_value count v)))) store) e
+
+module _ (world : World) (at : ℕ) (head : ForHead) (body : Stmts) (IsServed : Place → Type 0)
+    (goes : Goes world IsServed (λ c. mean_statement.exec_all c world.turns body)
+    (λ l next. low.lowered_all l next body) 0) where
+  abbrev pub IsServedFor : Place → Type 0
+  IsServedFor p =
+      IsScalarAt p head.first × IsScalarAt p head.last × IsScalarAt p (step_expr head.step)
+      × IsVariable (thing_of p.environment head.name.text) × IsServed p
+
+  module _ (sight : Sight) (w : Where) (next : Next) (start : Whole)
+      (stands : Stands sight.spots w next) (served : IsServedFor (seen_place sight w start))
+      (room : HasRoom world.tables next (low.lowered_form (lowering world w) next at (For head body)))
+    where
+      abbrev Like : Store → Whole → Type 0
+      Like = IsLike world.tables sight.spots w next start
+
+      abbrev line : ℕ
+      line = line_of w at
+
+      abbrev exprs : List low_slate.Placed
+      exprs = low.head_exprs w head
+
+      abbrev scalars : AreScalarsAt (seen_place sight w start) exprs
+      scalars = (served.0, (served.1, (served.2, tt)))
+
+      abbrev c : ℕ
+      c = next.scalars + (phased w line next exprs).lowered.scalars
+
+      abbrev after : Next
+      after = behind next (low.with_values line c (phased w line next exprs))
+
+      abbrev inner : Next
+      inner = behind after (rows_alone [])
+
+      abbrev inside : Lowered
+      inside = low.lowered_all (lowering world w) inner body
+
+      abbrev turns : ℤ → ℤ → ℤ → Thing → Store → Outcome
+      turns first by last thing store =
+          mean_statement.for_from world.turns (Some thing)
+          (record { first = first; count = record { down = head.down; by = by; last = last } })
+          (mean_statement.exec_all (context world sight w start) world.turns body) store
+
+      -- the code of the turns, where the variable has a number or none
+      abbrev coded : Option ℕ → Lowered
+      coded number =
+          low.counted head.down (low.counter_from c) line number after
+          (λ more. low.lowered_all (lowering world w) more body)
+
+      free : next.scalars ≤ c
+      free = omega arith
+
+      fits : c + 3 ≤ world.tables.scalars
+      fits = omega (arith, room.scalars, left_length sight w line next start exprs scalars)
+
+      before : IsBefore next inner
+      before = record { scalars = omega arith; slots = omega arith }
+
+      taken : c + 3 ≤ inner.scalars
+      taken = omega (arith, left_length sight w line next start exprs scalars)
+
+      inside_room : HasRoom world.tables inner inside
+      inside_room = record { scalars = omega (arith, room.scalars) }
+
+      abbrev turn : ℕ → Whole → Course Whole
+      turn k now =
+          code.then_do (code.then_do
+          (rows_do (step world.tables world.turns) (decide world.tables world.turns)
+          (low.set_row line (Variable c) (Some k)) now) (does world.tables world.turns inside.code))
+          (rows_do (step world.tables world.turns) (decide world.tables world.turns)
+          (low.step_row head.down (low.counter_from c) line ∷ []))
+
+      abbrev enter : ℕ → Whole → Course Whole
+      enter k i =
+          code.jumping (code.repeat_turns (step world.tables world.turns)
+          (decide world.tables world.turns) world.turns (turn k) (λ s. code.goes_on s)
+          (check_of (low.is_done head.down (low.counter_from c)) line) i)
+
+      either : (p k : ℕ) → slice_get (numbered sight.spots) p ≡ Some k → (first by last : ℤ)
+          (store : Store) (begun : Whole)
+          → AtTurn world sight w next start stands c free fits head.down by last line first store begun
+          → (b : Bool) → int_lt by (pos 1) ≡ b → (past : Bool)
+          → is_past (record { down = head.down; by = by; last = last }) first ≡ past
+          → Agrees Like world.turns 1
+          (out.choose b out.goes_on (out.for_turns world.turns
+          (record { down = head.down; by = by; last = last })
+          (λ value store. mean_store.with_scalar store (place_of sight.spots p) value)
+          (mean_statement.exec_all (context world sight w start) world.turns body) first) store)
+          (code.choose (Says (not b && not past)) (enter k) (λ i. code.jumping (code.goes_on i)) begun)
+      either p k found first by last store begun h true e past f =
+          jumping_agrees Like world.turns 0 _ _ (goes_agrees Like world.turns store begun h.like)
+      either p k found first by last store begun h false e true f =
+          let count : Count = record { down = head.down; by = by; last = last } in
+          let set_to : ℤ → Store → Store =
+          λ value store. mean_store.with_scalar store (place_of sight.spots p) value in
+          let run = mean_statement.exec_all (context world sight w start) world.turns body in
+          subst (λ (o : Outcome). Agrees Like world.turns 1 o (code.jumping (code.goes_on begun)))
+          (sym (past_turns count set_to run world.turns first store f))
+          (jumping_agrees Like world.turns 0 _ _ (goes_agrees Like world.turns store begun h.like))
+      either p k found first by last store begun h false e false f =
+          jumping_agrees Like world.turns 0 _ _
+          (turns_agree world sight w next start stands c free fits head.down by last line
+          (not_below by (pos 1) e) p k found inner before taken IsServed
+          (λ c. mean_statement.exec_all c world.turns body) (λ l next. low.lowered_all l next body)
+          goes served.4 inside_room world.turns (omega arith) first store begun h f)
+
+      begins : (p k : ℕ) → slice_get (numbered sight.spots) p ≡ Some k → (first by last : ℤ)
+          (store : Store) (begun : Whole)
+          → AtTurn world sight w next start stands c free fits head.down by last line first store begun
+          → Agrees Like world.turns 1 (turns first by last (Scalar (place_of sight.spots p)) store)
+          (does world.tables world.turns (coded (Some k)).code begun)
+      begins p k found first by last store begun turn =
+          let count : Count = record { down = head.down; by = by; last = last } in
+          subst (λ (d : Decision). Agrees Like world.turns 1
+          (turns first by last (Scalar (place_of sight.spots p)) store)
+          (code.choose d (enter k) (λ i. code.jumping (code.goes_on i)) begun))
+          (sym (enters_says world sight w next start stands c free fits head.down by last line first
+          store begun turn
+          ∙ ap (λ b. Says (b && within head.down first last)) (le_not (pos 1) by)
+          ∙ ap (λ b. Says (not (int_lt by (pos 1)) && b)) (within_is head.down first by last)))
+          (either p k found first by last store begun turn (int_lt by (pos 1)) refl
+          (is_past count first) refl)
+
+      counted : (values : List ℤ) (store : Store) (now begun : Whole) → Like store begun
+          → AreSet c 3 now values begun → (thing : Option Thing)
+          → thing_of w.environment head.name.text ≡ thing
+          → IsVariable (option_map (seen_thing sight.spots) thing)
+          → Agrees Like world.turns 1
+          (mean_statement.for_from world.turns (option_map (seen_thing sight.spots) thing)
+          (start_of head.down values)
+          (mean_statement.exec_all (context world sight w start) world.turns body) store)
+          (does world.tables world.turns (coded (low.scalar_of w.numbers thing)).code begun)
+      counted (first ∷ last ∷ by ∷ []) store now begun like are (Some (Scalar p)) e v =
+          let k = slice_index_or (numbered sight.spots) p 0 in
+          let below : p < length (numbered sight.spots) =
+          known_thing (length (numbered sight.spots)) (length w.numbers.arrays)
+          w.environment.names head.name.text (Scalar p) stands.known e in
+          let found : slice_get (numbered sight.spots) p ≡ Some k =
+          get_some (numbered sight.spots) p 0 below in
+          subst (λ (o : Option ℕ). Agrees Like world.turns 1
+          (turns first by last (Scalar (place_of sight.spots p)) store)
+          (does world.tables world.turns (coded o).code begun))
+          (sym (ap (λ (ks : List ℕ). slice_get ks p) (sym stands.numbers) ∙ found))
+          (begins p k found first by last store begun
+          (record { like = like; at = are.held.0; to = are.held.1.0; step_by = are.held.1.1.0 }))
+      counted [] store now begun like are (Some (Scalar p)) e v = absurd (omega (arith, are.as_many))
+      counted (a ∷ []) store now begun like are (Some (Scalar p)) e v =
+          absurd (omega (arith, are.as_many))
+      counted (a ∷ b ∷ []) store now begun like are (Some (Scalar p)) e v =
+          absurd (omega (arith, are.as_many))
+      counted (a ∷ b ∷ d ∷ f ∷ more) store now begun like are (Some (Scalar p)) e v =
+          absurd (omega (arith, are.as_many))
+      counted values store now begun like are (Some (ArrayAt p home)) e v = absurd v
+      counted values store now begun like are (Some (Fixed value)) e v = absurd v
+      counted values store now begun like are None e v = absurd v
+
+      pub for_agrees : (store : Store) (now : Whole) → Like store now
+          → Agrees Like world.turns 1
+          (mean_statement.exec_form (context world sight w start) world.turns at (For head body) store)
+          (does world.tables world.turns
+          (low.lowered_form (lowering world w) next at (For head body)).code now)
+      for_agrees store now like =
+          let place = seen_place sight w start in
+          let thing = thing_of place.environment head.name.text in
+          let run = mean_statement.exec_all (context world sight w start) world.turns body in
+          let seen = thing_seen sight.spots w.environment.names head.name.text in
+          subst (λ (o : Outcome). Agrees Like world.turns 1 o
+          (does world.tables world.turns
+          (low.lowered_form (lowering world w) next at (For head body)).code now))
+          (sym (with_computed_value (scalars_in place store (meant exprs)) (start_of head.down) store
+          line (λ begin. mean_statement.for_from world.turns thing begin run store)))
+          (valued_agrees world.tables world.turns sight w next start stands line exprs scalars Like
+          world.turns 1 (record { scalars = omega (arith, room.scalars) }) store now like
+          (λ values. mean_statement.for_from world.turns thing (start_of head.down values) run store)
+          (does world.tables world.turns
+          (coded (low.scalar_of w.numbers (thing_of w.environment head.name.text))).code)
+          (λ values begun l are.
+          subst (λ (t : Option Thing). Agrees Like world.turns 1
+          (mean_statement.for_from world.turns t (start_of head.down values) run store)
+          (does world.tables world.turns
+          (coded (low.scalar_of w.numbers (thing_of w.environment head.name.text))).code begun))
+          (sym seen)
+          (counted values store now begun l are (thing_of w.environment head.name.text) refl
+          (subst (λ (t : Option Thing). IsVariable t) seen served.3))))
+
+  pub for_goes : Goes world IsServedFor
+      (λ c store. mean_statement.exec_form c world.turns at (For head body) store)
+      (λ l next. low.lowered_form l next at (For head body)) 1
+  for_goes sight w next start stands served room store now like =
+      for_agrees sight w next start stands served room store now like

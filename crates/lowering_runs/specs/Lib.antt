@@ -1,0 +1,12 @@
+pub mod Seen
+pub mod Run
+pub mod Agrees
+pub mod Heads
+pub mod Shown
+pub mod Stands
+pub mod Scalars
+pub mod Goes
+pub mod Frames
+pub mod Called
+pub mod ScalarText
+pub mod Served

@@ -1,0 +1,96 @@
+-- What holds where a statement is lowered, what holds of a state there, and what the statement's
+-- code keeps of it.
+use Rattle.std.specs.Prelude.{◌≡◌, ◌≢◌, ℕ, suc, ◌+◌, ◌<◌, ◌≤◌, true, List, [], ◌∷◌, length, Option, Some, None}
+use Rattle.zpl_nums.specs.Integer.{IsInteger}
+use Rattle.zpl_meaning.specs.Store.{Thing, Scalar, ArrayAt, Fixed, Names, Store}
+use Rattle.node_form.specs.declared.tables.Tables.{Tables}
+use Rattle.flat_form.specs.Whole.{Whole}
+use Rattle.flat_form.specs.States.{IsWhole}
+use Rattle.flat_form.specs.Right.{is_settled}
+use Rattle.zpl_lowering.specs.Where.{Slotted, SlotCurrents, SlotEdge, Where, Next}
+use Rattle.zpl_lowering.specs.Lowered.{Lowered}
+use Rattle.lowering_runs.specs.Seen.{scalar_in, slot_in, Spot, seen_store, seen_names, numbered}
+
+-- ---- numbers
+
+-- they rise, from one on, and are below another
+abbrev pub Rises : ℕ → List ℕ → ℕ → Type 0
+Rises from [] to = from ≤ to
+Rises from (k ∷ numbers) to = (from ≤ k) × Rises (suc k) numbers to
+
+abbrev pub Misses : List ℕ → ℕ → Type 0
+Misses [] k = Unit {0}
+Misses (number ∷ numbers) k = (number ≢ k) × Misses numbers k
+
+-- what is free there is free here
+pub record IsBefore (next after : Next) : Type 0 where
+  pub scalars : next.scalars ≤ after.scalars
+  pub slots : next.slots ≤ after.slots
+
+-- ---- names
+
+-- what a name stands for is there, among so many scalars and arrays
+abbrev pub IsKnown : ℕ → ℕ → Thing → Type 0
+IsKnown scalars arrays (Scalar place) = place < scalars
+IsKnown scalars arrays (ArrayAt place home) = place < arrays
+IsKnown scalars arrays (Fixed value) = IsInteger value
+
+abbrev pub AreKnown : ℕ → ℕ → Names → Type 0
+AreKnown scalars arrays [] = Unit {0}
+AreKnown scalars arrays (entry ∷ names) =
+    IsKnown scalars arrays entry.1 × AreKnown scalars arrays names
+
+-- ---- current regions: their slots have been filled
+
+abbrev pub IsTaken : Option Slotted → ℕ → Type 0
+IsTaken None slots = Unit {0}
+IsTaken (Some slotted) slots = slotted.slot < slots
+
+abbrev pub IsTakenEdge : Option SlotEdge → ℕ → Type 0
+IsTakenEdge None slots = Unit {0}
+IsTakenEdge (Some edge) slots = edge.slot < slots
+
+pub record AreTaken (currents : SlotCurrents) (slots : ℕ) : Type 0 where
+  pub one : IsTaken currents.one slots
+  pub two : IsTaken currents.two slots
+  pub three : IsTaken currents.three slots
+
+-- ---- where a statement is lowered
+
+-- The scalars that the place knows are those of the store that code has; they rise, below those that
+-- are free, and so do slots.
+pub record Stands (spots : List Spot) (w : Where) (next : Next) : Type 0 where
+  pub numbers : numbered spots ≡ w.numbers.scalars
+  pub rises : Rises 0 (numbered spots) next.scalars
+  pub known : AreKnown (length (numbered spots)) (length w.numbers.arrays) w.environment.names
+  -- the global names stand for what the meaning has, wherever they are seen
+  pub globals : AreKnown (length (numbered spots)) (length w.numbers.arrays) w.setup.globals
+  pub unmoved : seen_names spots w.setup.globals ≡ w.setup.globals
+  pub taken : AreTaken w.currents next.slots
+  pub edge : IsTakenEdge w.edge next.slots
+
+-- there is room in the tables for what code has of its own
+pub record HasRoom (tables : Tables) (next : Next) (own : Lowered) : Type 0 where
+  pub scalars : next.scalars + own.scalars ≤ tables.scalars
+
+-- ---- states
+
+-- between statements no fold is awaited, and all values are integers of 64 bits
+pub record IsSound (tables : Tables) (whole : Whole) : Type 0 where
+  pub filled : IsWhole tables whole
+  pub settled : (k : ℕ) → is_settled whole k ≡ true
+  pub integers : (k : ℕ) → IsInteger (scalar_in whole k)
+
+-- what was taken before and is no variable's stays as it was
+pub record Keeps (numbers : List ℕ) (next : Next) (before after : Whole) : Type 0 where
+  pub hidden : (k : ℕ) → k < next.scalars → Misses numbers k
+      → scalar_in after k ≡ scalar_in before k
+  pub slots : (k : ℕ) → k < next.slots → slot_in after k ≡ slot_in before k
+
+-- The store is what is seen of a state, which is sound, and keeps what there was at the start of a
+-- statement.
+pub record IsLike (tables : Tables) (spots : List Spot) (w : Where) (next : Next) (start : Whole)
+    (store : Store) (whole : Whole) : Type 0 where
+  pub seen : store ≡ seen_store spots w.numbers.arrays whole
+  pub sound : IsSound tables whole
+  pub kept : Keeps (numbered spots) next start whole
