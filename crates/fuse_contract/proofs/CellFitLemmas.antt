@@ -1,5 +1,5 @@
 -- Tables that fit do so with cells in the place of arrays.
-use Rattle.std.proofs.Common.{◌≡◌, refl, sym, ap, ◌∙◌, subst, arith, ℕ, zero, suc, ◌+◌, ◌<◌, ◌≤◌}
+use Rattle.std.proofs.Common.{◌≡◌, refl, sym, ap, ◌∙◌, arith, ℕ, zero, suc, ◌+◌, ◌<◌}
 use Rattle.std.proofs.Common.{Bool, true, false, List, [], ◌∷◌, ◌++◌, length, map}
 use Rattle.std.specs.Prelude.{◌==◌, All, if◌then◌else◌, Option, Some, None, slice_get}
 use Rattle.std.specs.Option.{IfSome, IsSomeAnd}
@@ -17,13 +17,13 @@ use Rattle.node_form.specs.declared.instructions.Instr.{Instr}
 use Rattle.node_form.specs.declared.instructions.Instr.TheVariants as instr
 use Rattle.node_form.specs.declared.tables.Tables.{Tables}
 use Rattle.node_form.specs.Expression.{Expression, Constant, Variable, Element, Neighbour, CellValue}
-use Rattle.node_form.specs.Expression.{Coordinate, Operation, Negation, Denial, Absolute, IsExpression}
+use Rattle.node_form.specs.Expression.{Coordinate, Operation, Negation, Denial, Absolute}
 use Rattle.node_form.specs.Expression.{words_of}
 use Rattle.node_form.specs.Fits.{Fits, FitsExchange, FitsExpr, FitsGroup, FitsInstr, FitsItem}
 use Rattle.node_form.specs.Fits.{FitsMember, FitsPart, FitsRemap, FitsWord, HasExpr, HasScalarExpr}
 use Rattle.node_form.specs.Fits.{IsScalarWord}
 use Rattle.node_form.specs.Nest.{Nest, Nothing, Putting, Keeping, Joining, Choosing, ChoosingElse}
-use Rattle.node_form.specs.Nest.{Looping, Repeating, IsNest, members_of}
+use Rattle.node_form.specs.Nest.{Looping, Repeating, members_of}
 use Rattle.fuse_contract.specs.Contracting.{cell_among, contracted, contracted_arrays, here_or_cell}
 use Rattle.fuse_contract.specs.Contracting.{member_contracted, put_or_cell, word_contracted}
 

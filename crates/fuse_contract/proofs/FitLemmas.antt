@@ -1,12 +1,12 @@
 -- Tables that fit do so with their loops joined.
-use Rattle.std.proofs.Common.{◌≡◌, refl, sym, ap, ◌∙◌, subst, arith, ℕ, zero, suc, ◌+◌, ◌-◌, ◌≤◌}
+use Rattle.std.proofs.Common.{◌≡◌, refl, sym, ap, ◌∙◌, subst, arith, ℕ, zero, suc, ◌-◌, ◌≤◌}
 use Rattle.std.proofs.Common.{Bool, true, false, true≢false, List, [], ◌∷◌, ◌++◌, eqb-true, length}
 use Rattle.std.proofs.Common.{length-append, map}
-use Rattle.std.specs.Prelude.{◌==◌, ◌&&◌, All, if◌then◌else◌, Option, Some, None, option_and_then}
+use Rattle.std.specs.Prelude.{All, if◌then◌else◌, Option, Some, None, option_and_then}
 use Rattle.std.specs.Prelude.{slice_get}
 use Rattle.std.specs.Option.{IsSomeAnd, option_map}
 use Rattle.std.specs.List.{AllByRecursion}
-use Rattle.std.proofs.lemmas.List.Elements.{All-append, All-from_recursion, recursion_from_All}
+use Rattle.std.proofs.lemmas.List.Elements.{All-append, recursion_from_All}
 use Rattle.row_runs.specs.Segments.{Segment, news}
 use Rattle.row_runs.specs.Cut.{Stretch, all_rows, as_list, moved_by, relocated, rows_of, segments_by}
 use Rattle.row_runs.proofs.CutLemmas.{cut_rows}
@@ -24,8 +24,8 @@ use Rattle.code_parts.specs.Counts.{is_vote}
 use Rattle.code_parts.specs.Stretch.{ends_stretch, is_goal}
 use Rattle.code_parts.specs.Uses.{rows_or_none}
 use Rattle.flat_passes.specs.Grouped.{Grouped, Plain, Runs, ended_by, grouped, rewritten_rows}
-use Rattle.flat_passes.specs.Rewritten.{stretches_of, with_moved_goal}
-use Rattle.flat_passes.proofs.FitLemmas.{FitsAlone, FitsGrouped, FitsInline, laid_fits}
+use Rattle.flat_passes.specs.Rewritten.{stretches_of}
+use Rattle.flat_passes.proofs.FitLemmas.{FitsGrouped, FitsInline, laid_fits}
 use Rattle.flat_passes.proofs.StretchLemmas.{HoldsOf, IsCut, all_cut, every_append, news_hold}
 use Rattle.fuse_contract.specs.Fusing.{Loop, both, fused, joined, joins, known_behind, last_rows}
 use Rattle.fuse_contract.specs.Fusing.{references_of, with_loop}

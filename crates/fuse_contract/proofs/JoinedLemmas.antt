@@ -19,7 +19,7 @@ use Rattle.fuse_contract.specs.Behind.{GoesOn, IsBehind}
 use Rattle.fuse_contract.specs.Fusing.{Loop, both, fused, joined, joins, known_behind, last_rows}
 use Rattle.fuse_contract.specs.Fusing.{references_of, with_loop}
 use Rattle.fuse_contract.specs.Joining.{Facts, behind_loop, behind_row, facts_behind, front_facts}
-use Rattle.fuse_contract.specs.Joining.{front_rows, last_with, loop_over, loop_rows, no_facts, row_rows}
+use Rattle.fuse_contract.specs.Joining.{front_rows, loop_over, loop_rows, no_facts, row_rows}
 use Rattle.fuse_contract.specs.declared.joins.Walk.{Walk}
 use Rattle.fuse_contract.proofs.WalkedLemmas as walked
 use Rattle.fuse_contract.proofs.WalkedLemmas.{IsStraightRow, draft_with}

@@ -1,5 +1,5 @@
 -- No group has more `while` and `repeat` than some group had.
-use Rattle.std.proofs.Common.{◌≡◌, refl, sym, ap, ◌∙◌, subst, arith, ℕ, zero, suc, ◌+◌, ◌≤◌, Bool, true}
+use Rattle.std.proofs.Common.{◌≡◌, refl, sym, ap, ◌∙◌, arith, ℕ, zero, suc, ◌+◌, ◌≤◌, Bool, true}
 use Rattle.std.proofs.Common.{false, true≢false, List, [], ◌∷◌, ◌++◌, map}
 use Rattle.std.specs.Prelude.{◌&&◌, ◌||◌, not, All, cond, count_by, if◌then◌else◌, Option, Some, None}
 use Rattle.std.specs.Prelude.{slice_get}
@@ -13,7 +13,7 @@ use Rattle.node_form.specs.declared.members.Member.TheVariants as member
 use Rattle.node_form.specs.declared.instructions.Instr.{Instr}
 use Rattle.node_form.specs.declared.instructions.Instr.TheVariants as instr
 use Rattle.node_form.specs.declared.tables.Tables.{Tables}
-use Rattle.code_parts.specs.Uses.{is_turning, members_of, rows_or_none}
+use Rattle.code_parts.specs.Uses.{is_turning, rows_or_none}
 use Rattle.code_parts.proofs.WalkLemmas.{both_left, both_right}
 use Rattle.flat_passes.specs.Rewritten.{stretches_of}
 use Rattle.flat_passes.specs.Grouped.{Grouped, Plain, Runs, ended_by, grouped, groups_of}
