@@ -19,7 +19,7 @@ use Rattle.fuse_contract.specs.Behind.{GoesOn, IsBehind}
 use Rattle.fuse_contract.specs.Fusing.{Loop, both, fused, joined, joins, known_behind, last_rows}
 use Rattle.fuse_contract.specs.Fusing.{references_of, with_loop}
 use Rattle.fuse_contract.specs.Joining.{Facts, behind_loop, behind_row, facts_behind, front_facts}
-use Rattle.fuse_contract.specs.Joining.{front_rows, last_with, loop_over, loop_rows, no_facts, row_rows}
+use Rattle.fuse_contract.specs.Joining.{front_rows, loop_over, loop_rows, no_facts, row_rows}
 use Rattle.fuse_contract.specs.declared.joins.Walk.{Walk}
 use Rattle.fuse_contract.proofs.WalkedLemmas as walked
 use Rattle.fuse_contract.proofs.WalkedLemmas.{IsStraightRow, draft_with}
@@ -137,7 +137,7 @@ module _ (tables : Tables) where
       (facts_behind tables (front_facts b facts) row) (at + 1)
   joining_steps old front new noted facts at row there b goal front_written new_written is =
       let now = walked.known {F = Facts} tables.code no_facts (row_rows tables) (behind_row tables)
-          close b facts in
+      close b facts in
       subst (λ next. IsJoining new (noted ++ length front.code ∷ []) next (at + 1))
       (learnt_is now row ∙ ap (λ f. facts_behind tables f row) (known_is b facts))
       (walked.walk_steps {F = Facts} tables.code no_facts (row_rows tables) (behind_row tables) close

@@ -1,14 +1,12 @@
 -- What is noted of references says which are known.
-use Rattle.std.proofs.Common.{◌≡◌, refl, sym, ap, ◌∙◌, subst, arith, ℕ, zero, suc, ◌+◌, ◌≤◌, ◌<◌}
+use Rattle.std.proofs.Common.{◌≡◌, refl, sym, ap, ◌∙◌, subst, arith, ℕ, ◌+◌, ◌≤◌, ◌<◌}
 use Rattle.std.proofs.Common.{Bool, true, false, true≢false, List, [], ◌∷◌, ◌++◌, ℤ, take, eq-eqb, eqb-true}
 use Rattle.std.specs.Prelude.{◌==◌, ◌&&◌, ◌||◌, not, cond, filter, nat_eq, nat_le, Option, Some, None}
 use Rattle.std.specs.Prelude.{slice_get}
 use Rattle.std.specs.List.{list_any}
 use Rattle.std.specs.Cmp.Lexicographic.{pointwise}
 use Rattle.std.specs.Ordering.{int_eq}
-use Rattle.std.specs.Bool.{Decides}
-use Rattle.std.proofs.lemmas.List.Folds.{list_any-append}
-use Rattle.indexmap.specs.IndexMap.{IsEmpty, get, Updates}
+use Rattle.indexmap.specs.IndexMap.{IsEmpty, get}
 use Rattle.zpl_nums.specs.declared.ends.TrapKind.{TrapKind}
 use Rattle.zpl_region.specs.declared.regions.Region.{Region}
 use Rattle.node_form.specs.declared.arrays.Item.{Item}
@@ -18,8 +16,8 @@ use Rattle.node_form.specs.declared.instructions.Instr.{Instr}
 use Rattle.node_form.specs.declared.instructions.Instr.TheVariants as instr
 use Rattle.code_parts.specs.Uses.{is_item}
 use Rattle.plan_form.proofs.ItemLemmas.{is_item-Decides, taken_more}
-use Rattle.fuse_contract.specs.Fusing.{known_behind, reference, without_array, without_slots}
-use Rattle.fuse_contract.specs.Known.{IsKnown, IsPast, is_noted, is_since, item_of, key_eq, key_of}
+use Rattle.fuse_contract.specs.Fusing.{without_array, without_slots}
+use Rattle.fuse_contract.specs.Known.{IsKnown, IsPast, is_noted, is_since, item_of, key_eq}
 use Rattle.fuse_contract.specs.Known.{known_after, or_never}
 use Rattle.fuse_contract.specs.declared.known.Known.{Known}
 use Rattle.fuse_contract.specs.declared.known.Reference.{Reference}

@@ -1,9 +1,9 @@
 -- What is noted of arrays says which become cells.
-use Rattle.std.proofs.Common.{◌≡◌, refl, sym, ap, ◌∙◌, subst, arith, ℕ, zero, suc, ◌+◌, ◌<◌, ◌≤◌}
+use Rattle.std.proofs.Common.{◌≡◌, refl, sym, ap, ◌∙◌, arith, ℕ, zero, suc, ◌+◌, ◌<◌}
 use Rattle.std.proofs.Common.{Bool, true, false, true≢false, List, [], ◌∷◌, ◌++◌, length, map, eq-eqb}
 use Rattle.std.proofs.Common.{eqb-true, replicate}
 use Rattle.std.specs.Prelude.{◌==◌, ◌&&◌, ◌||◌, not, Option, Some, None, flat_map, fold, if◌then◌else◌}
-use Rattle.std.specs.Prelude.{slice_index_or, slice_set}
+use Rattle.std.specs.Prelude.{slice_index_or}
 use Rattle.std.specs.List.{list_any}
 use Rattle.std.proofs.lemmas.List.{get_or-replicate, get_or-set_other, get_or-set_same, length-replicate}
 use Rattle.std.proofs.lemmas.List.{length-set}
@@ -16,7 +16,7 @@ use Rattle.node_form.specs.declared.members.Member.TheVariants as member
 use Rattle.node_form.specs.declared.instructions.Instr.{Instr}
 use Rattle.node_form.specs.declared.tables.Tables.{Tables}
 use Rattle.node_form.specs.Group.{depth_behind}
-use Rattle.code_parts.specs.Uses.{arrays_in, member_words, named_by, put_by, shifted_in, words_of}
+use Rattle.code_parts.specs.Uses.{arrays_in, member_words, put_by, shifted_in, words_of}
 use Rattle.fuse_contract.specs.Contracting.{arrays_of_row, becomes_cell, begins_it, cell_among}
 use Rattle.fuse_contract.specs.Contracting.{contracted, contracted_arrays, contracted_from}
 use Rattle.fuse_contract.specs.Contracting.{fits_a_cell, is_among, is_begun, is_named_in}

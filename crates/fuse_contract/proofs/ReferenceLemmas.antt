@@ -1,5 +1,5 @@
 -- The references of a loop that fits.
-use Rattle.std.proofs.Common.{◌≡◌, refl, sym, ap, ◌∙◌, subst, ℕ, zero, suc, ℤ, pos, List, [], ◌∷◌, ◌++◌}
+use Rattle.std.proofs.Common.{◌≡◌, refl, ℕ, zero, suc, ℤ, pos, List, [], ◌∷◌}
 use Rattle.std.proofs.Common.{rules, drop, map, true}
 use Rattle.std.specs.Prelude.{All, Option, Some, None, flat_map, slice_get}
 use Rattle.std.specs.Option.{IfSome, IsSomeAnd}

@@ -1,11 +1,10 @@
 -- What is noted of arrays, one name after another, and cells in their place.
-use Rattle.std.proofs.Common.{◌≡◌, refl, sym, ap, ◌∙◌, subst, arith, ℕ, zero, suc, ◌+◌, ◌≤◌}
+use Rattle.std.proofs.Common.{◌≡◌, refl, sym, ap, ◌∙◌, arith, ℕ, zero, suc, ◌+◌, ◌≤◌}
 use Rattle.std.proofs.Common.{Bool, true, false, List, [], ◌∷◌, ◌++◌, append_assoc, drop, eqb-true, length, map}
 use Rattle.std.proofs.Common.{take}
-use Rattle.std.specs.Prelude.{◌==◌, ◌&&◌, ◌||◌, Option, Some, None, flat_map, fold, slice_get}
+use Rattle.std.specs.Prelude.{◌==◌, ◌||◌, Option, Some, None, flat_map, fold, slice_get}
 use Rattle.std.specs.List.{filter_map, list_any}
 use Rattle.std.proofs.lemmas.List.{append-nil, drop_all, map-append}
-use Rattle.std.proofs.lemmas.List.Folds.{list_any-append}
 use Rattle.std.proofs.lemmas.List.Sums.{fold-append}
 use Rattle.node_form.specs.declared.words.ExprOp.{ExprOp}
 use Rattle.node_form.specs.declared.words.ExprOp.TheVariants as word
@@ -20,7 +19,7 @@ use Rattle.fuse_contract.specs.Contracting.{begins_it, contracted, is_among, mem
 use Rattle.fuse_contract.specs.Contracting.{word_contracted}
 use Rattle.fuse_contract.specs.Naming.{all_noted, cell_at, cells_behind, cells_from, count_with}
 use Rattle.fuse_contract.specs.Naming.{groups_noted, member_noted, members_noted, next_cell, noted}
-use Rattle.fuse_contract.specs.Naming.{rows_noted, set_apart, with_cells_at, word_names}
+use Rattle.fuse_contract.specs.Naming.{set_apart, with_cells_at, word_names}
 use Rattle.fuse_contract.specs.declared.cells.Cells.{Cells}
 use Rattle.fuse_contract.specs.declared.states.CellState.{CellState}
 use Rattle.fuse_contract.proofs.NamingLemmas.{contracted_is}

@@ -19,14 +19,13 @@ use Rattle.flat_passes.specs.Grouped.{Grouped, Plain}
 use Rattle.flat_passes.proofs.DraftLemmas.{no_rows, rows_both}
 use Rattle.plan_form.proofs.ItemLemmas.{taken_more}
 use Rattle.fuse_contract.specs.Behind.{GoesOn, IsBehind, IsGrown, IsLast}
-use Rattle.fuse_contract.specs.Fusing.{Loop, can_join, known_behind, last_rows, lies_within, references_of}
+use Rattle.fuse_contract.specs.Fusing.{Loop, known_behind, last_rows, lies_within, references_of}
 use Rattle.fuse_contract.specs.Joining.{Facts, behind_loop, can_take, facts_behind, joins_last}
 use Rattle.fuse_contract.specs.Joining.{last_with, loop_over, loop_rows, no_facts, no_numbers, row_rows}
 use Rattle.fuse_contract.specs.Joining.{uses_of, with_uses}
 use Rattle.fuse_contract.specs.Known.{IsKnown, known_after}
 use Rattle.fuse_contract.specs.declared.joins.Grown.{Grown}
 use Rattle.fuse_contract.specs.declared.joins.Walk.{Walk}
-use Rattle.fuse_contract.specs.declared.known.Known.{Known}
 use Rattle.fuse_contract.specs.declared.uses.GroupUses.{GroupUses}
 use Rattle.fuse_contract.proofs.UseLemmas.{grown_by, takes}
 

@@ -1,7 +1,7 @@
 -- What groups use, one member and one word after another.
 use Rattle.std.proofs.Common.{◌≡◌, refl, sym, ap, ◌∙◌, ℕ, zero, suc, ◌+◌, Bool, true, false, true≢false}
 use Rattle.std.proofs.Common.{List, [], ◌∷◌, ◌++◌, map, take, eq-eqb, eqb-true}
-use Rattle.std.specs.Prelude.{◌==◌, ◌&&◌, ◌||◌, not, Option, Some, None, flat_map, fold, if◌then◌else◌}
+use Rattle.std.specs.Prelude.{◌==◌, ◌&&◌, ◌||◌, not, Option, Some, flat_map, fold, if◌then◌else◌}
 use Rattle.std.specs.Prelude.{slice_get}
 use Rattle.std.specs.List.{list_any}
 use Rattle.std.proofs.lemmas.Grind.{flat_map-append}
@@ -16,7 +16,7 @@ use Rattle.node_form.specs.Value.{unmoved}
 use Rattle.code_parts.specs.Uses.{accumulated_by, as_list, exprs_of, is_turning, member_words, put_by}
 use Rattle.code_parts.specs.Uses.{scalars_in, share, shifted_in, words_of}
 use Rattle.plan_form.proofs.ItemLemmas.{taken_more}
-use Rattle.fuse_contract.specs.Fusing.{can_join, reference, references_in, references_of}
+use Rattle.fuse_contract.specs.Fusing.{can_join, reference, references_in}
 use Rattle.fuse_contract.specs.Joining.{can_take, no_numbers, no_uses, uses_of, with_member}
 use Rattle.fuse_contract.specs.Joining.{with_number, with_uses, with_word}
 use Rattle.fuse_contract.specs.declared.grown.UsedNumbers.{UsedNumbers}

@@ -1,5 +1,5 @@
 -- Flat programs that are rewritten one row after another, by what is known in front of each.
-use Rattle.std.proofs.Common.{◌≡◌, ◌⊎◌, inl, inr, refl, sym, ap, ◌∙◌, arith, ℕ, ◌+◌, ◌≤◌}
+use Rattle.std.proofs.Common.{◌≡◌, inl, refl, sym, ap, ◌∙◌, arith, ℕ, ◌+◌, ◌≤◌}
 use Rattle.std.proofs.Common.{Bool, true, false, true≢false, List, [], ◌∷◌, ◌++◌, length, map, drop}
 use Rattle.std.specs.Prelude.{◌||◌, Some, slice_get}
 use Rattle.std.specs.List.{AllByRecursion, list_any}

@@ -4,7 +4,7 @@
 --   noted        of one array something more is known
 --   all_noted    what all rows and groups say of the arrays
 --   cells_from   a cell for each array that becomes one
-use Rattle.std.specs.Prelude.{ℕ, zero, ◌+◌, ◌==◌, Bool, true, false, Option, Some, None}
+use Rattle.std.specs.Prelude.{ℕ, ◌+◌, ◌==◌, Bool, true, false, Option, Some, None}
 use Rattle.std.specs.Prelude.{List, [], ◌∷◌, fold, if◌then◌else◌, length, map, replicate, slice_get}
 use Rattle.std.specs.Prelude.{slice_index_or, slice_set, unwrap_or}
 use Rattle.node_form.specs.declared.words.ExprOp.{ExprOp}

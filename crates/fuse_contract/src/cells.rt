@@ -61,11 +61,7 @@ fn push_cell(cells: &mut Cells, state: CellState) -> Result<(), AllocError>
     Ok(())
 }
 
-fn exprs_with(
-    alloc: Global,
-    exprs: &Exprs,
-    cells: &[Option<u32>],
-) -> Result<Exprs, AllocError>
+fn exprs_with(alloc: Global, exprs: &Exprs, cells: &[Option<u32>]) -> Result<Exprs, AllocError>
     ensures { IfOk result (λ made. made ≡ map (map (word_contracted (cell_at cells.now))) exprs.now) }
 {
     let mut made = Rows::new(alloc);
@@ -108,11 +104,7 @@ fn cell_at(cells: &[Option<u32>], array: u32) -> Option<u32>
     cells.get(array as usize).copied().unwrap_or(None)
 }
 
-fn groups_with(
-    alloc: Global,
-    groups: &Groups,
-    cells: &[Option<u32>],
-) -> Result<Groups, AllocError>
+fn groups_with(alloc: Global, groups: &Groups, cells: &[Option<u32>]) -> Result<Groups, AllocError>
     ensures { IfOk result (λ made. made
         ≡ map (map (member_contracted (cell_at cells.now))) groups.now) }
 {

@@ -248,12 +248,7 @@ fn joins(tables: &Tables, writes: &Writes, walk: &Walk, slot: u32, uses: &GroupU
     }
 }
 
-fn all_lie_within(
-    tables: &Tables,
-    writes: &Writes,
-    known: &Known,
-    references: &Rows<Item>,
-) -> bool
+fn all_lie_within(tables: &Tables, writes: &Writes, known: &Known, references: &Rows<Item>) -> bool
     requires fits { Fits tables.now }
     requires references { All (FitsReference tables.now) references.now }
     requires writes { writes.now ≡ all_noted (length tables.now.slots) tables.now.code }

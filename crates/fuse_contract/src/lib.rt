@@ -8,9 +8,11 @@ mod known;
 mod states;
 mod uses;
 
-ghost use Rattle.std.specs.Prelude.{◌≡◌, ◌+◌, ◌≤◌, length, sum_by};
+ghost use Rattle.std.specs.Prelude.{◌≡◌, ℕ, ◌+◌, ◌≤◌, All, count_by, false, length, sum_by};
+ghost use Rattle.node_form.specs.Fits.{Fits};
 ghost use Rattle.node_form.specs.declared.tables.Tables.{Tables as Code};
-ghost use Rattle.code_parts.specs.Counts.{code_size, count_of};
+ghost use Rattle.code_parts.specs.Counts.{code_size, count_of, is_vote};
+ghost use Rattle.code_parts.specs.Uses.{is_turning};
 ghost use Rattle.flat_passes.specs.Grouped.{loop_members};
 ghost use Rattle.flat_passes.specs.Rewritten.{has_goal};
 ghost use Rattle.fuse_contract.specs.Contracting.{contracted};
@@ -43,4 +45,23 @@ pub fn arrays_become_cells()
     ensures rest { (code : Code) →
         record (contracted code) { cells = code.cells; groups = code.groups; exprs = code.exprs }
         ≡ code }
+{}
+
+/// Tables that fit do so with their loops joined, where their code has no vote, and with cells in
+/// the place of arrays.
+pub fn fused_and_contracted_fit()
+    ensures fused { (code : Code) → Fits code → All (λ row. is_vote row ≡ false) code.code →
+        Fits (fused code) }
+    ensures contracted { (code : Code) → Fits code → Fits (contracted code) }
+{}
+
+/// No group gets more `while` and `repeat` than groups had: where each had at most so many, each
+/// has.
+pub fn groups_turn_no_more()
+    ensures fused { (code : Code) (most : ℕ) →
+        All (λ group. count_by is_turning group ≤ most) code.groups →
+        All (λ group. count_by is_turning group ≤ most) (fused code).groups }
+    ensures contracted { (code : Code) (most : ℕ) →
+        All (λ group. count_by is_turning group ≤ most) code.groups →
+        All (λ group. count_by is_turning group ≤ most) (contracted code).groups }
 {}

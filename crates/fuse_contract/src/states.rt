@@ -79,14 +79,20 @@ fn note_row(states: &mut Vec<CellState>, row: Instr)
             set_apart(states, from);
         }
         Instr::Scan {
-            array, from, mask, ..
+            array,
+            from,
+            mask,
+            ..
         } => {
             set_apart(states, array);
             set_apart(states, from);
             set_each_apart(states, mask);
         }
         Instr::Remap {
-            array, from, parts, ..
+            array,
+            from,
+            parts,
+            ..
         } => {
             set_apart(states, array);
             set_apart(states, from);
@@ -198,18 +204,17 @@ fn note_member(
     note_words(states, tables, group, mask);
 }
 
-fn note_put(
-    states: &mut Vec<CellState>,
-    tables: &Tables,
-    group: u64,
-    depth: u64,
-    member: &Member,
-)
+fn note_put(states: &mut Vec<CellState>, tables: &Tables, group: u64, depth: u64, member: &Member)
     ensures { states.new.items
         ≡ fold (put_noted tables.now group depth member.now) states.old.items (put_by member.now) }
 {
     if let Member::Put { array, .. } = *member {
-        note_name(states, array, group, begins_it(tables, array, depth, member));
+        note_name(
+            states,
+            array,
+            group,
+            begins_it(tables, array, depth, member),
+        );
     }
 }
 

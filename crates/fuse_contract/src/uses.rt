@@ -155,12 +155,7 @@ fn add_expr(
     Ok(())
 }
 
-fn add_word(
-    alloc: Global,
-    uses: &mut GroupUses,
-    slot: u32,
-    word: &ExprOp,
-) -> Result<(), AllocError>
+fn add_word(alloc: Global, uses: &mut GroupUses, slot: u32, word: &ExprOp) -> Result<(), AllocError>
     ensures { OnOk result (uses.new ≡ with_word slot uses.old word.now) }
 {
     match *word {

@@ -1,4 +1,4 @@
-use Rattle.std.proofs.Common.{◌≡◌, ◌<◌, ◌≤◌, ◌++◌, [], ap, arith, length, refl, rules}
+use Rattle.std.proofs.Common.{◌<◌, ◌≤◌, ◌++◌, ap, arith, length, refl}
 use Rattle.std.proofs.lemmas.List.{drop_more}
 use Rattle.fuse_contract.specs.Naming.{cells_from}
 use Rattle.fuse_contract.proofs.StateLemmas.{filled, fills_more}

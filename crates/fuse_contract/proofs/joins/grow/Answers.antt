@@ -1,4 +1,4 @@
-use Rattle.std.proofs.Common.{◌≡◌, ◌∙◌, ap, refl}
+use Rattle.std.proofs.Common.{◌∙◌, ap, refl}
 use Rattle.std.specs.Prelude.{unwrap_or}
 use Rattle.fuse_contract.proofs.StepLemmas.{grown_is}
 use Rattle.fuse_contract.proofs.joins.grow.Goals as goal

@@ -1,7 +1,5 @@
-use Rattle.std.proofs.Common.{◌≡◌, ◌∙◌, ap, rules, arith, sym, false, Some, true}
+use Rattle.std.proofs.Common.{◌≡◌, ◌∙◌, rules, arith, sym, Some}
 use Rattle.std.specs.Prelude.{slice_get}
-use Rattle.code_parts.specs.Stretch.{is_goal}
-use Rattle.flat_passes.specs.Draft.{moved_draft}
 use Rattle.fuse_contract.proofs.JoinedLemmas.{fusing_begins, fusing_ends, fusing_steps}
 use Rattle.fuse_contract.proofs.StepLemmas.{when_ok}
 use Rattle.fuse_contract.proofs.joins.join_all.Goals as goal

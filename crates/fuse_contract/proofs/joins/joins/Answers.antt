@@ -1,5 +1,5 @@
-use Rattle.std.proofs.Common.{◌≡◌, ◌∙◌, sym, true≢false}
-use Rattle.fuse_contract.proofs.StepLemmas.{joins_are, joins_none}
+use Rattle.std.proofs.Common.{◌∙◌, sym, true≢false}
+use Rattle.fuse_contract.proofs.StepLemmas.{joins_are}
 use Rattle.fuse_contract.proofs.joins.joins.Goals as goal
 
 pub returns-then-can_take : goal.returns-then-can_take

@@ -1,7 +1,6 @@
 use Rattle.std.proofs.Common.{[], ap}
 use Rattle.std.specs.Prelude.{None, if◌then◌else◌}
 use Rattle.fuse_contract.specs.Fusing.{last_rows}
-use Rattle.fuse_contract.specs.Joining.{Facts}
 use Rattle.fuse_contract.proofs.StepLemmas.{as_before}
 use Rattle.fuse_contract.proofs.joins.push_unless.Goals as goal
 

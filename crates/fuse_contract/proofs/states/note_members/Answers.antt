@@ -1,4 +1,4 @@
-use Rattle.std.proofs.Common.{◌≡◌, ◌∙◌, ◌<◌, ◌≤◌, ap, arith, length, rules}
+use Rattle.std.proofs.Common.{◌<◌, ◌≤◌, arith, length}
 use Rattle.std.proofs.lemmas.List.{drop_more}
 use Rattle.fuse_contract.proofs.StateLemmas.{members_end, members_more}
 use Rattle.fuse_contract.proofs.states.note_members.Goals as goal

@@ -1,6 +1,6 @@
-use Rattle.std.proofs.Common.{◌≡◌, ◌∙◌, ap, arith, rules, Some, length, ◌≤◌}
+use Rattle.std.proofs.Common.{◌≡◌, ap, arith, rules, Some, length, ◌≤◌}
 use Rattle.std.specs.Prelude.{slice_get}
-use Rattle.fuse_contract.specs.Naming.{groups_noted, members_noted}
+use Rattle.fuse_contract.specs.Naming.{groups_noted}
 use Rattle.fuse_contract.proofs.StateLemmas.{groups_end, groups_more}
 use Rattle.fuse_contract.proofs.states.states_of.Goals as goal
 
