@@ -20,7 +20,10 @@ place_checks-requires c =
 pub settle-requires : goal.settle-requires
 settle-requires c =
     subst Fits (sym c.in_ok-checked.ensures)
-    (c.checked_tables_fit.ensures c.in_ok-normal c.place_checks.requires)
+    (c.checked_tables_fit.ensures _
+    (subst Fits (sym (c.in_ok-normal.ensures ∙ ap normalised c.into_tables.ensures.same))
+    (c.normal_tables_fit.ensures c.args.flat c.into_tables.ensures.flat.fits
+    (no_votes c.args.flat c.into_tables.ensures.flat))))
 
 -- the passes one behind the other
 whole : (c : goal.After-program_of) → c.emit.result ≡ node_tables c.args.build.now c.args.flat
