@@ -5,7 +5,6 @@
 mod asked;
 mod commands;
 mod grids;
-mod letters;
 mod names;
 mod numbers;
 mod settings;

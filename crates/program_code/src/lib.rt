@@ -4,6 +4,5 @@
 mod faults;
 mod programs;
 
-pub use faults::CompileFault;
-pub use flat_code::Build;
+pub use faults::{Build, CompileFault};
 pub use programs::compile;

@@ -1,4 +1,0 @@
-pub mod BaseLemmas
-pub mod PassLemmas
-pub mod LayoutLemmas
-pub mod CheckLemmas
