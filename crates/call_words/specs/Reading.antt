@@ -15,6 +15,7 @@ use Rattle.call_words.specs.declared.commands.Verb.{Verb}
 use Rattle.call_words.specs.declared.commands.Verb.TheVariants as verb
 use Rattle.call_words.specs.declared.words.Word.{Word}
 use Rattle.call_words.specs.declared.words.Word.TheVariants.{Order, Turns, Report, Links, Latency, Grid}
+use Rattle.call_words.specs.declared.words.Word.TheVariants.{Letters}
 
 abbrev pub word_in : Word → words.Word
 word_in (Order file) = words.Order file.now
@@ -23,6 +24,7 @@ word_in Report = words.Report
 word_in (Links capacity) = words.Links capacity
 word_in (Latency ticks) = words.Latency ticks
 word_in (Grid grid) = words.Grid grid
+word_in (Letters options) = words.Letters options
 
 -- the text is a factor, an `x` and a rest
 pub record IsFactorBefore (text : List ℕ) (n : ℕ) (rest : List ℕ) : Type 0 where
@@ -39,6 +41,7 @@ asked_with asked settings = record {
   links = asked.links;
   latency = asked.latency;
   grid = asked.grid;
+  options = asked.options;
   settings = settings;
 }
 

@@ -19,11 +19,12 @@ pub struct FileCommand<'a> {
 /// A command.
 #[derive(Clone, Copy)]
 pub enum Command<'a> {
-    /// `list FILE`, then `grid=AxBxC`, `links=C` and settings.
+    /// `list FILE`, then `grid=AxBxC`, `opt=LETTERS`, `links=C` and settings.
     List(FileCommand<'a>),
     /// `mean FILE`, then `turns=N` and settings.
     Mean(FileCommand<'a>),
-    /// `run FILE`, then `grid=AxBxC`, `order=FILE`, `turns=N`, `report`, `links=C` and settings.
+    /// `run FILE`, then `grid=AxBxC`, `opt=LETTERS`, `order=FILE`, `turns=N`, `report`, `links=C`
+    /// and settings.
     Run(FileCommand<'a>),
     /// `exec FILE`, then `order=FILE`, `turns=N`, `report` and `links=C`.
     Exec(FileCommand<'a>),
@@ -122,16 +123,21 @@ fn takes(verb: Verb, asked: Asked<'_>) -> bool
                 && asked.links.is_none()
                 && asked.latency.is_none()
                 && asked.grid.is_none()
+                && asked.options.is_none()
         }
         Verb::Run => asked.latency.is_none(),
         Verb::Exec => {
-            sets_nothing(asked.words) && asked.latency.is_none() && asked.grid.is_none()
+            sets_nothing(asked.words)
+                && asked.latency.is_none()
+                && asked.grid.is_none()
+                && asked.options.is_none()
         }
         Verb::Time => {
             !asked.report
                 && asked.links.is_none()
                 && sets_nothing(asked.words)
                 && asked.grid.is_none()
+                && asked.options.is_none()
         }
     }
 }

@@ -5,6 +5,7 @@
 mod asked;
 mod commands;
 mod grids;
+mod letters;
 mod names;
 mod numbers;
 mod settings;

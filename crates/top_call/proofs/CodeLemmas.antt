@@ -15,7 +15,8 @@ use Rattle.node_form.specs.declared.tables.Tables.{Tables}
 use Rattle.zpl_meaning.specs.Program.{mean_of, steps_of}
 use Rattle.zpl_names.specs.Expansion.{shattered_loops}
 use Rattle.zpl_claims.specs.Bound.{EndsInBound}
-use Rattle.zpl_claims.specs.Build.{Build, OverAllLinks, no_options, one_processor, plain_build}
+use Rattle.zpl_claims.specs.Build.{Build, OverAllLinks, one_processor, plain_build}
+use Rattle.zpl_claims.specs.declared.options.Options.{Options}
 use Rattle.zpl_claims.specs.Good.{IsGood}
 use Rattle.zpl_claims.specs.Origin.{origin_of}
 use Rattle.zpl_claims.specs.LockStep.{HasLockSteps}
@@ -130,7 +131,8 @@ many_have_none text build tokens one_way of_text many program small =
     let same : small.tokens ≡ tokens = one_way text small.tokens tokens small.of_text of_text in
     omega (arith, small.few, many, ap length same)
 
--- nor has one that is built for more than one processor, or where something is to be set
+-- nor has one that is built for more than one processor or with optimisations, or where something
+-- is to be set
 pub others_are_not_plain : (text : List ℕ) (build : Build) (r : Bool)
     → (IsTrue r ↔ (build ≡ plain_build build.links [])) → r ≡ false → HasNoSmall text build
 others_are_not_plain text build r plain is program small =
@@ -335,11 +337,12 @@ pub untested : (r : Bool) (there here : List ℕ) (Is : List ℕ → Type 0) →
 untested r there here Is same test is holds =
     let no : false ≡ true = sym is ∙ test.1 (subst Is (sym same) holds) in cc
 
--- ---- a build that is told by its grid
-pub with_grid : (Holds : Build → Type 0) (there here : List ℕ) (links : Option ℕ)
-    (settings : List Setting) → there ≡ here
-    → Holds (record { grid = there; options = no_options; links = links; settings = settings })
-    → Holds (record { grid = here; options = no_options; links = links; settings = settings })
-with_grid Holds there here links settings same holds =
-    subst (λ grid. Holds (record { grid = grid; options = no_options; links = links; settings = settings }))
-    same holds
+-- ---- a build that is told by its grid and its optimisations
+pub with_parts : (Holds : Build → Type 0) (there here : List ℕ) (told chosen : Options)
+    (links : Option ℕ) (settings : List Setting) → there ≡ here → told ≡ chosen
+    → Holds (record { grid = there; options = told; links = links; settings = settings })
+    → Holds (record { grid = here; options = chosen; links = links; settings = settings })
+with_parts Holds there here told chosen links settings same also holds =
+    subst (λ grid. Holds (record { grid = grid; options = chosen; links = links; settings = settings }))
+    same (subst (λ options. Holds (record { grid = there; options = options; links = links; settings = settings }))
+    also holds)

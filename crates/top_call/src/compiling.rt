@@ -7,7 +7,7 @@ ghost use Rattle.zpl_tree.specs.View.{syntax_of};
 ghost use Rattle.zpl_grammar.specs.Texts.{IsShallowTree};
 ghost use Rattle.node_form.specs.Grid.{IsGrid};
 ghost use Rattle.code_layout.specs.Room.{HasRoom};
-ghost use Rattle.zpl_claims.specs.Build.{plain_build};
+ghost use Rattle.zpl_claims.specs.Build.{no_options, plain_build};
 ghost use Rattle.bound_texts.specs.Refused.{IsOnlyTree};
 ghost use Rattle.call_claims.specs.Command.{build_of};
 ghost use Rattle.call_words.specs.Reading.{asked_in};
@@ -25,6 +25,7 @@ use node_form::{NodeProgram, is_grid};
 use program_code::{Build, CompileFault, compile as compile_program};
 use small_code::{CodeFault, code_of_small};
 use std::alloc::{AllocError, Global};
+use zpl_claims::Options;
 use zpl_grammar::words_fit_their_text;
 use zpl_text::{Token, text_is_cut_one_way};
 use zpl_tree::Program;
@@ -83,8 +84,8 @@ impl From<CompileFault> for Uncoded {
 
 /// The code of a text as the words ask for it.
 ///
-/// The grid is looked at first, then the text is read. A small program for one processor is
-/// compiled by itself. Any other one is judged, bound by the settings and compiled for the grid.
+/// The grid is looked at first, then the text is read. A small program for one processor without
+/// optimisations is compiled by itself. Any other one is judged, bound by the settings and compiled for the grid.
 /// Where its tokens are no text of the grammar, that is told, however many they are.
 pub fn compile(alloc: Global, text: &[u8], asked: Asked<'_>) -> Result<NodeProgram, Uncoded>
     requires { length text.now ≤ MOST_SOURCE }
@@ -127,15 +128,28 @@ fn code_of_tree<'a>(
     }
 }
 
-/// Whether the words ask for code for one processor, and set nothing.
+/// Whether the words ask for code for one processor without optimisations, and set nothing.
 fn is_plain(asked: Asked<'_>) -> bool
     ensures { let build = build_of (asked_in asked.entry) in
         IsTrue result ↔ (build ≡ plain_build build.links []) }
 {
-    asked.factors() == [1, 0, 0] && sets_nothing(asked.words)
+    asked.factors() == [1, 0, 0] && are_none(asked.chosen()) && sets_nothing(asked.words)
 }
 
-/// The code of a small program that is built for one processor, where the text has one.
+/// Whether none of the optimisations is asked for.
+fn are_none(options: Options) -> bool
+    ensures { IsTrue result ↔ (options ≡ no_options) }
+{
+    !(options.fuse
+        || options.contract
+        || options.redundant
+        || options.merge
+        || options.early
+        || options.tree)
+}
+
+/// The code of a small program that is built for one processor without optimisations, where the
+/// text has one.
 fn code_of_small_tree(
     alloc: Global,
     text: &[u8],
@@ -191,6 +205,7 @@ fn code_of_other_tree<'a>(
     let found = accepted_tree(alloc, arena, text, tokens, program, asked.words)?;
     let build = Build {
         grid: asked.factors(),
+        options: asked.chosen(),
         links: asked.links,
     };
     let code = compile_program(alloc, &found.typed, &found.bound, build)?;

@@ -7,7 +7,7 @@ use Rattle.call_claims.specs.Command.{build_of}
 use Rattle.call_words.specs.Reading.{asked_in}
 use Rattle.bound_texts.specs.Accepted.{program_of}
 use Rattle.top_call.proofs.CodeLemmas.{compiled_is, fault_passed_on, one_accepted}
-use Rattle.top_call.proofs.CodeLemmas.{rejection_passed_on, with_grid}
+use Rattle.top_call.proofs.CodeLemmas.{rejection_passed_on, with_parts}
 use Rattle.top_call.proofs.compiling.code_of_other_tree.Goals as goal
 
 pub returns-in_err-found-clause-refused : goal.returns-in_err-found-clause-refused
@@ -31,8 +31,8 @@ returns-in_err-code-clause-refused c =
     c.text_is_cut_one_way.ensures.tokens c.requires.tokens c.requires.only program other
     found.accepted is)
     c.from_residual-in_err-code.result fault c.from_residual-in_err-code.ensures.1
-    (with_grid (λ build. IsUncompiled build program fault) c.factors.result _ asked.links
-    asked.settings c.factors.ensures
+    (with_parts (λ build. IsUncompiled build program fault) c.factors.result _ c.chosen.result _
+    asked.links asked.settings c.factors.ensures c.chosen.ensures
     ((c.in_err-code.ensures {u = tt}).refused asked.settings found.carries.bound))
 
 pub returns-clause-code : goal.returns-clause-code
@@ -47,8 +47,8 @@ returns-clause-code c =
     (λ other is. one_accepted text c.args.tokens.now (syntax_of c.args.program.now)
     c.text_is_cut_one_way.ensures.tokens c.requires.tokens c.requires.only program other
     found.accepted is) code
-    (with_grid (λ build. IsCompiledTo build program code) c.factors.result _ asked.links
-    asked.settings c.factors.ensures
+    (with_parts (λ build. IsCompiledTo build program code) c.factors.result _ c.chosen.result _
+    asked.links asked.settings c.factors.ensures c.chosen.ensures
     ((c.in_ok-code.ensures {u = tt}).compiled asked.settings found.carries.bound))
 
 pub returns-clause-room : goal.returns-clause-room
