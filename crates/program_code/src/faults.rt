@@ -4,6 +4,7 @@ ghost use Rattle.program_code.specs.Faults.{of_flat, of_lowering};
 
 use flat_code::FlatFault;
 use node_form::Grid3;
+use zpl_claims::Options;
 use zpl_lower::LowerFault;
 
 /// What code is built for.
@@ -11,6 +12,8 @@ use zpl_lower::LowerFault;
 pub struct Build {
     /// The factors of the grid, 0 for each absent one.
     pub grid: Grid3,
+    /// The optimisations.
+    pub options: Options,
     /// The most messages on a link, where that is bounded.
     pub links: Option<u32>,
 }

