@@ -6,9 +6,9 @@ use Rattle.program_code.specs.Outcome.{IsUncompiled}
 use Rattle.call_claims.specs.Command.{build_of}
 use Rattle.call_words.specs.Reading.{asked_in}
 use Rattle.bound_texts.specs.Accepted.{program_of}
-use Rattle.top_call.proofs.CodeLemmas.{compiled_is, fault_passed_on, one_accepted}
-use Rattle.top_call.proofs.CodeLemmas.{rejection_passed_on, with_parts}
-use Rattle.top_call.proofs.compiling.code_of_other_tree.Goals as goal
+use Rattle.text_code.proofs.CodeLemmas.{compiled_is, fault_passed_on, one_accepted}
+use Rattle.text_code.proofs.CodeLemmas.{rejection_passed_on, with_parts}
+use Rattle.text_code.proofs.compiling.code_of_other_tree.Goals as goal
 
 pub returns-in_err-found-clause-refused : goal.returns-in_err-found-clause-refused
 returns-in_err-found-clause-refused c =

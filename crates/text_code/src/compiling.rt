@@ -13,8 +13,8 @@ ghost use Rattle.call_claims.specs.Command.{build_of};
 ghost use Rattle.call_words.specs.Reading.{asked_in};
 ghost use Rattle.list_claims.specs.Code.{HasNoSmall, IsCodeOf};
 ghost use Rattle.call_answers.specs.declared.refusals.Refusal.TheVariants.{NoMemory};
-ghost use Rattle.top_call.specs.Refusals.{answer_for, of_compile, Refuses};
-ghost use Rattle.top_call.specs.declared.compiling.Uncoded.TheVariants.{Refused};
+ghost use Rattle.text_code.specs.Refusals.{answer_for, of_compile, Refuses};
+ghost use Rattle.text_code.specs.declared.compiling.Uncoded.TheVariants.{Refused};
 
 use bound_texts::{accepted_tree, tokens_of, tree_of};
 use bumpalo::Bump;

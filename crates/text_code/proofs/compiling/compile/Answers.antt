@@ -1,8 +1,8 @@
 use Rattle.node_form.specs.Grid.{IsGrid}
 use Rattle.call_claims.specs.Command.{build_of}
 use Rattle.call_words.specs.Reading.{asked_in}
-use Rattle.top_call.proofs.CodeLemmas.{bad_shape_refuses, passed_on, tested, untested}
-use Rattle.top_call.proofs.compiling.compile.Goals as goal
+use Rattle.text_code.proofs.CodeLemmas.{bad_shape_refuses, passed_on, tested, untested}
+use Rattle.text_code.proofs.compiling.compile.Goals as goal
 
 pub returns-then-not-is_grid-clause-refused : goal.returns-then-not-is_grid-clause-refused
 returns-then-not-is_grid-clause-refused c =

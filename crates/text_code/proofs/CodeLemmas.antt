@@ -49,10 +49,10 @@ use Rattle.call_answers.specs.declared.refusals.Refusal.TheVariants.{Lex, Parse,
 use Rattle.call_answers.specs.declared.refusals.Refusal.TheVariants.{NoMemory}
 use Rattle.bound_texts.specs.Refused.{IsOnlyTree, IsRejected, IsTreeless, IsUnread}
 use Rattle.call_answers.specs.declared.refusals.BuildFault.TheVariants as unbuilt
-use Rattle.top_call.specs.Refusals.{of_compile, Refuses, RefusesText}
-use Rattle.top_call.specs.declared.compiling.Uncoded.{Uncoded}
-use Rattle.top_call.specs.declared.compiling.Uncoded.TheVariants.{Refused, Unbuilt}
-use Rattle.top_call.proofs.SmallLemmas.{spelled_once}
+use Rattle.text_code.specs.Refusals.{of_compile, Refuses, RefusesText}
+use Rattle.text_code.specs.declared.compiling.Uncoded.{Uncoded}
+use Rattle.text_code.specs.declared.compiling.Uncoded.TheVariants.{Refused, Unbuilt}
+use Rattle.text_code.proofs.SmallLemmas.{spelled_once}
 
 -- a text has one list of tokens
 abbrev pub OneWay : Type 0

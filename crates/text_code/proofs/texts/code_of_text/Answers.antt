@@ -1,10 +1,10 @@
 use Rattle.std.proofs.Common.{◌≢◌, sym, subst}
 use Rattle.call_claims.specs.Command.{build_of}
 use Rattle.call_words.specs.Reading.{asked_in}
-use Rattle.top_call.specs.Work.{IsUncoded}
+use Rattle.text_code.specs.Refusals.{IsUncoded}
 use Rattle.call_answers.specs.declared.answers.Answer.TheVariants as answer
-use Rattle.top_call.proofs.FileLemmas.{refusal_not_put, uncoded}
-use Rattle.top_call.proofs.fetches.code_of_text.Goals as goal
+use Rattle.text_code.proofs.TextLemmas.{refusal_not_put, uncoded}
+use Rattle.text_code.proofs.texts.code_of_text.Goals as goal
 
 pub returns-in-Err-clause-none : goal.returns-in-Err-clause-none
 returns-in-Err-clause-none c =

@@ -6,9 +6,9 @@ use Rattle.call_claims.specs.Command.{build_of}
 use Rattle.call_words.specs.Reading.{asked_in}
 use Rattle.list_claims.specs.Code.{IsCodeOf}
 use Rattle.list_claims.specs.declared.limits.TheConstants.{MOST_TOKENS}
-use Rattle.top_call.proofs.CodeLemmas.{code_is, small_words}
-use Rattle.top_call.proofs.FileLemmas.{no_arrays_have_room}
-use Rattle.top_call.proofs.compiling.code_of_small_tree.Goals as goal
+use Rattle.text_code.proofs.CodeLemmas.{code_is, small_words}
+use Rattle.text_code.proofs.TextLemmas.{no_arrays_have_room}
+use Rattle.text_code.proofs.compiling.code_of_small_tree.Goals as goal
 
 pub returns-in-Ok-clause-code : goal.returns-in-Ok-clause-code
 returns-in-Ok-clause-code c =

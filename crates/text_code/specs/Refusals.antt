@@ -3,8 +3,11 @@ use Rattle.std.specs.Prelude.{ℕ, List, ⊤}
 use Rattle.zpl_claims.specs.Build.{Build}
 use Rattle.program_code.specs.declared.faults.CompileFault.{CompileFault}
 use Rattle.program_code.specs.declared.faults.CompileFault.TheVariants as compile
+use Rattle.call_claims.specs.Decided.{IsDecided}
+use Rattle.list_claims.specs.Cause.{TextFault}
 use Rattle.list_claims.specs.Refusal.{IsRefusal, IsUnbound}
-use Rattle.call_answers.specs.Answers.{answer_of}
+use Rattle.call_answers.specs.Answers.{answer_of, status_of}
+use Rattle.call_answers.specs.Answers as answers
 use Rattle.call_answers.specs.Refusals.{build_text, told_of}
 use Rattle.call_answers.specs.declared.answers.Answer.{Answer}
 use Rattle.call_answers.specs.declared.answers.Answer.TheVariants as answer
@@ -13,8 +16,8 @@ use Rattle.call_answers.specs.declared.refusals.BuildFault.TheVariants as unbuil
 use Rattle.call_answers.specs.declared.refusals.Refusal.{Refusal}
 use Rattle.call_answers.specs.declared.refusals.Refusal.TheVariants.{Lex, Parse, Judge, Bind}
 use Rattle.call_answers.specs.declared.refusals.Refusal.TheVariants.{NoMemory}
-use Rattle.top_call.specs.declared.compiling.Uncoded.{Uncoded}
-use Rattle.top_call.specs.declared.compiling.Uncoded.TheVariants.{Refused, Unbuilt}
+use Rattle.text_code.specs.declared.compiling.Uncoded.{Uncoded}
+use Rattle.text_code.specs.declared.compiling.Uncoded.TheVariants.{Refused, Unbuilt}
 
 -- ---- from the compiler's faults
 abbrev pub of_compile : CompileFault → Uncoded
@@ -51,3 +54,8 @@ RefusesBuild text build unbuilt.TooMuchStorage = IsUnbound text build (build_tex
 abbrev pub Refuses : List ℕ → Build → Uncoded → Type 0
 Refuses text build (Refused refusal) = RefusesText text build refusal
 Refuses text build (Unbuilt fault) = RefusesBuild text build fault
+
+-- ---- the answer that there is no code has its cause, unless memory was wanting
+abbrev pub IsUncoded : List ℕ → Build → Answer → Type 0
+IsUncoded text build a = IsDecided (status_of a)
+    → TextFault text build (status_of a) (answers.told_of a)
