@@ -2,7 +2,7 @@
 --
 --   Asked, AskFor          what the words behind the file ask for
 --   IsWorded, IsCommandOf  words of one command, by its name and by what it takes
---   IsList, IsMean, IsRun, IsExec, IsTime
+--   IsList, IsMean, IsRun, IsExec, IsTime, IsGen
 --   IsNoCommand            words that are none of these
 --   Asks                   what holds of the file of a command and of what is asked for
 use Rattle.std.specs.Prelude.{◌≡◌, ℕ, Bool, true, false, List, [], ◌∷◌, ◌++◌, codes, Option, Some, None}
@@ -11,7 +11,7 @@ use Rattle.zpl_binding.specs.Settings.{Setting}
 use Rattle.zpl_claims.specs.Build.{Build, no_options, one_processor}
 use Rattle.zpl_claims.specs.declared.options.Options.{Options}
 use Rattle.call_claims.specs.Words.{Word, Order, Turns, Report, Links, Latency, Grid, Letters, Sets}
-use Rattle.call_claims.specs.Words.{IsWord, first_asked}
+use Rattle.call_claims.specs.Words.{IsSeed, IsWord, first_asked}
 use Rattle.call_claims.specs.declared.limits.TheConstants.{MOST_TURNS}
 
 -- ---- what the words behind the file ask for
@@ -108,6 +108,10 @@ abbrev pub options_told : Option Options → Options
 options_told None = no_options
 options_told (Some options) = options
 
+-- the same, on this grid
+abbrev pub asked_on : Asked → List ℕ → Asked
+asked_on asked grid = record asked { grid = Some grid }
+
 -- what the words have code built for
 abbrev pub build_of : Asked → Build
 build_of asked = record {
@@ -189,6 +193,22 @@ pub record TimeTakes (asked : Asked) : Type 0 where
 abbrev pub IsTime : List (List ℕ) → List ℕ → Asked → Type 0
 IsTime = IsCommandOf (codes "time") TimeTakes
 
+-- ---- gen N [opt=LETTERS] [turns=N]
+-- The program is drawn from a number, and runs on grids that no word tells.
+pub record GenTakes (asked : Asked) : Type 0 where
+  pub no_order : asked.order ≡ None
+  pub no_report : asked.report ≡ false
+  pub no_links : asked.links ≡ None
+  pub no_latency : asked.latency ≡ None
+  pub no_grid : asked.grid ≡ None
+  pub no_settings : asked.settings ≡ []
+
+pub record IsGen (words : List (List ℕ)) (n : ℕ) (asked : Asked) : Type 0 where
+  pub text : List ℕ
+  pub worded : IsWorded words (codes "gen") text asked
+  pub seed : IsSeed text n
+  pub takes : GenTakes asked
+
 -- ---- words that are none of these
 pub record IsNoCommand (words : List (List ℕ)) : Type 0 where
   pub no_list : IsNoCommandOf (codes "list") ListTakes words
@@ -196,6 +216,7 @@ pub record IsNoCommand (words : List (List ℕ)) : Type 0 where
   pub no_run : IsNoCommandOf (codes "run") RunTakes words
   pub no_exec : IsNoCommandOf (codes "exec") ExecTakes words
   pub no_time : IsNoCommandOf (codes "time") TimeTakes words
+  pub no_gen : (n : ℕ) (asked : Asked) → ¬ IsGen words n asked
 
 -- ---- a call of a command
 -- The words of the call are this command, of a file and asking for something of which this holds.

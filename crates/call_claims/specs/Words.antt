@@ -11,7 +11,7 @@ use Rattle.zpl_binding.specs.Settings.{Setting}
 use Rattle.zpl_claims.specs.Build.{no_options}
 use Rattle.zpl_claims.specs.declared.options.Options.{Options}
 use Rattle.call_claims.specs.declared.limits.TheConstants.{MOST_DIGITS, MOST_LATENCY, MOST_LINKS, MOST_TURNS}
-use Rattle.call_claims.specs.declared.limits.TheConstants.{MOST_FACTOR_DIGITS}
+use Rattle.call_claims.specs.declared.limits.TheConstants.{MOST_FACTOR_DIGITS, MOST_SEED}
 
 -- one to nineteen digits, with leading zeros allowed
 pub record IsNumber (text : List ℕ) (n : ℕ) : Type 0 where
@@ -19,6 +19,12 @@ pub record IsNumber (text : List ℕ) (n : ℕ) : Type 0 where
   pub few : length text ≤ MOST_DIGITS
   pub digits : IsTrue (list_all is_ascii_digit text)
   pub value : n ≡ digits_value 10 text
+
+-- a number that a program is drawn from
+pub record IsSeed (text : List ℕ) (n : ℕ) : Type 0 where
+  pub number : IsNumber text n
+  pub some : 1 ≤ n
+  pub within : n ≤ MOST_SEED
 
 -- the word is `turns=` and a number
 pub record IsTurnsWord (word : List ℕ) (n : ℕ) : Type 0 where

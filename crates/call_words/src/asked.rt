@@ -2,8 +2,8 @@
 ghost use Rattle.std.specs.Prelude.{◌≡◌, ◌++◌, List, map, IfSome, MatchOption, option_map};
 ghost use Rattle.std.specs.Prelude.{string_bytes};
 ghost use Rattle.zpl_binding.specs.Settings.{Setting};
-ghost use Rattle.call_claims.specs.Command.{asked_more, grid_told, Adds, AskFor, latency_of};
-ghost use Rattle.call_claims.specs.Command.{limit_of, options_told, Asked as Claimed};
+ghost use Rattle.call_claims.specs.Command.{asked_more, asked_on, grid_told, Adds, AskFor};
+ghost use Rattle.call_claims.specs.Command.{latency_of, limit_of, options_told, Asked as Claimed};
 ghost use Rattle.call_claims.specs.Setting.{one_or_none, setting_in};
 ghost use Rattle.call_words.specs.Reading.{asked_in, asked_with, word_in};
 
@@ -55,6 +55,16 @@ impl<'a> Asked<'a> {
         ensures { result ≡ options_told (asked_in self.entry).options }
     {
         self.options.unwrap_or(NO_OPTIONS)
+    }
+
+    /// The same, on this grid.
+    pub fn on_grid(self, grid: [u32; 3]) -> Asked<'a>
+        ensures { asked_in result ≡ asked_on (asked_in self.entry) grid }
+    {
+        Asked {
+            grid: Some(grid),
+            ..self
+        }
     }
 
     /// For how many ticks a message is on its way.

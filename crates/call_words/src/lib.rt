@@ -12,5 +12,5 @@ mod settings;
 mod words;
 
 pub use asked::Asked;
-pub use commands::{Command, FileCommand, command_of};
+pub use commands::{Command, FileCommand, GenCommand, command_of};
 pub use settings::{sets_nothing, setting_in};
