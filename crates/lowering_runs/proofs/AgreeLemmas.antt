@@ -124,6 +124,22 @@ trailed_agrees One Other turns spare outcome course others after h (Trapping few
 trailed_agrees One Other turns spare outcome course others after h Shattering = Shattering
 trailed_agrees One Other turns spare outcome course others after h (Wanting many) = Wanting many
 
+-- something behind it that only changes the store
+pub followed_agrees : (One Other : Store → Whole → Type 0) (turns spare : ℕ) (outcome : Outcome)
+    (course : Course Whole) (f : Store → Store)
+    → ((store : Store) (whole : Whole) → One store whole → Other (f store) whole)
+    → Agrees One turns spare outcome course
+    → Agrees Other turns spare (out.then_do outcome (λ store. out.goes_on (f store))) course
+followed_agrees One Other turns spare outcome course f h
+    (Going {store = s} {after = w} {bytes = b} {steps = n} {jumps = j} alike few) =
+    subst (λ (bytes : List ℕ). Agrees Other turns spare
+    (record { store = f s; bytes = bytes; ending = Done; steps = n + 0 })
+    (record { close = GoesOn; state = w; bytes = b; jumps = j })) (sym (append-nil b))
+    (Going (h s w alike) (omega (arith, few)))
+followed_agrees One Other turns spare outcome course f h (Trapping few) = Trapping few
+followed_agrees One Other turns spare outcome course f h Shattering = Shattering
+followed_agrees One Other turns spare outcome course f h (Wanting many) = Wanting many
+
 -- a jump behind it
 pub leaving_agrees : (IsAlike : Store → Whole → Type 0) (turns spare : ℕ) (outcome : Outcome)
     (course : Course Whole) → Agrees IsAlike turns spare outcome course

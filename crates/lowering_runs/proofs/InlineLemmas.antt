@@ -6,6 +6,9 @@ use Rattle.zpl_region.specs.declared.regions.Region.{Region}
 use Rattle.zpl_tree.specs.Syntax.{Name, Expr, Number, Truth, Coord, Named, Shifted, Around, Remap, Call, Paren, Neg, Not, Abs, Pair, Reduce, Scan, Flood, Exprs, NoExpr, ThenExpr, Bracket, NoBracket, Bracketed, VarDef, Item, Str, Value, Stmt, Prefixed, Stmts, NoStmt, ThenStmt, Form, Assign, Invoke, Block, If, While, Repeat, For, Border, Write, Return, Tested, Arms, NoArm, ThenArm, Otherwise, NoElse, Else}
 use Rattle.zpl_names.specs.Kinds.{Rank, Formal, ScalarFormal, ArrayFormal}
 use Rattle.zpl_names.specs.Scope.{kind_of}
+use Rattle.std.proofs.Common.{◌⊎◌, inl, inr}
+use Rattle.zpl_names.specs.Sites.{Result}
+use Rattle.lowering_runs.specs.ScalarText.{IsReturn, AreAnswering, IsScalarBody}
 use Rattle.zpl_names.specs.Sites.{Role, Assigned, Printed, Test as TestRole, Reach, is_shattered}
 use Rattle.zpl_names.specs.Types.{type_of}
 use Rattle.zpl_names.specs.Declared.{Routine}
@@ -309,8 +312,8 @@ choice_inline : (b : Bool) (one other : Lowered) → b ≡ false → Inline othe
 choice_inline b one other e h =
     subst (λ (c : Bool). Inline (low.choose_code c one other).code) (sym e) h
 
-module _ (IsCallable : List ℕ → Type 0) (call : Calling → Next → Lowered)
-    (calls : (calling : Calling) (next : Next) → IsCallable calling.name
+module _ (IsCallable : Bool → List ℕ → Type 0) (call : Calling → Next → Lowered)
+    (calls : (answers : Bool) (calling : Calling) (next : Next) → IsCallable answers calling.name
     → Inline (call calling next).code) where
   abbrev at_place : Where → Lowering
   at_place w = record { place = w; call = call }
@@ -326,6 +329,37 @@ module _ (IsCallable : List ℕ → Type 0) (call : Calling → Next → Lowered
     phases_inline w line next [] [] exprs h,
     values_inline line scalar (phased w line next exprs).left,
   )
+
+  invoke_inline : (w : Where) (next : Next) (name : Name) (actuals : Exprs) (result line : ℕ)
+      → AreScalarActuals (formals_in (kind_of w.scope name)) actuals → (answers : Bool)
+      → IsCallable answers name.text
+      → Inline (low.lowered_invoke (at_place w) next name actuals result line).code
+  invoke_inline w next name actuals result line s answers h =
+      let formals = formals_in (kind_of w.scope name) in
+      let exprs = low.value_exprs w formals actuals in
+      let scalar = next.scalars + (phased w line next exprs).lowered.scalars in
+      let own = low.with_values line scalar (phased w line next exprs) in
+      (with_values_inline w line next exprs (actuals_scalar w formals actuals s) scalar,
+      calls answers (record {
+        name = name.text; actuals = low.given_to w scalar formals actuals;
+        currents = w.currents; result = result; numbers = w.numbers; line = line;
+      }) (behind next own) h)
+
+  assign_inline : (name : Name) (op : Option Op) (value : Expr) (w : Where) (next : Next) (at : ℕ)
+      → IsScalarForm IsCallable (reach_of w) (Assign name op value)
+      → Inline (low.lowered_form (at_place w) next at (Assign name op value)).code
+  assign_inline name op value w next at (inl h) =
+      subst (λ (x : Lowered). Inline x.code)
+      (sym (lowered_plain (at_place w) next name op value (line_of w at) h.2))
+      (to_inline w (Assigned name op) (line_of w at) next (assigned_expr name op value)
+      (thing_of w.environment name.text) h.2)
+  assign_inline name op value w next at (inr a) =
+      subst (λ (o : Option Op).
+      Inline (low.lowered_form (at_place w) next at (Assign name o value)).code) (sym a.op_is)
+      (subst (λ (v : Expr).
+      Inline (low.lowered_form (at_place w) next at (Assign name None v)).code) (sym a.value_is)
+      (invoke_inline w next a.callee a.actuals (low.target_of w name) (line_of w at) a.taken true
+      a.callable))
 
   mutual
     pub stmt_inline : (stmt : Stmt) (w : Where) (next : Next)
@@ -346,27 +380,9 @@ module _ (IsCallable : List ℕ → Type 0) (call : Calling → Next → Lowered
     form_inline : (form : Form) (w : Where) (next : Next) (at : ℕ)
         → IsScalarForm IsCallable (reach_of w) form
         → Inline (low.lowered_form (at_place w) next at form).code
-    form_inline (Assign name op value) w next at h =
-        subst (λ (x : Lowered). Inline x.code)
-        (sym (lowered_plain (at_place w) next name op value (line_of w at) h.2))
-        (to_inline w (Assigned name op) (line_of w at) next (assigned_expr name op value)
-        (thing_of w.environment name.text) h.2)
+    form_inline (Assign name op value) w next at h = assign_inline name op value w next at h
     form_inline (Invoke name actuals) w next at h =
-        let line = line_of w at in
-        let formals = formals_in (kind_of w.scope name) in
-        let exprs = low.value_exprs w formals actuals in
-        let scalar = next.scalars + (phased w line next exprs).lowered.scalars in
-        let own = low.with_values line scalar (phased w line next exprs) in (
-          with_values_inline w line next exprs (actuals_scalar w formals actuals h.0) scalar,
-          calls (record {
-            name = name.text;
-            actuals = low.given_to w scalar formals actuals;
-            currents = w.currents;
-            result = 0;
-            numbers = w.numbers;
-            line = line;
-          }) (behind next own) h.1,
-        )
+        invoke_inline w next name actuals 0 (line_of w at) h.0 false h.1
     form_inline (Block body) w next at h = all_inline body w next h
     form_inline (If arms otherwise) w next at h =
         choice_inline (is_shattered (reach_of w) (If arms otherwise))
@@ -457,6 +473,33 @@ module _ (IsCallable : List ℕ → Type 0) (call : Calling → Next → Lowered
     else_inline NoElse w next h = tt
     else_inline (Else body) w next h = all_inline body w next h
 
+  return_inline : (stmt : Stmt) (w : Where) (next : Next) → IsReturn IsCallable (reach_of w) stmt
+      → Inline (low.lowered (at_place w) next stmt).code
+  return_inline (Prefixed at [] (Return value)) w next h =
+      let line = line_of w at in
+      let placed = low.placed_in w (Result None) value in
+      (phases_inline w line next [] [] (placed ∷ []) (h.1, tt), (tt, tt))
+  return_inline (Prefixed at (prefix ∷ rest) (Return value)) w next h = absurd h.0
+  return_inline (Prefixed at prefixes form) w next h = absurd h
+
+  answering_inline : (stmts : Stmts) (w : Where) (next : Next)
+      → AreAnswering IsCallable (reach_of w) stmts
+      → Inline (low.lowered_all (at_place w) next stmts).code
+  answering_inline NoStmt w next h = absurd h
+  answering_inline (ThenStmt first NoStmt) w next h = (return_inline first w next h, tt)
+  answering_inline (ThenStmt first (ThenStmt second rest)) w next h =
+      (stmt_inline first w next h.0,
+      answering_inline (ThenStmt second rest) w (behind next (low.lowered (at_place w) next first))
+      h.1)
+
+  pub body_inline : (answers : Bool) (stmt : Stmt) (w : Where) (next : Next)
+      → IsScalarBody IsCallable (reach_of w) answers stmt
+      → Inline (low.lowered (at_place w) next stmt).code
+  body_inline false stmt w next h = stmt_inline stmt w next h
+  body_inline true (Prefixed at [] (Block body)) w next h = answering_inline body w next h.1
+  body_inline true (Prefixed at (prefix ∷ rest) (Block body)) w next h = absurd h.0
+  body_inline true (Prefixed at prefixes form) w next h = absurd h
+
 -- ---- procedures
 
 rows_if_inline : (b : Bool) (rows : List Row) → Every IsInline rows
@@ -513,13 +556,15 @@ module _ (setup : Setup) (entry : Entry) where
       (λ frame after. prog.locals_code setup entry vars frame after rest)
       (λ frame after. locals_inline vars frame after rest h)
 
-pub routine_inline : (setup : Setup) (IsCallable : List ℕ → Type 0)
+pub routine_inline : (setup : Setup) (IsCallable : Bool → List ℕ → Type 0)
     (call : Calling → Next → Lowered)
-    → ((calling : Calling) (next : Next) → IsCallable calling.name → Inline (call calling next).code)
-    → (clears : Bool) (routine : Routine) → IsScalarRoutine setup.program IsCallable routine
+    → ((answers : Bool) (calling : Calling) (next : Next) → IsCallable answers calling.name
+    → Inline (call calling next).code)
+    → (clears answers : Bool) (routine : Routine)
+    → IsScalarRoutine setup.program IsCallable answers routine
     → (calling : Calling) (next : Next)
     → Inline (prog.routine_code setup clears call (Some routine) calling next).code
-routine_inline setup IsCallable call calls clears routine h calling next =
+routine_inline setup IsCallable call calls clears answers routine h calling next =
     let entry : Entry = record { clears = clears; line = calling.line } in
     let rest : Framed → Next → Lowered = λ frame last.
     low.lowered (record { place = prog.where_in setup routine calling frame; call = call }) last
@@ -529,22 +574,22 @@ routine_inline setup IsCallable call calls clears routine h calling next =
     (prog.in_call (prog.reads_round setup.program routine) next)
     (λ frame after. prog.locals_code setup entry routine.procedure.locals frame after rest)
     (λ frame after. locals_inline setup entry routine.procedure.locals frame after rest
-    (λ frame last. stmt_inline IsCallable call calls routine.procedure.body
+    (λ frame last. body_inline IsCallable call calls answers routine.procedure.body
     (prog.where_in setup routine calling frame) last h.1))
 
-pub call_inline : (setup : Setup) (depth : ℕ) (calling : Calling) (next : Next)
-    → IsScalarCall setup.program depth calling.name
+pub call_inline : (setup : Setup) (depth : ℕ) (answers : Bool) (calling : Calling) (next : Next)
+    → IsScalarCall setup.program depth answers calling.name
     → Inline (prog.call_code setup depth calling next).code
-call_inline setup zero calling next h = absurd h
-call_inline setup (suc depth) calling next h =
+call_inline setup zero answers calling next h = absurd h
+call_inline setup (suc depth) answers calling next h =
     subst (λ (r : Option Routine).
     Inline (prog.routine_code setup true (prog.call_code setup depth) r calling next).code)
     (sym h.named)
     (routine_inline setup (IsScalarCall setup.program depth) (prog.call_code setup depth)
-    (call_inline setup depth) true h.routine h.scalar calling next)
+    (call_inline setup depth) true answers h.routine h.scalar calling next)
 
 pub entry_inline : (setup : Setup) (depth : ℕ) (calling : Calling) (next : Next)
-    → IsScalarCall setup.program depth calling.name
+    → IsScalarCall setup.program depth false calling.name
     → Inline (prog.entry_code setup depth calling next).code
 entry_inline setup zero calling next h = absurd h
 entry_inline setup (suc depth) calling next h =
@@ -552,7 +597,7 @@ entry_inline setup (suc depth) calling next h =
     Inline (prog.routine_code setup false (prog.call_code setup depth) r calling next).code)
     (sym h.named)
     (routine_inline setup (IsScalarCall setup.program depth) (prog.call_code setup depth)
-    (call_inline setup depth) false h.routine h.scalar calling next)
+    (call_inline setup depth) false false h.routine h.scalar calling next)
 
 pub regions_inline : (slot : ℕ) (regions : List (Computed Region))
     → Every IsInline (prog.region_rows slot regions)

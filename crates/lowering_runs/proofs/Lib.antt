@@ -1,4 +1,5 @@
 pub mod AgreeLemmas
+pub mod AnswerLemmas
 pub mod LoopLemmas
 pub mod TopLemmas
 pub mod NumberLemmas

@@ -9,6 +9,16 @@ use Rattle.zpl_nums.specs.declared.operators.Op.{Op}
 use Rattle.zpl_tree.specs.Syntax.{Name, Expr, Number, Truth, Coord, Named, Shifted, Around, Remap, Call, Paren, Neg, Not, Abs, Pair, Reduce, Scan, Flood, Exprs, NoExpr, ThenExpr, Item, Str, Value, Stmt, Prefixed, Stmts, NoStmt, ThenStmt, Form, Assign, Invoke, Block, If, While, Repeat, For, Border, Write, Return, Tested, Arms, NoArm, ThenArm, Otherwise, NoElse, Else}
 use Rattle.zpl_names.specs.Kinds.{Rank, Formal, ScalarFormal, ArrayFormal}
 use Rattle.zpl_names.specs.Scope.{kind_of}
+use Rattle.std.proofs.Common.{◌⊎◌, inl, inr}
+use Rattle.zpl_names.specs.Sites.{Result}
+use Rattle.zpl_meaning.specs.Visited.{AsAnswer}
+use Rattle.flat_form.specs.Whole.{Whole}
+use Rattle.zpl_lowering.specs.Lowered as low_behind
+use Rattle.lowering_runs.specs.ScalarText.{IsScalarValue, IsAnswer, IsReturn, AreAnswering, IsScalarBody}
+use Rattle.lowering_runs.specs.Called.{HasReturned}
+use Rattle.lowering_runs.proofs.AgreeLemmas.{goes_agrees, alike_agrees, then_agrees}
+use Rattle.lowering_runs.proofs.FitLemmas.{before_behind, place_kept, stands_on, like_anew, like_then}
+use Rattle.lowering_runs.proofs.AnswerLemmas.{returned_agrees, IsServedAnswer, answer_goes}
 use Rattle.zpl_names.specs.Sites.{Role, Limit, Actual, Assigned, Printed, Test as TestRole, is_shattered, handed}
 use Rattle.zpl_meaning.specs.Store.{Store, Thing, Scalar, ArrayAt, Fixed, thing_of}
 use Rattle.zpl_meaning.specs.Context.{Setup, Place, Currents, reach_of, rank_in}
@@ -21,15 +31,15 @@ use Rattle.zpl_meaning.specs.Outcome as out
 use Rattle.zpl_meaning.specs.Outcome.{Outcome}
 use Rattle.zpl_meaning.specs.Statement as mean
 use Rattle.zpl_meaning.specs.Statement.{Context, step_expr}
-use Rattle.zpl_lowering.specs.Where.{Next, line_of}
+use Rattle.zpl_lowering.specs.Where.{Next, Where, line_of}
 use Rattle.zpl_lowering.specs.Lowered.{Lowered}
 use Rattle.zpl_lowering.specs.Statement as low
 use Rattle.zpl_lowering.specs.Statement.{Lowering}
-use Rattle.lowering_runs.specs.Seen.{numbered, place_of, seen_place, seen_thing}
+use Rattle.lowering_runs.specs.Seen.{Sight, numbered, place_of, seen_place, seen_thing}
 use Rattle.lowering_runs.specs.Run.{does}
 use Rattle.lowering_runs.specs.Agrees.{Agrees}
 use Rattle.lowering_runs.specs.Scalars.{IsScalarExpr, IsScalarAt}
-use Rattle.lowering_runs.specs.Stands.{IsLike}
+use Rattle.lowering_runs.specs.Stands.{HasRoom, IsLike, Stands}
 use Rattle.lowering_runs.specs.Goes.{World, context, lowering, Goes}
 use Rattle.lowering_runs.specs.Called.{CallsAgree}
 use Rattle.lowering_runs.specs.ScalarText.{AreScalarActuals, AreScalarTexts, AreScalarStmts, AreScalarArms, IsScalarElse}
@@ -281,7 +291,7 @@ false_choice : (b : Bool) (place : Place) (form : Form) → b ≡ false → IsPr
     → IsProperTested false place form
 false_choice b place form e h = subst (λ (c : Bool). IsProperTested c place form) e h
 
-module _ (world : World) (setup : Setup) (IsCallable : List ℕ → Type 0)
+module _ (world : World) (setup : Setup) (IsCallable : Bool → List ℕ → Type 0)
     (calls : CallsAgree world setup IsCallable)
     (proper : (place : Place) (stmt : Stmt) → IsVisited setup place stmt → IsProperStmt place stmt)
   where
@@ -331,16 +341,91 @@ module _ (world : World) (setup : Setup) (IsCallable : List ℕ → Type 0)
 
     assigned_of : (at : ℕ) (name : Name) (op : Option Op) (value : Expr) (place : Place)
         → IsServedForm setup IsCallable at (Assign name op value) place
+        → IsScalarValue IsCallable (reach_of place) name op value
         → IsAssigned world name op value place
-    assigned_of at name op value place h =
-        let s = h.scalar.2 in
+    assigned_of at name op value place h v =
+        let s = v.2 in
         let p = proper_plain place name op value s (proper_form at (Assign name op value) place h) in
         record {
           scalar = s;
-          handed_is = h.scalar.0;
+          handed_is = v.0;
           target = p.0;
-          value_is = scalar_at place (Assigned name op) (assigned_expr name op value) s h.scalar.1 p.1;
+          value_is = scalar_at place (Assigned name op) (assigned_expr name op value) s v.1 p.1;
         }
+
+    -- the answer of a call
+    pub record IsCalled (at : ℕ) (name : Name) (op : Option Op) (value : Expr) (place : Place)
+        : Type 0 where
+      pub offset : ℕ
+      pub callee : Name
+      pub actuals : Exprs
+      pub op_is : op ≡ None
+      pub value_is : value ≡ Call offset callee actuals
+      pub served : IsServedAnswer world setup IsCallable calls at offset name callee actuals place
+
+    answered_of : (at : ℕ) (name : Name) (op : Option Op) (value : Expr) (place : Place)
+        → IsServedForm setup IsCallable at (Assign name op value) place
+        → IsAnswer IsCallable (reach_of place) op value → IsCalled at name op value place
+    answered_of at name op value place h a =
+        let here : IsVisited setup place (Prefixed at [] (Assign name None (Call a.at a.callee a.actuals))) =
+          subst (λ (v : Expr). IsVisited setup place (Prefixed at [] (Assign name None v))) a.value_is
+          (subst (λ (o : Option Op). IsVisited setup place (Prefixed at [] (Assign name o value)))
+          a.op_is h.visited) in
+        let c = proper place (Prefixed at [] (Assign name None (Call a.at a.callee a.actuals))) here in
+        record {
+          offset = a.at;
+          callee = a.callee;
+          actuals = a.actuals;
+          op_is = a.op_is;
+          value_is = a.value_is;
+          served = record {
+            setup_is = h.setup_is;
+            callable = a.callable;
+            variable = c.0;
+            actuals_are = actuals_served place (formals_in (kind_of place.scope a.callee)) a.actuals
+                a.taken
+                (subst (λ (fs : List Formal). AreProperActuals place fs a.actuals)
+                (sym (ap formals_in c.1.called)) c.1.taken);
+            visited = λ values before result many routine store named.
+                Calls place place at [] (Assign name None (Call a.at a.callee a.actuals)) a.callee
+                a.actuals values before store result routine here Itself AsAnswer many named;
+          };
+        }
+
+    value_of : (at : ℕ) (name : Name) (op : Option Op) (value : Expr) (place : Place)
+        → IsServedForm setup IsCallable at (Assign name op value) place
+        → IsAssigned world name op value place ⊎ IsCalled at name op value place
+    value_of at name op value place h = by h.scalar
+      where
+        by : IsScalarValue IsCallable (reach_of place) name op value
+            ⊎ IsAnswer IsCallable (reach_of place) op value
+            → IsAssigned world name op value place ⊎ IsCalled at name op value place
+        by (inl v) = inl (assigned_of at name op value place h v)
+        by (inr a) = inr (answered_of at name op value place h a)
+
+    value_goes : (at : ℕ) (name : Name) (op : Option Op) (value : Expr)
+        → Goes world (λ p. IsAssigned world name op value p ⊎ IsCalled at name op value p)
+        (λ c store. mean.exec_form c world.turns at (Assign name op value) store)
+        (λ l next. low.lowered_form l next at (Assign name op value)) 0
+    value_goes at name op value sight w next start stands (inl served) room store now like =
+        assign_goes world at name op value sight w next start stands served room store now like
+    value_goes at name op value sight w next start stands (inr called) room store now like =
+        subst (λ (o : Option Op). HasRoom world.tables next
+        (low.lowered_form (lowering world w) next at (Assign name o value))
+        → Agrees (IsLike world.tables sight.spots w next start) world.turns 0
+        (mean.exec_form (context world sight w start) world.turns at (Assign name o value) store)
+        (does world.tables world.turns
+        (low.lowered_form (lowering world w) next at (Assign name o value)).code now))
+        (sym called.op_is)
+        (subst (λ (v : Expr). HasRoom world.tables next
+        (low.lowered_form (lowering world w) next at (Assign name None v))
+        → Agrees (IsLike world.tables sight.spots w next start) world.turns 0
+        (mean.exec_form (context world sight w start) world.turns at (Assign name None v) store)
+        (does world.tables world.turns
+        (low.lowered_form (lowering world w) next at (Assign name None v)).code now))
+        (sym called.value_is)
+        (λ room. answer_goes world setup IsCallable calls at called.offset name called.callee
+        called.actuals sight w next start stands called.served room store now like)) room
 
     invoked_of : (at : ℕ) (name : Name) (actuals : Exprs) (place : Place)
         → IsServedForm setup IsCallable at (Invoke name actuals) place
@@ -562,8 +647,9 @@ module _ (world : World) (setup : Setup) (IsCallable : List ℕ → Type 0)
 
       form_agrees : (form : Form) (at : ℕ) → FormGoes form at
       form_agrees (Assign name op value) at =
-          form_from (Assign name op value) at (IsAssigned world name op value)
-          (assigned_of at name op value) (assign_goes world at name op value)
+          form_from (Assign name op value) at
+          (λ p. IsAssigned world name op value p ⊎ IsCalled at name op value p)
+          (value_of at name op value) (value_goes at name op value)
       form_agrees (Invoke name actuals) at =
           form_from (Invoke name actuals) at
           (IsServedInvoke world setup IsCallable calls at name actuals) (invoked_of at name actuals)
@@ -669,3 +755,119 @@ module _ (world : World) (setup : Setup) (IsCallable : List ℕ → Type 0)
           else_from (Else body) (AreServed setup IsCallable body)
           (λ p h. record { setup_is = h.setup_is; visited = h.visited; scalar = h.scalar })
           (all_agree body)
+
+    -- ---- bodies that answer
+
+    abbrev Returned : Sight → Where → Next → Whole → Store → Whole → Type 0
+    Returned sight w next start = HasReturned world.tables sight w next start
+
+    -- statements of which the last one returns
+    pub record AreReturning (stmts : Stmts) (place : Place) : Type 0 where
+      pub setup_is : place.setup ≡ setup
+      pub visited : (stmt : Stmt) → Contains (list_of stmts) stmt → IsVisited setup place stmt
+      pub answering : AreAnswering IsCallable (reach_of place) stmts
+
+    -- as `Goes`, to where an answer has been returned
+    abbrev GoesBack : (Place → Type 0) → (Context → Store → Outcome) → (Lowering → Next → Lowered)
+        → Type 0
+    GoesBack IsHere run made =
+        (sight : Sight) (w : Where) (next : Next) (start : Whole) → Stands sight.spots w next
+        → IsHere (seen_place sight w start) → HasRoom world.tables next (made (lowering world w) next)
+        → (store : Store) (now : Whole) → IsLike world.tables sight.spots w next start store now
+        → Agrees (Returned sight w next start) world.turns 0 (run (context world sight w start) store)
+        (does world.tables world.turns (made (lowering world w) next).code now)
+
+    pub record IsReturning (stmt : Stmt) (place : Place) : Type 0 where
+      pub setup_is : place.setup ≡ setup
+      pub visited : IsVisited setup place stmt
+      pub returns : IsReturn IsCallable (reach_of place) stmt
+
+    return_goes : (stmt : Stmt)
+        → GoesBack (IsReturning stmt) (λ c store. mean.exec c world.turns stmt store)
+        (λ l next. low.lowered l next stmt)
+    return_goes (Prefixed at [] (Return value)) sight w next start stands here room store now like =
+        let p = seen_place sight w start in
+        let h = proper p (Prefixed at [] (Return value)) here.visited in
+        let s = role_scalar p (Result None) value here.returns.1 h in
+        counting_agrees (Returned sight w next start) world.turns 0 0
+        (1 + mean.nodes_under [] (Return value)) _ _ (omega arith)
+        (returned_agrees world.tables world.turns sight w next start stands
+        (room_here world.tables next (low.lowered (lowering world w) next (Prefixed at [] (Return value)))
+        room)
+        (Result None) (line_of w at) value s store now like)
+    return_goes (Prefixed at (prefix ∷ rest) (Return value)) sight w next start stands here room store
+        now like = absurd here.returns.0
+    return_goes (Prefixed at prefixes form) sight w next start stands here room store now like =
+        absurd here.returns
+
+    all_return : (stmts : Stmts)
+        → GoesBack (AreReturning stmts) (λ c. mean.exec_all c world.turns stmts)
+        (λ l next. low.lowered_all l next stmts)
+    all_return NoStmt sight w next start stands here room store now like = absurd here.answering
+    all_return (ThenStmt first NoStmt) sight w next start stands here room store now like =
+        let l = lowering world w in
+        let one = low.lowered l next first in
+        let Ended = Returned sight w next start in
+        then_agrees Ended Ended world.turns 0 0 _ _ _ _
+        (return_goes first sight w next start stands (record {
+          setup_is = here.setup_is;
+          visited = here.visited first (contains_first first []);
+          returns = here.answering;
+        }) (record { scalars = omega (arith, room.scalars) }) store now like)
+        (λ s v k. goes_agrees Ended world.turns s v k)
+    all_return (ThenStmt first (ThenStmt second rest)) sight w next start stands here room store now
+        like =
+        let l = lowering world w in
+        let one = low.lowered l next first in
+        let more = low_behind.behind next one in
+        let others = ThenStmt second rest in
+        then_agrees (IsLike world.tables sight.spots w next start) (Returned sight w next start)
+        world.turns 0 0 _ _ _ _
+        (stmt_agrees first sight w next start stands (record {
+          setup_is = here.setup_is;
+          visited = here.visited first (contains_first first (list_of others));
+          scalar = here.answering.0;
+        }) (record { scalars = omega (arith, room.scalars) }) store now like)
+        (λ s v k.
+          let b = before_behind next one in
+          let same : seen_place sight w v ≡ seen_place sight w start =
+            place_kept start v next.slots k.kept.slots sight w stands.taken stands.edge in
+          alike_agrees (Returned sight w more v) (Returned sight w next start) world.turns 0 _ _
+          (λ s' v' r. record {
+            before = r.before; mid = r.mid; value = r.value; integer = r.integer;
+            like = like_then world.tables sight.spots w next more start s v r.before r.mid b k r.like;
+            store_is = r.store_is; whole_is = r.whole_is;
+          })
+          (subst (λ (p : Place). Agrees (Returned sight w more v) world.turns 0
+          (mean.exec_all (record { place = p; call = world.call }) world.turns others s)
+          (does world.tables world.turns (low.lowered_all l more others).code v)) same
+          (all_return (ThenStmt second rest) sight w more v (stands_on sight.spots w next more b stands)
+          (subst (λ (p : Place). AreReturning others p) (sym same) (record {
+            setup_is = here.setup_is;
+            visited = λ stmt c. here.visited stmt (contains_later first (list_of others) stmt c);
+            answering = here.answering.1;
+          })) (record { scalars = omega (arith, room.scalars) }) s v
+          (like_anew world.tables sight.spots w next more start s v k))))
+
+    -- a body that answers
+    pub record IsAnswering (stmt : Stmt) (place : Place) : Type 0 where
+      pub setup_is : place.setup ≡ setup
+      pub visited : IsVisited setup place stmt
+      pub body : IsScalarBody IsCallable (reach_of place) true stmt
+
+    pub body_returns : (stmt : Stmt)
+        → GoesBack (IsAnswering stmt) (λ c store. mean.exec c world.turns stmt store)
+        (λ l next. low.lowered l next stmt)
+    body_returns (Prefixed at [] (Block body)) sight w next start stands here room store now like =
+        counting_agrees (Returned sight w next start) world.turns 0 0
+        (1 + mean.nodes_under [] (Block body)) _ _ (omega arith)
+        (all_return body sight w next start stands (record {
+          setup_is = here.setup_is;
+          visited = λ stmt c. Holds (seen_place sight w start) (seen_place sight w start) at []
+              (Block body) stmt here.visited Itself c;
+          answering = here.body.1;
+        }) room store now like)
+    body_returns (Prefixed at (prefix ∷ rest) (Block body)) sight w next start stands here room store
+        now like = absurd here.body.0
+    body_returns (Prefixed at prefixes form) sight w next start stands here room store now like =
+        absurd here.body

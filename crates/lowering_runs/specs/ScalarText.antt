@@ -2,7 +2,9 @@
 -- goes as they do. Of text alone.
 use Rattle.std.specs.Prelude.{◌≡◌, ℕ, zero, suc, false, List, [], ◌∷◌, Some}
 use Rattle.zpl_nums.specs.Integer.{IsInteger}
-use Rattle.std.specs.Prelude.{pos}
+use Rattle.std.specs.Prelude.{pos, Bool, true, Option, None, ◌⊎◌}
+use Rattle.zpl_nums.specs.declared.operators.Op.{Op}
+use Rattle.zpl_tree.specs.Syntax.{Expr, Name, Call}
 use Rattle.zpl_binding.specs.Outcome.{value_or, outcome_of}
 use Rattle.zpl_binding.specs.Settings.{Setting}
 use Rattle.zpl_binding.specs.Declarations.{known_of}
@@ -40,7 +42,24 @@ AreScalarTexts reach (Value expr ∷ items) =
     (whole_rank reach Printed expr ≡ Some 0) × IsScalarExpr expr × AreScalarTexts reach items
 
 -- what may be called, by its name
-module _ (IsCallable : List ℕ → Type 0) (reach : Reach) where
+module _ (IsCallable : Bool → List ℕ → Type 0) (reach : Reach) where
+  -- a value that is assigned to a scalar
+  abbrev pub IsScalarValue : Name → Option Op → Expr → Type 0
+  IsScalarValue name op value =
+      (handed reach (Assigned name op) ≡ Some 0)
+      × (whole_rank reach (Assigned name op) (assigned_expr name op value) ≡ Some 0)
+      × IsScalarExpr (assigned_expr name op value)
+
+  -- the answer of a call
+  pub record IsAnswer (op : Option Op) (value : Expr) : Type 0 where
+    pub at : ℕ
+    pub callee : Name
+    pub actuals : Exprs
+    pub op_is : op ≡ None
+    pub value_is : value ≡ Call at callee actuals
+    pub taken : AreScalarActuals (formals_in (kind_of reach.scope callee)) actuals
+    pub callable : IsCallable true callee.text
+
   abbrev mutual
     pub IsScalarStmt : Stmt → Type 0
     IsScalarStmt (Prefixed at prefixes form) = HasNoPrefix prefixes × IsScalarForm form
@@ -51,11 +70,9 @@ module _ (IsCallable : List ℕ → Type 0) (reach : Reach) where
 
     pub IsScalarForm : Form → Type 0
     IsScalarForm (Assign name op value) =
-        (handed reach (Assigned name op) ≡ Some 0)
-        × (whole_rank reach (Assigned name op) (assigned_expr name op value) ≡ Some 0)
-        × IsScalarExpr (assigned_expr name op value)
+        IsScalarValue name op value ⊎ IsAnswer op value
     IsScalarForm (Invoke name actuals) =
-        AreScalarActuals (formals_in (kind_of reach.scope name)) actuals × IsCallable name.text
+        AreScalarActuals (formals_in (kind_of reach.scope name)) actuals × IsCallable false name.text
     IsScalarForm (Block body) = AreScalarStmts body
     IsScalarForm (If arms otherwise) =
         (is_shattered reach (If arms otherwise) ≡ false) × AreScalarArms arms
@@ -83,24 +100,42 @@ module _ (IsCallable : List ℕ → Type 0) (reach : Reach) where
     IsScalarElse NoElse = Unit {0}
     IsScalarElse (Else body) = AreScalarStmts body
 
--- a procedure, where these may be called
-abbrev pub IsScalarRoutine : Program → (List ℕ → Type 0) → Routine → Type 0
-IsScalarRoutine program IsCallable routine =
+  -- statements of which the last one returns a value
+  abbrev pub IsReturn : Stmt → Type 0
+  IsReturn (Prefixed at prefixes (Return value)) = HasNoPrefix prefixes × IsScalarExpr value
+  IsReturn (Prefixed at prefixes form) = ⊥
+
+  abbrev pub AreAnswering : Stmts → Type 0
+  AreAnswering NoStmt = ⊥
+  AreAnswering (ThenStmt first NoStmt) = IsReturn first
+  AreAnswering (ThenStmt first (ThenStmt second rest)) =
+      IsScalarStmt first × AreAnswering (ThenStmt second rest)
+
+  -- the body of a procedure, which answers or doesn't
+  abbrev pub IsScalarBody : Bool → Stmt → Type 0
+  IsScalarBody false stmt = IsScalarStmt stmt
+  IsScalarBody true (Prefixed at prefixes (Block body)) = HasNoPrefix prefixes × AreAnswering body
+  IsScalarBody true (Prefixed at prefixes form) = ⊥
+
+-- a procedure, which answers or doesn't, where these may be called
+abbrev pub IsScalarRoutine : Program → (Bool → List ℕ → Type 0) → Bool → Routine → Type 0
+IsScalarRoutine program IsCallable answers routine =
     AreScalarLocals routine.procedure.locals
-    × IsScalarStmt IsCallable (record (in_body (scope_of program routine) unknown_shapes) {
+    × IsScalarBody IsCallable (record (in_body (scope_of program routine) unknown_shapes) {
       prefix = Some 0;
-    }) routine.procedure.body
+    }) answers routine.procedure.body
 
 -- the name stands for such a procedure, down a chain of so many calls
-pub record IsRoutine (program : Program) (IsCallable : List ℕ → Type 0) (name : List ℕ)
-    : Type 0 where
+pub record IsRoutine (program : Program) (IsCallable : Bool → List ℕ → Type 0) (answers : Bool)
+    (name : List ℕ) : Type 0 where
   pub routine : Routine
   pub named : routine_named program name ≡ Some routine
-  pub scalar : IsScalarRoutine program IsCallable routine
+  pub scalar : IsScalarRoutine program IsCallable answers routine
 
-abbrev pub IsScalarCall : Program → ℕ → List ℕ → Type 0
-IsScalarCall program zero name = ⊥
-IsScalarCall program (suc depth) name = IsRoutine program (IsScalarCall program depth) name
+abbrev pub IsScalarCall : Program → ℕ → Bool → List ℕ → Type 0
+IsScalarCall program zero answers name = ⊥
+IsScalarCall program (suc depth) answers name =
+    IsRoutine program (IsScalarCall program depth) answers name
 
 -- no array is declared beside the procedures
 abbrev pub AreScalarDecls : List Decl → Type 0
@@ -118,4 +153,4 @@ pub record IsScalarProgram (program : Program) (settings : List Setting) : Type 
   pub decls : AreScalarDecls program.decls
   pub values : (text : List ℕ)
       → IsInteger (value_or (pos 0) (outcome_of (pos 0) (known_of program settings).values text))
-  pub entry : IsScalarCall program longest_chain program.name.text
+  pub entry : IsScalarCall program longest_chain false program.name.text

@@ -1,11 +1,12 @@
 -- Statements of scalars, where a program is run.
+use Rattle.std.specs.Prelude.{Bool}
 use Rattle.std.specs.Prelude.{◌≡◌, ℕ, List, [], Contains}
 use Rattle.zpl_tree.specs.Syntax.{Stmt, Prefixed, Stmts, Form}
 use Rattle.zpl_meaning.specs.Context.{Setup, Place, reach_of}
 use Rattle.zpl_meaning.specs.Visited.{IsVisited, list_of}
 use Rattle.lowering_runs.specs.ScalarText.{IsScalarStmt, AreScalarStmts, IsScalarForm}
 
-module _ (setup : Setup) (IsCallable : List ℕ → Type 0) where
+module _ (setup : Setup) (IsCallable : Bool → List ℕ → Type 0) where
   pub record IsServed (stmt : Stmt) (place : Place) : Type 0 where
     pub setup_is : place.setup ≡ setup
     pub visited : IsVisited setup place stmt

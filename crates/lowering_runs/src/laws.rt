@@ -26,7 +26,7 @@ use zpl_meaning::no_stand_in_is_met;
 
 /// Names of procedures that may be called. No program calls this: laws are said of it.
 pub trait Callables {
-    ghost IsCallable: { List ℕ → Type 0 };
+    ghost IsCallable: { Bool → List ℕ → Type 0 };
 }
 
 /// The flat program of a program of scalars shows what the program means: with some bound on its
