@@ -36,7 +36,8 @@ use Rattle.zpl_lowering.specs.Where.{Where, Next, Stored, no_slots}
 use Rattle.zpl_lowering.specs.Lowered.{Lowered, behind}
 use Rattle.zpl_lowering.specs.Statement.{Calling}
 use Rattle.zpl_lowering.specs.Program as low
-use Rattle.zpl_lowering.specs.Tables.{empty_tables, rows_of, flat_tables}
+use Rattle.text_sharing.proofs.RowLemmas.{shared-inline}
+use Rattle.zpl_lowering.specs.Tables.{empty_tables, rows_of, flat_tables, unshared_tables}
 use Rattle.lowering_runs.specs.Seen.{scalar_in, Spot, seen_store, numbered}
 use Rattle.lowering_runs.specs.Run.{does}
 use Rattle.lowering_runs.specs.Agrees.{Agrees}
@@ -168,8 +169,9 @@ module _ (program : Program) (settings : List Setting) (s : IsScalarProgram prog
   rows_are : all_inlined tables
       ≡ map flat_row (flattened 0 own.code ++ Straight (row.Plain instr.End) ∷ [])
   rows_are =
-      rows_again (1 ∷ 0 ∷ 0 ∷ []) own (rows_of own) rows_are_inline
-      ∙ sym (map_append flat_row (flattened 0 own.code) (Straight (row.Plain instr.End) ∷ []))
+      shared-inline (unshared_tables program settings)
+      ∙ (rows_again (1 ∷ 0 ∷ 0 ∷ []) own (rows_of own) rows_are_inline
+      ∙ sym (map_append flat_row (flattened 0 own.code) (Straight (row.Plain instr.End) ∷ [])))
 
   scalars_are : tables.scalars ≡ own.scalars
   scalars_are = scalars_again (1 ∷ 0 ∷ 0 ∷ []) own (rows_of own)

@@ -26,9 +26,10 @@ use Rattle.zpl_lowering.specs.Where.{no_slots, Next}
 use Rattle.zpl_lowering.specs.Lowered.{behind}
 use Rattle.zpl_lowering.specs.Statement.{Calling, Lowering, lowered, lowered_all, lowered_form}
 use Rattle.zpl_lowering.specs.Program.{Entry, where_in, reads_round, in_call, routine_code, call_code, region_rows, global_numbers, globals_made, first_next, entry_calling, entry_code, lowered_program, Framed}
-use Rattle.zpl_lowering.specs.Tables.{flat_tables}
+use Rattle.zpl_lowering.specs.Tables.{flat_tables, unshared_tables}
 use Rattle.lowering_sizes.proofs.Costs.{cost, cost_both, no_text}
 use Rattle.lowering_sizes.proofs.Slates.{AreNarrow}
+use Rattle.text_sharing.proofs.RowLemmas.{shared-counted}
 use Rattle.lowering_sizes.proofs.Known.{HasThree, known_three}
 use Rattle.lowering_sizes.proofs.Statements.{GivensNarrow}
 use Rattle.lowering_sizes.proofs.ProgramLemmas.{AreProcedures, of_found, found_sum, found_all, CallsAreThere, own_cost, call_cost, most_of, both_sums, lowered_body, call_most, entered_most}
@@ -530,6 +531,7 @@ count_law program settings tokens faultless fit =
     let next = behind (first_next program) (globals_made known frame) in
     omega (
       arith,
+      shared-counted (unshared_tables program settings) is_counted (λ old new. refl),
       tables_count (1 ∷ 0 ∷ 0 ∷ []) (lowered_program program settings),
       entry_told setup three (calls_there program faultless) frame
           (numbers_narrow frame (var_counts program.decls) held) longest_chain next,

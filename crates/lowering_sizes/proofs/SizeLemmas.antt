@@ -1,5 +1,5 @@
 -- The size of a program's tables.
-use Rattle.std.proofs.Common.{◌≡◌, ℕ, zero, suc, ◌+◌, ◌*◌, ◌≤◌, false, List, [], ◌∷◌, length, Option, Some, None, refl, arith}
+use Rattle.std.proofs.Common.{◌≡◌, ℕ, zero, suc, ◌+◌, ◌*◌, ◌-◌, ◌≤◌, false, List, [], ◌∷◌, length, Option, Some, None, refl, arith}
 use Rattle.std.specs.Prelude.{sum_by}
 use Rattle.std.proofs.lemmas.List.{length-map}
 use Rattle.std.proofs.lemmas.List.Sums.{sum_by-cons}
@@ -24,11 +24,12 @@ use Rattle.zpl_meaning.specs.Context.{Setup}
 use Rattle.zpl_meaning.specs.Program.{setup_of, first_frame}
 use Rattle.zpl_meaning.specs.Variables.{Frame}
 use Rattle.code_parts.specs.Counts.{code_size}
+use Rattle.text_sharing.proofs.RowLemmas.{shared-bare}
 use Rattle.zpl_lowering.specs.Where.{Next}
 use Rattle.zpl_lowering.specs.Lowered.{behind}
 use Rattle.zpl_lowering.specs.Program.{Entry, body_code, reads_round, in_call, routine_code, call_code, region_rows, global_numbers, globals_made, first_next, entry_calling, entry_code, lowered_program}
-use Rattle.zpl_lowering.specs.Tables.{flat_tables}
-use Rattle.lowering_sizes.specs.Sizes.{HoldsItsWords, strings_bytes, printed_bytes}
+use Rattle.zpl_lowering.specs.Tables.{flat_tables, unshared_tables}
+use Rattle.lowering_sizes.specs.Sizes.{HoldsItsWords}
 use Rattle.lowering_sizes.proofs.Costs.{cost, no_text}
 use Rattle.lowering_sizes.proofs.Weights.{rows_weight}
 use Rattle.lowering_sizes.proofs.LaidOut.{weight, tables_size}
@@ -77,17 +78,6 @@ entry_most text one setup frame three there narrow (suc depth) next =
         )
 
 -- ---- the sum over all calls
-
-cost_parts : (words : List Word) →
-    cost length words ≡ 32 * length words + strings_bytes words
-cost_parts [] = refl
-cost_parts (word.Str bytes ∷ words) = omega (arith, cost_parts words)
-cost_parts (word.Name name ∷ words) = omega (arith, cost_parts words)
-cost_parts (word.Number value ∷ words) = omega (arith, cost_parts words)
-cost_parts (word.Ditto ∷ words) = omega (arith, cost_parts words)
-cost_parts (word.Symbol symbol ∷ words) = omega (arith, cost_parts words)
-cost_parts (word.Keyword key ∷ words) = omega (arith, cost_parts words)
-cost_parts (word.End ∷ words) = omega (arith, cost_parts words)
 
 pub bare_parts : (words : List Word) → cost no_text words ≡ 32 * length words
 bare_parts [] = refl
@@ -211,33 +201,19 @@ none_of program = by (entry_of program)
     by None = refl
     by (Some entry) = no_expanded program longest_chain entry
 
-pub size_law : (program : Program) (settings : List Setting) → IsFaultless program →
-    HoldsItsWords program →
-    code_size (flat_tables program settings)
-    ≤ 32 * (source_size program + 1) + printed_bytes program
-size_law program settings faultless holds =
-    let one : length {A = ℕ} (10 ∷ []) ≤ 1 = omega arith in
-    omega (
-      arith,
-      program_weight length one program settings faultless holds,
-      tables_size length (1 ∷ 0 ∷ 0 ∷ []) (lowered_program program settings),
-      program_apart program (own_cost length program) body_tokens
-          (λ routine. strings_bytes (stmt_words routine.procedure.body))
-          (λ routine. sum_by names_count (callees program routine))
-          (λ routine. omega (arith, cost_parts (stmt_words routine.procedure.body))),
-    )
-
+-- without the bytes of texts
 pub bare_law : (program : Program) (settings : List Setting) → IsFaultless program →
     HoldsItsWords program →
     code_size (record (flat_tables program settings) { texts = [] })
-    ≤ 32 * (source_size program + 1)
+    ≤ 3 * length program.source + 32 * (source_size program - length program.source) + 30
 bare_law program settings faultless holds =
     let one : no_text (10 ∷ []) ≤ 1 = omega arith in
     omega (
       arith,
+      shared-bare (unshared_tables program settings),
       program_weight no_text one program settings faultless holds,
       tables_size no_text (1 ∷ 0 ∷ 0 ∷ []) (lowered_program program settings),
-      nothing (flat_tables program settings).texts,
+      nothing (unshared_tables program settings).texts,
       program_apart program (own_cost no_text program) body_tokens (λ routine. 0)
           (λ routine. sum_by names_count (callees program routine))
           (λ routine. omega (arith, bare_parts (stmt_words routine.procedure.body))),

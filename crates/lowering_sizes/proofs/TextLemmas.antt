@@ -19,17 +19,19 @@ use Rattle.zpl_names.specs.Shapes.{unknown_shapes}
 use Rattle.zpl_names.specs.Declared.{with_decl, with_procedure, Routine, routine_of, routines_behind, routine_named, entry_of}
 use Rattle.zpl_names.specs.Reached.{longest_chain}
 use Rattle.zpl_names.specs.Sites.{CallSite, calls_under}
-use Rattle.zpl_names.specs.Expansion.{callees, expanded, expanded_from, expanded_of, body_tokens, names_count}
+use Rattle.zpl_names.specs.Expansion.{callees, expanded, expanded_from, expanded_of, body_tokens, names_count, source_size}
 use Rattle.zpl_binding.specs.Settings.{Setting}
+use Rattle.code_parts.specs.Counts.{code_size}
+use Rattle.text_sharing.proofs.DifferentLemmas.{different-distinct, different-old}
 use Rattle.zpl_lowering.specs.Program.{lowered_program}
-use Rattle.zpl_lowering.specs.Tables.{flat_tables}
+use Rattle.zpl_lowering.specs.Tables.{flat_tables, unshared_tables}
 use Rattle.lowering_sizes.specs.Sizes.{HoldsItsWords}
 use Rattle.lowering_sizes.specs.Texts.{string_of, texts_of}
 use Rattle.lowering_sizes.proofs.Costs.{cost}
 use Rattle.lowering_sizes.proofs.LaidOut.{sized, tables_size}
 use Rattle.lowering_sizes.proofs.ProgramLemmas.{of_found, own_cost, found_all}
 use Rattle.lowering_sizes.proofs.DeclaredLemmas.{bytes, bytes_sum}
-use Rattle.lowering_sizes.proofs.SizeLemmas.{program_apart, program_weight}
+use Rattle.lowering_sizes.proofs.SizeLemmas.{bare_law, program_apart, program_weight}
 
 -- ---- a text among others
 
@@ -278,7 +280,7 @@ much_of program =
 
 bounded : (program : Program) (settings : List Setting) → IsFaultless program →
     HoldsItsWords program →
-    sized (strange (texts_of program) (much_of program)) (flat_tables program settings)
+    sized (strange (texts_of program) (much_of program)) (unshared_tables program settings)
     < much_of program
 bounded program settings faultless holds =
     let all = texts_of program in
@@ -302,12 +304,12 @@ bounded program settings faultless holds =
           omega (arith, none, named_strings text program name, program_strings text program)),
     )
 
-pub texts_law : (program : Program) (settings : List Setting) → IsFaultless program →
+unshared_law : (program : Program) (settings : List Setting) → IsFaultless program →
     HoldsItsWords program →
-    All (λ text. Contains (texts_of program) text) (flat_tables program settings).texts
-texts_law program settings faultless holds k d inside =
+    All (λ text. Contains (texts_of program) text) (unshared_tables program settings).texts
+unshared_law program settings faultless holds k d inside =
     let all = texts_of program in
-    let texts = (flat_tables program settings).texts in
+    let texts = (unshared_tables program settings).texts in
     let text = strange all (much_of program) in
     let one = slice_index_or texts k d in
     let light : text one < much_of program =
@@ -317,6 +319,16 @@ texts_law program settings faultless holds k d inside =
       get_or-le-sum_by text texts k d inside,
     ) in
     found_in one all (light_known all (much_of program) one light)
+
+pub texts_law : (program : Program) (settings : List Setting) → IsFaultless program →
+    HoldsItsWords program →
+    All (λ text. Contains (texts_of program) text) (flat_tables program settings).texts
+texts_law program settings faultless holds k d inside =
+    let old = (unshared_tables program settings).texts in
+    let one = slice_index_or (flat_tables program settings).texts k d in
+    let there = different-old old k d inside in
+    subst (λ text. Contains (texts_of program) text) there.2
+    (unshared_law program settings faultless holds there.0 one there.1)
 
 -- ---- different texts
 
@@ -462,4 +474,17 @@ different_law program texts holds among distinct =
       bytes_sum (program_words program),
       string_total (program_words program),
       distinct_total texts (texts_of program) distinct (all_among texts (texts_of program) among),
+    )
+
+-- ---- the whole size
+pub size_law : (program : Program) (settings : List Setting) → IsFaultless program →
+    HoldsItsWords program →
+    code_size (flat_tables program settings) ≤ 32 * (source_size program + 1)
+size_law program settings faultless holds =
+    let texts = (flat_tables program settings).texts in
+    omega (
+      arith,
+      bare_law program settings faultless holds,
+      different_law program texts holds (texts_law program settings faultless holds)
+          (different-distinct (unshared_tables program settings).texts),
     )

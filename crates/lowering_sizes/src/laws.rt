@@ -1,5 +1,5 @@
 //! The laws of the sizes of lowered programs.
-ghost use Rattle.std.specs.Prelude.{[], All, Contains, List, length, sum_by, ℕ, ◌*◌, ◌+◌, ◌≤◌};
+ghost use Rattle.std.specs.Prelude.{All, Contains, List, length, sum_by, ℕ, ◌*◌, ◌+◌, ◌≤◌};
 ghost use Rattle.std.specs.List.{IsDistinct};
 ghost use Rattle.std.specs.Str.{bytes_eq};
 ghost use Rattle.zpl_tree.specs.Syntax.{Program};
@@ -9,18 +9,14 @@ ghost use Rattle.zpl_names.specs.Expansion.{other_size, plain_assignments, sourc
 ghost use Rattle.zpl_binding.specs.Settings.{Setting};
 ghost use Rattle.code_parts.specs.Counts.{code_size, count_of, is_counted};
 ghost use Rattle.zpl_lowering.specs.Tables.{flat_tables};
-ghost use Rattle.lowering_sizes.specs.Sizes.{HoldsItsWords, printed_bytes};
+ghost use Rattle.lowering_sizes.specs.Sizes.{HoldsItsWords};
 ghost use Rattle.lowering_sizes.specs.Texts.{texts_of};
 
 /// The tables of a program without faults are at most 32 times as large as the program with its
-/// calls expanded, but for the texts that it prints: each call has those of its procedure anew.
+/// calls expanded.
 pub fn sizes()
-    ensures whole { (program : Program) (settings : List Setting) → IsFaultless program →
+    ensures { (program : Program) (settings : List Setting) → IsFaultless program →
         HoldsItsWords program → code_size (flat_tables program settings) ≤
-        32 * (source_size program + 1) + printed_bytes program }
-    ensures bare { (program : Program) (settings : List Setting) → IsFaultless program →
-        HoldsItsWords program →
-        code_size (record (flat_tables program settings) { texts = [] }) ≤
         32 * (source_size program + 1) }
 {}
 

@@ -24,7 +24,7 @@ use Rattle.zpl_lowering.specs.Program.{body_code, call_code, entry_calling, entr
 use Rattle.zpl_lowering.specs.Program.{global_numbers, globals_made, lowered_known, reads_round, routine_code}
 use Rattle.zpl_lowering.specs.Statement as statement
 use Rattle.zpl_lowering.specs.Statement.{Calling}
-use Rattle.zpl_lowering.specs.Tables.{flat_tables, tables_of}
+use Rattle.zpl_lowering.specs.Tables.{tables_of, unshared_tables}
 use Rattle.zpl_lowering.specs.Where.{Next, Numbers, SlotCurrents, no_slots}
 use Rattle.routine_walks.specs.Numbers.{number_of}
 use Rattle.routine_walks.specs.Texts as texts
@@ -219,7 +219,7 @@ pub tables_are : (program : Program) (settings : List Setting) (known : Known)
     next ≡ first_next program → d0 ≡ empty next →
     d1 ≡ grown d0 (globals_made known (frame_at program known)) →
     d2 ≡ grown d1 (entry_lowered program known d1.next) → tables ≡ finished d2 →
-    tables ≡ flat_tables program settings
+    tables ≡ unshared_tables program settings
 tables_are program settings known d0 d1 d2 next tables is first none one two made =
     let globals : Lowered = globals_made known (frame_at program known) in
     let entry : Next → Lowered = entry_lowered program known in

@@ -11,7 +11,7 @@ ghost use Rattle.zpl_bind.specs.Lists.{bound_of};
 ghost use Rattle.rank_types.specs.Typed.{HasText};
 ghost use Rattle.zpl_lowering.specs.Program.{entry_calling, entry_code};
 ghost use Rattle.zpl_lowering.specs.Statement.{Calling};
-ghost use Rattle.zpl_lowering.specs.Tables.{flat_tables};
+ghost use Rattle.zpl_lowering.specs.Tables.{flat_tables, unshared_tables};
 ghost use Rattle.array_places.specs.View.{setup_of};
 ghost use Rattle.array_places.specs.Sound.{IsRanked};
 ghost use Rattle.lower_places.specs.Sound.{IsIndex};
@@ -34,6 +34,7 @@ use node_form::Tables;
 use rank_types::Typed;
 use routine_walks::Text;
 use std::alloc::{AllocError, Global};
+use text_sharing::share_texts;
 use zpl_bind::{Bound, Known};
 use zpl_binding::bound_lists_follow_the_text;
 use zpl_parts::Part;
@@ -162,7 +163,7 @@ fn lower_opened<'n>(
     Ok(())
 }
 
-/// The tables of a program that isn't too large.
+/// The tables of a program that isn't too large. Each row that prints a text has one of its own.
 fn lower_bound<'n>(
     alloc: Global,
     typed: &Typed<'n>,
@@ -175,7 +176,7 @@ fn lower_bound<'n>(
     ensures { (settings : List Setting) →
         known_in bound.now.known ≡ known_of (syntax_of typed.now.program.now) settings →
         IfOk result (λ tables. tables
-        ≡ flat_tables (syntax_of typed.now.program.now) settings) }
+        ≡ unshared_tables (syntax_of typed.now.program.now) settings) }
 {
     let text = typed.text;
     let mut draft = Draft::new(alloc, first_next(alloc, text)?);
@@ -208,6 +209,7 @@ pub fn lower<'n>(alloc: Global, typed: &Typed<'n>, bound: &Bound<'n>) -> Result<
 {
     bound_lists_follow_the_text();
     check_size(alloc, typed)?;
-    let tables = lower_bound(alloc, typed, bound)?;
+    let unshared = lower_bound(alloc, typed, bound)?;
+    let tables = share_texts(alloc, unshared)?;
     Ok(tables)
 }

@@ -14,6 +14,7 @@ use Rattle.node_form.specs.declared.tables.Tables.{Tables}
 use Rattle.row_runs.specs.Structured.{flattened}
 use Rattle.flat_form.specs.Row as row
 use Rattle.flat_form.specs.Row.{Row, with_rows}
+use Rattle.text_sharing.specs.Shared.{texts_shared}
 use Rattle.zpl_lowering.specs.Check.{flat_row}
 use Rattle.zpl_lowering.specs.Hoist.{Shifted}
 use Rattle.zpl_lowering.specs.Lowered.{Lowered}
@@ -110,6 +111,11 @@ rows_of lowered = map flat_row (flattened 0 lowered.code) ++ row.Plain instr.End
 abbrev pub tables_of : List ℕ → Lowered → Tables
 tables_of grid lowered = with_rows (empty_tables grid lowered) (rows_of lowered)
 
--- the flat program of a program under settings: it is for one processor, before it is planned
+-- the tables of a program under settings, where each row that prints a text has one of its own
+abbrev pub unshared_tables : Program → List Setting → Tables
+unshared_tables program settings = tables_of (1 ∷ 0 ∷ 0 ∷ []) (lowered_program program settings)
+
+-- The flat program of a program under settings: it is for one processor, before it is planned. Each
+-- different text stands once.
 abbrev pub flat_tables : Program → List Setting → Tables
-flat_tables program settings = tables_of (1 ∷ 0 ∷ 0 ∷ []) (lowered_program program settings)
+flat_tables program settings = texts_shared (unshared_tables program settings)

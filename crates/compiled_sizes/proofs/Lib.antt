@@ -1,0 +1,4 @@
+pub mod BaseLemmas
+pub mod PassLemmas
+pub mod LayoutLemmas
+pub mod CheckLemmas
