@@ -62,8 +62,8 @@ fn push_if_stayed(
     code.push(alloc, row)
 }
 
-/// Whether a row is a check of places that passes always: one of a slot that `fix` rows alone write,
-/// and which passes for each of their regions. The time is that of a walk over these.
+/// Whether a row is a check of places that passes always: one of a slot that `fix` rows alone
+/// write, and which passes for each of their regions. The time is that of a walk over these.
 pub fn is_decided(tables: &Tables, writes: &Writes, row: Instr) -> bool
     requires fits { Fits tables.now }
     requires row { FitsInstr tables.now row }

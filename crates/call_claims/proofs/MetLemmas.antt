@@ -1,8 +1,10 @@
 -- What the words of a command ask for can be met.
 use Rattle.std.proofs.Common.{ℕ, ◌≤◌, Bool, List, [], ◌∷◌, Option, Some, None, subst, arith}
 use Rattle.std.specs.Option.{option_map}
-use Rattle.call_claims.specs.Words.{Word, Order, Turns, Report, Links, Latency, Grid, Sets, IsWord}
-use Rattle.call_claims.specs.Command.{Asked, AddAll, IsWorded, asked_more, first_report, once}
+use Rattle.zpl_claims.specs.declared.options.Options.{Options}
+use Rattle.call_claims.specs.Words.{Word, Order, Turns, Report, Links, Latency, Grid, Letters, Sets}
+use Rattle.call_claims.specs.Words.{IsWord, first_asked}
+use Rattle.call_claims.specs.Command.{Asked, AddAll, IsWorded, asked_more, once}
 use Rattle.call_claims.specs.Command.AddAll.{no_more, one_more}
 use Rattle.call_claims.specs.Met.{CanBeMet}
 use Rattle.call_claims.specs.declared.limits.TheConstants.{MOST_LATENCY, MOST_TURNS}
@@ -43,16 +45,23 @@ with_grid asked (Some other) grid met = tt
 with_grid asked None grid met =
     record { links = met.links; turns = met.turns; latency = met.latency }
 
+with_options : (asked : Asked) (before : Option Options) (options : Options) → CanBeMet asked
+    → AreMet (option_map (λ options. record asked { options = options }) (once before options))
+with_options asked (Some other) options met = tt
+with_options asked None options met =
+    record { links = met.links; turns = met.turns; latency = met.latency }
+
 with_word : (asked : Asked) (text : List ℕ) (word : Word) → IsWord text word → CanBeMet asked
     → AreMet (asked_more asked word)
 with_word asked text (Order file) is met = with_order asked (once asked.order file) met
 with_word asked text (Turns n) is met = with_turns asked asked.turns n is.within met
-with_word asked text Report is met = with_report asked (first_report asked.report) met
+with_word asked text Report is met = with_report asked (first_asked asked.report) met
 with_word asked text (Links capacity) is met =
     with_links asked asked.links capacity is.links.some met
 with_word asked text (Latency ticks) is met =
     with_latency asked asked.latency ticks is.latency.within met
 with_word asked text (Grid grid) is met = with_grid asked asked.grid grid met
+with_word asked text (Letters options) is met = with_options asked asked.options options met
 with_word asked text (Sets setting) is met = record { links = met.links; turns = met.turns; latency = met.latency }
 
 with_words : (before last : Asked) (texts : List (List ℕ)) → AddAll before texts last

@@ -11,7 +11,9 @@ use Rattle.zpl_text.specs.Kinds.{IsWord as IsWordText}
 use Rattle.zpl_binding.specs.Settings.{Setting}
 use Rattle.call_claims.specs.Words.{AreFactors, IsFactor, IsNumber, IsTurnsWord, IsSettingWord, IsWord, Word, Order}
 use Rattle.call_claims.specs.Words.AreFactors.{last_factor, one_factor}
-use Rattle.call_claims.specs.Words.{Turns, Report, Links, Latency, Grid, Sets, grid_of}
+use Rattle.call_claims.specs.Words.{AreLetters, Turns, Report, Links, Latency, Grid, Letters, Sets, grid_of, with_letters}
+use Rattle.zpl_claims.specs.Build.{no_options}
+use Rattle.zpl_claims.specs.declared.options.Options.{Options}
 use Rattle.call_claims.specs.Command.{Asked, Adds, AddAll, Asks, IsCommandOf, IsWorded, asked_more}
 use Rattle.call_claims.specs.Command.AddAll.{no_more, one_more}
 use Rattle.call_claims.specs.Setting.{setting_in, set_by}
@@ -83,6 +85,7 @@ sets Report = None
 sets (Links capacity) = None
 sets (Latency ticks) = None
 sets (Grid grid) = None
+sets (Letters options) = None
 sets (Sets setting) = Some setting
 
 pub sets_are : (text : List ℕ) (word : Word) → IsWord text word → setting_in text ≡ sets word
@@ -92,6 +95,7 @@ sets_are text Report is = ap setting_in is
 sets_are text (Links capacity) is = ap setting_in is.split
 sets_are text (Latency ticks) is = ap setting_in is.split
 sets_are text (Grid grid) is = ap setting_in is.split
+sets_are text (Letters options) is = ap setting_in is.split
 sets_are text (Sets setting) is = set_word text setting is
 
 -- ---- a word
@@ -103,6 +107,7 @@ letter Report = 114
 letter (Links capacity) = 108
 letter (Latency ticks) = 108
 letter (Grid grid) = 103
+letter (Letters options) = 111
 letter (Sets setting) = 0
 
 begins : (text : List ℕ) (word : Word) → sets word ≡ None → IsWord text word
@@ -113,6 +118,7 @@ begins text Report none is = ap (λ t. get_or t 0 0) is
 begins text (Links capacity) none is = ap (λ t. get_or t 0 0) is.split
 begins text (Latency ticks) none is = ap (λ t. get_or t 0 0) is.split
 begins text (Grid grid) none is = ap (λ t. get_or t 0 0) is.split
+begins text (Letters options) none is = ap (λ t. get_or t 0 0) is.split
 begins text (Sets setting) none is = absurd (let no : ⊥ = cc in no)
 
 number_is_one : (text other : List ℕ) (n m : ℕ) → text ≡ other → IsNumber text n
@@ -184,6 +190,15 @@ factors_one text one other (one_factor {front = front} {rest = rest} {n = n} {fa
 seconds_differ : (capacity ticks : List ℕ) → codes "links=" ++ capacity ≢ codes "latency=" ++ ticks
 seconds_differ capacity ticks same = omega (arith, ap (λ t. get_or t 1 0) same)
 
+-- and so do `order=` and `opt=`
+seconds_of_o : (file letters : List ℕ) → codes "order=" ++ file ≢ codes "opt=" ++ letters
+seconds_of_o file letters same = omega (arith, ap (λ t. get_or t 1 0) same)
+
+letters_are_one : (letters other : List ℕ) (one two : Options) → letters ≡ other
+    → AreLetters letters one → AreLetters other two → one ≡ two
+letters_are_one letters other one two same f g =
+    let both : Some one ≡ Some two = sym f.told ∙ (ap (with_letters no_options) same ∙ g.told) in cc
+
 same_word : (text : List ℕ) (one other : Word) → sets one ≡ None → letter one ≡ letter other
     → IsWord text one → IsWord text other → one ≡ other
 same_word text (Order f) (Order g) none e a b = ap Order (ap (drop 6) (sym a ∙ b))
@@ -200,6 +215,23 @@ same_word text (Grid g) (Grid h) none e a b =
     factors_one b.text a.tells.factors b.tells.factors
     (subst (λ t. AreFactors t a.tells.factors) texts a.tells.are) b.tells.are in
     ap Grid (a.tells.is ∙ (ap grid_of factors ∙ sym b.tells.is))
+same_word text (Letters x) (Letters y) none e a b =
+    ap Letters (letters_are_one a.letters b.letters x y (ap (drop 4) (sym a.split ∙ b.split)) a.are b.are)
+same_word text (Letters x) (Turns m) none e a b = absurd (omega (arith, e))
+same_word text (Turns n) (Letters y) none e a b = absurd (omega (arith, e))
+same_word text (Letters x) Report none e a b = absurd (omega (arith, e))
+same_word text Report (Letters y) none e a b = absurd (omega (arith, e))
+same_word text (Letters x) (Links m) none e a b = absurd (omega (arith, e))
+same_word text (Links n) (Letters y) none e a b = absurd (omega (arith, e))
+same_word text (Letters x) (Latency m) none e a b = absurd (omega (arith, e))
+same_word text (Latency n) (Letters y) none e a b = absurd (omega (arith, e))
+same_word text (Letters x) (Grid h) none e a b = absurd (omega (arith, e))
+same_word text (Grid g) (Letters y) none e a b = absurd (omega (arith, e))
+same_word text (Letters x) (Sets s) none e a b = absurd (omega (arith, e))
+same_word text (Order f) (Letters y) none e a b =
+    absurd (seconds_of_o f b.letters (sym a ∙ b.split))
+same_word text (Letters x) (Order g) none e a b =
+    absurd (seconds_of_o g a.letters (sym b ∙ a.split))
 same_word text (Grid g) (Order h) none e a b = absurd (omega (arith, e))
 same_word text (Grid g) (Turns m) none e a b = absurd (omega (arith, e))
 same_word text (Grid g) Report none e a b = absurd (omega (arith, e))
@@ -248,6 +280,7 @@ the_setting Report setting e = absurd (let no : ⊥ = cc in no)
 the_setting (Links capacity) setting e = absurd (let no : ⊥ = cc in no)
 the_setting (Latency ticks) setting e = absurd (let no : ⊥ = cc in no)
 the_setting (Grid grid) setting e = absurd (let no : ⊥ = cc in no)
+the_setting (Letters options) setting e = absurd (let no : ⊥ = cc in no)
 
 word_by : (text : List ℕ) (one other : Word) (set : Option Setting) → sets one ≡ set
     → sets other ≡ set → IsWord text one → IsWord text other → one ≡ other

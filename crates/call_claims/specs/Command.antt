@@ -2,21 +2,24 @@
 --
 --   Asked, AskFor          what the words behind the file ask for
 --   IsWorded, IsCommandOf  words of one command, by its name and by what it takes
---   IsList, IsMean, IsRun, IsExec, IsTime
+--   IsList, IsMean, IsRun, IsExec, IsTime, IsGen
 --   IsNoCommand            words that are none of these
 --   Asks                   what holds of the file of a command and of what is asked for
 use Rattle.std.specs.Prelude.{◌≡◌, ℕ, Bool, true, false, List, [], ◌∷◌, ◌++◌, codes, Option, Some, None}
 use Rattle.std.specs.Option.{option_map}
 use Rattle.zpl_binding.specs.Settings.{Setting}
 use Rattle.zpl_claims.specs.Build.{Build, no_options, one_processor}
-use Rattle.call_claims.specs.Words.{Word, Order, Turns, Report, Links, Latency, Grid, Sets, IsWord}
+use Rattle.zpl_claims.specs.declared.options.Options.{Options}
+use Rattle.call_claims.specs.Words.{Word, Order, Turns, Report, Links, Latency, Grid, Letters, Sets}
+use Rattle.call_claims.specs.Words.{IsSeed, IsWord, first_asked}
 use Rattle.call_claims.specs.declared.limits.TheConstants.{MOST_TURNS}
 
 -- ---- what the words behind the file ask for
 -- The file of an order of turns, how many turns may be given (round the processors behind the
 -- order, or in each loop of the meaning), and how many messages a link holds, each where a word
--- tells it; whether a report is wanted; for how many ticks a message is on its way, and the grid of
--- processors, where a word tells them; and what configs are set to, in the order of the words.
+-- tells it; whether a report is wanted; for how many ticks a message is on its way, the grid of
+-- processors, and the optimisations, where a word tells them; and what configs are set to, in the
+-- order of the words.
 pub record Asked : Type 0 where
   pub order : Option (List ℕ)
   pub turns : Option ℕ
@@ -24,6 +27,7 @@ pub record Asked : Type 0 where
   pub links : Option ℕ
   pub latency : Option ℕ
   pub grid : Option (List ℕ)
+  pub options : Option Options
   pub settings : List Setting
 
 abbrev pub nothing_asked : Asked
@@ -34,6 +38,7 @@ nothing_asked = record {
   links = None;
   latency = None;
   grid = None;
+  options = None;
   settings = [];
 }
 
@@ -41,10 +46,6 @@ nothing_asked = record {
 abbrev pub once : {A : Type 0} → Option A → A → Option (Option A)
 once None told = Some (Some told)
 once (Some before) told = None
-
-abbrev pub first_report : Bool → Option Bool
-first_report false = Some true
-first_report true = None
 
 -- What is asked for with one word more; nothing where it asks again. Settings may be any, and a
 -- name may be set again: what is wrong with them is told of the text.
@@ -54,13 +55,15 @@ asked_more asked (Order file) =
 asked_more asked (Turns n) =
     option_map (λ turns. record asked { turns = turns }) (once asked.turns n)
 asked_more asked Report =
-    option_map (λ report. record asked { report = report }) (first_report asked.report)
+    option_map (λ report. record asked { report = report }) (first_asked asked.report)
 asked_more asked (Links capacity) =
     option_map (λ links. record asked { links = links }) (once asked.links capacity)
 asked_more asked (Latency ticks) =
     option_map (λ latency. record asked { latency = latency }) (once asked.latency ticks)
 asked_more asked (Grid grid) =
     option_map (λ grid. record asked { grid = grid }) (once asked.grid grid)
+asked_more asked (Letters options) =
+    option_map (λ options. record asked { options = options }) (once asked.options options)
 asked_more asked (Sets setting) = Some (record asked { settings = asked.settings ++ setting ∷ [] })
 
 -- one word more asks for something, and not again
@@ -100,11 +103,20 @@ abbrev pub grid_told : Option (List ℕ) → List ℕ
 grid_told None = one_processor
 grid_told (Some grid) = grid
 
--- What the words have code built for. No word tells of optimisations yet: it is without any.
+-- the optimisations
+abbrev pub options_told : Option Options → Options
+options_told None = no_options
+options_told (Some options) = options
+
+-- the same, on this grid
+abbrev pub asked_on : Asked → List ℕ → Asked
+asked_on asked grid = record asked { grid = Some grid }
+
+-- what the words have code built for
 abbrev pub build_of : Asked → Build
 build_of asked = record {
   grid = grid_told asked.grid;
-  options = no_options;
+  options = options_told asked.options;
   links = asked.links;
   settings = asked.settings;
 }
@@ -128,7 +140,7 @@ abbrev pub IsNoCommandOf : List ℕ → (Asked → Type 0) → List (List ℕ) �
 IsNoCommandOf name Takes words =
     (file : List ℕ) (asked : Asked) → ¬ IsCommandOf name Takes words file asked
 
--- ---- list FILE [grid=AxBxC] [links=C] [name:=value ..]
+-- ---- list FILE [grid=AxBxC] [opt=LETTERS] [links=C] [name:=value ..]
 pub record ListTakes (asked : Asked) : Type 0 where
   pub no_order : asked.order ≡ None
   pub no_turns : asked.turns ≡ None
@@ -146,11 +158,13 @@ pub record MeanTakes (asked : Asked) : Type 0 where
   pub no_links : asked.links ≡ None
   pub no_latency : asked.latency ≡ None
   pub no_grid : asked.grid ≡ None
+  pub no_letters : asked.options ≡ None
 
 abbrev pub IsMean : List (List ℕ) → List ℕ → Asked → Type 0
 IsMean = IsCommandOf (codes "mean") MeanTakes
 
--- ---- run FILE [grid=AxBxC] [order=FILE] [turns=N] [report] [links=C] [name:=value ..]
+-- ---- run FILE [grid=AxBxC] [opt=LETTERS] [order=FILE] [turns=N] [report] [links=C]
+-- [name:=value ..]
 pub record RunTakes (asked : Asked) : Type 0 where
   pub no_latency : asked.latency ≡ None
 
@@ -162,6 +176,7 @@ pub record ExecTakes (asked : Asked) : Type 0 where
   pub no_settings : asked.settings ≡ []
   pub no_latency : asked.latency ≡ None
   pub no_grid : asked.grid ≡ None
+  pub no_letters : asked.options ≡ None
 
 abbrev pub IsExec : List (List ℕ) → List ℕ → Asked → Type 0
 IsExec = IsCommandOf (codes "exec") ExecTakes
@@ -173,9 +188,26 @@ pub record TimeTakes (asked : Asked) : Type 0 where
   pub no_links : asked.links ≡ None
   pub no_settings : asked.settings ≡ []
   pub no_grid : asked.grid ≡ None
+  pub no_letters : asked.options ≡ None
 
 abbrev pub IsTime : List (List ℕ) → List ℕ → Asked → Type 0
 IsTime = IsCommandOf (codes "time") TimeTakes
+
+-- ---- gen N [opt=LETTERS] [turns=N]
+-- The program is drawn from a number, and runs on grids that no word tells.
+pub record GenTakes (asked : Asked) : Type 0 where
+  pub no_order : asked.order ≡ None
+  pub no_report : asked.report ≡ false
+  pub no_links : asked.links ≡ None
+  pub no_latency : asked.latency ≡ None
+  pub no_grid : asked.grid ≡ None
+  pub no_settings : asked.settings ≡ []
+
+pub record IsGen (words : List (List ℕ)) (n : ℕ) (asked : Asked) : Type 0 where
+  pub text : List ℕ
+  pub worded : IsWorded words (codes "gen") text asked
+  pub seed : IsSeed text n
+  pub takes : GenTakes asked
 
 -- ---- words that are none of these
 pub record IsNoCommand (words : List (List ℕ)) : Type 0 where
@@ -184,6 +216,7 @@ pub record IsNoCommand (words : List (List ℕ)) : Type 0 where
   pub no_run : IsNoCommandOf (codes "run") RunTakes words
   pub no_exec : IsNoCommandOf (codes "exec") ExecTakes words
   pub no_time : IsNoCommandOf (codes "time") TimeTakes words
+  pub no_gen : (n : ℕ) (asked : Asked) → ¬ IsGen words n asked
 
 -- ---- a call of a command
 -- The words of the call are this command, of a file and asking for something of which this holds.

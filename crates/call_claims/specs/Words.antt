@@ -1,13 +1,17 @@
 -- The words that may stand behind the file of a command.
-use Rattle.std.specs.Prelude.{◌≡◌, ◌≢◌, ℕ, zero, suc, ◌≤◌, List, [], ◌∷◌, ◌++◌, length, codes, get_or, IsTrue}
+use Rattle.std.specs.Prelude.{◌≡◌, ◌≢◌, ℕ, zero, suc, ◌≤◌, ◌==◌, Bool, true, false, if◌then◌else◌}
+use Rattle.std.specs.Prelude.{List, [], ◌∷◌, ◌++◌, length, codes, get_or, IsTrue, Option, Some, None}
 use Rattle.std.specs.List.{list_all}
+use Rattle.std.specs.Option.{option_and_then, option_map}
 use Rattle.std.specs.Char.{is_ascii_digit}
 use Rattle.std.specs.Str.Parse.{digits_value}
 use Rattle.zpl_tokens.specs.declared.Kind.TheVariants.{Name}
 use Rattle.zpl_text.specs.Kinds.{IsToken}
 use Rattle.zpl_binding.specs.Settings.{Setting}
+use Rattle.zpl_claims.specs.Build.{no_options}
+use Rattle.zpl_claims.specs.declared.options.Options.{Options}
 use Rattle.call_claims.specs.declared.limits.TheConstants.{MOST_DIGITS, MOST_LATENCY, MOST_LINKS, MOST_TURNS}
-use Rattle.call_claims.specs.declared.limits.TheConstants.{MOST_FACTOR_DIGITS}
+use Rattle.call_claims.specs.declared.limits.TheConstants.{MOST_FACTOR_DIGITS, MOST_SEED}
 
 -- one to nineteen digits, with leading zeros allowed
 pub record IsNumber (text : List ℕ) (n : ℕ) : Type 0 where
@@ -15,6 +19,12 @@ pub record IsNumber (text : List ℕ) (n : ℕ) : Type 0 where
   pub few : length text ≤ MOST_DIGITS
   pub digits : IsTrue (list_all is_ascii_digit text)
   pub value : n ≡ digits_value 10 text
+
+-- a number that a program is drawn from
+pub record IsSeed (text : List ℕ) (n : ℕ) : Type 0 where
+  pub number : IsNumber text n
+  pub some : 1 ≤ n
+  pub within : n ≤ MOST_SEED
 
 -- the word is `turns=` and a number
 pub record IsTurnsWord (word : List ℕ) (n : ℕ) : Type 0 where
@@ -47,6 +57,46 @@ pub record IsLatencyWord (word : List ℕ) (ticks : ℕ) : Type 0 where
   pub digits : List ℕ
   pub split : word ≡ codes "latency=" ++ digits
   pub latency : IsLatencyText digits ticks
+
+-- ---- optimisations
+-- what is asked for once
+abbrev pub first_asked : Bool → Option Bool
+first_asked false = Some true
+first_asked true = None
+
+-- The optimisations with that of one letter more, of f, c, r, m, e and t: none where it is another
+-- letter, or asks again.
+abbrev pub with_letter : Options → ℕ → Option Options
+with_letter options letter =
+    if letter == 102 then option_map (λ on. record options { fuse = on }) (first_asked options.fuse)
+    else if letter == 99
+    then option_map (λ on. record options { contract = on }) (first_asked options.contract)
+    else if letter == 114
+    then option_map (λ on. record options { redundant = on }) (first_asked options.redundant)
+    else if letter == 109
+    then option_map (λ on. record options { merge = on }) (first_asked options.merge)
+    else if letter == 101
+    then option_map (λ on. record options { early = on }) (first_asked options.early)
+    else if letter == 116
+    then option_map (λ on. record options { tree = on }) (first_asked options.tree)
+    else None
+
+-- with those of some letters, one after another
+abbrev pub with_letters : Options → List ℕ → Option Options
+with_letters options [] = Some options
+with_letters options (letter ∷ letters) =
+    option_and_then (λ next. with_letters next letters) (with_letter options letter)
+
+-- one letter or more, in any order
+pub record AreLetters (letters : List ℕ) (options : Options) : Type 0 where
+  pub some : 1 ≤ length letters
+  pub told : with_letters no_options letters ≡ Some options
+
+-- the word is `opt=` and such letters
+pub record IsLettersWord (word : List ℕ) (options : Options) : Type 0 where
+  pub letters : List ℕ
+  pub split : word ≡ codes "opt=" ++ letters
+  pub are : AreLetters letters options
 
 -- ---- grids
 -- a number of one to four digits
@@ -94,7 +144,8 @@ pub record IsSettingWord (word : List ℕ) (setting : Setting) : Type 0 where
 
 -- the file of the order of turns, whatever its name holds; how many turns may be given; that a
 -- report is wanted; how many messages a link holds; for how many ticks one is on its way; the grid
--- of processors, by its factors with 0 for each absent one; and what a config is set to
+-- of processors, by its factors with 0 for each absent one; the optimisations; and what a config is
+-- set to
 pub data Word : Type 0 where
   Order : (file : List ℕ) → Word
   Turns : (n : ℕ) → Word
@@ -102,6 +153,7 @@ pub data Word : Type 0 where
   Links : (capacity : ℕ) → Word
   Latency : (ticks : ℕ) → Word
   Grid : (grid : List ℕ) → Word
+  Letters : (options : Options) → Word
   Sets : (setting : Setting) → Word
 
 abbrev pub IsWord : List ℕ → Word → Type 0
@@ -111,4 +163,5 @@ IsWord text Report = text ≡ codes "report"
 IsWord text (Links capacity) = IsLinksWord text capacity
 IsWord text (Latency ticks) = IsLatencyWord text ticks
 IsWord text (Grid grid) = IsGridWord text grid
+IsWord text (Letters options) = IsLettersWord text options
 IsWord text (Sets setting) = IsSettingWord text setting

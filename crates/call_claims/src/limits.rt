@@ -12,5 +12,8 @@ pub const MOST_LINKS: u32 = 1_000_000;
 /// The most ticks that a word may have a message be on its way.
 pub const MOST_LATENCY: u64 = 1_000_000;
 
+/// The greatest number that a program is drawn from.
+pub const MOST_SEED: u32 = 1_000_000;
+
 /// The most digits of a factor of a grid.
 pub const MOST_FACTOR_DIGITS: usize = 4;

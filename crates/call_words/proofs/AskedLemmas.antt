@@ -15,6 +15,7 @@ use Rattle.call_words.specs.Reading.{asked_with, word_in}
 use Rattle.call_words.specs.declared.asked.Asked.{Asked as Read}
 use Rattle.call_words.specs.declared.words.Word.{Word}
 use Rattle.call_words.specs.declared.words.Word.TheVariants.{Order, Turns, Report, Links, Latency, Grid}
+use Rattle.call_words.specs.declared.words.Word.TheVariants.{Letters}
 
 -- ---- one word
 pub set_adds : (asked : Read) (text : List ℕ) (setting : Setting) (settings : List Setting)
@@ -41,6 +42,8 @@ sets_none settings text (Latency ticks) is =
     ap (λ s. settings ++ one_or_none s) (sets_are text (word_in (Latency ticks)) is) ∙ append-nil settings
 sets_none settings text (Grid grid) is =
     ap (λ s. settings ++ one_or_none s) (sets_are text (word_in (Grid grid)) is) ∙ append-nil settings
+sets_none settings text (Letters options) is =
+    ap (λ s. settings ++ one_or_none s) (sets_are text (word_in (Letters options)) is) ∙ append-nil settings
 
 adds_none : (before next : Asked) (text : List ℕ) (word : Claimed) → IsWord text word
     → asked_more before word ≡ None → ¬ Adds before text next

@@ -1,159 +1,130 @@
 -- When words are a command.
-use Rattle.std.proofs.Common.{◌≡◌, ◌≢◌, ℕ, ◌-◌, ◌≤◌, Bool, true, false, List, [], ◌∷◌, Option, Some, None, codes, map, length, take, drop, get_or}
+use Rattle.std.proofs.Common.{◌≡◌, ◌≢◌, ℕ, ◌-◌, ◌≤◌, ◌==◌, if◌then◌else◌, List, [], ◌∷◌, Option, Some, None, codes, map, length, take, drop, get_or}
 use Rattle.std.proofs.Common.{MatchOption, refl, sym, ◌∙◌, ap, subst, arith}
 use Rattle.std.proofs.lemmas.List.{length-drop, take_all}
-use Rattle.call_claims.specs.Command.{AskFor, Asked, ExecTakes, IsCommandOf, IsNoCommand, IsNoCommandOf}
-use Rattle.call_claims.specs.Command.{ListTakes, MeanTakes, RunTakes, TimeTakes}
+use Rattle.call_claims.specs.Command.{AskFor, Asked, IsNoCommand, IsWorded}
 use Rattle.call_claims.proofs.OneLemmas.{worded_once}
-use Rattle.call_words.specs.Reading.{asked_in, command_in, name_of, IsRead, Takes}
+use Rattle.call_words.specs.Reading.{asked_in, name_of, IsCommandIn, IsRead, IsSecond, Takes}
 use Rattle.call_words.specs.declared.commands.Command.{Command}
 use Rattle.call_words.specs.declared.commands.FileCommand.{FileCommand}
 use Rattle.call_words.specs.declared.commands.Verb.{Verb}
 use Rattle.call_words.specs.declared.commands.Verb.TheVariants as verb
+
+-- ---- names
+-- the command that a name is, found by its first letter
+abbrev named : List ℕ → Option Verb
+named name =
+    let first = get_or name 0 0 in
+    if first == 108 then Some verb.List else if first == 109 then Some verb.Mean
+    else if first == 114 then Some verb.Run else if first == 101 then Some verb.Exec
+    else if first == 116 then Some verb.Time else if first == 103 then Some verb.Gen else None
+
+found : (v : Verb) → named (name_of v) ≡ Some v
+found verb.List = refl
+found verb.Mean = refl
+found verb.Run = refl
+found verb.Exec = refl
+found verb.Time = refl
+found verb.Gen = refl
+
+one_name : (v w : Verb) → name_of v ≡ name_of w → v ≡ w
+one_name v w same =
+    let both : Some v ≡ Some w = sym (found v) ∙ (ap named same ∙ found w) in
+    let one : v ≡ w = cc in one
+
+-- ---- words that are no command
+-- no name makes them one
+abbrev pub NoneOf : List (List ℕ) → Type 0
+NoneOf words = (w : Verb) (place : List ℕ) (next : Asked) → IsWorded words (name_of w) place next
+    → IsSecond w place → ¬ Takes w next
+
+pub no_command : (words : List (List ℕ)) → NoneOf words → IsNoCommand words
+no_command words none = record {
+  no_list = λ file asked is. none verb.List file asked is.worded tt is.takes;
+  no_mean = λ file asked is. none verb.Mean file asked is.worded tt is.takes;
+  no_run = λ file asked is. none verb.Run file asked is.worded tt is.takes;
+  no_exec = λ file asked is. none verb.Exec file asked is.worded tt is.takes;
+  no_time = λ file asked is. none verb.Time file asked is.worded tt is.takes;
+  no_gen = λ n asked is. none verb.Gen is.text asked is.worded (n, is.seed) is.takes;
+}
 
 -- ---- words behind a name and a file
 module _ (name file : List ℕ) (more : List (List ℕ)) where
   abbrev words : List (List ℕ)
   words = name ∷ file ∷ more
 
-  -- what doesn't ask for anything is no command
-  none_asked : (other : List ℕ) (Allows : Asked → Type 0) → ((asked : Asked) → ¬ AskFor more asked)
-      → IsNoCommandOf other Allows words
-  none_asked other Allows none place asked is =
-      let same : name ∷ file ∷ more ≡ other ∷ place ∷ is.worded.more = is.worded.split in
-      let mores : is.worded.more ≡ more = cc in
-      none asked (subst (λ ws. AskFor ws asked) mores is.worded.are)
-
-  -- nor what has another name
-  pub other_named : (other : List ℕ) (Allows : Asked → Type 0) → name ≢ other
-      → IsNoCommandOf other Allows words
-  other_named other Allows differs place asked is =
-      let same : name ∷ file ∷ more ≡ other ∷ place ∷ is.worded.more = is.worded.split in
-      let names : name ≡ other = cc in
-      differs names
-
-  -- nor what asks for more than the command takes
-  not_taken : (Allows : Asked → Type 0) (asked : Asked) → AskFor more asked → ¬ Allows asked
-      → IsNoCommandOf name Allows words
-  not_taken Allows asked are other place next is =
-      let same = worded_once words name name file place asked next
-      (record { more = more; split = refl; are = are }) is.worded in
-      other (subst Allows (sym same.2) is.takes)
-
+  -- what doesn't ask for anything
   pub asks_nothing : ((asked : Asked) → ¬ AskFor more asked) → IsNoCommand words
-  asks_nothing none = record {
-    no_list = none_asked (codes "list") ListTakes none;
-    no_mean = none_asked (codes "mean") MeanTakes none;
-    no_run = none_asked (codes "run") RunTakes none;
-    no_exec = none_asked (codes "exec") ExecTakes none;
-    no_time = none_asked (codes "time") TimeTakes none;
-  }
+  asks_nothing none = no_command words (λ w place next worded second takes.
+      let same : name ∷ file ∷ more ≡ name_of w ∷ place ∷ worded.more = worded.split in
+      let mores : worded.more ≡ more = cc in
+      none next (subst (λ ws. AskFor ws next) mores worded.are))
 
+  -- and what has a name that is none
   pub no_name : ((v : Verb) → name ≢ name_of v) → IsNoCommand words
-  no_name none = record {
-    no_list = other_named (codes "list") ListTakes (none verb.List);
-    no_mean = other_named (codes "mean") MeanTakes (none verb.Mean);
-    no_run = other_named (codes "run") RunTakes (none verb.Run);
-    no_exec = other_named (codes "exec") ExecTakes (none verb.Exec);
-    no_time = other_named (codes "time") TimeTakes (none verb.Time);
-  }
+  no_name none = no_command words (λ w place next worded second takes.
+      let same : name ∷ file ∷ more ≡ name_of w ∷ place ∷ worded.more = worded.split in
+      let names : name ≡ name_of w = cc in
+      none w names)
 
--- ---- names differ by their first letters
-letters : (one other : List ℕ) → get_or one 0 0 ≢ get_or other 0 0 → one ≢ other
-letters one other differ same = differ (ap (λ w. get_or w 0 0) same)
+-- ---- words that ask for something
+module _ (v : Verb) (file : List ℕ) (more : List (List ℕ)) (asked : Asked)
+    (are : AskFor more asked) where
+  abbrev given : List (List ℕ)
+  given = name_of v ∷ file ∷ more
 
--- a command that doesn't take what is asked for
-pub takes_not : (v : Verb) (file : List ℕ) (more : List (List ℕ)) (asked : Asked)
-    → AskFor more asked → ¬ Takes v asked → IsNoCommand (name_of v ∷ file ∷ more)
-takes_not verb.List file more asked are other = record {
-  no_list = not_taken (codes "list") file more ListTakes asked are other;
-  no_mean = other_named (codes "list") file more (codes "mean") MeanTakes
-      (letters (codes "list") (codes "mean") (λ e. omega (arith, e)));
-  no_run = other_named (codes "list") file more (codes "run") RunTakes
-      (letters (codes "list") (codes "run") (λ e. omega (arith, e)));
-  no_exec = other_named (codes "list") file more (codes "exec") ExecTakes
-      (letters (codes "list") (codes "exec") (λ e. omega (arith, e)));
-  no_time = other_named (codes "list") file more (codes "time") TimeTakes
-      (letters (codes "list") (codes "time") (λ e. omega (arith, e)));
-}
-takes_not verb.Mean file more asked are other = record {
-  no_list = other_named (codes "mean") file more (codes "list") ListTakes
-      (letters (codes "mean") (codes "list") (λ e. omega (arith, e)));
-  no_mean = not_taken (codes "mean") file more MeanTakes asked are other;
-  no_run = other_named (codes "mean") file more (codes "run") RunTakes
-      (letters (codes "mean") (codes "run") (λ e. omega (arith, e)));
-  no_exec = other_named (codes "mean") file more (codes "exec") ExecTakes
-      (letters (codes "mean") (codes "exec") (λ e. omega (arith, e)));
-  no_time = other_named (codes "mean") file more (codes "time") TimeTakes
-      (letters (codes "mean") (codes "time") (λ e. omega (arith, e)));
-}
-takes_not verb.Run file more asked are other = record {
-  no_list = other_named (codes "run") file more (codes "list") ListTakes
-      (letters (codes "run") (codes "list") (λ e. omega (arith, e)));
-  no_mean = other_named (codes "run") file more (codes "mean") MeanTakes
-      (letters (codes "run") (codes "mean") (λ e. omega (arith, e)));
-  no_run = not_taken (codes "run") file more RunTakes asked are other;
-  no_exec = other_named (codes "run") file more (codes "exec") ExecTakes
-      (letters (codes "run") (codes "exec") (λ e. omega (arith, e)));
-  no_time = other_named (codes "run") file more (codes "time") TimeTakes
-      (letters (codes "run") (codes "time") (λ e. omega (arith, e)));
-}
-takes_not verb.Exec file more asked are other = record {
-  no_list = other_named (codes "exec") file more (codes "list") ListTakes
-      (letters (codes "exec") (codes "list") (λ e. omega (arith, e)));
-  no_mean = other_named (codes "exec") file more (codes "mean") MeanTakes
-      (letters (codes "exec") (codes "mean") (λ e. omega (arith, e)));
-  no_run = other_named (codes "exec") file more (codes "run") RunTakes
-      (letters (codes "exec") (codes "run") (λ e. omega (arith, e)));
-  no_exec = not_taken (codes "exec") file more ExecTakes asked are other;
-  no_time = other_named (codes "exec") file more (codes "time") TimeTakes
-      (letters (codes "exec") (codes "time") (λ e. omega (arith, e)));
-}
-takes_not verb.Time file more asked are other = record {
-  no_list = other_named (codes "time") file more (codes "list") ListTakes
-      (letters (codes "time") (codes "list") (λ e. omega (arith, e)));
-  no_mean = other_named (codes "time") file more (codes "mean") MeanTakes
-      (letters (codes "time") (codes "mean") (λ e. omega (arith, e)));
-  no_run = other_named (codes "time") file more (codes "run") RunTakes
-      (letters (codes "time") (codes "run") (λ e. omega (arith, e)));
-  no_exec = other_named (codes "time") file more (codes "exec") ExecTakes
-      (letters (codes "time") (codes "exec") (λ e. omega (arith, e)));
-  no_time = not_taken (codes "time") file more TimeTakes asked are other;
-}
+  worded_so : IsWorded given (name_of v) file asked
+  worded_so = record { more = more; split = refl; are = are }
+
+  -- what a command of that name doesn't take
+  pub takes_not : ¬ Takes v asked → IsNoCommand given
+  takes_not other = no_command given (λ w place next worded second takes.
+      let same = worded_once given (name_of v) (name_of w) file place asked next worded_so worded in
+      let verbs : v ≡ w = one_name v w same.0 in
+      other (subst (λ u. Takes u asked) (sym verbs) (subst (Takes w) (sym same.2) takes)))
+
+  -- and a second word that is none of it
+  pub second_not : ¬ IsSecond v file → IsNoCommand given
+  second_not other = no_command given (λ w place next worded second takes.
+      let same = worded_once given (name_of v) (name_of w) file place asked next worded_so worded in
+      let verbs : v ≡ w = one_name v w same.0 in
+      other (subst (λ u. IsSecond u file) (sym verbs) (subst (IsSecond w) (sym same.1) second)))
 
 -- one that does
-pub takes_it : (v : Verb) (of : FileCommand) (more : List (List ℕ)) → AskFor more (asked_in of.asked)
-    → Takes v (asked_in of.asked) → IsRead (name_of v ∷ of.file.now ∷ more) (command_in v of)
-takes_it verb.List of more are takes =
-    record { worded = record { more = more; split = refl; are = are }; takes = takes }
-takes_it verb.Mean of more are takes =
-    record { worded = record { more = more; split = refl; are = are }; takes = takes }
-takes_it verb.Run of more are takes =
-    record { worded = record { more = more; split = refl; are = are }; takes = takes }
-takes_it verb.Exec of more are takes =
-    record { worded = record { more = more; split = refl; are = are }; takes = takes }
-takes_it verb.Time of more are takes =
-    record { worded = record { more = more; split = refl; are = are }; takes = takes }
+pub takes_it : (v : Verb) (of : FileCommand) (more : List (List ℕ)) (c : Command)
+    → AskFor more (asked_in of.asked) → Takes v (asked_in of.asked) → IsCommandIn v of c
+    → IsRead (name_of v ∷ of.file.now ∷ more) c
+takes_it verb.List of more c are takes is =
+    subst (IsRead (name_of verb.List ∷ of.file.now ∷ more)) (sym is)
+    (record { worded = record { more = more; split = refl; are = are }; takes = takes })
+takes_it verb.Mean of more c are takes is =
+    subst (IsRead (name_of verb.Mean ∷ of.file.now ∷ more)) (sym is)
+    (record { worded = record { more = more; split = refl; are = are }; takes = takes })
+takes_it verb.Run of more c are takes is =
+    subst (IsRead (name_of verb.Run ∷ of.file.now ∷ more)) (sym is)
+    (record { worded = record { more = more; split = refl; are = are }; takes = takes })
+takes_it verb.Exec of more c are takes is =
+    subst (IsRead (name_of verb.Exec ∷ of.file.now ∷ more)) (sym is)
+    (record { worded = record { more = more; split = refl; are = are }; takes = takes })
+takes_it verb.Time of more c are takes is =
+    subst (IsRead (name_of verb.Time ∷ of.file.now ∷ more)) (sym is)
+    (record { worded = record { more = more; split = refl; are = are }; takes = takes })
+takes_it verb.Gen of more c are takes is =
+    subst (IsRead (name_of verb.Gen ∷ of.file.now ∷ more)) (sym is.2) (record {
+      text = of.file.now;
+      worded = record { more = more; split = refl; are = are };
+      seed = is.1;
+      takes = takes;
+    })
 
--- words of fewer than two
-pub too_few : (words : List (List ℕ)) → length words ≤ 1 → IsNoCommand words
-too_few words few = record {
-  no_list = λ file asked is. absurd (omega (arith, few, ap length is.worded.split));
-  no_mean = λ file asked is. absurd (omega (arith, few, ap length is.worded.split));
-  no_run = λ file asked is. absurd (omega (arith, few, ap length is.worded.split));
-  no_exec = λ file asked is. absurd (omega (arith, few, ap length is.worded.split));
-  no_time = λ file asked is. absurd (omega (arith, few, ap length is.worded.split));
-}
-
--- a name that is none of the five
-pub none_named : (word : List ℕ) → word ≢ codes "list" → word ≢ codes "mean"
-    → word ≢ codes "run" → word ≢ codes "exec" → word ≢ codes "time" → (v : Verb)
-    → word ≢ name_of v
-none_named word a b c d e verb.List = a
-none_named word a b c d e verb.Mean = b
-none_named word a b c d e verb.Run = c
-none_named word a b c d e verb.Exec = d
-none_named word a b c d e verb.Time = e
+-- or none, by the second word
+pub taken : (v : Verb) (of : FileCommand) (more : List (List ℕ)) (r : Option Command)
+    → AskFor more (asked_in of.asked) → Takes v (asked_in of.asked)
+    → MatchOption r (¬ IsSecond v of.file.now) (IsCommandIn v of)
+    → MatchOption r (IsNoCommand (name_of v ∷ of.file.now ∷ more))
+    (IsRead (name_of v ∷ of.file.now ∷ more))
+taken v of more None are takes none = second_not v of.file.now more (asked_in of.asked) are none
+taken v of more (Some c) are takes is = takes_it v of more c are takes is
 
 -- ---- the first two words
 pub begins_with : (a b c d : List ℕ) (rest : List (List ℕ)) → a ≡ b → c ≡ d

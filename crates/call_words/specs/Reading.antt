@@ -1,10 +1,10 @@
 -- What the code reads, as the claims have it.
-use Rattle.std.specs.Prelude.{◌≡◌, ℕ, List, ◌++◌, codes, map, string_bytes}
+use Rattle.std.specs.Prelude.{◌≡◌, ℕ, List, ◌++◌, codes, map, string_bytes, ⊤}
 use Rattle.std.specs.Option.{option_map}
 use Rattle.zpl_binding.specs.Settings.{Setting}
 use Rattle.call_claims.specs.Command as claims
-use Rattle.call_claims.specs.Command.{IsExec, IsList, IsMean, IsRun, IsTime, ExecTakes, ListTakes}
-use Rattle.call_claims.specs.Command.{MeanTakes, RunTakes, TimeTakes}
+use Rattle.call_claims.specs.Command.{IsExec, IsGen, IsList, IsMean, IsRun, IsTime, ExecTakes}
+use Rattle.call_claims.specs.Command.{GenTakes, ListTakes, MeanTakes, RunTakes, TimeTakes}
 use Rattle.call_claims.specs.Setting.{settings_among}
 use Rattle.call_claims.specs.Words as words
 use Rattle.call_words.specs.declared.asked.Asked.{Asked}
@@ -15,6 +15,7 @@ use Rattle.call_words.specs.declared.commands.Verb.{Verb}
 use Rattle.call_words.specs.declared.commands.Verb.TheVariants as verb
 use Rattle.call_words.specs.declared.words.Word.{Word}
 use Rattle.call_words.specs.declared.words.Word.TheVariants.{Order, Turns, Report, Links, Latency, Grid}
+use Rattle.call_words.specs.declared.words.Word.TheVariants.{Letters}
 
 abbrev pub word_in : Word → words.Word
 word_in (Order file) = words.Order file.now
@@ -23,6 +24,7 @@ word_in Report = words.Report
 word_in (Links capacity) = words.Links capacity
 word_in (Latency ticks) = words.Latency ticks
 word_in (Grid grid) = words.Grid grid
+word_in (Letters options) = words.Letters options
 
 -- the text is a factor, an `x` and a rest
 pub record IsFactorBefore (text : List ℕ) (n : ℕ) (rest : List ℕ) : Type 0 where
@@ -39,6 +41,7 @@ asked_with asked settings = record {
   links = asked.links;
   latency = asked.latency;
   grid = asked.grid;
+  options = asked.options;
   settings = settings;
 }
 
@@ -53,6 +56,7 @@ name_of verb.Mean = codes "mean"
 name_of verb.Run = codes "run"
 name_of verb.Exec = codes "exec"
 name_of verb.Time = codes "time"
+name_of verb.Gen = codes "gen"
 
 abbrev pub Takes : Verb → claims.Asked → Type 0
 Takes verb.List asked = ListTakes asked
@@ -60,13 +64,22 @@ Takes verb.Mean asked = MeanTakes asked
 Takes verb.Run asked = RunTakes asked
 Takes verb.Exec asked = ExecTakes asked
 Takes verb.Time asked = TimeTakes asked
+Takes verb.Gen asked = GenTakes asked
 
-abbrev pub command_in : Verb → FileCommand → Command
-command_in verb.List of = command.List of
-command_in verb.Mean of = command.Mean of
-command_in verb.Run of = command.Run of
-command_in verb.Exec of = command.Exec of
-command_in verb.Time of = command.Time of
+-- what the second word of such a command is: the name of a file, whatever it holds; or a number
+abbrev pub IsSecond : Verb → List ℕ → Type 0
+IsSecond verb.Gen text = (n : ℕ) × words.IsSeed text n
+IsSecond v text = ⊤
+
+-- the command of this name
+abbrev pub IsCommandIn : Verb → FileCommand → Command → Type 0
+IsCommandIn verb.List of c = c ≡ command.List of
+IsCommandIn verb.Mean of c = c ≡ command.Mean of
+IsCommandIn verb.Run of c = c ≡ command.Run of
+IsCommandIn verb.Exec of c = c ≡ command.Exec of
+IsCommandIn verb.Time of c = c ≡ command.Time of
+IsCommandIn verb.Gen of c = (n : ℕ) × words.IsSeed of.file.now n
+    × (c ≡ command.Gen (record { seed = n; asked = of.asked }))
 
 -- the words are this command
 abbrev pub IsRead : List (List ℕ) → Command → Type 0
@@ -75,3 +88,4 @@ IsRead words (command.Mean of) = IsMean words of.file.now (asked_in of.asked)
 IsRead words (command.Run of) = IsRun words of.file.now (asked_in of.asked)
 IsRead words (command.Exec of) = IsExec words of.file.now (asked_in of.asked)
 IsRead words (command.Time of) = IsTime words of.file.now (asked_in of.asked)
+IsRead words (command.Gen of) = IsGen words of.seed (asked_in of.asked)

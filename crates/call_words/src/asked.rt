@@ -2,14 +2,16 @@
 ghost use Rattle.std.specs.Prelude.{◌≡◌, ◌++◌, List, map, IfSome, MatchOption, option_map};
 ghost use Rattle.std.specs.Prelude.{string_bytes};
 ghost use Rattle.zpl_binding.specs.Settings.{Setting};
-ghost use Rattle.call_claims.specs.Command.{asked_more, grid_told, Adds, AskFor, latency_of};
-ghost use Rattle.call_claims.specs.Command.{limit_of, Asked as Claimed};
+ghost use Rattle.call_claims.specs.Command.{asked_more, asked_on, grid_told, Adds, AskFor};
+ghost use Rattle.call_claims.specs.Command.{latency_of, limit_of, options_told, Asked as Claimed};
 ghost use Rattle.call_claims.specs.Setting.{one_or_none, setting_in};
 ghost use Rattle.call_words.specs.Reading.{asked_in, asked_with, word_in};
 
+use crate::letters::NO_OPTIONS;
 use crate::settings::is_setting;
 use crate::words::{Word, word_of};
 use call_claims::MOST_TURNS;
+use zpl_claims::Options;
 
 /// What the words behind a file ask for.
 #[derive(Clone, Copy)]
@@ -27,6 +29,8 @@ pub struct Asked<'a> {
     pub latency: Option<u64>,
     /// The grid of processors, by its factors with 0 for each absent one, where a word tells it.
     pub grid: Option<[u32; 3]>,
+    /// The optimisations, where a word tells them.
+    pub options: Option<Options>,
     /// All the words, among which the settings are.
     pub words: &'a [String],
 }
@@ -44,6 +48,23 @@ impl<'a> Asked<'a> {
         ensures { result ≡ grid_told (asked_in self.entry).grid }
     {
         self.grid.unwrap_or([1, 0, 0])
+    }
+
+    /// The optimisations: none where no word tells them.
+    pub fn chosen(self) -> Options
+        ensures { result ≡ options_told (asked_in self.entry).options }
+    {
+        self.options.unwrap_or(NO_OPTIONS)
+    }
+
+    /// The same, on this grid.
+    pub fn on_grid(self, grid: [u32; 3]) -> Asked<'a>
+        ensures { asked_in result ≡ asked_on (asked_in self.entry) grid }
+    {
+        Asked {
+            grid: Some(grid),
+            ..self
+        }
     }
 
     /// For how many ticks a message is on its way.
@@ -67,6 +88,7 @@ pub fn asked_of(words: &[String]) -> Option<Asked<'_>>
         links: None,
         latency: None,
         grid: None,
+        options: None,
         words,
     };
     for word in words {
@@ -134,6 +156,13 @@ fn with_word<'a>(asked: Asked<'a>, word: Word<'a>) -> Option<Asked<'a>>
         Word::Grid(grid) => match asked.grid {
             None => Some(Asked {
                 grid: Some(grid),
+                ..asked
+            }),
+            Some(_) => None,
+        },
+        Word::Letters(options) => match asked.options {
+            None => Some(Asked {
+                options: Some(options),
                 ..asked
             }),
             Some(_) => None,

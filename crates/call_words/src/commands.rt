@@ -1,11 +1,15 @@
 //! The commands.
-ghost use Rattle.std.specs.Prelude.{◌≡◌, ◌≢◌, ◌∷◌, map, MatchBool, MatchOption, string_bytes};
+ghost use Rattle.std.specs.Prelude.{◌≢◌, ◌≡◌, ◌∷◌, ℕ, map, MatchBool, MatchOption, string_bytes};
 ghost use Rattle.call_claims.specs.Command.{IsNoCommand};
-ghost use Rattle.call_words.specs.Reading.{asked_in, command_in, name_of, IsRead, Takes};
+ghost use Rattle.call_claims.specs.Words.{IsSeed};
+ghost use Rattle.call_words.specs.Reading.{asked_in, name_of, IsCommandIn, IsRead, IsSecond};
+ghost use Rattle.call_words.specs.Reading.{Takes};
 ghost use Rattle.call_words.specs.declared.commands.Verb.{Verb as Named};
 
 use crate::asked::{Asked, asked_of};
+use crate::numbers::number_of;
 use crate::settings::sets_nothing;
+use call_claims::MOST_SEED;
 
 /// A file, and what the words behind it ask for.
 #[derive(Clone, Copy)]
@@ -16,19 +20,31 @@ pub struct FileCommand<'a> {
     pub asked: Asked<'a>,
 }
 
+/// A number, and what the words behind it ask for.
+#[derive(Clone, Copy)]
+pub struct GenCommand<'a> {
+    /// The number that the program is drawn from.
+    pub seed: u32,
+    /// What the words behind it ask for.
+    pub asked: Asked<'a>,
+}
+
 /// A command.
 #[derive(Clone, Copy)]
 pub enum Command<'a> {
-    /// `list FILE`, then `grid=AxBxC`, `links=C` and settings.
+    /// `list FILE`, then `grid=AxBxC`, `opt=LETTERS`, `links=C` and settings.
     List(FileCommand<'a>),
     /// `mean FILE`, then `turns=N` and settings.
     Mean(FileCommand<'a>),
-    /// `run FILE`, then `grid=AxBxC`, `order=FILE`, `turns=N`, `report`, `links=C` and settings.
+    /// `run FILE`, then `grid=AxBxC`, `opt=LETTERS`, `order=FILE`, `turns=N`, `report`, `links=C`
+    /// and settings.
     Run(FileCommand<'a>),
     /// `exec FILE`, then `order=FILE`, `turns=N`, `report` and `links=C`.
     Exec(FileCommand<'a>),
     /// `time FILE`, then `order=FILE`, `turns=N` and `latency=L`.
     Time(FileCommand<'a>),
+    /// `gen N`, then `opt=LETTERS` and `turns=N`.
+    Gen(GenCommand<'a>),
 }
 
 /// The name of a command.
@@ -39,6 +55,7 @@ enum Verb {
     Run,
     Exec,
     Time,
+    Gen,
 }
 
 /// The command that words are, or None where they are none: its name, a file, and behind it in any
@@ -72,7 +89,7 @@ fn verb_command<'a>(verb: Verb, file: &'a str, rest: &'a [String]) -> Option<Com
     match asked_of(rest) {
         Some(asked) => {
             if takes(verb, asked) {
-                Some(command_with(verb, FileCommand { file, asked }))
+                command_with(verb, FileCommand { file, asked })
             } else {
                 None
             }
@@ -101,6 +118,9 @@ fn verb_of(word: &[u8]) -> Option<Verb>
     if word == b"time".as_slice() {
         return Some(Verb::Time);
     }
+    if word == b"gen".as_slice() {
+        return Some(Verb::Gen);
+    }
     None
 }
 
@@ -122,29 +142,66 @@ fn takes(verb: Verb, asked: Asked<'_>) -> bool
                 && asked.links.is_none()
                 && asked.latency.is_none()
                 && asked.grid.is_none()
+                && asked.options.is_none()
         }
         Verb::Run => asked.latency.is_none(),
         Verb::Exec => {
-            sets_nothing(asked.words) && asked.latency.is_none() && asked.grid.is_none()
+            sets_nothing(asked.words)
+                && asked.latency.is_none()
+                && asked.grid.is_none()
+                && asked.options.is_none()
         }
         Verb::Time => {
             !asked.report
                 && asked.links.is_none()
                 && sets_nothing(asked.words)
                 && asked.grid.is_none()
+                && asked.options.is_none()
+        }
+        Verb::Gen => {
+            asked.order.is_none()
+                && !asked.report
+                && asked.links.is_none()
+                && asked.latency.is_none()
+                && asked.grid.is_none()
+                && sets_nothing(asked.words)
         }
     }
 }
 
-/// The command of this name.
-fn command_with<'a>(verb: Verb, of: FileCommand<'a>) -> Command<'a>
-    ensures { result ≡ command_in verb of.entry }
+/// The command of this name, or None where it is one of a number and the second word is none.
+fn command_with<'a>(verb: Verb, of: FileCommand<'a>) -> Option<Command<'a>>
+    ensures { MatchOption result
+        (¬ IsSecond verb of.entry.file.now) (IsCommandIn verb of.entry) }
 {
     match verb {
-        Verb::List => Command::List(of),
-        Verb::Mean => Command::Mean(of),
-        Verb::Run => Command::Run(of),
-        Verb::Exec => Command::Exec(of),
-        Verb::Time => Command::Time(of),
+        Verb::List => Some(Command::List(of)),
+        Verb::Mean => Some(Command::Mean(of)),
+        Verb::Run => Some(Command::Run(of)),
+        Verb::Exec => Some(Command::Exec(of)),
+        Verb::Time => Some(Command::Time(of)),
+        Verb::Gen => match seed_of(of.file.as_bytes()) {
+            Some(seed) => Some(Command::Gen(GenCommand {
+                seed,
+                asked: of.asked,
+            })),
+            None => None,
+        },
+    }
+}
+
+/// The number that a program is drawn from, where a word is one.
+fn seed_of(word: &[u8]) -> Option<u32>
+    ensures { MatchOption result ((n : ℕ) → ¬ IsSeed word.now n) (IsSeed word.now) }
+{
+    match number_of(word) {
+        Some(number) => {
+            if 1 <= number && number <= u64::from(MOST_SEED) {
+                Some(number as u32)
+            } else {
+                None
+            }
+        }
+        None => None,
     }
 }

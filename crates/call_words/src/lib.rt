@@ -5,11 +5,12 @@
 mod asked;
 mod commands;
 mod grids;
+mod letters;
 mod names;
 mod numbers;
 mod settings;
 mod words;
 
 pub use asked::Asked;
-pub use commands::{Command, FileCommand, command_of};
+pub use commands::{Command, FileCommand, GenCommand, command_of};
 pub use settings::{sets_nothing, setting_in};

@@ -7,8 +7,10 @@ ghost use Rattle.call_claims.specs.Words.{Word as Claimed};
 ghost use Rattle.call_words.specs.Reading.{word_in};
 
 use crate::grids::grid_in;
+use crate::letters::letters_in;
 use crate::numbers::number_of;
 use call_claims::{MOST_LATENCY, MOST_LINKS, MOST_TURNS};
+use zpl_claims::Options;
 
 /// A word behind a file.
 #[derive(Clone, Copy)]
@@ -25,6 +27,8 @@ pub enum Word<'a> {
     Latency(u64),
     /// The grid of processors, by its factors with 0 for each absent one.
     Grid([u32; 3]),
+    /// The optimisations.
+    Letters(Options),
 }
 
 /// The word that a text is, if it is one.
@@ -49,8 +53,11 @@ pub fn word_of(text: &str) -> Option<Word<'_>>
     if let Some(ticks) = latency_of(text.as_bytes()) {
         return Some(Word::Latency(ticks));
     }
-    match grid_in(text.as_bytes()) {
-        Some(grid) => Some(Word::Grid(grid)),
+    if let Some(grid) = grid_in(text.as_bytes()) {
+        return Some(Word::Grid(grid));
+    }
+    match letters_in(text.as_bytes()) {
+        Some(options) => Some(Word::Letters(options)),
         None => None,
     }
 }

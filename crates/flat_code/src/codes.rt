@@ -4,29 +4,35 @@ ghost use Rattle.node_form.specs.Fits.{Fits};
 ghost use Rattle.code_layout.specs.Room.{HasRoom};
 ghost use Rattle.flat_code.specs.Passes.{Refuses, node_tables};
 
+use crate::asked::{improve, settle};
+use crate::builds::Build;
 use crate::faults::FlatFault;
-use bound_check::place_checks;
+use bound_check::{checked_tables_fit, place_checks};
 use code_layout::has_room;
 use comm_needs::add_needs;
 use flat_form::Flat;
 use node_emit::emit;
-use node_form::{Grid3, NodeProgram, Tables};
+use node_form::{NodeProgram, Tables};
 use std::alloc::Global;
 use temp_norm::{normal_tables_fit, normalise};
 
-/// The node code of a flat program, for a grid: its passes one behind the other. They take a time
-/// linear in the program, but for a slot that many rows fill and many checks name.
-pub fn code_of(alloc: Global, flat: Flat, grid: &Grid3) -> Result<NodeProgram, FlatFault>
-    ensures code { IfOk result (λ code. code ≡ node_tables grid.now flat) }
-    ensures fits { OnOk result (Fits (node_tables grid.now flat)) }
-    ensures room { OnOk result (HasRoom (node_tables grid.now flat)) }
-    ensures refused { IfErr result (Refuses (node_tables grid.now flat)) }
+/// The node code of a flat program, for a build: its passes one behind the other, those of the
+/// options where they are asked for. They take a time linear in the program, but for a slot that
+/// many rows fill and many checks name.
+pub fn code_of(alloc: Global, flat: Flat, build: &Build) -> Result<NodeProgram, FlatFault>
+    ensures code { IfOk result (λ code. code ≡ node_tables build.now flat) }
+    ensures fits { OnOk result (Fits (node_tables build.now flat)) }
+    ensures room { OnOk result (HasRoom (node_tables build.now flat)) }
+    ensures refused { IfErr result (Refuses (node_tables build.now flat)) }
 {
     normal_tables_fit();
+    checked_tables_fit();
     let normal = normalise(alloc, flat.into_tables())?;
     let checked = place_checks(alloc, normal)?;
-    let plan = add_needs(alloc, checked, grid)?;
-    program_of(alloc, emit(plan, grid, false))
+    let settled = settle(alloc, checked, &build.options)?;
+    let plan = add_needs(alloc, settled, &build.grid)?;
+    let improved = improve(alloc, plan, &build.options, build.links)?;
+    program_of(alloc, emit(improved, &build.grid, build.options.tree))
 }
 
 // The program of tables that fit, and for whose arrays there is room.

@@ -1,10 +1,13 @@
 //! From flat programs to node code: the passes one behind the other.
 #![tactic(auto)]
 
+mod asked;
+mod builds;
 mod codes;
 mod faults;
 mod flats;
 
+pub use builds::Build;
 pub use codes::code_of;
 pub use faults::FlatFault;
 pub use flats::flat_of;

@@ -1,5 +1,5 @@
 //! The work on code that is there.
-ghost use Rattle.std.specs.Prelude.{◌≡◌, ℕ, List, Some};
+ghost use Rattle.std.specs.Prelude.{◌≡◌, ℕ, List, [], Some};
 ghost use Rattle.zpl_io.specs.Faults.{CountsFaults};
 ghost use Rattle.zpl_io.specs.Files.{SameTexts};
 ghost use Rattle.zpl_io.specs.Sink.{StopsAtFault};
@@ -9,9 +9,10 @@ ghost use Rattle.call_claims.specs.declared.status.TheConstants.{UNREADABLE};
 ghost use Rattle.call_claims.specs.Met.{CanBeMet};
 ghost use Rattle.call_words.specs.Reading.{asked_in};
 ghost use Rattle.call_answers.specs.Answers.{status_of};
-ghost use Rattle.grid_call.specs.Work.{IsCodeWork};
+ghost use Rattle.exec_claims.specs.Cause.{run_of};
+ghost use Rattle.grid_call.specs.Work.{IsCodeWork, IsRunOn};
 
-use crate::orders::fetch_order;
+use crate::orders::{empty_order, fetch_order};
 use crate::runs::run;
 use call_answers::{Answer, Work};
 use call_words::Asked;
@@ -48,5 +49,29 @@ pub fn run_code<'a, F: Files, O: Sink>(
     match fetch_order(alloc, asked.order, &code, files) {
         Ok(order) => run(alloc, code, order, asked, out),
         Err(answer) => Work::without_turns(Some(code), answer),
+    }
+}
+
+/// The work on code without an order, up to its answer: turns are given round the processors. What
+/// the program prints goes to `out`.
+pub fn run_round<'a, O: Sink>(
+    alloc: Global,
+    code: NodeProgram,
+    asked: Asked<'_>,
+    out: &mut O,
+) -> Work<'a>
+    requires room { HasRoom code }
+    requires asked { CanBeMet (asked_in asked) }
+    ensures code { result.code ≡ Some code }
+    ensures ran { IsRunOn (run_of code (asked_in asked.entry) []) asked.entry.report
+        result.answer result.counts (O.tells out.old) (O.tells out.new) }
+    ensures puts { CountsFaults (result.answer ≡ Answer.PutFailed)
+        (O.faults out.old) (O.faults out.new) }
+    ensures stops { StopsAtFault (result.answer ≡ Answer.PutFailed)
+        (O.has_failed out.old) (O.has_failed out.new) }
+{
+    match empty_order(alloc) {
+        Ok(order) => run(alloc, code, order, asked, out),
+        Err(_) => Work::without_turns(Some(code), Answer::NoMemory),
     }
 }

@@ -9,5 +9,5 @@ mod call;
 mod orders;
 mod runs;
 
-pub use call::run_code;
+pub use call::{run_code, run_round};
 pub use orders::fetch_order;

@@ -1,5 +1,5 @@
 //! The order of turns: a file is fetched where the words name one, and its text read.
-ghost use Rattle.std.specs.Prelude.{◌≡◌, ◌≤◌, ◌≢◌, ℕ, List, IfErr, IfOk, Some, length};
+ghost use Rattle.std.specs.Prelude.{◌≡◌, ◌≤◌, ◌≢◌, [], ℕ, List, IfErr, IfOk, Some, length};
 ghost use Rattle.std.specs.Option.{option_map};
 ghost use Rattle.zpl_io.specs.Faults.{CountsFaults};
 ghost use Rattle.zpl_io.specs.Files.{SameTexts};
@@ -15,7 +15,7 @@ use call_answers::{Answer, text_of_file};
 use exec_claims::MOST_LISTING;
 use grid_order::{Order, OrderFault, read_order};
 use node_form::{Grid3, NodeProgram};
-use std::alloc::Global;
+use std::alloc::{AllocError, Global};
 use zpl_io::Files;
 
 /// The order of turns that a file tells, and the empty one where none is named; or the answer that
@@ -70,6 +70,16 @@ fn fetch_named<'a, F: Files>(
     match text_of_file(alloc, file, MOST_LISTING as u64, files) {
         Ok(text) => order_of(alloc, text.as_slice(), code),
         Err(answer) => Err(answer),
+    }
+}
+
+/// The order without turns.
+pub(crate) fn empty_order(alloc: Global) -> Result<Order, AllocError>
+    ensures { IfOk result (λ order. order ≡ []) }
+{
+    match read_order(alloc, b"", 1) {
+        Ok(order) => Ok(order),
+        Err(_) => Err(AllocError),
     }
 }
 

@@ -39,8 +39,8 @@ pub struct Placed<'a> {
     pub expr: &'a Expr<'a>,
 }
 
-/// The expressions of a statement, in their order, with the rows of their brackets. It takes no more
-/// stack for many expressions than for one.
+/// The expressions of a statement, in their order, with the rows of their brackets. It takes no
+/// more stack for many expressions than for one.
 fn settled_each<'t>(
     arena: &'t Bump<Global>,
     draft: &mut Draft,

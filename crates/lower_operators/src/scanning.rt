@@ -151,7 +151,8 @@ fn scan_without(
     Ok(temp)
 }
 
-/// The number of the array of a mask. One that has none, as none of an accepted program, counts as 0.
+/// The number of the array of a mask. One that has none, as none of an accepted program, counts
+/// as 0.
 fn mask_array(numbers: &Numbers, mask: Mask) -> u32
     ensures { result ≡ plain.number_of (slice_get numbers.now.arrays mask.array) }
 {

@@ -229,8 +229,8 @@ fn is_moving(d: i64) -> bool
     d != 0
 }
 
-/// Appends to others the vectors that end so, without the first component and with it. One that is 0
-/// counts once.
+/// Appends to others the vectors that end so, without the first component and with it. One that is
+/// 0 counts once.
 fn add_planes(all: &mut Vec<Vec3>, x: i64, y: i64, z: i64) -> Result<(), AllocError>
     ensures { OnOk result (all.new.items
         ≡ all.old.items ++ hoist.kept_or_not x (y ∷ z ∷ [])) }

@@ -17,8 +17,8 @@ ghost use Rattle.pass_sizes.specs.Sizes.{loop_shifts, pair_size, plan_size};
 /// The plan of a flat program is larger by at most one for each loop, three for each word that a
 /// loop reads with a shift, and two for each row that no flat program has. So it is at most four
 /// times as large where expressions that are read with a shift stand in one loop each. It has as
-/// many loops and counted rows, and at most one vote more for each loop. Each start has its finish and
-/// an exchange of its own.
+/// many loops and counted rows, and at most one vote more for each loop. Each start has its finish
+/// and an exchange of its own.
 pub fn needs_are_few()
     ensures size { (grid : List ℕ) (code : Tables) → code_size (planned grid code) ≤
         code_size code + (count_of is_loop code

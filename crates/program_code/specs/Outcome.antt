@@ -4,11 +4,10 @@ use Rattle.zpl_tree.specs.Syntax.{Program}
 use Rattle.zpl_names.specs.Accepted.{HasTooManyNodes, HasTooManyStatements}
 use Rattle.zpl_binding.specs.Settings.{Setting}
 use Rattle.code_layout.specs.Room.{HasRoom}
+use Rattle.flat_code.specs.declared.builds.Build.{Build}
 use Rattle.zpl_claims.specs.Build as claims
-use Rattle.zpl_claims.specs.Build.{no_options}
 use Rattle.zpl_compile.specs.Compilable.{IsBuilt, IsCounted}
 use Rattle.zpl_compile.specs.Compile.{compiled}
-use Rattle.program_code.specs.declared.faults.Build.{Build}
 use Rattle.program_code.specs.declared.faults.CompileFault.{CompileFault}
 use Rattle.program_code.specs.declared.faults.CompileFault.TheVariants as fault
 
@@ -16,7 +15,7 @@ use Rattle.program_code.specs.declared.faults.CompileFault.TheVariants as fault
 abbrev pub build_with : Build → List Setting → claims.Build
 build_with build settings = record {
   grid = build.grid;
-  options = no_options;
+  options = build.options;
   links = build.links;
   settings = settings;
 }

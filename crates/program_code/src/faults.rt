@@ -1,19 +1,9 @@
-//! What code is built for, and why there is none.
+//! Why there is no code.
 ghost use Rattle.std.specs.Prelude.{◌≡◌};
 ghost use Rattle.program_code.specs.Faults.{of_flat, of_lowering};
 
 use flat_code::FlatFault;
-use node_form::Grid3;
 use zpl_lower::LowerFault;
-
-/// What code is built for.
-#[derive(Clone, Copy)]
-pub struct Build {
-    /// The factors of the grid, 0 for each absent one.
-    pub grid: Grid3,
-    /// The most messages on a link, where that is bounded.
-    pub links: Option<u32>,
-}
 
 /// Why a program isn't compiled. Want of memory is the last variant.
 #[derive(Clone, Copy, Debug, PartialEq, Eq)]

@@ -4,5 +4,6 @@
 mod faults;
 mod programs;
 
-pub use faults::{Build, CompileFault};
+pub use faults::CompileFault;
+pub use flat_code::Build;
 pub use programs::compile;

@@ -10,16 +10,17 @@ ghost use Rattle.node_form.specs.Grid.{IsGrid};
 ghost use Rattle.zpl_compile.specs.Compilable.{IsCompiledTo};
 ghost use Rattle.program_code.specs.Outcome.{build_with, IsUncompiled};
 
-use crate::faults::{Build, CompileFault};
-use flat_code::{code_of, flat_of};
+use crate::faults::CompileFault;
+use flat_code::{Build, code_of, flat_of};
 use node_form::NodeProgram;
 use rank_types::Typed;
 use std::alloc::Global;
 use zpl_bind::Bound;
 use zpl_lower::lower;
 
-/// The node code that a program, bound by its settings, is compiled to. The time is linear in the
-/// program with every call expanded, but for a slot that many rows fill and many checks name.
+/// The node code that a program, bound by its settings, is compiled to, with the optimisations of
+/// the build. The time is linear in the program with every call expanded, but for a slot that many
+/// rows fill and many checks name.
 pub fn compile<'n>(
     alloc: Global,
     typed: &Typed<'n>,
@@ -44,6 +45,6 @@ pub fn compile<'n>(
     let Some(flat) = flat_of(tables) else {
         return Err(CompileFault::NotBuilt);
     };
-    let code = code_of(alloc, flat, &build.grid)?;
+    let code = code_of(alloc, flat, &build)?;
     Ok(code)
 }

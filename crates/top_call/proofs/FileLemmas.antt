@@ -1,11 +1,7 @@
--- Why a text, or a file, has no code.
-use Rattle.std.proofs.Common.{◌≡◌, ◌≢◌, ℕ, ◌≤◌, List, [], map, Option, Some, None}
+-- Why a file has no code.
+use Rattle.std.proofs.Common.{◌≡◌, ◌≢◌, ℕ, List, Option, Some, None}
 use Rattle.std.proofs.Common.{IfSome, refl, sym, subst, arith}
-use Rattle.node_form.specs.declared.arrays.ArrayRow.{ArrayRow}
 use Rattle.node_form.specs.declared.tables.Tables.{Tables}
-use Rattle.grid_layout.specs.Words.{words_of}
-use Rattle.grid_meaning.specs.Stored.{box_of, stored}
-use Rattle.code_layout.specs.Room.{HasRoom}
 use Rattle.zpl_claims.specs.Build.{Build}
 use Rattle.call_claims.specs.Call.{Call}
 use Rattle.list_claims.specs.Cause.{TextFault, ProgramCause}
@@ -21,47 +17,10 @@ use Rattle.call_claims.specs.declared.status.TheConstants.{DONE, TOO_LONG, UNREA
 use Rattle.zpl_text.specs.declared.TheConstants.{MOST_SOURCE}
 use Rattle.call_answers.specs.Answers.{status_of, told_of}
 use Rattle.call_answers.specs.Fetched.{IsNoText}
-use Rattle.call_answers.proofs.FetchLemmas.{unread_is_decided}
-use Rattle.top_call.specs.Refusals.{answer_for, Refuses}
-use Rattle.top_call.specs.declared.compiling.Uncoded.{Uncoded}
-use Rattle.top_call.specs.declared.compiling.Uncoded.TheVariants.{Refused, Unbuilt}
-use Rattle.top_call.specs.Work.{IsUncoded, HasNoCode}
+use Rattle.text_code.specs.Refusals.{IsUncoded}
+use Rattle.top_call.specs.Work.{HasNoCode}
 use Rattle.call_answers.specs.declared.answers.Answer.{Answer}
 use Rattle.call_answers.specs.declared.answers.Answer.TheVariants as answer
-use Rattle.call_answers.specs.declared.refusals.BuildFault.TheVariants as unbuilt
-use Rattle.call_answers.specs.declared.refusals.Refusal.TheVariants.{Lex, Parse, Judge, Bind}
-use Rattle.call_answers.specs.declared.refusals.Refusal.TheVariants.{NoMemory}
-
--- code without arrays has room
-pub no_arrays_have_room : (code : Tables) → code.arrays ≡ [] → HasRoom code
-no_arrays_have_room code none =
-    subst (λ (arrays : List ArrayRow).
-    words_of (record { grid = code.grid; boxes = map box_of (stored arrays) }) ≤ 16777216)
-    (sym none) (omega arith)
-
--- ---- why a text has no code is the fault of its answer
-pub uncoded : (text : List ℕ) (build : Build) (why : Uncoded)
-    → Refuses text build why → IsUncoded text build (answer_for text why)
-uncoded text build (Refused (Lex fault)) refuses = λ d. refused _ refuses
-uncoded text build (Refused (Parse fault)) refuses = λ d. refused _ refuses
-uncoded text build (Refused (Judge fault)) refuses = λ d. refused _ refuses
-uncoded text build (Refused (Bind fault)) refuses = λ d. unbound _ refuses
-uncoded text build (Refused NoMemory) refuses = λ d. absurd (d.memory refl)
-uncoded text build (Unbuilt unbuilt.BadShape) refuses = λ d. unbound _ refuses
-uncoded text build (Unbuilt unbuilt.TooManyStatements) refuses = λ d. refused _ refuses
-uncoded text build (Unbuilt unbuilt.TooManyNodes) refuses = λ d. refused _ refuses
-uncoded text build (Unbuilt unbuilt.NotBuilt) refuses = λ d. refused _ refuses
-uncoded text build (Unbuilt unbuilt.TooMuchStorage) refuses = λ d. unbound _ refuses
-
--- its answer is no failed put
-pub refusal_not_put : (text : List ℕ) (why : Uncoded)
-    → answer_for text why ≢ answer.PutFailed
-refusal_not_put text (Refused (Lex fault)) = λ e. cc
-refusal_not_put text (Refused (Parse fault)) = λ e. cc
-refusal_not_put text (Refused (Judge fault)) = λ e. cc
-refusal_not_put text (Refused (Bind fault)) = λ e. cc
-refusal_not_put text (Refused NoMemory) = λ e. cc
-refusal_not_put text (Unbuilt fault) = λ e. cc
 
 -- ---- a fault of a text is told of its file
 pub no_code : (call : Call) (file : List ℕ) (build : Build) (source : Source call file)
@@ -104,16 +63,6 @@ unfetched_not_put Tells May limit file (answer.BadTable line) is = absurd is
 unfetched_not_put Tells May limit file (answer.BadItem at) is = absurd is
 unfetched_not_put Tells May limit file (answer.Stopped stop report) is = absurd is
 unfetched_not_put Tells May limit file answer.PutFailed is = absurd is
-
-fault_read : {text told : List ℕ} {build : Build} {n : ℕ}
-    → TextFault text build n told → n ≢ UNREADABLE
-fault_read (refused told is) = λ e. omega arith
-fault_read (unbound told is) = λ e. omega arith
-
--- a text fetches nothing
-pub uncoded_read : (text : List ℕ) (build : Build) (a : Answer)
-    → IsUncoded text build a → status_of a ≢ UNREADABLE
-uncoded_read text build a is e = fault_read (is (unread_is_decided e)) e
 
 -- nor is anything done
 fault_not_done : {text told : List ℕ} {build : Build} {n : ℕ} → TextFault text build n told

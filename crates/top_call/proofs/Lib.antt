@@ -1,9 +1,6 @@
-pub mod CodeLemmas
-pub mod FetchLemmas
 pub mod FileLemmas
 pub mod KnownLemmas
 pub mod ListLemmas
 pub mod RunLemmas
-pub mod SmallLemmas
 pub mod UnknownLemmas
 pub mod WordLemmas

@@ -2,6 +2,7 @@
 use Rattle.std.proofs.Common.{◌≡◌, ◌≢◌, ◌⊎◌, ℕ, sym, ◌∙◌, ap, subst, inl, inr, arith}
 use Rattle.zpl_io.specs.Faults.{Rose}
 use Rattle.zpl_io.specs.Sink.{Takes, TakesFront}
+use Rattle.call_claims.specs.Answer.{CountsFetches}
 use Rattle.call_claims.specs.Stream.{Stream}
 use Rattle.call_claims.specs.Texts.{usage_text}
 use Rattle.call_claims.specs.declared.status.TheConstants.{PUT_FAILED, UNREADABLE, USAGE}
@@ -40,3 +41,12 @@ tells_usage a status errs is told = elim (failed_or told.answer) [
 pub usage_read : (status : ℕ) (errs : Stream) → TellsUsage status errs → status ≢ UNREADABLE
 usage_read status errs (inl told) e = omega (arith, told.0, e)
 usage_read status errs (inr told) e = omega (arith, told.0, e)
+
+-- ---- nothing is fetched
+pub none_fetched : (status count : ℕ) → status ≢ UNREADABLE → CountsFetches status count count
+none_fetched status count other = record {
+  rises = λ e. absurd (other e);
+  only = λ less. absurd (omega (arith, less));
+  never_falls = omega arith;
+  bounded = λ h. h;
+}

@@ -1,6 +1,6 @@
 -- What is said of a call of `run` and of `list`, and of words that are no command; and which words
 -- are which command. Of `exec` it is said by `IsExecuted` of `exec_call`, of `mean` by `IsMeant` of
--- `mean_call`, of `time` by `IsTimed` of `time_call`.
+-- `mean_call`, of `time` by `IsTimed` of `time_call`, of `gen` by `IsGenerated` of `gen_call`.
 use Rattle.std.specs.Prelude.{◌≡◌, ◌≢◌, ◌⊎◌, ℕ, List, [], IfSome, MatchOption, None}
 use Rattle.zpl_io.specs.Faults.{Rose}
 use Rattle.zpl_io.specs.Sink.{Takes, TakesFront}
@@ -8,7 +8,7 @@ use Rattle.call_claims.specs.declared.ran.Ran.{Ran}
 use Rattle.call_claims.specs.Answer.{IsAnswered, IsHalfAnswered}
 use Rattle.call_claims.specs.Call.{Call}
 use Rattle.list_claims.specs.Cause.{Cause, Lists}
-use Rattle.call_claims.specs.Command.{Asked, IsExec, IsList, IsMean, IsRun, IsTime, build_of}
+use Rattle.call_claims.specs.Command.{Asked, IsExec, IsGen, IsList, IsMean, IsRun, IsTime, build_of}
 use Rattle.list_claims.specs.Decided.{IsExact}
 use Rattle.call_claims.specs.Execution.{execution_of, HasNoCounts}
 use Rattle.list_claims.specs.Listing.{IsMadeOf, TakesListingFront}
@@ -35,6 +35,9 @@ AsksExec words = (file : List ℕ) × (asked : Asked) × IsExec words file asked
 
 abbrev pub AsksTime : List (List ℕ) → Type 0
 AsksTime words = (file : List ℕ) × (asked : Asked) × IsTime words file asked
+
+abbrev pub AsksGen : List (List ℕ) → Type 0
+AsksGen words = (n : ℕ) × (asked : Asked) × IsGen words n asked
 
 -- ---- run
 pub record IsRan (call : Call) (answered : Ran) (out errs : Stream) : Type 0 where

@@ -5,6 +5,7 @@ use Rattle.call_claims.specs.declared.ran.Ran.{Ran}
 use Rattle.call_words.specs.declared.commands.Command.{Command}
 use Rattle.call_words.specs.declared.commands.Command.TheVariants as command
 use Rattle.exec_call.specs.Call.{IsExecuted}
+use Rattle.gen_call.specs.Call.{IsGenerated}
 use Rattle.mean_call.specs.Call.{IsMeant}
 use Rattle.time_call.specs.Call.{IsTimed}
 use Rattle.top_call.specs.Call.{IsListed, IsRan}
@@ -15,3 +16,4 @@ IsDone (command.Mean of) call ran out errs = IsMeant call ran out errs
 IsDone (command.Run of) call ran out errs = IsRan call ran out errs
 IsDone (command.Exec of) call ran out errs = IsExecuted call ran out errs
 IsDone (command.Time of) call ran out errs = IsTimed call ran out errs
+IsDone (command.Gen of) call ran out errs = IsGenerated call.words ran out errs

@@ -1,4 +1,3 @@
 pub mod Call
 pub mod Done
-pub mod Refusals
 pub mod Work

@@ -1,6 +1,6 @@
 -- What the work of a command comes to.
 --
---   IsUncoded, HasNoCode   a text, or the text of a file, has no code, and why
+--   HasNoCode              a file's text has no code, or there is none, and why
 --   IsListOn               the answer of a `list` has its cause
 --   IsOfListing            what comes of the put of a listing
 --   IsRunWork              what came of a `run`
@@ -23,10 +23,6 @@ use Rattle.call_answers.specs.declared.answers.Stop.TheVariants as stop
 use Rattle.call_answers.specs.declared.work.Work.{Work}
 
 -- ---- no code: the answer has its cause, unless memory was wanting
-abbrev pub IsUncoded : List ℕ → Build → Answer → Type 0
-IsUncoded text build a = IsDecided (status_of a)
-    → TextFault text build (status_of a) (told_of a)
-
 abbrev pub HasNoCode : Call → List ℕ → Build → Answer → Type 0
 HasNoCode call file build a = IsDecided (status_of a) → (execution : Execution)
     → HasNoRun execution

@@ -8,10 +8,11 @@ ghost use Rattle.call_claims.specs.Stream.{stream_of};
 ghost use Rattle.call_claims.specs.declared.status.TheConstants.{USAGE};
 ghost use Rattle.call_answers.specs.Stops.{CallStopsAtFault};
 ghost use Rattle.exec_call.specs.Call.{IsExecuted};
+ghost use Rattle.gen_call.specs.Call.{IsGenerated};
 ghost use Rattle.mean_call.specs.Call.{IsMeant};
 ghost use Rattle.time_call.specs.Call.{IsTimed};
-ghost use Rattle.top_call.specs.Call.{AsksExec, AsksList, AsksMean, AsksRun, AsksTime, IsListed};
-ghost use Rattle.top_call.specs.Call.{IsRan, IsUnknown};
+ghost use Rattle.top_call.specs.Call.{AsksExec, AsksGen, AsksList, AsksMean, AsksRun, AsksTime};
+ghost use Rattle.top_call.specs.Call.{IsListed, IsRan, IsUnknown};
 
 use crate::commands::perform;
 use call_answers::{Answer, Work, answered};
@@ -20,8 +21,8 @@ use call_words::command_of;
 use std::alloc::Global;
 use zpl_io::{Files, Sink};
 
-/// Does what the words ask for: what the program prints, its listing, or the time of its run goes to
-/// `out`, and what is told of the answer to `errs`.
+/// Does what the words ask for: what the program prints, its listing, the time of its run, or the
+/// lines of runs of a drawn program go to `out`, and what is told of the answer to `errs`.
 ///
 /// The status has its cause. After a failed put nothing more is put on either sink.
 pub fn zplgrid<F: Files, O: Sink, E: Sink>(
@@ -72,6 +73,15 @@ pub fn zplgrid<F: Files, O: Sink, E: Sink>(
     ensures time { let call = call_of (map string_bytes words.now) (F.tells files.old)
         (F.may_fail files.old) (F.may_fail_later files.old) in
         AsksTime call.words → IsTimed call result
+        (stream_of (O.tells out.old) (O.tells out.new) (O.faults out.old) (O.faults out.new)
+        (out.new ≡ out.old))
+        (stream_of (E.tells errs.old) (E.tells errs.new) (E.faults errs.old) (E.faults errs.new)
+        (errs.new ≡ errs.old)) }
+
+    // `gen`: what program is drawn and run on which grids, what it printed there, and why the
+    // status is what it is.
+    ensures generated { AsksGen (map string_bytes words.now) →
+        IsGenerated (map string_bytes words.now) result
         (stream_of (O.tells out.old) (O.tells out.new) (O.faults out.old) (O.faults out.new)
         (out.new ≡ out.old))
         (stream_of (E.tells errs.old) (E.tells errs.new) (E.faults errs.old) (E.faults errs.new)

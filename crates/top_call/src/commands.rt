@@ -14,6 +14,7 @@ use crate::runs::run;
 use call_claims::Ran;
 use call_words::Command;
 use exec_call::exec;
+use gen_call::generate;
 use mean_call::mean;
 use std::alloc::Global;
 use time_call::time;
@@ -55,5 +56,6 @@ pub fn perform<F: Files, O: Sink, E: Sink>(
         Command::Run(of) => run(alloc, of, files, out, errs),
         Command::Exec(of) => exec(alloc, of, files, out, errs),
         Command::Time(of) => time(alloc, of, files, out, errs),
+        Command::Gen(of) => generate(alloc, of, out, errs),
     }
 }

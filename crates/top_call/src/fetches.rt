@@ -1,22 +1,20 @@
 //! The code of a program's file.
-ghost use Rattle.std.specs.Prelude.{◌≢◌, ◌≤◌, ℕ, List, IfErr, IfOk, length};
+ghost use Rattle.std.specs.Prelude.{◌≢◌, ℕ, List, IfErr, IfOk};
 ghost use Rattle.zpl_io.specs.Faults.{CountsFaults};
 ghost use Rattle.zpl_io.specs.Files.{SameTexts};
-ghost use Rattle.zpl_text.specs.declared.TheConstants.{MOST_SOURCE};
 ghost use Rattle.code_layout.specs.Room.{HasRoom};
 ghost use Rattle.call_claims.specs.Call.{call_of};
 ghost use Rattle.call_claims.specs.Command.{build_of};
 ghost use Rattle.list_claims.specs.Listing.{IsMadeOf};
-ghost use Rattle.list_claims.specs.Code.{IsCodeOf};
 ghost use Rattle.call_answers.specs.Fetched.{FailsToFetch};
 ghost use Rattle.call_words.specs.Reading.{asked_in};
-ghost use Rattle.top_call.specs.Work.{HasNoCode, IsUncoded};
+ghost use Rattle.top_call.specs.Work.{HasNoCode};
 
-use crate::compiling::compile;
 use call_answers::{Answer, text_of_file};
 use call_words::Asked;
 use node_form::NodeProgram;
 use std::alloc::Global;
+use text_code::code_of_text;
 use zpl_io::Files;
 use zpl_text::MOST_SOURCE;
 
@@ -47,20 +45,5 @@ pub fn code_of_file<'a, F: Files>(
     match text_of_file(alloc, file, MOST_SOURCE, files) {
         Ok(text) => code_of_text(alloc, text.as_slice(), asked),
         Err(answer) => Err(answer),
-    }
-}
-
-/// Makes code of a text as the words ask for it, or answers why there is none.
-fn code_of_text<'a>(alloc: Global, text: &[u8], asked: Asked<'_>) -> Result<NodeProgram, Answer<'a>>
-    requires { length text.now ≤ MOST_SOURCE }
-    ensures code { IfOk result (IsCodeOf text.now (build_of (asked_in asked.entry))) }
-    ensures room { IfOk result HasRoom }
-    ensures none { IfErr result
-        (IsUncoded text.now (build_of (asked_in asked.entry))) }
-    ensures put { IfErr result (λ answer. answer ≢ Answer.PutFailed) }
-{
-    match compile(alloc, text, asked) {
-        Ok(code) => Ok(code),
-        Err(uncoded) => Err(uncoded.answer(text)),
     }
 }

@@ -4,7 +4,6 @@
 
 mod call;
 mod commands;
-mod compiling;
 mod fetches;
 mod lists;
 mod runs;

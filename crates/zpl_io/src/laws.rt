@@ -61,7 +61,8 @@ pub fn calls_join<F: Files>()
 {}
 
 /// What each kind of files tells, and where its fetches may fail: in memory its own texts and no
-/// others, where the next call fails, or a later one; sure files one text, never; on a disk every text, everywhere.
+/// others, where the next call fails, or a later one; sure files one text, never; on a disk every
+/// text, everywhere.
 pub fn files_tell()
     ensures memory { (files : KeptFiles) (name text : List ℕ) →
         ⟦<MemFiles as Files>⟧.tells files name text ↔ HasText files name text }

@@ -209,8 +209,8 @@ fn lower_form<'n>(
     }
 }
 
-/// Appends the code of a choice between the arms from one on, whose test is at this offset, and what
-/// stands behind `else`.
+/// Appends the code of a choice between the arms from one on, whose test is at this offset, and
+/// what stands behind `else`.
 #[cycle(lower)]
 fn lower_arms<'n>(
     draft: &mut Draft,

@@ -8,7 +8,11 @@ mod execs;
 #[cfg(test)]
 mod faults;
 #[cfg(test)]
+mod gens;
+#[cfg(test)]
 mod grids;
+#[cfg(test)]
+mod letters;
 #[cfg(test)]
 mod lists;
 #[cfg(test)]

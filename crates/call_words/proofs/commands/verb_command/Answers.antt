@@ -1,7 +1,13 @@
 use Rattle.std.proofs.Common.{map, string_bytes}
 use Rattle.call_words.specs.Reading.{asked_in}
-use Rattle.call_words.proofs.CommandLemmas.{takes_not}
+use Rattle.call_words.proofs.CommandLemmas.{taken, takes_not}
 use Rattle.call_words.proofs.commands.verb_command.Goals as goal
+
+pub returns-then-takes : goal.returns-then-takes
+returns-then-takes c =
+    taken c.args.verb (record { file = c.args.file; asked = c.in-Some.asked })
+    (map string_bytes c.args.rest.now) c.command_with.result (c.in-Some.ensures {u = tt})
+    (c.if-takes.ensures {u = tt}) c.command_with.ensures
 
 pub returns-else-takes : goal.returns-else-takes
 returns-else-takes c =

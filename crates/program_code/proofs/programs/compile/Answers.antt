@@ -25,7 +25,7 @@ returns-in_err-code-clause-refused c = λ settings binds.
     c.from_residual-in_err-code.ensures.1
     (passes_refuse build program settings counted tables are c.in-Some.ensures.1
     c.in_err-code.field-0.0
-    (subst (λ t. flat.Refuses (node_tables build.grid t) c.in_err-code.field-0.0) same
+    (subst (λ t. flat.Refuses (node_tables build t) c.in_err-code.field-0.0) same
     c.in_err-code.ensures.refused))
 
 pub returns-clause-compiled : goal.returns-clause-compiled
@@ -37,7 +37,7 @@ returns-clause-compiled c = λ settings binds.
     c.in_ok-tables.ensures.lowered settings binds.lists in
     let counted = counted_as build program settings c.in_ok-tables.ensures.counted in
     let same : c.in-Some.flat ≡ tables = c.in-Some.ensures.0 in
-    let to = λ (t : Tables). node_tables build.grid t in
+    let to = λ (t : Tables). node_tables build t in
     made build program settings counted tables are c.in-Some.ensures.1 c.in_ok-code.code
     (subst (λ t. c.in_ok-code.code ≡ to t) same c.in_ok-code.ensures.code)
     (subst (λ t. Fits (to t)) same c.in_ok-code.ensures.fits)

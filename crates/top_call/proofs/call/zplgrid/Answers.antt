@@ -1,10 +1,11 @@
-use Rattle.std.proofs.Common.{◌≡◌, map, string_bytes, refl, ap, sym, ◌∙◌, subst, arith}
+use Rattle.std.proofs.Common.{◌≡◌, map, string_bytes, refl, ap, sym, ◌∙◌, subst}
+use Rattle.call_claims.specs.Call.{call_of}
 use Rattle.call_claims.specs.Stream.{stream_of}
 use Rattle.call_answers.specs.declared.answers.Answer.TheVariants as answer
 use Rattle.call_answers.proofs.CallLemmas.{call_stops}
 use Rattle.top_call.specs.Call.{IsUnknown}
-use Rattle.top_call.proofs.UnknownLemmas.{tells_usage, usage_read}
-use Rattle.top_call.proofs.WordLemmas.{is_some, of_exec, of_list, of_mean, of_run, of_time}
+use Rattle.top_call.proofs.UnknownLemmas.{none_fetched, tells_usage, usage_read}
+use Rattle.top_call.proofs.WordLemmas.{is_some, of_exec, of_gen, of_list, of_mean, of_run, of_time}
 use Rattle.top_call.proofs.call.zplgrid.Goals as goal
 
 pub perform-requires : goal.perform-requires
@@ -46,6 +47,15 @@ returns-in-Some-clause-time g c = λ asks.
     of_time c.commands_are_one.ensures words _ _ _ _ c.in-Some.command is asks
     (c.perform.ensures.done words is)
 
+pub returns-in-Some-clause-generated : goal.returns-in-Some-clause-generated
+returns-in-Some-clause-generated g c = λ asks.
+    let words = map string_bytes c.args.words.now in
+    let is = c.in-Some.ensures {u = tt} in
+    let call = call_of words (g.F.Files.tells c.args.files.now)
+    (g.F.Files.may_fail c.args.files.now) (g.F.Files.may_fail_later c.args.files.now) in
+    of_gen c.commands_are_one.ensures words call _ _ _ c.in-Some.command is asks
+    (c.perform.ensures.done words is)
+
 pub returns-in-Some-clause-unknown : goal.returns-in-Some-clause-unknown
 returns-in-Some-clause-unknown g c = λ none.
     absurd (is_some c.commands_are_one.ensures (map string_bytes c.args.words.now)
@@ -74,6 +84,10 @@ pub returns-in-None-clause-time : goal.returns-in-None-clause-time
 returns-in-None-clause-time g c = λ asks.
     absurd ((c.in-None.ensures {u = tt}).no_time asks.0 asks.1 asks.2)
 
+pub returns-in-None-clause-generated : goal.returns-in-None-clause-generated
+returns-in-None-clause-generated g c = λ asks.
+    absurd ((c.in-None.ensures {u = tt}).no_gen asks.0 asks.1 asks.2)
+
 pub returns-in-None-clause-unknown : goal.returns-in-None-clause-unknown
 returns-in-None-clause-unknown g c = λ none.
     let out = stream_of (g.O.Sink.tells c.args.out.now) (g.O.Sink.tells c.args.out.now)
@@ -99,14 +113,9 @@ returns-in-None-clause-fetches g c =
     let errs = stream_of (g.E.Sink.tells c.args.errs.now) (g.E.Sink.tells c.answered.new.errs)
     (g.E.Sink.faults c.args.errs.now) (g.E.Sink.faults c.answered.new.errs)
     (c.answered.new.errs ≡ c.args.errs.now) in
-    record {
-      rises = λ e. absurd (usage_read c.answered.result.status errs
-          (tells_usage c.without_turns.result.answer c.answered.result.status errs
-          c.without_turns.ensures.answer c.answered.ensures.told) e);
-      only = λ less. absurd (omega (arith, less));
-      never_falls = omega arith;
-      bounded = λ h. h;
-    }
+    none_fetched c.answered.result.status (g.F.Files.faults c.args.files.now)
+    (usage_read c.answered.result.status errs (tells_usage c.without_turns.result.answer
+    c.answered.result.status errs c.without_turns.ensures.answer c.answered.ensures.told))
 
 pub returns-in-None-clause-stops : goal.returns-in-None-clause-stops
 returns-in-None-clause-stops g c =

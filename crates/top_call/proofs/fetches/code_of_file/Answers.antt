@@ -6,7 +6,7 @@ use Rattle.call_words.specs.Reading.{asked_in}
 use Rattle.call_claims.specs.Source.{Source}
 use Rattle.call_answers.proofs.FetchLemmas.{not_fetched, on_err, on_ok}
 use Rattle.call_answers.specs.Fetched.{IsWholeText}
-use Rattle.top_call.proofs.FetchLemmas.{text_fetches_none}
+use Rattle.text_code.proofs.TextLemmas.{text_fetches_none}
 use Rattle.top_call.proofs.FileLemmas.{no_code, unfetched, unfetched_not_put}
 use Rattle.top_call.proofs.fetches.code_of_file.Goals as goal
 

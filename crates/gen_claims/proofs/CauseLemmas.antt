@@ -1,0 +1,281 @@
+-- A status of `gen` that has its cause comes just where its own cause is.
+use Rattle.std.proofs.Common.{◌≡◌, ◌≢◌, ◌⊎◌, ◌↔◌, ℕ, false, List, [], ◌∷◌, ◌++◌, get_or, Option, Some, None}
+use Rattle.std.proofs.Common.{refl, sym, ◌∙◌, ap, subst, inl, inr, arith}
+use Rattle.std.specs.Str.Parse.{digits_value}
+use Rattle.zpl_nums.specs.declared.ends.End.TheVariants.{Done, Trap}
+use Rattle.node_form.specs.declared.tables.Tables.{Tables}
+use Rattle.grid_layout.specs.Layout.{Arrangement}
+use Rattle.grid_meaning.specs.Grid.{EndsAs}
+use Rattle.grid_runs.specs.Run.{IsLimitedAt, Run, grid_at}
+use Rattle.zpl_claims.specs.Build.{Build}
+use Rattle.call_claims.specs.Command.{Asked, IsGen, asked_on, build_of}
+use Rattle.call_claims.specs.Decided.{IsDecided}
+use Rattle.call_claims.specs.Execution.{Execution}
+use Rattle.call_claims.specs.declared.status.TheConstants.{DONE, TRAPPED, TURN_LIMIT}
+use Rattle.call_claims.proofs.OneLemmas.{worded_once}
+use Rattle.exec_claims.specs.Cause.{RunCause, run_of}
+use Rattle.exec_claims.specs.Cause.RunCause.{done, trap, turn_limit, stuck, idle}
+use Rattle.exec_claims.specs.Decided.{IsDoneAt, IsStuckOrIdleAt, IsTrapAt}
+use Rattle.exec_claims.specs.declared.status.TheConstants.{STUCK}
+use Rattle.exec_claims.proofs.OneCause.{run_one}
+use Rattle.list_claims.specs.Cause.{TextFault}
+use Rattle.list_claims.specs.Cause.TextFault.{refused, unbound}
+use Rattle.list_claims.specs.Code.{IsCodeOf}
+use Rattle.list_claims.specs.Code.IsCodeOf.{of_small, of_other}
+use Rattle.program_texts.specs.Text.{drawn_program}
+use Rattle.gen_claims.specs.Cause.{Cause, GenCause, Gens}
+use Rattle.gen_claims.specs.Cause.Cause.{no_memory, gen}
+use Rattle.gen_claims.specs.Cause.GenCause.{all_done, faulty, ended}
+use Rattle.gen_claims.specs.Decided.{HasRun, HasRunOn, IsExact}
+use Rattle.gen_claims.specs.Grids.{NamedGrid, IsNext, five, grids, one, three_by_one, two_by_two}
+use Rattle.gen_claims.specs.Runs.{EndsNormally, IsRunOf, Went, execution_with}
+use Rattle.gen_claims.specs.Runs.Went.{none_yet, one_more}
+
+-- ---- words draw one program, and ask for one thing
+pub gens_one : (words : List (List ℕ)) (n m : ℕ) (asked more : Asked) → IsGen words n asked
+    → IsGen words m more → (n ≡ m) × (asked ≡ more)
+gens_one words n m asked more f g =
+    let same = worded_once words _ _ f.text g.text asked more f.worded g.worded in (
+      f.seed.number.value ∙ (ap (λ t. digits_value 10 t) same.1 ∙ sym g.seed.number.value),
+      same.2,
+    )
+
+-- what is said of any holds of these
+pub as_given : {words : List (List ℕ)} {Holds : ℕ → Asked → Type 0} (n : ℕ) (asked : Asked)
+    → IsGen words n asked → Gens words Holds → Holds n asked
+as_given {words} {Holds} n asked given h =
+    let same = gens_one words n h.seed asked h.asked given h.given in
+    subst (λ m. Holds m asked) (sym same.0) (subst (λ a. Holds h.seed a) (sym same.1) h.holds)
+
+-- ---- grids
+no_more : {A : Type 0} (xs : List A) (x : A) → xs ++ x ∷ [] ≡ [] → ⊥
+no_more [] x e = cc
+no_more (y ∷ xs) x e = cc
+
+last_is_five : (before : List NamedGrid) (grid : NamedGrid) → before ++ grid ∷ [] ≡ grids
+    → grid ≡ five
+last_is_five [] grid e = absurd (let no : ⊥ = cc in no)
+last_is_five (a ∷ []) grid e = absurd (let no : ⊥ = cc in no)
+last_is_five (a ∷ b ∷ []) grid e = absurd (let no : ⊥ = cc in no)
+last_is_five (a ∷ b ∷ c ∷ []) grid e = let is : grid ≡ five = cc in is
+last_is_five (a ∷ b ∷ c ∷ d ∷ more) grid e =
+    absurd (no_more more grid (let ends : more ++ grid ∷ [] ≡ [] = cc in ends))
+
+factor : NamedGrid → ℕ
+factor grid = get_or grid.factors 0 0
+
+fewer : (grid other : NamedGrid) → grid ≡ other → get_or other.factors 0 0 ≢ 5
+    → grid.factors ≡ five.factors → ⊥
+fewer grid other is differ same =
+    differ (sym (ap (λ (g : NamedGrid). get_or g.factors 0 0) is) ∙ ap (λ fs. get_or fs 0 0) same)
+
+some_more : {A : Type 0} (xs rest : List A) (x : A) → [] ≡ xs ++ x ∷ rest → ⊥
+some_more [] rest x e = cc
+some_more (y ∷ xs) rest x e = cc
+
+-- the grid before another one isn't the last
+not_five : (before : List NamedGrid) (grid next : NamedGrid) (rest : List NamedGrid)
+    → grids ≡ (before ++ grid ∷ []) ++ next ∷ rest → grid.factors ≡ five.factors → ⊥
+not_five [] grid next rest e =
+    fewer grid one (let is : grid ≡ one = cc in is) (λ f. omega (arith, f))
+not_five (a ∷ []) grid next rest e =
+    fewer grid two_by_two (let is : grid ≡ two_by_two = cc in is) (λ f. omega (arith, f))
+not_five (a ∷ b ∷ []) grid next rest e =
+    fewer grid three_by_one (let is : grid ≡ three_by_one = cc in is) (λ f. omega (arith, f))
+not_five (a ∷ b ∷ c ∷ []) grid next rest e = λ same. let no : ⊥ = cc in no
+not_five (a ∷ b ∷ c ∷ d ∷ more) grid next rest e = λ same.
+    some_more (more ++ grid ∷ []) rest next
+    (let ends : [] ≡ (more ++ grid ∷ []) ++ next ∷ rest = cc in ends)
+
+-- code is for the grid that it was built for
+pub grid_of_code : {text : List ℕ} {build : Build} {code : Tables} → IsCodeOf text build code
+    → code.grid ≡ build.grid
+grid_of_code (of_small small) =
+    ap (λ (a : Arrangement). a.grid) small.compiled.tidy.laid_out
+grid_of_code (of_other other) = ap (λ (t : Tables). t.grid) other.compiled.is
+
+-- ---- the last run, where all ended normally
+same_code : (code other : Tables) → Some code ≡ Some other → code ≡ other
+same_code code other e = let same : code ≡ other = cc in same
+
+module _ (seed : ℕ) (asked : Asked) where
+  -- it did
+  last_ended : {all : List NamedGrid} {last : Execution} {lines : List ℕ} (code : Tables)
+      → Went seed asked all last lines → last.code ≡ Some code
+      → EndsNormally asked code last.turns
+  last_ended code none_yet made = absurd (let no : ⊥ = cc in no)
+  last_ended code (one_more grid other turns went run ends) made =
+      subst (λ c. EndsNormally asked c turns) (same_code other code made) ends
+
+  -- and on the last of the grids
+  last_on : {all : List NamedGrid} {last : Execution} {lines : List ℕ} (code : Tables)
+      → Went seed asked all last lines → last.code ≡ Some code
+      → (before : List NamedGrid) × (grid : NamedGrid) × (all ≡ before ++ grid ∷ [])
+      × IsRunOf seed asked grid code last.turns
+  last_on code none_yet made = absurd (let no : ⊥ = cc in no)
+  last_on code (one_more {before = before} grid other turns went run ends) made =
+      (before, grid, refl, subst (λ c. IsRunOf seed asked grid c turns) (same_code other code made) run)
+
+  all_on_five : {all : List NamedGrid} {last : Execution} {lines : List ℕ}
+      → Went seed asked all last lines → all ≡ grids → HasRunOn seed asked last five IsDoneAt
+  all_on_five none_yet is = absurd (let no : ⊥ = cc in no)
+  all_on_five (one_more {before = before} grid code turns went run ends) is =
+      subst (λ g. HasRunOn seed asked (execution_with code turns) g IsDoneAt) (last_is_five before grid is) (record {
+        code = code;
+        of_text = run.of_text;
+        made = refl;
+        goes_on = run.goes_on;
+        holds = ends;
+      })
+
+  -- ---- how the last run ended
+  abbrev CausedBy : Tables → ℕ → ℕ → Type 0
+  CausedBy code turns n = (told : List ℕ) × RunCause (run_of code asked []) false turns n told
+
+  fault_not : {text told : List ℕ} {build : Build} {n : ℕ} (m : ℕ) → TextFault text build n told
+      → m ≢ 4 → m ≢ 5 → n ≢ m
+  fault_not m (refused told is) other also e = other (sym e)
+  fault_not m (unbound told is) other also e = also (sym e)
+
+  -- so the call has its status
+  status_is : {execution : Execution} {lines told : List ℕ} {n : ℕ} (m : ℕ) (code : Tables)
+      → GenCause seed asked execution lines n told → execution.code ≡ Some code
+      → CausedBy code execution.turns m → m ≢ DONE → n ≡ m
+  status_is m code (all_done went) made cause other =
+      absurd (other (run_one _ _ _ cause.1 (done (last_ended code went made))))
+  status_is m code (faulty grid went next fault) made cause other =
+      absurd (other (run_one _ _ _ cause.1 (done (last_ended code went made))))
+  status_is m code (ended {told = told} {status = status} grid own turns went next run why differs) made cause other =
+      run_one _ _ _
+      (subst (λ c. RunCause (run_of c asked []) false turns status told) (same_code own code made) why)
+      cause.1
+
+  -- and where the call has its status it ended so
+  run_so : {execution : Execution} {lines told : List ℕ} {n : ℕ} (m : ℕ)
+      (Holds : Run → ℕ → Type 0) → GenCause seed asked execution lines n told → n ≡ m
+      → m ≢ DONE → m ≢ 4 → m ≢ 5
+      → ((run : Run) (k : ℕ) (other : List ℕ) → RunCause run false k n other → Holds run k)
+      → HasRun seed asked execution Holds
+  run_so m Holds (all_done went) e other refuses unbinds to = absurd (other (sym e))
+  run_so m Holds (faulty grid went next fault) e other refuses unbinds to =
+      absurd (fault_not m fault refuses unbinds e)
+  run_so m Holds (ended {before = before} {told = told} grid code turns went next run why differs) e other refuses unbinds to = record {
+    before = before;
+    grid = grid;
+    next = next;
+    on = record {
+      code = code;
+      of_text = run.of_text;
+      made = refl;
+      goes_on = run.goes_on;
+      holds = to (run_of code asked []) turns told why;
+    };
+  }
+
+  -- ---- status 0
+  done_so : {execution : Execution} {lines told : List ℕ} {n : ℕ}
+      → GenCause seed asked execution lines n told → n ≡ DONE
+      → HasRunOn seed asked execution five IsDoneAt
+  done_so (all_done went) e = all_on_five went refl
+  done_so (faulty grid went next fault) e =
+      absurd (fault_not DONE fault (λ f. omega arith) (λ f. omega arith) e)
+  done_so (ended grid code turns went next run why differs) e = absurd (differs e)
+
+  is_done : {execution : Execution} {lines told : List ℕ} {n : ℕ}
+      → GenCause seed asked execution lines n told
+      → HasRunOn seed asked execution five IsDoneAt → n ≡ DONE
+  is_done (all_done went) h = refl
+  is_done (faulty grid went next fault) h =
+      let on = last_on h.code went h.made in
+      let split : grids ≡ (on.0 ++ on.1 ∷ []) ++ grid ∷ next.rest =
+      next.is ∙ ap (λ front. front ++ grid ∷ next.rest) on.2 in
+      absurd (not_five on.0 on.1 grid next.rest split
+      (sym (grid_of_code on.3.of_text) ∙ grid_of_code h.of_text))
+  is_done (ended {told = told} {status = status} grid own turns went next run why differs) h =
+      absurd (differs (run_one _ _ _
+      (subst (λ c. RunCause (run_of c asked []) false turns status told) (same_code own h.code h.made) why)
+      (done h.holds)))
+
+-- ---- how a run ended, by its status
+trap_at : (run : Run) (k n : ℕ) (told : List ℕ) → RunCause run false k n told → n ≡ TRAPPED
+    → IsTrapAt run k
+trap_at run k n told (trap kind line e) is = (kind, line, e)
+trap_at run k n told (done e) is = absurd (omega (arith, is))
+trap_at run k n told (turn_limit e) is = absurd (omega (arith, is))
+trap_at run k n told (stuck p kind e) is = absurd (omega (arith, is))
+trap_at run k n told (idle p e) is = absurd (omega (arith, is))
+
+limit_at : (run : Run) (k n : ℕ) (told : List ℕ) → RunCause run false k n told → n ≡ TURN_LIMIT
+    → IsLimitedAt run k
+limit_at run k n told (turn_limit e) is = e
+limit_at run k n told (trap kind line e) is = absurd (omega (arith, is))
+limit_at run k n told (done e) is = absurd (omega (arith, is))
+limit_at run k n told (stuck p kind e) is = absurd (omega (arith, is))
+limit_at run k n told (idle p e) is = absurd (omega (arith, is))
+
+stuck_at : (run : Run) (k n : ℕ) (told : List ℕ) → RunCause run false k n told → n ≡ STUCK
+    → IsStuckOrIdleAt run k
+stuck_at run k n told (stuck p kind e) is = inl (p, kind, e)
+stuck_at run k n told (idle p e) is = inr (p, e)
+stuck_at run k n told (turn_limit e) is = absurd (omega (arith, is))
+stuck_at run k n told (trap kind line e) is = absurd (omega (arith, is))
+stuck_at run k n told (done e) is = absurd (omega (arith, is))
+
+stuck_cause : (run : Run) (k : ℕ) → IsStuckOrIdleAt run k
+    → (told : List ℕ) × RunCause run false k STUCK told
+stuck_cause run k (inl is) = (_, stuck is.0 is.1 is.2)
+stuck_cause run k (inr is) = (_, idle is.0 is.1)
+
+-- ---- the law
+module _ (words : List (List ℕ)) (execution : Execution) where
+  gens_of : {n : ℕ} {told : List ℕ} → Cause words execution n told → IsDecided n
+      → Gens words (λ seed asked. (lines : List ℕ) × GenCause seed asked execution lines n told)
+  gens_of no_memory d = absurd (d.memory refl)
+  gens_of (gen is) d = is
+
+  exact_done : {n : ℕ} {told : List ℕ} → Cause words execution n told → IsDecided n
+      → (n ≡ DONE) ↔ Gens words (λ seed asked. HasRunOn seed asked execution five IsDoneAt)
+  exact_done cause d =
+      let is = gens_of cause d in (
+        λ e. record {
+          seed = is.seed;
+          asked = is.asked;
+          given = is.given;
+          holds = done_so is.seed is.asked is.holds.1 e;
+        },
+        λ h. is_done is.seed is.asked is.holds.1 (as_given is.seed is.asked is.given h),
+      )
+
+  exact_run : {n : ℕ} {told : List ℕ} (m : ℕ) (Holds : Run → ℕ → Type 0)
+      → Cause words execution n told → IsDecided n → m ≢ DONE → m ≢ 4 → m ≢ 5
+      → ((run : Run) (k : ℕ) (other : List ℕ) → RunCause run false k n other → n ≡ m → Holds run k)
+      → ((run : Run) (k : ℕ) → Holds run k → (other : List ℕ) × RunCause run false k m other)
+      → (n ≡ m) ↔ Gens words (λ seed asked. HasRun seed asked execution Holds)
+  exact_run m Holds cause d other refuses unbinds to from =
+      let is = gens_of cause d in (
+        λ e. record {
+          seed = is.seed;
+          asked = is.asked;
+          given = is.given;
+          holds = run_so is.seed is.asked m Holds is.holds.1 e other refuses unbinds
+              (λ run k told why. to run k told why e);
+        },
+        λ h.
+        let on = (as_given is.seed is.asked is.given h).on in
+        status_is is.seed is.asked m on.code is.holds.1 on.made
+        (from (run_of on.code is.asked []) execution.turns on.holds) other,
+      )
+
+  pub exact : (n : ℕ) (told : List ℕ) → Cause words execution n told → IsExact words execution n
+  exact n told cause = record {
+    done = λ d. exact_done cause d;
+    trap = λ d. exact_run TRAPPED IsTrapAt cause d (λ f. omega arith) (λ f. omega arith)
+        (λ f. omega arith) (λ run k told why e. trap_at run k n told why e)
+        (λ run k is. (_, trap is.0 is.1 is.2));
+    turn_limit = λ d. exact_run TURN_LIMIT IsLimitedAt cause d (λ f. omega arith)
+        (λ f. omega arith) (λ f. omega arith) (λ run k told why e. limit_at run k n told why e)
+        (λ run k is. (_, turn_limit is));
+    stuck = λ d. exact_run STUCK IsStuckOrIdleAt cause d (λ f. omega arith) (λ f. omega arith)
+        (λ f. omega arith) (λ run k told why e. stuck_at run k n told why e)
+        (λ run k is. stuck_cause run k is);
+  }

@@ -1,0 +1,5 @@
+pub mod Answer
+pub mod Cause
+pub mod Decided
+pub mod Grids
+pub mod Runs
