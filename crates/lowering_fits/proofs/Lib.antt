@@ -10,6 +10,7 @@ pub mod StatementLemmas
 pub mod MemberLemmas
 pub mod WriteLemmas
 pub mod PrefixLemmas
+pub mod PartLemmas
 pub mod FormLemmas
 pub mod SoundLemmas
 pub mod KnownLemmas
