@@ -21,3 +21,15 @@ pub mod ArrayLemmas
 pub mod FrameLemmas
 pub mod BodyLemmas
 pub mod StorageLemmas
+pub mod TallyLemmas
+pub mod MadeLemmas
+pub mod PointSiteLemmas
+pub mod MadeCodeLemmas
+pub mod MadeAssignLemmas
+pub mod MadeStatementLemmas
+pub mod NamedLemmas
+pub mod MadeFrameLemmas
+pub mod MadeProgramLemmas
+pub mod MadeCallLemmas
+pub mod MadeWholeLemmas
+pub mod NumberedLemmas

@@ -70,12 +70,16 @@ module _ (Fine : Region → Type 0) (arrays_of later_of : List ℕ → ℕ) wher
       IsMade Fine arrays_of later_of sites lowered → More 0 sites lowered
   more_made sites lowered is = record {
     copies = is.copies;
-    arrays = is.arrays;
+    arrays = is.arrays ∙ omega arith;
     later = is.later;
     fine_copies = is.fine_copies;
     fine_arrays = is.fine_arrays;
     fine_later = is.fine_later;
   }
+
+  more_is : (n m : ℕ) (sites : List Site) (lowered : Lowered) → n ≡ m → More n sites lowered →
+      More m sites lowered
+  more_is n m sites lowered same is = subst (λ k. More k sites lowered) same is
 
   -- behind code with one array
   array_before : (code : Piece Row Check) (more : ℕ) (sites : List Site) (first rest : Lowered)
@@ -83,7 +87,7 @@ module _ (Fine : Region → Type 0) (arrays_of later_of : List ℕ → ℕ) wher
       Fine storage → More more sites rest → More (suc more) sites (joined code first rest)
   array_before code more sites first rest storage no_copies one no_later fine is = record {
     copies = ap (λ (xs : List Region). length (xs ++ rest.copies)) no_copies ∙ is.copies;
-    arrays = ap (λ (xs : List Region). length (xs ++ rest.arrays)) one ∙ ap suc is.arrays;
+    arrays = ap (λ (xs : List Region). length (xs ++ rest.arrays)) one ∙ omega (arith, is.arrays);
     later = ap (λ (xs : List Region). length (xs ++ rest.later)) no_later ∙ is.later;
     fine_copies = subst (λ (xs : List Region). AllOf Fine (xs ++ rest.copies)) (sym no_copies)
         is.fine_copies;
@@ -116,8 +120,10 @@ module _ (Fine : Region → Type 0) (arrays_of later_of : List ℕ → ℕ) wher
       More more sites (rest last.frame last.next)) →
       More (given_copies formals actuals + more) sites
       (givens_code line formals actuals frame next rest)
-  givens_more line [] actuals frame next rest more sites fine rests = rests
-  givens_more line (formal ∷ formals) [] frame next rest more sites fine rests = rests
+  givens_more line [] actuals frame next rest more sites fine rests =
+      more_is more (0 + more) sites (rest frame next) (omega arith) rests
+  givens_more line (formal ∷ formals) [] frame next rest more sites fine rests =
+      more_is more (0 + more) sites (rest frame next) (omega arith) rests
   givens_more line (formal ∷ formals) (Valued scalar ∷ actuals) frame next rest more sites fine
       rests =
       givens_more line formals actuals (with_scalar frame formal.name scalar) next rest more sites
@@ -134,9 +140,13 @@ module _ (Fine : Region → Type 0) (arrays_of later_of : List ℕ → ℕ) wher
       (record { array = next.arrays; storage = from.storage }) in
       let after : Next = behind next first in
       let later : Lowered = givens_code line formals actuals inner after rest in
-      array_before (piece.Then first.code later.code) (given_copies formals actuals + more) sites
+      more_is (suc (given_copies formals actuals + more))
+      (suc (given_copies formals actuals) + more) sites
+      (givens_code line (formal ∷ formals) (Copied from home ∷ actuals) frame next rest)
+      (omega arith)
+      (array_before (piece.Then first.code later.code) (given_copies formals actuals + more) sites
       first later from.storage refl refl refl fine.0
-      (givens_more line formals actuals inner after rest more sites fine.1 rests)
+      (givens_more line formals actuals inner after rest more sites fine.1 rests))
 
   names_more : (setup : Setup) (entry : Entry) (shape : Bracket) (names : List Name)
       (frame : Framed) (next : Next) (rest : Framed → Next → Lowered) (more : ℕ)
@@ -145,15 +155,17 @@ module _ (Fine : Region → Type 0) (arrays_of later_of : List ℕ → ℕ) wher
       More more sites (rest last.frame last.next)) →
       More (bracket_arrays shape (length names) + more) sites
       (names_code setup entry shape names frame next rest)
-  names_more setup entry NoBracket [] frame next rest more sites fine rests = rests
-  names_more setup entry (Bracketed inner) [] frame next rest more sites fine rests = rests
+  names_more setup entry NoBracket [] frame next rest more sites fine rests =
+      more_is more (0 + more) sites (rest frame next) (omega arith) rests
+  names_more setup entry (Bracketed inner) [] frame next rest more sites fine rests =
+      more_is more (0 + more) sites (rest frame next) (omega arith) rests
   names_more setup entry NoBracket (name ∷ names) frame next rest more sites fine rests =
       let first : Lowered = record (rows_alone (zero_row entry next.scalars)) { scalars = 1 } in
       let inner : Framed = with_scalar frame name next.scalars in
       let after : Next = behind next first in
       let later : Lowered = names_code setup entry NoBracket names inner after rest in
-      nothing_before (piece.Then first.code later.code) more sites first later refl refl refl
-      (names_more setup entry NoBracket names inner after rest more sites fine rests)
+      nothing_before (piece.Then first.code later.code) (0 + more) sites first later refl refl
+      refl (names_more setup entry NoBracket names inner after rest more sites fine rests)
   names_more setup entry (Bracketed region) (name ∷ names) frame next rest more sites fine rests =
       let storage : Region = storage_box setup.known setup.borders region in
       let first : Lowered =
@@ -162,9 +174,11 @@ module _ (Fine : Region → Type 0) (arrays_of later_of : List ℕ → ℕ) wher
       (record { array = next.arrays; storage = storage }) in
       let after : Next = behind next first in
       let later : Lowered = names_code setup entry (Bracketed region) names inner after rest in
-      array_before (piece.Then first.code later.code) (length names + more) sites first later
+      more_is (suc (length names + more)) (suc (length names) + more) sites
+      (names_code setup entry (Bracketed region) (name ∷ names) frame next rest) (omega arith)
+      (array_before (piece.Then first.code later.code) (length names + more) sites first later
       storage refl refl refl fine
-      (names_more setup entry (Bracketed region) names inner after rest more sites fine rests)
+      (names_more setup entry (Bracketed region) names inner after rest more sites fine rests))
 
   pub locals_more : (setup : Setup) (entry : Entry) (vars : List VarDef) (frame : Framed)
       (next : Next) (rest : Framed → Next → Lowered) (more : ℕ) (sites : List Site) →
@@ -172,7 +186,8 @@ module _ (Fine : Region → Type 0) (arrays_of later_of : List ℕ → ℕ) wher
       (let last = local_frames setup entry vars frame next in
       More more sites (rest last.frame last.next)) →
       More (sum_by var_arrays vars + more) sites (locals_code setup entry vars frame next rest)
-  locals_more setup entry [] frame next rest more sites fine rests = rests
+  locals_more setup entry [] frame next rest more sites fine rests =
+      more_is more (0 + more) sites (rest frame next) (omega arith) rests
   locals_more setup entry (var ∷ vars) frame next rest more sites fine rests =
       let one = name_frames setup entry var.shape var.names frame next in
       subst (λ n. More n sites (locals_code setup entry (var ∷ vars) frame next rest))
@@ -240,13 +255,14 @@ param_copies scope param names rest = by param.by_ref param.shape names
         array_copies (map (λ name. formal_of scope
         (record param { by_ref = by_ref; shape = shape })) names ++ rest) ≡
         value_arrays by_ref shape (length names) + array_copies rest
-    by true shape [] = refl
-    by false NoBracket [] = refl
-    by false (Bracketed inner) [] = refl
+    by true shape [] = omega arith
+    by false NoBracket [] = omega arith
+    by false (Bracketed inner) [] = omega arith
     by true NoBracket (name ∷ names) = by true NoBracket names
     by true (Bracketed inner) (name ∷ names) = by true (Bracketed inner) names
     by false NoBracket (name ∷ names) = by false NoBracket names
-    by false (Bracketed inner) (name ∷ names) = ap suc (by false (Bracketed inner) names)
+    by false (Bracketed inner) (name ∷ names) =
+        omega (arith, by false (Bracketed inner) names)
 
 pub params_copies : (scope : Scope) (params : List Param) →
     array_copies (formals_of scope params) ≡ sum_by param_arrays params
@@ -258,12 +274,12 @@ params_copies scope (param ∷ params) =
 pub as_many : (scope : Scope) (params : List Param) →
     length (formal_names params) ≡ length (formals_of scope params)
 as_many scope [] = refl
-as_many scope (param ∷ params) =
-    by param.names
+as_many scope (param ∷ params) = by param.names (as_many scope params)
   where
     by : (names : List Name) →
+        length (formal_names params) ≡ length (formals_of scope params) →
         length (map (λ (name : Name). record { by_ref = param.by_ref; name = name }) names
         ++ formal_names params) ≡
         length (map (λ (name : Name). formal_of scope param) names ++ formals_of scope params)
-    by [] = as_many scope params
-    by (name ∷ names) = ap suc (by names)
+    by [] later = later
+    by (name ∷ names) later = ap suc (by names later)

@@ -23,7 +23,8 @@ ghost use Rattle.flat_form.specs.Flat.{IsFlat};
 ghost use Rattle.flat_form.specs.Row.{Row, with_rows};
 ghost use Rattle.zpl_lowering.specs.Hoist.{Free, hoisted};
 ghost use Rattle.zpl_lowering.specs.Lowered.{Lowered};
-ghost use Rattle.zpl_lowering.specs.Program.{Entry, body_code, where_in};
+ghost use Rattle.zpl_lowering.specs.Program.{Entry, body_code, first_next, lowered_program};
+ghost use Rattle.zpl_lowering.specs.Program.{where_in};
 ghost use Rattle.zpl_lowering.specs.Slate.{Slate};
 ghost use Rattle.zpl_lowering.specs.Statement.{Calling, lowered};
 ghost use Rattle.zpl_lowering.specs.Tables.{empty_tables, tables_of};
@@ -40,7 +41,7 @@ ghost use Rattle.lowering_fits.specs.Whole.{IsStorage, body_frames};
 
 use meaning_ranks::ranks_agree;
 use zpl_meaning::{no_stand_in_is_met, what_is_computed_has_a_value};
-use zpl_names::faultless_programs_have_faultless_sites;
+use zpl_names::{counts_add_up, faultless_programs_have_faultless_sites};
 use zpl_region::tests_tell_the_facts;
 
 /// Rows that fit, laid out in tables that have only scalars, slots and arrays, make the tables of a
@@ -149,6 +150,18 @@ pub fn numbered_code_makes_a_flat_program()
         AllStorages (lowered.arrays ++ (lowered.copies ++ lowered.later)) →
         FitsLowered (empty_tables grid lowered) lowered → IsFlat (tables_of grid lowered) }
 {}
+
+/// All code of a program of the grammar without faults is numbered as it is laid out: the program
+/// has as many arrays and copies as the expanded program, and behind each call those that the
+/// procedure's text asks for.
+pub fn all_code_is_numbered()
+    ensures { (program : Program) (settings : List Setting) → IsProgram program →
+        IsFaultless program → IsNumbered (first_next program) (lowered_program program settings) }
+{
+    ranks_agree();
+    no_stand_in_is_met();
+    counts_add_up();
+}
 
 /// The storage of a declared array, where it has one, is a box within the limit, if its rank is one
 /// from 1 to 3; and so is that of a copy that is read round a home box, if it is within the limit.
