@@ -33,3 +33,5 @@ pub mod MadeProgramLemmas
 pub mod MadeCallLemmas
 pub mod MadeWholeLemmas
 pub mod NumberedLemmas
+pub mod KeptLemmas
+pub mod ReachLemmas
