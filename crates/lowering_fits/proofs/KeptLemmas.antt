@@ -22,27 +22,8 @@ use Rattle.node_form.specs.Fits.{FitsRegion}
 use Rattle.zpl_lowering.specs.Where.{Stored, Numbers, Next}
 use Rattle.zpl_lowering.specs.Statement.{Given, Valued, Copied, Referring}
 use Rattle.zpl_lowering.specs.Program.{Framed, with_scalar, with_array, Entry as CallEntry}
-use Rattle.lowering_fits.specs.Reach.{IsStoredAs, FitsName}
+use Rattle.lowering_fits.specs.Reach.{IsStoredAs, FitsName, IsKept, named_thing}
 use Rattle.lowering_fits.specs.Whole.{given_frame, given_frames, local_frame, name_frames, local_frames}
-
--- ---- things that have numbers
-
-abbrev pub IsKept : Numbers → Kind → Thing → Type 0
-IsKept numbers (kind.Scalar base) (Scalar place) = place < length numbers.scalars
-IsKept numbers (kind.Scalar base) (ArrayAt place home) = ⊥
-IsKept numbers (kind.Scalar base) (Fixed value) = ⊥
-IsKept numbers (kind.Array base shape) (ArrayAt place home) = FitsName numbers shape place home
-IsKept numbers (kind.Array base shape) (Scalar place) = ⊥
-IsKept numbers (kind.Array base shape) (Fixed value) = ⊥
-IsKept numbers (kind.Config base) (Fixed value) = Unit {0}
-IsKept numbers (kind.Config base) (Scalar place) = ⊥
-IsKept numbers (kind.Config base) (ArrayAt place home) = ⊥
-IsKept numbers (kind.Constant base) (Fixed value) = Unit {0}
-IsKept numbers (kind.Constant base) (Scalar place) = ⊥
-IsKept numbers (kind.Constant base) (ArrayAt place home) = ⊥
-IsKept numbers (kind.Region shape) thing = ⊥
-IsKept numbers (kind.Direction rank) thing = ⊥
-IsKept numbers (kind.Procedure signature) thing = ⊥
 
 -- ---- numbers that grow
 
@@ -164,10 +145,6 @@ IsBoth numbers None None = Unit {0}
 IsBoth numbers None (Some thing) = ⊥
 IsBoth numbers (Some one) None = ⊥
 IsBoth numbers (Some one) (Some thing) = IsKept numbers one thing
-
-abbrev pub named_thing : Names → List ℕ → Option Thing
-named_thing names text =
-    option_map (λ entry. entry.1) (find (λ entry. bytes_eq entry.0 text) names)
 
 pub kept_found : (numbers : Numbers) (xs : List Entry) (ns : Names) (text : List ℕ) →
     AreKept numbers xs ns → IsBoth numbers (kind_in xs text) (named_thing ns text)

@@ -7,7 +7,7 @@ use Rattle.zpl_region.specs.declared.regions.Region.{Region}
 use Rattle.zpl_arrays.specs.Array.{Array, array_of}
 use Rattle.zpl_arrays.specs.Around.{copy_storage}
 use Rattle.zpl_tree.specs.Grammar.{IsProgram}
-use Rattle.zpl_tree.specs.Syntax.{Name, Expr, Around, Exprs, NoExpr, ThenExpr, Dir, Bracket, NoBracket, Bracketed, VarDef, Program}
+use Rattle.zpl_tree.specs.Syntax.{Prefix, Prefixed, Form, Name, Expr, Around, Exprs, NoExpr, ThenExpr, Dir, Bracket, NoBracket, Bracketed, VarDef, Program}
 use Rattle.zpl_names.specs.Kinds as kind
 use Rattle.zpl_names.specs.Kinds.{Rank, Kind, Formal, ScalarFormal, ArrayFormal, Signature}
 use Rattle.zpl_names.specs.Scope.{Scope, kind_in, kind_of, is_procedure}
@@ -27,9 +27,9 @@ use Rattle.zpl_meaning.specs.Store.{Thing, Scalar, ArrayAt, Fixed, Names, Enviro
 use Rattle.zpl_meaning.specs.Context.{Currents, Edge, Setup, Place}
 use Rattle.zpl_meaning.specs.Regions.{vector_in}
 use Rattle.zpl_meaning.specs.Calls.{Handed, Called, formals_in, actual_thing, value_exprs as values_taken, handed_on, entered, with_formals}
-use Rattle.zpl_meaning.specs.Proper.{AreProperActuals}
+use Rattle.zpl_meaning.specs.Proper.{AreProperActuals, IsProperCall}
 use Rattle.zpl_meaning.specs.Variables.{Frame, with_variables}
-use Rattle.zpl_meaning.specs.Visited.{IsVisited, Calls, Begins, body_place, handed_at, first_setup}
+use Rattle.zpl_meaning.specs.Visited.{IsUnder, IsCall, IsVisited, Calls, Begins, body_place, handed_at, first_setup}
 use Rattle.zpl_meaning.proofs.DepthLemmas.{Each}
 use Rattle.zpl_meaning.proofs.NamesLemmas.{AreHanded, IsSound, routine_sound}
 use Rattle.zpl_meaning.proofs.ProperLemmas.{taken}
@@ -47,9 +47,9 @@ use Rattle.lowering_fits.proofs.TallyLemmas.{round, called, tally, reads_are}
 use Rattle.lowering_fits.proofs.MadeLemmas.{AllOf, all_of_both}
 use Rattle.lowering_fits.proofs.MadeAssignLemmas.{IsWithin, IsCalling, IsMadeCall}
 use Rattle.lowering_fits.proofs.MadeStatementLemmas.{body_made}
-use Rattle.lowering_fits.proofs.NamedLemmas.{IsBelow, AreBelow, names_below, both_below, OptBelow, actual_below, there_is, AreAlike, givens_alike, Agrees, formals_agree, locals_agree}
+use Rattle.lowering_fits.proofs.NamedLemmas.{IsBelow, AreBelow, AllBelow, names_below, both_below, OptBelow, actual_below, there_is, AreAlike, givens_alike, Agrees, formals_agree, locals_agree}
 use Rattle.lowering_fits.proofs.MadeFrameLemmas.{IsMadeMore, given_copies, AreFine, FineVars, more_made, givens_more, locals_more, array_copies, count_alike, params_copies, as_many}
-use Rattle.lowering_fits.proofs.MadeProgramLemmas.{down, by_name, calls_sum, HasNames, GivensBelow, givens_have, locals_have, givens_below, AllFine, givens_fine}
+use Rattle.lowering_fits.proofs.MadeProgramLemmas.{down, by_name, calls_sum, HasNames, GivensBelow, givens_have, locals_have, givens_below, body_below, AllFine, givens_fine}
 
 -- ---- sites of a procedure
 
@@ -100,9 +100,113 @@ blank numbers = record {
   arrays = map (λ stored. array_of stored.storage (λ t. pos 0)) numbers.arrays;
 }
 
+-- ---- what is called
+
+pub record IsCallee (program : Program) (name : Name) (signature : Signature) : Type 0 where
+  pub routine : Routine
+  pub named : routine_named program name.text ≡ Some routine
+  pub of : IsProcedureOf signature routine
+  pub member : Among (routines_of program) routine
+
+pub callee_of : (program : Program) → IsProgram program → (routine : Routine) →
+    Among (routines_of program) routine → (name : Name) (signature : Signature) →
+    kind_of (scope_of program routine) name ≡ Some (kind.Procedure signature) →
+    IsCallee program name signature
+callee_of program grammar routine member name signature is =
+    let sound : IsSound routine = routine_sound program.decls [] routine tt grammar member in
+    let own : AllOwn routine.own =
+    subst AllOwn (sym sound.own) (all_own sound.earlier routine.procedure) in
+    let found = procedure_is_there program name.text signature
+    (global_procedure (kind_in routine.own name.text) (kind_in (globals_of program) name.text)
+    signature (own_in routine.own name.text own) is) in
+    record {
+      routine = found.0;
+      named = found.1;
+      of = found.2;
+      member = find_among (λ routine. bytes_eq routine.procedure.name.text name.text)
+          (routines_of program) found.0 found.1;
+    }
+
+-- a call from a visited statement
+pub record IsCallFrom (setup : Setup) (w : Where) (name : Name) (actuals : Exprs) : Type 0 where
+  pub result : ℕ
+  pub currents : Currents
+  pub edge : Option Edge
+  pub start : Place
+  pub at : ℕ
+  pub prefixes : List Prefix
+  pub form : Form
+  pub visited : IsVisited setup start (Prefixed at prefixes form)
+  pub under : IsUnder prefixes start (place_at w result currents edge)
+  pub is : IsCall form name actuals
+  pub proper : IsProperCall (place_at w result currents edge) name actuals
+
+-- the body of what is called is visited where it is lowered
+pub callee_visited : (setup : Setup) (w : Where) (name : Name) (actuals : Exprs)
+    (scalar target line : ℕ) (entry : Entry) (next : Next) →
+    AllBelow (length w.numbers.arrays) w.environment → (is : IsCallFrom setup w name actuals) →
+    (callee : IsCallee setup.program name is.proper.signature) →
+    (let calling = calling_of w name actuals scalar target line in
+    IsVisited setup
+    (place_at (where_in setup callee.routine calling
+    (body_frames setup entry callee.routine calling next).frame) 0 is.currents None)
+    callee.routine.procedure.body
+    × (given_copies (formal_names callee.routine.procedure.params) calling.actuals ≡
+    sum_by param_arrays callee.routine.procedure.params))
+callee_visited setup w name actuals scalar target line entry next below is callee =
+    let place : Place = place_at w is.result is.currents is.edge in
+    let formals : List Formal = formals_in (kind_of w.scope name) in
+    let calling : Calling = calling_of w name actuals scalar target line in
+    let store : Store = blank w.numbers in
+    let values : List ℤ = map (λ placed. pos 0) (values_taken place formals actuals) in
+    let many : length values ≡ length (values_taken place formals actuals) =
+    length-map (values_taken place formals actuals) (λ placed. pos 0) in
+    let taken : AreProperActuals place formals actuals =
+    subst (λ kind. AreProperActuals place (formals_in kind) actuals) (sym is.proper.called)
+    is.proper.taken in
+    let handed : List Handed = handed_on w.environment store formals actuals values in
+    let alike : AreAlike (given_to w scalar formals actuals) handed =
+    givens_alike w is.result is.currents is.edge store below scalar formals actuals values taken
+    many in
+    let are : AreHanded formals handed =
+    all_handed place store formals actuals values taken many in
+    let params = formal_names callee.routine.procedure.params in
+    let signed : formals ≡ formals_of (head_scope callee.of.earlier callee.routine.procedure)
+    callee.routine.procedure.params =
+    ap formals_in is.proper.called ∙ ap (λ (s : Signature). s.formals) callee.of.signed in
+    let scope = head_scope callee.of.earlier callee.routine.procedure in
+    let first : Framed = record { names = []; numbers = w.numbers } in
+    let start : Frame = record { names = []; store = store } in
+    let given = given_frames entry.line params (given_to w scalar formals actuals) first next in
+    let frames = body_frames setup entry callee.routine calling next in
+    let agrees : Agrees frames.frame (entered setup callee.routine handed store) =
+    locals_agree setup entry callee.routine.procedure.locals given.frame
+    (with_formals start params handed) given.next
+    (formals_agree entry.line params (given_to w scalar formals actuals) handed first start next
+    alike (record {
+      names = refl;
+      scalars = sym (length-map w.numbers.scalars (λ scalar. pos 0));
+      arrays = sym (length-map w.numbers.arrays
+          (λ stored. array_of stored.storage (λ t. pos 0)));
+    })) in (
+      subst (λ (names : Names). IsVisited setup (record {
+        setup = setup;
+        scope = scope_of setup.program callee.routine;
+        environment = record { names = names ++ setup.globals };
+        result = 0;
+        prefix = Some 0;
+        currents = is.currents;
+        edge = None;
+      }) callee.routine.procedure.body) (sym agrees.names)
+      (Calls is.start place is.at is.prefixes is.form name actuals values store store 0
+      callee.routine is.visited is.under is.is many callee.named),
+      count_alike formals (given_to w scalar formals actuals) handed params
+          (as_many scope callee.routine.procedure.params ∙ ap length (sym signed)) are alike
+          ∙ ap array_copies signed ∙ params_copies scope callee.routine.procedure.params,
+    )
+
 module _ (program : Program) (settings : List Setting) (grammar : IsProgram program)
     (clean : IsFaultless program) (right : AreRight (first_setup program settings))
-    (bottom : ℕ) (globals_below : AreBelow bottom (first_setup program settings).globals)
     (Fine : Region → Type 0) (Inside : Routine → Environment → Numbers → Type 0)
     (kept : (routine : Routine) (environment : Environment) (numbers : Numbers) →
     Inside routine environment numbers → AllFine Fine numbers)
@@ -139,8 +243,8 @@ module _ (program : Program) (settings : List Setting) (grammar : IsProgram prog
 
   -- all names in reach have numbers
   pub record IsFramed (environment : Environment) (numbers : Numbers) : Type 0 where
-    pub below : AreBelow (length numbers.arrays) environment.names
-    pub behind : bottom ≤ length numbers.arrays
+    pub below : AllBelow (length numbers.arrays) environment
+    pub globals : AllBelow (length numbers.arrays) (record { names = setup.globals })
 
   -- what a procedure's calls have, down a chain of so many
   abbrev CallsAt : ℕ → Routine → Environment → Numbers → Type 0
@@ -166,7 +270,7 @@ module _ (program : Program) (settings : List Setting) (grammar : IsProgram prog
       given_copies (formal_names routine.procedure.params) calling.actuals ≡
       sum_by param_arrays routine.procedure.params →
       GivensBelow (length calling.numbers.arrays) calling.actuals →
-      bottom ≤ length calling.numbers.arrays →
+      AllBelow (length calling.numbers.arrays) (record { names = setup.globals }) →
       (let frame = (body_frames setup entry routine calling next).frame in
       Inside routine (record { names = frame.names ++ setup.globals }) frame.numbers →
       IsVisited setup (place_at (where_in setup routine calling frame) result currents edge)
@@ -192,10 +296,9 @@ module _ (program : Program) (settings : List Setting) (grammar : IsProgram prog
       (givens_have few entry.line params calling.actuals first next
       (record { more = omega arith; below = tt }) below) in
       let framed : IsFramed environment frame.numbers = record {
-        below = both_below (length frame.numbers.arrays) frame.names setup.globals has.below
-            (names_below bottom (length frame.numbers.arrays) setup.globals
-            (omega (arith, behind, has.more)) globals_below);
-        behind = omega (arith, behind, has.more);
+        below = body_below few (length frame.numbers.arrays) frame.names setup.globals has.more
+            has.below behind;
+        globals = body_below few (length frame.numbers.arrays) [] setup.globals has.more tt behind;
       } in
       let w : Where = where_in setup routine calling frame in
       let call : Calling → Next → Lowered = call_code setup depth in
@@ -245,103 +348,6 @@ module _ (program : Program) (settings : List Setting) (grammar : IsProgram prog
 
   -- ---- calls
 
-  -- what is called
-  pub record IsCallee (name : Name) (signature : Signature) : Type 0 where
-    pub routine : Routine
-    pub named : routine_named program name.text ≡ Some routine
-    pub of : IsProcedureOf signature routine
-    pub member : Among (routines_of program) routine
-
-  pub callee_of : (routine : Routine) → Among (routines_of program) routine → (name : Name)
-      (signature : Signature) →
-      kind_of (scope_of program routine) name ≡ Some (kind.Procedure signature) →
-      IsCallee name signature
-  callee_of routine member name signature is =
-      let sound = sound_of routine member in
-      let own : AllOwn routine.own =
-      subst AllOwn (sym sound.own) (all_own sound.earlier routine.procedure) in
-      let found = procedure_is_there program name.text signature
-      (global_procedure (kind_in routine.own name.text) (kind_in (globals_of program) name.text)
-      signature (own_in routine.own name.text own) is) in
-      record {
-        routine = found.0;
-        named = found.1;
-        of = found.2;
-        member = find_among (λ routine. bytes_eq routine.procedure.name.text name.text)
-            (routines_of program) found.0 found.1;
-      }
-
-  -- the body of what is called is visited where it is lowered
-  pub callee_visited : (routine : Routine) (environment : Environment) (numbers : Numbers) →
-      IsFramed environment numbers → (w : Where) (name : Name) (actuals : Exprs)
-      (scalar target line : ℕ) (entry : Entry) (next : Next) →
-      (is : IsCalling setup (scope_of program routine) environment numbers
-      (IsGood program routine) w name actuals) → (callee : IsCallee name is.proper.signature) →
-      (let calling = calling_of w name actuals scalar target line in
-      IsVisited setup
-      (place_at (where_in setup callee.routine calling
-      (body_frames setup entry callee.routine calling next).frame) 0 is.currents None)
-      callee.routine.procedure.body
-      × (given_copies (formal_names callee.routine.procedure.params) calling.actuals ≡
-      sum_by param_arrays callee.routine.procedure.params))
-  callee_visited routine environment numbers framed w name actuals scalar target line entry next is
-      callee =
-      let place : Place = place_at w is.result is.currents is.edge in
-      let formals : List Formal = formals_in (kind_of w.scope name) in
-      let calling : Calling = calling_of w name actuals scalar target line in
-      let store : Store = blank w.numbers in
-      let values : List ℤ = map (λ placed. pos 0) (values_taken place formals actuals) in
-      let many : length values ≡ length (values_taken place formals actuals) =
-      length-map (values_taken place formals actuals) (λ placed. pos 0) in
-      let taken : AreProperActuals place formals actuals =
-      subst (λ kind. AreProperActuals place (formals_in kind) actuals) (sym is.proper.called)
-      is.proper.taken in
-      let below : AreBelow (length w.numbers.arrays) w.environment.names =
-      subst (λ (n : Numbers). AreBelow (length n.arrays) w.environment.names)
-      (sym is.within.numbers_are)
-      (subst (λ (e : Environment). AreBelow (length numbers.arrays) e.names)
-      (sym is.within.names_are) framed.below) in
-      let handed : List Handed = handed_on w.environment store formals actuals values in
-      let alike : AreAlike (given_to w scalar formals actuals) handed =
-      givens_alike w is.result is.currents is.edge store below scalar formals actuals values taken
-      many in
-      let are : AreHanded formals handed =
-      all_handed place store formals actuals values taken many in
-      let params = formal_names callee.routine.procedure.params in
-      let signed : formals ≡ formals_of (head_scope callee.of.earlier callee.routine.procedure)
-      callee.routine.procedure.params =
-      ap formals_in is.proper.called ∙ ap (λ (s : Signature). s.formals) callee.of.signed in
-      let scope = head_scope callee.of.earlier callee.routine.procedure in
-      let first : Framed = record { names = []; numbers = w.numbers } in
-      let start : Frame = record { names = []; store = store } in
-      let given = given_frames entry.line params (given_to w scalar formals actuals) first next in
-      let frames = body_frames setup entry callee.routine calling next in
-      let agrees : Agrees frames.frame (entered setup callee.routine handed store) =
-      locals_agree setup entry callee.routine.procedure.locals given.frame
-      (with_formals start params handed) given.next
-      (formals_agree entry.line params (given_to w scalar formals actuals) handed first start next
-      alike (record {
-        names = refl;
-        scalars = sym (length-map w.numbers.scalars (λ scalar. pos 0));
-        arrays = sym (length-map w.numbers.arrays
-            (λ stored. array_of stored.storage (λ t. pos 0)));
-      })) in (
-        subst (λ (names : Names). IsVisited setup (record {
-          setup = setup;
-          scope = scope_of program callee.routine;
-          environment = record { names = names ++ setup.globals };
-          result = 0;
-          prefix = Some 0;
-          currents = is.currents;
-          edge = None;
-        }) callee.routine.procedure.body) (sym agrees.names)
-        (Calls is.start place is.at is.prefixes is.form name actuals values store store 0
-        callee.routine is.visited is.under is.is many callee.named),
-        count_alike formals (given_to w scalar formals actuals) handed params
-            (as_many scope callee.routine.procedure.params ∙ ap length (sym signed)) are alike
-            ∙ ap array_copies signed ∙ params_copies scope callee.routine.procedure.params,
-      )
-
   pub all_calls : (depth : ℕ) → AllCalls depth
   all_calls zero routine member environment numbers framed inside w name actuals scalar target line
       next is = record {
@@ -357,22 +363,36 @@ module _ (program : Program) (settings : List Setting) (grammar : IsProgram prog
       let scoped : kind_of (scope_of program routine) name ≡
       Some (kind.Procedure is.proper.signature) =
       ap (λ (s : Scope). kind_of s name) (sym is.within.scope_is) ∙ is.proper.called in
-      let callee : IsCallee name is.proper.signature =
-      callee_of routine member name is.proper.signature scoped in
+      let callee : IsCallee program name is.proper.signature =
+      callee_of program grammar routine member name is.proper.signature scoped in
       let entry : Entry = record { clears = true; line = line } in
       let formals : List Formal = formals_in (kind_of w.scope name) in
       let after : Next = in_call (reads_round program callee.routine) next in
-      let facts = callee_visited routine environment numbers framed w name actuals scalar target
-      line entry after is callee in
+      let from : IsCallFrom setup w name actuals = record {
+        result = is.result;
+        currents = is.currents;
+        edge = is.edge;
+        start = is.start;
+        at = is.at;
+        prefixes = is.prefixes;
+        form = is.form;
+        visited = is.visited;
+        under = is.under;
+        is = is.is;
+        proper = is.proper;
+      } in
       let numbers_here = is.within.numbers_are in
       let fine : AllFine Fine w.numbers =
       subst (AllFine Fine) (sym numbers_here) (kept routine environment numbers inside) in
-      let behind : bottom ≤ length w.numbers.arrays =
-      subst (λ (n : Numbers). bottom ≤ length n.arrays) (sym numbers_here) framed.behind in
-      let below : AreBelow (length w.numbers.arrays) w.environment.names =
-      subst (λ (n : Numbers). AreBelow (length n.arrays) w.environment.names) (sym numbers_here)
-      (subst (λ (e : Environment). AreBelow (length numbers.arrays) e.names)
+      let behind : AllBelow (length w.numbers.arrays) (record { names = setup.globals }) =
+      subst (λ (n : Numbers). AllBelow (length n.arrays) (record { names = setup.globals }))
+      (sym numbers_here) framed.globals in
+      let below : AllBelow (length w.numbers.arrays) w.environment =
+      subst (λ (n : Numbers). AllBelow (length n.arrays) w.environment) (sym numbers_here)
+      (subst (λ (e : Environment). AllBelow (length numbers.arrays) e)
       (sym is.within.names_are) framed.below) in
+      let facts = callee_visited setup w name actuals scalar target line entry after below from
+      callee in
       let body = body_code setup entry (call_code setup depth) callee.routine calling after in
       let made = subst (λ (found : Option Routine).
       IsMadeCall Fine (λ text. down program own_arrays (suc depth) found)

@@ -1,6 +1,7 @@
 -- What all code of a program has of its own: calls down a chain of procedures.
 use Rattle.std.proofs.Common.{◌≡◌, ℕ, zero, suc, ◌+◌, ◌≤◌, Bool, true, false, ℤ, pos, List, [], ◌∷◌, ◌++◌, map, length, refl, sym, ap, ◌∙◌, subst, arith, cond, length-append, rules}
-use Rattle.std.specs.Prelude.{Option, Some, None, option_map, slice_get}
+use Rattle.std.specs.Prelude.{Option, Some, None, option_map, find, slice_get}
+use Rattle.std.specs.Str.{bytes_eq}
 use Rattle.std.specs.List.{flat_map, filter_map, cons_option, sum_by}
 use Rattle.std.proofs.lemmas.List.Sums.{sum_by-cons}
 use Rattle.zpl_region.specs.declared.regions.Region.{Region}
@@ -44,7 +45,7 @@ use Rattle.lowering_fits.proofs.TallyLemmas.{round, called, tally, reads_are}
 use Rattle.lowering_fits.proofs.MadeLemmas.{AllOf, all_of_both}
 use Rattle.lowering_fits.proofs.MadeAssignLemmas.{IsWithin, IsCalling, IsMadeCall}
 use Rattle.lowering_fits.proofs.MadeStatementLemmas.{body_made}
-use Rattle.lowering_fits.proofs.NamedLemmas.{IsBelow, AreBelow, names_below, both_below, OptBelow, actual_below, there_is, AreAlike, givens_alike, Agrees, formals_agree, locals_agree}
+use Rattle.lowering_fits.proofs.NamedLemmas.{IsBelow, AreBelow, AllBelow, names_below, both_below, OptBelow, actual_below, there_is, AreAlike, givens_alike, Agrees, formals_agree, locals_agree}
 use Rattle.lowering_fits.proofs.MadeFrameLemmas.{IsMadeMore, given_copies, AreFine, FineVars, more_made, givens_more, locals_more, array_copies, count_alike, params_copies, as_many}
 
 -- ---- numbers of calls
@@ -187,6 +188,26 @@ locals_have few setup entry (var ∷ vars) frame next has =
     locals_have few setup entry vars one.frame one.next
     (names_have few setup entry var.shape var.names frame next has)
 
+-- ---- names in reach of a body: its own, and the global ones
+
+opt_more : (few more : ℕ) (thing : Option Thing) → few ≤ more → OptBelow few thing →
+    OptBelow more thing
+opt_more few more None less is = tt
+opt_more few more (Some thing) less is = below_more few more thing less is
+
+pub body_below : (few more : ℕ) (names globals : Names) → few ≤ more → AreBelow more names →
+    AllBelow few (record { names = globals }) → AllBelow more (record { names = names ++ globals })
+body_below few more [] globals less own others text =
+    opt_more few more (thing_of (record { names = globals }) text) less (others text)
+body_below few more (entry ∷ names) globals less own others text =
+    by (bytes_eq entry.0 text) (body_below few more names globals less own.1 others text)
+  where
+    by : (b : Bool) → OptBelow more (thing_of (record { names = names ++ globals }) text) →
+        OptBelow more (option_map (λ entry. entry.1)
+        (cond b (Some entry) (find (λ entry. bytes_eq entry.0 text) (names ++ globals))))
+    by true later = own.0
+    by false later = later
+
 -- ---- what parameters take
 
 referring_below : (arrays : ℕ) (thing : Option Thing) (rest : List Given) → OptBelow arrays thing →
@@ -220,7 +241,7 @@ copying_below arrays numbers (Some (ArrayAt place home)) rest are =
     by None = are
     by (Some stored) = are
 
-pub givens_below : (arrays : ℕ) (w : Where) → AreBelow arrays w.environment.names → (scalar : ℕ)
+pub givens_below : (arrays : ℕ) (w : Where) → AllBelow arrays w.environment → (scalar : ℕ)
     (formals : List Formal) (actuals : Exprs) → GivensBelow arrays (given_to w scalar formals actuals)
 givens_below arrays w below scalar [] actuals = tt
 givens_below arrays w below scalar (formal ∷ formals) NoExpr = tt

@@ -47,7 +47,7 @@ use Rattle.lowering_fits.proofs.TallyLemmas.{round, called, tally, reads_are}
 use Rattle.lowering_fits.proofs.MadeLemmas.{AllOf, all_of_both}
 use Rattle.lowering_fits.proofs.MadeAssignLemmas.{IsWithin, IsCalling, IsMadeCall}
 use Rattle.lowering_fits.proofs.MadeStatementLemmas.{body_made}
-use Rattle.lowering_fits.proofs.NamedLemmas.{IsBelow, AreBelow, names_below, both_below, OptBelow, actual_below, there_is, AreAlike, givens_alike, Agrees, formals_agree, locals_agree}
+use Rattle.lowering_fits.proofs.NamedLemmas.{IsBelow, AreBelow, AllBelow, found_below, names_below, both_below, OptBelow, actual_below, there_is, AreAlike, givens_alike, Agrees, formals_agree, locals_agree}
 use Rattle.lowering_fits.proofs.MadeFrameLemmas.{IsMadeMore, given_copies, AreFine, FineVars, more_made, givens_more, locals_more, array_copies, count_alike, params_copies, as_many}
 use Rattle.lowering_fits.proofs.MadeProgramLemmas.{down, by_name, calls_sum, HasNames, GivensBelow, givens_have, locals_have, givens_below, AllFine, givens_fine}
 use Rattle.zpl_tree.specs.Syntax.{Base, Param, Define, Decl, Config, Constant, Regions, Directions, Vars, Defined}
@@ -235,7 +235,6 @@ no_copies_given (name ∷ names) = refl
 
 module _ (program : Program) (settings : List Setting) (grammar : IsProgram program)
     (clean : IsFaultless program) (right : AreRight (first_setup program settings))
-    (bottom : ℕ) (globals_below : AreBelow bottom (first_setup program settings).globals)
     (Fine : Region → Type 0) (Inside : Routine → Environment → Numbers → Type 0)
     (kept : (routine : Routine) (environment : Environment) (numbers : Numbers) →
     Inside routine environment numbers → AllFine Fine numbers)
@@ -266,7 +265,7 @@ module _ (program : Program) (settings : List Setting) (grammar : IsProgram prog
 
   -- what the entry procedure has, down a chain of so many
   pub entry_made : (depth : ℕ) (entry : Routine) → entry_of program ≡ Some entry →
-      bottom ≤ length frame.store.arrays → (next : Next) →
+      (next : Next) →
       (let after = in_call (reads_round program entry) next in
       let inner = (body_frames setup (record { clears = false; line = 0 }) entry
       (entry_calling program frame) after).frame in
@@ -274,7 +273,7 @@ module _ (program : Program) (settings : List Setting) (grammar : IsProgram prog
       IsMadeCall Fine (λ text. down program own_arrays (suc depth) (Some entry))
       (λ text. down program (reads_round program) (suc depth) (Some entry)) program.name
       (entry_code setup (suc depth) (entry_calling program frame) next))
-  entry_made depth entry is behind next inside =
+  entry_made depth entry is next inside =
       let calling : Calling = entry_calling program frame in
       let how : Entry = record { clears = false; line = 0 } in
       let after : Next = in_call (reads_round program entry) next in
@@ -307,12 +306,15 @@ module _ (program : Program) (settings : List Setting) (grammar : IsProgram prog
       IsMadeCall Fine (λ text. down program own_arrays (suc depth) (Some entry))
       (λ text. down program (reads_round program) (suc depth) (Some entry)) program.name
       (routine_code setup false (call_code setup depth) found calling next)) (sym is)
-      (out_made program settings grammar clean right bottom globals_below Fine Inside kept reads vars enters depth entry member body
-      (body_more program settings grammar clean right bottom globals_below Fine Inside kept reads vars enters depth (all_calls program settings grammar clean right bottom globals_below Fine Inside kept reads vars enters depth) how entry member calling after 0 no_currents None
+      (out_made program settings grammar clean right Fine Inside kept reads vars enters depth entry member body
+      (body_more program settings grammar clean right Fine Inside kept reads vars enters depth (all_calls program settings grammar clean right Fine Inside kept reads vars enters depth) how entry member calling after 0 no_currents None
       tt
       (no_copies_given params
       ∙ ap (λ ps. sum_by param_arrays ps) (sym (entry_is_bare program clean entry is))) tt
-      (omega (arith, behind, arrays)) inside visited) program.name)
+      (λ text. subst (λ n. OptBelow n (thing_of (record { names = setup.globals }) text))
+      (sym arrays) (found_below (length frame.store.arrays) frame.names text
+      (globals_are_below program (known_of program settings) (borders_of program)))) inside
+      visited) program.name)
 
   -- ---- the whole program
 
@@ -323,7 +325,6 @@ module _ (program : Program) (settings : List Setting) (grammar : IsProgram prog
 
   pub whole_made : ((own : Routine → ℕ) → expanded_of program own ≡
       sum_by (λ instance. own instance.routine) (instances_of program)) →
-      bottom ≤ length frame.store.arrays →
       AllOf Fine (map (λ array. array.storage) frame.store.arrays) →
       ((entry : Routine) → entry_of program ≡ Some entry → (next : Next) →
       (let inner = (body_frames setup (record { clears = false; line = 0 }) entry
@@ -331,12 +332,12 @@ module _ (program : Program) (settings : List Setting) (grammar : IsProgram prog
       Inside entry (record { names = inner.names ++ setup.globals }) inner.numbers)) →
       IsWholeMade (lowered_program program settings)
   unfolding entry_is_there longest_chain
-  whole_made sums behind fine begins =
+  whole_made sums fine begins =
       let found = entry_is_there program clean in
       let entry = found.0 in
       let made = globals_made (known_of program settings) frame in
       let next = behind_of (first_next program) made in
-      let is = entry_made 31 entry found.1 behind next
+      let is = entry_made 31 entry found.1 next
       (begins entry found.1 (in_call (reads_round program entry) next)) in
       let code = entry_code setup longest_chain (entry_calling program frame) next in
       let storages = map (λ array. array.storage) frame.store.arrays in

@@ -49,7 +49,7 @@ abbrev pub OptBelow : ℕ → Option Thing → Type 0
 OptBelow arrays None = Unit {0}
 OptBelow arrays (Some thing) = IsBelow arrays thing
 
-found_below : (arrays : ℕ) (names : Names) (text : List ℕ) → AreBelow arrays names →
+pub found_below : (arrays : ℕ) (names : Names) (text : List ℕ) → AreBelow arrays names →
     OptBelow arrays
     (option_map (λ entry. entry.1) (find (λ entry. bytes_eq entry.0 text) names))
 found_below arrays [] text are = tt
@@ -63,10 +63,14 @@ found_below arrays (entry ∷ names) text are =
     by true later = are.0
     by false later = later
 
+-- whatever name is looked up
+abbrev pub AllBelow : ℕ → Environment → Type 0
+AllBelow arrays environment = (text : List ℕ) → OptBelow arrays (thing_of environment text)
+
 pub actual_below : (arrays : ℕ) (environment : Environment) (actual : Expr) →
-    AreBelow arrays environment.names → OptBelow arrays (actual_thing environment actual)
+    AllBelow arrays environment → OptBelow arrays (actual_thing environment actual)
 actual_below arrays environment (Named at name) are =
-    found_below arrays environment.names name.text are
+    are name.text
 actual_below arrays environment (Number at value) are = tt
 actual_below arrays environment (Truth at value) are = tt
 actual_below arrays environment (Coord at k) are = tt
@@ -123,7 +127,7 @@ copied_is numbers place home = by (slice_get numbers.arrays place) refl
 
 -- what takes a value has one
 pub givens_alike : (w : Where) (result : ℕ) (currents : Currents) (edge : Option Edge)
-    (store : Store) → AreBelow (length w.numbers.arrays) w.environment.names → (scalar : ℕ)
+    (store : Store) → AllBelow (length w.numbers.arrays) w.environment → (scalar : ℕ)
     (formals : List Formal) (actuals : Exprs) (values : List ℤ) →
     AreProperActuals (place_at w result currents edge) formals actuals →
     length values ≡ length (values_taken (place_at w result currents edge) formals actuals) →

@@ -18,7 +18,7 @@ use Rattle.lowering_fits.specs.Whole.{IsNumbered}
 use Rattle.lowering_fits.proofs.PartLemmas.{AreRight}
 use Rattle.lowering_fits.proofs.MadeLemmas.{AllOf}
 use Rattle.lowering_fits.proofs.MadeFrameLemmas.{FineBox, FineVars}
-use Rattle.lowering_fits.proofs.MadeWholeLemmas.{globals_are_below, whole_made}
+use Rattle.lowering_fits.proofs.MadeWholeLemmas.{whole_made}
 
 any_all : (storages : List Region) → AllOf (λ storage. Unit {0}) storages
 any_all [] = tt
@@ -40,13 +40,12 @@ pub all_numbered : (program : Program) (settings : List Setting) → IsProgram p
 all_numbered program settings grammar clean right sums =
     let setup = first_setup program settings in
     let frame = first_frame program (known_of program settings) (borders_of program) in
-    let made = whole_made program settings grammar clean right (length frame.store.arrays)
-    (globals_are_below program (known_of program settings) (borders_of program))
+    let made = whole_made program settings grammar clean right
     (λ storage. Unit {0}) (λ routine environment numbers. Unit {0})
     (λ routine environment numbers inside place stored is. tt)
     (λ routine environment numbers inside reach rank at name shift place home there is. tt)
     (λ routine member. any_vars setup routine.procedure.locals)
     (λ routine environment numbers inside w name actuals is callee named scalar target line entry
-    next. tt) sums (omega arith)
+    next. tt) sums
     (any_all (map (λ array. array.storage) frame.store.arrays)) (λ entry is next. tt) in
     made.numbered

@@ -19,8 +19,8 @@ use Rattle.node_form.specs.declared.tables.Tables.{Tables}
 use Rattle.zpl_lowering.specs.Where.{Stored, Numbers, Where}
 use Rattle.zpl_lowering.specs.Statement.{Given, Copied, Referring, referring, copying, given_to}
 use Rattle.lowering_fits.specs.Slates.{AllBelow, FitNumbers}
-use Rattle.lowering_fits.specs.Reach.{place_at, IsStoredAs, FitsName, FitNames, FitScalars, IsReach}
-use Rattle.lowering_fits.proofs.KeptLemmas.{IsKept, AreKept, IsBoth, named_thing, kept_found, IsGivenOf, AreGivenOf}
+use Rattle.lowering_fits.specs.Reach.{place_at, IsStoredAs, FitsName, FitNames, FitScalars, IsKept, named_thing, AreGlobals, IsReach}
+use Rattle.lowering_fits.proofs.KeptLemmas.{AreKept, IsBoth, kept_found, IsGivenOf, AreGivenOf}
 
 -- ---- names of lists, one behind the other
 
@@ -57,14 +57,6 @@ scalar_kept_as numbers (kind.Constant base) place is = absurd is
 scalar_kept_as numbers (kind.Region shape) place is = absurd is
 scalar_kept_as numbers (kind.Direction rank) place is = absurd is
 scalar_kept_as numbers (kind.Procedure signature) place is = absurd is
-
--- ---- global names
-
--- each stands for what is of its kind
-abbrev pub AreGlobals : Program → Numbers → Names → Type 0
-AreGlobals program numbers globals =
-    (text : List ℕ) (thing : Thing) → named_thing globals text ≡ Some thing →
-    (one : Kind) × (kind_in (globals_of program) text ≡ Some one) × IsKept numbers one thing
 
 -- a kind that a name has, and a thing of the kind
 record IsNamedAs (program : Program) (routine : Routine) (numbers : Numbers) (name : Name)

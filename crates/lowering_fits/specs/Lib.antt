@@ -1,5 +1,6 @@
 pub mod Inline
 pub mod Slates
+pub mod Storages
 pub mod Reach
 pub mod Lowerings
 pub mod Standing

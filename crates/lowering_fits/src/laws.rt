@@ -36,8 +36,9 @@ ghost use Rattle.lowering_fits.specs.Reach.{FitsKnown, IsBox, place_at};
 ghost use Rattle.lowering_fits.specs.Slates.{FitNumbers, FitsHoist, FitsSlate, FitsTree, IsPlaced};
 ghost use Rattle.lowering_fits.specs.Slates.{SlotsAt};
 ghost use Rattle.lowering_fits.specs.Standing.{CallsFit, IsStanding};
-ghost use Rattle.lowering_fits.specs.Whole.{AllKept, AllStorages, AllVars, FitsGivens, IsNumbered};
-ghost use Rattle.lowering_fits.specs.Whole.{IsStorage, body_frames};
+ghost use Rattle.lowering_fits.specs.Storages.{AllKept, AllStorages, IsStorage};
+ghost use Rattle.lowering_fits.specs.Whole.{AllVars, FitsGivens, IsNumbered};
+ghost use Rattle.lowering_fits.specs.Whole.{body_frames};
 
 use meaning_ranks::ranks_agree;
 use zpl_meaning::{no_stand_in_is_met, what_is_computed_has_a_value};
@@ -130,7 +131,8 @@ pub fn bodies_fit()
         (let setup = first_setup program settings in
         let last = body_frames setup entry routine calling next in
         let w = where_in setup routine calling last.frame in
-        IsStanding tables setup answers w currents →
+        (FitNumbers tables last.frame.numbers → AllKept last.frame.numbers.arrays →
+        IsStanding tables setup answers w currents) →
         IsVisited setup (place_at w result currents edge) routine.procedure.body →
         IsSoundStmt w.scope answers routine.procedure.body →
         IsLaidOut tables next (body_code setup entry call routine calling next) →
