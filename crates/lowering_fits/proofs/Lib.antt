@@ -35,3 +35,4 @@ pub mod MadeWholeLemmas
 pub mod NumberedLemmas
 pub mod KeptLemmas
 pub mod ReachLemmas
+pub mod CallsFitLemmas

@@ -20,7 +20,7 @@ use Rattle.lowering_fits.proofs.MadeLemmas.{AllOf}
 use Rattle.lowering_fits.proofs.MadeFrameLemmas.{FineBox, FineVars}
 use Rattle.lowering_fits.proofs.MadeWholeLemmas.{whole_made}
 
-any_all : (storages : List Region) → AllOf (λ storage. Unit {0}) storages
+pub any_all : (storages : List Region) → AllOf (λ storage. Unit {0}) storages
 any_all [] = tt
 any_all (storage ∷ storages) = (tt, any_all storages)
 
@@ -28,7 +28,7 @@ any_box : (setup : Setup) (shape : Bracket) → FineBox (λ storage. Unit {0}) s
 any_box setup NoBracket = tt
 any_box setup (Bracketed inner) = tt
 
-any_vars : (setup : Setup) (vars : List VarDef) → FineVars (λ storage. Unit {0}) setup vars
+pub any_vars : (setup : Setup) (vars : List VarDef) → FineVars (λ storage. Unit {0}) setup vars
 any_vars setup [] = tt
 any_vars setup (var ∷ vars) = (any_box setup var.shape, any_vars setup vars)
 
