@@ -38,6 +38,7 @@ use Rattle.zpl_lowering.specs.Statement.{Given, Valued, Copied, Referring, refer
 use Rattle.zpl_lowering.specs.Program.{Framed, Entry as CallEntry, where_in, body_code, reads_round, in_call, out_of_call, routine_code, call_code}
 use Rattle.lowering_fits.specs.Slates.{StoragesAt, AllStored, FitNumbers, HasStorage, IsMaskOf, FitsOver}
 use Rattle.lowering_fits.specs.Storages.{IsStorage, AllKept}
+use Rattle.lowering_fits.specs.Declarations.{FitAllDeclared}
 use Rattle.lowering_fits.specs.Reach.{place_at, FitsName, FitNames, FitsKnown, FitsCurrent, FitCurrents, IsKept, named_thing, AreGlobals, IsReach}
 use Rattle.lowering_fits.specs.Lowerings.{IsLaidOut, FitsLowered, IsSoundStmt, answering}
 use Rattle.lowering_fits.specs.Standing.{HasAnswer, calling_of, IsCalled, CallsFit, IsStanding}
@@ -53,7 +54,7 @@ use Rattle.lowering_fits.proofs.NamedLemmas.{OptBelow, AllBelow}
 use Rattle.lowering_fits.proofs.MadeProgramLemmas.{givens_below, givens_fine}
 use Rattle.lowering_fits.proofs.MadeCallLemmas.{IsCallee, callee_of, IsCallFrom, callee_visited, body_more, all_calls}
 use Rattle.lowering_fits.proofs.NumberedLemmas.{any_vars}
-use Rattle.lowering_fits.proofs.KeptLemmas.{Grows, grows_none, some_grows, kept_grows, AreKept, Nothing, AreDeclaredRight, HasKept, AreGivenOf, formals_kept, locals_kept}
+use Rattle.lowering_fits.proofs.KeptLemmas.{Grows, grows_none, some_grows, kept_grows, AreKept, Nothing, HasKept, AreGivenOf, formals_kept, locals_kept}
 use Rattle.lowering_fits.proofs.ReachLemmas.{names_fit, scalars_fit, givens_of}
 
 -- ---- current regions, where numbers grow
@@ -271,7 +272,7 @@ module _ (program : Program) (settings : List Setting) (laws : Laws program)
     FitsKnown tables (first_setup program settings).known (scope_of program routine))
     (declared : (routine : Routine) → Among (routines_of program) routine →
     (earlier : List Entry) → routine.own ≡ own_entries earlier routine.procedure →
-    AreDeclaredRight (first_setup program settings) (head_scope earlier routine.procedure)
+    FitAllDeclared (first_setup program settings) (head_scope earlier routine.procedure)
     routine.procedure.locals)
     (vars : (routine : Routine) → Among (routines_of program) routine →
     AllVars (first_setup program settings) routine.procedure.locals) where

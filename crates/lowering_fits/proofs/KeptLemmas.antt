@@ -23,6 +23,7 @@ use Rattle.zpl_lowering.specs.Where.{Stored, Numbers, Next}
 use Rattle.zpl_lowering.specs.Statement.{Given, Valued, Copied, Referring}
 use Rattle.zpl_lowering.specs.Program.{Framed, with_scalar, with_array, Entry as CallEntry}
 use Rattle.lowering_fits.specs.Reach.{IsStoredAs, FitsName, IsKept, named_thing}
+use Rattle.lowering_fits.specs.Declarations.{FitsDeclared, FitAllDeclared}
 use Rattle.lowering_fits.specs.Whole.{given_frame, given_frames, local_frame, name_frames, local_frames}
 
 -- ---- numbers that grow
@@ -338,22 +339,8 @@ formals_kept few line (param ∷ params) scope frame next xs givens are has =
 
 -- ---- local variables
 
--- the storage and the home box of a declared array are as the text says
-abbrev pub IsDeclaredRight : Setup → Scope → Bracket → Type 0
-IsDeclaredRight setup scope NoBracket = Unit {0}
-IsDeclaredRight setup scope (Bracketed inner) =
-    let shape = declared_shape scope inner in
-    let home = home_box setup.known inner in
-    IsStoredAs shape (record { array = 0; storage = storage_box setup.known setup.borders inner })
-    × FitsRegion home × (option_map length shape ≡ Some home.rank)
-
-abbrev pub AreDeclaredRight : Setup → Scope → List VarDef → Type 0
-AreDeclaredRight setup scope [] = Unit {0}
-AreDeclaredRight setup scope (var ∷ vars) =
-    IsDeclaredRight setup scope var.shape × AreDeclaredRight setup scope vars
-
 names_kept : (few : Numbers) (setup : Setup) (entry : CallEntry) (scope : Scope)
-    (shape : Bracket) (base : Base) → IsDeclaredRight setup scope shape → (names : List Name)
+    (shape : Bracket) (base : Base) → FitsDeclared setup scope shape → (names : List Name)
     (frame : Framed) (next : Next) (xs : List Entry) → HasKept few xs frame →
     HasKept few (xs ++ map (entry_for (variable_kind scope shape base)) names)
     (name_frames setup entry shape names frame next).frame
@@ -382,7 +369,7 @@ names_kept few setup entry scope (Bracketed region) base right (name ∷ names) 
     }) (record { rank = right.0.rank; ranges = right.0.ranges }) right.1 right.2 has))
 
 pub locals_kept : (few : Numbers) (setup : Setup) (entry : CallEntry) (scope : Scope)
-    (vars : List VarDef) → AreDeclaredRight setup scope vars → (frame : Framed) (next : Next)
+    (vars : List VarDef) → FitAllDeclared setup scope vars → (frame : Framed) (next : Next)
     (xs : List Entry) → HasKept few xs frame →
     HasKept few (xs ++ flat_map
     (λ var. map (entry_for (variable_kind scope var.shape var.base)) var.names) vars)

@@ -36,3 +36,4 @@ pub mod NumberedLemmas
 pub mod KeptLemmas
 pub mod ReachLemmas
 pub mod CallsFitLemmas
+pub mod GlobalsLemmas

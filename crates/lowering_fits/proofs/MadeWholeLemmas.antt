@@ -216,6 +216,22 @@ entry_is_bare program clean entry is =
     (no_place (not (is_entry (entry_of program))) program.name.at
     (none_there (no_entry program) (λ at c. clean NoEntry at c))))
 
+no_result : (params : List Param) (result : Option Base) → bare params result ≡ true →
+    result ≡ None
+no_result [] None is = refl
+no_result [] (Some base) is = let no : ⊥ = cc in absurd no
+no_result (param ∷ params) None is = let no : ⊥ = cc in absurd no
+no_result (param ∷ params) (Some base) is = let no : ⊥ = cc in absurd no
+
+pub entry_has_no_result : (program : Program) → IsFaultless program → (entry : Routine) →
+    entry_of program ≡ Some entry → entry.procedure.result ≡ None
+entry_has_no_result program clean entry is =
+    no_result entry.procedure.params entry.procedure.result
+    (ap is_entry (sym is)
+    ∙ not_false (is_entry (entry_of program))
+    (no_place (not (is_entry (entry_of program))) program.name.at
+    (none_there (no_entry program) (λ at c. clean NoEntry at c))))
+
 pub entry_is_there : (program : Program) → IsFaultless program →
     (entry : Routine) × (entry_of program ≡ Some entry)
 entry_is_there program clean =
@@ -263,36 +279,31 @@ module _ (program : Program) (settings : List Setting) (grammar : IsProgram prog
   abbrev frame : Frame
   frame = first_frame program (known_of program settings) (borders_of program)
 
-  -- what the entry procedure has, down a chain of so many
-  pub entry_made : (depth : ℕ) (entry : Routine) → entry_of program ≡ Some entry →
-      (next : Next) →
-      (let after = in_call (reads_round program entry) next in
-      let inner = (body_frames setup (record { clears = false; line = 0 }) entry
-      (entry_calling program frame) after).frame in
-      Inside entry (record { names = inner.names ++ setup.globals }) inner.numbers →
-      IsMadeCall Fine (λ text. down program own_arrays (suc depth) (Some entry))
-      (λ text. down program (reads_round program) (suc depth) (Some entry)) program.name
-      (entry_code setup (suc depth) (entry_calling program frame) next))
-  entry_made depth entry is next inside =
-      let calling : Calling = entry_calling program frame in
+  abbrev entry_frame : Routine → Next → Framed
+  entry_frame entry after =
+      (body_frames setup (record { clears = false; line = 0 }) entry (entry_calling program frame)
+      after).frame
+
+  -- its body is visited where it is lowered
+  pub entry_visited : (entry : Routine) → entry_of program ≡ Some entry → (after : Next) →
+      IsVisited setup (place_at (where_in setup entry (entry_calling program frame)
+      (entry_frame entry after)) 0 no_currents None) entry.procedure.body
+  entry_visited entry is after =
       let how : Entry = record { clears = false; line = 0 } in
-      let after : Next = in_call (reads_round program entry) next in
-      let member : Among (routines_of program) entry =
-      find_among (λ routine. bytes_eq routine.procedure.name.text program.name.text)
-      (routines_of program) entry is in
       let params = formal_names entry.procedure.params in
       let first : Framed = record { names = []; numbers = global_numbers frame } in
       let start : Frame = record { names = []; store = frame.store } in
       let given = given_frames 0 params [] first after in
-      let frames = body_frames setup how entry calling after in
-      let scalars = scalars_many 0 frame.store.scalars in
-      let arrays = arrays_many 0 frame.store.arrays in
-      let agrees : Agrees frames.frame (entered setup entry [] frame.store) =
+      let agrees : Agrees (entry_frame entry after) (entered setup entry [] frame.store) =
       locals_agree setup how entry.procedure.locals given.frame (with_formals start params [])
       given.next
       (formals_agree 0 params [] [] first start after tt
-      (record { names = refl; scalars = scalars; arrays = arrays })) in
-      let visited = subst (λ (names : Names). IsVisited setup (record {
+      (record {
+        names = refl;
+        scalars = scalars_many 0 frame.store.scalars;
+        arrays = arrays_many 0 frame.store.arrays;
+      })) in
+      subst (λ (names : Names). IsVisited setup (record {
         setup = setup;
         scope = scope_of program entry;
         environment = record { names = names ++ setup.globals };
@@ -300,21 +311,55 @@ module _ (program : Program) (settings : List Setting) (grammar : IsProgram prog
         prefix = Some 0;
         currents = no_currents;
         edge = None;
-      }) entry.procedure.body) (sym agrees.names) (Begins entry frame.store is) in
-      let body = body_code setup how (call_code setup depth) entry calling after in
+      }) entry.procedure.body) (sym agrees.names) (Begins entry frame.store is)
+
+  pub entry_more : (depth : ℕ) (entry : Routine) → entry_of program ≡ Some entry →
+      (after : Next) →
+      (let inner = entry_frame entry after in
+      Inside entry (record { names = inner.names ++ setup.globals }) inner.numbers) →
+      IsMadeMore Fine (by_name program own_arrays depth)
+      (by_name program (reads_round program) depth) (own_arrays entry)
+      (routine_sites program unknown_shapes entry)
+      (body_code setup (record { clears = false; line = 0 }) (call_code setup depth) entry
+      (entry_calling program frame) after)
+  entry_more depth entry is after inside =
+      let member : Among (routines_of program) entry =
+      find_among (λ routine. bytes_eq routine.procedure.name.text program.name.text)
+      (routines_of program) entry is in
+      let params = formal_names entry.procedure.params in
+      body_more program settings grammar clean right Fine Inside kept reads vars enters depth (all_calls program settings grammar clean right Fine Inside kept reads vars enters depth) (record { clears = false; line = 0 }) entry member
+      (entry_calling program frame) after 0 no_currents None tt
+      (no_copies_given params
+      ∙ ap (λ ps. sum_by param_arrays ps) (sym (entry_is_bare program clean entry is))) tt
+      (λ text. subst (λ n. OptBelow n (thing_of (record { names = setup.globals }) text))
+      (sym (arrays_many 0 frame.store.arrays))
+      (found_below (length frame.store.arrays) frame.names text
+      (globals_are_below program (known_of program settings) (borders_of program)))) inside
+      (entry_visited entry is after)
+
+  -- what the entry procedure has, down a chain of so many
+  pub entry_made : (depth : ℕ) (entry : Routine) → entry_of program ≡ Some entry →
+      (next : Next) →
+      (let after = in_call (reads_round program entry) next in
+      let inner = entry_frame entry after in
+      Inside entry (record { names = inner.names ++ setup.globals }) inner.numbers) →
+      IsMadeCall Fine (λ text. down program own_arrays (suc depth) (Some entry))
+      (λ text. down program (reads_round program) (suc depth) (Some entry)) program.name
+      (entry_code setup (suc depth) (entry_calling program frame) next)
+  entry_made depth entry is next inside =
+      let calling : Calling = entry_calling program frame in
+      let how : Entry = record { clears = false; line = 0 } in
+      let after : Next = in_call (reads_round program entry) next in
+      let member : Among (routines_of program) entry =
+      find_among (λ routine. bytes_eq routine.procedure.name.text program.name.text)
+      (routines_of program) entry is in
       subst (λ (found : Option Routine).
       IsMadeCall Fine (λ text. down program own_arrays (suc depth) (Some entry))
       (λ text. down program (reads_round program) (suc depth) (Some entry)) program.name
       (routine_code setup false (call_code setup depth) found calling next)) (sym is)
-      (out_made program settings grammar clean right Fine Inside kept reads vars enters depth entry member body
-      (body_more program settings grammar clean right Fine Inside kept reads vars enters depth (all_calls program settings grammar clean right Fine Inside kept reads vars enters depth) how entry member calling after 0 no_currents None
-      tt
-      (no_copies_given params
-      ∙ ap (λ ps. sum_by param_arrays ps) (sym (entry_is_bare program clean entry is))) tt
-      (λ text. subst (λ n. OptBelow n (thing_of (record { names = setup.globals }) text))
-      (sym arrays) (found_below (length frame.store.arrays) frame.names text
-      (globals_are_below program (known_of program settings) (borders_of program)))) inside
-      visited) program.name)
+      (out_made program settings grammar clean right Fine Inside kept reads vars enters depth entry member
+      (body_code setup how (call_code setup depth) entry calling after)
+      (entry_more depth entry is after inside) program.name)
 
   -- ---- the whole program
 

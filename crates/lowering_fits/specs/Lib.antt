@@ -5,3 +5,4 @@ pub mod Reach
 pub mod Lowerings
 pub mod Standing
 pub mod Whole
+pub mod Declarations
