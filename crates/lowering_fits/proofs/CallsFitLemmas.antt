@@ -328,7 +328,7 @@ module _ (program : Program) (settings : List Setting) (laws : Laws program)
       }
 
   -- laid out behind the copies of what was called before
-  in_call_laid : (next : Next) (reads : ℕ) (body : Lowered) → length body.copies ≡ reads →
+  pub in_call_laid : (next : Next) (reads : ℕ) (body : Lowered) → length body.copies ≡ reads →
       IsLaidOut tables next (out_of_call body) → IsLaidOut tables (in_call reads next) body
   in_call_laid next reads body many laid = record {
     below = laid.below;
@@ -340,7 +340,7 @@ module _ (program : Program) (settings : List Setting) (laws : Laws program)
     temps_at = laid.temps_at;
   }
 
-  out_of_call_fits : (body : Lowered) → FitsLowered tables body →
+  pub out_of_call_fits : (body : Lowered) → FitsLowered tables body →
       FitsLowered tables (out_of_call body)
   out_of_call_fits body fits = record {
     code_fits = fits.code_fits;

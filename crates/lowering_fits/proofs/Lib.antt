@@ -37,3 +37,4 @@ pub mod KeptLemmas
 pub mod ReachLemmas
 pub mod CallsFitLemmas
 pub mod GlobalsLemmas
+pub mod ProgramFitLemmas

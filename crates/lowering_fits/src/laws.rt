@@ -24,7 +24,7 @@ ghost use Rattle.flat_form.specs.Row.{Row, with_rows};
 ghost use Rattle.zpl_lowering.specs.Hoist.{Free, hoisted};
 ghost use Rattle.zpl_lowering.specs.Lowered.{Lowered};
 ghost use Rattle.zpl_lowering.specs.Program.{Entry, body_code, first_next, lowered_program};
-ghost use Rattle.zpl_lowering.specs.Program.{where_in};
+ghost use Rattle.zpl_lowering.specs.Program.{call_code, where_in};
 ghost use Rattle.zpl_lowering.specs.Slate.{Slate};
 ghost use Rattle.zpl_lowering.specs.Statement.{Calling, lowered};
 ghost use Rattle.zpl_lowering.specs.Tables.{empty_tables, tables_of};
@@ -36,13 +36,17 @@ ghost use Rattle.lowering_fits.specs.Reach.{FitsKnown, IsBox, place_at};
 ghost use Rattle.lowering_fits.specs.Slates.{FitNumbers, FitsHoist, FitsSlate, FitsTree, IsPlaced};
 ghost use Rattle.lowering_fits.specs.Slates.{SlotsAt};
 ghost use Rattle.lowering_fits.specs.Standing.{CallsFit, IsStanding};
+ghost use Rattle.lowering_fits.specs.Declarations.{FitsProgram};
 ghost use Rattle.lowering_fits.specs.Storages.{AllKept, AllStorages, IsStorage};
 ghost use Rattle.lowering_fits.specs.Whole.{AllVars, FitsGivens, IsNumbered};
 ghost use Rattle.lowering_fits.specs.Whole.{body_frames};
 
 use meaning_ranks::ranks_agree;
 use zpl_meaning::{no_stand_in_is_met, what_is_computed_has_a_value};
-use zpl_names::{counts_add_up, faultless_programs_have_faultless_sites};
+use zpl_names::{
+    counts_add_up, declared_ranks_are_at_most_three, faultless_programs_have_faultless_sites,
+    faultless_programs_leave_nothing_open, procedures_are_there, ranks_are_at_most_three,
+};
 use zpl_region::tests_tell_the_facts;
 
 /// Rows that fit, laid out in tables that have only scalars, slots and arrays, make the tables of a
@@ -163,6 +167,52 @@ pub fn all_code_is_numbered()
     ranks_agree();
     no_stand_in_is_met();
     counts_add_up();
+}
+
+/// In a program of the grammar without faults, under settings that it accepts, calls fit, down any
+/// chain of procedures, where what is declared is as the text says.
+pub fn calls_fit()
+    ensures { (program : Program) (settings : List Setting) → IsProgram program →
+        IsFaultless program → IsAcceptedWith program settings → FitsProgram program settings →
+        (tables : Code) → SlotsAt tables 0 (map region_rank (known_of program settings).regions) →
+        (depth : ℕ) → CallsFit tables (first_setup program settings)
+        (call_code (first_setup program settings) depth) }
+{
+    ranks_agree();
+    no_stand_in_is_met();
+    tests_tell_the_facts();
+    what_is_computed_has_a_value();
+    counts_add_up();
+    ranks_are_at_most_three();
+    declared_ranks_are_at_most_three();
+    faultless_programs_have_faultless_sites();
+    faultless_programs_leave_nothing_open();
+    procedures_are_there();
+}
+
+/// And so does all code of the program: it makes a flat program's tables, if its storages are boxes
+/// within the limit.
+pub fn lowered_programs_fit()
+    ensures fit { (program : Program) (settings : List Setting) → IsProgram program →
+        IsFaultless program → IsAcceptedWith program settings → FitsProgram program settings →
+        (grid : List ℕ) → FitsLowered (empty_tables grid (lowered_program program settings))
+        (lowered_program program settings) }
+    ensures flat { (program : Program) (settings : List Setting) → IsProgram program →
+        IsFaultless program → IsAcceptedWith program settings → FitsProgram program settings →
+        (let lowered = lowered_program program settings in
+        AllStorages (lowered.arrays ++ (lowered.copies ++ lowered.later)) →
+        (grid : List ℕ) → IsGrid grid → IsFlat (tables_of grid lowered)) }
+{
+    ranks_agree();
+    no_stand_in_is_met();
+    tests_tell_the_facts();
+    what_is_computed_has_a_value();
+    counts_add_up();
+    ranks_are_at_most_three();
+    declared_ranks_are_at_most_three();
+    faultless_programs_have_faultless_sites();
+    faultless_programs_leave_nothing_open();
+    procedures_are_there();
 }
 
 /// The storage of a declared array, where it has one, is a box within the limit, if its rank is one
