@@ -1,11 +1,11 @@
 -- Calls fit, down a chain of procedures.
-use Rattle.std.proofs.Common.{◌≡◌, ℕ, zero, suc, ◌+◌, ◌<◌, ◌≤◌, Bool, true, false, ℤ, List, [], ◌∷◌, ◌++◌, map, length, refl, sym, ap, ◌∙◌, subst, arith, true≢false, rules}
-use Rattle.std.specs.Prelude.{Option, Some, None, slice_get, Contains}
+use Rattle.std.proofs.Common.{◌≡◌, ℕ, zero, suc, ◌+◌, ◌<◌, ◌≤◌, true, false, List, [], ◌∷◌, ◌++◌, map, length, refl, sym, ap, ◌∙◌, subst, arith, true≢false, rules}
+use Rattle.std.specs.Prelude.{Option, Some, None, slice_get}
 use Rattle.std.specs.List.{flat_map}
 use Rattle.std.specs.Option.{IsSomeAnd, is_some}
 use Rattle.zpl_region.specs.declared.regions.Region.{Region}
 use Rattle.zpl_tree.specs.Grammar.{IsProgram}
-use Rattle.zpl_tree.specs.Syntax.{Base, Name, Expr, Exprs, NoExpr, ThenExpr, Prefix, Prefixed, Form, Assign, Invoke, Block, If, While, Repeat, For, Border, Write, Return, Param, VarDef, Program}
+use Rattle.zpl_tree.specs.Syntax.{Base, Name, Exprs, NoExpr, ThenExpr, Prefix, Prefixed, Form, Assign, Invoke, Block, If, While, Repeat, For, Border, Write, Return, Param, Program}
 use Rattle.zpl_names.specs.Kinds as kind
 use Rattle.zpl_names.specs.Kinds.{Kind, Shape, Formal, ScalarFormal, ArrayFormal, Signature}
 use Rattle.zpl_names.specs.Scope.{Entry, Scope, kind_in, kind_of, is_procedure}
@@ -13,35 +13,33 @@ use Rattle.zpl_names.specs.Ranks.{array_shape}
 use Rattle.zpl_names.specs.Shapes.{Shapes, unknown_shapes, variable_kind}
 use Rattle.zpl_names.specs.Faults.{answers}
 use Rattle.zpl_names.specs.Accepted.{IsFaultless}
-use Rattle.zpl_names.specs.Declared.{Routine, IsProcedureOf, own_entries, globals_of, head_scope, entry_for, formals_of, routine_named, routines_of, scope_of}
+use Rattle.zpl_names.specs.Declared.{Routine, IsProcedureOf, own_entries, globals_of, head_scope, entry_for, routines_of, scope_of}
 use Rattle.zpl_names.specs.Expansion.{formal_names}
-use Rattle.zpl_names.specs.Reached.{IsReached, Called as Reaching, calls_at}
-use Rattle.zpl_names.specs.Sites.{Reach, CallRole, AsStatement as AsOne, AtCall, call_place, CallSite, routine_sites}
+use Rattle.zpl_names.specs.Reached.{IsReached, Called as Reaching}
+use Rattle.zpl_names.specs.Sites.{Reach, AsStatement as AsOne, call_place, routine_sites}
 use Rattle.zpl_names.proofs.ListLemmas.{Among}
 use Rattle.zpl_names.proofs.NameLemmas.{no_place}
 use Rattle.zpl_binding.specs.Settings.{Setting}
 use Rattle.zpl_meaning.specs.Store.{Thing, Scalar, ArrayAt, Fixed, Names, Environment, thing_of}
-use Rattle.zpl_meaning.specs.Context.{Mask, Over, Currents, Edge, Setup, Place}
+use Rattle.zpl_meaning.specs.Context.{Mask, Over, Currents, Setup, Place}
 use Rattle.zpl_meaning.specs.Calls.{formals_in, actual_thing}
-use Rattle.zpl_meaning.specs.Proper.{AreProperActuals, IsProperCall}
+use Rattle.zpl_meaning.specs.Proper.{AreProperActuals}
 use Rattle.zpl_meaning.specs.Visited.{IsCall, AsStatement, AsAnswer, first_setup}
-use Rattle.zpl_meaning.proofs.DepthLemmas.{Each}
-use Rattle.zpl_meaning.proofs.NamesLemmas.{IsSound, routine_sound}
+use Rattle.zpl_meaning.proofs.NamesLemmas.{routine_sound}
 use Rattle.zpl_meaning.proofs.ProperLemmas.{taken}
-use Rattle.zpl_meaning.proofs.VisitLemmas.{Laws, IsHere, Inside, InStmt, InBody, call_there}
-use Rattle.meaning_ranks.proofs.PlaceLemmas.{IsAt, inside_at, same_scope, visited_at}
-use Rattle.meaning_ranks.specs.Ranked.{IsRankedCall}
+use Rattle.zpl_meaning.proofs.VisitLemmas.{Laws, Inside, InStmt, call_there}
+use Rattle.meaning_ranks.proofs.PlaceLemmas.{inside_at, same_scope, visited_at}
 use Rattle.node_form.specs.declared.tables.Tables.{Tables}
 use Rattle.zpl_lowering.specs.Where.{Stored, Numbers, Slotted, SlotCurrents, slotted_or, Where, Next}
 use Rattle.zpl_lowering.specs.Lowered.{Lowered}
-use Rattle.zpl_lowering.specs.Statement.{Given, Valued, Copied, Referring, referring, copying, value_exprs, given_to, Calling}
+use Rattle.zpl_lowering.specs.Statement.{Given, Copied, referring, copying, value_exprs, given_to, Calling}
 use Rattle.zpl_lowering.specs.Program.{Framed, Entry as CallEntry, where_in, body_code, reads_round, in_call, out_of_call, routine_code, call_code}
-use Rattle.lowering_fits.specs.Slates.{StoragesAt, AllStored, FitNumbers, HasStorage, IsMaskOf, FitsOver}
+use Rattle.lowering_fits.specs.Slates.{StoragesAt, AllStored, FitNumbers, HasStorage, IsMaskOf}
 use Rattle.lowering_fits.specs.Storages.{IsStorage, AllKept}
 use Rattle.lowering_fits.specs.Declarations.{FitAllDeclared}
 use Rattle.lowering_fits.specs.Reach.{place_at, FitsName, FitNames, FitsKnown, FitsCurrent, FitCurrents, IsKept, named_thing, AreGlobals, IsReach}
-use Rattle.lowering_fits.specs.Lowerings.{IsLaidOut, FitsLowered, IsSoundStmt, answering}
-use Rattle.lowering_fits.specs.Standing.{HasAnswer, calling_of, IsCalled, CallsFit, IsStanding}
+use Rattle.lowering_fits.specs.Lowerings.{IsLaidOut, FitsLowered, answering}
+use Rattle.lowering_fits.specs.Standing.{HasAnswer, calling_of, CallsFit, IsStanding}
 use Rattle.lowering_fits.specs.Whole.{FitsGivens, AllVars, given_frames, body_frames}
 use Rattle.lowering_fits.proofs.PartLemmas.{AreRight}
 use Rattle.lowering_fits.proofs.BracketLemmas.{LimitsAreTold}

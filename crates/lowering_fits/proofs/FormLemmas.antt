@@ -1,5 +1,5 @@
 -- The code of all statements fits, where what they call does.
-use Rattle.std.proofs.Common.{◌≡◌, ℕ, zero, suc, ◌+◌, ◌<◌, Bool, true, false, List, [], ◌∷◌, ◌++◌, length, refl, sym, ap, ◌∙◌, subst, arith}
+use Rattle.std.proofs.Common.{◌≡◌, ℕ, suc, ◌+◌, ◌<◌, Bool, true, false, List, [], ◌∷◌, ◌++◌, length, refl, sym, ap, ◌∙◌, subst, arith}
 use Rattle.std.specs.Prelude.{Option, Some, None, slice_get, Contains}
 use Rattle.std.specs.Option.{IsSomeAnd}
 use Rattle.zpl_nums.specs.declared.operators.Op.{Op}
@@ -12,9 +12,9 @@ use Rattle.zpl_meaning.specs.Context.{Currents, Edge, Setup, Place}
 use Rattle.zpl_meaning.specs.Points.{assigned_expr}
 use Rattle.zpl_meaning.specs.Calls.{formals_in}
 use Rattle.zpl_meaning.specs.Statement.{arms_at, step_expr}
-use Rattle.zpl_meaning.specs.Proper.{HasCurrent, IsProperScalar, IsVariable, IsPlainAssign, IsProperCall, AreProperActuals, IsPointForm, AreProperTests, HasProperTests, IsProperTested, IsProperStmt, IsProperForm}
+use Rattle.zpl_meaning.specs.Proper.{HasCurrent, IsProperScalar, IsVariable, IsPlainAssign, IsProperCall, AreProperActuals, IsPointForm, AreProperTests, HasProperTests, IsProperTested, IsProperForm}
 use Rattle.zpl_meaning.specs.Visited.{IsUnder, list_of, arms_parts, else_parts, IsCall, AsStatement, AsAnswer, IsVisited, Holds}
-use Rattle.meaning_ranks.specs.Ranked.{IsRanked, IsRankedValue, AreShapedActuals, IsRankedCall, IsPointFormOf, AreRankedTests, HasRankedTests, IsRankedTested, IsRankedStmt, IsRankedForm}
+use Rattle.meaning_ranks.specs.Ranked.{IsRanked, IsRankedValue, AreShapedActuals, IsRankedCall, IsPointFormOf, AreRankedTests, HasRankedTests, IsRankedTested, IsRankedForm}
 use Rattle.node_form.specs.Expression as expr
 use Rattle.node_form.specs.Expression.{Expression, words_of}
 use Rattle.node_form.specs.declared.tables.Tables.{Tables}

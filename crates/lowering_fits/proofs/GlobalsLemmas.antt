@@ -1,6 +1,6 @@
 -- Global names: each stands for what has a number, and is of the kind that the text says.
-use Rattle.std.proofs.Common.{◌≡◌, ℕ, zero, suc, ◌+◌, ◌<◌, ◌≤◌, Bool, true, false, ℤ, pos, List, [], ◌∷◌, ◌++◌, map, length, refl, sym, ap, ◌∙◌, subst, arith, cond, Decides, length-append, append-nil, append_assoc, inl, inr}
-use Rattle.std.specs.Prelude.{Option, Some, None, option_map, find, slice_get, Contains}
+use Rattle.std.proofs.Common.{◌≡◌, ℕ, zero, suc, Bool, true, false, ℤ, pos, List, [], ◌∷◌, ◌++◌, map, length, refl, sym, ap, ◌∙◌, subst, arith, cond, Decides, length-append, append-nil, append_assoc, inl}
+use Rattle.std.specs.Prelude.{Option, Some, option_map, find, slice_get}
 use Rattle.std.specs.Option.{IsSomeAnd}
 use Rattle.std.specs.Str.{bytes_eq}
 use Rattle.std.proofs.lemmas.Slice.Eq.{bytes_eq-Decides}
@@ -22,7 +22,7 @@ use Rattle.zpl_meaning.specs.Variables.{Frame, home_box, storage_box, zero_array
 use Rattle.node_form.specs.Fits.{FitsRegion}
 use Rattle.zpl_lowering.specs.Where.{Stored, Numbers}
 use Rattle.zpl_lowering.specs.Program.{global_numbers, scalars_from, arrays_from}
-use Rattle.lowering_fits.specs.Reach.{IsStoredAs, FitsName, IsKept, named_thing, AreGlobals}
+use Rattle.lowering_fits.specs.Reach.{IsStoredAs, IsKept, named_thing, AreGlobals}
 use Rattle.lowering_fits.specs.Declarations.{FitsDeclared, FitGlobals, FitsDecl, FitDecls}
 use Rattle.lowering_fits.proofs.KeptLemmas.{Grows, kept_grows}
 

@@ -1,17 +1,15 @@
 -- Names in reach of the body of a procedure that is called: each stands for what has a number, and
 -- is of the kind that the text says.
-use Rattle.std.proofs.Common.{◌≡◌, ℕ, zero, suc, ◌+◌, ◌<◌, ◌≤◌, Bool, true, false, List, [], ◌∷◌, ◌++◌, map, length, refl, sym, ap, ◌∙◌, subst, arith, cond, length-append, append-nil, append_assoc, inl, inr}
+use Rattle.std.proofs.Common.{◌≡◌, ℕ, zero, suc, ◌≤◌, Bool, true, false, List, [], ◌∷◌, ◌++◌, map, length, refl, sym, subst, arith, cond, length-append, append-nil, append_assoc}
 use Rattle.std.specs.Prelude.{Option, Some, None, option_map, find, slice_get}
 use Rattle.std.specs.List.{flat_map}
-use Rattle.std.specs.Option.{IsSomeAnd, option_or}
+use Rattle.std.specs.Option.{IsSomeAnd}
 use Rattle.std.specs.Str.{bytes_eq}
-use Rattle.std.proofs.lemmas.Slice.Eq.{bytes_eq-Decides}
 use Rattle.zpl_region.specs.declared.regions.Region.{Region}
 use Rattle.zpl_tree.specs.Syntax.{Name, Bracket, NoBracket, Bracketed, Base, Param, VarDef}
 use Rattle.zpl_names.specs.Kinds as kind
 use Rattle.zpl_names.specs.Kinds.{Kind, Shape, Formal, ScalarFormal, ArrayFormal}
 use Rattle.zpl_names.specs.Scope.{Entry, Scope, kind_in}
-use Rattle.zpl_names.specs.Ranks.{array_shape}
 use Rattle.zpl_names.specs.Shapes.{declared_shape, variable_kind}
 use Rattle.zpl_names.specs.Declared.{entry_for, formal_of, formals_of}
 use Rattle.zpl_names.specs.Expansion.{FormalName, formal_names}

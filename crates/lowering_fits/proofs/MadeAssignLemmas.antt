@@ -1,45 +1,36 @@
 -- What the code of statements has of its own, where what they call has what its name tells.
-use Rattle.std.proofs.Common.{◌≡◌, ℕ, zero, suc, ◌+◌, Bool, true, false, List, [], ◌∷◌, ◌++◌, map, length, refl, sym, ap, ◌∙◌, subst, arith}
-use Rattle.std.specs.Prelude.{Option, Some, None, Contains, slice_get}
-use Rattle.std.specs.Option.{option_to_list}
-use Rattle.std.specs.List.{flat_map}
+use Rattle.std.proofs.Common.{◌≡◌, ℕ, ◌+◌, true, false, List, [], ◌∷◌, length, refl, sym, ap, subst, arith}
+use Rattle.std.specs.Prelude.{Option, Some, None, slice_get}
 use Rattle.zpl_nums.specs.declared.operators.Op.{Op}
 use Rattle.zpl_region.specs.declared.regions.Region.{Region}
 use Rattle.zpl_arrays.specs.Around.{copy_storage}
-use Rattle.zpl_tree.specs.Syntax.{Name, Expr, Number, Truth, Coord, Named, Shifted, Around, Remap, Call, Paren, Neg, Not, Abs, Pair, Reduce, Scan, Flood, Exprs, NoExpr, ThenExpr, Dir, Mask as MaskText, Prefix, ForHead, Item, Str, Value, Stmt, Prefixed, Stmts, NoStmt, ThenStmt, Form, Assign, Invoke, Block, If, While, Repeat, For, Border, Write, Return, Tested, Arms, NoArm, ThenArm, Otherwise, NoElse, Else}
+use Rattle.zpl_tree.specs.Syntax.{Name, Expr, Number, Truth, Coord, Named, Shifted, Around, Remap, Call, Paren, Neg, Not, Abs, Pair, Reduce, Scan, Flood, Exprs, NoExpr, ThenExpr, Dir, Prefix, Prefixed, Form, Assign}
 use Rattle.zpl_names.specs.Kinds.{Rank, Formal, ScalarFormal, ArrayFormal}
 use Rattle.zpl_names.specs.Scope.{Scope, kind_of}
-use Rattle.zpl_names.specs.Ranks.{inner_rank, mask_rank}
-use Rattle.zpl_names.specs.Shapes.{prefix_rank}
 use Rattle.zpl_names.specs.Accepted.{HasNoFault}
-use Rattle.zpl_names.specs.Sites.{Reach, Role, Limit, Result, Test, Printed, Actual, Assigned, CallRole, AsStatement as AsOne, whole_rank, under_prefix as reach_under, under_prefixes, inside, Site, AtWhole, AtExpr, AtCall, AtMask, AtStmt, expr_sites, actuals_sites, region_sites, whole_sites, prefix_sites, prefixes_sites, call_place, value_sites, item_sites, step_sites, test_rank, arms_rank, tests_rank, is_shattered, stmt_sites, stmts_sites, form_sites, arms_sites, otherwise_sites}
-use Rattle.zpl_binding.specs.Regions.{Known, no_region}
+use Rattle.zpl_names.specs.Sites.{Reach, Role, Actual, Assigned, CallRole, whole_rank, inside, Site, AtExpr, AtCall, actuals_sites, whole_sites, call_place, value_sites}
 use Rattle.zpl_meaning.specs.Store.{Thing, Scalar, ArrayAt, Fixed, Environment, thing_of}
-use Rattle.zpl_meaning.specs.Context.{Over, Currents, with_over, Edge, Setup, Place}
-use Rattle.zpl_meaning.specs.Regions.{vector_in, mask_in, edge_in, current_for as region_for}
-use Rattle.zpl_meaning.specs.Calls.{formals_in, actual_thing}
+use Rattle.zpl_meaning.specs.Context.{Currents, Edge, Setup, Place}
+use Rattle.zpl_meaning.specs.Regions.{vector_in}
+use Rattle.zpl_meaning.specs.Calls.{formals_in}
 use Rattle.zpl_meaning.specs.Points.{assigned_expr}
-use Rattle.zpl_meaning.specs.Statement.{arms_at, step_expr}
-use Rattle.zpl_meaning.specs.Proper.{HasCurrent, IsProper, IsTarget, IsProperScalar, IsProperWhole, IsPlainAssign, IsProperActual, AreProperActuals, IsProperCall, IsProperPrefix, IsPointForm, AreProperTests, HasProperTests, IsProperTested, AreProperItems, IsProperStmt, IsProperUnder, IsProperForm}
-use Rattle.zpl_meaning.specs.Visited.{IsUnder, Itself, Behind, list_of, arms_parts, else_parts, IsCall, AsStatement, AsAnswer, IsVisited, Holds}
+use Rattle.zpl_meaning.specs.Proper.{IsProper, IsTarget, IsPlainAssign, AreProperActuals, IsProperCall, IsProperForm}
+use Rattle.zpl_meaning.specs.Visited.{IsUnder, IsCall, AsAnswer, IsVisited}
 use Rattle.zpl_meaning.proofs.DepthLemmas.{Each, each_left, each_right}
-use Rattle.meaning_ranks.specs.Ranked.{IsRankedCall, IsPointFormOf, IsRankedTested, IsRankedUnder, IsRankedForm}
+use Rattle.meaning_ranks.specs.Ranked.{IsRankedCall, IsRankedForm}
 use Rattle.row_runs.specs.Structured as piece
-use Rattle.flat_form.specs.Row.{Row}
-use Rattle.zpl_lowering.specs.Where.{Numbers, Where, Next, reach_of, line_of, slotted_at, rank_for}
-use Rattle.zpl_lowering.specs.Bracket.{Opened}
+use Rattle.zpl_lowering.specs.Where.{Numbers, Where, Next, slotted_at, rank_for}
 use Rattle.zpl_lowering.specs.Slate.{Placed, settled, settled_each}
 use Rattle.zpl_lowering.specs.Slate as settle
 use Rattle.zpl_lowering.specs.Reference.{refer_to, over_reference}
-use Rattle.zpl_lowering.specs.Lowered.{Lowered, rows_alone, behind, both, followed, Phased, phased, phased_with, first_left}
-use Rattle.zpl_lowering.specs.Statement.{Calling, Lowering, placed_in, Testing, test_of, put_row, lowered_to, value_exprs, lowered_invoke, with_values, value_rows, target_of, lowered_assign, lowered_borders, is_border, prefix_opened, current_for, under_prefix, of_opened, is_last, lowered_under, head_exprs, counter_from, counted, lowered_for, scalar_of, set_row, printed_exprs, items_of, of_prints, lowered_write, shattered, choose_code, chosen, when, while_code, repeat_code, ends_arms, lowered, lowered_all, lowered_form, lowered_arms, lowered_arm, lowered_otherwise}
+use Rattle.zpl_lowering.specs.Lowered.{Lowered, rows_alone, behind, Phased, phased, phased_with, first_left}
+use Rattle.zpl_lowering.specs.Statement.{Calling, placed_in, put_row, lowered_to, value_exprs, lowered_invoke, with_values, value_rows, target_of, lowered_assign, set_row, lowered}
 use Rattle.lowering_fits.specs.Reach.{place_at}
 use Rattle.lowering_fits.specs.Standing.{calling_of}
-use Rattle.lowering_fits.proofs.PartLemmas.{AreRight, contains_first, contains_later, contains_left, contains_right}
-use Rattle.lowering_fits.proofs.TallyLemmas.{round, called, tally, rounds_append, calls_append, IsSilent, no_sites, silent_both, region_silent}
-use Rattle.lowering_fits.proofs.MadeLemmas.{IsTame, inner_tame, proper_tame, AllOf, IsSettled, settled_behind, all_clean, IsAt, settled_made}
-use Rattle.lowering_fits.proofs.MadeCodeLemmas.{IsOf, in_order, swapped, IsMade, Made, nothing_made, joined_made, recoded_made, behind_made, before_made, silent_made, phased_made, no_settled, first_settled, one_settled}
-use Rattle.lowering_fits.proofs.PointSiteLemmas.{actual_sites, actuals_split, IsNamed, variable_named, array_named, named_silent, form_silent}
+use Rattle.lowering_fits.proofs.PartLemmas.{AreRight}
+use Rattle.lowering_fits.proofs.MadeLemmas.{IsTame, proper_tame, AllOf, IsSettled, settled_behind, IsAt, settled_made}
+use Rattle.lowering_fits.proofs.MadeCodeLemmas.{IsMade, joined_made, before_made, phased_made, no_settled, first_settled, one_settled}
+use Rattle.lowering_fits.proofs.PointSiteLemmas.{actual_sites, actuals_split, IsNamed, variable_named, array_named, named_silent}
 
 -- ---- where statements stand
 

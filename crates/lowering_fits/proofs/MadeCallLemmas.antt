@@ -1,21 +1,20 @@
 -- What all code of a program has of its own, call by call, down a chain of procedures.
-use Rattle.std.proofs.Common.{◌≡◌, ℕ, zero, suc, ◌+◌, ◌≤◌, Bool, true, false, ℤ, pos, List, [], ◌∷◌, ◌++◌, map, length, refl, sym, ap, ◌∙◌, subst, arith, length-append}
-use Rattle.std.specs.Prelude.{Option, Some, None, option_map, slice_get}
-use Rattle.std.specs.List.{flat_map, filter_map, cons_option, sum_by}
-use Rattle.std.proofs.lemmas.List.Sums.{sum_by-cons}
+use Rattle.std.proofs.Common.{◌≡◌, ℕ, zero, suc, ◌+◌, true, ℤ, pos, List, [], ◌∷◌, ◌++◌, map, length, refl, sym, ap, ◌∙◌, subst, arith, length-append}
+use Rattle.std.specs.Prelude.{Option, Some, None}
+use Rattle.std.specs.List.{sum_by}
 use Rattle.zpl_region.specs.declared.regions.Region.{Region}
-use Rattle.zpl_arrays.specs.Array.{Array, array_of}
+use Rattle.zpl_arrays.specs.Array.{array_of}
 use Rattle.zpl_arrays.specs.Around.{copy_storage}
 use Rattle.zpl_tree.specs.Grammar.{IsProgram}
-use Rattle.zpl_tree.specs.Syntax.{Prefix, Prefixed, Form, Name, Expr, Around, Exprs, NoExpr, ThenExpr, Dir, Bracket, NoBracket, Bracketed, VarDef, Program}
+use Rattle.zpl_tree.specs.Syntax.{Prefix, Prefixed, Form, Name, Around, Exprs, Dir, Program}
 use Rattle.zpl_names.specs.Kinds as kind
 use Rattle.zpl_names.specs.Kinds.{Rank, Kind, Formal, ScalarFormal, ArrayFormal, Signature}
-use Rattle.zpl_names.specs.Scope.{Scope, kind_in, kind_of, is_procedure}
+use Rattle.zpl_names.specs.Scope.{Scope, kind_in, kind_of}
 use Rattle.zpl_names.specs.Shapes.{unknown_shapes}
 use Rattle.zpl_names.specs.Accepted.{HasNoFault, IsFaultless}
-use Rattle.zpl_names.specs.Declared.{Routine, IsProcedureOf, globals_of, head_scope, formals_of, routine_named, routines_of, entry_of, scope_of}
-use Rattle.zpl_names.specs.Expansion.{FormalName, formal_names, callees, expanded}
-use Rattle.zpl_names.specs.Sites.{Reach, Site, AtWhole, AtExpr, AtCall, AtNamed, AtDir, AtRegion, AtMask, AtStmt, AtBase, AtPosts, AtProcedure, CallSite, call_of, routine_sites, in_body}
+use Rattle.zpl_names.specs.Declared.{Routine, IsProcedureOf, globals_of, head_scope, formals_of, routine_named, routines_of, scope_of}
+use Rattle.zpl_names.specs.Expansion.{formal_names, expanded}
+use Rattle.zpl_names.specs.Sites.{Reach, Site, AtExpr, routine_sites, in_body}
 use Rattle.std.specs.Str.{bytes_eq}
 use Rattle.std.proofs.Common.{inl, inr}
 use Rattle.std.proofs.lemmas.List.{length-map}
@@ -23,31 +22,30 @@ use Rattle.zpl_names.proofs.ListLemmas.{Among}
 use Rattle.zpl_names.proofs.FaultlessLemmas.{clean-routine}
 use Rattle.zpl_names.proofs.NameLemmas.{procedure_is_there}
 use Rattle.zpl_binding.specs.Settings.{Setting}
-use Rattle.zpl_meaning.specs.Store.{Thing, Scalar, ArrayAt, Fixed, Names, Environment, thing_of, Store}
+use Rattle.zpl_meaning.specs.Store.{ArrayAt, Names, Environment, thing_of, Store}
 use Rattle.zpl_meaning.specs.Context.{Currents, Edge, Setup, Place}
 use Rattle.zpl_meaning.specs.Regions.{vector_in}
-use Rattle.zpl_meaning.specs.Calls.{Handed, Called, formals_in, actual_thing, value_exprs as values_taken, handed_on, entered, with_formals}
+use Rattle.zpl_meaning.specs.Calls.{Handed, formals_in, value_exprs as values_taken, handed_on, entered, with_formals}
 use Rattle.zpl_meaning.specs.Proper.{AreProperActuals, IsProperCall}
-use Rattle.zpl_meaning.specs.Variables.{Frame, with_variables}
-use Rattle.zpl_meaning.specs.Visited.{IsUnder, IsCall, IsVisited, Calls, Begins, body_place, handed_at, first_setup}
+use Rattle.zpl_meaning.specs.Variables.{Frame}
+use Rattle.zpl_meaning.specs.Visited.{IsUnder, IsCall, IsVisited, Calls, first_setup}
 use Rattle.zpl_meaning.proofs.DepthLemmas.{Each}
 use Rattle.zpl_meaning.proofs.NamesLemmas.{AreHanded, IsSound, routine_sound}
-use Rattle.zpl_meaning.proofs.ProperLemmas.{taken}
 use Rattle.zpl_meaning.proofs.VisitLemmas.{all_handed, find_among, global_procedure, own_in, all_own, AllOwn}
-use Rattle.zpl_lowering.specs.Where.{Stored, Numbers, Where, Next}
-use Rattle.zpl_lowering.specs.Lowered.{Lowered, rows_alone}
-use Rattle.zpl_lowering.specs.Statement.{Given, Valued, Copied, Referring, referring, copying, given_to, Calling, lowered}
-use Rattle.zpl_lowering.specs.Program.{Framed, with_scalar, with_array, Entry, where_in, body_code, locals_code, reads_round, in_call, out_of_call, routine_code, call_code}
+use Rattle.zpl_lowering.specs.Where.{Numbers, Where, Next}
+use Rattle.zpl_lowering.specs.Lowered.{Lowered}
+use Rattle.zpl_lowering.specs.Statement.{given_to, Calling, lowered}
+use Rattle.zpl_lowering.specs.Program.{Framed, Entry, where_in, body_code, locals_code, reads_round, in_call, out_of_call, routine_code, call_code}
 use Rattle.lower_numbers.specs.Arrays.{param_arrays, var_arrays, own_arrays}
 use Rattle.lowering_fits.specs.Reach.{place_at}
 use Rattle.lowering_fits.specs.Standing.{calling_of}
-use Rattle.lowering_fits.specs.Whole.{given_frame, given_frames, local_frame, name_frames, local_frames, body_frames}
+use Rattle.lowering_fits.specs.Whole.{given_frames, local_frames, body_frames}
 use Rattle.lowering_fits.proofs.PartLemmas.{AreRight}
-use Rattle.lowering_fits.proofs.TallyLemmas.{round, called, tally, reads_are}
-use Rattle.lowering_fits.proofs.MadeLemmas.{AllOf, all_of_both}
-use Rattle.lowering_fits.proofs.MadeAssignLemmas.{IsWithin, IsCalling, IsMadeCall}
+use Rattle.lowering_fits.proofs.TallyLemmas.{called, tally, reads_are}
+use Rattle.lowering_fits.proofs.MadeLemmas.{all_of_both}
+use Rattle.lowering_fits.proofs.MadeAssignLemmas.{IsCalling, IsMadeCall}
 use Rattle.lowering_fits.proofs.MadeStatementLemmas.{body_made}
-use Rattle.lowering_fits.proofs.NamedLemmas.{IsBelow, AreBelow, AllBelow, names_below, both_below, OptBelow, actual_below, there_is, AreAlike, givens_alike, Agrees, formals_agree, locals_agree}
+use Rattle.lowering_fits.proofs.NamedLemmas.{AllBelow, AreAlike, givens_alike, Agrees, formals_agree, locals_agree}
 use Rattle.lowering_fits.proofs.MadeFrameLemmas.{IsMadeMore, given_copies, AreFine, FineVars, more_made, givens_more, locals_more, array_copies, count_alike, params_copies, as_many}
 use Rattle.lowering_fits.proofs.MadeProgramLemmas.{down, by_name, calls_sum, HasNames, GivensBelow, givens_have, locals_have, givens_below, body_below, AllFine, givens_fine}
 

@@ -1,6 +1,5 @@
 -- What code has of its own, by the sites of its text: lowered code in parts.
-use Rattle.std.proofs.Common.{◌≡◌, ℕ, zero, suc, ◌+◌, Bool, true, false, List, [], ◌∷◌, ◌++◌, length, refl, sym, ap, ◌∙◌, subst, arith, length-append}
-use Rattle.std.specs.Prelude.{Option, Some, None}
+use Rattle.std.proofs.Common.{◌≡◌, ℕ, ◌+◌, List, [], ◌∷◌, ◌++◌, length, refl, sym, ap, ◌∙◌, subst, arith, length-append}
 use Rattle.zpl_region.specs.declared.regions.Region.{Region}
 use Rattle.zpl_names.specs.Sites.{Site}
 use Rattle.row_runs.specs.Structured.{Piece}

@@ -1,11 +1,10 @@
 -- What the code of a procedure that is called has of its own: copies of its parameters, its local
 -- arrays, and what its body has.
-use Rattle.std.proofs.Common.{◌≡◌, ℕ, zero, suc, ◌+◌, Bool, true, false, List, [], ◌∷◌, ◌++◌, map, length, refl, sym, ap, ◌∙◌, subst, arith, length-append}
-use Rattle.std.specs.Prelude.{Option, Some, None, slice_get}
-use Rattle.std.specs.List.{flat_map, sum_by}
+use Rattle.std.proofs.Common.{◌≡◌, ℕ, suc, ◌+◌, Bool, true, false, List, [], ◌∷◌, ◌++◌, map, length, refl, sym, ap, ◌∙◌, subst, arith}
+use Rattle.std.specs.List.{sum_by}
 use Rattle.std.proofs.lemmas.List.Sums.{sum_by-cons}
 use Rattle.zpl_region.specs.declared.regions.Region.{Region}
-use Rattle.zpl_tree.specs.Syntax.{Name, Expr, Exprs, NoExpr, ThenExpr, Bracket, NoBracket, Bracketed, Base, Param, VarDef}
+use Rattle.zpl_tree.specs.Syntax.{Name, Bracket, NoBracket, Bracketed, Param, VarDef}
 use Rattle.zpl_names.specs.Kinds.{Formal, ScalarFormal, ArrayFormal}
 use Rattle.zpl_names.specs.Scope.{Scope}
 use Rattle.zpl_names.specs.Declared.{formal_of, formals_of}
@@ -19,14 +18,14 @@ use Rattle.row_runs.specs.Structured as piece
 use Rattle.row_runs.specs.Structured.{Piece}
 use Rattle.flat_form.specs.Row.{Row}
 use Rattle.zpl_lowering.specs.Check.{Check}
-use Rattle.zpl_lowering.specs.Where.{Stored, Next}
-use Rattle.zpl_lowering.specs.Lowered.{Lowered, rows_alone, behind, joined, followed}
+use Rattle.zpl_lowering.specs.Where.{Next}
+use Rattle.zpl_lowering.specs.Lowered.{Lowered, rows_alone, behind, joined}
 use Rattle.zpl_lowering.specs.Statement.{Given, Valued, Copied, Referring}
 use Rattle.zpl_lowering.specs.Program.{Framed, with_scalar, with_array, Entry, zero_row, clear_row, made_copy, givens_code, names_code, locals_code}
 use Rattle.lower_numbers.specs.Arrays.{bracket_arrays, var_arrays, value_arrays, param_arrays}
 use Rattle.lowering_fits.specs.Whole.{given_frames, name_frames, local_frames}
 use Rattle.lowering_fits.proofs.TallyLemmas.{round, called, tally}
-use Rattle.lowering_fits.proofs.MadeLemmas.{AllOf, all_of_both}
+use Rattle.lowering_fits.proofs.MadeLemmas.{AllOf}
 use Rattle.lowering_fits.proofs.MadeCodeLemmas.{IsMade}
 use Rattle.lowering_fits.proofs.NamedLemmas.{IsAlike, AreAlike}
 

@@ -1,13 +1,13 @@
 -- What the code of expressions and statements has of its own: a copy for each read that wraps round
 -- in the text, and in its calls what these have.
-use Rattle.std.proofs.Common.{◌≡◌, ℕ, zero, suc, ◌+◌, Bool, true, false, ◌&&◌, List, [], ◌∷◌, ◌++◌, length, refl, sym, ap, ◌∙◌, subst, arith, length-append}
-use Rattle.std.specs.Prelude.{Option, Some, None, ℤ}
+use Rattle.std.proofs.Common.{◌≡◌, ℕ, Bool, true, false, ◌&&◌, List, [], ◌∷◌, ◌++◌, length, refl, sym, ◌∙◌, subst, arith, length-append}
+use Rattle.std.specs.Prelude.{Option, Some, None}
 use Rattle.zpl_region.specs.declared.regions.Region.{Region}
 use Rattle.zpl_arrays.specs.Around.{copy_storage}
-use Rattle.zpl_tree.specs.Syntax.{Name, Expr, Number, Truth, Coord, Named, Shifted, Around, Remap, Call, Paren, Neg, Not, Abs, Pair, Reduce, Scan, Flood, Exprs, NoExpr, ThenExpr, Dir, Inner, Rexpr, Dims, NoBracket, Bracketed, DimText, Blank, Star, One, Span, DimTexts, NoDim, ThenDim}
+use Rattle.zpl_tree.specs.Syntax.{Name, Expr, Number, Truth, Coord, Named, Shifted, Around, Remap, Call, Paren, Neg, Not, Abs, Pair, Reduce, Scan, Flood, Exprs, NoExpr, ThenExpr, Dir, Inner, Rexpr, Dims, NoBracket, Bracketed, Blank, Star, One, Span, DimTexts, NoDim, ThenDim}
 use Rattle.zpl_names.specs.Kinds.{Rank}
 use Rattle.zpl_names.specs.Ranks.{own_rank, operand_rank, inner_rank}
-use Rattle.zpl_names.specs.Sites.{Reach, Role, Operand, whole_rank, over_source, Site, AtWhole, AtExpr, expr_sites, exprs_sites, dir_sites, region_sites, whole_sites}
+use Rattle.zpl_names.specs.Sites.{Reach, Operand, whole_rank, over_source, Site, AtExpr, expr_sites, exprs_sites, dir_sites, region_sites}
 use Rattle.zpl_names.specs.Types.{is_elementwise}
 use Rattle.zpl_names.specs.Accepted.{HasNoFault}
 use Rattle.zpl_binding.specs.Regions.{Known, no_region}
@@ -15,17 +15,12 @@ use Rattle.zpl_meaning.specs.Store.{Thing, Scalar, ArrayAt, Fixed, Environment, 
 use Rattle.zpl_meaning.specs.Regions.{vector_in, under_source}
 use Rattle.zpl_meaning.specs.Context.{Place}
 use Rattle.zpl_meaning.specs.Settled.{source_rank}
-use Rattle.zpl_meaning.specs.Proper.{IsArray, HasValue, IsProperInner, AreProperDims, IsProper, AreProper}
+use Rattle.zpl_meaning.specs.Proper.{IsArray, IsProperInner, AreProperDims, IsProper, AreProper}
 use Rattle.zpl_meaning.proofs.DepthLemmas.{Each, each_left, each_right}
 use Rattle.zpl_lowering.specs.Where.{Slotted, slotted_at, Where, Next}
 use Rattle.zpl_lowering.specs.Slate as settle
 use Rattle.zpl_lowering.specs.Slate.{Slate, Slates, ThenSlate, Settled, Placed, alone, settled, settled_all, settled_each, around_slate, named_slate, shifted_slate, remap_slate}
-use Rattle.zpl_lowering.specs.Reference.{Reference}
-use Rattle.zpl_lowering.specs.Lowered.{Lowered, joined, phased_with}
-use Rattle.flat_form.specs.Row.{Row}
-use Rattle.row_runs.specs.Structured.{Piece}
-use Rattle.zpl_lowering.specs.Check.{Check}
-use Rattle.lowering_fits.proofs.TallyLemmas.{round, called, tally, rounds_append, calls_append, IsSilent, no_sites, silent_both, dir_silent, AreTameDims, IsTameInner, region_silent}
+use Rattle.lowering_fits.proofs.TallyLemmas.{round, called, tally, rounds_append, calls_append, IsSilent, silent_both, dir_silent, AreTameDims, IsTameInner, region_silent}
 
 -- ---- expressions that need no more than names of arrays
 

@@ -1,52 +1,29 @@
 -- What all code of a program has of its own: calls down a chain of procedures.
-use Rattle.std.proofs.Common.{◌≡◌, ℕ, zero, suc, ◌+◌, ◌≤◌, Bool, true, false, ℤ, pos, List, [], ◌∷◌, ◌++◌, map, length, refl, sym, ap, ◌∙◌, subst, arith, cond, length-append, rules}
+use Rattle.std.proofs.Common.{◌≡◌, ℕ, suc, ◌+◌, ◌≤◌, Bool, true, false, List, [], ◌∷◌, ◌++◌, length, refl, sym, ap, subst, arith, cond, length-append, rules}
 use Rattle.std.specs.Prelude.{Option, Some, None, option_map, find, slice_get}
 use Rattle.std.specs.Str.{bytes_eq}
-use Rattle.std.specs.List.{flat_map, filter_map, cons_option, sum_by}
+use Rattle.std.specs.List.{filter_map, cons_option, sum_by}
 use Rattle.std.proofs.lemmas.List.Sums.{sum_by-cons}
 use Rattle.zpl_region.specs.declared.regions.Region.{Region}
-use Rattle.zpl_arrays.specs.Array.{Array, array_of}
-use Rattle.zpl_arrays.specs.Around.{copy_storage}
-use Rattle.zpl_tree.specs.Grammar.{IsProgram}
-use Rattle.zpl_tree.specs.Syntax.{Name, Expr, Around, Exprs, NoExpr, ThenExpr, Dir, Bracket, NoBracket, Bracketed, VarDef, Program}
-use Rattle.zpl_names.specs.Kinds as kind
-use Rattle.zpl_names.specs.Kinds.{Rank, Kind, Formal, ScalarFormal, ArrayFormal, Signature}
-use Rattle.zpl_names.specs.Scope.{Scope, kind_in, kind_of, is_procedure}
-use Rattle.zpl_names.specs.Shapes.{unknown_shapes}
-use Rattle.zpl_names.specs.Accepted.{HasNoFault, IsFaultless}
-use Rattle.zpl_names.specs.Declared.{Routine, IsProcedureOf, globals_of, head_scope, formals_of, routine_named, routines_of, entry_of, scope_of}
-use Rattle.zpl_names.specs.Expansion.{FormalName, formal_names, callees, expanded}
-use Rattle.zpl_names.specs.Sites.{Reach, Site, AtWhole, AtExpr, AtCall, AtNamed, AtDir, AtRegion, AtMask, AtStmt, AtBase, AtPosts, AtProcedure, CallSite, call_of, routine_sites, in_body}
-use Rattle.zpl_names.proofs.ListLemmas.{Among, Contains-from_among}
-use Rattle.zpl_names.proofs.FaultlessLemmas.{clean-routine}
-use Rattle.zpl_names.proofs.NameLemmas.{procedure_is_there}
-use Rattle.zpl_binding.specs.Settings.{Setting}
-use Rattle.zpl_meaning.specs.Store.{Thing, Scalar, ArrayAt, Fixed, Names, Environment, thing_of, Store}
-use Rattle.zpl_meaning.specs.Context.{Currents, Edge, Setup, Place}
-use Rattle.zpl_meaning.specs.Regions.{vector_in}
-use Rattle.zpl_meaning.specs.Calls.{Handed, Called, formals_in, actual_thing, value_exprs as values_taken, handed_on, entered, with_formals}
-use Rattle.zpl_meaning.specs.Proper.{AreProperActuals}
-use Rattle.zpl_meaning.specs.Variables.{Frame, with_variables}
-use Rattle.zpl_meaning.specs.Visited.{IsVisited, Calls, Begins, body_place, handed_at, first_setup}
+use Rattle.zpl_tree.specs.Syntax.{Name, Exprs, NoExpr, ThenExpr, Bracket, NoBracket, Bracketed, VarDef, Program}
+use Rattle.zpl_names.specs.Kinds.{Formal, ScalarFormal, ArrayFormal}
+use Rattle.zpl_names.specs.Scope.{is_procedure}
+use Rattle.zpl_names.specs.Accepted.{HasNoFault}
+use Rattle.zpl_names.specs.Declared.{Routine, routine_named}
+use Rattle.zpl_names.specs.Expansion.{FormalName, expanded}
+use Rattle.zpl_names.specs.Sites.{Site, AtWhole, AtExpr, AtCall, AtNamed, AtDir, AtRegion, AtMask, AtStmt, AtBase, AtPosts, AtProcedure, CallSite, call_of}
+use Rattle.zpl_meaning.specs.Store.{Thing, Scalar, ArrayAt, Fixed, Names, thing_of}
+use Rattle.zpl_meaning.specs.Context.{Setup}
+use Rattle.zpl_meaning.specs.Calls.{actual_thing}
 use Rattle.zpl_meaning.proofs.DepthLemmas.{Each}
-use Rattle.zpl_meaning.proofs.NamesLemmas.{AreHanded, IsSound, routine_sound}
 use Rattle.zpl_meaning.proofs.ProperLemmas.{taken}
-use Rattle.zpl_meaning.proofs.VisitLemmas.{all_handed, find_among, global_procedure, own_in, all_own, AllOwn}
 use Rattle.zpl_lowering.specs.Where.{Stored, Numbers, Where, Next}
-use Rattle.zpl_lowering.specs.Lowered.{Lowered, rows_alone}
-use Rattle.zpl_lowering.specs.Statement.{Given, Valued, Copied, Referring, referring, copying, given_to, Calling, lowered}
-use Rattle.zpl_lowering.specs.Program.{Framed, with_scalar, with_array, Entry, where_in, body_code, locals_code, reads_round, in_call, out_of_call, routine_code, call_code}
-use Rattle.lower_numbers.specs.Arrays.{param_arrays, var_arrays, own_arrays}
-use Rattle.lowering_fits.specs.Reach.{place_at}
-use Rattle.lowering_fits.specs.Standing.{calling_of}
-use Rattle.lowering_fits.specs.Whole.{given_frame, given_frames, local_frame, name_frames, local_frames, body_frames}
-use Rattle.lowering_fits.proofs.PartLemmas.{AreRight}
-use Rattle.lowering_fits.proofs.TallyLemmas.{round, called, tally, reads_are}
-use Rattle.lowering_fits.proofs.MadeLemmas.{AllOf, all_of_both}
-use Rattle.lowering_fits.proofs.MadeAssignLemmas.{IsWithin, IsCalling, IsMadeCall}
-use Rattle.lowering_fits.proofs.MadeStatementLemmas.{body_made}
-use Rattle.lowering_fits.proofs.NamedLemmas.{IsBelow, AreBelow, AllBelow, names_below, both_below, OptBelow, actual_below, there_is, AreAlike, givens_alike, Agrees, formals_agree, locals_agree}
-use Rattle.lowering_fits.proofs.MadeFrameLemmas.{IsMadeMore, given_copies, AreFine, FineVars, more_made, givens_more, locals_more, array_copies, count_alike, params_copies, as_many}
+use Rattle.zpl_lowering.specs.Statement.{Given, Valued, Copied, Referring, referring, copying, given_to}
+use Rattle.zpl_lowering.specs.Program.{Framed, with_scalar, with_array, Entry}
+use Rattle.lowering_fits.specs.Whole.{given_frame, given_frames, local_frame, name_frames, local_frames}
+use Rattle.lowering_fits.proofs.TallyLemmas.{called, tally}
+use Rattle.lowering_fits.proofs.NamedLemmas.{IsBelow, AreBelow, AllBelow, names_below, both_below, OptBelow, actual_below}
+use Rattle.lowering_fits.proofs.MadeFrameLemmas.{AreFine}
 
 -- ---- numbers of calls
 

@@ -1,6 +1,6 @@
 -- The names of a procedure that is called: those of the meaning, where each stands for the same
 -- place, and all places have numbers.
-use Rattle.std.proofs.Common.{◌≡◌, ℕ, zero, suc, ◌+◌, ◌<◌, ◌≤◌, Bool, true, false, ℤ, pos, List, [], ◌∷◌, ◌++◌, map, length, refl, sym, ap, ◌∙◌, subst, arith, cond, length-append, rules}
+use Rattle.std.proofs.Common.{◌≡◌, ℕ, zero, suc, ◌<◌, ◌≤◌, Bool, true, false, ℤ, pos, List, [], ◌∷◌, ◌++◌, length, refl, sym, ap, ◌∙◌, subst, arith, cond, length-append, rules}
 use Rattle.std.specs.Prelude.{Option, Some, None, option_map, find, slice_get}
 use Rattle.std.specs.Str.{bytes_eq}
 use Rattle.zpl_region.specs.declared.regions.Region.{Region}
@@ -8,7 +8,7 @@ use Rattle.zpl_tree.specs.Syntax.{Name, Expr, Number, Truth, Coord, Named, Shift
 use Rattle.zpl_names.specs.Kinds.{Formal, ScalarFormal, ArrayFormal}
 use Rattle.zpl_names.specs.Expansion.{FormalName}
 use Rattle.zpl_meaning.specs.Store.{Thing, Scalar, ArrayAt, Fixed, Names, Environment, thing_of, Store}
-use Rattle.zpl_meaning.specs.Context.{Currents, Edge, Setup, Place}
+use Rattle.zpl_meaning.specs.Context.{Currents, Edge, Setup}
 use Rattle.zpl_meaning.specs.Calls.{Handed, Copied as CopiedValue, CopiedArray, Referred, actual_thing, referred, copied_array, value_exprs as values_taken, handed_on, with_formals}
 use Rattle.zpl_meaning.specs.Proper.{IsArray, IsVariable, AreProperActuals}
 use Rattle.zpl_meaning.specs.Variables.{Frame, with_thing, with_scalar_named, with_array_named, with_name, with_names, with_variables}

@@ -1,5 +1,5 @@
 -- Statements in statements, and what is right of all that a run visits.
-use Rattle.std.proofs.Common.{◌≡◌, zero, suc, List, [], ◌∷◌, ◌++◌, refl, arith}
+use Rattle.std.proofs.Common.{zero, suc, List, [], ◌∷◌, ◌++◌, refl, arith}
 use Rattle.std.specs.Prelude.{Contains}
 use Rattle.zpl_tree.specs.Syntax.{Stmt}
 use Rattle.zpl_meaning.specs.Context.{Setup, Place}

@@ -1,14 +1,13 @@
 -- What the parts of statements have of their own: the actuals of calls, right sides, and statements
 -- that are shattered.
-use Rattle.std.proofs.Common.{◌≡◌, ℕ, zero, suc, ◌+◌, Bool, true, false, List, [], ◌∷◌, ◌++◌, length, refl, sym, ap, ◌∙◌, subst, arith, length-append}
+use Rattle.std.proofs.Common.{◌≡◌, true, List, [], ◌∷◌, ◌++◌, refl}
 use Rattle.std.specs.Prelude.{Option, Some, None}
 use Rattle.zpl_nums.specs.declared.operators.Op.{Op}
-use Rattle.zpl_region.specs.declared.regions.Region.{Region}
-use Rattle.zpl_tree.specs.Syntax.{Name, Expr, Number, Truth, Coord, Named, Shifted, Around, Remap, Call, Paren, Neg, Not, Abs, Pair, Reduce, Scan, Flood, Exprs, NoExpr, ThenExpr, Prefix, Stmt, Prefixed, Stmts, NoStmt, ThenStmt, Form, Assign, Invoke, Block, If, While, Repeat, For, Border, Write, Return, Tested, Arms, NoArm, ThenArm, Otherwise, NoElse, Else}
+use Rattle.zpl_tree.specs.Syntax.{Name, Expr, Number, Truth, Coord, Named, Shifted, Around, Remap, Call, Paren, Neg, Not, Abs, Pair, Reduce, Scan, Flood, Exprs, ThenExpr, Stmt, Prefixed, Stmts, NoStmt, ThenStmt, Form, Assign, Invoke, Block, If, While, Repeat, For, Border, Write, Return, Tested, Arms, NoArm, ThenArm, Otherwise, NoElse, Else}
 use Rattle.zpl_names.specs.Kinds.{Rank}
 use Rattle.zpl_names.specs.Types.{is_elementwise}
-use Rattle.zpl_names.specs.Sites.{Reach, Actual, Assigned, Test, whole_rank, inside, Site, AtWhole, AtExpr, AtCall, AtNamed, AtStmt, expr_sites, actuals_sites, whole_sites, value_sites, test_rank, arms_rank, stmt_sites, stmts_sites, form_sites, arms_sites, otherwise_sites}
-use Rattle.zpl_meaning.specs.Store.{Environment, thing_of}
+use Rattle.zpl_names.specs.Sites.{Reach, Actual, Assigned, Test, whole_rank, inside, Site, AtWhole, AtNamed, expr_sites, actuals_sites, whole_sites, value_sites, test_rank, arms_rank, stmt_sites, stmts_sites, form_sites, arms_sites, otherwise_sites}
+use Rattle.zpl_meaning.specs.Store.{Environment}
 use Rattle.zpl_meaning.specs.Context.{Place}
 use Rattle.zpl_meaning.specs.Calls.{actual_thing}
 use Rattle.zpl_meaning.specs.Proper.{IsArray, IsVariable, IsPoint, ArePoints, IsPointForm, ArePointArms, IsPointElse}

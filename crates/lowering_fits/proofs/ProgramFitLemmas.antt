@@ -1,26 +1,23 @@
 -- All code of a program fits the tables that it is laid out in.
-use Rattle.std.proofs.Common.{◌≡◌, ℕ, zero, suc, ◌+◌, ◌<◌, ◌≤◌, Bool, true, false, ℤ, List, [], ◌∷◌, ◌++◌, map, length, refl, sym, ap, ◌∙◌, subst, arith, true≢false}
-use Rattle.std.specs.Prelude.{Option, Some, None, Contains}
-use Rattle.std.specs.List.{AllByRecursion, sum_by}
+use Rattle.std.proofs.Common.{◌≡◌, ℕ, suc, ◌+◌, ◌≤◌, false, ℤ, List, [], ◌∷◌, ◌++◌, map, length, refl, sym, ap, ◌∙◌, subst, arith, true≢false}
+use Rattle.std.specs.Prelude.{Option, Some, None}
 use Rattle.std.specs.Str.{bytes_eq}
 use Rattle.zpl_region.specs.declared.regions.Region.{Region}
-use Rattle.zpl_region.specs.Tests.{is_within_limit}
 use Rattle.zpl_arrays.specs.Array.{Array}
 use Rattle.zpl_tree.specs.Grammar.{IsProgram}
 use Rattle.zpl_tree.specs.Syntax.{Bracket, NoBracket, Bracketed, Base, Name, Define, VarDef, Decl, Config, Constant, Regions, Directions, Vars, Defined, Param, Program}
-use Rattle.zpl_names.specs.Kinds.{Signature}
 use Rattle.zpl_names.specs.Scope.{Entry, Scope}
 use Rattle.zpl_names.specs.Shapes.{no_shapes, unknown_shapes}
 use Rattle.zpl_names.specs.Accepted.{IsFaultless}
-use Rattle.zpl_names.specs.Declared.{Routine, IsProcedureOf, own_entries, declaring, head_scope, formals_of, signature_of, routine_named, routines_of, entry_of, scope_of, with_decl, with_variables as with_vars}
+use Rattle.zpl_names.specs.Declared.{Routine, IsProcedureOf, own_entries, declaring, head_scope, formals_of, signature_of, routines_of, entry_of, with_decl, with_variables as with_vars}
 use Rattle.zpl_names.specs.Reached.{longest_chain, Entered}
 use Rattle.zpl_names.specs.Sites.{routine_sites}
 use Rattle.zpl_names.proofs.ListLemmas.{Among, Contains-from_among}
 use Rattle.zpl_binding.specs.Outcome.{Outcome, Gives, Fails, Computed, value_or, outcome_of}
-use Rattle.zpl_binding.specs.Regions.{Known, no_region}
+use Rattle.zpl_binding.specs.Regions.{no_region}
 use Rattle.zpl_binding.specs.Settings.{Setting}
 use Rattle.zpl_binding.specs.Declarations.{known_of}
-use Rattle.zpl_binding.specs.Storages.{Border, borders_of}
+use Rattle.zpl_binding.specs.Storages.{borders_of}
 use Rattle.zpl_meaning.specs.Given.{IsGiven}
 use Rattle.zpl_meaning.specs.Context.{no_currents, Setup}
 use Rattle.zpl_meaning.specs.Program.{first_frame}
@@ -30,25 +27,23 @@ use Rattle.zpl_meaning.proofs.NamesLemmas.{IsSound, routine_sound}
 use Rattle.zpl_meaning.proofs.VisitLemmas.{Laws, find_among}
 use Rattle.meaning_ranks.proofs.RegionLemmas.{names_once}
 use Rattle.node_form.specs.declared.tables.Tables.{Tables}
-use Rattle.node_form.specs.declared.instructions.Instr.TheVariants as instr
 use Rattle.node_form.specs.Fits.{IsRank, FitsRegion}
 use Rattle.row_runs.specs.Structured as piece
-use Rattle.zpl_lowering.specs.Where.{Stored, Numbers, Next}
-use Rattle.zpl_lowering.specs.Lowered.{Lowered, behind, both}
+use Rattle.zpl_lowering.specs.Where.{Next}
+use Rattle.zpl_lowering.specs.Lowered.{behind}
 use Rattle.zpl_lowering.specs.Statement.{Calling}
-use Rattle.zpl_lowering.specs.Program.{Framed, Entry as CallEntry, where_in, body_code, reads_round, in_call, routine_code, call_code, region_rows, scalars_from, arrays_from, global_numbers, globals_made, first_next, entry_calling, entry_code, lowered_program}
+use Rattle.zpl_lowering.specs.Program.{Entry as CallEntry, body_code, reads_round, in_call, routine_code, call_code, region_rows, scalars_from, arrays_from, global_numbers, globals_made, first_next, entry_calling, entry_code, lowered_program}
 use Rattle.zpl_lowering.specs.Tables.{empty_tables}
 use Rattle.lowering_fits.specs.Inline.{FitRows}
 use Rattle.lowering_fits.specs.Slates.{SlotsAt, StoragesAt, AllBelow, AllStored, FitNumbers}
-use Rattle.lowering_fits.specs.Storages.{IsStorage, AllStorages, AllKept}
+use Rattle.lowering_fits.specs.Storages.{IsStorage, AllKept}
 use Rattle.lowering_fits.specs.Declarations.{FitsDeclared, FitAllDeclared, FitGlobals, FitsDecl, FitDecls, FitsProgram}
-use Rattle.lowering_fits.specs.Reach.{IsBox}
 use Rattle.lowering_fits.specs.Lowerings.{AllRanks, IsLaidOut, FitsLowered, answering, region_rank}
 use Rattle.lowering_fits.specs.Standing.{CallsFit}
-use Rattle.lowering_fits.specs.Whole.{FitsVars, AllVars, IsNumbered, body_frames}
+use Rattle.lowering_fits.specs.Whole.{FitsVars, AllVars, IsNumbered}
 use Rattle.lowering_fits.proofs.PartLemmas.{AreRight}
 use Rattle.lowering_fits.proofs.BracketLemmas.{LimitsAreTold, box_region}
-use Rattle.lowering_fits.proofs.PhaseLemmas.{laid_front, laid_behind, both_fit, rows_alone_fit}
+use Rattle.lowering_fits.proofs.PhaseLemmas.{laid_front, laid_behind, both_fit}
 use Rattle.lowering_fits.proofs.RegionLemmas.{IsGoodRegion, AreGood, no_region_good, known_good}
 use Rattle.lowering_fits.proofs.DeclaredLemmas.{among_fit}
 use Rattle.lowering_fits.proofs.BodyLemmas.{body_fits}

@@ -1,16 +1,16 @@
 -- Names in reach of a body fit, where those of the procedure that calls it do.
 use Rattle.std.proofs.Common.{◌≡◌, ℕ, zero, suc, ◌<◌, Bool, true, false, List, [], ◌∷◌, ◌++◌, length, refl, sym, ap, ap₂, ◌∙◌, subst, arith, cond, rules}
-use Rattle.std.specs.Prelude.{Option, Some, None, option_map, find, slice_get, IsSome}
+use Rattle.std.specs.Prelude.{Option, Some, None, option_map, find, slice_get}
 use Rattle.std.specs.Option.{IsSomeAnd, option_or}
 use Rattle.std.specs.Str.{bytes_eq}
 use Rattle.zpl_region.specs.declared.regions.Region.{Region}
 use Rattle.zpl_tree.specs.Syntax.{Base, Name, Expr, Number, Truth, Coord, Named, Shifted, Around, Remap, Call, Paren, Neg, Not, Abs, Pair, Reduce, Scan, Flood, Exprs, NoExpr, ThenExpr, Program}
 use Rattle.zpl_names.specs.Kinds as kind
 use Rattle.zpl_names.specs.Kinds.{Kind, Shape, Formal, ScalarFormal, ArrayFormal}
-use Rattle.zpl_names.specs.Scope.{Entry, kind_in, kind_of}
+use Rattle.zpl_names.specs.Scope.{kind_in, kind_of}
 use Rattle.zpl_names.specs.Ranks.{array_shape}
 use Rattle.zpl_names.specs.Declared.{Routine, globals_of, scope_of}
-use Rattle.zpl_meaning.specs.Store.{Thing, Scalar, ArrayAt, Fixed, Names, Environment, thing_of}
+use Rattle.zpl_meaning.specs.Store.{Thing, Scalar, ArrayAt, Fixed, Names, thing_of}
 use Rattle.zpl_meaning.specs.Context.{Currents, Edge}
 use Rattle.zpl_meaning.specs.Calls.{actual_thing}
 use Rattle.zpl_meaning.specs.Proper.{IsArray, IsVariable, AreProperActuals}
@@ -18,9 +18,9 @@ use Rattle.meaning_ranks.specs.Ranked.{IsShapedActual, AreShapedActuals}
 use Rattle.node_form.specs.declared.tables.Tables.{Tables}
 use Rattle.zpl_lowering.specs.Where.{Stored, Numbers, Where}
 use Rattle.zpl_lowering.specs.Statement.{Given, Copied, Referring, referring, copying, given_to}
-use Rattle.lowering_fits.specs.Slates.{AllBelow, FitNumbers}
+use Rattle.lowering_fits.specs.Slates.{AllBelow}
 use Rattle.lowering_fits.specs.Reach.{place_at, IsStoredAs, FitsName, FitNames, FitScalars, IsKept, named_thing, AreGlobals, IsReach}
-use Rattle.lowering_fits.proofs.KeptLemmas.{AreKept, IsBoth, kept_found, IsGivenOf, AreGivenOf}
+use Rattle.lowering_fits.proofs.KeptLemmas.{AreKept, IsBoth, kept_found, AreGivenOf}
 
 -- ---- names of lists, one behind the other
 

@@ -1,14 +1,14 @@
 -- What the sites of a text ask for: a copy for each read that wraps round, and what calls have.
-use Rattle.std.proofs.Common.{◌≡◌, ℕ, suc, ◌+◌, Bool, true, false, List, [], ◌∷◌, ◌++◌, length, refl, sym, ap, ◌∙◌, subst, arith, cond}
+use Rattle.std.proofs.Common.{◌≡◌, ℕ, suc, ◌+◌, Bool, true, false, List, [], ◌∷◌, ◌++◌, length, refl, ap, ◌∙◌, arith, cond}
 use Rattle.std.specs.Prelude.{Option, Some, None}
 use Rattle.std.specs.List.{flat_map}
 use Rattle.zpl_tree.specs.Syntax.{Name, Pre, RegionBase, NamedRegion, Ditto, Expr, Number, Truth, Coord, Named, Shifted, Around, Remap, Call, Paren, Neg, Not, Abs, Pair, Reduce, Scan, Flood, Exprs, NoExpr, ThenExpr, Dir, NamedDir, Vector, Inner, Rexpr, Dims, NoBracket, Bracketed, Posts, NoPost, ThenPost, DimText, Blank, Star, One, Span, DimTexts, NoDim, ThenDim}
 use Rattle.zpl_names.specs.Kinds as kind
 use Rattle.zpl_names.specs.Kinds.{Rank, Kind}
-use Rattle.zpl_names.specs.Scope.{Scope, kind_in, kind_of, in_reach, is_array}
+use Rattle.zpl_names.specs.Scope.{kind_in, kind_of, in_reach, is_array}
 use Rattle.std.specs.Option.{option_or}
 use Rattle.zpl_names.specs.Ranks.{own_rank, inner_rank, is_index}
-use Rattle.zpl_names.specs.Sites.{Reach, Bound, Component, Operand, whole_rank, in_vector, over_source, Site, AtWhole, AtExpr, AtCall, AtNamed, AtDir, AtRegion, AtMask, AtStmt, AtBase, AtPosts, AtProcedure, Elsewhere, index_sites, expr_sites, exprs_sites, actuals_sites, dir_sites, components_sites, region_sites, posts_sites, dims_sites, dim_sites}
+use Rattle.zpl_names.specs.Sites.{Reach, Bound, Component, Operand, whole_rank, in_vector, over_source, Site, AtWhole, AtExpr, AtCall, AtNamed, AtDir, AtRegion, AtMask, AtStmt, AtBase, AtPosts, AtProcedure, index_sites, expr_sites, dir_sites, components_sites, region_sites, posts_sites, dims_sites, dim_sites}
 use Rattle.zpl_names.specs.Accepted.{HasNoFault}
 use Rattle.zpl_meaning.specs.Store.{Environment}
 use Rattle.zpl_meaning.specs.Proper.{HasValue}

@@ -1,6 +1,5 @@
 -- When all code of a program is numbered as it is laid out, and its storages may stand in tables.
 use Rattle.std.specs.Prelude.{◌≡◌, ℕ, ◌+◌, ◌<◌, List, [], ◌∷◌, ◌++◌, length}
-use Rattle.zpl_region.specs.declared.regions.Region.{Region}
 use Rattle.zpl_tree.specs.Syntax.{Name, Bracket, NoBracket, Bracketed, VarDef}
 use Rattle.zpl_names.specs.Expansion.{FormalName, formal_names}
 use Rattle.zpl_names.specs.Declared.{Routine}
