@@ -37,4 +37,5 @@ pub mod KeptLemmas
 pub mod ReachLemmas
 pub mod CallsFitLemmas
 pub mod GlobalsLemmas
+pub mod RegionRankLemmas
 pub mod ProgramFitLemmas

@@ -45,6 +45,7 @@ use Rattle.lowering_fits.proofs.PartLemmas.{AreRight}
 use Rattle.lowering_fits.proofs.BracketLemmas.{LimitsAreTold, box_region}
 use Rattle.lowering_fits.proofs.PhaseLemmas.{laid_front, laid_behind, both_fit}
 use Rattle.lowering_fits.proofs.RegionLemmas.{IsGoodRegion, AreGood, no_region_good, known_good}
+use Rattle.lowering_fits.proofs.RegionRankLemmas.{regions_ranked}
 use Rattle.lowering_fits.proofs.DeclaredLemmas.{among_fit}
 use Rattle.lowering_fits.proofs.BodyLemmas.{body_fits}
 use Rattle.lowering_fits.proofs.SoundLemmas.{body_sound_at}
@@ -182,6 +183,9 @@ module _ (program : Program) (settings : List Setting) (laws : Laws program)
   abbrev frame : Frame
   frame = first_frame program (known_of program settings) (borders_of program)
 
+  ranked : AllRanks (map region_rank (known_of program settings).regions)
+  ranked = regions_ranked program settings laws grammar clean
+
   locals_fit : (routine : Routine) → Among (routines_of program) routine → (earlier : List Entry) →
       routine.own ≡ own_entries earlier routine.procedure →
       FitAllDeclared setup (head_scope earlier routine.procedure) routine.procedure.locals
@@ -208,8 +212,8 @@ module _ (program : Program) (settings : List Setting) (laws : Laws program)
       FitsLowered tables (globals_made (known_of program settings) frame)
   globals_made_fit tables laid = record {
     code_fits = regions_fit limits tables 0 (known_of program settings).regions
-        (known_good program settings) declared.regions laid.slots_at;
-    slot_ranks = declared.regions;
+        (known_good program settings) ranked laid.slots_at;
+    slot_ranks = ranked;
     temp_ranks = tt;
     small_shifts = tt;
   }

@@ -1,19 +1,16 @@
--- When what is declared is as the text says: ranks of regions and of arrays, and which dimensions of
--- these are flood dimensions.
-use Rattle.std.specs.Prelude.{◌≡◌, List, [], ◌∷◌, map, length, Some, option_map, Contains}
+-- When arrays are declared as the text says: their ranks, and which dimensions are flood dimensions.
+use Rattle.std.specs.Prelude.{◌≡◌, List, [], ◌∷◌, length, Some, option_map, Contains}
 use Rattle.zpl_tree.specs.Syntax.{Bracket, NoBracket, Bracketed, VarDef, Decl, Config, Constant, Regions, Directions, Vars, Defined, Program}
 use Rattle.zpl_names.specs.Scope.{Entry, Scope}
 use Rattle.zpl_names.specs.Shapes.{declared_shape}
 use Rattle.zpl_names.specs.Declared.{Routine, own_entries, declaring, head_scope, routines_of, with_decl, with_variables}
 use Rattle.zpl_binding.specs.Settings.{Setting}
-use Rattle.zpl_binding.specs.Declarations.{known_of}
 use Rattle.zpl_meaning.specs.Context.{Setup}
 use Rattle.zpl_meaning.specs.Variables.{home_box, storage_box}
 use Rattle.zpl_meaning.specs.Visited.{first_setup}
 use Rattle.node_form.specs.Fits.{FitsRegion}
 use Rattle.lowering_fits.specs.Storages.{IsStorage}
 use Rattle.lowering_fits.specs.Reach.{IsStoredAs}
-use Rattle.lowering_fits.specs.Lowerings.{AllRanks, region_rank}
 
 -- the storage and the home box of a declared array are as the text says, and may stand in tables
 abbrev pub FitsDeclared : Setup → Scope → Bracket → Type 0
@@ -50,9 +47,8 @@ FitDecls setup earlier [] = Unit {0}
 FitDecls setup earlier (decl ∷ decls) =
     FitsDecl setup earlier decl × FitDecls setup (with_decl earlier decl) decls
 
--- all of a program under settings
+-- all arrays of a program under settings
 pub record FitsProgram (program : Program) (settings : List Setting) : Type 0 where
-  pub regions : AllRanks (map region_rank (known_of program settings).regions)
   pub globals : FitDecls (first_setup program settings) [] program.decls
   pub locals : (routine : Routine) → Contains (routines_of program) routine →
       (earlier : List Entry) → routine.own ≡ own_entries earlier routine.procedure →
