@@ -99,13 +99,15 @@ one_more xs name one thing few more grows is kept are =
     (entered_both (global_numbers more) (xs ++ entry_for one name ∷ []) few.names
     ((name.text, thing) ∷ [])
     (entered_more (global_numbers few) (global_numbers more) grows xs (entry_for one name ∷ [])
-    few.names are)
-    (record {
-      entry = entry_for one name;
-      there = right-among xs (entry_for one name ∷ []) (entry_for one name) (inl refl);
-      named = refl;
-      kept = kept;
-    }, tt))
+    few.names are) (
+      record {
+        entry = entry_for one name;
+        there = right-among xs (entry_for one name ∷ []) (entry_for one name) (inl refl);
+        named = refl;
+        kept = kept;
+      },
+      tt,
+    ))
 
 scalar_entered : (xs : List Entry) (name : Name) (base : Base) (value : ℤ) (frame : Frame) →
     Entered xs frame →

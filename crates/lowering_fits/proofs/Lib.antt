@@ -21,6 +21,7 @@ pub mod ArrayLemmas
 pub mod FrameLemmas
 pub mod BodyLemmas
 pub mod StorageLemmas
+pub mod HullLemmas
 pub mod TallyLemmas
 pub mod MadeLemmas
 pub mod PointSiteLemmas

@@ -84,7 +84,6 @@ module _ (Fine : Region → Type 0) (arrays_of later_of : List ℕ → ℕ) (set
     IsCalling setup scope environment numbers Good w name actuals →
     IsMadeCall Fine arrays_of later_of name
     (call (calling_of w name actuals scalar target line) next)) where
-
   abbrev pub Here : Where → Type 0
   Here w = IsWithin setup scope environment numbers w
 

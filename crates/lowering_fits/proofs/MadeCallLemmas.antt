@@ -196,8 +196,8 @@ callee_visited setup w name actuals scalar target line entry next below is calle
         currents = is.currents;
         edge = None;
       }) callee.routine.procedure.body) (sym agrees.names)
-      (Calls is.start place is.at is.prefixes is.form name actuals values store store 0
-      callee.routine is.visited is.under is.is many callee.named),
+          (Calls is.start place is.at is.prefixes is.form name actuals values store store 0
+          callee.routine is.visited is.under is.is many callee.named),
       count_alike formals (given_to w scalar formals actuals) handed params
           (as_many scope callee.routine.procedure.params ∙ ap length (sym signed)) are alike
           ∙ ap array_copies signed ∙ params_copies scope callee.routine.procedure.params,
@@ -349,12 +349,12 @@ module _ (program : Program) (settings : List Setting) (grammar : IsProgram prog
   pub all_calls : (depth : ℕ) → AllCalls depth
   all_calls zero routine member environment numbers framed inside w name actuals scalar target line
       next is = record {
-    no_copies = refl;
-    arrays = sym (nothing_down program own_arrays (routine_named program name.text));
-    later = sym (nothing_down program (reads_round program) (routine_named program name.text));
-    fine_arrays = tt;
-    fine_later = tt;
-  }
+        no_copies = refl;
+        arrays = sym (nothing_down program own_arrays (routine_named program name.text));
+        later = sym (nothing_down program (reads_round program) (routine_named program name.text));
+        fine_arrays = tt;
+        fine_later = tt;
+      }
   all_calls (suc depth) routine member environment numbers framed inside w name actuals scalar
       target line next is =
       let calling : Calling = calling_of w name actuals scalar target line in

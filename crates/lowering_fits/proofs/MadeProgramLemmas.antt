@@ -53,8 +53,11 @@ calls_sum program own depth (site ∷ sites) clean =
         sum_by (expanded program own depth) (cons_option found (routines_of_calls program (filter_map call_of sites)))
     one None count later = omega (arith, later)
     one (Some routine) count later =
-        omega (arith, later,
-        sum_by-cons (expanded program own depth) routine (routines_of_calls program (filter_map call_of sites)))
+        omega (
+          arith,
+          later,
+          sum_by-cons (expanded program own depth) routine (routines_of_calls program (filter_map call_of sites)),
+        )
 
     by : (site : Site) → HasNoFault site →
         tally (called (by_name program own depth)) sites ≡ sum_by (expanded program own depth) (routines_of_calls program (filter_map call_of sites)) →

@@ -4,7 +4,6 @@ use Rattle.std.proofs.Common.{◌≡◌, ℕ, ◌+◌, Bool, true, false, List, 
 use Rattle.std.specs.Prelude.{Option, Some, None, Contains}
 use Rattle.std.specs.Option.{option_to_list}
 use Rattle.std.specs.List.{flat_map}
-
 use Rattle.node_form.specs.Expression.{Variable}
 use Rattle.zpl_region.specs.declared.regions.Region.{Region}
 use Rattle.zpl_arrays.specs.Around.{copy_storage}
@@ -53,7 +52,6 @@ module _ (Fine : Region → Type 0) (arrays_of later_of : List ℕ → ℕ) (set
     IsCalling setup scope environment numbers Good w name actuals →
     IsMadeCall Fine arrays_of later_of name
     (call (calling_of w name actuals scalar target line) next)) where
-
   abbrev Here : Where → Type 0
   Here w = IsWithin setup scope environment numbers w
 
@@ -351,12 +349,22 @@ module _ (Fine : Region → Type 0) (arrays_of later_of : List ℕ → ℕ) (set
       (piece.Then test.before.code (piece.When test.check inside.code)) (((xs ++ ys) ++ zs) ++ os)
       xs ys test.before (record inside { code = piece.When test.check inside.code })
       (record {
-        reads = omega (arith, rounds_append ((xs ++ ys) ++ zs) os,
-            rounds_append (xs ++ ys) zs, rounds_append xs ys, rounds_append zs os,
-            silent.reads);
-        calls = λ n. omega (arith, calls_append n ((xs ++ ys) ++ zs) os,
-            calls_append n (xs ++ ys) zs, calls_append n xs ys,
-            calls_append n zs os, silent.calls n);
+        reads = omega (
+          arith,
+          rounds_append ((xs ++ ys) ++ zs) os,
+          rounds_append (xs ++ ys) zs,
+          rounds_append xs ys,
+          rounds_append zs os,
+          silent.reads,
+        );
+        calls = λ n. omega (
+          arith,
+          calls_append n ((xs ++ ys) ++ zs) os,
+          calls_append n (xs ++ ys) zs,
+          calls_append n xs ys,
+          calls_append n zs os,
+          silent.calls n,
+        );
       }) tests
       (recoded_made Fine arrays_of later_of (piece.When test.check inside.code) ys inside
       (bodies after))
@@ -369,12 +377,22 @@ module _ (Fine : Region → Type 0) (arrays_of later_of : List ℕ → ℕ) (set
       (((xs ++ ys) ++ zs) ++ os) xs (ys ++ (zs ++ os)) test.before
       (joined code first second)
       (record {
-        reads = omega (arith, rounds_append ((xs ++ ys) ++ zs) os,
-            rounds_append (xs ++ ys) zs, rounds_append xs ys, rounds_append zs os,
-            rounds_append ys (zs ++ os));
-        calls = λ n. omega (arith, calls_append n ((xs ++ ys) ++ zs) os,
-            calls_append n (xs ++ ys) zs, calls_append n xs ys,
-            calls_append n zs os, calls_append n ys (zs ++ os));
+        reads = omega (
+          arith,
+          rounds_append ((xs ++ ys) ++ zs) os,
+          rounds_append (xs ++ ys) zs,
+          rounds_append xs ys,
+          rounds_append zs os,
+          rounds_append ys (zs ++ os),
+        );
+        calls = λ n. omega (
+          arith,
+          calls_append n ((xs ++ ys) ++ zs) os,
+          calls_append n (xs ++ ys) zs,
+          calls_append n xs ys,
+          calls_append n zs os,
+          calls_append n ys (zs ++ os),
+        );
       }) tests
       (joined_made Fine arrays_of later_of code (ys ++ (zs ++ os)) ys (zs ++ os) first second
       (in_order ys (zs ++ os)) (bodies after) (lasts (behind after first)))

@@ -380,9 +380,14 @@ module _ (program : Program) (settings : List Setting) (grammar : IsProgram prog
       ap (expanded_from program (reads_round program)) found.1 in
       let many : length (storages ++ code.arrays) ≡ length (expanded_arrays program) =
       length-append storages code.arrays
-      ∙ omega (arith, length-map frame.store.arrays (λ array. array.storage),
-      globals_count program (known_of program settings) (borders_of program), is.arrays, own,
-      arrays_are program grammar clean sums) in
+      ∙ omega (
+        arith,
+        length-map frame.store.arrays (λ array. array.storage),
+        globals_count program (known_of program settings) (borders_of program),
+        is.arrays,
+        own,
+        arrays_are program grammar clean sums,
+      ) in
       record {
         numbered = record {
           scalars = refl;

@@ -141,9 +141,11 @@ givens_alike w result currents edge store below scalar (formal ∷ formals) NoEx
 givens_alike w result currents edge store below scalar (ScalarFormal false base ∷ formals)
     (ThenExpr first rest) [] are many = let no : ⊥ = omega (arith, many) in absurd no
 givens_alike w result currents edge store below scalar (ScalarFormal false base ∷ formals)
-    (ThenExpr first rest) (value ∷ values) are many =
-    (tt, givens_alike w result currents edge store below (suc scalar) formals rest values are.1
-    (omega (arith, many)))
+    (ThenExpr first rest) (value ∷ values) are many = (
+      tt,
+      givens_alike w result currents edge store below (suc scalar) formals rest values are.1
+          (omega (arith, many)),
+    )
 givens_alike w result currents edge store below scalar (ScalarFormal true base ∷ formals)
     (ThenExpr first rest) values are many =
     by (actual_thing w.environment first) are.0

@@ -1,5 +1,6 @@
 //! The laws of tables that lowered code comes to.
-ghost use Rattle.std.specs.Prelude.{◌≡◌, ◌++◌, All, Bool, IsTrue, List, Option, length, map, ℕ, ℤ};
+ghost use Rattle.std.specs.Prelude.{◌≡◌, ◌++◌, All, Bool, IsTrue, List, Option, length, map, take};
+ghost use Rattle.std.specs.Prelude.{ℕ, ℤ};
 ghost use Rattle.zpl_tree.specs.Grammar.{IsBody, IsProgram};
 ghost use Rattle.zpl_tree.specs.Syntax.{Inner, Program, Stmt};
 ghost use Rattle.zpl_names.specs.Accepted.{IsFaultless};
@@ -9,6 +10,7 @@ ghost use Rattle.zpl_names.specs.Shapes.{Shapes};
 ghost use Rattle.zpl_binding.specs.Bound.{IsAcceptedWith};
 ghost use Rattle.zpl_binding.specs.Declarations.{known_of};
 ghost use Rattle.zpl_binding.specs.Outcome.{Gives};
+ghost use Rattle.zpl_binding.specs.Regions.{inner_of};
 ghost use Rattle.zpl_binding.specs.Settings.{Setting};
 ghost use Rattle.zpl_binding.specs.Storages.{borders_of, storage_of};
 ghost use Rattle.zpl_region.specs.Tests.{is_within_limit};
@@ -33,7 +35,8 @@ ghost use Rattle.lowering_fits.specs.Inline.{FitRows, FitsPiece, IsGround};
 ghost use Rattle.lowering_fits.specs.Lowerings.{FitsLowered, IsLaidOut, IsSoundStmt, answering};
 ghost use Rattle.lowering_fits.specs.Lowerings.{region_rank};
 ghost use Rattle.lowering_fits.specs.Reach.{FitsKnown, IsBox, place_at};
-ghost use Rattle.lowering_fits.specs.Slates.{FitNumbers, FitsHoist, FitsSlate, FitsTree, IsPlaced};
+ghost use Rattle.lowering_fits.specs.Slates.{AllRanges, FitNumbers, FitsHoist, FitsSlate};
+ghost use Rattle.lowering_fits.specs.Slates.{FitsTree, IsPlaced};
 ghost use Rattle.lowering_fits.specs.Slates.{SlotsAt};
 ghost use Rattle.lowering_fits.specs.Standing.{CallsFit, IsStanding};
 ghost use Rattle.lowering_fits.specs.Declarations.{FitsProgram};
@@ -217,7 +220,13 @@ pub fn lowered_programs_fit()
 
 /// The storage of a declared array, where it has one, is a box within the limit, if its rank is one
 /// from 1 to 3; and so is that of a copy that is read round a home box, if it is within the limit.
+/// The storage has the rank of the array's region, and no flood dimension where that has none.
 pub fn storages_are_boxes()
+    ensures like { (program : Program) (settings : List Setting) (inner : Inner)
+        (region storage : Region) → inner_of (known_of program settings) inner ≡ Gives region →
+        storage_of (known_of program settings) (borders_of program) inner ≡ Gives storage →
+        (storage.rank ≡ region.rank)
+        × (AllRanges (take region.rank region.dims) → AllRanges (take storage.rank storage.dims)) }
     ensures declared { (program : Program) (settings : List Setting) (inner : Inner)
         (storage : Region) →
         storage_of (known_of program settings) (borders_of program) inner ≡ Gives storage →
