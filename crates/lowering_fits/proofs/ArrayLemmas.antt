@@ -23,7 +23,8 @@ use Rattle.zpl_lowering.specs.Lowered.{Lowered}
 use Rattle.zpl_lowering.specs.Tables.{Fringe, no_fringe, wider, all_wider, widened, fringes_of, stored_dims, stored_row, stored_rows, temp_dims, temp_row, empty_tables, tables_of}
 use Rattle.lowering_fits.specs.Slates.{SlotsAt, TempsAt, AllRanges, IsRowOf, StoragesAt, AllTemps, AllShifts}
 use Rattle.lowering_fits.specs.Lowerings.{AllRanks, IsLaidOut, FitsLowered}
-use Rattle.lowering_fits.specs.Whole.{AllBoxed, IsStorage, AllStorages, IsNumbered}
+use Rattle.lowering_fits.specs.Whole.{IsNumbered}
+use Rattle.lowering_fits.specs.Storages.{AllBoxed, IsStorage, AllStorages}
 use Rattle.lowering_fits.proofs.PieceLemmas.{code_makes_flat}
 use Rattle.lowering_fits.proofs.TreeLemmas.{storages_first, storages_rest}
 

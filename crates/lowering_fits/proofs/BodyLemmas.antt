@@ -15,7 +15,8 @@ use Rattle.lowering_fits.specs.Slates.{FitNumbers}
 use Rattle.lowering_fits.specs.Reach.{place_at}
 use Rattle.lowering_fits.specs.Lowerings.{IsLaidOut, FitsLowered, IsSoundStmt}
 use Rattle.lowering_fits.specs.Standing.{IsStanding}
-use Rattle.lowering_fits.specs.Whole.{AllKept, FitsGivens, AllVars, given_frames, name_frames, local_frames, body_frames}
+use Rattle.lowering_fits.specs.Storages.{AllKept}
+use Rattle.lowering_fits.specs.Whole.{FitsGivens, AllVars, given_frames, name_frames, local_frames, body_frames}
 use Rattle.lowering_fits.proofs.FormLemmas.{Lowers, stmt_fits}
 use Rattle.lowering_fits.proofs.FrameLemmas.{givens_fit, names_fit}
 
@@ -23,11 +24,12 @@ locals_fit : (base : Tables) (setup : Setup) (entry : Entry) (vars : List VarDef
     (next : Next) (rest : Framed → Next → Lowered) → AllVars setup vars →
     FitNumbers base frame.numbers → AllKept frame.numbers.arrays →
     (let last = local_frames setup entry vars frame next in
+    FitNumbers base last.frame.numbers → AllKept last.frame.numbers.arrays →
     IsLaidOut base last.next (rest last.frame last.next) →
     FitsLowered base (rest last.frame last.next)) →
     IsLaidOut base next (locals_code setup entry vars frame next rest) →
     FitsLowered base (locals_code setup entry vars frame next rest)
-locals_fit base setup entry [] frame next rest are fits kept rests laid = rests laid
+locals_fit base setup entry [] frame next rest are fits kept rests laid = rests fits kept laid
 locals_fit base setup entry (var ∷ vars) frame next rest are fits kept rests laid =
     let one = name_frames setup entry var.shape var.names frame next in
     names_fit base setup entry var.shape var.names frame next
@@ -40,8 +42,10 @@ pub body_fits : (base : Tables) (setup : Setup) (call : Calling → Next → Low
     (calling : Calling) (next : Next) (result : ℕ) (currents : Currents) (edge : Option Edge) →
     FitsGivens base calling.actuals → FitNumbers base calling.numbers →
     AllKept calling.numbers.arrays → AllVars setup routine.procedure.locals →
-    (let w = where_in setup routine calling (body_frames setup entry routine calling next).frame in
-    IsStanding base setup answers w currents →
+    (let frame = (body_frames setup entry routine calling next).frame in
+    let w = where_in setup routine calling frame in
+    (FitNumbers base frame.numbers → AllKept frame.numbers.arrays →
+    IsStanding base setup answers w currents) →
     IsVisited setup (place_at w result currents edge) routine.procedure.body →
     IsSoundStmt w.scope answers routine.procedure.body →
     IsLaidOut base next (body_code setup entry call routine calling next) →
@@ -61,6 +65,6 @@ body_fits base setup call with_all answers entry routine calling next result cur
     kept
     (λ fits' kept' laid'. locals_fit base setup entry routine.procedure.locals given.frame
     given.next body vars fits' kept'
-    (λ laid''. stmt_fits base setup call with_all answers
-    (where_in setup routine calling last.frame) result currents edge stands last.next
+    (λ fits'' kept'' laid''. stmt_fits base setup call with_all answers
+    (where_in setup routine calling last.frame) result currents edge (stands fits'' kept'') last.next
     routine.procedure.body visited sound laid'') laid') laid

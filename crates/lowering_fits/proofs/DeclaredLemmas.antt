@@ -12,6 +12,7 @@ use Rattle.zpl_names.specs.Scope.{kind_in, kind_of}
 use Rattle.zpl_names.specs.Ranks.{region_shape}
 use Rattle.zpl_names.specs.Declared.{Routine, own_entries, routine_named, routines_of, scope_of}
 use Rattle.zpl_names.specs.Accepted.{IsFaultless}
+use Rattle.zpl_names.proofs.ListLemmas.{Among}
 use Rattle.zpl_binding.specs.Outcome.{Outcome, Gives, Fails, outcome_of}
 use Rattle.zpl_binding.specs.Regions.{no_region, region_named}
 use Rattle.zpl_binding.specs.Settings.{Setting}
@@ -44,17 +45,14 @@ shaped_rank rank (Some shape) (Gives region) fits is =
     let same : length shape ≡ rank = cc in fits.rank ∙ same
 shaped_rank rank (Some shape) (Fails fault) fits is = tt
 
-pub declared_fit : (program : Program) (settings : List Setting) →
+pub among_fit : (program : Program) (settings : List Setting) →
     AllByRecursion IsDecl program.decls → IsFaultless program →
     ((text : List ℕ) (default : Region) →
     IsGiven Region (outcome_of default (known_of program settings).regions text)) →
-    (tables : Tables) (text : List ℕ) (routine : Routine) →
-    routine_named program text ≡ Some routine →
+    (tables : Tables) (routine : Routine) → Among (routines_of program) routine →
     SlotsAt tables 0 (map region_rank (known_of program settings).regions) →
     FitsKnown tables (known_of program settings) (scope_of program routine)
-declared_fit program settings grammar clean given tables text routine named slots =
-    let among = find_among (λ routine. bytes_eq routine.procedure.name.text text)
-    (routines_of program) routine named in
+among_fit program settings grammar clean given tables routine among slots =
     let sound : IsSound routine = routine_sound program.decls [] routine tt grammar among in
     known_fits tables program settings routine
     (λ name. own_kind (kind_in routine.own name)
@@ -65,3 +63,16 @@ declared_fit program settings grammar clean given tables text routine named slot
     (λ name rank is. shaped_rank rank (region_shape (kind_of (scope_of program routine) name))
     (region_named (known_of program settings) name)
     (reach_fits program settings clean routine sound name) is) slots
+
+pub declared_fit : (program : Program) (settings : List Setting) →
+    AllByRecursion IsDecl program.decls → IsFaultless program →
+    ((text : List ℕ) (default : Region) →
+    IsGiven Region (outcome_of default (known_of program settings).regions text)) →
+    (tables : Tables) (text : List ℕ) (routine : Routine) →
+    routine_named program text ≡ Some routine →
+    SlotsAt tables 0 (map region_rank (known_of program settings).regions) →
+    FitsKnown tables (known_of program settings) (scope_of program routine)
+declared_fit program settings grammar clean given tables text routine named slots =
+    among_fit program settings grammar clean given tables routine
+    (find_among (λ routine. bytes_eq routine.procedure.name.text text) (routines_of program)
+    routine named) slots

@@ -1,5 +1,5 @@
 -- The code of all statements fits, where what they call does.
-use Rattle.std.proofs.Common.{◌≡◌, ℕ, zero, suc, ◌+◌, ◌<◌, Bool, true, false, List, [], ◌∷◌, ◌++◌, length, refl, sym, ap, ◌∙◌, subst, arith}
+use Rattle.std.proofs.Common.{◌≡◌, ℕ, suc, ◌+◌, ◌<◌, Bool, true, false, List, [], ◌∷◌, ◌++◌, length, refl, sym, ap, ◌∙◌, subst, arith}
 use Rattle.std.specs.Prelude.{Option, Some, None, slice_get, Contains}
 use Rattle.std.specs.Option.{IsSomeAnd}
 use Rattle.zpl_nums.specs.declared.operators.Op.{Op}
@@ -12,9 +12,9 @@ use Rattle.zpl_meaning.specs.Context.{Currents, Edge, Setup, Place}
 use Rattle.zpl_meaning.specs.Points.{assigned_expr}
 use Rattle.zpl_meaning.specs.Calls.{formals_in}
 use Rattle.zpl_meaning.specs.Statement.{arms_at, step_expr}
-use Rattle.zpl_meaning.specs.Proper.{HasCurrent, IsProperScalar, IsVariable, IsPlainAssign, IsProperCall, AreProperActuals, IsPointForm, AreProperTests, HasProperTests, IsProperTested, IsProperStmt, IsProperForm}
+use Rattle.zpl_meaning.specs.Proper.{HasCurrent, IsProperScalar, IsVariable, IsPlainAssign, IsProperCall, AreProperActuals, IsPointForm, AreProperTests, HasProperTests, IsProperTested, IsProperForm}
 use Rattle.zpl_meaning.specs.Visited.{IsUnder, list_of, arms_parts, else_parts, IsCall, AsStatement, AsAnswer, IsVisited, Holds}
-use Rattle.meaning_ranks.specs.Ranked.{IsRanked, IsRankedValue, AreShapedActuals, IsRankedCall, IsPointFormOf, AreRankedTests, HasRankedTests, IsRankedTested, IsRankedStmt, IsRankedForm}
+use Rattle.meaning_ranks.specs.Ranked.{IsRanked, IsRankedValue, AreShapedActuals, IsRankedCall, IsPointFormOf, AreRankedTests, HasRankedTests, IsRankedTested, IsRankedForm}
 use Rattle.node_form.specs.Expression as expr
 use Rattle.node_form.specs.Expression.{Expression, words_of}
 use Rattle.node_form.specs.declared.tables.Tables.{Tables}
@@ -30,6 +30,7 @@ use Rattle.lowering_fits.specs.Inline.{FitsScalar, FitRows, FitsPiece}
 use Rattle.lowering_fits.specs.Reach.{place_at, HasFlatRemaps, HaveFlatRemaps, IsReach}
 use Rattle.lowering_fits.specs.Lowerings.{IsLaidOut, FitsLowered, IsSoundStmt, AreSoundStmts, IsSoundForm, AreSoundArms, IsSoundElse}
 use Rattle.lowering_fits.specs.Standing.{HasAnswer, calling_of, CallsFit, IsStanding}
+use Rattle.lowering_fits.proofs.PartLemmas.{contains_first, contains_later, contains_left, contains_right, AreRight}
 use Rattle.lowering_fits.proofs.TreeLemmas.{scalar_tree, IsBelow, below_at}
 use Rattle.lowering_fits.proofs.SlateLemmas.{set_fits}
 use Rattle.lowering_fits.proofs.BracketLemmas.{LimitsAreTold}
@@ -38,24 +39,6 @@ use Rattle.lowering_fits.proofs.StatementLemmas.{test_fits, scalar_fits, to_fits
 use Rattle.lowering_fits.proofs.MemberLemmas.{shattered_fits}
 use Rattle.lowering_fits.proofs.WriteLemmas.{write_fits, borders_fit}
 use Rattle.lowering_fits.proofs.PrefixLemmas.{under_fits}
-
--- ---- lists
-
-contains_first : {A : Type 0} (x : A) (xs : List A) → Contains (x ∷ xs) x
-contains_first x xs = (0, omega arith, refl)
-
-contains_later : {A : Type 0} (y x : A) (xs : List A) → Contains xs x → Contains (y ∷ xs) x
-contains_later y x xs in_it = let below = in_it.1 in (suc in_it.0, omega arith, in_it.2)
-
-contains_left : {A : Type 0} (xs ys : List A) (x : A) → Contains xs x → Contains (xs ++ ys) x
-contains_left [] ys x in_it = let below = in_it.1 in absurd (omega arith)
-contains_left (y ∷ xs) ys x (zero, below, is) = (zero, omega arith, is)
-contains_left (y ∷ xs) ys x (suc k, below, is) =
-    contains_later y x (xs ++ ys) (contains_left xs ys x (k, omega arith, is))
-
-contains_right : {A : Type 0} (xs ys : List A) (x : A) → Contains ys x → Contains (xs ++ ys) x
-contains_right [] ys x in_it = in_it
-contains_right (y ∷ xs) ys x in_it = contains_later y x (xs ++ ys) (contains_right xs ys x in_it)
 
 -- ---- parts of code
 
@@ -167,12 +150,6 @@ lefts_count base [] (first ∷ rest) fits = absurd fits
 lefts_count base (one ∷ placed) [] fits = absurd fits
 lefts_count base (one ∷ placed) (first ∷ rest) fits =
     ap suc (lefts_count base placed rest fits.1)
-
--- each visited statement is proper, and its ranks agree
-abbrev pub AreRight : Setup → Type 0
-AreRight setup =
-    (place : Place) (stmt : Stmt) → IsVisited setup place stmt →
-    IsProperStmt place stmt × IsRankedStmt place stmt
 
 module _ (limits : LimitsAreTold) (base : Tables) (w : Where) (result : ℕ) (currents : Currents)
     (edge : Option Edge) (reach : IsReach base w currents) where

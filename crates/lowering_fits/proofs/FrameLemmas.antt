@@ -23,7 +23,8 @@ use Rattle.zpl_lowering.specs.Program.{Framed, with_scalar, with_array, Entry, z
 use Rattle.lowering_fits.specs.Inline.{FitRows}
 use Rattle.lowering_fits.specs.Slates.{HasStorage, AllBelow, AllStored, FitNumbers}
 use Rattle.lowering_fits.specs.Lowerings.{IsLaidOut, FitsLowered}
-use Rattle.lowering_fits.specs.Whole.{AllBoxed, IsStorage, AllKept, FitsGivens, FitsVars, given_frames, name_frames}
+use Rattle.lowering_fits.specs.Storages.{AllBoxed, IsStorage, AllKept}
+use Rattle.lowering_fits.specs.Whole.{FitsGivens, FitsVars, given_frames, name_frames}
 use Rattle.lowering_fits.proofs.TreeLemmas.{array_of, stored_of}
 use Rattle.lowering_fits.proofs.SlateLemmas.{set_fits, put_loop}
 use Rattle.lowering_fits.proofs.PhaseLemmas.{laid_front, laid_behind, both_fit}

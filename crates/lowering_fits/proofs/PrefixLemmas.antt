@@ -175,6 +175,8 @@ module _ (limits : LimitsAreTold) (base : Tables) (w : Where) (result : ℕ) (cu
       (with_over currents (prefix_rank w.scope w.prefix prefix) some_over)
   reach_behind opened fits = record {
     numbers = reach.numbers;
+    kept = reach.kept;
+    globals = reach.globals;
     known = reach.known;
     names = reach.names;
     variables = reach.variables;

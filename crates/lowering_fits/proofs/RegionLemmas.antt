@@ -67,7 +67,7 @@ over_good dims steps =
     fixed_good (length dims) (limited (region_over dims))
     (limited_box (length dims) (region_over dims) (over_box dims steps))
 
-no_region_good : IsGoodRegion (Gives no_region)
+pub no_region_good : IsGoodRegion (Gives no_region)
 no_region_good = (over_box (all_from (pos 1) (pos 0) ∷ []) (one_step, tt), refl)
 
 -- ---- spans

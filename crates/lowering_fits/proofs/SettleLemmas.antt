@@ -387,6 +387,8 @@ reach_under : (base : Tables) (w : Where) (currents : Currents) → IsReach base
     (with_over currents rank (record { region = region; mask = None }))
 reach_under base w currents reach rank region source fits = record {
   numbers = reach.numbers;
+  kept = reach.kept;
+  globals = reach.globals;
   known = reach.known;
   names = reach.names;
   variables = reach.variables;

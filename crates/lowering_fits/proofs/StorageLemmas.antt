@@ -19,7 +19,7 @@ use Rattle.zpl_binding.specs.Regions.{Known, limited, inner_of}
 use Rattle.zpl_binding.specs.Storages.{Border, widened, shape_borders, storage_of}
 use Rattle.node_form.specs.Fits.{IsRank}
 use Rattle.lowering_fits.specs.Reach.{IsBox}
-use Rattle.lowering_fits.specs.Whole.{AllBoxed, IsStorage}
+use Rattle.lowering_fits.specs.Storages.{AllBoxed, IsStorage}
 use Rattle.lowering_fits.proofs.ArrayLemmas.{PadsFrom, pads}
 use Rattle.lowering_fits.proofs.BracketLemmas.{LimitsAreTold, outside_box, moved_box}
 use Rattle.lowering_fits.proofs.FrameLemmas.{boxed_steps}

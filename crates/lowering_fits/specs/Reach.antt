@@ -1,20 +1,23 @@
 -- What is in reach of a statement that is lowered, and fits: current regions, names, and what was
 -- computed before the run.
-use Rattle.std.specs.Prelude.{◌≡◌, ℕ, ◌<◌, false, List, length, take, Option, Some, None, option_map, slice_get, IsTrue}
+use Rattle.std.specs.Prelude.{◌≡◌, ℕ, ◌<◌, false, List, find, length, take, Option, Some, None, option_map, slice_get, IsTrue}
 use Rattle.std.specs.List.{AllByRecursion}
 use Rattle.std.specs.Option.{IsSomeAnd}
 use Rattle.zpl_region.specs.declared.regions.Region.{Region}
 use Rattle.zpl_region.specs.Dim.{HasStep}
 use Rattle.zpl_region.specs.Region.{IsPadded}
 use Rattle.zpl_region.specs.Tests.{is_within_limit}
-use Rattle.zpl_tree.specs.Syntax.{Name, Dir, Expr, Number, Truth, Coord, Named, Shifted, Around, Remap, Call, Paren, Neg, Not, Abs, Pair, Reduce, Scan, Flood, Exprs, NoExpr, ThenExpr}
-use Rattle.zpl_names.specs.Kinds.{Shape}
+use Rattle.zpl_tree.specs.Syntax.{Name, Dir, Expr, Number, Truth, Coord, Named, Shifted, Around, Remap, Call, Paren, Neg, Not, Abs, Pair, Reduce, Scan, Flood, Exprs, NoExpr, ThenExpr, Program}
+use Rattle.std.specs.Str.{bytes_eq}
+use Rattle.zpl_names.specs.Declared.{globals_of}
+use Rattle.zpl_names.specs.Kinds as kind
+use Rattle.zpl_names.specs.Kinds.{Kind, Shape}
 use Rattle.zpl_names.specs.Faults.{has_flood}
-use Rattle.zpl_names.specs.Scope.{Scope, kind_of}
+use Rattle.zpl_names.specs.Scope.{Scope, kind_in, kind_of}
 use Rattle.zpl_names.specs.Ranks.{dir_rank, region_shape, array_shape}
 use Rattle.zpl_binding.specs.Outcome.{Outcome, Gives, Fails}
 use Rattle.zpl_binding.specs.Regions.{Known, region_named}
-use Rattle.zpl_meaning.specs.Store.{Scalar, ArrayAt, Environment, thing_of}
+use Rattle.zpl_meaning.specs.Store.{Thing, Scalar, ArrayAt, Fixed, Names, Environment, thing_of}
 use Rattle.zpl_meaning.specs.Regions.{vector_in}
 use Rattle.zpl_meaning.specs.Context.{Over, Currents, Edge, Place}
 use Rattle.node_form.specs.declared.tables.Tables.{Tables}
@@ -22,6 +25,7 @@ use Rattle.node_form.specs.Fits.{IsVector, HasSlot, FitsRegion}
 use Rattle.zpl_lowering.specs.Where.{Stored, Numbers, Slotted, SlotCurrents, slotted_or, Where}
 use Rattle.zpl_lowering.specs.Bracket.{region_slot}
 use Rattle.lowering_fits.specs.Slates.{AllRanges, FitsOver, FitNumbers}
+use Rattle.lowering_fits.specs.Storages.{AllKept}
 
 -- ---- regions
 
@@ -134,10 +138,41 @@ FitScalars tables environment numbers =
     (text : List ℕ) (place : ℕ) → thing_of environment text ≡ Some (Scalar place) →
     IsSomeAnd (slice_get numbers.scalars place) (λ n. n < tables.scalars)
 
+-- ---- things that have numbers
+
+abbrev pub IsKept : Numbers → Kind → Thing → Type 0
+IsKept numbers (kind.Scalar base) (Scalar place) = place < length numbers.scalars
+IsKept numbers (kind.Scalar base) (ArrayAt place home) = ⊥
+IsKept numbers (kind.Scalar base) (Fixed value) = ⊥
+IsKept numbers (kind.Array base shape) (ArrayAt place home) = FitsName numbers shape place home
+IsKept numbers (kind.Array base shape) (Scalar place) = ⊥
+IsKept numbers (kind.Array base shape) (Fixed value) = ⊥
+IsKept numbers (kind.Config base) (Fixed value) = Unit {0}
+IsKept numbers (kind.Config base) (Scalar place) = ⊥
+IsKept numbers (kind.Config base) (ArrayAt place home) = ⊥
+IsKept numbers (kind.Constant base) (Fixed value) = Unit {0}
+IsKept numbers (kind.Constant base) (Scalar place) = ⊥
+IsKept numbers (kind.Constant base) (ArrayAt place home) = ⊥
+IsKept numbers (kind.Region shape) thing = ⊥
+IsKept numbers (kind.Direction rank) thing = ⊥
+IsKept numbers (kind.Procedure signature) thing = ⊥
+
+abbrev pub named_thing : Names → List ℕ → Option Thing
+named_thing names text =
+    option_map (λ entry. entry.1) (find (λ entry. bytes_eq entry.0 text) names)
+
+-- each stands for what is of its kind
+abbrev pub AreGlobals : Program → Numbers → Names → Type 0
+AreGlobals program numbers globals =
+    (text : List ℕ) (thing : Thing) → named_thing globals text ≡ Some thing →
+    (one : Kind) × (kind_in (globals_of program) text ≡ Some one) × IsKept numbers one thing
+
 -- ---- all that is in reach
 
 pub record IsReach (tables : Tables) (w : Where) (currents : Currents) : Type 0 where
   pub numbers : FitNumbers tables w.numbers
+  pub kept : AllKept w.numbers.arrays
+  pub globals : AreGlobals w.setup.program w.numbers w.setup.globals
   pub known : FitsKnown tables w.setup.known w.scope
   pub names : FitNames w.scope w.environment w.numbers
   pub variables : FitScalars tables w.environment w.numbers

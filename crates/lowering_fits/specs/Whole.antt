@@ -1,37 +1,17 @@
 -- When all code of a program is numbered as it is laid out, and its storages may stand in tables.
 use Rattle.std.specs.Prelude.{◌≡◌, ℕ, ◌+◌, ◌<◌, List, [], ◌∷◌, ◌++◌, length}
-use Rattle.zpl_region.specs.declared.dims.Dim.{Dim}
-use Rattle.zpl_region.specs.declared.regions.Region.{Region}
-use Rattle.zpl_region.specs.Hull.{IsBoxed}
-use Rattle.zpl_region.specs.Region.{IsPadded, IsWithinLimit}
 use Rattle.zpl_tree.specs.Syntax.{Name, Bracket, NoBracket, Bracketed, VarDef}
 use Rattle.zpl_names.specs.Expansion.{FormalName, formal_names}
 use Rattle.zpl_names.specs.Declared.{Routine}
 use Rattle.zpl_meaning.specs.Context.{Setup}
 use Rattle.zpl_meaning.specs.Variables.{home_box, storage_box}
-use Rattle.node_form.specs.Fits.{IsRank}
 use Rattle.node_form.specs.declared.tables.Tables.{Tables}
-use Rattle.zpl_lowering.specs.Where.{Stored, Next}
+use Rattle.zpl_lowering.specs.Where.{Next}
 use Rattle.zpl_lowering.specs.Lowered.{Lowered, rows_alone, behind}
 use Rattle.zpl_lowering.specs.Statement.{Calling, Given, Valued, Copied, Referring}
 use Rattle.zpl_lowering.specs.Program.{Framed, with_scalar, with_array, Entry, zero_row, clear_row, made_copy}
 use Rattle.lowering_fits.specs.Slates.{HasStorage}
-
-abbrev pub AllBoxed : List Dim → Type 0
-AllBoxed [] = Unit {0}
-AllBoxed (one ∷ dims) = IsBoxed one × AllBoxed dims
-
--- a box within the limit
-pub record IsStorage (storage : Region) : Type 0 where
-  pub is_rank : IsRank storage.rank
-  pub boxed : AllBoxed storage.dims
-  pub three : length storage.dims ≡ 3
-  pub padded : IsPadded storage.rank storage.dims
-  pub limit : IsWithinLimit storage
-
-abbrev pub AllStorages : List Region → Type 0
-AllStorages [] = Unit {0}
-AllStorages (storage ∷ storages) = IsStorage storage × AllStorages storages
+use Rattle.lowering_fits.specs.Storages.{IsStorage}
 
 -- The numbers begin where the tables do: arrays, copies behind them, and temporaries behind these.
 -- All copies are those of calls.
@@ -44,11 +24,6 @@ pub record IsNumbered (next : Next) (lowered : Lowered) : Type 0 where
   pub temps : next.temps ≡ length lowered.arrays + length lowered.later
 
 -- ---- parameters and local variables
-
--- the storages of a procedure's arrays
-abbrev pub AllKept : List Stored → Type 0
-AllKept [] = Unit {0}
-AllKept (stored ∷ rest) = IsStorage stored.storage × AllKept rest
 
 -- what parameters take: scalars that are there, and arrays that are, with their storages
 abbrev pub FitsGiven : Tables → Given → Type 0

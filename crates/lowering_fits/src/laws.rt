@@ -1,5 +1,6 @@
 //! The laws of tables that lowered code comes to.
-ghost use Rattle.std.specs.Prelude.{◌≡◌, ◌++◌, All, Bool, IsTrue, List, Option, length, map, ℕ, ℤ};
+ghost use Rattle.std.specs.Prelude.{◌≡◌, ◌++◌, All, Bool, IsTrue, List, Option, length, map, take};
+ghost use Rattle.std.specs.Prelude.{ℕ, ℤ};
 ghost use Rattle.zpl_tree.specs.Grammar.{IsBody, IsProgram};
 ghost use Rattle.zpl_tree.specs.Syntax.{Inner, Program, Stmt};
 ghost use Rattle.zpl_names.specs.Accepted.{IsFaultless};
@@ -9,6 +10,7 @@ ghost use Rattle.zpl_names.specs.Shapes.{Shapes};
 ghost use Rattle.zpl_binding.specs.Bound.{IsAcceptedWith};
 ghost use Rattle.zpl_binding.specs.Declarations.{known_of};
 ghost use Rattle.zpl_binding.specs.Outcome.{Gives};
+ghost use Rattle.zpl_binding.specs.Regions.{inner_of};
 ghost use Rattle.zpl_binding.specs.Settings.{Setting};
 ghost use Rattle.zpl_binding.specs.Storages.{borders_of, storage_of};
 ghost use Rattle.zpl_region.specs.Tests.{is_within_limit};
@@ -23,7 +25,8 @@ ghost use Rattle.flat_form.specs.Flat.{IsFlat};
 ghost use Rattle.flat_form.specs.Row.{Row, with_rows};
 ghost use Rattle.zpl_lowering.specs.Hoist.{Free, hoisted};
 ghost use Rattle.zpl_lowering.specs.Lowered.{Lowered};
-ghost use Rattle.zpl_lowering.specs.Program.{Entry, body_code, where_in};
+ghost use Rattle.zpl_lowering.specs.Program.{Entry, body_code, first_next, lowered_program};
+ghost use Rattle.zpl_lowering.specs.Program.{call_code, where_in};
 ghost use Rattle.zpl_lowering.specs.Slate.{Slate};
 ghost use Rattle.zpl_lowering.specs.Statement.{Calling, lowered};
 ghost use Rattle.zpl_lowering.specs.Tables.{empty_tables, tables_of};
@@ -32,15 +35,21 @@ ghost use Rattle.lowering_fits.specs.Inline.{FitRows, FitsPiece, IsGround};
 ghost use Rattle.lowering_fits.specs.Lowerings.{FitsLowered, IsLaidOut, IsSoundStmt, answering};
 ghost use Rattle.lowering_fits.specs.Lowerings.{region_rank};
 ghost use Rattle.lowering_fits.specs.Reach.{FitsKnown, IsBox, place_at};
-ghost use Rattle.lowering_fits.specs.Slates.{FitNumbers, FitsHoist, FitsSlate, FitsTree, IsPlaced};
+ghost use Rattle.lowering_fits.specs.Slates.{AllRanges, FitNumbers, FitsHoist, FitsSlate};
+ghost use Rattle.lowering_fits.specs.Slates.{FitsTree, IsPlaced};
 ghost use Rattle.lowering_fits.specs.Slates.{SlotsAt};
 ghost use Rattle.lowering_fits.specs.Standing.{CallsFit, IsStanding};
-ghost use Rattle.lowering_fits.specs.Whole.{AllKept, AllStorages, AllVars, FitsGivens, IsNumbered};
-ghost use Rattle.lowering_fits.specs.Whole.{IsStorage, body_frames};
+ghost use Rattle.lowering_fits.specs.Declarations.{FitsProgram};
+ghost use Rattle.lowering_fits.specs.Storages.{AllKept, AllStorages, IsStorage};
+ghost use Rattle.lowering_fits.specs.Whole.{AllVars, FitsGivens, IsNumbered};
+ghost use Rattle.lowering_fits.specs.Whole.{body_frames};
 
 use meaning_ranks::ranks_agree;
 use zpl_meaning::{no_stand_in_is_met, what_is_computed_has_a_value};
-use zpl_names::faultless_programs_have_faultless_sites;
+use zpl_names::{
+    counts_add_up, declared_ranks_are_at_most_three, faultless_programs_have_faultless_sites,
+    faultless_programs_leave_nothing_open, procedures_are_there, ranks_are_at_most_three,
+};
 use zpl_region::tests_tell_the_facts;
 
 /// Rows that fit, laid out in tables that have only scalars, slots and arrays, make the tables of a
@@ -129,7 +138,8 @@ pub fn bodies_fit()
         (let setup = first_setup program settings in
         let last = body_frames setup entry routine calling next in
         let w = where_in setup routine calling last.frame in
-        IsStanding tables setup answers w currents →
+        (FitNumbers tables last.frame.numbers → AllKept last.frame.numbers.arrays →
+        IsStanding tables setup answers w currents) →
         IsVisited setup (place_at w result currents edge) routine.procedure.body →
         IsSoundStmt w.scope answers routine.procedure.body →
         IsLaidOut tables next (body_code setup entry call routine calling next) →
@@ -150,9 +160,73 @@ pub fn numbered_code_makes_a_flat_program()
         FitsLowered (empty_tables grid lowered) lowered → IsFlat (tables_of grid lowered) }
 {}
 
+/// All code of a program of the grammar without faults is numbered as it is laid out: the program
+/// has as many arrays and copies as the expanded program, and behind each call those that the
+/// procedure's text asks for.
+pub fn all_code_is_numbered()
+    ensures { (program : Program) (settings : List Setting) → IsProgram program →
+        IsFaultless program → IsNumbered (first_next program) (lowered_program program settings) }
+{
+    ranks_agree();
+    no_stand_in_is_met();
+    counts_add_up();
+}
+
+/// In a program of the grammar without faults, under settings that it accepts, calls fit, down any
+/// chain of procedures, where what is declared is as the text says.
+pub fn calls_fit()
+    ensures { (program : Program) (settings : List Setting) → IsProgram program →
+        IsFaultless program → IsAcceptedWith program settings → FitsProgram program settings →
+        (tables : Code) → SlotsAt tables 0 (map region_rank (known_of program settings).regions) →
+        (depth : ℕ) → CallsFit tables (first_setup program settings)
+        (call_code (first_setup program settings) depth) }
+{
+    ranks_agree();
+    no_stand_in_is_met();
+    tests_tell_the_facts();
+    what_is_computed_has_a_value();
+    counts_add_up();
+    ranks_are_at_most_three();
+    declared_ranks_are_at_most_three();
+    faultless_programs_have_faultless_sites();
+    faultless_programs_leave_nothing_open();
+    procedures_are_there();
+}
+
+/// And so does all code of the program: it makes a flat program's tables, if its storages are boxes
+/// within the limit.
+pub fn lowered_programs_fit()
+    ensures fit { (program : Program) (settings : List Setting) → IsProgram program →
+        IsFaultless program → IsAcceptedWith program settings → FitsProgram program settings →
+        (grid : List ℕ) → FitsLowered (empty_tables grid (lowered_program program settings))
+        (lowered_program program settings) }
+    ensures flat { (program : Program) (settings : List Setting) → IsProgram program →
+        IsFaultless program → IsAcceptedWith program settings → FitsProgram program settings →
+        (let lowered = lowered_program program settings in
+        AllStorages (lowered.arrays ++ (lowered.copies ++ lowered.later)) →
+        (grid : List ℕ) → IsGrid grid → IsFlat (tables_of grid lowered)) }
+{
+    ranks_agree();
+    no_stand_in_is_met();
+    tests_tell_the_facts();
+    what_is_computed_has_a_value();
+    counts_add_up();
+    ranks_are_at_most_three();
+    declared_ranks_are_at_most_three();
+    faultless_programs_have_faultless_sites();
+    faultless_programs_leave_nothing_open();
+    procedures_are_there();
+}
+
 /// The storage of a declared array, where it has one, is a box within the limit, if its rank is one
 /// from 1 to 3; and so is that of a copy that is read round a home box, if it is within the limit.
+/// The storage has the rank of the array's region, and no flood dimension where that has none.
 pub fn storages_are_boxes()
+    ensures like { (program : Program) (settings : List Setting) (inner : Inner)
+        (region storage : Region) → inner_of (known_of program settings) inner ≡ Gives region →
+        storage_of (known_of program settings) (borders_of program) inner ≡ Gives storage →
+        (storage.rank ≡ region.rank)
+        × (AllRanges (take region.rank region.dims) → AllRanges (take storage.rank storage.dims)) }
     ensures declared { (program : Program) (settings : List Setting) (inner : Inner)
         (storage : Region) →
         storage_of (known_of program settings) (borders_of program) inner ≡ Gives storage →

@@ -8,6 +8,7 @@
 mod laws;
 
 pub use laws::{
-    bodies_are_sound, bodies_fit, declared_names_fit, numbered_code_makes_a_flat_program,
-    operators_fit, rows_that_fit_make_flat_programs, statements_fit, storages_are_boxes,
+    all_code_is_numbered, bodies_are_sound, bodies_fit, calls_fit, declared_names_fit,
+    lowered_programs_fit, numbered_code_makes_a_flat_program, operators_fit,
+    rows_that_fit_make_flat_programs, statements_fit, storages_are_boxes,
 };
