@@ -21,8 +21,11 @@ use Rattle.pass_sizes.specs.Sizes.{is_unflat}
 use Rattle.pass_sizes.proofs.NormalLemmas.{normal_count}
 use Rattle.pass_sizes.proofs.SettledLemmas.{checked_count}
 use Rattle.pass_sizes.proofs.TestLemmas.{unflat_blind}
-use Rattle.pass_parts.specs.Parts.{CanBeFused, KnowsWhatItJoins}
+use Rattle.pass_parts.specs.Checks.{ChecksWhatFollows}
+use Rattle.pass_parts.specs.Parts.{CanBeFused}
+use Rattle.pass_parts.proofs.CheckedLoops.{checked_knows}
 use Rattle.pass_parts.proofs.NameLemmas.{none_counted, none_first}
+use Rattle.pass_parts.proofs.NormalLoops.{normal_checks}
 use Rattle.zpl_compile.specs.Compile.{if_asked}
 
 -- ---- rows of flat programs
@@ -86,17 +89,20 @@ module _ (flat : Tables) (is : IsFlat flat) where
   checked_none =
       omega (arith, checked_count (normalised flat) is_unflat unflat_blind, normal_none)
 
+  normal_fits : Fits (normalised flat)
+  normal_fits = normalised_fits flat is.fits (unvoted flat flat_none)
+
   joined_fits : Fits (checked (normalised flat))
   joined_fits =
-      checked_fits (normalised flat) (normalised_fits flat is.fits (unvoted flat flat_none))
+      checked_fits (normalised flat) normal_fits
 
-  pub can_be_fused : KnowsWhatItJoins (checked (normalised flat))
-      → CanBeFused (checked (normalised flat))
-  can_be_fused known = record {
+  pub can_be_fused : ChecksWhatFollows flat → CanBeFused (checked (normalised flat))
+  can_be_fused checks = record {
     flat =
         All-from_recursion (λ row. is_between_loops row ≡ false) (checked (normalised flat)).code
         (all_between (checked (normalised flat)).code checked_none);
-    known = known;
+    known =
+        checked_knows (normalised flat) normal_fits (normal_checks flat is.fits checks);
   }
 
   -- with loops joined, or not

@@ -58,7 +58,7 @@ tidy origin is =
       undecided = still_undecided build program;
       fused = λ asked.
           all_fused build (flat_of build program)
-          (can_be_fused (flat_of build program) lowered.flat is.known) asked;
+          (can_be_fused (flat_of build program) lowered.flat is.checks) asked;
       contracted = λ asked.
           all_contracted build (flat_of build program)
           (first_fits (flat_of build program) lowered.flat build.options.fuse) asked;

@@ -6,21 +6,21 @@ ghost use Rattle.code_parts.specs.Contracted.{IsContracted};
 ghost use Rattle.code_parts.specs.Early.{IsEarly};
 ghost use Rattle.code_parts.specs.Exchanged.{HasNoRepeats, IsMerged};
 ghost use Rattle.code_parts.specs.Fused.{IsFused};
-ghost use Rattle.pass_parts.specs.Parts.{KnowsWhatItJoins};
+ghost use Rattle.pass_parts.specs.Checks.{ChecksWhatFollows};
 ghost use Rattle.zpl_claims.specs.Build.{Build};
 ghost use Rattle.zpl_claims.specs.Origin.{Origin};
 ghost use Rattle.zpl_claims.specs.Tidy.{IsTidy};
 ghost use Rattle.zpl_compile.specs.Compile.{compiled};
-ghost use Rattle.compiled_tidy.specs.Lowered.{IsLoweredTidily, flat_of, joined_of};
+ghost use Rattle.compiled_tidy.specs.Lowered.{IsLoweredTidily, flat_of};
 
 /// The code of a program is free of what each optimisation leaves out that is asked for, whichever
 /// others are: of repeated exchanges, of exchanges that could be one, and of starts that could be
 /// earlier; of arrays that could be cells, where the lowered tables are a flat program's; and of
-/// loops that could be one, where besides wherever two of them could be joined the references of
-/// the second one are known.
+/// loops that could be one, where besides wherever checks alone stand between two loops over one
+/// slot the references of the second one are among theirs.
 pub fn letters_are_kept()
     ensures fused { (build : Build) (program : Program) → IsFlat (flat_of build program) →
-        KnowsWhatItJoins (joined_of build program) → build.options.fuse ≡ true →
+        ChecksWhatFollows (flat_of build program) → build.options.fuse ≡ true →
         IsFused (compiled build program) }
     ensures contracted { (build : Build) (program : Program) → IsFlat (flat_of build program) →
         build.options.contract ≡ true → IsContracted (compiled build program) }

@@ -11,7 +11,7 @@ use Rattle.fuse_contract.specs.Fusing.{reference}
 use Rattle.pass_parts.specs.Parts.{known_after, names_alone}
 
 -- a group that puts array 0 to what array 1 has
-tables : Tables
+abbrev tables : Tables
 tables = record {
   grid = 1 ∷ 0 ∷ 0 ∷ [];
   scalars = 0;

@@ -44,7 +44,7 @@ group_there tables before more group n is size =
     there (one ∷ before) = there before
 
 -- ---- goals by their new numbers
-goals_moved : (old new : List Instr) (numbers : List ℕ) (at : ℕ)
+pub goals_moved : (old new : List Instr) (numbers : List ℕ) (at : ℕ)
     → ((k number : ℕ) → slice_get numbers k ≡ Some number → is_goal old (at + k) ≡ true
     → is_goal new number ≡ true)
     → GoalsMoved old new at numbers

@@ -12,3 +12,7 @@ pub mod LeftLemmas
 pub mod CellLemmas
 pub mod ContractedLemmas
 pub mod FusedCells
+pub mod RowGoals
+pub mod CheckedLemmas
+pub mod CheckedLoops
+pub mod NormalLoops

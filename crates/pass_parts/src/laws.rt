@@ -2,6 +2,7 @@
 ghost use Rattle.std.specs.Prelude.{ℕ, Bool, List, Option};
 ghost use Rattle.node_form.specs.Fits.{Fits};
 ghost use Rattle.node_form.specs.declared.tables.Tables.{Tables as Code};
+ghost use Rattle.bound_check.specs.Checked.{checked};
 ghost use Rattle.code_parts.specs.Contracted.{IsContracted};
 ghost use Rattle.code_parts.specs.Fused.{IsFused};
 ghost use Rattle.comm_combine.specs.Merge.{neighbours_merged};
@@ -11,12 +12,24 @@ ghost use Rattle.comm_needs.specs.Needs.{planned};
 ghost use Rattle.fuse_contract.specs.Contracting.{contracted};
 ghost use Rattle.fuse_contract.specs.Fusing.{fused};
 ghost use Rattle.node_emit.specs.Emit.{emitted};
-ghost use Rattle.pass_parts.specs.Parts.{CanBeFused, HasNoCellLeft};
+ghost use Rattle.pass_parts.specs.Checks.{ChecksWhatFollows, ChecksWhatItJoins};
+ghost use Rattle.pass_parts.specs.Parts.{CanBeFused, HasNoCellLeft, KnowsWhatItJoins};
+ghost use Rattle.temp_norm.specs.Normalised.{normalised};
 
 /// Where loops are joined, no two are left that could be one, if wherever a loop could join the one
 /// directly in front of it its references are known there.
 pub fn loops_are_joined_wherever_they_can_be()
     ensures { (code : Code) → CanBeFused code → IsFused (fused code) }
+{}
+
+/// Where checks alone stand between two loops over one slot, let the references of the second one be
+/// among theirs. Then so they are behind values that go through temporaries, of loops that could be
+/// joined; and where checks that always pass are left out, the references are known.
+pub fn checks_say_what_is_joined()
+    ensures normalised { (code : Code) → Fits code → ChecksWhatFollows code →
+        ChecksWhatItJoins (normalised code) }
+    ensures checked { (code : Code) → Fits code → ChecksWhatItJoins code →
+        KnowsWhatItJoins (checked code) }
 {}
 
 /// Where no two loops could be one, none can behind a later pass.

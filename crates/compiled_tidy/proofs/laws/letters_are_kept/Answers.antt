@@ -6,8 +6,8 @@ use Rattle.compiled_tidy.proofs.laws.letters_are_kept.Goals as goal
 
 pub returns : goal.returns
 returns c = record {
-  fused = λ build program is known asked.
-      all_fused build (flat_of build program) (can_be_fused (flat_of build program) is known) asked;
+  fused = λ build program is checks asked.
+      all_fused build (flat_of build program) (can_be_fused (flat_of build program) is checks) asked;
   contracted = λ build program is asked.
       all_contracted build (flat_of build program)
       (first_fits (flat_of build program) is build.options.fuse) asked;
