@@ -1,10 +1,6 @@
 -- Compiled code is tidy.
-use Rattle.std.proofs.Common.{◌≡◌, ap, ◌∙◌, arith, ℕ, ◌+◌, ◌*◌, ◌≤◌, length}
+use Rattle.std.proofs.Common.{ap, ◌∙◌, arith, ◌+◌, ◌*◌}
 use Rattle.zpl_tree.specs.Syntax.{Program}
-use Rattle.zpl_tree.specs.Spelling.{program_words}
-use Rattle.zpl_names.specs.Expansion.{other_size, plain_assignments, source_size}
-use Rattle.grid_layout.specs.declared.boxes.ArrayBox.{ArrayBox}
-use Rattle.grid_meaning.specs.Stored.{arrangement_of}
 use Rattle.code_parts.specs.Counts.{code_size, count_of, is_counted}
 use Rattle.temp_norm.specs.Normalised.{loops_on_themselves}
 use Rattle.lowering_sizes.proofs.CountedProgram.{count_law}

@@ -2,7 +2,7 @@
 use Rattle.std.proofs.Common.{◌≡◌, ◌≢◌, ◌⊎◌, inl, inr, refl, sym, ap, ◌∙◌, subst, arith, ℕ, zero, suc, ◌+◌}
 use Rattle.std.proofs.Common.{◌<◌, ◌≤◌, ◌==◌, Bool, true, false, not, true≢false, List, [], ◌∷◌}
 use Rattle.std.proofs.Common.{◌++◌, length, map, Contains}
-use Rattle.std.specs.Prelude.{◌&&◌, ◌||◌, All, count_by, flat_map, fold, if◌then◌else◌, slice_get}
+use Rattle.std.specs.Prelude.{◌&&◌, ◌||◌, flat_map, fold, if◌then◌else◌, slice_get}
 use Rattle.std.specs.Prelude.{Option, Some, None}
 use Rattle.std.specs.Option.{IsSomeAnd, option_map}
 use Rattle.std.specs.List.{AllByRecursion, list_any}
@@ -18,7 +18,7 @@ use Rattle.node_form.specs.Group.{depth_behind}
 use Rattle.code_parts.specs.Uses.{arrays_in, members_of, named_by, rows_or_none, words_of}
 use Rattle.comm_early.proofs.TrackLemmas.{less_or}
 use Rattle.fuse_contract.specs.Contracting.{arrays_of_row, becomes_cell, begins_it, cell_among}
-use Rattle.fuse_contract.specs.Contracting.{contracted, contracted_arrays, contracted_from}
+use Rattle.fuse_contract.specs.Contracting.{contracted, contracted_from}
 use Rattle.fuse_contract.specs.Contracting.{fits_a_cell, is_among, is_begun, is_named_in}
 use Rattle.fuse_contract.specs.Contracting.{is_shifted_in, naming_group, put_or_cell}
 use Rattle.pass_parts.specs.Parts.{HasNoCellLeft, IsCellLeft}

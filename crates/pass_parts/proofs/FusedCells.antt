@@ -1,7 +1,7 @@
 -- Where arrays become cells no loops can be joined, if none could before.
 use Rattle.std.proofs.Common.{◌≡◌, inl, inr, refl, sym, ap, ◌∙◌, subst, ℕ, ◌+◌, ◌==◌, Bool, true, false}
 use Rattle.std.proofs.Common.{not, true≢false, List, [], ◌∷◌, ◌++◌, length, map, zero, suc}
-use Rattle.std.specs.Prelude.{◌&&◌, ◌||◌, flat_map, if◌then◌else◌, slice_get, Option, Some, None}
+use Rattle.std.specs.Prelude.{◌||◌, flat_map, if◌then◌else◌, slice_get, Option, Some, None}
 use Rattle.std.specs.List.{list_any}
 use Rattle.std.proofs.lemmas.Bool.Decides.{Decides-eqb}
 use Rattle.std.proofs.lemmas.List.Folds.{list_any-append}
@@ -21,7 +21,7 @@ use Rattle.fuse_contract.specs.Contracting.{is_among, is_begun, is_named_in, is_
 use Rattle.fuse_contract.specs.Contracting.{naming_group, put_or_cell}
 use Rattle.pass_parts.proofs.CellLemmas.{accumulated_new, cell_of, members_new, new_member}
 use Rattle.pass_parts.proofs.CellLemmas.{scalars_new, shifted_new, turning_new}
-use Rattle.pass_parts.proofs.JoinableLemmas.{AreApart, apart, can_be, puts, shifts}
+use Rattle.pass_parts.proofs.JoinableLemmas.{AreApart, apart, can_be, shifts}
 use Rattle.pass_parts.proofs.NameLemmas.{among_in, in_among, not_true}
 
 -- ---- an array that becomes a cell is one of those that do

@@ -1,9 +1,9 @@
 -- Loops are joined wherever they can be.
 use Rattle.std.proofs.Common.{◌≡◌, refl, sym, ap, ◌∙◌, subst, arith, ℕ, ◌+◌, ◌==◌, Bool, true}
 use Rattle.std.proofs.Common.{false, not, true≢false, List, [], ◌∷◌, ◌++◌, length, append_assoc}
-use Rattle.std.proofs.Common.{length-append, cond, get_or}
-use Rattle.std.specs.Prelude.{◌&&◌, ◌||◌, All, if◌then◌else◌, map, Option, Some, None}
-use Rattle.std.specs.List.{AllByRecursion, list_all}
+use Rattle.std.proofs.Common.{length-append}
+use Rattle.std.specs.Prelude.{◌&&◌, ◌||◌, if◌then◌else◌, Option, Some, None}
+use Rattle.std.specs.List.{AllByRecursion}
 use Rattle.std.proofs.Math.Path.{fun_ext}
 use Rattle.std.proofs.lemmas.Bool.Decides.{Decides-eqb}
 use Rattle.std.proofs.lemmas.List.Elements.{recursion_from_All}
@@ -23,7 +23,7 @@ use Rattle.flat_passes.specs.Grouped.{Grouped, Plain, Runs, all_numbered, ended_
 use Rattle.flat_passes.specs.Grouped.{with_grouped}
 use Rattle.plan_form.proofs.WalkLemmas as walks
 use Rattle.fuse_contract.specs.Fusing.{Loop, can_join, fused, joins, known_behind}
-use Rattle.fuse_contract.specs.Fusing.{last_rows, lies_within, references_of}
+use Rattle.fuse_contract.specs.Fusing.{last_rows, references_of}
 use Rattle.fuse_contract.specs.Fusing.{both as both_loops}
 use Rattle.fuse_contract.specs.Joining.{Facts, behind_row, joins_last, last_with, loop_over}
 use Rattle.fuse_contract.specs.Joining.{no_facts, row_rows}

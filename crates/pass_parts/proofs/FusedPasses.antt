@@ -1,5 +1,5 @@
 -- The passes on plans leave no loops that can be joined, where there were none.
-use Rattle.std.proofs.Common.{◌≡◌, inl, inr, refl, sym, ap, ◌∙◌, subst, ℕ, Bool, true, false}
+use Rattle.std.proofs.Common.{◌≡◌, inl, inr, refl, ap, ◌∙◌, ℕ, Bool, true, false}
 use Rattle.std.proofs.Common.{List, [], ◌∷◌, ◌++◌, append-nil}
 use Rattle.std.specs.Prelude.{flat_map, map, Option, Some, None}
 use Rattle.std.specs.List.{AllByRecursion}
@@ -8,13 +8,12 @@ use Rattle.node_form.specs.declared.arrays.Item.{Item}
 use Rattle.node_form.specs.declared.instructions.Instr.{Instr}
 use Rattle.node_form.specs.declared.instructions.Instr.TheVariants as instr
 use Rattle.node_form.specs.declared.tables.Tables.{Tables}
-use Rattle.code_parts.specs.Exchanged.{is_among}
-use Rattle.code_parts.specs.Fused.{IsFused, is_between_loops, is_fused}
+use Rattle.code_parts.specs.Fused.{IsFused, is_fused}
 use Rattle.code_parts.specs.Stretch.{ends_stretch}
 use Rattle.code_parts.proofs.FusedLemmas.{fused_either_way}
 use Rattle.code_parts.proofs.WalkLemmas.{every_append}
 use Rattle.plan_form.specs.Rewrite.{rows_by}
-use Rattle.plan_form.specs.Units.{PlanUnit, Exchange, Single, unit_of, unit_rows, units_of}
+use Rattle.plan_form.specs.Units.{Single, unit_of, unit_rows, units_of}
 use Rattle.plan_form.proofs.PassLemmas as pass
 use Rattle.comm_needs.specs.Needs.{is_voted_on, needed_alone, needs_of, planned, row_with_needs}
 use Rattle.comm_needs.specs.Needs.{vote_if, with_needs}
@@ -40,14 +39,17 @@ vote_near false group = tt
 needs_near : (tables : Tables) (row : Instr) → ends_stretch row ≡ false
     → StepsNear row (row_with_needs tables row)
 needs_near tables (instr.Loop slot group) ends =
-    inr (refl, record {
-      before = map needed_alone (needs_of tables slot group);
-      after = vote_if (is_voted_on tables group) group;
-      is = append-nil (map needed_alone (needs_of tables slot group)
-          ++ Single (instr.Loop slot group) ∷ vote_if (is_voted_on tables group) group);
-      near_before = alone_near (needs_of tables slot group);
-      near_after = vote_near (is_voted_on tables group) group;
-    })
+    inr (
+      refl,
+      record {
+        before = map needed_alone (needs_of tables slot group);
+        after = vote_if (is_voted_on tables group) group;
+        is = append-nil (map needed_alone (needs_of tables slot group)
+            ++ Single (instr.Loop slot group) ∷ vote_if (is_voted_on tables group) group);
+        near_before = alone_near (needs_of tables slot group);
+        near_after = vote_near (is_voted_on tables group) group;
+      },
+    )
 needs_near tables (instr.Start exchange) ends = inl (refl, (tt, tt))
 needs_near tables (instr.Finish exchange) ends = inl (refl, tt)
 needs_near tables (instr.Vote group) ends = inl (refl, (refl, tt))
@@ -111,19 +113,28 @@ merges_near : (pending : Option (List Item)) (row : Instr) → ends_stretch row 
 merges_near pending (instr.Start exchange) ends = inl (refl, tt)
 merges_near pending (instr.Finish exchange) ends = inl (refl, tt)
 merges_near pending (instr.Vote group) ends =
-    inl (refl, every_append IsNearUnit (pending_units pending) (Single (instr.Vote group) ∷ [])
-    (pending_near pending) (refl, tt))
+    inl (
+      refl,
+      every_append IsNearUnit (pending_units pending) (Single (instr.Vote group) ∷ [])
+          (pending_near pending) (refl, tt),
+    )
 merges_near pending (instr.TreeVote group) ends =
-    inl (refl, every_append IsNearUnit (pending_units pending) (Single (instr.TreeVote group) ∷ [])
-    (pending_near pending) (refl, tt))
+    inl (
+      refl,
+      every_append IsNearUnit (pending_units pending) (Single (instr.TreeVote group) ∷ [])
+          (pending_near pending) (refl, tt),
+    )
 merges_near pending row ends =
-    inr (refl, record {
-      before = pending_units pending;
-      after = [];
-      is = refl;
-      near_before = pending_near pending;
-      near_after = tt;
-    })
+    inr (
+      refl,
+      record {
+        before = pending_units pending;
+        after = [];
+        is = refl;
+        near_before = pending_near pending;
+        near_after = tt;
+      },
+    )
 
 pub merged_fused : (plan : Tables) → IsFused plan → IsFused (neighbours_merged plan)
 merged_fused plan fused =

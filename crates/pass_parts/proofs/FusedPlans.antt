@@ -1,11 +1,11 @@
 -- No loops can be joined in a plan that is written anew, where none could in the old one.
-use Rattle.std.proofs.Common.{◌≡◌, ◌⊎◌, inl, inr, refl, sym, ap, ◌∙◌, subst, arith, ℕ, ◌+◌, Bool}
+use Rattle.std.proofs.Common.{◌≡◌, inl, inr, refl, sym, ap, ◌∙◌, subst, arith, ℕ, ◌+◌, Bool}
 use Rattle.std.proofs.Common.{true, false, List, [], ◌∷◌, ◌++◌, length, append_assoc, length-append}
-use Rattle.std.specs.Prelude.{◌&&◌, ◌||◌, flat_map, if◌then◌else◌, Option, Some, None}
+use Rattle.std.specs.Prelude.{◌&&◌, ◌||◌, flat_map, if◌then◌else◌, Option, None}
 use Rattle.std.specs.List.{AllByRecursion}
 use Rattle.node_form.specs.declared.instructions.Instr.{Instr}
 use Rattle.node_form.specs.declared.tables.Tables.{Tables}
-use Rattle.code_parts.specs.Fused.{begins_anew, is_between_loops, is_fused, last_loop}
+use Rattle.code_parts.specs.Fused.{begins_anew, is_fused, last_loop}
 use Rattle.code_parts.specs.Stretch.{ends_stretch, is_goal, right_from}
 use Rattle.code_parts.proofs.WalkLemmas.{both_left, both_right}
 use Rattle.flat_passes.specs.Rewritten.{with_moved_goal}

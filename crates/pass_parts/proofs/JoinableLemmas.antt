@@ -1,5 +1,5 @@
 -- Groups that can be joined, by what they put, read and accumulate.
-use Rattle.std.proofs.Common.{◌≡◌, refl, sym, ap, ◌∙◌, subst, ℕ, ◌==◌, Bool, true, false, not}
+use Rattle.std.proofs.Common.{◌≡◌, refl, sym, ap, ◌∙◌, ℕ, ◌==◌, Bool, true, false, not}
 use Rattle.std.proofs.Common.{true≢false, List, [], ◌∷◌, ◌++◌}
 use Rattle.std.specs.Prelude.{◌&&◌, ◌||◌, flat_map}
 use Rattle.std.specs.List.{list_any}
@@ -111,8 +111,7 @@ module _ (tables : Tables) where
       let five = both_left (not a && not b && not c && not d && not e) (not f) six in
       let four = both_left (not a && not b && not c && not d) (not e) five in
       let three = both_left (not a && not b && not c) (not d) four in
-      let two = both_left (not a && not b) (not c) three in
-      (
+      let two = both_left (not a && not b) (not c) three in (
         denied a (both_left (not a) (not b) two),
         denied b (both_right (not a) (not b) two),
         denied c (both_right (not a && not b) (not c) three),

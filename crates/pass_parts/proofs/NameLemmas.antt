@@ -1,16 +1,15 @@
 -- Arrays that rows and groups name, as tests.
 use Rattle.std.proofs.Common.{◌≡◌, ◌⊎◌, inl, inr, refl, sym, ap, ◌∙◌, subst, arith, ℕ, ◌+◌, ◌==◌}
-use Rattle.std.proofs.Common.{Bool, true, false, true≢false, cond, List, [], ◌∷◌, ◌++◌, Contains}
+use Rattle.std.proofs.Common.{Bool, true, false, true≢false, cond, List, [], ◌∷◌, Contains}
 use Rattle.std.specs.Prelude.{◌||◌, Any, count_by, flat_map, Option, Some, None}
 use Rattle.std.specs.Option.{IsSomeAnd}
-use Rattle.std.specs.List.{AllByRecursion, filter_map, list_any}
+use Rattle.std.specs.List.{AllByRecursion, filter_map}
 use Rattle.std.proofs.lemmas.Bool.Decides.{Decides-eqb}
 use Rattle.std.proofs.lemmas.List.Folds.{list_any-append}
 use Rattle.std.proofs.lemmas.List.Sums.{sum_by-cons}
 use Rattle.node_form.specs.declared.instructions.Instr.{Instr}
 use Rattle.node_form.specs.declared.instructions.Instr.TheVariants as instr
 use Rattle.node_form.specs.declared.tables.Tables.{Tables}
-use Rattle.node_form.specs.declared.touches.Thing.{Thing}
 use Rattle.node_form.specs.declared.touches.Thing.TheVariants.{Array}
 use Rattle.node_form.specs.Touch.{IsNamed}
 use Rattle.code_parts.specs.Contracted.{is_aside}
@@ -98,7 +97,7 @@ module _ (tables : Tables) (array : ℕ) where
   row_named (instr.Remap other slot from parts) names = (
     refl,
     parts_named other from parts
-    (among_in array (other ∷ from ∷ filter_map (λ part. part) parts) names),
+        (among_in array (other ∷ from ∷ filter_map (λ part. part) parts) names),
   )
   row_named row names = absurd (true≢false (sym names))
 

@@ -20,7 +20,7 @@ use Rattle.node_form.specs.Value.{unmoved}
 use Rattle.node_form.specs.Fits.{Fits, FitsGroup, FitsMember, FitsWord, HasExpr}
 use Rattle.row_runs.specs.Cut.{passed}
 use Rattle.code_parts.specs.Fused.{are_joinable}
-use Rattle.code_parts.specs.Stretch.{ends_stretch, is_goal, is_right_throughout, right_from}
+use Rattle.code_parts.specs.Stretch.{ends_stretch, is_goal, right_from}
 use Rattle.code_parts.specs.Uses.{as_list, exprs_of, member_words, members_of, put_by, rows_or_none}
 use Rattle.code_parts.specs.Uses.{share, shifted_in, words_of}
 use Rattle.code_parts.proofs.WalkLemmas.{both_left, both_right}
@@ -38,7 +38,7 @@ use Rattle.pass_parts.proofs.CheckedLemmas.{Since, are_needed, needed_behind, ol
 use Rattle.pass_parts.proofs.CheckedLemmas.{checks_back, old_throughout}
 use Rattle.pass_parts.proofs.GoalLemmas as goals
 use Rattle.pass_parts.proofs.GoalLemmas.{all_moved, group_there, new}
-use Rattle.pass_parts.proofs.JoinableLemmas.{AreApart, apart}
+use Rattle.pass_parts.proofs.JoinableLemmas.{apart}
 use Rattle.pass_parts.proofs.NearLemmas.{ends_moved}
 
 both : (a b : Bool) → a ≡ true → b ≡ true → (a && b) ≡ true

@@ -1,5 +1,5 @@
 -- Goals of code whose rows are rewritten one by one.
-use Rattle.std.proofs.Common.{◌≡◌, ◌⊎◌, inl, inr, refl, sym, ap, ◌∙◌, subst, arith, ℕ, suc}
+use Rattle.std.proofs.Common.{◌≡◌, ◌⊎◌, inl, inr, refl, sym, ap, ◌∙◌, subst, arith, ℕ}
 use Rattle.std.proofs.Common.{◌+◌, Bool, true, false, true≢false, List, [], ◌∷◌, ◌++◌, length}
 use Rattle.std.specs.Prelude.{◌||◌, Some, slice_get, unwrap_or}
 use Rattle.std.specs.List.{list_any}

@@ -1,10 +1,9 @@
 -- What is seen of references and loops along the rows of a stretch.
-use Rattle.std.proofs.Common.{◌≡◌, ◌⊎◌, inl, inr, refl, sym, ap, ◌∙◌, subst, ℕ, ◌==◌, Bool, true}
-use Rattle.std.proofs.Common.{false, not, true≢false, List, [], ◌∷◌, ◌++◌, append_assoc}
+use Rattle.std.proofs.Common.{◌≡◌, ◌⊎◌, inl, inr, refl, ap, ◌∙◌, subst, ℕ, ◌==◌, Bool, true}
+use Rattle.std.proofs.Common.{false, not, List, [], ◌∷◌, ◌++◌, append_assoc}
 use Rattle.std.specs.Prelude.{◌&&◌, ◌||◌, fold, Option, Some, None}
 use Rattle.std.specs.List.{list_all}
 use Rattle.std.proofs.lemmas.Bool.Decides.{Decides-eqb}
-use Rattle.std.proofs.lemmas.List.Sums.{fold-append}
 use Rattle.node_form.specs.declared.arrays.Item.{Item}
 use Rattle.node_form.specs.declared.instructions.Instr.{Instr}
 use Rattle.node_form.specs.declared.instructions.Instr.TheVariants as instr
@@ -12,7 +11,7 @@ use Rattle.node_form.specs.declared.tables.Tables.{Tables}
 use Rattle.code_parts.specs.Fused.{are_joinable}
 use Rattle.code_parts.specs.Stretch.{IsRightInStretches, IsStretch, is_right_throughout}
 use Rattle.code_parts.specs.Uses.{members_of}
-use Rattle.code_parts.proofs.WalkLemmas.{both_left, both_right, throughout}
+use Rattle.code_parts.proofs.WalkLemmas.{throughout}
 use Rattle.fuse_contract.specs.Fusing.{known_behind, lies_within, references_of}
 use Rattle.pass_parts.specs.Parts.{CanBeFused, known_after, known_with}
 
