@@ -11,3 +11,4 @@ pub mod RowLemmas
 pub mod OpenLemmas
 pub mod EarlyLemmas
 pub mod EarlyRunLemmas
+mod Examples
