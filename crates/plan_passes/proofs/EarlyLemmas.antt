@@ -73,12 +73,12 @@ on_behind : (P : Await → Type 0) (bytes : List ℕ) (f : Flow Await) → IfOn 
 on_behind P bytes (OnTo more s) is = is
 on_behind P bytes (Halts more stop) is = tt
 
-on_then : (P Q : Await → Type 0) (f : Flow Await) (next : Await → Flow Await) → IfOn P f
+pub on_then : (P Q : Await → Type 0) (f : Flow Await) (next : Await → Flow Await) → IfOn P f
     → ((s : Await) → P s → IfOn Q (next s)) → IfOn Q (flow_then f next)
 on_then P Q (OnTo bytes s) next is more = on_behind Q bytes (next s) (more s is)
 on_then P Q (Halts bytes stop) next is more = tt
 
-then_where : (P : Await → Type 0) (f : Flow Await) (next other : Await → Flow Await) → IfOn P f
+pub then_where : (P : Await → Type 0) (f : Flow Await) (next other : Await → Flow Await) → IfOn P f
     → ((s : Await) → P s → AsBefore (next s) (other s))
     → AsBefore (flow_then f next) (flow_then f other)
 then_where P (OnTo bytes s) next other is more = more_bytes bytes (next s) (other s) (more s is)

@@ -20,7 +20,7 @@ use Rattle.plan_meaning.specs.Abreast.{Abreast, locals_of, share_of}
 use Rattle.plan_meaning.specs.Messages.{final_of, from_of, middle_of, next_or, starts_alone}
 use Rattle.plan_passes.proofs.LoopLemmas.{Misses, differs, neither}
 
-takes_together : (xs : List ℕ) → starts_alone (map TakesFrom xs ++ Last ∷ []) ≡ false
+pub takes_together : (xs : List ℕ) → starts_alone (map TakesFrom xs ++ Last ∷ []) ≡ false
 takes_together [] = refl
 takes_together (x ∷ xs) = refl
 

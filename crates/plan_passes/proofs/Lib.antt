@@ -11,3 +11,6 @@ pub mod RowLemmas
 pub mod OpenLemmas
 pub mod EarlyLemmas
 pub mod EarlyRunLemmas
+pub mod UnitLemmas
+pub mod UnitRunLemmas
+mod Examples

@@ -27,7 +27,7 @@ leads_itself (instr.Unless expr goal line) e =
     let one : (goal == goal) ≡ true = grind (arith, nat_tests) in one
 leads_itself row e = absurd (true≢false (sym e))
 
-abbrev IsOf : List Instr → Instr → Type 0
+abbrev pub IsOf : List Instr → Instr → Type 0
 IsOf code row =
     has_goal row ≡ true
     → (is_goal code (goal_of row) ≡ true) × (goal_of row ≤ length (code ++ instr.End ∷ []))
@@ -45,7 +45,7 @@ any_later test row rows e = by (test row)
     by false = e
 
 module _ (code : List Instr) where
-  goals_found : (rows : List Instr)
+  pub goals_found : (rows : List Instr)
       → ((at : ℕ) → list_any (leads_to at) rows ≡ true → is_goal code at ≡ true)
       → AllByRecursion (λ row. has_goal row ≡ true → goal_of row ≤ length code) rows
       → AllByRecursion (IsOf code) (rows ++ instr.End ∷ [])
@@ -65,7 +65,7 @@ back_holds P [] ys all = all
 back_holds P (x ∷ xs) ys all = back_holds P xs ys all.1
 
 -- the last row of each stretch
-abbrev LastHas : (Instr → Type 0) → Stretch Instr → Type 0
+abbrev pub LastHas : (Instr → Type 0) → Stretch Instr → Type 0
 LastHas P stretch = (row : Instr) → stretch.last ≡ Some row → P row
 
 last_has : (P : Instr → Type 0) (stretch : Stretch Instr) (rest : List Instr)
@@ -79,7 +79,7 @@ last_has P stretch rest all row is =
     split [] ys = refl
     split (x ∷ xs) ys = ap (λ l. x ∷ l) (split xs ys)
 
-lasts_have : (P : Instr → Type 0) (stretches : List (Stretch Instr))
+pub lasts_have : (P : Instr → Type 0) (stretches : List (Stretch Instr))
     → AllByRecursion P (all_rows stretches) → AllByRecursion (LastHas P) stretches
 lasts_have P [] all = tt
 lasts_have P (stretch ∷ stretches) all = (
