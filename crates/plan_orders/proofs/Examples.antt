@@ -1,12 +1,12 @@
 -- Rows.
-use Rattle.std.proofs.Common.{◌≡◌, ℕ, zero, suc, List, [], ◌∷◌, pos, None, refl}
+use Rattle.std.proofs.Common.{◌≡◌, ℕ, zero, suc, true, false, List, [], ◌∷◌, pos, None, refl}
 use Rattle.node_form.specs.declared.instructions.Instr.TheVariants as instr
 use Rattle.node_form.specs.declared.members.Member.{Member}
 use Rattle.node_form.specs.declared.members.Member.TheVariants.{CloseIf, CloseWhile, OpenIf, OpenRepeat, OpenWhile, Until}
 use Rattle.node_form.specs.declared.tables.Tables.{Tables}
 use Rattle.plan_meaning.specs.Abreast.{Abreast, Share}
 use Rattle.plan_orders.specs.Brings.{in_front, loops_among, most_loops, row_most}
-use Rattle.plan_orders.specs.InStep.{run_most}
+use Rattle.plan_orders.specs.InStep.{least_moves, run_most, stops_within}
 
 -- a group with a loop in a choice and one behind it, and one with a loop
 two_loops : List Member
@@ -46,6 +46,17 @@ in_a_row = refl
 in_a_run : run_most code 2 3 ≡ 805306368
 unfolding code two_loops one_loop
 in_a_run = refl
+
+-- a run of one row and an end stops by itself, but where it may make no jump
+stops : stops_within code None 1 3 ≡ true
+unfolding code two_loops one_loop
+stops = refl
+
+cut_off : stops_within code None 0 3 ≡ false
+cut_off = refl
+
+turns : least_moves true 1 3 ≡ 3
+turns = refl
 
 -- ---- in front of a row, with the words of an open exchange on their way
 share : Share

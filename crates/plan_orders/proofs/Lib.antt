@@ -10,6 +10,7 @@ pub mod MessageLemmas
 pub mod LoopLemmas
 pub mod WaitLemmas
 pub mod LoopRowLemmas
+pub mod BeginLemmas
 pub mod PlanLemmas
 pub mod StartLemmas
 pub mod ChainLemmas

@@ -12,6 +12,7 @@ use Rattle.grid_meaning.specs.Grid.{system_over}
 use Rattle.grid_meaning.specs.Local.{Local}
 use Rattle.grid_meaning.specs.Turn.{act_at}
 use Rattle.row_runs.specs.Run.{Does, Effect, Ends, Goes, Leaps, Passes, Result, Stops, Wrong, printed, runs, stopped, walked, went}
+use Rattle.row_runs.specs.Growth.{effect_stops, rows_stop, stops_itself}
 use Rattle.plan_meaning.specs.Abreast.{Abreast, is_quiet}
 use Rattle.plan_meaning.specs.Act.{Followed, all_followed, controlled, ends_where, go_one_way, is_vote_of, plan_act, plan_rows}
 use Rattle.plan_orders.specs.Brings.{AllEnd, AllWait, AreOpen, Brings, ComesToEnd, ComesToWait, GoesWell, HasOrder, IsFollowed, IsLimited, LeadsTo, Stopped, in_front, row_most, standing_at}
@@ -78,27 +79,42 @@ pub data Onward (code : Tables) (links : Option ℕ) (one : Scene Local Message)
   AllRest : {least : ℕ} {bytes : List ℕ} → AllWait code links one least bytes
       → Onward code links one
 
--- What a run comes to: an end, under a premise with so many moves at most; a loop that wants more;
--- or a row, behind so many jumps and tests.
+-- What a run comes to, by whether it stops by itself: an end, under a premise with so many moves at
+-- most; a loop that wants more; or a row, behind so many jumps and tests.
 pub data Arrives (code : Tables) (links : Option ℕ) (n left : ℕ) (Premise : Type 0) (most : ℕ)
-    (one : Scene Local Message) : Result → Type 0 where
+    (one : Scene Local Message) : Bool → Result → Type 0 where
   AtEnd : {bytes : List ℕ} {ending : End} → AllEnd code links one ending 1 Premise most bytes
-      → Arrives code links n left Premise most one
+      → Arrives code links n left Premise most one true
       (record { bytes = bytes; stop = Ends ending })
   AtWait : {bytes : List ℕ} → AllWait code links one n bytes
-      → Arrives code links n left Premise most one (record { bytes = bytes; stop = Ends More })
+      → Arrives code links n left Premise most one true
+      (record { bytes = bytes; stop = Ends More })
   AtRow : {bytes : List ℕ} (there : ℕ) (after : Abreast)
       → Brings code links one (in_front there after) left ⊥ 0 bytes
       → Onward code links (in_front there after)
-      → Arrives code links n left Premise most one (record { bytes = bytes; stop = Ends More })
+      → Arrives code links n left Premise most one false
+      (record { bytes = bytes; stop = Ends More })
 
-arrives_behind : (code : Tables) (links : Option ℕ) (n k left more m few most : ℕ)
-    (Premise : Type 0) (one two : Scene Local Message) (bytes : List ℕ) (result : Result)
-    → more ≤ k + left → m + few ≤ most → Brings code links one two k Premise m bytes
-    → Arrives code links n left Premise few two result
-    → Arrives code links n more Premise most one (printed bytes result)
-arrives_behind code links n k left more m few most Premise one two bytes result fits wide first
-    (AtEnd {bytes = then} end) =
+unbounded : (code : Tables) (links : Option ℕ) (one two : Scene Local Message) (least most : ℕ)
+    (Premise : Type 0) (bytes : List ℕ) → Brings code links one two least Premise most bytes
+    → Brings code links one two least ⊥ 0 bytes
+unbounded code links one two least most Premise bytes brings = record {
+  many = brings.many;
+  shown = brings.shown;
+  leads = brings.leads;
+  enough = brings.enough;
+  few = λ never. absurd never;
+  printed = brings.printed;
+}
+
+arrives_behind : (code : Tables) (links : Option ℕ) (n turns k left more m few most : ℕ)
+    (Premise : Type 0) (one two : Scene Local Message) (bytes : List ℕ) (stops : Bool)
+    (result : Result) → turns ≤ k + n → more ≤ k + left → m + few ≤ most
+    → Brings code links one two k Premise m bytes
+    → Arrives code links n left Premise few two stops result
+    → Arrives code links turns more Premise most one stops (printed bytes result)
+arrives_behind code links n turns k left more m few most Premise one two bytes stops result longer
+    fits wide first (AtEnd {bytes = then} end) =
     AtEnd (record {
       over = end.over;
       brings =
@@ -108,8 +124,8 @@ arrives_behind code links n k left more m few most Premise one two bytes result 
       quiet = end.quiet;
       last = end.last;
     })
-arrives_behind code links n k left more m few most Premise one two bytes result fits wide first
-    (AtWait {bytes = then} wait) =
+arrives_behind code links n turns k left more m few most Premise one two bytes stops result longer
+    fits wide first (AtWait {bytes = then} wait) =
     AtWait (record {
       other = wait.other;
       many = λ p. first.many p + wait.many p;
@@ -118,37 +134,32 @@ arrives_behind code links n k left more m few most Premise one two bytes result 
           leads_through (system_over code links) one two wait.other first.many wait.many first.shown
           wait.shown first.leads wait.leads;
       printed = ap₂ (λ x y. x ++ y) first.printed wait.printed;
-      each = λ p below. by p (wait.each p below);
+      each = λ p below. by p (first.enough p below) (wait.each p below);
       longest = wait.longest;
       longest_below = wait.longest_below;
-      longest_moves = let long = wait.longest_moves in omega (arith, long);
+      longest_moves =
+          let long = wait.longest_moves in
+          let enough = first.enough wait.longest wait.longest_below in
+          omega (arith, long, enough, longer);
       longest_goes = wait.longest_goes;
     })
   where
-    by : {A B : Type 0} (p : ℕ) → A ⊎ ((n ≤ wait.many p) × B)
-        → A ⊎ ((n ≤ first.many p + wait.many p) × B)
-    by p (inl rests) = inl rests
-    by p (inr (enough, moves)) = inr (omega (arith, enough), moves)
-arrives_behind code links n k left more m few most Premise one two bytes result fits wide first
-    (AtRow {bytes = then} there after brings onward) =
+    by : {A B : Type 0} (p : ℕ) → k ≤ first.many p → A ⊎ ((n ≤ wait.many p) × B)
+        → A ⊎ ((turns ≤ first.many p + wait.many p) × B)
+    by p made (inl rests) = inl rests
+    by p made (inr (enough, moves)) = inr (omega (arith, made, enough, longer), moves)
+arrives_behind code links n turns k left more m few most Premise one two bytes stops result longer
+    fits wide first (AtRow {bytes = then} there after brings onward) =
     AtRow there after
     (brings_through code links one two (in_front there after) k left more 0 0 0 ⊥ bytes then fits
-    (omega arith)
-    (record {
-      many = first.many;
-      shown = first.shown;
-      leads = first.leads;
-      enough = first.enough;
-      few = λ never. absurd never;
-      printed = first.printed;
-    }) brings) onward
+    (omega arith) (unbounded code links one two k m Premise bytes first) brings) onward
 
 -- with more moves at most
 arrives_wider : (code : Tables) (links : Option ℕ) (n left few most : ℕ) (Premise : Type 0)
-    (one : Scene Local Message) (result : Result) → few ≤ most
-    → Arrives code links n left Premise few one result
-    → Arrives code links n left Premise most one result
-arrives_wider code links n left few most Premise one result wide (AtEnd end) =
+    (one : Scene Local Message) (stops : Bool) (result : Result) → few ≤ most
+    → Arrives code links n left Premise few one stops result
+    → Arrives code links n left Premise most one stops result
+arrives_wider code links n left few most Premise one stops result wide (AtEnd end) =
     AtEnd (record {
       over = end.over;
       brings = record {
@@ -164,9 +175,9 @@ arrives_wider code links n left few most Premise one result wide (AtEnd end) =
       quiet = end.quiet;
       last = end.last;
     })
-arrives_wider code links n left few most Premise one result wide (AtWait wait) = AtWait wait
-arrives_wider code links n left few most Premise one result wide (AtRow there after brings onward) =
-    AtRow there after brings onward
+arrives_wider code links n left few most Premise one stops result wide (AtWait wait) = AtWait wait
+arrives_wider code links n left few most Premise one stops result wide
+    (AtRow there after brings onward) = AtRow there after brings onward
 
 -- ---- rows of a plan are those of its code, and an end behind them
 followed_here : (rows : List Instr) (at : ℕ) (one : Followed) (more : List Followed)
@@ -280,8 +291,9 @@ module _ (code : Tables) (links : Option ℕ) (n : ℕ)
     abbrev code_width : ℕ
     code_width = length rows * row_width
 
-    abbrev Comes : ℕ → ℕ → ℕ → Abreast → Result → Type 0
-    Comes left most at all result = Arrives code links n left Premise most (in_front at all) result
+    abbrev Comes : ℕ → ℕ → ℕ → Abreast → Bool → Result → Type 0
+    Comes left most at all stops result =
+        Arrives code links n left Premise most (in_front at all) stops result
 
     -- behind a row of the code is one, or the end
     abbrev IsInside : ℕ → Effect Abreast → Type 0
@@ -338,9 +350,9 @@ module _ (code : Tables) (links : Option ℕ) (n : ℕ)
 
     stopped_arrives : (left most wide : ℕ) (one : Scene Local Message) (Old : Type 0) (ending : End)
         → (Premise → Old) → most ≤ wide → Stopped code links n one Old most ending
-        → Arrives code links n left Premise wide one (stopped (Ends ending))
+        → Arrives code links n left Premise wide one true (stopped (Ends ending))
     stopped_arrives left most wide one Old ending old fits (ComesToEnd end) =
-        arrives_wider code links n left most wide Premise one (stopped (Ends ending)) fits
+        arrives_wider code links n left most wide Premise one true (stopped (Ends ending)) fits
         (AtEnd (record {
           over = end.over;
           brings =
@@ -364,88 +376,139 @@ module _ (code : Tables) (links : Option ℕ) (n : ℕ)
     onward_of at all leap rest Passes well right =
         AllMove well.many well.shown well.leads well.enough
 
-    step : (left at ahead most : ℕ) (all : Abreast) (leap leap' : ℕ → Abreast → Result)
-        (rest rest' : Abreast → Result) (effect : Effect Abreast) → Reach at all
-        → RowIs at all effect → row_width + ahead ≤ most → row_width + left * code_width ≤ most
-        → ((next : Abreast) → Reach (at + 1) next → AreOpen code links next
+    -- what a row comes to, with so many turns in a loop that wants more, by what the rest comes to
+    module _ (turns : ℕ) (longer : turns ≤ 1 + n) (left at ahead most : ℕ) (all : Abreast)
+        (leap leap' : ℕ → Abreast → Result) (rest rest' : Abreast → Result)
+        (stops_there : ℕ → Abreast → Bool) (stops_behind : Abreast → Bool)
+        (reach : Reach at all) (wide : row_width + ahead ≤ most)
+        (far : row_width + left * code_width ≤ most)
+        (on : (next : Abreast) → Reach (at + 1) next → AreOpen code links next
         → at < length code.code → IsRight (rest' next)
-        → Comes (suc left) ahead (at + 1) next (rest next))
-        → ((goal : ℕ) → Reach goal all → goal ≤ length code.code → IsRight (leap' goal all)
-        → Comes left (left * code_width) goal all (leap goal all))
-        → IsRight (went leap' at all effect rest')
-        → Comes (suc left) most at all (went leap at all effect rest)
-    step left at ahead most all leap leap' rest rest' (Does (Goes bytes next))
-        reach (well, less) wide far on jump right =
-        arrives_behind code links n 1 (suc left) (suc left) row_width ahead most Premise
-        (in_front at all) (in_front (at + 1) next) bytes (rest next) (omega arith) wide
-        (brings_under code links (in_front at all) (in_front (at + 1) next) 1 row_width bytes
-        (IsLimited code all) Premise (λ premise. limits premise at all reach) well.0)
-        (on next (reaches at (at + 1) all next bytes reach well.0) well.1 less right)
-    step left at ahead most all leap leap' rest rest' (Does (Stops (Ends ending)))
-        reach (well, less) wide far on jump right =
-        stopped_arrives (suc left) row_width most (in_front at all) (IsLimited code all) ending
-        (λ premise. limits premise at all reach) (omega (arith, wide)) well
-    step left at ahead most all leap leap' rest rest' (Does (Stops Wrong))
-        reach (well, less) wide far on jump right = absurd (right refl)
-    step left at ahead most all leap leap' rest rest' (Leaps goal)
-        reach (well, less) wide far on jump right =
-        arrives_behind code links n 1 left (suc left) row_width (left * code_width) most Premise
-        (in_front at all) (in_front goal all) [] (leap goal all) (omega arith) far
-        (brings_under code links (in_front at all) (in_front goal all) 1 row_width []
-        (IsLimited code all) Premise (λ premise. limits premise at all reach) well.0)
-        (jump goal (reaches at goal all all [] reach well.0) well.1 right)
-    step left at ahead most all leap leap' rest rest' Passes
-        reach (well, less) wide far on jump right =
-        arrives_behind code links n 1 left (suc left) row_width (left * code_width) most Premise
-        (in_front at all) (in_front (at + 1) all) [] (leap (at + 1) all) (omega arith) far
-        (brings_under code links (in_front at all) (in_front (at + 1) all) 1 row_width []
-        (IsLimited code all) Premise (λ premise. limits premise at all reach) well)
-        (jump (at + 1) (reaches at (at + 1) all all [] reach well) (omega (arith, less)) right)
+        → Comes (suc left) ahead (at + 1) next (stops_behind next) (rest next))
+        (jump : (goal : ℕ) → Reach goal all → goal ≤ length code.code → IsRight (leap' goal all)
+        → Comes left (left * code_width) goal all (stops_there goal all) (leap goal all)) where
+      abbrev HasEnd : Effect Abreast → Type 0
+      HasEnd effect =
+          (ending : End) → effect ≡ Does (Stops (Ends ending))
+          → Stopped code links n (in_front at all) (IsLimited code all) row_width ending
+          → Arrives code links turns (suc left) Premise most (in_front at all) true
+          (stopped (Ends ending))
+
+      step : (effect : Effect Abreast) → HasEnd effect → RowIs at all effect
+          → IsRight (went leap' at all effect rest')
+          → Arrives code links turns (suc left) Premise most (in_front at all)
+          (effect_stops does stops_there at all effect stops_behind) (went leap at all effect rest)
+      step (Does (Goes bytes next)) ends (well, less) right =
+          arrives_behind code links n turns 1 (suc left) (suc left) row_width ahead most Premise
+          (in_front at all) (in_front (at + 1) next) bytes (stops_behind next) (rest next) longer
+          (omega arith) wide
+          (brings_under code links (in_front at all) (in_front (at + 1) next) 1 row_width bytes
+          (IsLimited code all) Premise (λ premise. limits premise at all reach) well.0)
+          (on next (reaches at (at + 1) all next bytes reach well.0) well.1 less right)
+      step (Does (Stops (Ends ending))) ends (well, less) right = ends ending refl well
+      step (Does (Stops Wrong)) ends (well, less) right = absurd (right refl)
+      step (Leaps goal) ends (well, less) right =
+          arrives_behind code links n turns 1 left (suc left) row_width (left * code_width) most
+          Premise (in_front at all) (in_front goal all) [] (stops_there goal all) (leap goal all)
+          longer (omega arith) far
+          (brings_under code links (in_front at all) (in_front goal all) 1 row_width []
+          (IsLimited code all) Premise (λ premise. limits premise at all reach) well.0)
+          (jump goal (reaches at goal all all [] reach well.0) well.1 right)
+      step Passes ends (well, less) right =
+          arrives_behind code links n turns 1 left (suc left) row_width (left * code_width) most
+          Premise (in_front at all) (in_front (at + 1) all) [] (stops_there (at + 1) all)
+          (leap (at + 1) all) longer (omega arith) far
+          (brings_under code links (in_front at all) (in_front (at + 1) all) 1 row_width []
+          (IsLimited code all) Premise (λ premise. limits premise at all reach) well)
+          (jump (at + 1) (reaches at (at + 1) all all [] reach well) (omega (arith, less)) right)
 
     long : length rows ≡ length code.code + 1
     long = long_rows (code.code ++ instr.End ∷ []) ∙ length-append code.code (instr.End ∷ [])
 
-    walk : (left : ℕ)
-        → ((at : ℕ) (all : Abreast) → at ≤ length code.code → Reach at all → AreOpen code links all
+    sum : (k w r : ℕ) → w + (k * w + r) ≤ suc k * w + r
+    sum k w r = omega arith
+
+    part : (k w r : ℕ) → w + r ≤ suc k * w + r
+    part k w r = omega arith
+
+    first : (k w r : ℕ) → w ≤ suc k * w + r
+    first k w r = omega arith
+
+    -- where runs come, from each row and along rows
+    abbrev ComesFrom : ℕ → Type 0
+    ComesFrom left =
+        (at : ℕ) (all : Abreast) → at ≤ length code.code → Reach at all → AreOpen code links all
         → IsRight (runs does rows (suc left) at all)
-        → Comes left (left * code_width) at all (runs does rows left at all))
-        → (rest : List Followed) (at : ℕ) (all : Abreast) → drop at rows ≡ rest
-        → at ≤ length code.code → Reach at all → AreOpen code links all
+        → Comes left (left * code_width) at all (stops_itself does rows left at all)
+        (runs does rows left at all)
+
+    abbrev ComesAlong : ℕ → ℕ → List Followed → Type 0
+    ComesAlong turns left rest =
+        (at : ℕ) (all : Abreast) → drop at rows ≡ rest → at ≤ length code.code → Reach at all
+        → AreOpen code links all
         → IsRight (walked does (runs does rows (suc left)) (λ _. stopped (Ends Done)) at rest all)
-        → Comes (suc left) (length rest * row_width + left * code_width) at all
+        → Arrives code links turns (suc left) Premise
+        (length rest * row_width + left * code_width) (in_front at all)
+        (rows_stop does (stops_itself does rows left) at rest all)
         (walked does (runs does rows left) (λ _. stopped (Ends Done)) at rest all)
-    walk left again [] at all is fits reach open_now right =
-        absurd (some_left at rows (omega (arith, fits, long)) is)
-    walk left again (one ∷ more) at all is fits reach open_now right =
-        step left at (length more * row_width + left * code_width)
+
+    walk_on : (turns left : ℕ) → turns ≤ 1 + n → ComesFrom left → (one : Followed)
+        (more : List Followed) → ComesAlong n left more
+        → (at : ℕ) (all : Abreast) → drop at rows ≡ one ∷ more → at ≤ length code.code
+        → Reach at all → AreOpen code links all
+        → ((ending : End) → does one all ≡ Does (Stops (Ends ending))
+        → Stopped code links n (in_front at all) (IsLimited code all) row_width ending
+        → Arrives code links turns (suc left) Premise
+        (suc (length more) * row_width + left * code_width) (in_front at all) true
+        (stopped (Ends ending)))
+        → IsRight (walked does (runs does rows (suc left)) (λ _. stopped (Ends Done)) at
+        (one ∷ more) all)
+        → Arrives code links turns (suc left) Premise
+        (suc (length more) * row_width + left * code_width) (in_front at all)
+        (rows_stop does (stops_itself does rows left) at (one ∷ more) all)
+        (walked does (runs does rows left) (λ _. stopped (Ends Done)) at (one ∷ more) all)
+    walk_on turns left longer again one more behind at all is fits reach open_now ends right =
+        step turns longer left at (length more * row_width + left * code_width)
         (suc (length more) * row_width + left * code_width) all (runs does rows left)
         (runs does rows (suc left))
         (λ next. walked does (runs does rows left) (λ _. stopped (Ends Done)) (at + 1) more next)
         (λ next. walked does (runs does rows (suc left)) (λ _. stopped (Ends Done)) (at + 1) more
         next)
-        (does one all) reach (row_is at all one more is open_now)
+        (stops_itself does rows left)
+        (λ next. rows_stop does (stops_itself does rows left) (at + 1) more next) reach
         (sum (length more) row_width (left * code_width))
         (part (length more) row_width (left * code_width))
-        (λ next reach_next open_next less ok. walk left again more (at + 1) next
+        (λ next reach_next open_next less ok. behind (at + 1) next
         (followed_here (code.code ++ instr.End ∷ []) at one more is).2 (omega (arith, less))
         reach_next open_next ok)
-        (λ goal reach_goal below ok. again goal all below reach_goal open_now ok) right
-      where
-        sum : (k w r : ℕ) → w + (k * w + r) ≤ suc k * w + r
-        sum k w r = omega arith
+        (λ goal reach_goal below ok. again goal all below reach_goal open_now ok)
+        (does one all) ends (row_is at all one more is open_now) right
 
-        part : (k w r : ℕ) → w + r ≤ suc k * w + r
-        part k w r = omega arith
+    walk : (left : ℕ) → ComesFrom left → (rest : List Followed) → ComesAlong n left rest
+    walk left again [] at all is fits reach open_now right =
+        absurd (some_left at rows (omega (arith, fits, long)) is)
+    walk left again (one ∷ more) at all is fits reach open_now right =
+        walk_on n left (omega arith) again one more (walk left again more) at all is fits reach
+        open_now
+        (λ ending e well.
+        stopped_arrives (suc left) row_width (suc (length more) * row_width + left * code_width)
+        (in_front at all) (IsLimited code all) ending (λ premise. limits premise at all reach)
+        (first (length more) row_width (left * code_width)) well)
+        right
 
     shorter : {X : Type 0} (k : ℕ) (xs : List X) → length (drop k xs) ≤ length xs
     shorter zero xs = omega arith
     shorter (suc k) [] = omega arith
     shorter (suc k) (x ∷ xs) = let less = shorter k xs in omega (arith, less)
 
-    pub arrive : (left at : ℕ) (all : Abreast) → at ≤ length code.code → Reach at all
-        → AreOpen code links all → IsRight (runs does rows (suc left) at all)
-        → Comes left (left * code_width) at all (runs does rows left at all)
-    arrive zero at all fits reach open_now right =
+    fit : (a w k : ℕ) → a ≤ w → a + k * w ≤ suc k * w
+    fit a w k less = omega (arith, less)
+
+    -- in front of a row that isn't wrong
+    at_here : (turns most at : ℕ) (all : Abreast) → at ≤ length code.code → AreOpen code links all
+        → IsRight (runs does rows 1 at all)
+        → Arrives code links turns 0 Premise most (in_front at all) false (stopped (Ends More))
+    at_here turns most at all fits open_now right =
         AtRow at all (brings_nowhere code links (in_front at all)) (by (drop at rows) refl right)
       where
         by : (rest : List Followed) → drop at rows ≡ rest
@@ -456,14 +519,64 @@ module _ (code : Tables) (links : Option ℕ) (n : ℕ)
             onward_of at all (runs does rows 0)
             (λ next. walked does (runs does rows 0) (λ _. stopped (Ends Done)) (at + 1) more next)
             (does one all) (row_is at all one more is open_now).0 right
+
+    pub arrive : (left : ℕ) → ComesFrom left
+    arrive zero at all fits reach open_now right = at_here n (0 * code_width) at all fits open_now right
     arrive (suc left) at all fits reach open_now right =
         arrives_wider code links n (suc left)
         (length (drop at rows) * row_width + left * code_width) (suc left * code_width) Premise
-        (in_front at all) (runs does rows (suc left) at all)
+        (in_front at all) (stops_itself does rows (suc left) at all)
+        (runs does rows (suc left) at all)
         (fit (length (drop at rows) * row_width) code_width left
         (mul-le (length (drop at rows)) row_width (length rows) row_width (shorter at rows)
         (omega arith)))
         (walk left (arrive left) (drop at rows) at all refl fits reach open_now right)
-      where
-        fit : (a w k : ℕ) → a ≤ w → a + k * w ≤ suc k * w
-        fit a w k less = omega (arith, less)
+
+    -- Where the first row doesn't want more, a row was left by a move of each in front of a loop that
+    -- does.
+    module _ (all : Abreast) (reach : Reach 0 all) (open_now : AreOpen code links all)
+        (never : (one : Followed) → does one all ≡ Does (Stops (Ends More)) → ⊥) where
+      first_end : (left most : ℕ) (one : Followed) → row_width ≤ most → (ending : End)
+          → does one all ≡ Does (Stops (Ends ending))
+          → Stopped code links n (in_front 0 all) (IsLimited code all) row_width ending
+          → Arrives code links (suc n) left Premise most (in_front 0 all) true
+          (stopped (Ends ending))
+      first_end left most one wide ending e (ComesToEnd end) =
+          arrives_wider code links (suc n) left row_width most Premise (in_front 0 all) true
+          (stopped (Ends ending)) wide
+          (AtEnd (record {
+            over = end.over;
+            brings =
+                brings_under code links (in_front 0 all) end.over 1 row_width []
+                (IsLimited code all) Premise (λ premise. limits premise 0 all reach) end.brings;
+            ended = end.ended;
+            quiet = end.quiet;
+            last = end.last;
+          }))
+      first_end left most one wide ending e (ComesToWait wait) = absurd (never one e)
+
+      first_row : (left : ℕ) (rest : List Followed) → rows ≡ rest
+          → IsRight (walked does (runs does rows (suc left)) (λ _. stopped (Ends Done)) 0 rest all)
+          → Arrives code links (suc n) (suc left) Premise
+          (length rest * row_width + left * code_width) (in_front 0 all)
+          (rows_stop does (stops_itself does rows left) 0 rest all)
+          (walked does (runs does rows left) (λ _. stopped (Ends Done)) 0 rest all)
+      first_row left [] is right = absurd (some_left 0 rows (omega (arith, long)) is)
+      first_row left (one ∷ more) is right =
+          walk_on (suc n) left (omega arith) (arrive left) one more (walk left (arrive left) more) 0
+          all is (omega arith) reach open_now
+          (first_end (suc left) (suc (length more) * row_width + left * code_width) one
+          (first (length more) row_width (left * code_width)))
+          right
+
+      pub arrive_first : (left : ℕ) → IsRight (runs does rows (suc left) 0 all)
+          → Arrives code links (suc n) left Premise (left * code_width) (in_front 0 all)
+          (stops_itself does rows left 0 all) (runs does rows left 0 all)
+      arrive_first zero right = at_here (suc n) (0 * code_width) 0 all (omega arith) open_now right
+      arrive_first (suc left) right =
+          arrives_wider code links (suc n) (suc left)
+          (length rows * row_width + left * code_width) (suc left * code_width) Premise
+          (in_front 0 all) (stops_itself does rows (suc left) 0 all)
+          (runs does rows (suc left) 0 all)
+          (fit (length rows * row_width) code_width left (omega arith))
+          (first_row left rows refl right)

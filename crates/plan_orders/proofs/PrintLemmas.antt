@@ -97,7 +97,7 @@ value_ends p at share ending Divides text e =
     (sym (same_ending ending (Trap DivideByZero 0) e))
 value_ends p at share ending Lacks text e = cc
 
-never_more : (p : ℕ) (share : Share) (ending : End) (value : Computed ℤ) (text : ℤ → List ℕ)
+pub never_more : (p : ℕ) (share : Share) (ending : End) (value : Computed ℤ) (text : ℤ → List ℕ)
     → ended_by (prints_value p (standing share) value text) ≡ Some ending → ending ≢ More
 never_more p share ending (Gives value) text e more =
     let none = sym (no_end p share (text value)) ∙ e in cc

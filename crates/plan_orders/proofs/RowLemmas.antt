@@ -17,7 +17,8 @@ use Rattle.plan_meaning.specs.Abreast.{start_abreast}
 use Rattle.plan_meaning.specs.Act.{found, plan_rows, plan_run}
 use Rattle.plan_meaning.specs.Messages.{remapped}
 use Rattle.plan_orders.specs.Brings.{GoesWell, HasOrder, HaveOrders, IsFollowed, in_front, row_most}
-use Rattle.plan_orders.specs.InStep.{ComesInStep, run_most}
+use Rattle.plan_orders.specs.InStep.{ComesInStep, least_moves, run_most, stops_within}
+use Rattle.plan_orders.proofs.BeginLemmas.{start_never}
 use Rattle.grid_links.specs.Machine.{Awaits, Goes, Takes}
 use Rattle.grid_links.specs.declared.messages.Message.{Message}
 use Rattle.grid_meaning.specs.Local.{Local, processors, start_local}
@@ -27,7 +28,7 @@ use Rattle.plan_orders.proofs.AgreeLemmas.{fold_ordered, tree_fold_ordered, tree
 use Rattle.plan_orders.proofs.ControlLemmas.{dims_ordered, end_ordered, fits_ordered, fix_ordered, formed_ordered, jump_ordered, need_ordered, same_ordered, set_ordered, trap_ordered, unless_ordered}
 use Rattle.plan_orders.proofs.LoopRowLemmas.{loop_ordered}
 use Rattle.plan_orders.proofs.MessageLemmas.{edge_ordered, finish_ordered, flood_ordered, gather_ordered, part_ordered, scan_ordered, start_ordered}
-use Rattle.plan_orders.proofs.PlanLemmas.{Arrives, arrive, long_rows}
+use Rattle.plan_orders.proofs.PlanLemmas.{Arrives, arrive_first, long_rows}
 use Rattle.plan_orders.proofs.PrintLemmas.{clear_ordered, number_ordered, print_ordered, room_ordered, truth_ordered}
 use Rattle.plan_orders.proofs.RemapRowLemmas.{remapped_well}
 use Rattle.plan_orders.proofs.StartLemmas.{Reach, in_step, reach_limits, reach_on, start_reach}
@@ -151,14 +152,18 @@ module _ (code : Tables) (links : Option ℕ) (capable : IsCapacity links) where
       → IsLocal code p local → act code p local ≡ Awaits from
       → fed code p local message ≡ Takes next → IsLocal code p next)
       → ComesInStep code links
-  come_in_step fits start_kept moves_keep messages_keep a n bound low few right =
+  come_in_step fits start_kept moves_keep messages_keep a n right =
       let long : length (plan_rows code) ≡ length code.code + 1 =
       long_rows (code.code ++ instr.End ∷ []) ∙ length-append code.code (instr.End ∷ []) in
-      in_step code links n a bound (run_most code a (suc n)) low few (plan_run code links a (suc n))
-      (subst (λ k. Arrives code links n a (All (HasThree code) code.code)
+      in_step code links (suc n) a (least_moves (stops_within code links a (suc n)) a (suc n))
+      (run_most code a (suc n)) (stops_within code links a (suc n)) (omega arith)
+      (plan_run code links a (suc n))
+      (subst (λ k. Arrives code links (suc n) a (All (HasThree code) code.code)
       (a * (k * row_most code (suc n))) (in_front 0 (start_abreast code))
-      (plan_run code links a (suc n))) long
-      (arrive code links n (have_orders fits n) (All (HasThree code) code.code) (Reach code links)
-      (reach_limits code links fits start_kept moves_keep messages_keep) (reach_on code links n) a 0
-      (start_abreast code) (omega arith) (start_reach code links)
-      (record { flights = All-nil _; room = no_room links }) right))
+      (stops_within code links a (suc n)) (plan_run code links a (suc n))) long
+      (arrive_first code links n (have_orders fits n) (All (HasThree code) code.code)
+      (Reach code links)
+      (reach_limits code links fits start_kept moves_keep messages_keep) (reach_on code links n)
+      (start_abreast code) (start_reach code links)
+      (record { flights = All-nil _; room = no_room links })
+      (start_never code links (suc n) fits.slots) a right))

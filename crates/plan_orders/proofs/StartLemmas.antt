@@ -1,5 +1,5 @@
 -- From the start of a plan to where its run comes.
-use Rattle.std.proofs.Common.{◌≡◌, ◌⊎◌, ℕ, zero, suc, ◌+◌, ◌*◌, ◌/◌, ◌%◌, ◌<◌, ◌≤◌, ◌==◌, List, [], ◌∷◌, ◌++◌, length, map, fold, All, slice_get, Option, Some, None, refl, sym, ◌∙◌, ap, subst, inl, inr, arith, length-append, append_assoc, append-nil, get_or}
+use Rattle.std.proofs.Common.{◌≡◌, ◌⊎◌, ℕ, zero, suc, ◌+◌, ◌*◌, ◌/◌, ◌%◌, ◌<◌, ◌≤◌, ◌==◌, Bool, List, [], ◌∷◌, ◌++◌, length, map, fold, All, slice_get, Option, Some, None, refl, sym, ◌∙◌, ap, subst, inl, inr, arith, length-append, append_assoc, append-nil, get_or}
 use Rattle.std.specs.Prelude.{IsSome, option_and_then}
 use Rattle.std.specs.List.{range_with_len}
 use Rattle.std.proofs.Math.Nat.{div-lt_iff_lt-mul, mod-lt}
@@ -38,7 +38,7 @@ use Rattle.plan_orders.proofs.ReachLemmas.{order_kept, slot_fits}
 use Rattle.node_form.specs.Fits.{Fits}
 use Rattle.grid_paths.proofs.RoundLemmas.{leads_nowhere, leads_through}
 use Rattle.plan_orders.proofs.TestLemmas.{all_at}
-use Rattle.plan_orders.specs.InStep.{IsInStep}
+use Rattle.plan_orders.specs.InStep.{IsInStep, least_moves}
 use Rattle.plan_orders.proofs.PlanLemmas.{AllMove, AllRest, Arrives, AtEnd, AtRow, AtWait, Onward}
 
 -- ---- what a grid has printed is what processor 0 has shown
@@ -257,11 +257,12 @@ module _ (code : Tables) (links : Option ℕ) where
       (λ p q a b. has.link p q a b ∙ quiet p q a b))
 
   -- ---- where a run comes
-  pub in_step : (n left bound most : ℕ) → bound ≤ left → bound ≤ n → (result : Result)
+  pub in_step : (n left bound most : ℕ) (stops : Bool) → bound ≤ least_moves stops left n
+      → (result : Result)
       → Arrives code links n left (All (HasThree code) code.code) most
-      (in_front 0 (start_abreast code)) result
+      (in_front 0 (start_abreast code)) stops result
       → (order : List ℕ) × IsInStep code links result bound most order
-  in_step n left bound most low few result (AtEnd {bytes = bytes} {ending = ending} end) =
+  in_step n left bound most stops few result (AtEnd {bytes = bytes} {ending = ending} end) =
       let reached : Reached system end.over end.brings.many end.brings.shown bound =
       reaches_from system (in_front 0 (start_abreast code)) end.over end.brings.many
       end.brings.shown bound start_is end.brings.leads
@@ -302,7 +303,7 @@ module _ (code : Tables) (links : Option ℕ) where
     where
       wanted : (ending : End) → Ends ending ≡ Ends More → ending ≡ More
       wanted ending e = cc
-  in_step n left bound most low few result (AtWait {bytes = bytes} wait) =
+  in_step n left bound most stops few result (AtWait {bytes = bytes} wait) =
       let reached : Reached system wait.other wait.many wait.shown bound =
       reaches_from system (in_front 0 (start_abreast code)) wait.other wait.many
       wait.shown bound start_is wait.leads
@@ -336,7 +337,7 @@ module _ (code : Tables) (links : Option ℕ) where
       less : {A B : Type 0} (many : ℕ) → A ⊎ ((n ≤ many) × B) → A ⊎ ((bound ≤ many) × B)
       less many (inl rests) = inl rests
       less many (inr (enough, moves)) = inr (omega (arith, enough, few), moves)
-  in_step n left bound most low few result (AtRow {bytes = bytes} there after_it brings onward) =
+  in_step n left bound most stops low result (AtRow {bytes = bytes} there after_it brings onward) =
       let comes = brings.leads (start_world system) start_is in (
         comes.order,
         record {

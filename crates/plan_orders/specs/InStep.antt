@@ -1,5 +1,6 @@
 -- Bounded runs of plans, and orders of turns that bring the code there.
-use Rattle.std.specs.Prelude.{◌≡◌, ◌≢◌, ℕ, suc, ◌+◌, ◌*◌, ◌<◌, ◌≤◌, List, All, length, Option}
+use Rattle.std.specs.Prelude.{◌≡◌, ◌≢◌, ℕ, suc, ◌+◌, ◌*◌, ◌<◌, ◌≤◌, Bool, true, false, List}
+use Rattle.std.specs.Prelude.{All, length, Option}
 use Rattle.zpl_nums.specs.declared.ends.End.{End}
 use Rattle.zpl_nums.specs.declared.ends.End.TheVariants.{More}
 use Rattle.grid_links.specs.Laws.{Reaches}
@@ -10,7 +11,9 @@ use Rattle.grid_meaning.specs.Grid.{EndsAs, HasEmptyLinks, IsOver, after, proces
 use Rattle.grid_meaning.specs.Order.{IsOrder}
 use Rattle.grid_meaning.specs.State.{HasThree}
 use Rattle.row_runs.specs.Run.{Ends, Result, Wrong}
-use Rattle.plan_meaning.specs.Act.{plan_run}
+use Rattle.row_runs.specs.Growth.{stops_itself}
+use Rattle.plan_meaning.specs.Abreast.{start_abreast}
+use Rattle.plan_meaning.specs.Act.{plan_act, plan_rows, plan_run}
 use Rattle.plan_orders.specs.Brings.{row_most}
 
 -- The order, of moves alone, brings the code to what a run shows: over as it ends, with all links
@@ -38,10 +41,21 @@ pub record IsInStep (code : Tables) (links : Option ℕ) (result : Result) (boun
 abbrev pub run_most : Tables → ℕ → ℕ → ℕ
 run_most code a n = a * ((length code.code + 1) * row_most code n)
 
--- There is such an order for a run of at most a jumps and tests, and n turns of each loop within a
--- group, where one more of each isn't wrong: it has as many moves as the lesser of both.
+-- how many moves each has made that doesn't rest: as many as a loop was given turns, where the run
+-- stops by itself, and else as many as jumps and tests
+abbrev pub least_moves : Bool → ℕ → ℕ → ℕ
+least_moves true a n = n
+least_moves false a n = a
+
+abbrev pub stops_within : Tables → Option ℕ → ℕ → ℕ → Bool
+stops_within code links a n =
+    stops_itself (plan_act code links n) (plan_rows code) a 0 (start_abreast code)
+
+-- There is such an order for each run of at most a jumps and tests, and n turns of each loop within a
+-- group, but not none, where one more jump isn't wrong.
 abbrev pub ComesInStep : Tables → Option ℕ → Type 0
 ComesInStep code links =
-    (a n bound : ℕ) → bound ≤ a → bound ≤ n → (plan_run code links (suc a) (suc n)).stop ≢ Wrong
+    (a n : ℕ) → (plan_run code links (suc a) (suc n)).stop ≢ Wrong
     → (order : List ℕ)
-    × IsInStep code links (plan_run code links a (suc n)) bound (run_most code a (suc n)) order
+    × IsInStep code links (plan_run code links a (suc n))
+    (least_moves (stops_within code links a (suc n)) a (suc n)) (run_most code a (suc n)) order

@@ -1,0 +1,4 @@
+mod Examples
+pub mod AlikeLemmas
+pub mod FitLemmas
+pub mod OrderLemmas
