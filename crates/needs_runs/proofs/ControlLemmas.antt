@@ -31,7 +31,7 @@ use Rattle.plan_meaning.specs.Abreast.{Abreast, are_none, go_where, locals_of}
 use Rattle.plan_meaning.specs.Act as plan
 use Rattle.plan_meaning.specs.Act.{control_of, controlled_as, go_one_way, is_ending, is_way, shares_on}
 use Rattle.needs_runs.specs.Holds.{Holds}
-use Rattle.needs_runs.specs.Agree.{DoesAgree, BothGo, BothStop, BothLeap, WasWrong}
+use Rattle.row_runs.specs.Rows.{AreEffects, BothGo, BothStop, BothLeap, OldWrong}
 use Rattle.needs_runs.proofs.HoldsLemmas.{both_parts, both_true, every_all, holds_as, joined_same, same_number}
 use Rattle.needs_runs.proofs.SlotLemmas.{zip_set}
 
@@ -232,17 +232,17 @@ module _ (code : Tables) (whole : Whole) (all : Abreast) (some : 0 < processors 
         → ((p : ℕ) → p < processors code
         → other.shares p ≡ plan.with_registers (all.shares p) (c p))
         → other.flights ≡ [] → Holds code next other
-        → DoesAgree (Holds code) (Does (Goes [] next)) (plan.controlled code row all)
+        → AreEffects (Holds code) (Does (Goes [] next)) (plan.controlled code row all)
     went c next other are same quiet held =
-        subst (λ d. DoesAgree (Holds code) (Does (Goes [] next)) (controlled_as code row all d))
+        subst (λ d. AreEffects (Holds code) (Does (Goes [] next)) (controlled_as code row all d))
         (sym (are 0 some))
-        (subst (λ b. DoesAgree (Holds code) (Does (Goes [] next)) (Does (go_where b [] (shares_on code row all))))
+        (subst (λ b. AreEffects (Holds code) (Does (Goes [] next)) (Does (go_where b [] (shares_on code row all))))
         (sym (one_way (λ p. Steps (c p)) are (λ p below. refl)))
         (BothGo (holds_as code next other (shares_on code row all) some
         (λ p below. ap (λ d. plan.with_registers (all.shares p) (plan.registers_or d (regs p))) (are p below) ∙ sym (same p below))
         holds.flights held)))
 
-    pub way_agrees : (c : Control) → Way c ways → DoesAgree (Holds code) (flat.controlled whole c) (plan.controlled code row all)
+    pub way_agrees : (c : Control) → Way c ways → AreEffects (Holds code) (flat.controlled whole c) (plan.controlled code row all)
     way_agrees c (Stays is) = went regs whole all is (λ p below. refl) holds.flights holds
     way_agrees c (Sets scalar value settled is) =
         went (λ p. record (regs p) { scalars = slice_set (regs p).scalars scalar value })
@@ -255,12 +255,12 @@ module _ (code : Tables) (whole : Whole) (all : Abreast) (some : 0 < processors 
         (record all { shares = λ p. record (all.shares p) { slots = slice_set (all.shares p).slots slot region } })
         is (λ p below. refl) holds.flights (slot_set slot rank region there fits)
     way_agrees c (Leads goal is) =
-        subst (λ d. DoesAgree (Holds code) (run.Leaps goal) (controlled_as code row all d)) (sym (is 0 some))
-        (subst (λ b. DoesAgree (Holds code) (run.Leaps goal) (plan.leaps_where b goal))
+        subst (λ d. AreEffects (Holds code) (run.Leaps goal) (controlled_as code row all d)) (sym (is 0 some))
+        (subst (λ b. AreEffects (Holds code) (run.Leaps goal) (plan.leaps_where b goal))
         (sym (one_way (λ p. Leaps goal) is (λ p below. same_number goal))) BothLeap)
     way_agrees c (Closes ending plain is) =
-        subst (λ d. DoesAgree (Holds code) (Does (Stops (run.Ends ending))) (controlled_as code row all d)) (sym (is 0 some))
-        (subst (λ b. DoesAgree (Holds code) (Does (Stops (run.Ends ending))) (Does (plan.ends_where b ending)))
+        subst (λ d. AreEffects (Holds code) (Does (Stops (run.Ends ending))) (controlled_as code row all d)) (sym (is 0 some))
+        (subst (λ b. AreEffects (Holds code) (Does (Stops (run.Ends ending))) (Does (plan.ends_where b ending)))
         (sym (both_true (go_one_way code row all) (are_none all.flights)
         (one_way (λ p. Ends ending) is (λ p below. plain)) (ap are_none holds.flights))) BothStop)
-    way_agrees c NotSaid = WasWrong
+    way_agrees c NotSaid = OldWrong

@@ -37,15 +37,16 @@ use Rattle.flat_form.proofs.InlineLemmas.{control_inline}
 use Rattle.plan_meaning.specs.Abreast.{Abreast}
 use Rattle.plan_meaning.specs.Act as plan
 use Rattle.needs_runs.specs.Holds.{Holds}
-use Rattle.needs_runs.specs.Agree.{DoesAgree, BothGo, BothStop, BothLeap, BothPass, WasWrong, HasLayout, FitRowAgrees}
+use Rattle.row_runs.specs.Rows.{AreEffects, BothGo, BothStop, BothLeap, BothPass, OldWrong}
+use Rattle.needs_runs.specs.Agree.{HasLayout, FitRowAgrees, RowAgrees}
 use Rattle.needs_runs.proofs.HoldsLemmas.{both_parts, same_number, some_processors}
 use Rattle.needs_runs.proofs.SlotLemmas.{dims_slot, formed_slot, zip_back}
 use Rattle.needs_runs.proofs.ControlLemmas.{all_parts, scalars_same, words_value, Way, Stays, Sets, Fixes, Leads, Closes, computed_way, row_way, way_agrees}
 
 pub agree_if : {R : Whole → Abreast → Type 0} (b : Bool) (f : Effect Whole) (e : Effect Abreast)
-    → (b ≡ true → DoesAgree R f e) → DoesAgree R (if b then f else Does (Stops Wrong)) e
+    → (b ≡ true → AreEffects R f e) → AreEffects R (if b then f else Does (Stops Wrong)) e
 agree_if true f e more = more refl
-agree_if false f e more = WasWrong
+agree_if false f e more = OldWrong
 
 module _ (code : Tables) (whole : Whole) (all : Abreast) (holds : Holds code whole all) where
   abbrev some : 0 < processors code
@@ -152,32 +153,32 @@ module _ (code : Tables) (whole : Whole) (all : Abreast) (holds : Holds code who
 
   -- ---- one row
   controlled_agrees : (row : Instr) → Ways (control.control code (registers_of whole) row) (plan.control_of code row all)
-      → DoesAgree (Holds code) (flat.controlled whole (flat.control_of code (inlined code row) whole))
+      → AreEffects (Holds code) (flat.controlled whole (flat.control_of code (inlined code row) whole))
       (plan.controlled code row all)
   controlled_agrees row way =
-      subst (λ c. DoesAgree (Holds code) (flat.controlled whole c) (plan.controlled code row all))
+      subst (λ c. AreEffects (Holds code) (flat.controlled whole c) (plan.controlled code row all))
       (sym (control_inline code row whole))
       (way_agrees code whole all some holds row (control.control code (registers_of whole) row) way)
 
-  tested_agrees : (c : Control) (e : Effect Abreast) → DoesAgree (Holds code) (flat.controlled whole c) e
-      → DoesAgree (Holds code) (flat.tested whole c) (plan.tested e)
+  tested_agrees : (c : Control) (e : Effect Abreast) → AreEffects (Holds code) (flat.controlled whole c) e
+      → AreEffects (Holds code) (flat.tested whole c) (plan.tested e)
   tested_agrees (Steps registers) e does = passes does
     where
-      passes : {bytes : List ℕ} {next : Whole} {e : Effect Abreast} → DoesAgree (Holds code) (Does (Goes bytes next)) e
-          → DoesAgree (Holds code) run.Passes (plan.tested e)
+      passes : {bytes : List ℕ} {next : Whole} {e : Effect Abreast} → AreEffects (Holds code) (Does (Goes bytes next)) e
+          → AreEffects (Holds code) run.Passes (plan.tested e)
       passes (BothGo like) = BothPass
   tested_agrees (Leaps goal) e does = leads does
     where
-      leads : {goal : ℕ} {e : Effect Abreast} → DoesAgree (Holds code) (run.Leaps goal) e
-          → DoesAgree (Holds code) (run.Leaps goal) (plan.tested e)
+      leads : {goal : ℕ} {e : Effect Abreast} → AreEffects (Holds code) (run.Leaps goal) e
+          → AreEffects (Holds code) (run.Leaps goal) (plan.tested e)
       leads BothLeap = BothLeap
   tested_agrees (Ends ending) e does = stops does
     where
-      stops : {stop : run.Stop} {e : Effect Abreast} → DoesAgree (Holds code) (Does (Stops stop)) e
-          → DoesAgree (Holds code) (Does (Stops stop)) (plan.tested e)
+      stops : {stop : run.Stop} {e : Effect Abreast} → AreEffects (Holds code) (Does (Stops stop)) e
+          → AreEffects (Holds code) (Does (Stops stop)) (plan.tested e)
       stops BothStop = BothStop
-      stops WasWrong = WasWrong
-  tested_agrees Outside e does = WasWrong
+      stops OldWrong = OldWrong
+  tested_agrees Outside e does = OldWrong
 
 module _ (code : Tables) (layout : HasLayout code) (links : Option ℕ) (n : ℕ) where
   abbrev Fit : Instr → Type 0
@@ -304,23 +305,23 @@ module _ (code : Tables) (layout : HasLayout code) (links : Option ℕ) (n : ℕ
       (slot_same code whole all holds slot)
       (λ region there. checked_way code whole all holds (border_conforms shift region) kind.RegionMismatch line))
 
-  pub jump_agrees : (goal : ℕ) → Fit (instr.Jump goal)
-  jump_agrees goal fits three whole all holds =
+  pub jump_agrees : (goal : ℕ) → RowAgrees code links n (instr.Jump goal)
+  jump_agrees goal whole all holds =
       controlled_agrees code whole all holds (instr.Jump goal) (Leads goal (λ p below. refl))
 
-  pub trap_agrees : (kind : TrapKind) (line : ℕ) → Fit (instr.Trap kind line)
-  trap_agrees kind line fits three whole all holds =
+  pub trap_agrees : (kind : TrapKind) (line : ℕ) → RowAgrees code links n (instr.Trap kind line)
+  trap_agrees kind line whole all holds =
       controlled_agrees code whole all holds (instr.Trap kind line) (Closes _ plain (λ p below. refl))
     where
       plain : ((plan.kind_number kind == plan.kind_number kind) && (line == line)) ≡ true
       plain = rw (same_number (plan.kind_number kind)) (same_number line)
 
-  pub end_agrees : Fit instr.End
-  end_agrees fits three whole all holds =
+  pub end_agrees : RowAgrees code links n instr.End
+  end_agrees whole all holds =
       controlled_agrees code whole all holds instr.End (Closes _ refl (λ p below. refl))
 
-  pub unless_agrees : (expr goal line : ℕ) → Fit (instr.Unless expr goal line)
-  unless_agrees expr goal line fits three whole all holds =
+  pub unless_agrees : (expr goal line : ℕ) → RowAgrees code links n (instr.Unless expr goal line)
+  unless_agrees expr goal line whole all holds =
       agree_if (are_settled whole (inlined code row)) _ _ (λ settled.
       tested_agrees code whole all holds (flat.control_of code (inlined code row) whole) _
       (controlled_agrees code whole all holds row

@@ -33,7 +33,8 @@ use Rattle.plan_meaning.specs.Act.{action_of, alone}
 use Rattle.plan_meaning.specs.Messages.{leaves_row, next_or, shown_of}
 use Rattle.grid_meaning.specs.Action.{goes_on, moves}
 use Rattle.needs_runs.specs.Holds.{HasPart, Holds}
-use Rattle.needs_runs.specs.Agree.{DoesAgree, BothGo, WasWrong, HasLayout, FitRowAgrees}
+use Rattle.row_runs.specs.Rows.{AreEffects, BothGo, OldWrong}
+use Rattle.needs_runs.specs.Agree.{HasLayout, FitRowAgrees}
 use Rattle.needs_runs.proofs.HoldsLemmas.{every_all, holds_as, some_processors}
 use Rattle.needs_runs.proofs.SlotLemmas.{zip_back, zip_set, zip_there}
 use Rattle.needs_runs.proofs.PlaceLemmas.{held_there, in_room, place_of_held}
@@ -133,11 +134,11 @@ module _ (code : Tables) (whole : Whole) (all : Abreast) (holds : Holds code who
       ≡ moves (goes_on (record (standing (all.shares p)) { stores = slice_set (all.shares p).stores array (own p) })) [])
       → Holds code next
       (record all { shares = λ p. record (all.shares p) { stores = slice_set (all.shares p).stores array (own p) } })
-      → DoesAgree (Holds code) (Does (Goes [] next)) (Does (alone code row all))
+      → AreEffects (Holds code) (Does (Goes [] next)) (Does (alone code row all))
   alone_set row array own next acts held =
-      subst (λ bytes. DoesAgree (Holds code) (Does (Goes [] next)) (Does (go_where (every code (λ p. leaves_row (action_of code row all p))) bytes other)))
+      subst (λ bytes. AreEffects (Holds code) (Does (Goes [] next)) (Does (go_where (every code (λ p. leaves_row (action_of code row all p))) bytes other)))
       (sym (ap shown_of (acts 0 some)))
-      (subst (λ b. DoesAgree (Holds code) (Does (Goes [] next)) (Does (go_where b [] other)))
+      (subst (λ b. AreEffects (Holds code) (Does (Goes [] next)) (Does (go_where b [] other)))
       (sym (every_all code (λ p. leaves_row (action_of code row all p)) (λ p below. ap leaves_row (acts p below))))
       (BothGo (holds_as code next _ other some
       (λ p below. ap (λ action. share_of (next_or (locals_of all p) action)) (acts p below)) holds.flights held)))
@@ -165,7 +166,7 @@ module _ (code : Tables) (layout : HasLayout code) (links : Option ℕ) (n : ℕ
       by (slice_get code.arrays array) refl (slice_get whole.slots slot) refl
     where
       Goal : Option ArrayRow → Option Region → Type 0
-      Goal row region = DoesAgree (Holds code)
+      Goal row region = AreEffects (Holds code)
           (Does (found row (λ r. found region (λ s. provided (not r.stored && matches r s) (Goes [] (with_store whole array (zeros_at s)))))))
           (Does (alone code (instr.Room array slot) all))
 
@@ -218,9 +219,9 @@ module _ (code : Tables) (layout : HasLayout code) (links : Option ℕ) (n : ℕ
 
       by_test : (row : ArrayRow) (region : Region) → slice_get code.arrays array ≡ Some row
           → slice_get whole.slots slot ≡ Some region → (b : Bool) → (not row.stored && matches row region) ≡ b
-          → DoesAgree (Holds code) (Does (provided b (Goes [] (with_store whole array (zeros_at region)))))
+          → AreEffects (Holds code) (Does (provided b (Goes [] (with_store whole array (zeros_at region)))))
           (Does (alone code (instr.Room array slot) all))
-      by_test row region there here false test = WasWrong
+      by_test row region there here false test = OldWrong
       by_test row region there here true test =
           let parts = not_parts row.stored (matches row region) test in
           let fit = zip_back IsSlot code.slots whole.slots slot region holds.slots here in
@@ -255,8 +256,8 @@ module _ (code : Tables) (layout : HasLayout code) (links : Option ℕ) (n : ℕ
 
       by : (row : Option ArrayRow) → slice_get code.arrays array ≡ row → (region : Option Region)
           → slice_get whole.slots slot ≡ region → Goal row region
-      by None there region here = WasWrong
-      by (Some row) there None here = WasWrong
+      by None there region here = OldWrong
+      by (Some row) there None here = OldWrong
       by (Some row) there (Some region) here = by_test row region there here (not row.stored && matches row region) refl
 
   -- ---- `clear`
@@ -323,9 +324,9 @@ module _ (code : Tables) (layout : HasLayout code) (links : Option ℕ) (n : ℕ
           })) []) (sym (ap own_by found.1))
 
       by : (store : Option Array) → slice_get whole.stores array ≡ store
-          → DoesAgree (Holds code) (Does (found store (λ s. Goes [] (with_store whole array (zeros_at s.storage)))))
+          → AreEffects (Holds code) (Does (found store (λ s. Goes [] (with_store whole array (zeros_at s.storage)))))
           (Does (alone code (instr.Clear array) all))
-      by None here = WasWrong
+      by None here = OldWrong
       by (Some store) here =
           let is = zip_back IsStoreOf code.arrays whole.stores array store holds.is_whole.stores here in
           alone_set code whole all holds (instr.Clear array) array own (with_store whole array (zeros_at store.storage))
