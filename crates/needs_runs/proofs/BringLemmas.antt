@@ -67,7 +67,7 @@ by_flattened a t is place =
     ap (λ b. element b t) (array_of-element a is)
     ∙ element-array_of a.storage (element a) t is.steps place
 
-element_alike : (a : Array) (t u : List ℤ) → IsArray a → has_place a.storage t ≡ true
+pub element_alike : (a : Array) (t u : List ℤ) → IsArray a → has_place a.storage t ≡ true
     → has_place a.storage u ≡ true → flattened a.storage.dims t ≡ flattened a.storage.dims u
     → element a t ≡ element a u
 element_alike a t u is here there same =

@@ -1,10 +1,10 @@
 -- An exchange in front of a loop: its start, and its finish directly behind it, bring to each
 -- processor what its owners have at the places that it needs.
-use Rattle.std.proofs.Common.{◌≡◌, inl, inr, refl, sym, ◌∙◌, ap, ap₂, subst, arith, ℕ, ◌+◌, ◌<◌, ◌≤◌}
+use Rattle.std.proofs.Common.{◌≡◌, ◌⊎◌, inl, inr, zero, suc, eq-or-lt_of_le, refl, sym, ◌∙◌, ap, ap₂, subst, arith, ℕ, ◌+◌, ◌<◌, ◌≤◌}
 use Rattle.std.proofs.Common.{Bool, true, false, ◌&&◌, ◌==◌, List, [], ◌∷◌, ◌++◌, length, map, take}
 use Rattle.std.proofs.Common.{ℤ, All, Option, Some, is_some, append-nil, eq-eqb, eqb-true, true≢false}
-use Rattle.std.specs.Prelude.{is_none, nat_le, option_and_then, slice_get, unwrap_or}
-use Rattle.std.specs.List.{AllZip, list_all}
+use Rattle.std.specs.Prelude.{is_none, nat_le, nat_lt, not, option_and_then, slice_get, unwrap_or}
+use Rattle.std.specs.List.{AllZip, list_all, range_with_len}
 use Rattle.std.specs.Option.{option_map}
 use Rattle.std.proofs.Math.Path.{fun_ext}
 use Rattle.std.proofs.lemmas.Bool.Decides.{nat_tests}
@@ -12,12 +12,15 @@ use Rattle.std.proofs.lemmas.List.{length-map}
 use Rattle.std.proofs.lemmas.List.Sums.{sum_by-cons}
 use Rattle.std.proofs.lemmas.List.Elements.{All-head, All-tail}
 use Rattle.zpl_nums.specs.Fold.{joined}
+use Rattle.zpl_region.specs.declared.dims.Dim.{Dim}
+use Rattle.zpl_region.specs.declared.dims.Dim.TheVariants as dim
+use Rattle.zpl_region.specs.Tests.{is_coordinate}
 use Rattle.zpl_region.specs.declared.regions.Region.{Region}
 use Rattle.zpl_region.specs.Dim.{HasStep}
 use Rattle.zpl_region.specs.Region.{IsMember, components, members}
-use Rattle.zpl_region.proofs.ListLemmas.{Among}
-use Rattle.zpl_arrays.specs.Array.{Array, IsArray, element, flattened, has_place}
-use Rattle.zpl_arrays.proofs.ArrayLemmas.{place_of_member}
+use Rattle.zpl_region.proofs.ListLemmas.{Among, Among-filter}
+use Rattle.zpl_arrays.specs.Array.{Array, IsArray, each_has_place, element, flattened, has_place}
+use Rattle.zpl_arrays.proofs.ArrayLemmas.{flattened_is, place_of_member}
 use Rattle.grid_layout.specs.Layout.{held_of, laid_out}
 use Rattle.grid_layout.specs.Piece.{needed_in, owned_part}
 use Rattle.grid_paths.specs.Tree.{times}
@@ -29,24 +32,27 @@ use Rattle.node_form.specs.Fits.{storage_of}
 use Rattle.row_runs.specs.Run.{Goes}
 use Rattle.row_runs.specs.Straight.{Every}
 use Rattle.grid_meaning.specs.Action.{goes_on}
-use Rattle.grid_meaning.specs.Collective.{Collective, scalar_at, Sends, TakesFrom, Last, others_where}
+use Rattle.grid_meaning.specs.Collective.{Collective, scalar_at, Sends, TakesFrom, Last, others, others_where}
 use Rattle.grid_meaning.specs.Exchange as exchange
 use Rattle.grid_meaning.specs.Exchange.{places_in, places_of, word_count, words_between, words_written}
-use Rattle.grid_meaning.specs.Local.{Local, processors}
-use Rattle.grid_meaning.specs.Place.{value_at, values_at, with_values}
+use Rattle.grid_meaning.specs.Local.{Local, processor_numbers, processors}
+use Rattle.grid_meaning.specs.Place.{held_value, moved_by, own_part, value_at, values_at, with_values}
 use Rattle.grid_meaning.specs.State.{ArePlaces, IsSlot, IsStore}
 use Rattle.grid_meaning.specs.Stored.{arrangement_of, box_of}
 use Rattle.row_orders.specs.Rows.{ArePartners, Flight, alone_where, taking, taken_where}
 use Rattle.row_orders.proofs.PartnerLemmas.{others_where_others, partners_by_words}
+use Rattle.flat_form.specs.Right.{each_covers}
+use Rattle.flat_form.specs.Static.{is_in_fringe}
 use Rattle.flat_form.specs.States.{IsStoreOf}
 use Rattle.flat_form.specs.Whole.{Whole}
-use Rattle.plan_meaning.specs.Abreast.{Abreast, every, go_where, locals_of, share_of, standing}
+use Rattle.plan_meaning.specs.Abreast.{Abreast, Share, every, go_where, locals_of, share_of, standing}
 use Rattle.plan_meaning.specs.Messages.{begun, does_well, final_of, finished, from_of, middle_of, next_with, receivers, senders, started, starts_alone, to_of, took, words_of}
 use Rattle.needs_runs.specs.Agree.{HasLayout}
 use Rattle.needs_runs.specs.Holds.{Holds, HoldsOwn, HasPart, lies_in_own}
 use Rattle.needs_runs.proofs.HoldsLemmas.{both_true, every_all, joined_same, some_processors}
-use Rattle.needs_runs.proofs.BringLemmas.{value_held, flattened_as, IsFuller, all_brought, all_said, nothing_brought, then_brought}
-use Rattle.needs_runs.proofs.PieceLemmas.{box_there, held_many_dims, kinds, piece_place, three_dims}
+use Rattle.needs_runs.proofs.BringLemmas.{element_alike, value_held, flattened_as, IsFuller, all_brought, all_said, nothing_brought, then_brought}
+use Rattle.needs_runs.proofs.PieceLemmas.{box_there, held_many_dims, kinds, needed_owned, owner, owner_below, piece_place, read_needed, three_dims}
+use Rattle.needs_runs.proofs.NeedLemmas.{place_of}
 use Rattle.needs_runs.proofs.PlaceLemmas.{element_of_held, held_there, place_of_held}
 use Rattle.needs_runs.proofs.RoomRows.{all_get}
 use Rattle.needs_runs.proofs.SlotLemmas.{zip_there}
@@ -100,6 +106,32 @@ every_weaker P Q weaker (q ∷ qs) all = (weaker q all.0, every_weaker P Q weake
 every_among : {X : Type 0} (P : X → Type 0) (xs : List X) → ((x : X) → Among xs x → P x) → Every P xs
 every_among P [] all = tt
 every_among P (x ∷ xs) all = (all x (inl refl), every_among P xs (λ y k. all y (inr k)))
+
+every_at : {X : Type 0} (P : X → Type 0) (xs : List X) (x : X) → Every P xs → Among xs x → P x
+every_at P [] x all k = absurd k
+every_at P (y ∷ xs) x all (inl same) = subst P same all.0
+every_at P (y ∷ xs) x all (inr k) = every_at P xs x all.1 k
+
+some_among : {X : Type 0} (xs : List X) (x : X) → Among xs x → 0 < length xs
+some_among [] x k = absurd k
+some_among (y ∷ xs) x k = omega arith
+
+among_numbers : (q a n : ℕ) → a ≤ q → q < a + n → Among (range_with_len a n) q
+among_numbers q a zero low high = absurd (omega (arith, low, high))
+among_numbers q a (suc n) low high = by (eq-or-lt_of_le low) (λ more. among_numbers q (a + 1) n more (omega (arith, high)))
+  where
+    by : (a ≡ q) ⊎ (a < q) → (a + 1 ≤ q → Among (range_with_len (a + 1) n) q)
+        → Among (range_with_len a (suc n)) q
+    by (inl same) further = inl same
+    by (inr more) further = inr (further (omega (arith, more)))
+
+pub has_flattened : (dims : List Dim) (t : List ℤ) → each_has_place dims (flattened dims t) ≡ each_has_place dims t
+has_flattened [] t = refl
+has_flattened (dim.Flood ∷ dims) [] = refl
+has_flattened (dim.Range lo hi step align ∷ dims) [] = refl
+has_flattened (dim.Flood ∷ dims) (x ∷ t) = has_flattened dims t
+has_flattened (dim.Range lo hi step align ∷ dims) (x ∷ t) =
+    ap (λ b. is_coordinate (dim.Range lo hi step align) x && b) (has_flattened dims t)
 
 module _ (code : Tables) (layout : HasLayout code) (links : Option ℕ)
     (roomy : is_roomy links 0 ≡ true) (number array slot : ℕ) (shift : List ℤ) (row : ArrayRow)
@@ -479,3 +511,89 @@ module _ (code : Tables) (layout : HasLayout code) (links : Option ℕ)
           (λ p below. ap (λ share. scalar_at scalar (standing share)) (sym (share_behind p below))));
       flights = refl;
     }
+
+    -- what a processor had right it has right still
+    pub keeps_behind : (p : ℕ) → p < processors code → (other : ℕ) (u : List ℤ) (value : ℤ)
+        → value_at whole.stores other u ≡ Some value
+        → value_at (all.shares p).stores other u ≡ Some value
+        → value_at (behind_finish.shares p).stores other u ≡ Some value
+    keeps_behind p below other u value whole_has own_has =
+        subst (λ (s : Share). value_at s.stores other u ≡ Some value) (sym (share_behind p below))
+        (by (other == array) refl)
+      where
+        by : (b : Bool) → (other == array) ≡ b
+            → value_at (taken_by p below).behind other u ≡ Some value
+        by false e =
+            ap (λ o. option_and_then (held_value u) o)
+            ((taken_by p below).fuller.same other (λ same. true≢false (sym (eq-eqb other array (sym same)) ∙ e)))
+            ∙ own_has
+        by true e =
+            let number_is : other ≡ array = eqb-true other array e in
+            let held : held_value u store ≡ Some value =
+            sym (value_held whole.stores array store u held_whole) ∙ (ap (λ k. value_at whole.stores k u) (sym number_is) ∙ whole_has) in
+            let value_is : element store u ≡ value = element_of_held u store value held in
+            subst (λ k. value_at (taken_by p below).behind k u ≡ Some value) (sym number_is)
+            ((taken_by p below).fuller.keeps u (place_of_held u store value held)
+            (subst (λ k. value_at (all.shares p).stores k u ≡ Some value) number_is own_has ∙ ap Some (sym value_is))
+            ∙ ap Some value_is)
+
+    -- ---- what is read with a shift has its owner's value
+    at_place : (p : ℕ) (below : p < processors code) (u : List ℤ) (from : ℕ) → from < processors code
+        → Among (places from p) u → value_at (taken_by p below).behind array u ≡ Some (element store u)
+    at_place p below u from from_below among = by (from == p) refl
+      where
+        some_test : (m : ℕ) → 0 < m → nat_lt 0 m ≡ true
+        some_test m some = grind (arith, nat_tests, some)
+
+        by : (b : Bool) → (from == p) ≡ b
+            → value_at (taken_by p below).behind array u ≡ Some (element store u)
+        by true e =
+            let same : from ≡ p = eqb-true from p e in
+            (taken_by p below).fuller.keeps u (whole_place u (piece from p from_below below u among).1)
+            (every_at (λ u. value_at (all.shares p).stores array u ≡ Some (element store u)) (places p p) u (holding p p below below)
+            (subst (λ q. Among (places q p) u) same among))
+        by false e =
+            every_at (λ u. value_at (taken_by p below).behind array u ≡ Some (element store u)) (places from p) u
+            (every_at (λ q. Every (λ u. value_at (taken_by p below).behind array u ≡ Some (element store u)) (places q p)) (taken_from p) from
+            (taken_by p below).here
+            (Among-filter (λ q. nat_lt 0 (word_count code (locals p) items q p)) (others code p) from
+            (Among-filter (λ q. not (q == p)) (processor_numbers code) from
+            (among_numbers from 0 (processors code) (omega arith) (omega (arith, from_below))) (ap not e))
+            (some_test (word_count code (locals p) items from p)
+            (subst (λ m. 0 < m) (sym (count_is (locals p) (slots_same p below) from p)) (some_among (places from p) u among)))))
+            among
+
+    pub brought : (p : ℕ) → p < processors code → (t : List ℤ) → IsMember (own_part code p region) t
+        → each_covers row.dims region.dims ≡ true
+        → has_place store.storage (moved_by shift t) ≡ true → is_in_fringe row.dims shift ≡ true
+        → value_at (behind_finish.shares p).stores array (moved_by shift t)
+        ≡ value_at whole.stores array (moved_by shift t)
+    brought p below t own covers place fringe =
+        let w = moved_by shift t in
+        let u = place_of row.dims shift t in
+        let in_storage : has_place (storage_of row) w ≡ true = subst (λ (r : Region). has_place r w ≡ true) whole_storage place in
+        let is = read_needed code layout array row there told p below region slot_is shift long flat_shift t own covers in_storage fringe in
+        let from = owner code layout array row there told p below region slot_is shift long flat_shift u in
+        let from_below = owner_below code layout array row there told p below region slot_is shift long flat_shift u in
+        let among = needed_owned code layout array row there told p below region slot_is shift long flat_shift u is in
+        let facts = piece from p from_below below u among in
+        let mine = zip_there (IsStore code p) code.arrays (taken_by p below).behind array row (taken_by p below).fuller.stores_are there in
+        let at_u : held_value u mine.0 ≡ Some (element store u) =
+        sym (value_held (taken_by p below).behind array mine.0 u mine.1) ∙ at_place p below u from from_below among in
+        let here = place_of_held u mine.0 (element store u) at_u in
+        let flat_w : flattened mine.0.storage.dims w ≡ u =
+        alike p below mine.0 mine.2 w ∙ ap (λ (r : Region). flattened r.dims w) whole_storage in
+        let flat_u : flattened mine.0.storage.dims u ≡ u =
+        ap (λ (r : Region). flattened r.dims u) (boxed_storage p mine.0 mine.2) ∙ flattened_is (boxed p).dims u facts.0 in
+        let whole_w : flattened store.storage.dims w ≡ u = ap (λ (r : Region). flattened r.dims w) whole_storage in
+        let whole_u : flattened store.storage.dims u ≡ u =
+        ap (λ (r : Region). flattened r.dims u) whole_storage ∙ flattened_is (storage_of row).dims u facts.1 in
+        let has_w : has_place mine.0.storage w ≡ true =
+        sym (has_flattened mine.0.storage.dims w) ∙ (ap (each_has_place mine.0.storage.dims) flat_w ∙ here) in
+        ap (λ (s : Share). value_at s.stores array w) (share_behind p below)
+        ∙ (value_held (taken_by p below).behind array mine.0 w mine.1
+        ∙ (held_there w mine.0 has_w
+        ∙ (ap Some (element_alike mine.0 w u mine.2.filled has_w here (flat_w ∙ sym flat_u)
+        ∙ (element_of_held u mine.0 (element store u) at_u
+        ∙ sym (element_alike store w u is_array place (whole_place u facts.1) (whole_w ∙ sym whole_u))))
+        ∙ (sym (held_there w store place) ∙ sym (value_held whole.stores array store w held_whole)))))

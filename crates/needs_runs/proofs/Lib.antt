@@ -8,5 +8,6 @@ pub mod NeedLemmas
 pub mod OwnerLemmas
 pub mod PieceLemmas
 pub mod PlaceLemmas
+pub mod PlannedLemmas
 pub mod RoomRows
 pub mod SlotLemmas

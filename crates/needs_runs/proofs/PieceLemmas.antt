@@ -129,6 +129,12 @@ zero_past zero (Range lo hi low high ∷ rows) (x ∷ u) unused are =
       zero_past zero rows u (All-tail IsUnused (Range lo hi low high) rows unused) are.1,
     )
 
+components_many : (rank : ℕ) (v : List ℤ) → length (components rank v) ≡ length v
+components_many zero [] = refl
+components_many (suc rank) [] = refl
+components_many zero (x ∷ v) = ap suc (components_many zero v)
+components_many (suc rank) (x ∷ v) = ap suc (components_many rank v)
+
 no_none : (n : ℕ) → 0 < n → (n == 0) ≡ false
 no_none n some = grind (arith, nat_tests)
 
@@ -223,7 +229,7 @@ module _ (code : Tables) (layout : HasLayout code) (array : ℕ) (row : ArrayRow
     helds_boxed : All IsBoxed helds
     helds_boxed = held_boxed row.dims axes ns ks (map width_below row.dims) (map width_above row.dims)
 
-    boxed : All IsBoxed held.dims
+    pub boxed : All IsBoxed held.dims
     boxed = by is_none
       where
         by : (b : Bool) → All IsBoxed (held_by b)
@@ -308,6 +314,15 @@ module _ (code : Tables) (layout : HasLayout code) (array : ℕ) (row : ArrayRow
           (among_from_Contains (members needed) u ((members_iff needed u needed_step).1 is))
           (eq-eqb from from refl))
 
+      -- what is needed is held
+      pub needed_held : (u : List ℤ) → IsMember needed u → IsMember held u
+      needed_held u is =
+          needs_are_held (axes_at blocks region.rank) (cuts code.grid region.rank) (blocks_at (cuts code.grid region.rank) p) held.dims (components region.rank shift) region.dims u
+          (axes_three blocks region.rank are_blocks slot.fits.rank.0 slot.fits.rank.1 ∙ sym held_many_dims)
+          ((are_cuts code.grid region.rank slot.fits.rank.0 slot.fits.rank.1).three ∙ sym held_many_dims)
+          (blocks_length (cuts code.grid region.rank) p ∙ ((are_cuts code.grid region.rank slot.fits.rank.0 slot.fits.rank.1).three ∙ sym held_many_dims))
+          (components_many region.rank shift ∙ (long ∙ sym held_many_dims)) (slot.many ∙ sym held_many_dims) boxed is
+
       -- a place of a piece is one that is held, and lies in the owner's own block
       pub piece_place : (from : ℕ) → from < processors code → (u : List ℤ)
           → Among (members (owned_part blocks from p needed)) u
@@ -317,12 +332,7 @@ module _ (code : Tables) (layout : HasLayout code) (array : ℕ) (row : ArrayRow
           let parts = among_filtered (λ t. owner_for blocks p needed t == from) (members needed) u
           (subst (λ ts. Among ts u) (parts_by_owner blocks from p needed are_blocks slot.fits.rank.0 slot.fits.rank.1 needed_many needed_bounds inside from_inside) among) in
           let is : IsMember needed u = (members_iff needed u needed_step).0 (Contains-from_among (members needed) u parts.0) in
-          let in_held : IsMember held u =
-          needs_are_held (axes_at blocks region.rank) (cuts code.grid region.rank) (blocks_at (cuts code.grid region.rank) p) held.dims (components region.rank shift) region.dims u
-          (axes_three blocks region.rank are_blocks slot.fits.rank.0 slot.fits.rank.1 ∙ sym held_many_dims)
-          ((are_cuts code.grid region.rank slot.fits.rank.0 slot.fits.rank.1).three ∙ sym held_many_dims)
-          (blocks_length (cuts code.grid region.rank) p ∙ ((are_cuts code.grid region.rank slot.fits.rank.0 slot.fits.rank.1).three ∙ sym held_many_dims))
-          (components_many region.rank shift ∙ (long ∙ sym held_many_dims)) (slot.many ∙ sym held_many_dims) boxed is in
+          let in_held : IsMember held u = needed_held u is in
           let stored_there : IsMember (storage_of row) u = held_in_storage blocks (box_of row) p are_blocks is_box has_three inside u in_held in
           let near = near_of needed.dims u needed_bounds (among_tuples (map coordinates needed.dims) u parts.0) in
           let has : has_each (axes_at blocks region.rank) (cuts code.grid region.rank) (blocks_at (cuts code.grid region.rank) from) (blocks_at (cuts code.grid region.rank) p) needed.dims u ≡ true =
@@ -337,9 +347,3 @@ module _ (code : Tables) (layout : HasLayout code) (array : ℕ) (row : ArrayRow
                 (ks_many ∙ sym three_dims) (held_many_dims ∙ sym three_dims) (components_many row.rank shift ∙ (long ∙ sym three_dims))
                 (slot.many ∙ sym three_dims) kinds (zero_past row.rank row.dims u fit.padded stored_there) has_here,
           )
-        where
-          components_many : (rank : ℕ) (v : List ℤ) → length (components rank v) ≡ length v
-          components_many zero [] = refl
-          components_many (suc rank) [] = refl
-          components_many zero (x ∷ v) = ap suc (components_many zero v)
-          components_many (suc rank) (x ∷ v) = ap suc (components_many rank v)

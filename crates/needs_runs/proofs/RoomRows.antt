@@ -151,7 +151,7 @@ not_parts : (a b : Bool) → (not a && b) ≡ true → (a ≡ false) × (b ≡ t
 not_parts true b e = cc
 not_parts false b e = (refl, e)
 
-zero_held : (t : List ℤ) (region : Region) → All HasStep region.dims → has_place region t ≡ true
+pub zero_held : (t : List ℤ) (region : Region) → All HasStep region.dims → has_place region t ≡ true
     → held_value t (zeros_at region) ≡ Some (pos 0)
 zero_held t region steps has =
     held_there t (zeros_at region) has
