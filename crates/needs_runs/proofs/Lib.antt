@@ -5,6 +5,7 @@ pub mod ControlRows
 pub mod ExchangeLemmas
 pub mod HoldsLemmas
 pub mod NeedLemmas
+pub mod NeedRows
 pub mod OwnerLemmas
 pub mod PieceLemmas
 pub mod PlaceLemmas
