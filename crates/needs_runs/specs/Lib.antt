@@ -1,3 +1,4 @@
 pub mod Holds
 pub mod Agree
+pub mod Planned
 pub mod Sharable
