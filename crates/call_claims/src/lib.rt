@@ -11,5 +11,7 @@ mod ran;
 pub mod status;
 
 pub use laws::commands_are_one;
-pub use limits::{MOST_DIGITS, MOST_FACTOR_DIGITS, MOST_LATENCY, MOST_LINKS, MOST_SEED, MOST_TURNS};
+pub use limits::{
+    MOST_DIGITS, MOST_FACTOR_DIGITS, MOST_LATENCY, MOST_LINKS, MOST_SEED, MOST_TURNS,
+};
 pub use ran::Ran;

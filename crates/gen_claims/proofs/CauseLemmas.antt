@@ -261,9 +261,9 @@ module _ (words : List (List ℕ)) (execution : Execution) where
               (λ run k told why. to run k told why e);
         },
         λ h.
-        let on = (as_given is.seed is.asked is.given h).on in
-        status_is is.seed is.asked m on.code is.holds.1 on.made
-        (from (run_of on.code is.asked []) execution.turns on.holds) other,
+            let on = (as_given is.seed is.asked is.given h).on in
+            status_is is.seed is.asked m on.code is.holds.1 on.made
+            (from (run_of on.code is.asked []) execution.turns on.holds) other,
       )
 
   pub exact : (n : ℕ) (told : List ℕ) → Cause words execution n told → IsExact words execution n

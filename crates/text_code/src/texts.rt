@@ -14,7 +14,11 @@ use node_form::NodeProgram;
 use std::alloc::Global;
 
 /// The code of a text as the words ask for it, or the answer why there is none.
-pub fn code_of_text<'a>(alloc: Global, text: &[u8], asked: Asked<'_>) -> Result<NodeProgram, Answer<'a>>
+pub fn code_of_text<'a>(
+    alloc: Global,
+    text: &[u8],
+    asked: Asked<'_>,
+) -> Result<NodeProgram, Answer<'a>>
     requires { length text.now ≤ MOST_SOURCE }
     ensures code { IfOk result (IsCodeOf text.now (build_of (asked_in asked.entry))) }
     ensures room { IfOk result HasRoom }
