@@ -1,5 +1,6 @@
 -- A loop does the same, whatever folds are still to come.
-use Rattle.std.proofs.Common.{◌≡◌, refl, sym, ◌∙◌, ap, ℕ, List, [], ◌∷◌, ◌++◌, ℤ, Option, Some, None}
+use Rattle.std.proofs.Common.{◌≡◌, refl, sym, ◌∙◌, ap, ℕ, List, [], ◌∷◌, ◌++◌, ℤ, Option, Some}
+use Rattle.std.proofs.Common.{None}
 use Rattle.std.specs.Prelude.{fold, option_and_then, slice_get, slice_set}
 use Rattle.std.specs.Option.{option_map}
 use Rattle.zpl_nums.specs.declared.folds.Fold.{Fold}

@@ -1,5 +1,6 @@
 -- Groups without cells.
-use Rattle.std.proofs.Common.{◌≡◌, refl, sym, ◌∙◌, ap, subst, arith, ℕ, zero, suc, List, [], ◌∷◌, ◌++◌}
+use Rattle.std.proofs.Common.{◌≡◌, refl, sym, ◌∙◌, ap, subst, arith, ℕ, zero, suc, List, [], ◌∷◌}
+use Rattle.std.proofs.Common.{◌++◌}
 use Rattle.std.proofs.Common.{map, All, Option, Some, None}
 use Rattle.std.specs.Prelude.{flat_map, fold, max, slice_get, slice_index_or, ⊤}
 use Rattle.std.specs.List.{AllByRecursion}
@@ -128,9 +129,11 @@ module _ (tables : Tables) where
         (refl, exprs_none expr mask fits.0 fits.1)
     member_none member.CloseWhile fits = (refl, tt)
     member_none (member.OpenRepeat mask line) fits = (refl, mask_none mask fits)
-    member_none (member.Until expr) fits =
-        (refl, zero_both (flat_map cell_of (words_at tables expr)) []
-        (some_index tables.exprs expr fits) tt)
+    member_none (member.Until expr) fits = (
+      refl,
+      zero_both (flat_map cell_of (words_at tables expr)) []
+          (some_index tables.exprs expr fits) tt,
+    )
 
     members_none : (group : List number.Member) → AllByRecursion (FitsMember tables rank) group
         → AllZero (map member_cells (inline tables group))

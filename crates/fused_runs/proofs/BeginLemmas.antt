@@ -1,5 +1,6 @@
 -- What two groups name together, and each of them alone.
-use Rattle.std.proofs.Common.{◌≡◌, refl, sym, ◌∙◌, ap, subst, arith, ℕ, zero, suc, Bool, true, false}
+use Rattle.std.proofs.Common.{◌≡◌, refl, sym, ◌∙◌, ap, subst, arith, ℕ, zero, suc, Bool, true}
+use Rattle.std.proofs.Common.{false}
 use Rattle.std.proofs.Common.{true≢false}
 use Rattle.std.proofs.Common.{List, [], ◌∷◌, ◌++◌, map, Option, Some, None, inl, inr}
 use Rattle.std.specs.Prelude.{◌&&◌, ◌||◌, ◌==◌, ◌⊎◌, flat_map, not, slice_get, slice_index_or, ⊤}
@@ -17,12 +18,14 @@ use Rattle.node_form.specs.declared.members.Member.TheVariants as member
 use Rattle.node_form.specs.declared.tables.Tables.{Tables}
 use Rattle.node_form.specs.declared.words.ExprOp.{ExprOp}
 use Rattle.node_form.specs.declared.words.ExprOp.TheVariants as word
-use Rattle.code_parts.specs.Uses.{accumulated_by, as_list, exprs_of, rows_or_none, scalars_in, share}
+use Rattle.code_parts.specs.Uses.{accumulated_by, as_list, exprs_of, rows_or_none, scalars_in}
+use Rattle.code_parts.specs.Uses.{share}
 use Rattle.code_parts.specs.Uses.{words_of}
 use Rattle.code_parts.specs.Uses as uses
 use Rattle.flat_form.specs.Names.{Total, each_word, group_totals, group_words, member_totals}
 use Rattle.flat_form.specs.Names.{word_scalars}
-use Rattle.flat_form.specs.Right.{all_begin, are_distinct, is_among, is_value, no_flood, total_begins}
+use Rattle.flat_form.specs.Right.{all_begin, are_distinct, is_among, is_value, no_flood}
+use Rattle.flat_form.specs.Right.{total_begins}
 use Rattle.flat_form.specs.Row.{Member, Words, mask_words, member_inlined, member_words, words_at}
 use Rattle.flat_form.specs.Whole.{Whole}
 
@@ -178,7 +181,8 @@ distinct_parts (x ∷ xs) ys e =
 abbrev pub scalars_by : List Total → List ℕ
 scalars_by totals = map (λ (total : Total). total.scalar) totals
 
-pub record Begin (s : Whole) (region : Region) (scalars : List ℕ) (totals : List Total) : Type 0 where
+pub record Begin (s : Whole) (region : Region) (scalars : List ℕ)
+    (totals : List Total) : Type 0 where
   pub flat : no_flood region ≡ true
   pub distinct : are_distinct (scalars_by totals) ≡ true
   pub each : list_all (total_begins s scalars) totals ≡ true

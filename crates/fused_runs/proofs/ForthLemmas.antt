@@ -38,7 +38,8 @@ use Rattle.fused_runs.proofs.JoinedLemmas.{IsSame, same_flow}
 use Rattle.fused_runs.proofs.KeptLemmas.{IsFront, all_laid, all_mapped, any_of, each_of, front_row}
 use Rattle.fused_runs.proofs.KeptLemmas.{goals_within, grouped_front, joined_hold, rewrite, rows}
 use Rattle.fused_runs.proofs.WalkLemmas.{apart, joined_parts, row_does, step_same, then_same}
-use Rattle.fused_runs.proofs.ZeroLemmas.{IsStrict, StaysSame, WasZero, runs_strict, strict, strict_act}
+use Rattle.fused_runs.proofs.ZeroLemmas.{IsStrict, StaysSame, WasZero, runs_strict, strict}
+use Rattle.fused_runs.proofs.ZeroLemmas.{strict_act}
 
 module _ (tables : Tables) (n : ℕ) where
   abbrev strict_does : Grouped → Whole → Effect Whole
@@ -169,7 +170,8 @@ module _ (tables : Tables) (n : ℕ) where
   }
 
   module _ (fits : Fits tables) (none : tables.cells ≡ 0) where
-    keeps_fronts : KeepsFronts old_does strict_does IsLike AnyRow IsFront (rewrite tables n) ended_by
+    keeps_fronts : KeepsFronts old_does strict_does IsLike AnyRow IsFront
+        (rewrite tables n) ended_by
     keeps_fronts = record {
       straight = λ front any fine.
           joined_hold tables IsFront (λ slot group. tt) [] None

@@ -8,7 +8,8 @@ use Rattle.zpl_nums.specs.Integer.{is_true}
 use Rattle.row_runs.specs.Run.{Does, Effect, Goes, Leaps, Passes, Stops, Wrong, runs}
 use Rattle.row_runs.specs.Segments.{IsStart, Keeps}
 use Rattle.row_runs.specs.Cut as cut
-use Rattle.row_runs.specs.Cut.{LastAlike, Stretch, all_rows, as_list, moved_by, rows_of, segments_by}
+use Rattle.row_runs.specs.Cut.{LastAlike, Stretch, all_rows, as_list, moved_by, rows_of}
+use Rattle.row_runs.specs.Cut.{segments_by}
 use Rattle.row_runs.specs.Straight.{Every, Flow, IsStraight, flow_behind, flow_step, through}
 use Rattle.row_runs.proofs.CutLemmas.{cut_rows, goals_are_starts, olds_are}
 use Rattle.node_form.specs.declared.arrays.Item.{Item}
@@ -103,8 +104,10 @@ module _ (IsGoal : ℕ → ℕ → Type 0) (at at' : ℕ) (next : IsGoal (at + 1
 
   tested_alike : (line : ℕ) (registers : Registers) (computed : Computed ℤ)
       → LastAlike IsGoal at at'
-      (tested whole (with_computed computed line (λ value. branched registers (is_true value) moved)))
-      (tested whole (with_computed computed line (λ value. branched registers (is_true value) goal)))
+      (tested whole (with_computed computed line (λ value.
+      branched registers (is_true value) moved)))
+      (tested whole (with_computed computed line (λ value.
+      branched registers (is_true value) goal)))
   tested_alike line registers (Gives value) = branched_alike registers (is_true value)
   tested_alike line registers Divides = cut.BothStop
   tested_alike line registers Lacks = cut.BothStop
@@ -150,7 +153,8 @@ module _ (tables : Tables) (n : ℕ) where
     straight = λ s. (straight tables n row is).straight s;
   }
 
-  pub grouped_front : (row : Instr) → ends_stretch row ≡ false → IsFront (grouped.grouped tables row)
+  pub grouped_front : (row : Instr) → ends_stretch row ≡ false
+      → IsFront (grouped.grouped tables row)
   grouped_front (instr.Loop slot group) e = tt
   grouped_front row e = e
 
@@ -229,7 +233,8 @@ module _ (tables : Tables) (n : ℕ) where
           (each_of (λ row. ends_stretch row ≡ false)
           (λ row. IsFront (grouped.grouped tables row)) grouped_front stretch.front
           is.straight)));
-      ties = λ s. subst (λ flow. IsSame (through (row_does tables n) (rewrite stretch.front) s) flow)
+      ties = λ s. subst (λ flow. IsSame (through (row_does tables n)
+          (rewrite stretch.front) s) flow)
           (old_rows stretch.front s)
           (joined_same tables n [] None (map (grouped.grouped tables) stretch.front) tt
           (all_mapped tables (IsFine tables) stretch.front

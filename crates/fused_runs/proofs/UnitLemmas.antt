@@ -15,7 +15,8 @@ use Rattle.node_form.specs.Value.{Operands, and_then, read, value_of}
 use Rattle.nest_meaning.specs.Nested.{Told, Fine, Zero, Wants, Lost, Ways, nested}
 use Rattle.nest_meaning.specs.Tree.{nest_of}
 use Rattle.nest_meaning.specs.Units.{followed_by, units_of}
-use Rattle.nest_meaning.specs.Alike.{AreBoth, AreLeaves, AreMasks, AreNests, AreTold, AreValues, Both}
+use Rattle.nest_meaning.specs.Alike.{AreBoth, AreLeaves, AreMasks, AreNests, AreTold, AreValues}
+use Rattle.nest_meaning.specs.Alike.{Both}
 use Rattle.nest_meaning.specs.Alike.{BothFine, BothLost, BothWant, BothZero, Elses, Ifs, JoinLeaf}
 use Rattle.nest_meaning.specs.Alike.{KeepLeaf, Leaves, Masks, PutLeaf, Repeats, Whiles}
 use Rattle.nest_meaning.specs.Alike as alike
@@ -281,7 +282,8 @@ module _ (n : ℕ) (exprs others : List Words) where
   units_same nest oest (BothJoin {scalar = scalar} {expr = e} {fxpr = f} {line = line}
       {operator = operator} {mask = m} {nask = k} {after = after} {bfter = bfter} words masks
       more) columns none s =
-      first_same (Joining scalar operator e m line Nothing) (Joining scalar operator f k line Nothing)
+      first_same (Joining scalar operator e m line Nothing)
+      (Joining scalar operator f k line Nothing)
       (BothJoin words masks BothNothing) line (units_of after) (units_of bfter)
       columns none s (λ next. units_same after bfter more columns none next)
   units_same nest oest (BothChoose {expr = e} {fxpr = f} {line = line} {mask = m} {nask = k}

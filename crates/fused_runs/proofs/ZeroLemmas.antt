@@ -21,7 +21,8 @@ use Rattle.nest_meaning.specs.Units.{units_of}
 use Rattle.nest_meaning.proofs.JoinLemmas.{want_nothing}
 use Rattle.nest_meaning.proofs.TreeLemmas.{reads_only}
 use Rattle.code_parts.specs.Uses.{is_turning}
-use Rattle.flat_form.specs.Loop.{AllFine, AllTold, Column, Point, SomeLost, SomeWant, SomeZero, all_told}
+use Rattle.flat_form.specs.Loop.{AllFine, AllTold, Column, Point, SomeLost, SomeWant, SomeZero}
+use Rattle.flat_form.specs.Loop.{all_told}
 use Rattle.flat_form.specs.Loop.{all_written, both_told, columns_behind, from_written, log_ways}
 use Rattle.flat_form.specs.Loop.{unit_at, unit_does, unit_line, units_do}
 use Rattle.flat_form.specs.Row.{Words}

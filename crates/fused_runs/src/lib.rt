@@ -21,8 +21,8 @@ pub fn joined_loops_keep_runs()
         Keeps (flat_run code a n) (flat_run (fused code) a n) }
 {}
 
-/// A flat program shows with each loop alone what it shows with joined loops, at a zero divisor too,
-/// unless with joined loops it comes to a row that may not stand there.
+/// A flat program shows with each loop alone what it shows with joined loops, also at a zero
+/// divisor, unless with joined loops it comes to a row that may not stand there.
 pub fn joined_loops_show_the_same()
     ensures { (code : Code) → Fits code → code.cells ≡ 0 → (a n : ℕ) →
         Keeps (flat_run (fused code) a n) (flat_run code a n) }

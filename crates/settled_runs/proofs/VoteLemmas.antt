@@ -70,7 +70,8 @@ module _ (tables : Tables) (fits : Fits tables) (none : HaveNoVotes tables) wher
   old = recursion_from_All IsNoVote tables.code none
 
   abbrev rewrite : List Instr → List Grouped
-  rewrite rows = flat_map (row_through tables (temporaries tables)) (map (grouped.grouped tables) rows)
+  rewrite rows =
+      flat_map (row_through tables (temporaries tables)) (map (grouped.grouped tables) rows)
 
   row_hold : (row : Instr) → IsNoVote row
       → AllByRecursion HasNoVote (row_written tables (temporaries tables) row)
@@ -79,8 +80,8 @@ module _ (tables : Tables) (fits : Fits tables) (none : HaveNoVotes tables) wher
   row_hold row e = (e, tt)
 
   each_row : (rows : List Instr) → AllByRecursion IsNoVote rows
-      → AllByRecursion (λ row. AllByRecursion HasNoVote (row_written tables (temporaries tables) row))
-      rows
+      → AllByRecursion (λ row.
+      AllByRecursion HasNoVote (row_written tables (temporaries tables) row)) rows
   each_row [] all = tt
   each_row (row ∷ rows) all = (row_hold row all.0, each_row rows all.1)
 
