@@ -114,11 +114,12 @@ module _ (tables : Tables) (fits : Fits tables) (none : HaveNoVotes tables) wher
 filter_hold : (P : Instr → Type 0) (test : Instr → Bool) (rows : List Instr)
     → AllByRecursion P rows → AllByRecursion P (filter test rows)
 filter_hold P test [] all = tt
-filter_hold P test (row ∷ rows) all = by (test row)
+filter_hold P test (row ∷ rows) all = by (test row) (filter_hold P test rows all.1)
   where
-    by : (b : Bool) → AllByRecursion P (cond b (row ∷ filter test rows) (filter test rows))
-    by true = (all.0, filter_hold P test rows all.1)
-    by false = filter_hold P test rows all.1
+    by : (b : Bool) → AllByRecursion P (filter test rows)
+        → AllByRecursion P (cond b (row ∷ filter test rows) (filter test rows))
+    by true more = (all.0, more)
+    by false more = more
 
 module _ (tables : Tables) (none : HaveNoVotes tables) where
   abbrev stayed : List Instr → List Instr
