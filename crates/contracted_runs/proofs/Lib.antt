@@ -7,5 +7,6 @@ pub mod PointLemmas
 pub mod RowLemmas
 pub mod ShortLemmas
 pub mod StorageLemmas
+pub mod ThreeLemmas
 pub mod UnitLemmas
 pub mod WriteLemmas

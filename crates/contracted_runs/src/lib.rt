@@ -9,7 +9,10 @@ ghost use Rattle.node_form.specs.declared.tables.Tables.{Tables as Code};
 ghost use Rattle.node_form.specs.Fits.{Fits};
 ghost use Rattle.row_runs.specs.Segments.{Keeps};
 ghost use Rattle.flat_form.specs.Act.{flat_run};
+ghost use Rattle.temp_norm.specs.Normalised.{normalised};
+ghost use Rattle.bound_check.specs.Checked.{checked};
 ghost use Rattle.fuse_contract.specs.Contracting.{contracted};
+ghost use Rattle.fuse_contract.specs.Fusing.{fused};
 ghost use Rattle.contracted_runs.specs.Three.{HaveThreeDims};
 
 /// A flat program with cells in the place of arrays shows what it showed with the arrays, for every
@@ -18,4 +21,12 @@ ghost use Rattle.contracted_runs.specs.Three.{HaveThreeDims};
 pub fn cells_for_arrays_keep_runs()
     ensures { (code : Code) → Fits code → HaveThreeDims code → (a n : ℕ) →
         Keeps (flat_run code a n) (flat_run (contracted code) a n) }
+{}
+
+/// The passes before it leave each array its three dimensions, and so does it.
+pub fn arrays_keep_three_dims()
+    ensures normalised { (code : Code) → HaveThreeDims code → HaveThreeDims (normalised code) }
+    ensures checked { (code : Code) → HaveThreeDims code → HaveThreeDims (checked code) }
+    ensures fused { (code : Code) → HaveThreeDims code → HaveThreeDims (fused code) }
+    ensures contracted { (code : Code) → HaveThreeDims code → HaveThreeDims (contracted code) }
 {}

@@ -448,7 +448,7 @@ module _ (tables : Tables) (fits : Fits tables) (n : ℕ) where
   }
   front_row (grouped.Plain row) is = record { straight = λ s. (straight new n row is).straight s }
 
-  loop_front : (P : Grouped → Type 0) → ((slot : ℕ) (group : List number.Member)
+  pub loop_front : (P : Grouped → Type 0) → ((slot : ℕ) (group : List number.Member)
       → P (Runs slot group))
       → ((array slot : ℕ) → P (grouped.Plain (instr.Room array slot)))
       → (slot group : ℕ) → AllByRecursion P (row_written tables extra (instr.Loop slot group))
@@ -486,7 +486,7 @@ module _ (tables : Tables) (fits : Fits tables) (n : ℕ) where
       loop_front IsLaid (λ slot group. tt) (λ array slot. tt) slot group
   row_laid row = (tt, tt)
 
-  rows_hold : (P : Grouped → Type 0) (rows : List Instr)
+  pub rows_hold : (P : Grouped → Type 0) (rows : List Instr)
       → AllByRecursion (λ row. AllByRecursion P (row_written tables extra row)) rows
       → AllByRecursion P (rewrite rows)
   rows_hold P rows all =
@@ -500,7 +500,7 @@ module _ (tables : Tables) (fits : Fits tables) (n : ℕ) where
           every_append P (row_written tables extra row) (flat_map (row_written tables extra) rows)
           all.0 (by rows all.1)
 
-  each_of : (P Q : Instr → Type 0) → ((row : Instr) → P row → Q row) → (rows : List Instr)
+  pub each_of : (P Q : Instr → Type 0) → ((row : Instr) → P row → Q row) → (rows : List Instr)
       → AllByRecursion P rows → AllByRecursion Q rows
   each_of P Q one [] all = tt
   each_of P Q one (row ∷ rows) all = (one row all.0, each_of P Q one rows all.1)

@@ -21,7 +21,7 @@ use Rattle.flat_passes.specs.Rewritten.{has_goal, stretches_of}
 use Rattle.flat_passes.proofs.StretchLemmas.{IsCut, all_cut}
 
 -- ---- rows of stretches are rows of the code
-front_holds : {X : Type 0} (P : X → Type 0) (xs ys : List X) → AllByRecursion P (xs ++ ys)
+pub front_holds : {X : Type 0} (P : X → Type 0) (xs ys : List X) → AllByRecursion P (xs ++ ys)
     → AllByRecursion P xs
 front_holds P [] ys all = tt
 front_holds P (x ∷ xs) ys all = (all.0, front_holds P xs ys all.1)
@@ -31,7 +31,7 @@ back_holds : {X : Type 0} (P : X → Type 0) (xs ys : List X) → AllByRecursion
 back_holds P [] ys all = all
 back_holds P (x ∷ xs) ys all = back_holds P xs ys all.1
 
-each_holds : {X : Type 0} (P : X → Type 0) (stretches : List (Stretch X))
+pub each_holds : {X : Type 0} (P : X → Type 0) (stretches : List (Stretch X))
     → AllByRecursion P (all_rows stretches)
     → AllByRecursion (λ stretch. AllByRecursion P (rows_of stretch)) stretches
 each_holds P [] all = tt
@@ -40,7 +40,7 @@ each_holds P (stretch ∷ stretches) all = (
   each_holds P stretches (back_holds P (rows_of stretch) (all_rows stretches) all),
 )
 
-last_holds : {X : Type 0} (P : X → Type 0) (front : List X) (last : Option X) (row : X)
+pub last_holds : {X : Type 0} (P : X → Type 0) (front : List X) (last : Option X) (row : X)
     → last ≡ Some row → AllByRecursion P (front ++ as_list last) → P row
 last_holds P front last row is all =
     (back_holds P front (row ∷ [])
@@ -53,7 +53,7 @@ leads_itself (instr.Unless expr goal line) e =
     let one : (goal == goal) ≡ true = grind (arith, nat_tests) in one
 leads_itself row e = absurd (true≢false (sym e))
 
-abbrev IsOf : List Instr → Instr → Type 0
+abbrev pub IsOf : List Instr → Instr → Type 0
 IsOf code row = has_goal row ≡ true → (is_goal code (goal_of row) ≡ true) ×
     (goal_of row ≤ length code)
 
@@ -71,7 +71,7 @@ any_later test row rows e = by (test row)
 
 -- each row of the code has such a goal, if it has one
 module _ (code : List Instr) where
-  goals_found : (rows : List Instr)
+  pub goals_found : (rows : List Instr)
       → ((at : ℕ) → list_any (leads_to at) rows ≡ true → is_goal code at ≡ true)
       → AllByRecursion (λ row. has_goal row ≡ true → goal_of row ≤ length code) rows
       → AllByRecursion (IsOf code) rows
