@@ -1,11 +1,9 @@
 -- What a row of node code does on all processors, against what it does on whole arrays.
 --
---   DoesAgree        one effect against the other
 --   RowAgrees        a row from every two states of which one holds the other
 --   MessageRows      so do all rows whose processors work together, but exchanges and votes, and
 --                    all prints
-use Rattle.std.specs.Prelude.{◌≡◌, ℕ, ◌≤◌, Bool, ℤ, List, All, length, slice_get, Option, None}
-use Rattle.std.specs.Option.{IfSome}
+use Rattle.std.specs.Prelude.{◌≡◌, ℕ, Bool, ℤ, List, All, length, Option, None}
 use Rattle.zpl_nums.specs.declared.ends.Border.{Border}
 use Rattle.zpl_nums.specs.declared.folds.Fold.{Fold}
 use Rattle.node_form.specs.declared.arrays.ArrayRow.{ArrayRow}
@@ -14,7 +12,7 @@ use Rattle.node_form.specs.declared.instructions.Instr.TheVariants as instr
 use Rattle.node_form.specs.declared.tables.Tables.{Tables}
 use Rattle.node_form.specs.Fits.{FitsArray, FitsInstr, IsRank}
 use Rattle.node_form.specs.Grid.{IsGrid}
-use Rattle.row_runs.specs.Run.{Stop, Wrong, Goes, Stops, Effect, Does, Leaps, Passes}
+use Rattle.row_runs.specs.Rows.{AreEffects}
 use Rattle.flat_form.specs.Act.{act}
 use Rattle.flat_form.specs.Row.{inlined}
 use Rattle.flat_form.specs.Whole.{Whole}
@@ -22,22 +20,13 @@ use Rattle.plan_meaning.specs.Abreast.{Abreast}
 use Rattle.plan_meaning.specs.Act.{row_does}
 use Rattle.needs_runs.specs.Holds.{Holds}
 
--- Both do the same, and come to states of which one holds the other; where the row may not stand on
--- whole arrays, nothing is said.
-pub data DoesAgree (IsLike : Whole → Abreast → Type 0) : Effect Whole → Effect Abreast → Type 0 where
-  BothGo : {bytes : List ℕ} {whole : Whole} {all : Abreast} → IsLike whole all
-      → DoesAgree IsLike (Does (Goes bytes whole)) (Does (Goes bytes all))
-  BothStop : {stop : Stop} → DoesAgree IsLike (Does (Stops stop)) (Does (Stops stop))
-  BothLeap : {goal : ℕ} → DoesAgree IsLike (Leaps goal) (Leaps goal)
-  BothPass : DoesAgree IsLike Passes Passes
-  WasWrong : {effect : Effect Abreast} → DoesAgree IsLike (Does (Stops Wrong)) effect
-
 -- The row over whole arrays, and over the shares of all processors, where the row behind it is no
--- vote.
+-- vote: both do the same, and come to states of which one holds the other. Where the row may not
+-- stand on whole arrays, nothing is said.
 abbrev pub RowAgrees : Tables → Option ℕ → ℕ → Instr → Type 0
 RowAgrees code links n row =
     (whole : Whole) (all : Abreast) → Holds code whole all
-    → DoesAgree (Holds code) (act code n (inlined code row) whole) (row_does code links n row None all)
+    → AreEffects (Holds code) (act code n (inlined code row) whole) (row_does code links n row None all)
 
 -- ---- what rows ask of their tables
 -- The grid has processors, and the arrays can be laid out over it. A program's types give it that

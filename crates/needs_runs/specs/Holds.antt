@@ -3,7 +3,7 @@
 --   lies_in_own      a tuple lies in a processor's own block
 --   HasPart          what a whole array has there, the processor has
 --   HoldsOwn, Holds  one processor, and all of them
-use Rattle.std.specs.Prelude.{◌≡◌, ℕ, ◌<◌, Bool, true, ℤ, List, [], All, slice_get, Option, Some}
+use Rattle.std.specs.Prelude.{◌≡◌, ℕ, ◌<◌, Bool, true, ℤ, List, [], All, slice_get, Some}
 use Rattle.std.specs.Prelude.{None}
 use Rattle.std.specs.List.{AllZip}
 use Rattle.zpl_nums.specs.declared.folds.Fold.{Fold}

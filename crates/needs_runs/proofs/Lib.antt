@@ -1,0 +1,12 @@
+pub mod BeginLemmas
+pub mod BringLemmas
+pub mod ControlLemmas
+pub mod ControlRows
+pub mod ExchangeLemmas
+pub mod HoldsLemmas
+pub mod NeedLemmas
+pub mod OwnerLemmas
+pub mod PieceLemmas
+pub mod PlaceLemmas
+pub mod RoomRows
+pub mod SlotLemmas
