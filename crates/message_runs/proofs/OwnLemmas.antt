@@ -133,8 +133,8 @@ module _ (code : Tables) (whole : Whole) (all : Abreast) (holds : Holds code who
   own_value p below t among =
       let blocks = laid_out (arrangement_of code) in
       let inside : Among (members region) t
-          × (lies_in_box (own_first blocks region.rank p) (own_last blocks region.rank p) region t
-          ≡ true) =
+      × (lies_in_box (own_first blocks region.rank p) (own_last blocks region.rank p) region t
+      ≡ true) =
       among_filtered (lies_in_box (own_first blocks region.rank p) (own_last blocks region.rank p)
       region) (members region) t
       (subst (λ ts. Among ts t)
@@ -150,7 +150,7 @@ module _ (code : Tables) (whole : Whole) (all : Abreast) (holds : Holds code who
       (subst (λ rank. each_lies_within (components rank (own_first blocks rank p))
       (components rank (own_last blocks rank p)) region.dims t ≡ true) ranked inside.1) in
       let found = zip_there (IsStore code p) code.arrays (all.shares p).stores array is.row
-          (holds.own p below).parts.stores is.there in
+      (holds.own p below).parts.stores is.there in
       ap (option_and_then (held_value t)) found.1
       ∙ ((holds.own p below).arrays array is.row is.store found.0 is.there is.here found.1).has t
       (element is.store t) lies (held_there t is.store place)
