@@ -1,0 +1,5 @@
+pub mod PrintRows
+pub mod FoldRows
+pub mod OwnLemmas
+pub mod DeliverLemmas
+pub mod GatherRows

@@ -1,0 +1,33 @@
+//! Rows in which processors work together, and prints, do what they do on whole arrays.
+//!
+//! The functions here do nothing: each has a law of the definitions of `needs_runs` as its
+//! contract, and a call brings the law into a proof.
+#![tactic(auto)]
+
+ghost use Rattle.std.specs.Prelude.{Bool, Option, ℕ};
+ghost use Rattle.zpl_nums.specs.declared.folds.Fold.{Fold as Operator};
+ghost use Rattle.node_form.specs.declared.instructions.Instr.TheVariants as instr;
+ghost use Rattle.node_form.specs.declared.tables.Tables.{Tables as Code};
+ghost use Rattle.needs_runs.specs.Agree.{FitRowAgrees, HasLayout};
+
+/// Prints of texts, of numbers and of truth values agree.
+pub fn prints_agree()
+    ensures texts { (code : Code) (links : Option ℕ) (n text : ℕ) →
+        FitRowAgrees code links n (instr.Print text) }
+    ensures numbers { (code : Code) (links : Option ℕ) (n expr : ℕ) →
+        FitRowAgrees code links n (instr.Number expr) }
+    ensures truths { (code : Code) (links : Option ℕ) (n expr : ℕ) →
+        FitRowAgrees code links n (instr.Truth expr) }
+{}
+
+/// A fold agrees: all processors come to the value that the whole state has.
+pub fn folds_agree()
+    ensures { (code : Code) (links : Option ℕ) (n scalar : ℕ) (operator : Operator) →
+        FitRowAgrees code links n (instr.Fold scalar operator) }
+{}
+
+/// A gather agrees: processor 0 prints each value of the whole array from its owner's words.
+pub fn gathers_agree()
+    ensures { (code : Code) → HasLayout code → (links : Option ℕ) (n : ℕ) (truth : Bool)
+        (array slot : ℕ) → FitRowAgrees code links n (instr.Gather truth array slot) }
+{}
