@@ -384,4 +384,3 @@ module _ (code : Tables) (links : Option ℕ) (n : ℕ) (IsGood : Await → Type
         (λ g h start. let e : g ≡ 0 + g = omega arith in let f : h ≡ 0 + h = omega arith in
         subst (λ k. Start k (0 + h)) e (subst (λ k. Start g k) f start)))
         a 0 0 s s Here (refl, good)))
-
