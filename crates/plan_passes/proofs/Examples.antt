@@ -1,12 +1,11 @@
 -- A plan whose slots have other regions on one processor than on another: there an exchange that is
 -- done again isn't the same as none, and so it is where neighbours have an item in common.
-use Rattle.std.proofs.Common.{◌≡◌, ℕ, ℤ, true, false, List, [], ◌∷◌, Some, None, pos, codes, refl}
+use Rattle.std.proofs.Common.{◌≡◌, ℕ, ℤ, true, false, List, [], ◌∷◌, None, pos, codes, refl}
 use Rattle.std.specs.Fmt.{digits}
 use Rattle.std.specs.Int.{int_wrap}
 use Rattle.zpl_nums.specs.declared.ends.End.TheVariants.{Done}
 use Rattle.zpl_nums.specs.declared.folds.Fold.TheVariants as fold
 use Rattle.zpl_nums.specs.declared.operators.Op.TheVariants as op
-use Rattle.zpl_region.specs.declared.dims.Dim.{Dim}
 use Rattle.zpl_region.specs.declared.dims.Dim.TheVariants as dim
 use Rattle.zpl_region.specs.declared.regions.Region.{Region}
 use Rattle.zpl_region.specs.Region.{padding}

@@ -13,4 +13,5 @@ pub mod EarlyLemmas
 pub mod EarlyRunLemmas
 pub mod UnitLemmas
 pub mod UnitRunLemmas
+pub mod WithUnitsLemmas
 mod Examples

@@ -20,19 +20,19 @@ use Rattle.grid_meaning.specs.Collective.{Collective, TakesFrom, Last, others_wh
 use Rattle.grid_meaning.specs.Exchange.{word_count}
 use Rattle.grid_meaning.specs.Local.{Local}
 use Rattle.row_orders.specs.Rows.{Flight, alone_where, taken_where, taking}
-use Rattle.row_runs.specs.Run.{Step, Goes, Stops, Wrong, Effect, Does}
+use Rattle.row_runs.specs.Run.{Wrong, Effect, Does}
 use Rattle.row_runs.specs.Straight.{Flow, Halts, OnTo, TiedWrong, flow_behind, flow_step, flow_then}
 use Rattle.row_runs.specs.Straight.{through}
 use Rattle.row_runs.proofs.StraightLemmas.{through_append}
 use Rattle.plan_meaning.specs.Abreast.{Abreast, Share, every, go_where, locals_of, share_of}
 use Rattle.plan_meaning.specs.Act.{found}
-use Rattle.plan_meaning.specs.Messages.{are_partners, does_well, finished, finished_of, from_of, next_with}
+use Rattle.plan_meaning.specs.Messages.{are_partners, does_well, finished_of, from_of, next_with}
 use Rattle.plan_meaning.specs.Messages.{begun, final_of, leaves_row, middle_of, next_or, receivers}
 use Rattle.plan_meaning.specs.Messages.{senders, started, to_of, took}
 use Rattle.plan_passes.specs.Units.{AreUnits, MoreExchange, MoreRow, NoUnits}
 use Rattle.plan_passes.proofs.AwaitLemmas.{Await, Ready, Wanted, await_act, ready_act, ready_step}
 use Rattle.plan_passes.proofs.CrossLemmas.{AsBefore}
-use Rattle.plan_passes.proofs.EarlyLemmas.{IfOn, before_trans, on_then, same_flow, then_before}
+use Rattle.plan_passes.proofs.EarlyLemmas.{IfOn, before_trans, same_flow, then_before}
 use Rattle.plan_passes.proofs.EarlyLemmas.{then_where}
 use Rattle.plan_passes.proofs.FinishLemmas.{finish_row, takes_together}
 use Rattle.plan_passes.proofs.OpenLemmas.{KeepsOpen, OpenLeap, OpenOn, OpenPass, OpenStop, OpenWanted}

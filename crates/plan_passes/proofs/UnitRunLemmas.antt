@@ -1,13 +1,10 @@
 -- A pass over the units of a plan keeps its runs, where it keeps what units do.
-use Rattle.std.proofs.Common.{◌≡◌, refl, sym, ◌∙◌, ap, ap₂, subst, ℕ, zero, suc, ◌+◌, ◌-◌, ◌≤◌, Bool, true, false}
-use Rattle.std.proofs.Common.{List, [], ◌∷◌, ◌++◌, length, drop, true≢false, append_assoc, append-nil}
+use Rattle.std.proofs.Common.{◌≡◌, refl, sym, ◌∙◌, ap, ap₂, subst, ℕ, suc, ◌+◌, ◌-◌, true, false}
+use Rattle.std.proofs.Common.{List, [], ◌∷◌, ◌++◌, length, drop, true≢false, append-nil}
 use Rattle.std.proofs.Common.{length-append, arith}
-use Rattle.std.proofs.Math.Path.{fun_ext}
-use Rattle.std.proofs.lemmas.List.Elements.{recursion_from_All}
 use Rattle.std.specs.Prelude.{flat_map, Option, Some, None}
 use Rattle.std.specs.List.{AllByRecursion}
 use Rattle.std.specs.Option.{option_map}
-use Rattle.node_form.specs.Fits.{Fits, FitsInstr}
 use Rattle.node_form.specs.declared.arrays.Item.{Item}
 use Rattle.node_form.specs.declared.instructions.Instr.{Instr}
 use Rattle.node_form.specs.declared.instructions.Instr.TheVariants as instr
@@ -17,7 +14,7 @@ use Rattle.code_parts.specs.Stretch.{ends_stretch, is_goal}
 use Rattle.flat_passes.specs.Kept.{BothLeap, BothPass, BothStop, EndsAlike, GoalsWithin, OldWrong, goal_of}
 use Rattle.flat_passes.specs.Rewritten.{has_goal, stretches_of, with_moved_goal}
 use Rattle.flat_passes.proofs.StretchLemmas.{IsCut, all_cut}
-use Rattle.plan_form.specs.Rewrite.{ended_by, rows_by, with_units}
+use Rattle.plan_form.specs.Rewrite.{ended_by, rows_by}
 use Rattle.plan_form.specs.Units.{Exchange, PlanRow, PlanUnit, Single, exchanges_in, numbered_from}
 use Rattle.plan_form.specs.Units.{unit_rows, units_of}
 use Rattle.plan_form.proofs.PassLemmas.{exchanges_both, numbered_both, numbered_length}
@@ -26,17 +23,15 @@ use Rattle.row_runs.specs.Cut.{LastAlike, Stretch, all_rows, as_list, moved_by, 
 use Rattle.row_runs.specs.Cut.{rows_of, segments_by}
 use Rattle.row_runs.specs.Run.{Effect, runs}
 use Rattle.row_runs.specs.Segments.{AllAlike, AreAlike, Behind, Here, IsStart, Keeps, Segment, news, olds}
-use Rattle.row_runs.specs.Straight.{Every, Flow, Halts, IsStraight, OnTo, Tied, TiedHalt, TiedOn}
+use Rattle.row_runs.specs.Straight.{Every, Flow, IsStraight, OnTo, Tied, TiedHalt, TiedOn}
 use Rattle.row_runs.specs.Straight.{TiedWrong, through}
 use Rattle.row_runs.proofs.CutLemmas.{cut_rows, goals_are_starts}
 use Rattle.row_runs.proofs.SegmentLemmas.{keeps_runs}
 use Rattle.row_runs.proofs.StraightLemmas.{ended_alike, straight_alike}
-use Rattle.plan_meaning.specs.Abreast.{start_abreast}
-use Rattle.plan_meaning.specs.Act.{plan_run}
 use Rattle.plan_passes.specs.Units.{AreUnits, IsInUnits, MoreExchange, MoreRow, NoUnits}
-use Rattle.plan_passes.proofs.AwaitLemmas.{Await, Ready, Wanted, await_act, plan_awaits}
+use Rattle.plan_passes.proofs.AwaitLemmas.{Await, Ready, Wanted, await_act}
 use Rattle.plan_passes.proofs.CrossLemmas.{AsBefore}
-use Rattle.plan_passes.proofs.EndLemmas.{Ended, cut_ended, fronts_ended, news_ended}
+use Rattle.plan_passes.proofs.EndLemmas.{cut_ended, fronts_ended}
 use Rattle.plan_passes.proofs.LiftLemmas.{IsOf, LastHas, goals_found, lasts_have}
 use Rattle.plan_passes.proofs.RowLemmas.{ends_alike, straight}
 use Rattle.plan_passes.proofs.UnitLemmas.{IsPlain, NoFlights, first_dropped, numbered_flow}
@@ -384,4 +379,3 @@ module _ (code : Tables) (links : Option ℕ) (n : ℕ) (IsGood : Await → Type
         (λ g h start. let e : g ≡ 0 + g = omega arith in let f : h ≡ 0 + h = omega arith in
         subst (λ k. Start k (0 + h)) e (subst (λ k. Start g k) f start)))
         a 0 0 s s Here (refl, good)))
-
