@@ -105,6 +105,7 @@ module _ (before after : Whole) (slots : ℕ) (many : length after.slots ≡ len
     region = h.region;
     found = same_get before.slots after.slots one.slot h.region many (kept one.slot t) h.found;
     is = h.is;
+    three = h.three;
     ranked = h.ranked;
     flood = h.flood;
   }

@@ -84,6 +84,7 @@ pub record IsStored (tables : Tables) (stored : Stored) : Type 0 where
   pub row : ArrayRow
   pub found : slice_get tables.arrays stored.array ≡ Some row
   pub kept : row.stored ≡ true
+  pub three : length row.dims ≡ 3
   pub storage : storage_of row ≡ stored.storage
 
 abbrev pub AreStored : Tables → List Stored → Type 0
@@ -98,6 +99,7 @@ pub record IsCurrent (slots : List Region) (rank : ℕ) (slotted : Slotted) : Ty
   pub region : Region
   pub found : slice_get slots slotted.slot ≡ Some region
   pub is : IsRegion region
+  pub three : length region.dims ≡ 3
   pub ranked : region.rank ≡ rank
   pub flood : flood_of region ≡ slotted.flood
 

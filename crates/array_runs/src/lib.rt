@@ -1,0 +1,2 @@
+//! Arrays.
+#![tactic(auto)]
