@@ -24,6 +24,8 @@ use Rattle.node_form.specs.declared.tables.Tables.{Tables}
 use Rattle.node_form.specs.Expression.{Expression}
 use Rattle.flat_form.specs.Whole.{Whole}
 use Rattle.zpl_lowering.specs.Where.{Stored, Slotted, Where, Next, slotted_or, slotted_at}
+use Rattle.zpl_lowering.specs.Hoist.{element_code}
+use Rattle.zpl_lowering.specs.Reference.{vector_over}
 use Rattle.zpl_lowering.specs.Slate as slate
 use Rattle.zpl_lowering.specs.Slate.{Slate, named_slate, shifted_slate, settled}
 use Rattle.lowering_runs.specs.Seen.{Spot, Sight, seen_over, seen_currents, seen_place, seen_store, seen_thing}
@@ -101,8 +103,12 @@ module _ (tables : Tables) (sight : Sight) (w : Where) (line : ℕ) (next : Next
   readable d place (Some stored) e h =
       let f = found_array tables spots w.numbers.arrays now place stored sound.filled held.stored e in
       let p = element_part tables spots w line now c.of over c.current place stored e f h.0 d h.1 in
-      (_, subst (λ (r : Region). Part (slate.Element over.slot place d) (term.Element r place d) _)
-      (sym (region_of w now rank c)) p)
+      (
+        element_code stored.array (vector_over stored.storage d),
+        subst (λ (r : Region). Part (slate.Element over.slot place d) (term.Element r place d)
+            (element_code stored.array (vector_over stored.storage d)))
+            (sym (region_of w now rank c)) p,
+      )
 
   named_part : (thing : Option Thing) → IsElement w region [] thing → (left : Expression)
       × Part (named_slate over thing) (named_term meant_over (option_map (seen_thing spots) thing))

@@ -78,7 +78,7 @@ module _ (tables : Tables) (spots : List Spot) (w : Where) (line : ℕ) (now : W
   abbrev k : ℕ
   k = stored.array
 
-  own_covers : EachCovers f.array.storage.dims region.dims
+  pub own_covers : EachCovers f.array.storage.dims region.dims
   own_covers = subst (λ (r : Region). EachCovers r.dims region.dims) (sym f.storage) covers
 
   -- it may be read with a vector, where it has all places

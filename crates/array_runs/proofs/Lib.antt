@@ -5,3 +5,7 @@ pub mod PartLemmas
 pub mod ElementLemmas
 pub mod CodedLemmas
 pub mod LikeLemmas
+pub mod MaskLemmas
+pub mod TargetLemmas
+pub mod AssignLemmas
+pub mod WholeLemmas

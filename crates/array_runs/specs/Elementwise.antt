@@ -3,6 +3,7 @@ use Rattle.std.specs.Prelude.{ℕ, ◌-◌, ◌<◌, ℤ, List, [], Option, Some
 use Rattle.zpl_region.specs.declared.regions.Region.{Region}
 use Rattle.zpl_tree.specs.Syntax.{Expr, Number, Truth, Coord, Named, Shifted, Around, Remap, Call, Paren, Neg, Not, Abs, Pair, Reduce, Scan, Flood}
 use Rattle.zpl_meaning.specs.Store.{Thing, Scalar, ArrayAt, Fixed, thing_of}
+use Rattle.zpl_meaning.specs.Context.{Mask}
 use Rattle.zpl_meaning.specs.Regions.{vector_in}
 use Rattle.zpl_lowering.specs.Where.{Stored, Where}
 use Rattle.array_runs.specs.Reads.{EachCovers, IsShift}
@@ -43,3 +44,10 @@ IsElementwise w region (Call at name actuals) = ⊥
 IsElementwise w region (Reduce at operator over operand) = ⊥
 IsElementwise w region (Scan at operator along operand) = ⊥
 IsElementwise w region (Flood at source operand) = ⊥
+
+-- ---- masks
+
+abbrev pub IsReadableMask : Where → Region → Option Mask → Type 0
+IsReadableMask w region None = Unit {0}
+IsReadableMask w region (Some mask) =
+    IsReadable region [] (slice_get w.numbers.arrays mask.array)

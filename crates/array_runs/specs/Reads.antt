@@ -20,3 +20,16 @@ EachCovers (one ∷ storage) (dim ∷ dims) = Covers one dim × EachCovers stora
 abbrev pub IsShift : ℕ → List ℤ → Type 0
 IsShift rank [] = Unit {0}
 IsShift rank (d ∷ v) = (length (d ∷ v) ≡ 3) × (components rank (d ∷ v) ≡ d ∷ v)
+
+-- An array is written by regions with its own flood dimensions.
+abbrev pub Matches : Dim → Dim → Type 0
+Matches Flood Flood = Unit {0}
+Matches Flood (Range from to every base) = ⊥
+Matches (Range lo hi step align) Flood = ⊥
+Matches (Range lo hi step align) (Range from to every base) = Unit {0}
+
+abbrev pub EachMatches : List Dim → List Dim → Type 0
+EachMatches [] [] = Unit {0}
+EachMatches [] (dim ∷ dims) = Unit {0}
+EachMatches (one ∷ storage) [] = Unit {0}
+EachMatches (one ∷ storage) (dim ∷ dims) = Matches one dim × EachMatches storage dims
