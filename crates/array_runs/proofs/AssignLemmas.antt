@@ -222,8 +222,7 @@ module _ (tables : Tables) (n : ℕ) (spots : List Spot) (w : Where) (line : ℕ
       let second = both_true (holding (referred w.numbers one ++ []))
       (holding (mask_reference w.numbers over.slot mask))
       (sym (all_append (holds tables now) (referred w.numbers one ++ [])
-      (mask_reference w.numbers over.slot mask)) ∙ first.1) in
-      (
+      (mask_reference w.numbers over.slot mask)) ∙ first.1) in (
         first.0,
         (both_true (holding (referred w.numbers one)) true
             (sym (all_append (holds tables now) (referred w.numbers one) []) ∙ second.0)).0,

@@ -102,8 +102,7 @@ module _ (tables : Tables) (sight : Sight) (w : Where) (line : ℕ) (next : Next
   readable d place None e h = absurd h
   readable d place (Some stored) e h =
       let f = found_array tables spots w.numbers.arrays now place stored sound.filled held.stored e in
-      let p = element_part tables spots w line now c.of over c.current place stored e f h.0 d h.1 in
-      (
+      let p = element_part tables spots w line now c.of over c.current place stored e f h.0 d h.1 in (
         element_code stored.array (vector_over stored.storage d),
         subst (λ (r : Region). Part (slate.Element over.slot place d) (term.Element r place d)
             (element_code stored.array (vector_over stored.storage d)))
@@ -113,9 +112,11 @@ module _ (tables : Tables) (sight : Sight) (w : Where) (line : ℕ) (next : Next
   named_part : (thing : Option Thing) → IsElement w region [] thing → (left : Expression)
       × Part (named_slate over thing) (named_term meant_over (option_map (seen_thing spots) thing))
       left
-  named_part (Some (Scalar place)) h =
-      (_, variable_part tables spots w line now c.of over c.current place
-      (place_same tables spots w next now stands room sound place))
+  named_part (Some (Scalar place)) h = (
+    _,
+    variable_part tables spots w line now c.of over c.current place
+        (place_same tables spots w next now stands room sound place),
+  )
   named_part (Some (Fixed value)) h =
       (_, constant_part tables spots w line now c.of over c.current value)
   named_part (Some (ArrayAt place home)) h =

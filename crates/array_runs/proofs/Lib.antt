@@ -9,3 +9,4 @@ pub mod MaskLemmas
 pub mod TargetLemmas
 pub mod AssignLemmas
 pub mod WholeLemmas
+pub mod FormLemmas

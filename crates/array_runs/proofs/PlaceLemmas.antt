@@ -173,8 +173,7 @@ pub place_same : (storage region : Region) (d t : List ℤ) → components regio
     × (place_among storage.dims (moved_by (shift_in storage.dims d) t)
     ≡ place_among storage.dims (tuple_moved d region t))
 place_same storage region d t e l k c z =
-    let a = aligned storage.dims region.dims d t c k l z in
-    (
+    let a = aligned storage.dims region.dims d t c k l z in (
       has_same storage.dims region.dims d t a
           ∙ ap (λ w. has_place storage (each_coordinate_moved w region.dims t)) (sym e),
       among_same storage.dims region.dims d t a

@@ -159,8 +159,7 @@ module _ (a : Array) (region : Region) (is : IsRegion region) (wide : length reg
   )
   read_same (d ∷ v) h e t m =
       let p = place_same a.storage region (d ∷ v) t h.1 (h.0 ∙ sym three) (wide ∙ sym three) covers m
-      in
-      (
+      in (
         p.0 ∙ reference_places region a.storage (d ∷ v) t is boxed wide three h.0 e m,
         element_by a (moved_by (shift_in a.storage.dims (d ∷ v)) t) (tuple_moved (d ∷ v) region t)
             p.0 p.1,

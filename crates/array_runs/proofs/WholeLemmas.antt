@@ -47,11 +47,11 @@ use Rattle.array_runs.specs.Gates.{holds, gate}
 use Rattle.array_runs.specs.Elementwise.{IsElementwise, IsReadableMask}
 use Rattle.array_runs.specs.Assigned.{IsAssigned, IsWritable}
 use Rattle.array_runs.proofs.GateLemmas.{needs_gate}
-use Rattle.array_runs.proofs.StoredLemmas.{found_array, index_of_found}
+use Rattle.array_runs.proofs.StoredLemmas.{IsFound, found_array, index_of_found}
 use Rattle.array_runs.proofs.PartLemmas.{IsStill, alone_still, both_still}
 use Rattle.array_runs.proofs.CodedLemmas.{CurrentOf, current_of, region_of, IsCoded, coded}
-use Rattle.array_runs.proofs.MaskLemmas.{masking}
-use Rattle.array_runs.proofs.AssignLemmas.{all, all_is, all_there, put, put_agrees}
+use Rattle.array_runs.proofs.MaskLemmas.{IsMasking, masking}
+use Rattle.array_runs.proofs.AssignLemmas.{all_is, all_there, put_agrees}
 
 right_true : (b : Bool) → (b && true) ≡ b
 right_true true = refl
@@ -87,9 +87,11 @@ module _ (tables : Tables) (n : ℕ) (sight : Sight) (w : Where) (next : Next) (
   it : IsCoded tables sight w line next now stands room like.sound like.held rank c value
   it = coded tables sight w line next now stands room like.sound like.held rank c value elementwise
 
+  f : IsFound tables spots w.numbers.arrays now target stored
   f = found_array tables spots w.numbers.arrays now target stored like.sound.filled like.held.stored
       found
 
+  m : IsMasking tables spots w line now c.of over c.current over.mask
   m = masking tables spots w line now c.of over c.current like.sound like.held.stored over.mask masked
 
   abbrev refs : List Reference

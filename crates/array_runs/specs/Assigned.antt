@@ -1,8 +1,11 @@
 -- Arrays that are assigned without operators over regions.
 use Rattle.std.specs.Prelude.{◌≡◌, ℕ, Option, Some, None, slice_get}
+use Rattle.zpl_nums.specs.declared.operators.Op.{Op}
 use Rattle.zpl_region.specs.declared.regions.Region.{Region}
-use Rattle.zpl_tree.specs.Syntax.{Expr}
-use Rattle.zpl_names.specs.Sites.{Role, handed}
+use Rattle.zpl_tree.specs.Syntax.{Expr, Name}
+use Rattle.zpl_names.specs.Sites.{Role, Assigned, handed}
+use Rattle.zpl_meaning.specs.Store.{ArrayAt, thing_of}
+use Rattle.zpl_meaning.specs.Points.{assigned_expr}
 use Rattle.zpl_meaning.specs.Context.{Over, Place, over_at, reach_of, rank_in}
 use Rattle.zpl_meaning.specs.Proper.{HasCurrent}
 use Rattle.zpl_lowering.specs.Where.{Stored, Where}
@@ -25,3 +28,11 @@ pub record IsAssigned (w : Where) (place : Place) (role : Role) (target : ℕ) (
       (over_at place.currents (handed (reach_of place) role)).mask
   pub elementwise : IsElementwise w (over_at place.currents (handed (reach_of place) role)).region
       value
+
+-- the same of a statement, whose name stands for the array
+pub record IsArrayAssigned (w : Where) (place : Place) (name : Name) (op : Option Op) (value : Expr)
+    : Type 0 where
+  pub target : ℕ
+  pub home : Region
+  pub named : thing_of w.environment name.text ≡ Some (ArrayAt target home)
+  pub is : IsAssigned w place (Assigned name op) target (assigned_expr name op value)
