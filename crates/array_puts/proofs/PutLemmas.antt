@@ -17,7 +17,7 @@ use Rattle.zpl_meaning.specs.Computed as mean
 use Rattle.zpl_meaning.specs.Computed.{both_then, computed_then}
 use Rattle.zpl_meaning.specs.Fields.{Field, array_over, value_if, values_at}
 use Rattle.zpl_meaning.specs.Statement.{written}
-use Rattle.row_runs.specs.Run.{Step, Goes, Stops, Wrong}
+use Rattle.row_runs.specs.Run.{Goes, Stops, Wrong}
 use Rattle.row_runs.specs.Straight.{Every}
 use Rattle.node_form.specs.declared.tables.Tables.{Tables}
 use Rattle.node_form.specs.Value as flat
@@ -27,11 +27,11 @@ use Rattle.flat_form.specs.Names.{group_cells}
 use Rattle.flat_form.specs.Loop.{looped, operands_at, from_written}
 use Rattle.flat_form.specs.Whole.{Whole}
 use Rattle.normal_runs.proofs.PutLemmas.{wanted, value_in, put_if, start_point, Sum, AllGive}
-use Rattle.normal_runs.proofs.PutLemmas.{SomeDivides, SomeLacks, with_one, summed, after_sum}
-use Rattle.normal_runs.proofs.PutLemmas.{puts, put_does, looped_put}
-use Rattle.array_puts.specs.Put.{IsSame, BothGive, BothDivide, put_group, operands_in, IsMask}
+use Rattle.normal_runs.proofs.PutLemmas.{SomeDivides, with_one, summed, after_sum}
+use Rattle.normal_runs.proofs.PutLemmas.{put_does, looped_put}
+use Rattle.array_puts.specs.Put.{IsSame, BothGive, BothDivide, put_group, IsMask}
 use Rattle.array_puts.specs.Put.{IsPutting, with_array_in, assigned}
-use Rattle.array_puts.proofs.WriteLemmas.{every_among, put_all, puts_store, value_put, all_written}
+use Rattle.array_puts.proofs.WriteLemmas.{every_among, puts_store, value_put, all_written}
 
 -- ---- one tuple
 

@@ -24,7 +24,7 @@ use Rattle.flat_form.specs.Loop.{Puts}
 use Rattle.flat_form.specs.Whole.{Whole}
 use Rattle.normal_runs.proofs.PlaceLemmas.{Apart, members_apart}
 use Rattle.normal_runs.proofs.PlaceLemmas.{set_same, set_there, set_twice}
-use Rattle.normal_runs.proofs.PutLemmas.{one_written, puts}
+use Rattle.normal_runs.proofs.PutLemmas.{puts}
 use Rattle.array_puts.specs.Put.{with_array_in}
 
 -- ---- lists

@@ -1,15 +1,13 @@
 -- The code of an assignment of an array goes as the assignment does.
-use Rattle.std.proofs.Common.{◌≡◌, refl, sym, ◌∙◌, ap, subst, arith, ℕ, ◌+◌, ◌≤◌, Bool, true, false}
-use Rattle.std.proofs.Common.{◌&&◌, List, [], ◌∷◌, ◌++◌, length, ℤ, pos, Option, Some, None, append-nil}
-use Rattle.std.specs.Prelude.{flat_map, replicate, slice_get, if◌then◌else◌}
+use Rattle.std.proofs.Common.{◌≡◌, refl, sym, ◌∙◌, ap, subst, arith, ℕ, Bool, true, false}
+use Rattle.std.proofs.Common.{◌&&◌, List, [], ◌∷◌, ◌++◌, ℤ, pos, Option, Some, append-nil}
+use Rattle.std.specs.Prelude.{flat_map, replicate, slice_get}
 use Rattle.std.specs.List.{list_all}
-use Rattle.zpl_nums.specs.declared.ends.End.TheVariants.{Trap}
-use Rattle.zpl_nums.specs.declared.ends.TrapKind.TheVariants.{OutsideStorage, RegionMismatch}
+use Rattle.zpl_nums.specs.declared.ends.TrapKind.TheVariants.{OutsideStorage}
 use Rattle.zpl_region.specs.declared.regions.Region.{Region}
 use Rattle.zpl_region.specs.Region.{IsMember}
 use Rattle.zpl_region.proofs.HullLemmas.{has_steps}
-use Rattle.zpl_arrays.specs.Array.{Array, IsArray, element, has_place}
-use Rattle.zpl_arrays.specs.Reference.{is_reference}
+use Rattle.zpl_arrays.specs.Array.{Array, element, has_place}
 use Rattle.zpl_arrays.proofs.ArrayLemmas.{array_of_is_array}
 use Rattle.zpl_arrays.proofs.ReferenceLemmas.{lies_in_places}
 use Rattle.zpl_meaning.specs.Computed as mean
@@ -29,7 +27,7 @@ use Rattle.node_form.specs.Expression.{Expression, words_of}
 use Rattle.node_form.specs.Value.{unmoved, value_of}
 use Rattle.node_form.specs.Value as flat
 use Rattle.node_form.proofs.ValueLemmas.{value_of-words_of}
-use Rattle.row_runs.specs.Run.{Step, Goes, Stops, Does, Wrong}
+use Rattle.row_runs.specs.Run.{Step}
 use Rattle.row_runs.specs.Straight.{Every}
 use Rattle.row_runs.specs.Structured as code
 use Rattle.row_runs.specs.Structured.{Course, by_step, rows_do}
@@ -44,19 +42,19 @@ use Rattle.normal_runs.proofs.PlaceLemmas.{moved_none}
 use Rattle.zpl_lowering.specs.Where.{Stored, Slotted, Where, Next}
 use Rattle.zpl_lowering.specs.Slate as slate
 use Rattle.zpl_lowering.specs.Slate.{Slate, NoSlate, ThenSlate}
-use Rattle.zpl_lowering.specs.Reference.{Reference, mask_reference, needs, referred, refer_to}
+use Rattle.zpl_lowering.specs.Reference.{Reference, mask_reference, referred, refer_to}
 use Rattle.zpl_lowering.specs.Hoist.{element_code, mask_code}
 use Rattle.lowering_runs.specs.Seen.{Spot}
-use Rattle.lowering_runs.specs.Run.{does, decide, step, straight}
+use Rattle.lowering_runs.specs.Run.{decide, step, straight}
 use Rattle.lowering_runs.specs.Agrees.{Agrees, Going, Trapping}
 use Rattle.lowering_runs.specs.Stands.{IsCurrent, IsLike}
 use Rattle.lowering_runs.proofs.RowLemmas.{settled_act}
-use Rattle.array_puts.specs.Put.{IsPutting, IsMask, IsSame, assigned, put_group, with_array_in}
+use Rattle.array_puts.specs.Put.{IsPutting, IsSame, assigned, put_group, with_array_in}
 use Rattle.array_puts.proofs.PutLemmas.{put_assigns}
 use Rattle.array_runs.specs.Reads.{EachCovers, EachMatches}
 use Rattle.array_runs.specs.Gates.{IsThere, holds, gate}
 use Rattle.array_runs.proofs.StoredLemmas.{IsFound}
-use Rattle.array_runs.proofs.PartLemmas.{IsPart, CanRead, operands, store, all_append, both_true}
+use Rattle.array_runs.proofs.PartLemmas.{IsPart, operands, store, all_append, both_true}
 use Rattle.array_runs.proofs.ElementLemmas.{all_members, element_part, holding_is}
 use Rattle.array_runs.proofs.MaskLemmas.{IsMasking}
 use Rattle.array_runs.proofs.TargetLemmas.{covers_matching, matches_row, flat_member}

@@ -1,6 +1,6 @@
 -- Expressions without operators over regions: the meaning's terms and the lowering's slates.
 use Rattle.std.proofs.Common.{◌≡◌, refl, sym, ◌∙◌, ap, subst, ℕ, zero, suc, ◌≤◌, true, false}
-use Rattle.std.proofs.Common.{List, [], ◌∷◌, length, ℤ, pos, Option, Some, None}
+use Rattle.std.proofs.Common.{List, [], ℤ, pos, Option, Some, None}
 use Rattle.std.specs.Prelude.{slice_get, IsSome}
 use Rattle.std.specs.Option.{option_map}
 use Rattle.zpl_nums.specs.declared.operators.UnaryOp.{UnaryOp}
@@ -12,8 +12,8 @@ use Rattle.zpl_tree.specs.Syntax.{Expr, Number, Truth, Coord, Named, Shifted, Ar
 use Rattle.zpl_names.specs.Kinds.{Rank}
 use Rattle.zpl_meaning.specs.Computed as mean
 use Rattle.zpl_meaning.specs.Computed.{both_then, computed_then}
-use Rattle.zpl_meaning.specs.Store.{Thing, Scalar, ArrayAt, Fixed, Store, thing_of}
-use Rattle.zpl_meaning.specs.Context.{Over, Place, over_at, over_or}
+use Rattle.zpl_meaning.specs.Store.{Thing, Scalar, ArrayAt, Fixed, thing_of}
+use Rattle.zpl_meaning.specs.Context.{Over, over_at, over_or}
 use Rattle.zpl_meaning.specs.Proper.{HasCurrent}
 use Rattle.zpl_meaning.specs.Regions.{vector_in}
 use Rattle.zpl_meaning.specs.Settled as meant
@@ -31,9 +31,8 @@ use Rattle.zpl_lowering.specs.Slate.{Slate, named_slate, shifted_slate, settled}
 use Rattle.lowering_runs.specs.Seen.{Spot, Sight, seen_over, seen_currents, seen_place, seen_store, seen_thing}
 use Rattle.lowering_runs.specs.Stands.{IsCurrent, IsCurrentIf, IsHeld, IsSound, Stands}
 use Rattle.lowering_runs.proofs.ValueLemmas.{place_same, thing_seen}
-use Rattle.array_runs.specs.Reads.{EachCovers, IsShift}
 use Rattle.array_runs.specs.Elementwise.{IsReadable, IsElement, IsElementwise}
-use Rattle.array_runs.proofs.StoredLemmas.{IsFound, found_array, index_of_found}
+use Rattle.array_runs.proofs.StoredLemmas.{found_array, index_of_found}
 use Rattle.array_runs.proofs.PartLemmas.{IsPart, constant_part, coordinate_part, unary_part, binary_part, variable_part}
 use Rattle.array_runs.proofs.ElementLemmas.{element_part}
 

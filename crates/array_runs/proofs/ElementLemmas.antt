@@ -1,6 +1,6 @@
 -- Elements of arrays: what code reads is what the meaning reads.
 use Rattle.std.proofs.Common.{◌≡◌, refl, sym, ◌∙◌, ap, subst, ℕ, Bool, true, false, ◌&&◌}
-use Rattle.std.proofs.Common.{List, [], ◌∷◌, map, ℤ, pos, Option, Some, None, inl, inr}
+use Rattle.std.proofs.Common.{List, [], ◌∷◌, map, ℤ, Option, Some, inl, inr}
 use Rattle.std.specs.Prelude.{option_and_then, slice_get, if◌then◌else◌}
 use Rattle.std.specs.List.{list_all}
 use Rattle.zpl_region.specs.declared.dims.Dim.{Dim}
@@ -20,9 +20,8 @@ use Rattle.zpl_meaning.specs.Term as term
 use Rattle.node_form.specs.declared.tables.Tables.{Tables}
 use Rattle.node_form.specs.declared.arrays.ArrayDim.{ArrayDim}
 use Rattle.node_form.specs.declared.arrays.ArrayDim.TheVariants as dims
-use Rattle.node_form.specs.declared.arrays.ArrayRow.{ArrayRow}
 use Rattle.node_form.specs.Expression.{Expression, words_of}
-use Rattle.node_form.specs.Fits.{storage_dim, storage_of}
+use Rattle.node_form.specs.Fits.{storage_dim}
 use Rattle.node_form.specs.Value as flat
 use Rattle.node_form.specs.Value.{Operands, tree_value, unmoved}
 use Rattle.row_runs.specs.Straight.{Every}
@@ -43,7 +42,7 @@ use Rattle.array_runs.specs.Reads.{EachCovers, IsShift}
 use Rattle.array_runs.specs.Gates.{IsThere, lies, holds}
 use Rattle.array_runs.proofs.PlaceLemmas.{reference_same}
 use Rattle.array_runs.proofs.StoredLemmas.{IsFound, read_same, zeros_move}
-use Rattle.array_runs.proofs.PartLemmas.{IsPart, IsStill, CanRead, both_true, operands, store, all_append}
+use Rattle.array_runs.proofs.PartLemmas.{IsPart, IsStill, CanRead, operands, store}
 
 -- ---- tests of rows, by storages
 

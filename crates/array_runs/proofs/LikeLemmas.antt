@@ -3,7 +3,7 @@ use Rattle.std.proofs.Common.{◌≡◌, ◌≢◌, refl, sym, ◌∙◌, ap, su
 use Rattle.std.proofs.Common.{List, [], ◌∷◌, length, map, Option, Some, None}
 use Rattle.std.specs.Prelude.{slice_get, slice_index_or, slice_set}
 use Rattle.std.specs.List.{AllZip}
-use Rattle.zpl_arrays.specs.Array.{Array, IsArray}
+use Rattle.zpl_arrays.specs.Array.{Array}
 use Rattle.zpl_meaning.specs.Store.{Store, no_array, with_array}
 use Rattle.node_form.specs.declared.arrays.ArrayRow.{ArrayRow}
 use Rattle.node_form.specs.declared.tables.Tables.{Tables}

@@ -1,14 +1,12 @@
 -- Masks: what code reads of one is what the meaning reads.
 use Rattle.std.proofs.Common.{◌≡◌, refl, sym, ◌∙◌, ap, subst, ℕ, Bool, true, false, not}
-use Rattle.std.proofs.Common.{List, [], ◌∷◌, ℤ, Option, Some, None}
+use Rattle.std.proofs.Common.{List, [], ℤ, Option, Some, None}
 use Rattle.std.specs.Prelude.{slice_get}
 use Rattle.std.specs.List.{list_all}
 use Rattle.zpl_nums.specs.Integer.{is_true, truth, denied}
 use Rattle.zpl_region.specs.declared.regions.Region.{Region}
 use Rattle.zpl_region.specs.Region.{IsMember}
-use Rattle.zpl_arrays.specs.Array.{Array, element, has_place}
-use Rattle.zpl_arrays.specs.Reference.{is_reference}
-use Rattle.zpl_meaning.specs.Store.{array_at}
+use Rattle.zpl_arrays.specs.Array.{Array, element}
 use Rattle.zpl_meaning.specs.Context.{Mask, is_kept, lets_in}
 use Rattle.zpl_meaning.specs.Checks.{has_mask_within}
 use Rattle.node_form.specs.declared.tables.Tables.{Tables}
@@ -18,12 +16,11 @@ use Rattle.node_form.specs.Value as flat
 use Rattle.node_form.specs.Value.{Operands, tree_value, unmoved, value_of}
 use Rattle.node_form.proofs.ValueLemmas.{value_of-words_of}
 use Rattle.row_runs.specs.Straight.{Every}
-use Rattle.grid_meaning.specs.Place.{moved_by}
 use Rattle.flat_form.specs.Whole.{Whole}
 use Rattle.flat_form.specs.Row.{Words, mask_words}
 use Rattle.normal_runs.proofs.PlaceLemmas.{moved_none}
 use Rattle.zpl_lowering.specs.Where.{Stored, Slotted, Where}
-use Rattle.zpl_lowering.specs.Reference.{Reference, mask_reference, referred}
+use Rattle.zpl_lowering.specs.Reference.{mask_reference, referred}
 use Rattle.zpl_lowering.specs.Slate as slate
 use Rattle.zpl_lowering.specs.Hoist.{array_code, mask_code, mask_word}
 use Rattle.lowering_runs.specs.Seen.{Spot}

@@ -1,7 +1,7 @@
 -- Expressions without operators over regions: what their code reads, and what it gives at a tuple.
 use Rattle.std.proofs.Common.{◌≡◌, refl, sym, ◌∙◌, ap, subst, arith, ℕ, zero, suc, ◌+◌, ◌<◌, Bool, true, false}
-use Rattle.std.proofs.Common.{◌&&◌, List, [], ◌∷◌, ◌++◌, length, map, ℤ, pos, Option, Some, None, inl, inr}
-use Rattle.std.specs.Prelude.{◌-◌, flat_map, option_and_then, slice_get, slice_index_or, if◌then◌else◌}
+use Rattle.std.proofs.Common.{◌&&◌, List, [], ◌∷◌, ◌++◌, length, ℤ, pos, Option, Some, None, inl, inr}
+use Rattle.std.specs.Prelude.{◌-◌, slice_get, slice_index_or}
 use Rattle.std.specs.List.{AllZip, list_all}
 use Rattle.zpl_nums.specs.declared.operators.Op.{Op}
 use Rattle.zpl_nums.specs.declared.operators.UnaryOp.{UnaryOp}
@@ -9,55 +9,42 @@ use Rattle.zpl_nums.specs.declared.operators.UnaryOp.TheVariants as unary
 use Rattle.zpl_nums.specs.Op.{applied}
 use Rattle.zpl_nums.specs.UnaryOp.{applied_unary}
 use Rattle.zpl_region.specs.declared.regions.Region.{Region}
-use Rattle.zpl_region.specs.Dim.{HasStep, IsCoordinate}
-use Rattle.zpl_region.specs.Region.{IsMember, IsRegion, members, tuple_moved}
-use Rattle.zpl_region.proofs.HullLemmas.{has_steps}
-use Rattle.zpl_region.proofs.LawLemmas.{members_iff}
-use Rattle.zpl_region.proofs.ListLemmas.{Among, Contains-from_among}
-use Rattle.zpl_arrays.specs.Array.{Array, element, has_place}
-use Rattle.zpl_arrays.specs.Reference.{is_reference}
+use Rattle.zpl_region.specs.Dim.{IsCoordinate}
+use Rattle.zpl_region.specs.Region.{IsMember}
+use Rattle.zpl_region.proofs.ListLemmas.{Among}
 use Rattle.zpl_meaning.specs.Computed as mean
 use Rattle.zpl_meaning.specs.Computed.{both_then, computed_then}
-use Rattle.zpl_meaning.specs.Store.{Store, array_at, scalar_at}
+use Rattle.zpl_meaning.specs.Store.{Store, scalar_at}
 use Rattle.zpl_meaning.specs.Term as term
 use Rattle.zpl_meaning.specs.Term.{Term}
 use Rattle.zpl_meaning.specs.Checks.{conforms, refers}
 use Rattle.zpl_meaning.specs.Fields.{Field, constant_field, coordinate_of, field_of}
 use Rattle.node_form.specs.declared.tables.Tables.{Tables}
-use Rattle.node_form.specs.declared.arrays.ArrayDim.{ArrayDim}
-use Rattle.node_form.specs.declared.arrays.ArrayDim.TheVariants as dims
 use Rattle.node_form.specs.declared.words.ExprOp.{ExprOp}
 use Rattle.node_form.specs.Expression.{Expression, words_of}
 use Rattle.node_form.specs.Expression as word
-use Rattle.node_form.specs.Fits.{storage_dim, storage_of}
 use Rattle.node_form.specs.Value as flat
 use Rattle.node_form.specs.Value.{Operands, scalar_operands, tree_value, unmoved}
 use Rattle.row_runs.specs.Straight.{Every}
 use Rattle.row_runs.specs.Structured as code
-use Rattle.grid_meaning.specs.Place.{held_value, moved_by, value_at, where_held}
 use Rattle.flat_form.specs.Loop.{operands_at}
-use Rattle.flat_form.specs.Names.{Read, word_reads}
-use Rattle.flat_form.specs.Right as right
-use Rattle.flat_form.specs.Right.{can_read, each_covers, reads_well}
+use Rattle.flat_form.specs.Names.{word_reads}
+use Rattle.flat_form.specs.Right.{can_read}
 use Rattle.flat_form.specs.Whole.{Whole}
 use Rattle.flat_form.proofs.WordLemmas.{every_append}
-use Rattle.normal_runs.proofs.PlaceLemmas.{moved_none}
-use Rattle.zpl_lowering.specs.Where.{Stored, Slotted, Where, Next}
+use Rattle.zpl_lowering.specs.Where.{Slotted, Where}
 use Rattle.zpl_lowering.specs.Slate as slate
 use Rattle.zpl_lowering.specs.Slate.{Slate}
-use Rattle.zpl_lowering.specs.Reference.{Reference, conforming, refer_to, referred, vector_over, is_unmoved}
+use Rattle.zpl_lowering.specs.Reference.{Reference, conforming, referred}
 use Rattle.zpl_lowering.specs.Hoist as hoist
 use Rattle.zpl_lowering.specs.Hoist.{Hoisted, Free, hoisted, element_code, neighbour_if, stored_element, unary_code}
 use Rattle.zpl_lowering.specs.Words.{variable_code}
 use Rattle.lowering_runs.specs.Run.{does}
 use Rattle.lowering_runs.specs.Seen.{Spot, seen_store, place_of}
 use Rattle.lowering_runs.specs.Scalars.{IsSameValue, BothGive as BothGive_, BothDivide as BothDivide_}
-use Rattle.lowering_runs.specs.Stands.{AreStored, IsCurrent}
+use Rattle.lowering_runs.specs.Stands.{IsCurrent}
 use Rattle.array_puts.specs.Put.{IsSame, BothGive, BothDivide}
-use Rattle.array_runs.specs.Reads.{Covers, EachCovers, IsShift}
-use Rattle.array_runs.specs.Gates.{IsThere, lies, holds}
-use Rattle.array_runs.proofs.PlaceLemmas.{reference_same}
-use Rattle.array_runs.proofs.StoredLemmas.{IsFound, read_same, zeros_move}
+use Rattle.array_runs.specs.Gates.{IsThere, holds}
 
 -- ---- code that does nothing, and what is left
 

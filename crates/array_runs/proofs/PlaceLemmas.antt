@@ -1,6 +1,6 @@
 -- Reads of arrays with a shift: code has a shift without the array's flood dimensions, and moves
 -- tuples by it; that is the same element and the same test.
-use Rattle.std.proofs.Common.{◌≡◌, refl, sym, ◌∙◌, ap, subst, arith, ℕ, zero, suc, ◌+◌, ◌*◌, Bool, true, false}
+use Rattle.std.proofs.Common.{◌≡◌, refl, sym, ◌∙◌, ap, arith, ℕ, zero, suc, ◌+◌, ◌*◌}
 use Rattle.std.proofs.Common.{◌&&◌, List, [], ◌∷◌, length, ℤ, pos, ◌+ℤ◌}
 use Rattle.std.specs.List.{AllZip}
 use Rattle.std.specs.Prelude.{◌||◌, slice_index_or, if◌then◌else◌}

@@ -1,30 +1,28 @@
 -- The arrays of the store are those of the state, with their storages; and what is read of one under
 -- a region.
-use Rattle.std.proofs.Common.{◌≡◌, refl, sym, ◌∙◌, ap, subst, arith, ℕ, zero, suc, ◌<◌, Bool, true, false}
-use Rattle.std.proofs.Common.{◌&&◌, List, [], ◌∷◌, length, map, ℤ, pos, ◌+ℤ◌, All, Option, Some, None}
-use Rattle.std.specs.Prelude.{not, option_and_then, slice_get, slice_index_or}
-use Rattle.std.specs.List.{AllZip, list_all}
+use Rattle.std.proofs.Common.{◌≡◌, refl, sym, ◌∙◌, ap, subst, arith, ℕ, zero, suc, Bool, true, false}
+use Rattle.std.proofs.Common.{◌&&◌, List, [], ◌∷◌, length, map, ℤ, pos, ◌+ℤ◌, All, Some}
+use Rattle.std.specs.Prelude.{not, slice_get, slice_index_or}
+use Rattle.std.specs.List.{AllZip}
 use Rattle.std.specs.Ordering.{int_eq}
 use Rattle.std.proofs.lemmas.Int.{ints}
 use Rattle.std.proofs.lemmas.List.Elements.{All-cons, All-nil}
 use Rattle.std.proofs.lemmas.Bool.Decides.{Decides-int_eq}
 use Rattle.zpl_region.specs.declared.dims.Dim.{Dim}
-use Rattle.zpl_region.specs.declared.dims.Dim.TheVariants.{Range, Flood}
 use Rattle.zpl_region.specs.declared.regions.Region.{Region}
 use Rattle.zpl_region.specs.Dim.{HasStep}
 use Rattle.zpl_region.specs.Hull.{IsBoxed}
 use Rattle.zpl_region.specs.Region.{IsMember, IsRegion, tuple_moved}
 use Rattle.zpl_region.proofs.HullLemmas.{has_steps}
-use Rattle.zpl_arrays.specs.Array.{Array, IsArray, element, has_place, place_among}
-use Rattle.zpl_arrays.specs.Reference.{is_reference, lies_in}
+use Rattle.zpl_arrays.specs.Array.{Array, IsArray, element, has_place}
+use Rattle.zpl_arrays.specs.Reference.{is_reference}
 use Rattle.zpl_arrays.proofs.ReferenceLemmas.{lies_in_places, reference_places}
-use Rattle.zpl_meaning.specs.Store.{Store, array_at, no_array}
+use Rattle.zpl_meaning.specs.Store.{array_at, no_array}
 use Rattle.node_form.specs.declared.arrays.ArrayDim.{ArrayDim}
 use Rattle.node_form.specs.declared.arrays.ArrayDim.TheVariants as dims
 use Rattle.node_form.specs.declared.arrays.ArrayRow.{ArrayRow}
 use Rattle.node_form.specs.declared.tables.Tables.{Tables}
 use Rattle.node_form.specs.Fits.{storage_dim, storage_of}
-use Rattle.node_form.specs.Value.{unmoved}
 use Rattle.flat_form.specs.States.{IsStoreOf, IsWhole}
 use Rattle.flat_form.specs.Whole.{Whole}
 use Rattle.grid_meaning.specs.Place.{moved_by}

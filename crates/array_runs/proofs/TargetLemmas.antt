@@ -1,11 +1,9 @@
 -- The array that is written under a region: it has a place of its own for each tuple.
-use Rattle.std.proofs.Common.{◌≡◌, refl, sym, ◌∙◌, ap, subst, Bool, true, false, ◌&&◌}
-use Rattle.std.proofs.Common.{List, [], ◌∷◌, map, ℤ, pos, Option, Some}
-use Rattle.std.specs.Prelude.{slice_get}
+use Rattle.std.proofs.Common.{◌≡◌, refl, sym, ◌∙◌, ap, true}
+use Rattle.std.proofs.Common.{List, [], ◌∷◌, map, ℤ}
 use Rattle.std.specs.List.{AllZip}
 use Rattle.zpl_region.specs.declared.dims.Dim.{Dim}
 use Rattle.zpl_region.specs.declared.dims.Dim.TheVariants.{Range, Flood}
-use Rattle.zpl_region.specs.declared.regions.Region.{Region}
 use Rattle.zpl_region.specs.Dim.{IsCoordinate}
 use Rattle.zpl_arrays.specs.Array.{flattened}
 use Rattle.node_form.specs.declared.arrays.ArrayDim.{ArrayDim}

@@ -9,14 +9,14 @@ use Rattle.zpl_arrays.specs.Array.{element}
 use Rattle.zpl_binding.specs.Regions.{no_region}
 use Rattle.zpl_tree.specs.Syntax.{Expr}
 use Rattle.zpl_names.specs.Kinds.{Rank}
-use Rattle.zpl_names.specs.Sites.{Role, handed}
+use Rattle.zpl_names.specs.Sites.{Role}
 use Rattle.zpl_meaning.specs.Computed as mean
 use Rattle.zpl_meaning.specs.Computed.{both_then, computed_then, provided}
 use Rattle.zpl_meaning.specs.Store.{Store, array_at, with_array}
-use Rattle.zpl_meaning.specs.Context.{Over, Place, over_at, reach_of}
+use Rattle.zpl_meaning.specs.Context.{Over, Place, over_at}
 use Rattle.zpl_meaning.specs.Term.{Term, NoTerm, ThenTerm}
 use Rattle.zpl_meaning.specs.Settled as meant
-use Rattle.zpl_meaning.specs.Checks.{conform, conforms, has_mask_within, is_within, refer, refers}
+use Rattle.zpl_meaning.specs.Checks.{conform, has_mask_within, is_within, refer, refers}
 use Rattle.zpl_meaning.specs.Fields.{Field, array_over, fields_of, is_kept_in}
 use Rattle.zpl_meaning.specs.Phases as phase
 use Rattle.zpl_meaning.specs.Phases.{fields_in, first_field}
@@ -32,13 +32,12 @@ use Rattle.flat_form.specs.Whole.{Whole}
 use Rattle.zpl_lowering.specs.Where.{Stored, Slotted, Where, Next, slotted_at, rank_for}
 use Rattle.zpl_lowering.specs.Slate as slate
 use Rattle.zpl_lowering.specs.Slate.{Settled, Slate, Slates, NoSlate, ThenSlate, settled, settled_each}
-use Rattle.zpl_lowering.specs.Reference.{Reference, all_conforming, all_referred, conforming, mask_reference, needs, over_reference, refer_to, referred}
+use Rattle.zpl_lowering.specs.Reference.{Reference, all_referred, mask_reference, needs, over_reference, refer_to, referred}
 use Rattle.zpl_lowering.specs.Hoist as hoist
 use Rattle.zpl_lowering.specs.Hoist.{all_hoisted, hoisted}
-use Rattle.zpl_lowering.specs.Lowered as low
 use Rattle.zpl_lowering.specs.Lowered.{first_left, free_at, phases_of, then_rows}
 use Rattle.zpl_lowering.specs.Statement.{lowered_array, placed_in, put_row}
-use Rattle.lowering_runs.specs.Seen.{Spot, Sight, seen_currents, seen_over, seen_place, seen_store}
+use Rattle.lowering_runs.specs.Seen.{Spot, Sight, seen_currents, seen_place, seen_store}
 use Rattle.lowering_runs.specs.Run.{does, decide, step}
 use Rattle.lowering_runs.specs.Agrees.{Agrees}
 use Rattle.lowering_runs.specs.Stands.{IsLike, Stands}
@@ -49,7 +48,7 @@ use Rattle.array_runs.specs.Assigned.{IsAssigned, IsWritable}
 use Rattle.array_runs.proofs.GateLemmas.{needs_gate}
 use Rattle.array_runs.proofs.StoredLemmas.{IsFound, found_array, index_of_found}
 use Rattle.array_runs.proofs.PartLemmas.{IsStill, alone_still, both_still}
-use Rattle.array_runs.proofs.CodedLemmas.{CurrentOf, current_of, region_of, IsCoded, coded}
+use Rattle.array_runs.proofs.CodedLemmas.{CurrentOf, current_of, IsCoded, coded}
 use Rattle.array_runs.proofs.MaskLemmas.{IsMasking, masking}
 use Rattle.array_runs.proofs.AssignLemmas.{all_is, all_there, put_agrees}
 

@@ -6,7 +6,7 @@ use Rattle.zpl_tree.specs.Syntax.{Expr, Name}
 use Rattle.zpl_names.specs.Sites.{Role, Assigned, handed}
 use Rattle.zpl_meaning.specs.Store.{ArrayAt, thing_of}
 use Rattle.zpl_meaning.specs.Points.{assigned_expr}
-use Rattle.zpl_meaning.specs.Context.{Over, Place, over_at, reach_of, rank_in}
+use Rattle.zpl_meaning.specs.Context.{Place, over_at, reach_of, rank_in}
 use Rattle.zpl_meaning.specs.Proper.{HasCurrent}
 use Rattle.zpl_lowering.specs.Where.{Stored, Where}
 use Rattle.array_runs.specs.Reads.{EachMatches}

@@ -1,5 +1,5 @@
 -- Expressions without operators over regions, which have a value at each tuple of a region.
-use Rattle.std.specs.Prelude.{ℕ, ◌-◌, ◌<◌, ℤ, List, [], Option, Some, None, slice_get}
+use Rattle.std.specs.Prelude.{◌-◌, ◌<◌, ℤ, List, [], Option, Some, None, slice_get}
 use Rattle.zpl_region.specs.declared.regions.Region.{Region}
 use Rattle.zpl_tree.specs.Syntax.{Expr, Number, Truth, Coord, Named, Shifted, Around, Remap, Call, Paren, Neg, Not, Abs, Pair, Reduce, Scan, Flood}
 use Rattle.zpl_meaning.specs.Store.{Thing, Scalar, ArrayAt, Fixed, thing_of}
