@@ -1,21 +1,23 @@
 -- What holds where a statement stands holds behind what comes before it.
-use Rattle.std.proofs.Common.{◌≡◌, ℕ, ◌≤◌, ◌<◌, List}
+use Rattle.std.proofs.Common.{◌≡◌, ℕ, zero, suc, ◌≤◌, ◌<◌, List, [], ◌∷◌, length}
+use Rattle.std.specs.Prelude.{slice_get, slice_index_or}
 use Rattle.std.proofs.Common.{Option, Some, None, refl, sym, ap, ◌∙◌, subst, arith}
 use Rattle.std.specs.Option.{option_map}
 use Rattle.zpl_region.specs.declared.regions.Region.{Region}
+use Rattle.zpl_binding.specs.Regions.{no_region}
 use Rattle.zpl_meaning.specs.Store.{Store}
 use Rattle.zpl_meaning.specs.Context.{Over, Currents, Edge, Place}
 use Rattle.zpl_meaning.specs.Outcome.{Outcome}
 use Rattle.zpl_meaning.specs.Statement.{Context}
 use Rattle.node_form.specs.declared.tables.Tables.{Tables}
 use Rattle.flat_form.specs.Whole.{Whole}
-use Rattle.zpl_lowering.specs.Where.{Slotted, SlotCurrents, SlotEdge, Where, Next}
+use Rattle.zpl_lowering.specs.Where.{Stored, Slotted, SlotCurrents, SlotEdge, Where, Next}
 use Rattle.zpl_lowering.specs.Lowered.{Lowered, behind}
 use Rattle.zpl_lowering.specs.Statement.{Lowering}
 use Rattle.lowering_runs.specs.Seen.{slot_in, Spot, Sight, numbered, seen_over, seen_currents, seen_edge, seen_place}
 use Rattle.lowering_runs.specs.Run.{does}
 use Rattle.lowering_runs.specs.Agrees.{Agrees}
-use Rattle.lowering_runs.specs.Stands.{IsBefore, IsTaken, IsTakenEdge, AreTaken, Stands, HasRoom, Keeps, IsLike}
+use Rattle.lowering_runs.specs.Stands.{IsBefore, IsTaken, IsTakenEdge, AreTaken, IsCurrentIf, IsHeld, Stands, HasRoom, Keeps, IsLike}
 use Rattle.lowering_runs.specs.Goes.{World, context, lowering, Goes}
 use Rattle.lowering_runs.proofs.NumberLemmas.{rises_on}
 use Rattle.lowering_runs.proofs.AgreeLemmas.{alike_agrees}
@@ -82,6 +84,50 @@ module _ (before after : Whole) (slots : ℕ)
       ∙ ap (λ (o : Option Edge). record (seen_place sight w before) { edge = o })
       (edge_kept w.edge e)
 
+-- ---- arrays and current regions
+
+same_get : (xs ys : List Region) (k : ℕ) (x : Region) → length ys ≡ length xs
+    → slice_index_or ys k no_region ≡ slice_index_or xs k no_region → slice_get xs k ≡ Some x
+    → slice_get ys k ≡ Some x
+same_get [] ys zero x l e h = cc
+same_get [] ys (suc k) x l e h = cc
+same_get (a ∷ xs) [] k x l e h = absurd (omega (arith, l))
+same_get (a ∷ xs) (b ∷ ys) zero x l e h =
+    let same : a ≡ x = cc in ap (λ (r : Region). Some r) (e ∙ same)
+same_get (a ∷ xs) (b ∷ ys) (suc k) x l e h = same_get xs ys k x (omega (arith, l)) e h
+
+module _ (before after : Whole) (slots : ℕ) (many : length after.slots ≡ length before.slots)
+    (kept : (k : ℕ) → k < slots → slot_in after k ≡ slot_in before k) where
+  current_on : (rank : ℕ) (one : Option Slotted) → IsTaken one slots
+      → IsCurrentIf before.slots rank one → IsCurrentIf after.slots rank one
+  current_on rank None t h = tt
+  current_on rank (Some one) t h = record {
+    region = h.region;
+    found = same_get before.slots after.slots one.slot h.region many (kept one.slot t) h.found;
+    is = h.is;
+    three = h.three;
+    ranked = h.ranked;
+    flood = h.flood;
+  }
+
+  all_current_on : (tables : Tables) (arrays : List Stored) (currents : SlotCurrents)
+      → AreTaken currents slots → IsHeld tables arrays currents before.slots
+      → IsHeld tables arrays currents after.slots
+  all_current_on tables arrays currents t h = record {
+    stored = h.stored;
+    apart = h.apart;
+    one = current_on 1 currents.one t.one h.one;
+    two = current_on 2 currents.two t.two h.two;
+    three = current_on 3 currents.three t.three h.three;
+  }
+
+pub held_on : (tables : Tables) (arrays : List Stored) (currents : SlotCurrents) (slots : ℕ)
+    (before after : Whole) → length after.slots ≡ length before.slots
+    → ((k : ℕ) → k < slots → slot_in after k ≡ slot_in before k) → AreTaken currents slots
+    → IsHeld tables arrays currents before.slots → IsHeld tables arrays currents after.slots
+held_on tables arrays currents slots before after many kept =
+    all_current_on before after slots many kept tables arrays currents
+
 -- ---- places
 
 pub stands_on : (spots : List Spot) (w : Where) (next more : Next) → IsBefore next more
@@ -116,6 +162,7 @@ module _ (tables : Tables) (spots : List Spot) (w : Where) where
     seen = h.seen;
     sound = h.sound;
     kept = keeps_all (numbered spots) more now;
+    held = h.held;
   }
 
   pub like_then : (next more : Next) (start : Whole) (store : Store) (mid : Whole) (later : Store)
@@ -125,6 +172,7 @@ module _ (tables : Tables) (spots : List Spot) (w : Where) where
     seen = k.seen;
     sound = k.sound;
     kept = keeps_then (numbered spots) next more start mid after b h.kept k.kept;
+    held = k.held;
   }
 
 -- ---- a part of a statement, behind others

@@ -42,7 +42,7 @@ use Rattle.lowering_runs.specs.Seen.{scalar_in, Spot, seen_store, numbered}
 use Rattle.lowering_runs.specs.Run.{does}
 use Rattle.lowering_runs.specs.Agrees.{Agrees}
 use Rattle.lowering_runs.specs.Shown.{Shows}
-use Rattle.lowering_runs.specs.Stands.{AreKnown, Stands, HasRoom, IsSound, IsLike}
+use Rattle.lowering_runs.specs.Stands.{AreKnown, Stands, HasRoom, IsSound, IsLike, IsHeld}
 use Rattle.lowering_runs.specs.ScalarText.{IsScalarCall, IsScalarProgram}
 use Rattle.lowering_runs.proofs.TopLemmas.{shows}
 use Rattle.lowering_runs.proofs.AgreeLemmas.{alike_agrees}
@@ -228,6 +228,8 @@ module _ (program : Program) (settings : List Setting) (s : IsScalarProgram prog
         ∙ ap (λ (xs : List Stored). seen_store spots xs now) (sym (no_arrays 0));
     sound = sound;
     kept = keeps_all (numbered spots) next now;
+    held = subst (λ (xs : List Stored). IsHeld tables xs no_slots now.slots) (sym (no_arrays 0))
+        (record { stored = tt; apart = omega arith; one = tt; two = tt; three = tt });
   }
 
   -- what the run is like at its end
@@ -255,7 +257,8 @@ module _ (program : Program) (settings : List Setting) (s : IsScalarProgram prog
       alike_agrees (IsLike tables spots w next now) (Ended now) n 0 _ _
       (λ store whole l. (h.routine, l))
       (routine_agrees tables n setup proper depth (calls_agree tables n setup proper depth) h.routine
-      h.scalar false spots w next now program.name.text [] 0 refl (stands h.routine) now next
+      h.scalar false spots w next now program.name.text [] 0 refl (stands h.routine) now
+      sound.filled.slots (λ k lt. refl) (like h.routine now sound zero_).held next
       (itself next) (omega arith) (λ k le. zero_ k) room frame.store
       (like h.routine now sound zero_)
       (Begins h.routine frame.store h.named))) room

@@ -1,5 +1,5 @@
 -- The code of a procedure goes as a call of it does.
-use Rattle.std.proofs.Common.{◌≡◌, ℕ, zero, suc, ◌≤◌, Bool, true, List, [], ◌∷◌}
+use Rattle.std.proofs.Common.{◌≡◌, ℕ, zero, suc, ◌≤◌, ◌<◌, Bool, true, List, [], ◌∷◌}
 use Rattle.std.proofs.Common.{◌++◌, length, Option, Some, refl, sym, ap, ◌∙◌, subst, arith, append-nil}
 use Rattle.zpl_tree.specs.Syntax.{Stmt}
 use Rattle.zpl_names.specs.Declared.{Routine}
@@ -20,16 +20,16 @@ use Rattle.zpl_lowering.specs.Lowered.{Lowered}
 use Rattle.zpl_lowering.specs.Statement.{Given, Calling, lowered}
 use Rattle.zpl_lowering.specs.Program as low
 use Rattle.zpl_lowering.specs.Program.{Framed, Entry}
-use Rattle.lowering_runs.specs.Seen.{Spot, At, Answer, Sight, seen_place, seen_store, seen_names, seen_thing, numbered}
+use Rattle.lowering_runs.specs.Seen.{Spot, At, Answer, Sight, seen_place, seen_store, seen_names, seen_thing, numbered, slot_in}
 use Rattle.lowering_runs.specs.Run.{does}
 use Rattle.lowering_runs.specs.Agrees.{Agrees}
-use Rattle.lowering_runs.specs.Stands.{Misses, IsBefore, AreKnown, Stands, HasRoom, IsLike}
+use Rattle.lowering_runs.specs.Stands.{Misses, IsBefore, AreKnown, Stands, HasRoom, IsLike, IsHeld}
 use Rattle.lowering_runs.specs.Frames.{seen_frame, AreGiven, IsFresh}
 use Rattle.lowering_runs.specs.Goes.{World}
 use Rattle.lowering_runs.specs.Called.{calling_at, called_at, CallsAgree}
 use Rattle.lowering_runs.specs.ScalarText.{IsScalarRoutine, IsScalarCall}
 use Rattle.lowering_runs.proofs.AgreeLemmas.{stored_agrees}
-use Rattle.lowering_runs.proofs.FitLemmas.{all_taken_on, currents_kept, keeps_all}
+use Rattle.lowering_runs.proofs.FitLemmas.{all_taken_on, currents_kept, keeps_all, held_on}
 use Rattle.lowering_runs.proofs.FrameLemmas.{map_append, numbered_append, names_below, known_both, known_more, misses_more, cut_seen}
 use Rattle.lowering_runs.proofs.BodyLemmas.{GoesOn, givens_framed, locals_go}
 use Rattle.lowering_runs.proofs.StatementLemmas.{stmt_agrees}
@@ -55,7 +55,10 @@ module _ (tables : Tables) (n : ℕ) (setup : Setup)
         (scalar : IsScalarRoutine setup.program (IsScalarCall setup.program depth) routine)
         (clears : Bool) (spots : List Spot) (w : Where) (low_next : Next) (start : Whole)
         (name : List ℕ) (givens : List Given) (line : ℕ) (setup_is : w.setup ≡ setup)
-        (stands : Stands spots w low_next) (now : Whole) where
+        (stands : Stands spots w low_next) (now : Whole)
+        (many : length now.slots ≡ length tables.slots)
+        (same : (k : ℕ) → k < low_next.slots → slot_in now k ≡ slot_in start k)
+        (held : IsHeld tables w.numbers.arrays w.currents now.slots) where
       abbrev Like : Store → Whole → Type 0
       Like = IsLike tables spots w low_next start
 
@@ -146,7 +149,15 @@ module _ (tables : Tables) (n : ℕ) (setup : Setup)
             scalar = scalar.1;
           })
           room (seen_store here framed.numbers.arrays mid) mid
-          (record { seen = refl; sound = sound; kept = keeps_all (numbered here) next mid }) in
+          (record {
+            seen = refl;
+            sound = sound;
+            kept = keeps_all (numbered here) next mid;
+            held = subst (λ (xs : List Stored). IsHeld tables xs w.currents mid.slots)
+                (sym f.arrays_are) (held_on tables arrays w.currents low_next.slots now mid
+                (sound.filled.slots ∙ sym many) (λ k lt. kept.slots k lt ∙ sym (same k lt))
+                stands.taken held);
+          }) in
           subst (λ (p : Place). Agrees Like n 0
           (returned begun (exec (record { place = p; call = call_at setup n depth }) n
           routine.procedure.body (seen_store here framed.numbers.arrays mid)))
@@ -167,6 +178,8 @@ module _ (tables : Tables) (n : ℕ) (setup : Setup)
                   ∙ kept.hidden k lt m;
               slots = λ k lt. l.kept.slots k (omega (arith, lt, before.slots)) ∙ kept.slots k lt;
             };
+            held = subst (λ (xs : List Stored). IsHeld tables xs w.currents v.slots) f.arrays_are
+                l.held;
           }) agrees)
 
       pub routine_agrees : (next : Next) → IsBefore low_next next
@@ -242,6 +255,7 @@ module _ (tables : Tables) (n : ℕ) (setup : Setup)
           (low.routine_code setup true (low.call_code setup depth) r calling next).code now))
           (sym served.named)
           (λ room. routine_agrees depth (calls_agree depth) served.routine served.scalar true spots w
-          bottom start name givens line setup_is stands now next before given tt room store like
+          bottom start name givens line setup_is stands now like.sound.filled.slots like.kept.slots
+          like.held next before given tt room store like
           (visited served.routine store served.named)) room;
     }

@@ -176,6 +176,7 @@ module _ (tables : Tables) where
                 ∙ like.kept.hidden j below misses;
             slots = like.kept.slots;
           };
+          held = like.held;
         }
 
     -- a scalar that is free is set
@@ -193,4 +194,5 @@ module _ (tables : Tables) where
             ∙ like.kept.hidden j below misses;
         slots = like.kept.slots;
       };
+      held = like.held;
     }

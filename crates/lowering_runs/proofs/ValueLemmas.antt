@@ -109,7 +109,7 @@ module _ (tables : Tables) (spots : List Spot) (w : Where) (next : Next) (now : 
       subst (λ (o : Option ℤ). IsSameValue (mean.Gives (scalar_in now k)) (flat.read o))
       (sym (get_some now.scalars k (pos 0) inside)) (BothGive (sound.integers k))
 
-  place_same : (place : ℕ)
+  pub place_same : (place : ℕ)
       → IsSameValue (mean.Gives (mean_value.thing_value store (Some (seen_thing spots (Scalar place)))))
       (tree_value (scalar_operands now.scalars) (thing_code w.numbers (Some (Scalar place))))
   place_same place =

@@ -1,13 +1,17 @@
 -- What holds where a statement is lowered, what holds of a state there, and what the statement's
 -- code keeps of it.
-use Rattle.std.specs.Prelude.{◌≡◌, ◌≢◌, ℕ, suc, ◌+◌, ◌<◌, ◌≤◌, true, List, [], ◌∷◌, length, Option, Some, None}
+use Rattle.std.specs.Prelude.{◌≡◌, ◌≢◌, ℕ, suc, ◌+◌, ◌<◌, ◌≤◌, true, List, [], ◌∷◌, length, map, Option, Some, None, slice_get}
 use Rattle.zpl_nums.specs.Integer.{IsInteger}
+use Rattle.zpl_region.specs.declared.regions.Region.{Region}
+use Rattle.zpl_region.specs.Region.{IsRegion}
 use Rattle.zpl_meaning.specs.Store.{Thing, Scalar, ArrayAt, Fixed, Names, Store}
+use Rattle.node_form.specs.declared.arrays.ArrayRow.{ArrayRow}
 use Rattle.node_form.specs.declared.tables.Tables.{Tables}
+use Rattle.node_form.specs.Fits.{storage_of}
 use Rattle.flat_form.specs.Whole.{Whole}
 use Rattle.flat_form.specs.States.{IsWhole}
 use Rattle.flat_form.specs.Right.{is_settled}
-use Rattle.zpl_lowering.specs.Where.{Slotted, SlotCurrents, SlotEdge, Where, Next}
+use Rattle.zpl_lowering.specs.Where.{Stored, Slotted, SlotCurrents, SlotEdge, Where, Next, flood_of}
 use Rattle.zpl_lowering.specs.Lowered.{Lowered}
 use Rattle.lowering_runs.specs.Seen.{scalar_in, slot_in, Spot, seen_store, seen_names, numbered}
 
@@ -73,6 +77,46 @@ pub record Stands (spots : List Spot) (w : Where) (next : Next) : Type 0 where
 pub record HasRoom (tables : Tables) (next : Next) (own : Lowered) : Type 0 where
   pub scalars : next.scalars + own.scalars ≤ tables.scalars
 
+-- ---- arrays and current regions
+
+-- the tables have it, stored, with this storage
+pub record IsStored (tables : Tables) (stored : Stored) : Type 0 where
+  pub row : ArrayRow
+  pub found : slice_get tables.arrays stored.array ≡ Some row
+  pub kept : row.stored ≡ true
+  pub three : length row.dims ≡ 3
+  pub storage : storage_of row ≡ stored.storage
+
+abbrev pub AreStored : Tables → List Stored → Type 0
+AreStored tables [] = Unit {0}
+AreStored tables (stored ∷ arrays) = IsStored tables stored × AreStored tables arrays
+
+abbrev pub array_numbers : List Stored → List ℕ
+array_numbers arrays = map (λ stored. stored.array) arrays
+
+-- The slot has a region of this rank, with flood dimensions where that is known before the run.
+pub record IsCurrent (slots : List Region) (rank : ℕ) (slotted : Slotted) : Type 0 where
+  pub region : Region
+  pub found : slice_get slots slotted.slot ≡ Some region
+  pub is : IsRegion region
+  pub three : length region.dims ≡ 3
+  pub ranked : region.rank ≡ rank
+  pub flood : flood_of region ≡ slotted.flood
+
+abbrev pub IsCurrentIf : List Region → ℕ → Option Slotted → Type 0
+IsCurrentIf slots rank None = Unit {0}
+IsCurrentIf slots rank (Some slotted) = IsCurrent slots rank slotted
+
+-- All arrays of the store are stored ones, each by a number of its own; and current regions are in
+-- their slots.
+pub record IsHeld (tables : Tables) (arrays : List Stored) (currents : SlotCurrents)
+    (slots : List Region) : Type 0 where
+  pub stored : AreStored tables arrays
+  pub apart : Rises 0 (array_numbers arrays) (length tables.arrays)
+  pub one : IsCurrentIf slots 1 currents.one
+  pub two : IsCurrentIf slots 2 currents.two
+  pub three : IsCurrentIf slots 3 currents.three
+
 -- ---- states
 
 -- between statements no fold is awaited, and all values are integers of 64 bits
@@ -88,9 +132,10 @@ pub record Keeps (numbers : List ℕ) (next : Next) (before after : Whole) : Typ
   pub slots : (k : ℕ) → k < next.slots → slot_in after k ≡ slot_in before k
 
 -- The store is what is seen of a state, which is sound, and keeps what there was at the start of a
--- statement.
+-- statement; arrays and current regions are where code has them.
 pub record IsLike (tables : Tables) (spots : List Spot) (w : Where) (next : Next) (start : Whole)
     (store : Store) (whole : Whole) : Type 0 where
   pub seen : store ≡ seen_store spots w.numbers.arrays whole
   pub sound : IsSound tables whole
   pub kept : Keeps (numbered spots) next start whole
+  pub held : IsHeld tables w.numbers.arrays w.currents whole.slots

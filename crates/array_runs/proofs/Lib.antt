@@ -1,0 +1,12 @@
+pub mod PlaceLemmas
+pub mod GateLemmas
+pub mod StoredLemmas
+pub mod PartLemmas
+pub mod ElementLemmas
+pub mod CodedLemmas
+pub mod LikeLemmas
+pub mod MaskLemmas
+pub mod TargetLemmas
+pub mod AssignLemmas
+pub mod WholeLemmas
+pub mod FormLemmas

@@ -1,0 +1,38 @@
+-- Arrays that are assigned without operators over regions.
+use Rattle.std.specs.Prelude.{◌≡◌, ℕ, Option, Some, None, slice_get}
+use Rattle.zpl_nums.specs.declared.operators.Op.{Op}
+use Rattle.zpl_region.specs.declared.regions.Region.{Region}
+use Rattle.zpl_tree.specs.Syntax.{Expr, Name}
+use Rattle.zpl_names.specs.Sites.{Role, Assigned, handed}
+use Rattle.zpl_meaning.specs.Store.{ArrayAt, thing_of}
+use Rattle.zpl_meaning.specs.Points.{assigned_expr}
+use Rattle.zpl_meaning.specs.Context.{Place, over_at, reach_of, rank_in}
+use Rattle.zpl_meaning.specs.Proper.{HasCurrent}
+use Rattle.zpl_lowering.specs.Where.{Stored, Where}
+use Rattle.array_runs.specs.Reads.{EachMatches}
+use Rattle.array_runs.specs.Elementwise.{IsElementwise, IsReadableMask}
+
+abbrev pub IsWritable : Region → Option Stored → Type 0
+IsWritable region None = ⊥
+IsWritable region (Some stored) = EachMatches stored.storage.dims region.dims
+
+-- An array by its place in the store is assigned under the current region of its rank: it has flood
+-- dimensions where the region has them, and the value and the mask have a value at each tuple.
+pub record IsAssigned (w : Where) (place : Place) (role : Role) (target : ℕ) (value : Expr)
+    : Type 0 where
+  pub current : HasCurrent place.currents (handed (reach_of place) role)
+  pub ranked : rank_in place role value ≡ handed (reach_of place) role
+  pub writable : IsWritable (over_at place.currents (handed (reach_of place) role)).region
+      (slice_get w.numbers.arrays target)
+  pub masked : IsReadableMask w (over_at place.currents (handed (reach_of place) role)).region
+      (over_at place.currents (handed (reach_of place) role)).mask
+  pub elementwise : IsElementwise w (over_at place.currents (handed (reach_of place) role)).region
+      value
+
+-- the same of a statement, whose name stands for the array
+pub record IsArrayAssigned (w : Where) (place : Place) (name : Name) (op : Option Op) (value : Expr)
+    : Type 0 where
+  pub target : ℕ
+  pub home : Region
+  pub named : thing_of w.environment name.text ≡ Some (ArrayAt target home)
+  pub is : IsAssigned w place (Assigned name op) target (assigned_expr name op value)

@@ -1,0 +1,4 @@
+pub mod Reads
+pub mod Gates
+pub mod Elementwise
+pub mod Assigned
