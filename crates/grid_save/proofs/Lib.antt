@@ -1,0 +1,3 @@
+mod Examples
+pub mod StoreLemmas
+pub mod WriteLemmas

@@ -1,0 +1,5 @@
+pub mod Fault
+pub mod Kept
+pub mod Reads
+pub mod Saved
+pub mod Written
