@@ -28,7 +28,7 @@ ends_one : (ending : Option End) (kind : TrapKind) (line : ℕ) → ending ≡ S
 ends_one ending kind line a b = let no : Some Done ≡ Some (Trap kind line) = sym a ∙ b in cc
 
 module _ (run : Run) (report : Bool) (k : ℕ) where
-  run_one : {n m : ℕ} {told other : List ℕ} → RunCause run report k n told
+  pub run_one : {n m : ℕ} {told other : List ℕ} → RunCause run report k n told
       → RunCause run report k m other → n ≡ m
   run_one (done e) (done f) = refl
   run_one (done e) (trap kind line f) = absurd (ends_one _ kind line e.first f.first)
