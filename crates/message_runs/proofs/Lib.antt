@@ -2,4 +2,3 @@ pub mod PrintRows
 pub mod FoldRows
 pub mod OwnLemmas
 pub mod DeliverLemmas
-pub mod GatherRows
