@@ -149,7 +149,7 @@ uncoded_not_done text build a is e = fault_not_done (is (done_is_decided e)) e
 
 -- ---- a step
 module _ (seed : ℕ) (asked : Asked) where
-  execution_is : (work : Work) (code : Tables) → work.code ≡ Some code
+  pub execution_is : (work : Work) (code : Tables) → work.code ≡ Some code
       → execution_in work ≡ execution_with code work.counts.turns
   execution_is work code is =
       ap (λ (c : Option Tables). let made : Execution = record { code = c; turns = work.counts.turns } in made) is
@@ -162,77 +162,77 @@ module _ (seed : ℕ) (asked : Asked) where
 
   -- what came of the work on the grids so far and on this one
   abbrev Comes : List NamedGrid → Work → List ℕ → (List ℕ → Type 0) → (List ℕ → Type 0) → Type 0
-  Comes done work lines before after =
-      (more : List ℕ) × IsCame seed asked done work (lines ++ more) × Takes before more after
+  Comes gone work lines before after =
+      (more : List ℕ) × IsCame seed asked gone work (lines ++ more) × Takes before more after
 
-  no_lines : {done : List NamedGrid} {work : Work} {lines : List ℕ}
-      (before after : List ℕ → Type 0) → IsCame seed asked done work lines
-      → Takes before [] after → Comes done work lines before after
-  no_lines {done} {work} {lines} before after came none =
-      ([], subst (IsCame seed asked done work) (sym (append-nil lines)) came, none)
+  no_lines : {gone : List NamedGrid} {work : Work} {lines : List ℕ}
+      (before after : List ℕ → Type 0) → IsCame seed asked gone work lines
+      → Takes before [] after → Comes gone work lines before after
+  no_lines {gone} {work} {lines} before after came none =
+      ([], subst (IsCame seed asked gone work) (sym (append-nil lines)) came, none)
 
-  told_comes : {done : List NamedGrid} {last : Execution} {lines : List ℕ} (grid : NamedGrid)
+  told_comes : {gone : List NamedGrid} {last : Execution} {lines : List ℕ} (grid : NamedGrid)
       (new : Work) (code : Tables) (before after : List ℕ → Type 0)
-      → Went seed asked done last lines → IsNext done grid → new.code ≡ Some code
+      → Went seed asked gone last lines → IsNext gone grid → new.code ≡ Some code
       → IsRunOf seed asked grid code new.counts.turns
       → IsToldRun seed grid.name (run_of code asked []) new.counts.turns new.answer before after
-      → Comes (done ++ grid ∷ []) new lines before after
-  told_comes {done} {last} {lines} grid new code before after went next made run (lined ends is takes) =
+      → Comes (gone ++ grid ∷ []) new lines before after
+  told_comes {gone} {last} {lines} grid new code before after went next made run (lined ends is takes) =
       let line = line_for seed asked grid code new.counts.turns in (
         line,
-        going (subst (λ e. Went seed asked (done ++ grid ∷ []) e (lines ++ line))
+        going (subst (λ e. Went seed asked (gone ++ grid ∷ []) e (lines ++ line))
             (sym (execution_is new code made)) (one_more grid code new.counts.turns went run ends)) is,
         takes,
       )
-  told_comes {done} {last} {lines} grid new code before after went next made run (line_cut ends is front) = (
+  told_comes {gone} {last} {lines} grid new code before after went next made run (line_cut ends is front) = (
     front.front,
     stopped (put_failed grid code front.front went next made run ends front.is_front is)
         (λ e. omega (arith, e, ap status_of is)),
     front.takes,
   )
-  told_comes {done} {last} {lines} grid new code before after went next made run (otherwise end none) =
+  told_comes {gone} {last} {lines} grid new code before after went next made run (otherwise end none) =
       no_lines before after (stopped (ended_otherwise grid code went next made run end) end.other) none
 
-  pub step_comes : (done : List NamedGrid) (lines : List ℕ) (grid : NamedGrid) (old new : Work)
-      (before after : List ℕ → Type 0) → IsNext done grid
-      → Went seed asked done (execution_in old) lines → IsStep seed asked grid old new before after
-      → Comes (done ++ grid ∷ []) new lines before after
-  step_comes done lines grid old new before after next went (uncoded codes counts put why none) =
+  pub step_comes : (gone : List NamedGrid) (lines : List ℕ) (grid : NamedGrid) (old new : Work)
+      (before after : List ℕ → Type 0) → IsNext gone grid
+      → Went seed asked gone (execution_in old) lines → IsStep seed asked grid old new before after
+      → Comes (gone ++ grid ∷ []) new lines before after
+  step_comes gone lines grid old new before after next went (uncoded codes counts put why none) =
       no_lines before after
-      (stopped (without_code grid (subst (λ e. Went seed asked done e lines)
+      (stopped (without_code grid (subst (λ e. Went seed asked gone e lines)
       (execution_same old new codes counts) went) next put why)
       (uncoded_not_done _ _ new.answer why)) none
-  step_comes done lines grid old new before after next went (ran code made of_text counts told) =
+  step_comes gone lines grid old new before after next went (ran code made of_text counts told) =
       told_comes grid new code before after went next made
       (record { of_text = of_text; goes_on = counts.goes_on }) told
 
   -- the work on the grids so far, and the step if it goes on
-  pub going_comes : (done : List NamedGrid) (lines : List ℕ) (grid : NamedGrid) (old new : Work)
-      (before after : List ℕ → Type 0) → IsNext done grid → IsCame seed asked done old lines
+  pub going_comes : (gone : List NamedGrid) (lines : List ℕ) (grid : NamedGrid) (old new : Work)
+      (before after : List ℕ → Type 0) → IsNext gone grid → IsCame seed asked gone old lines
       → status_of old.answer ≡ DONE → IsStep seed asked grid old new before after
-      → Comes (done ++ grid ∷ []) new lines before after
-  going_comes done lines grid old new before after next (going went is) e step =
-      step_comes done lines grid old new before after next went step
-  going_comes done lines grid old new before after next (stopped why other) e step = absurd (other e)
+      → Comes (gone ++ grid ∷ []) new lines before after
+  going_comes gone lines grid old new before after next (going went is) e step =
+      step_comes gone lines grid old new before after next went step
+  going_comes gone lines grid old new before after next (stopped why other) e step = absurd (other e)
 
   done_is_zero : (a : Answer) → a ≡ answer.Stopped stop.Done None → status_of a ≡ DONE
   done_is_zero a is = ap status_of is
 
-  pub stopped_comes : (done more : List NamedGrid) (lines : List ℕ) (work : Work)
-      (told : List ℕ → Type 0) → IsCame seed asked done work lines → status_of work.answer ≢ DONE
+  pub stopped_comes : (gone more : List NamedGrid) (lines : List ℕ) (work : Work)
+      (told : List ℕ → Type 0) → IsCame seed asked gone work lines → status_of work.answer ≢ DONE
       → Comes more work lines told told
-  stopped_comes done more lines work told (going went is) other =
+  stopped_comes gone more lines work told (going went is) other =
       absurd (other (done_is_zero work.answer is))
-  stopped_comes done more lines work told (stopped why also) other =
+  stopped_comes gone more lines work told (stopped why also) other =
       no_lines told told (stopped why also) (takes_none told)
 
   -- four steps, one behind another
-  pub comes_join : (done : List NamedGrid) (work : Work) (lines a b c d : List ℕ)
-      (u v x y z : List ℕ → Type 0) → IsCame seed asked done work ((((lines ++ a) ++ b) ++ c) ++ d)
-      → Takes u a v → Takes v b x → Takes x c y → Takes y d z → Comes done work lines u z
-  comes_join done work lines a b c d u v x y z came f g h i = (
+  pub comes_join : (gone : List NamedGrid) (work : Work) (lines a b c d : List ℕ)
+      (u v x y z : List ℕ → Type 0) → IsCame seed asked gone work ((((lines ++ a) ++ b) ++ c) ++ d)
+      → Takes u a v → Takes v b x → Takes x c y → Takes y d z → Comes gone work lines u z
+  comes_join gone work lines a b c d u v x y z came f g h i = (
     ((a ++ b) ++ c) ++ d,
-    subst (IsCame seed asked done work) (regroup lines a b c d) came,
+    subst (IsCame seed asked gone work) (regroup lines a b c d) came,
     takes_more u y z ((a ++ b) ++ c) d (takes_more u x y (a ++ b) c (takes_more u v x a b f g) h) i,
   )
 
@@ -265,15 +265,15 @@ module _ (seed : ℕ) (asked : Asked) where
   abbrev Counted : Option Tables → Counts → Type 0
   Counted code counts = MatchOption code (counts ≡ no_counts) (IsLastCode seed asked counts)
 
-  pub step_counted : (done : List NamedGrid) (grid : NamedGrid) (old new : Work)
-      (before after : List ℕ → Type 0) → IsNext done grid → IsCounted seed asked old
+  pub step_counted : (gone : List NamedGrid) (grid : NamedGrid) (old new : Work)
+      (before after : List ℕ → Type 0) → IsNext gone grid → IsCounted seed asked old
       → IsStep seed asked grid old new before after → IsCounted seed asked new
-  step_counted done grid old new before after next is (uncoded codes counts put why none) =
+  step_counted gone grid old new before after next is (uncoded codes counts put why none) =
       subst (λ c. Counted c new.counts) (sym codes)
       (subst (λ n. Counted old.code n) (sym counts) is)
-  step_counted done grid old new before after next is (ran code made of_text counts told) =
+  step_counted gone grid old new before after next is (ran code made of_text counts told) =
       subst (λ c. Counted c new.counts) (sym made) (record {
-        before = done;
+        before = gone;
         grid = grid;
         next = next;
         of_text = of_text;

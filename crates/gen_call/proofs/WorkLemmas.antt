@@ -175,9 +175,9 @@ module _ (words : List (List ℕ)) (seed : ℕ) (asked : Asked) (given : IsGen w
         → work.answer ≡ answer.PutFailed → TakesLinesFront words (execution_in work) before after
     stop_cut (without_code grid went next put why) takes e = absurd (put e)
     stop_cut (ended_otherwise grid code went next made run end) takes e = absurd (end.put e)
-    stop_cut (put_failed {done = done} {last = last} {lines = lines} grid code front went next made run ends is_front is) takes e =
+    stop_cut (put_failed {done = gone} {last = last} {lines = lines} grid code front went next made run ends is_front is) takes e =
         gens_with (record {
-          so_far = done;
+          so_far = gone;
           last = last;
           lines = lines;
           grid = grid;

@@ -108,12 +108,12 @@ fn run_on<'a, O: Sink>(
     requires short { length drawn.text.now ≤ MOST_SOURCE }
     requires asked { CanBeMet (asked_in drawn.command.asked) }
     requires quiet { drawn.command.asked.report ≡ false }
-    ensures came { (done : List Claimed) (lines : List ℕ) → IsNext done (seen grid.entry) →
+    ensures came { (done : List Claimed) (lines : List ℕ) → IsNext done (seen grid) →
         IsCame drawn.entry.command.seed (asked_in drawn.entry.command.asked) done before.entry
         lines → (more : List ℕ) × IsCame drawn.entry.command.seed
-        (asked_in drawn.entry.command.asked) (done ++ seen grid.entry ∷ []) result (lines ++ more)
+        (asked_in drawn.entry.command.asked) (done ++ seen grid ∷ []) result (lines ++ more)
         × Takes (O.tells out.old) more (O.tells out.new) }
-    ensures counted { (done : List Claimed) → IsNext done (seen grid.entry) →
+    ensures counted { (done : List Claimed) → IsNext done (seen grid) →
         IsCounted drawn.entry.command.seed (asked_in drawn.entry.command.asked) before.entry →
         IsCounted drawn.entry.command.seed (asked_in drawn.entry.command.asked) result }
     ensures puts { PutsMore before.entry.answer result.answer
@@ -140,7 +140,7 @@ fn run_next<'a, O: Sink>(
     requires short { length drawn.text.now ≤ MOST_SOURCE }
     requires asked { CanBeMet (asked_in drawn.command.asked) }
     requires quiet { drawn.command.asked.report ≡ false }
-    ensures came { IsStep drawn.entry.command.seed (asked_in drawn.entry.command.asked) (seen grid.entry)
+    ensures came { IsStep drawn.entry.command.seed (asked_in drawn.entry.command.asked) (seen grid)
         before.entry result (O.tells out.old) (O.tells out.new) }
     ensures puts { CountsFaults (result.answer ≡ Answer.PutFailed)
         (O.faults out.old) (O.faults out.new) }

@@ -42,6 +42,6 @@ returns-clause-told g c =
     told_line c.args.seed c.args.name.now (run_of c.args.code (asked_in c.args.asked) [])
     c.args.asked.report c.requires.quiet c.run_round-work.result.answer
     c.run_round-work.result.counts c.new-count.result c.run_round-work.new.out c.new-count.ensures
-    c.run_round-work.ensures.ran c.run_round-work.ensures.puts c.put_line.result
-    (g.O.Sink.tells c.args.out.now) (g.O.Sink.tells c.put_line.new.out)
-    (c.is_done.ensures.0 c.if-not-is_done.false) c.put_line.ensures.put
+    c.run_round-work.ensures.ran c.run_round-work.ensures.puts c.put_line-work.result
+    (g.O.Sink.tells c.args.out.now) (g.O.Sink.tells c.put_line-work.new.out)
+    (c.is_done.ensures.0 c.if-not-is_done.false) c.put_line-work.ensures.put

@@ -27,18 +27,18 @@ returns-in-Ok-clause-came g c =
     c.run_and_tell.ensures.code (c.in-Ok.ensures {u = tt}).code c.run_and_tell.ensures.counts
     c.run_and_tell.ensures.told
 
-pub returns-in-Err-clause-came : goal.returns-in-Err-clause-came
-returns-in-Err-clause-came g c =
+pub returns-clause-came : goal.returns-clause-came
+returns-clause-came g c =
     uncoded_step c.args.drawn.command.seed (asked_in c.args.drawn.command.asked)
     (asked_in c.on_grid-asked.result) (seen c.args.grid) c.args.drawn.text.now
     c.args.before (record c.args.before { answer = c.in-Err.answer })
     (g.O.Sink.tells c.args.out.now) c.on_grid-asked.ensures c.requires.text refl refl
     (c.in-Err.ensures {u = tt}).put (c.in-Err.ensures {u = tt}).none
 
-pub returns-in-Err-clause-puts : goal.returns-in-Err-clause-puts
-returns-in-Err-clause-puts g c =
+pub returns-clause-puts : goal.returns-clause-puts
+returns-clause-puts g c =
     quiet_puts c.in-Err.answer (g.O.Sink.faults c.args.out.now) (c.in-Err.ensures {u = tt}).put
 
-pub returns-in-Err-clause-stops : goal.returns-in-Err-clause-stops
-returns-in-Err-clause-stops g c =
+pub returns-clause-stops : goal.returns-clause-stops
+returns-clause-stops g c =
     quiet_stops c.in-Err.answer (g.O.Sink.has_failed c.args.out.now) (c.in-Err.ensures {u = tt}).put
