@@ -9,10 +9,10 @@ trap 'rm -rf "$place"' EXIT
 [ -x "$program" ] || (cd "$top/crates/zplgrid" && rt run -- run "$top/examples/sum.zpl") >/dev/null 2>&1
 [ -x "$program" ] || exit 1
 
-# the least seconds of processor time of seven runs, each cut short behind its first turn
+# the least seconds of processor time of seven runs with these words, each cut short behind its first turn
 seconds() {
     for _ in 1 2 3 4 5 6 7; do
-        bash -c 'TIMEFORMAT="%U"; time "$@" >/dev/null 2>&1' measure "$program" run "$1" grid="$2" turns=1 2>&1
+        bash -c 'TIMEFORMAT="%U"; time "$@" >/dev/null 2>&1' measure "$program" run "$@" turns=1 2>&1
     done | sort -n | head -n 1
 }
 
@@ -52,12 +52,15 @@ ratio() {
     awk -v one="$1" -v other="$2" 'BEGIN { printf "%.2f", one / other }'
 }
 
-half=$(seconds "$(arrays 4998)" 1)
-whole=$(seconds "$(arrays 9996)" 1)
-wide=$(seconds "$(arrays 9996)" 8x8)
-few=$(seconds "$(scalars 5000)" 2)
-many=$(seconds "$(scalars 20000)" 2)
-mebibyte=$(seconds "$(long)" 2x2)
+half=$(seconds "$(arrays 4998)" grid=1)
+whole=$(seconds "$(arrays 9996)" grid=1)
+wide=$(seconds "$(arrays 9996)" grid=8x8)
+half_lettered=$(seconds "$(arrays 4998)" grid=8x8 opt=fcrmet)
+lettered=$(seconds "$(arrays 9996)" grid=8x8 opt=fcrmet)
+few=$(seconds "$(scalars 5000)" grid=2)
+many=$(seconds "$(scalars 20000)" grid=2)
+mebibyte=$(seconds "$(long)" grid=2x2)
 echo "9,998 statements over arrays: $half s; 19,994: $whole s, $(ratio "$whole" "$half") times as long; for 64 processors: $wide s, $(ratio "$wide" "$whole") times as long"
+echo "with all letters for 64 processors: $half_lettered s; $lettered s, $(ratio "$lettered" "$half_lettered") times as long as the half, $(ratio "$lettered" "$wide") times as long as without letters"
 echo "5,000 statements over scalars: $few s; 20,000: $many s, $(ratio "$many" "$few") times as long"
 echo "a source of $(wc -c <"$place/long.zpl") bytes: $mebibyte s"
