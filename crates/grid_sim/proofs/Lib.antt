@@ -8,3 +8,4 @@ pub mod RunLemmas
 mod PlaceLemmas
 mod TurnLemmas
 mod StartLemmas
+mod RestoreLemmas

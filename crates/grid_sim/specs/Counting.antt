@@ -4,11 +4,12 @@ use Rattle.node_turn.specs.declared.steps.Traffic.{Traffic}
 use Rattle.node_turn.specs.declared.steps.Traffic.TheVariants as traffic
 use Rattle.grid_sim.specs.declared.counts.Counts.{Counts}
 
--- a turn sends at most one message, of fewer than 2^64 words
+-- A turn sends at most one message, of fewer than 2^64 words. Counts that a grid was restored with
+-- are within limits of their own.
 pub record AreCounts (counts : Counts) : Type 0 where
   pub turns : counts.turns ≤ 2 ^ 63
-  pub sends : counts.sends ≤ counts.turns
-  pub words : counts.words ≤ counts.sends * 2 ^ 64
+  pub sends : counts.sends ≤ counts.turns + 2 ^ 62
+  pub words : counts.words ≤ counts.turns * 2 ^ 64 + 2 ^ 126
 
 abbrev pub with_turn : Counts → Counts
 with_turn counts = record counts { turns = counts.turns + 1 }

@@ -36,7 +36,7 @@ fn start_locals(
 }
 
 /// Of none of so many processors the partners are known.
-fn none_known(alloc: Global, count: u32) -> Result<Vec<Partners>, AllocError>
+pub(crate) fn none_known(alloc: Global, count: u32) -> Result<Vec<Partners>, AllocError>
     ensures { IfOk result (λ partners. partners.items ≡ replicate count nothing_known) }
 {
     let mut partners = Vec::new(alloc);
