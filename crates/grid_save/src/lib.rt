@@ -4,6 +4,11 @@
 
 mod faults;
 mod laws;
+mod locals;
+mod stores;
+mod writes;
 
 pub use faults::SaveFault;
 pub use laws::a_grid_has_one_text;
+pub use locals::write_local;
+pub use writes::write_save;

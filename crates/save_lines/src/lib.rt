@@ -5,5 +5,7 @@
 #![tactic(auto)]
 
 mod lines;
+mod writes;
 
 pub use lines::{BoxDim, EndWord, ProcRow, SavedLine};
+pub use writes::write_line;
