@@ -71,4 +71,15 @@ proc_more old a b c d e f g h new keyword p w1 v1 w2 v2 w3 v3 w4 v4 w5 v5 w6 v6 
 pub dim_more : (old a b c d e f new lo hi step align u v w : List ℕ) → a ≡ old ++ spaced lo → b ≡ a ++ u → c ≡ b ++ hi → d ≡ c ++ v →
     e ≡ d ++ step → f ≡ e ++ w → new ≡ f ++ align → new ≡ old ++ spaced (lo ++ (u ++ (hi ++ (v ++ (step ++ (w ++ (align ++ [])))))))
 dim_more old a b c d e f new lo hi step align u v w is_a is_b is_c is_d is_e is_f is_new =
-    rw (is_new, is_f, is_e, is_d, is_c, is_b, is_a) (simp (append_assoc, append-nil) refl)
+    let one : new ≡ e ++ (w ++ align) = is_new ∙ (ap (λ t. t ++ align) is_f ∙ append_assoc e w align) in
+    let two : new ≡ d ++ (step ++ (w ++ align)) = one ∙ (ap (λ t. t ++ (w ++ align)) is_e ∙ append_assoc d step (w ++ align)) in
+    let three : new ≡ c ++ (v ++ (step ++ (w ++ align))) =
+    two ∙ (ap (λ t. t ++ (step ++ (w ++ align))) is_d ∙ append_assoc c v (step ++ (w ++ align))) in
+    let four : new ≡ b ++ (hi ++ (v ++ (step ++ (w ++ align)))) =
+    three ∙ (ap (λ t. t ++ (v ++ (step ++ (w ++ align)))) is_c ∙ append_assoc b hi (v ++ (step ++ (w ++ align)))) in
+    let five : new ≡ a ++ (u ++ (hi ++ (v ++ (step ++ (w ++ align))))) =
+    four ∙ (ap (λ t. t ++ (hi ++ (v ++ (step ++ (w ++ align))))) is_b ∙ append_assoc a u (hi ++ (v ++ (step ++ (w ++ align))))) in
+    let six : new ≡ old ++ (spaced lo ++ (u ++ (hi ++ (v ++ (step ++ (w ++ align)))))) =
+    five ∙ (ap (λ t. t ++ (u ++ (hi ++ (v ++ (step ++ (w ++ align)))))) is_a
+    ∙ append_assoc old (spaced lo) (u ++ (hi ++ (v ++ (step ++ (w ++ align)))))) in
+    six ∙ sym (ap (λ t. old ++ (spaced lo ++ (u ++ (hi ++ (v ++ (step ++ (w ++ t))))))) (append-nil align))

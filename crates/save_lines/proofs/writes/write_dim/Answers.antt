@@ -9,9 +9,9 @@ use Rattle.save_lines.proofs.writes.write_dim.Goals as goal
 pub returns-in_ok-extend_from_slice-in-Range-3 : goal.returns-in_ok-extend_from_slice-in-Range-3
 returns-in_ok-extend_from_slice-in-Range-3 c =
     let r = c.in-Range in
-    ok_more c.write_number-3.result _ _ c.write_number-3.ensures (λ last.
-    subst (λ d. c.write_number-3.new.into.items ≡ c.args.into.now.items ++ spaced (dim_word d)) (sym r.is)
+    ok_more c.write_number-in-Range-2.result _ _ c.write_number-in-Range-2.ensures (λ last.
+    subst (λ d. c.write_number-in-Range-2.new.into.items ≡ c.args.into.now.items ++ spaced (dim_word d)) (sym r.is)
     (dim_more c.args.into.now.items c.write_value.new.into.items c.extend_from_slice.new.self.items c.write_number.new.into.items
-    c.extend_from_slice-2.new.self.items c.write_number-2.new.into.items c.extend_from_slice-3.new.self.items
-    c.write_number-3.new.into.items (signed_decimal r.lo) (signed_decimal r.hi) (signed_decimal r.step) (signed_decimal r.align)
+    c.extend_from_slice-in-Range.new.self.items c.write_number-in-Range.new.into.items c.extend_from_slice-in-Range-2.new.self.items
+    c.write_number-in-Range-2.new.into.items (signed_decimal r.lo) (signed_decimal r.hi) (signed_decimal r.step) (signed_decimal r.align)
     (codes "..") (codes ":") (codes ":") (search rules) (search rules) (search rules) (search rules) (search rules) (search rules) last))
