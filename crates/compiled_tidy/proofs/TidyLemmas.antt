@@ -14,15 +14,15 @@ use Rattle.compiled_sizes.proofs.BaseLemmas.{members_once, none_unflat, shifts_o
 use Rattle.compiled_sizes.proofs.CheckLemmas.{still_undecided}
 use Rattle.compiled_sizes.proofs.LayoutLemmas.{laid_out, trees}
 use Rattle.compiled_sizes.proofs.PassLemmas.{IsEnded, all_compiled}
-use Rattle.compiled_tidy.specs.Lowered.{IsLoweredTidily, flat_of}
+use Rattle.compiled_tidy.specs.Lowered.{IsLoweredTidily, lowered_for}
 use Rattle.compiled_tidy.proofs.FlatLemmas.{can_be_fused, first_fits}
 use Rattle.compiled_tidy.proofs.LetterLemmas.{all_contracted, all_early, all_fused, all_merged, all_new}
 
 ended : (build : Build) (program : Program) → IsLowered build program
-    → IsEnded (compiled build program) (9 * code_size (flat_of build program))
-    (count_of is_counted (flat_of build program) + 2 * loops_on_themselves (flat_of build program))
+    → IsEnded (compiled build program) (9 * code_size (lowered_for build program))
+    (count_of is_counted (lowered_for build program) + 2 * loops_on_themselves (lowered_for build program))
 ended build program is =
-    all_compiled build (flat_of build program)
+    all_compiled build (lowered_for build program)
     (members_once program build.settings is.inline is.flat)
     (shifts_once program build.settings is.inline is.flat)
     (none_unflat program build.settings is.inline is.flat)
@@ -53,13 +53,13 @@ tidy origin is =
       votes = (ended build program lowered).few_votes;
       undecided = still_undecided build program;
       fused = λ asked.
-          all_fused build (flat_of build program)
-          (can_be_fused (flat_of build program) lowered.flat is.checks) asked;
+          all_fused build (lowered_for build program)
+          (can_be_fused (lowered_for build program) lowered.flat is.checks) asked;
       contracted = λ asked.
-          all_contracted build (flat_of build program)
-          (first_fits (flat_of build program) lowered.flat build.options.fuse) asked;
-      not_redundant = λ asked. all_new build (flat_of build program) asked;
-      merged = λ asked. all_merged build (flat_of build program) asked;
-      early = λ asked. all_early build (flat_of build program) asked;
+          all_contracted build (lowered_for build program)
+          (first_fits (lowered_for build program) lowered.flat build.options.fuse) asked;
+      not_redundant = λ asked. all_new build (lowered_for build program) asked;
+      merged = λ asked. all_merged build (lowered_for build program) asked;
+      early = λ asked. all_early build (lowered_for build program) asked;
       by_trees = λ asked. trees build program asked;
     }

@@ -13,8 +13,8 @@ use Rattle.zpl_claims.specs.Origin.{Origin}
 use Rattle.compiled_sizes.specs.Lowered.{IsLowered}
 
 -- the lowered tables of a program
-abbrev pub flat_of : Build → Program → Tables
-flat_of build program = flat_tables program build.settings
+abbrev pub lowered_for : Build → Program → Tables
+lowered_for build program = flat_tables program build.settings
 
 -- The program is lowered to a flat program, with at most so many tokens. Its stored arrays are the
 -- program's. Few of its loops read with a shift what they put. And wherever checks alone stand
@@ -22,7 +22,7 @@ flat_of build program = flat_tables program build.settings
 pub record IsLoweredTidily (origin : Origin) : Type 0 where
   pub lowered : IsLowered origin.build origin.program
   pub tokens : length (program_words origin.program) ≤ origin.tokens
-  pub boxes : (arrangement_of (flat_of origin.build origin.program)).boxes ≡ origin.boxes
-  pub themselves : loops_on_themselves (flat_of origin.build origin.program) ≤
+  pub boxes : (arrangement_of (lowered_for origin.build origin.program)).boxes ≡ origin.boxes
+  pub themselves : loops_on_themselves (lowered_for origin.build origin.program) ≤
       16 * (other_size origin.program origin.tokens + 1)
-  pub checks : ChecksWhatFollows (flat_of origin.build origin.program)
+  pub checks : ChecksWhatFollows (lowered_for origin.build origin.program)

@@ -11,7 +11,7 @@ ghost use Rattle.zpl_claims.specs.Build.{Build};
 ghost use Rattle.zpl_claims.specs.Origin.{Origin};
 ghost use Rattle.zpl_claims.specs.Tidy.{IsTidy};
 ghost use Rattle.zpl_compile.specs.Compile.{compiled};
-ghost use Rattle.compiled_tidy.specs.Lowered.{IsLoweredTidily, flat_of};
+ghost use Rattle.compiled_tidy.specs.Lowered.{IsLoweredTidily, lowered_for};
 
 /// The code of a program is free of what each optimisation leaves out that is asked for, whichever
 /// others are: of repeated exchanges, of exchanges that could be one, and of starts that could be
@@ -19,10 +19,10 @@ ghost use Rattle.compiled_tidy.specs.Lowered.{IsLoweredTidily, flat_of};
 /// loops that could be one, where besides wherever checks alone stand between two loops over one
 /// slot the references of the second one are among theirs.
 pub fn letters_are_kept()
-    ensures fused { (build : Build) (program : Program) → IsFlat (flat_of build program) →
-        ChecksWhatFollows (flat_of build program) → build.options.fuse ≡ true →
+    ensures fused { (build : Build) (program : Program) → IsFlat (lowered_for build program) →
+        ChecksWhatFollows (lowered_for build program) → build.options.fuse ≡ true →
         IsFused (compiled build program) }
-    ensures contracted { (build : Build) (program : Program) → IsFlat (flat_of build program) →
+    ensures contracted { (build : Build) (program : Program) → IsFlat (lowered_for build program) →
         build.options.contract ≡ true → IsContracted (compiled build program) }
     ensures not_redundant { (build : Build) (program : Program) →
         build.options.redundant ≡ true → HasNoRepeats (compiled build program) }

@@ -83,7 +83,8 @@ pub fn on_grids<'a, O: Sink>(
         (more : List ℕ) × IsCame drawn.entry.command.seed
         (asked_in drawn.entry.command.asked) grids result (lines ++ more)
         × Takes (O.tells out.old) more (O.tells out.new) }
-    ensures counted { IsCounted drawn.entry.command.seed (asked_in drawn.entry.command.asked) before.entry →
+    ensures counted { IsCounted drawn.entry.command.seed (asked_in drawn.entry.command.asked)
+        before.entry →
         IsCounted drawn.entry.command.seed (asked_in drawn.entry.command.asked) result }
     ensures puts { PutsMore before.entry.answer result.answer
         (O.faults out.old) (O.faults out.new) }

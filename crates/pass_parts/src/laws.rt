@@ -22,9 +22,9 @@ pub fn loops_are_joined_wherever_they_can_be()
     ensures { (code : Code) → CanBeFused code → IsFused (fused code) }
 {}
 
-/// Where checks alone stand between two loops over one slot, let the references of the second one be
-/// among theirs. Then so they are behind values that go through temporaries, of loops that could be
-/// joined; and where checks that always pass are left out, the references are known.
+/// Where checks alone stand between two loops over one slot, let the references of the second one
+/// be among theirs. Then so they are behind values that go through temporaries, of loops that could
+/// be joined; and where checks that always pass are left out, the references are known.
 pub fn checks_say_what_is_joined()
     ensures normalised { (code : Code) → Fits code → ChecksWhatFollows code →
         ChecksWhatItJoins (normalised code) }

@@ -23,9 +23,9 @@ pub fn rows_have_orders()
 /// For each bounded run of code that fits, some order brings all processors from their start to
 /// where it stops, unless it is wrong there or directly behind: what is printed is what the run
 /// prints; they have ended as it does, with all links empty, or each rests or has made at least as
-/// many moves as the run made jumps and tests, or as a loop that wants more was given turns; and none
-/// is stuck. Where the run wants no more, each has made at most so many moves for each row that the
-/// run may come to.
+/// many moves as the run made jumps and tests, or as a loop that wants more was given turns; and
+/// none is stuck. Where the run wants no more, each has made at most so many moves for each row
+/// that the run may come to.
 pub fn plans_come_in_step()
     ensures { (code : Code) (links : Option ℕ) → IsCapacity links → Fits code
         → ComesInStep code links }
