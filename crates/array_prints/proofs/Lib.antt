@@ -1,2 +1,2 @@
-mod PartLemmas
-mod TextLemmas
+pub mod PartLemmas
+pub mod TextLemmas

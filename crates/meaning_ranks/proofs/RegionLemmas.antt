@@ -332,7 +332,7 @@ module _ (globals : List Entry) (once : repeated [] (map (λ entry. entry.name) 
           next (dim_shape current k first) (dims_shape current (suc k) rest) (dims_count rest)
           (counted rest current (suc k))
 
-  inner_fits : (inner : Inner) (earlier : List Entry) (known : Known)
+  pub inner_fits : (inner : Inner) (earlier : List Entry) (known : Known)
       → Pairs earlier known.regions → Extends earlier
       → Fits (declared_shape (declaring [] earlier) inner) (inner_of known inner)
   inner_fits (Rexpr pre (NamedRegion name) post) earlier known h front =
