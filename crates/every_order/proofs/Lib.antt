@@ -1,0 +1,4 @@
+pub mod PrintLemmas
+pub mod RoundLemmas
+pub mod GoodLemmas
+pub mod TimeLemmas
