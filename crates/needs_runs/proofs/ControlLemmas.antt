@@ -30,6 +30,7 @@ use Rattle.flat_form.proofs.WordLemmas.{ReadsSame, value_same}
 use Rattle.plan_meaning.specs.Abreast.{Abreast, are_none, go_where, locals_of}
 use Rattle.plan_meaning.specs.Act as plan
 use Rattle.plan_meaning.specs.Act.{control_of, controlled_as, go_one_way, is_ending, is_way, shares_on}
+use Rattle.plan_meaning.proofs.SlotLemmas.{slots-Decides}
 use Rattle.needs_runs.specs.Holds.{Holds}
 use Rattle.row_runs.specs.Rows.{AreEffects, BothGo, BothStop, BothLeap, OldWrong}
 use Rattle.needs_runs.proofs.HoldsLemmas.{both_parts, both_true, every_all, holds_as, joined_same, same_number}
@@ -215,6 +216,9 @@ module _ (code : Tables) (whole : Whole) (all : Abreast) (some : 0 < processors 
     flights = holds.flights;
   }
 
+  own_slots : (p : ℕ) → p < processors code → (regs p).slots ≡ whole.slots
+  own_slots p below = (holds.own p below).slots
+
   -- ---- what the row does
   module _ (row : Instr) where
     abbrev ways : ℕ → Control
@@ -229,31 +233,34 @@ module _ (code : Tables) (whole : Whole) (all : Abreast) (some : 0 < processors 
         (subst (λ d. is_way (c 0) d ≡ true) (sym (are p below)) (is p below)))
 
     went : (c : ℕ → Registers) (next : Whole) (other : Abreast) → AllAre ways (λ p. Steps (c p))
+        → ((p : ℕ) → p < processors code → (c p).slots ≡ next.slots)
         → ((p : ℕ) → p < processors code
         → other.shares p ≡ plan.with_registers (all.shares p) (c p))
         → other.flights ≡ [] → Holds code next other
         → AreEffects (Holds code) (Does (Goes [] next)) (plan.controlled code row all)
-    went c next other are same quiet held =
+    went c next other are slots same quiet held =
         subst (λ d. AreEffects (Holds code) (Does (Goes [] next)) (controlled_as code row all d))
         (sym (are 0 some))
         (subst (λ b. AreEffects (Holds code) (Does (Goes [] next)) (Does (go_where b [] (shares_on code row all))))
-        (sym (one_way (λ p. Steps (c p)) are (λ p below. refl)))
+        (sym (one_way (λ p. Steps (c p)) are (λ p below.
+        (slots-Decides (c 0).slots (c p).slots).1 (slots 0 some ∙ sym (slots p below)))))
         (BothGo (holds_as code next other (shares_on code row all) some
         (λ p below. ap (λ d. plan.with_registers (all.shares p) (plan.registers_or d (regs p))) (are p below) ∙ sym (same p below))
         holds.flights held)))
 
     pub way_agrees : (c : Control) → Way c ways → AreEffects (Holds code) (flat.controlled whole c) (plan.controlled code row all)
-    way_agrees c (Stays is) = went regs whole all is (λ p below. refl) holds.flights holds
+    way_agrees c (Stays is) = went regs whole all is own_slots (λ p below. refl) holds.flights holds
     way_agrees c (Sets scalar value settled is) =
         went (λ p. record (regs p) { scalars = slice_set (regs p).scalars scalar value })
         (record whole { scalars = slice_set whole.scalars scalar value })
         (record all { shares = λ p. record (all.shares p) { scalars = slice_set (all.shares p).scalars scalar value } })
-        is (λ p below. refl) holds.flights (scalar_set scalar value settled)
+        is own_slots (λ p below. refl) holds.flights (scalar_set scalar value settled)
     way_agrees c (Fixes slot rank region there fits is) =
         went (λ p. record (regs p) { slots = slice_set (regs p).slots slot region })
         (record whole { slots = slice_set whole.slots slot region })
         (record all { shares = λ p. record (all.shares p) { slots = slice_set (all.shares p).slots slot region } })
-        is (λ p below. refl) holds.flights (slot_set slot rank region there fits)
+        is (λ p below. ap (λ slots. slice_set slots slot region) (own_slots p below))
+        (λ p below. refl) holds.flights (slot_set slot rank region there fits)
     way_agrees c (Leads goal is) =
         subst (λ d. AreEffects (Holds code) (run.Leaps goal) (controlled_as code row all d)) (sym (is 0 some))
         (subst (λ b. AreEffects (Holds code) (run.Leaps goal) (plan.leaps_where b goal))

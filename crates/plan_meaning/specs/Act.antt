@@ -1,13 +1,18 @@
 -- What each row of node code does on all processors in lock step, and bounded runs of plans.
 use Rattle.std.specs.Prelude.{ℕ, ◌==◌, Bool, true, false, ◌&&◌, ℤ, List, [], ◌∷◌, ◌++◌, Option}
 use Rattle.std.specs.Prelude.{Some, None, slice_get, slice_set}
+use Rattle.std.specs.Cmp.Lexicographic.{pointwise}
 use Rattle.std.specs.List.{filter_map}
+use Rattle.std.specs.Ordering.{int_eq}
 use Rattle.zpl_nums.specs.declared.ends.End.{End}
 use Rattle.zpl_nums.specs.declared.ends.End.TheVariants.{Done, Trap}
 use Rattle.zpl_nums.specs.declared.ends.TrapKind.{TrapKind}
 use Rattle.zpl_nums.specs.declared.ends.TrapKind.TheVariants as kind
 use Rattle.zpl_nums.specs.declared.folds.Fold.{Fold}
 use Rattle.zpl_nums.specs.Fold.{joined}
+use Rattle.zpl_region.specs.declared.dims.Dim.{Dim}
+use Rattle.zpl_region.specs.declared.dims.Dim.TheVariants as dim
+use Rattle.zpl_region.specs.declared.regions.Region.{Region}
 use Rattle.node_form.specs.declared.instructions.Instr.{Instr}
 use Rattle.node_form.specs.declared.instructions.Instr.TheVariants as instr
 use Rattle.node_form.specs.declared.tables.Tables.{Tables}
@@ -51,8 +56,19 @@ is_ending (Trap kind line) (Trap other at) =
     (kind_number kind == kind_number other) && (line == at)
 is_ending one other = false
 
+-- regions that are told alike
+abbrev pub is_dim : Dim → Dim → Bool
+is_dim (dim.Range lo hi step align) (dim.Range low high by at) =
+    int_eq lo low && (int_eq hi high && (int_eq step by && int_eq align at))
+is_dim dim.Flood dim.Flood = true
+is_dim one other = false
+
+abbrev pub is_region : Region → Region → Bool
+is_region one other = (one.rank == other.rank) && pointwise is_dim one.dims other.dims
+
+-- on, with the same regions in all slots; to one goal; or to one end
 abbrev pub is_way : Control → Control → Bool
-is_way (control.Steps one) (control.Steps other) = true
+is_way (control.Steps one) (control.Steps other) = pointwise is_region one.slots other.slots
 is_way (control.Leaps goal) (control.Leaps other) = goal == other
 is_way (control.Ends ending) (control.Ends other) = is_ending ending other
 is_way one other = false

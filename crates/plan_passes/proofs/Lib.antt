@@ -14,4 +14,3 @@ pub mod EarlyRunLemmas
 pub mod UnitLemmas
 pub mod UnitRunLemmas
 pub mod WithUnitsLemmas
-mod Examples

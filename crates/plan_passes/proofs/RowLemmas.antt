@@ -122,7 +122,7 @@ module _ (code : Tables) (links : Option ℕ) (n : ℕ) where
     tests_too : (a b : Registers) (v w : Bool)
         → is_way (branched a v goal) (branched b w goal) ≡ true
         → is_way (branched a v (moved goal)) (branched b w (moved goal)) ≡ true
-    tests_too a b true true e = refl
+    tests_too a b true true e = e
     tests_too a b true false e = absurd (true≢false (sym e))
     tests_too a b false true e = absurd (true≢false (sym e))
     tests_too a b false false e = same_number (moved goal)
