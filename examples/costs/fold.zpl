@@ -1,0 +1,11 @@
+-- A full reduction: all processors fold their own part, and learn the whole from processor 0.
+program fold;
+config var n : integer = 16;
+region R = [1..n];
+var A : [R] integer;
+    total : integer;
+procedure fold();
+[R] begin
+  A := Index1;
+  total := +<<A;
+end;

@@ -1,0 +1,10 @@
+-- A scan: totals of blocks go along the processors, one after another.
+program scan;
+config var n : integer = 16;
+region R = [1..n];
+var A, B : [R] integer;
+procedure scan();
+[R] begin
+  A := Index1;
+  B := +||A;
+end;
