@@ -11,3 +11,5 @@ pub mod GivenLemmas
 pub mod StorageLemmas
 pub mod WholeLemmas
 pub mod GridLemmas
+pub mod ReadLemmas
+pub mod ApartLemmas

@@ -1,7 +1,10 @@
 //! The laws of programs that are lowered to flat ones.
 ghost use Rattle.std.specs.Prelude.{◌++◌, ℕ, List};
+ghost use Rattle.zpl_text.specs.declared.tokens.Token.{Token};
+ghost use Rattle.zpl_text.specs.Tokens.{IsTokens};
 ghost use Rattle.zpl_tree.specs.Grammar.{IsProgram};
 ghost use Rattle.zpl_tree.specs.Syntax.{Program};
+ghost use Rattle.zpl_grammar.specs.Texts.{IsTreeOf};
 ghost use Rattle.zpl_names.specs.Accepted.{IsFaultless};
 ghost use Rattle.zpl_binding.specs.Bound.{IsAcceptedWith};
 ghost use Rattle.zpl_binding.specs.Settings.{Setting};
@@ -22,6 +25,7 @@ use zpl_names::{
     faultless_programs_leave_nothing_open, procedures_are_there, ranks_are_at_most_three,
 };
 use zpl_region::tests_tell_the_facts;
+use zpl_text::tokens_are_in_order;
 
 /// In a program of the grammar without faults, under settings that it accepts, each declared array
 /// has a home box and a storage of the rank that its text says, which are boxes within the limit.
@@ -73,4 +77,12 @@ pub fn lowered_programs_are_flat()
     storages_fit();
     lowered_programs_fit();
     shared_tables_fit();
+}
+
+/// In the tree of a text no two arrays' names stand at one offset.
+pub fn parsed_names_stand_apart()
+    ensures { (text : List ℕ) (tokens : List Token) (program : Program) →
+        IsTokens text tokens → IsTreeOf text tokens program → NamesStandApart program }
+{
+    tokens_are_in_order();
 }

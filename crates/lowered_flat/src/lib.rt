@@ -6,4 +6,6 @@
 
 mod laws;
 
-pub use laws::{declarations_fit, lowered_programs_are_flat, storages_fit};
+pub use laws::{
+    declarations_fit, lowered_programs_are_flat, parsed_names_stand_apart, storages_fit,
+};
