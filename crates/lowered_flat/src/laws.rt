@@ -1,5 +1,6 @@
 //! The laws of programs that are lowered to flat ones.
 ghost use Rattle.std.specs.Prelude.{◌++◌, ℕ, List};
+ghost use Rattle.row_runs.specs.Straight.{Every};
 ghost use Rattle.zpl_tree.specs.Grammar.{IsProgram};
 ghost use Rattle.zpl_tree.specs.Syntax.{Program};
 ghost use Rattle.zpl_names.specs.Accepted.{IsFaultless};
@@ -7,8 +8,9 @@ ghost use Rattle.zpl_binding.specs.Bound.{IsAcceptedWith};
 ghost use Rattle.zpl_binding.specs.Settings.{Setting};
 ghost use Rattle.node_form.specs.Grid.{IsGrid};
 ghost use Rattle.flat_form.specs.Flat.{IsFlat};
+ghost use Rattle.flat_form.specs.Laws.{IsInline};
 ghost use Rattle.zpl_lowering.specs.Program.{lowered_program};
-ghost use Rattle.zpl_lowering.specs.Tables.{flat_tables, tables_of, unshared_tables};
+ghost use Rattle.zpl_lowering.specs.Tables.{flat_tables, rows_of, tables_of, unshared_tables};
 ghost use Rattle.lowering_fits.specs.Declarations.{FitsProgram};
 ghost use Rattle.lowering_fits.specs.Storages.{AllStorages};
 ghost use Rattle.lowered_flat.specs.Apart.{NamesStandApart};
@@ -73,4 +75,14 @@ pub fn lowered_programs_are_flat()
     storages_fit();
     lowered_programs_fit();
     shared_tables_fit();
+}
+
+/// Each row of its lowered code has its expressions and its group in its place.
+pub fn lowered_rows_are_inline()
+    ensures { (program : Program) (settings : List Setting) → IsProgram program →
+        IsFaultless program → IsAcceptedWith program settings →
+        Every IsInline (rows_of (lowered_program program settings)) }
+{
+    declarations_fit();
+    lowered_programs_fit();
 }

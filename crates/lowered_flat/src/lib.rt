@@ -6,4 +6,6 @@
 
 mod laws;
 
-pub use laws::{declarations_fit, lowered_programs_are_flat, storages_fit};
+pub use laws::{
+    declarations_fit, lowered_programs_are_flat, lowered_rows_are_inline, storages_fit,
+};
