@@ -1,5 +1,6 @@
 //! The laws of programs that are lowered to flat ones.
 ghost use Rattle.std.specs.Prelude.{◌++◌, ℕ, List};
+ghost use Rattle.row_runs.specs.Straight.{Every};
 ghost use Rattle.zpl_text.specs.declared.tokens.Token.{Token};
 ghost use Rattle.zpl_text.specs.Tokens.{IsTokens};
 ghost use Rattle.zpl_tree.specs.Grammar.{IsProgram};
@@ -10,8 +11,9 @@ ghost use Rattle.zpl_binding.specs.Bound.{IsAcceptedWith};
 ghost use Rattle.zpl_binding.specs.Settings.{Setting};
 ghost use Rattle.node_form.specs.Grid.{IsGrid};
 ghost use Rattle.flat_form.specs.Flat.{IsFlat};
+ghost use Rattle.flat_form.specs.Laws.{IsInline};
 ghost use Rattle.zpl_lowering.specs.Program.{lowered_program};
-ghost use Rattle.zpl_lowering.specs.Tables.{flat_tables, tables_of, unshared_tables};
+ghost use Rattle.zpl_lowering.specs.Tables.{flat_tables, rows_of, tables_of, unshared_tables};
 ghost use Rattle.lowering_fits.specs.Declarations.{FitsProgram};
 ghost use Rattle.lowering_fits.specs.Storages.{AllStorages};
 ghost use Rattle.lowered_flat.specs.Apart.{NamesStandApart};
@@ -85,4 +87,14 @@ pub fn parsed_names_stand_apart()
         IsTokens text tokens → IsTreeOf text tokens program → NamesStandApart program }
 {
     tokens_are_in_order();
+}
+
+/// Each row of its lowered code has its expressions and its group in its place.
+pub fn lowered_rows_are_inline()
+    ensures { (program : Program) (settings : List Setting) → IsProgram program →
+        IsFaultless program → IsAcceptedWith program settings →
+        Every IsInline (rows_of (lowered_program program settings)) }
+{
+    declarations_fit();
+    lowered_programs_fit();
 }

@@ -7,5 +7,8 @@
 mod laws;
 
 pub use laws::{
-    declarations_fit, lowered_programs_are_flat, parsed_names_stand_apart, storages_fit,
+pub use laws::{
+    declarations_fit, lowered_programs_are_flat, lowered_rows_are_inline, parsed_names_stand_apart,
+    storages_fit,
+};
 };
