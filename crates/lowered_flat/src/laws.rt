@@ -89,7 +89,8 @@ pub fn parsed_names_stand_apart()
     tokens_are_in_order();
 }
 
-/// Each row of its lowered code has its expressions and its group in its place.
+/// In a program of the grammar without faults, under settings that it accepts, each row of the
+/// lowered code has its expressions and its group in its place.
 pub fn lowered_rows_are_inline()
     ensures { (program : Program) (settings : List Setting) → IsProgram program →
         IsFaultless program → IsAcceptedWith program settings →
