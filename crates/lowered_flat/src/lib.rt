@@ -7,8 +7,6 @@
 mod laws;
 
 pub use laws::{
-pub use laws::{
     declarations_fit, lowered_programs_are_flat, lowered_rows_are_inline, parsed_names_stand_apart,
     storages_fit,
-};
 };
