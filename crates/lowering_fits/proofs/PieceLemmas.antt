@@ -173,14 +173,21 @@ ground : (grid : List ℕ) (lowered : Lowered) → IsGround (empty_tables grid l
 ground grid lowered =
     record { exprs = refl; groups = refl; texts = refl; exchanges = refl; code = refl }
 
+-- rows of code that fits
+pub all_rows_fit : (grid : List ℕ) (lowered : Lowered) →
+    FitsPiece (empty_tables grid lowered) lowered.code →
+    FitRows (empty_tables grid lowered) (length (rows_of lowered)) (rows_of lowered)
+all_rows_fit grid lowered fits =
+    let base : Tables = empty_tables grid lowered in
+    let count : ℕ = length (rows_of lowered) in
+    let counted = all_length lowered in
+    rows_fit base count (flattened 0 lowered.code) (row.Plain instr.End ∷ [])
+    (laid_out base count 0 lowered.code fits (omega arith)) (end_fits base count)
+
 -- code that fits the scalars, slots and arrays of its own
 pub code_makes_flat : (grid : List ℕ) (lowered : Lowered) → IsGrid grid → All IsRank lowered.slots →
     All FitsArray (empty_tables grid lowered).arrays →
     FitsPiece (empty_tables grid lowered) lowered.code → IsFlat (tables_of grid lowered)
 code_makes_flat grid lowered is slots arrays fits =
-    let base : Tables = empty_tables grid lowered in
-    let count : ℕ = length (rows_of lowered) in
-    let counted = all_length lowered in
-    rows_make_flat base (rows_of lowered) (ground grid lowered) is slots arrays
-    (rows_fit base count (flattened 0 lowered.code) (row.Plain instr.End ∷ [])
-    (laid_out base count 0 lowered.code fits (omega arith)) (end_fits base count))
+    rows_make_flat (empty_tables grid lowered) (rows_of lowered) (ground grid lowered) is slots
+    arrays (all_rows_fit grid lowered fits)

@@ -6,6 +6,7 @@ use Rattle.node_form.specs.declared.tables.Tables.{Tables}
 use Rattle.node_form.specs.Expression.{IsExpression}
 use Rattle.node_form.specs.Fits.{IsRank, HasSlot, HasArray, FitsWord, IsScalarWord, FitsInstr}
 use Rattle.node_form.specs.Nest.{IsNest}
+use Rattle.stored_shifts.specs.Stored.{IsStoredRead}
 use Rattle.flat_form.specs.Flat.{IsFlatRow}
 use Rattle.flat_form.specs.Row as row
 use Rattle.flat_form.specs.Row.{Words, Member, Part, Row, group_coded}
@@ -15,10 +16,11 @@ use Rattle.zpl_lowering.specs.Check.{Check}
 
 -- ---- expressions
 
--- the words are those of an expression, and fit at the rank
+-- the words are those of an expression, and fit at the rank; what they read with a shift is stored
 pub record FitsWords (tables : Tables) (rank : ℕ) (words : Words) : Type 0 where
   pub stack : IsExpression words
   pub fit : All (FitsWord tables rank) words
+  pub stored : All (IsStoredRead tables) words
 
 -- and none of them needs an index
 pub record FitsScalar (tables : Tables) (words : Words) : Type 0 where
