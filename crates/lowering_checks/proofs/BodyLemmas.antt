@@ -1,5 +1,5 @@
 -- Parameters and local variables: each loop in their code may stand anywhere.
-use Rattle.std.proofs.Common.{ℕ, ◌+◌, ◌≤◌, Bool, true, false, pos, List, [], ◌∷◌, ◌++◌, arith}
+use Rattle.std.proofs.Common.{ℕ, ◌≤◌, Bool, true, false, pos, List, [], ◌∷◌, ◌++◌, arith}
 use Rattle.zpl_tree.specs.Syntax.{Name, Bracket, NoBracket, Bracketed, VarDef}
 use Rattle.zpl_names.specs.Expansion.{FormalName}
 use Rattle.zpl_meaning.specs.Context.{Setup}
