@@ -36,7 +36,7 @@ module _ (world : World) where
       weaker_agrees (IsLike world.tables sight.spots w next start) world.turns world.turns 0 1 _ _
       (omega arith) (omega arith) (goes sight w next start stands served room store now like)
 
-  either_goes : (One Other : Where → Place → Type 0) (run : Context → Store → Outcome)
+  pub either_goes : (One Other : Where → Place → Type 0) (run : Context → Store → Outcome)
       (made : Lowering → Next → Lowered) (spare : ℕ) → Goes world One run made spare
       → Goes world Other run made spare → Goes world (λ w p. One w p ⊎ Other w p) run made spare
   either_goes One Other run made spare first second sight w next start stands (inl served) room store
