@@ -1,5 +1,5 @@
 -- Flood dimensions that are known before the run are those of the current regions.
-use Rattle.std.proofs.Common.{◌≡◌, refl, sym, ◌∙◌, ap, subst, arith, ℕ, zero, suc, ◌-◌, ◌≤◌, Bool, true}
+use Rattle.std.proofs.Common.{◌≡◌, refl, sym, ◌∙◌, ap, subst, arith, ℕ, zero, suc, ◌-◌, ◌≤◌, Bool}
 use Rattle.std.proofs.Common.{false, List, [], ◌∷◌, length, map, take, drop, replicate, ℤ, Option}
 use Rattle.std.proofs.Common.{Some, None}
 use Rattle.std.specs.Prelude.{slice_get}
@@ -10,18 +10,17 @@ use Rattle.zpl_region.specs.declared.dims.Dim.TheVariants as dim
 use Rattle.zpl_region.specs.declared.regions.Region.{Region}
 use Rattle.zpl_region.specs.Region.{padding}
 use Rattle.zpl_tree.specs.Syntax.{Name, Expr, Assign, Number, Truth, Coord, Named, Shifted, Around, Remap, Call, Paren, Neg, Not, Abs, Pair, Reduce, Scan, Flood}
-use Rattle.zpl_names.specs.Kinds.{Rank}
 use Rattle.zpl_names.specs.Sites.{Assigned, handed}
-use Rattle.zpl_meaning.specs.Store.{Store, Thing, Scalar, ArrayAt, Fixed, thing_of}
+use Rattle.zpl_meaning.specs.Store.{Thing, Scalar, ArrayAt, Fixed, thing_of}
 use Rattle.zpl_meaning.specs.Points.{assigned_expr}
-use Rattle.zpl_meaning.specs.Context.{Mask, Over, Place, over_at, reach_of}
+use Rattle.zpl_meaning.specs.Context.{Mask, Over, over_at, reach_of}
 use Rattle.zpl_meaning.specs.Regions.{vector_in}
 use Rattle.zpl_meaning.specs.Statement as mean
 use Rattle.flat_form.specs.Whole.{Whole}
-use Rattle.zpl_lowering.specs.Where.{Stored, Slotted, Where, slotted_at, is_flood, flood_of}
+use Rattle.zpl_lowering.specs.Where.{Stored, Slotted, Where, slotted_at, is_flood}
 use Rattle.zpl_lowering.specs.Statement as low
 use Rattle.node_form.specs.declared.tables.Tables.{Tables}
-use Rattle.lowering_runs.specs.Seen.{Sight, seen_currents, seen_place}
+use Rattle.lowering_runs.specs.Seen.{Sight, seen_place}
 use Rattle.lowering_runs.specs.Stands.{IsCurrent, IsHeld}
 use Rattle.lowering_runs.specs.Goes.{World, Goes}
 use Rattle.lowering_runs.proofs.FitLemmas.{anew_goes}
@@ -29,7 +28,7 @@ use Rattle.array_runs.specs.Reads.{EachCovers, EachMatches, IsShift}
 use Rattle.array_runs.specs.Elementwise.{IsReadable, IsElement, IsElementwise, IsReadableMask}
 use Rattle.array_runs.specs.Assigned.{IsWritable, IsArrayAssigned}
 use Rattle.array_runs.specs.Floods.{three_floods, CoverFloods, slot_floods, IsReadableAs, IsElementAs, IsElementwiseAs, IsReadableMaskAs, IsWritableAs, IsArrayServed}
-use Rattle.array_runs.proofs.CodedLemmas.{CurrentOf, current_of, region_of}
+use Rattle.array_runs.proofs.CodedLemmas.{current_of, region_of}
 use Rattle.array_runs.proofs.FormLemmas.{assign_goes}
 
 -- ---- a region of a slot

@@ -28,7 +28,6 @@ use Rattle.zpl_lowering.specs.Statement.{Given, Lowering}
 use Rattle.lowering_runs.specs.Seen.{scalar_in, Spot, Sight, numbered, seen_place, seen_thing, seen_names}
 use Rattle.lowering_runs.specs.Run.{does}
 use Rattle.lowering_runs.specs.Agrees.{Agrees}
-use Rattle.lowering_runs.specs.Scalars.{IsScalarAt}
 use Rattle.lowering_runs.specs.Stands.{IsKnown, Stands, HasRoom, IsLike}
 use Rattle.lowering_runs.specs.Frames.{seen_given, AreGiven}
 use Rattle.lowering_runs.specs.Goes.{World, Goes}

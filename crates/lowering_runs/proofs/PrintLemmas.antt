@@ -44,7 +44,6 @@ use Rattle.zpl_lowering.specs.Statement.{Lowering, Prints}
 use Rattle.lowering_runs.specs.Seen.{scalar_in, Sight, seen_place}
 use Rattle.lowering_runs.specs.Run.{step, decide, does}
 use Rattle.lowering_runs.specs.Agrees.{Agrees, Going}
-use Rattle.lowering_runs.specs.Scalars.{IsScalarAt}
 use Rattle.lowering_runs.specs.Stands.{IsSound, IsLike}
 use Rattle.lowering_runs.specs.Goes.{World, Goes}
 use Rattle.lowering_runs.specs.Leaves.{AreScalarItems}

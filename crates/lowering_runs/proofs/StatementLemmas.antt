@@ -1,6 +1,6 @@
 -- The code of a statement of scalars goes as the statement does.
-use Rattle.std.proofs.Common.{◌≡◌, ℕ, suc, ◌+◌, ◌<◌, Bool, true, false, List, []}
-use Rattle.std.proofs.Common.{append_assoc, inl, inr}
+use Rattle.std.proofs.Common.{◌≡◌, ℕ, suc, ◌<◌, Bool, true, false, List, []}
+use Rattle.std.proofs.Common.{append_assoc, inr}
 use Rattle.std.proofs.Common.{◌∷◌, ◌++◌, length, Option, Some, None, refl, sym, ap, ◌∙◌, subst, arith}
 use Rattle.std.specs.Option.{option_map}
 use Rattle.std.specs.Prelude.{Contains, IsSome, slice_get, slice_index_or}
@@ -9,15 +9,14 @@ use Rattle.zpl_nums.specs.declared.operators.Op.{Op}
 use Rattle.zpl_tree.specs.Syntax.{Name, Prefix, Expr, Number, Truth, Coord, Named, Shifted, Around, Remap, Call, Paren, Neg, Not, Abs, Pair, Reduce, Scan, Flood, Exprs, NoExpr, ThenExpr, Item, Str, Value, Stmt, Prefixed, Stmts, NoStmt, ThenStmt, Form, Assign, Invoke, Block, If, While, Repeat, For, Border, Write, Return, Tested, Arms, NoArm, ThenArm, Otherwise, NoElse, Else}
 use Rattle.zpl_names.specs.Kinds.{Rank, Formal, ScalarFormal, ArrayFormal}
 use Rattle.zpl_names.specs.Scope.{kind_of}
-use Rattle.zpl_names.specs.Sites.{Role, Limit, Actual, Assigned, Printed, Test as TestRole, is_shattered, handed}
+use Rattle.zpl_names.specs.Sites.{Role, Limit, Actual, Assigned, Printed, Test as TestRole, is_shattered}
 use Rattle.zpl_meaning.specs.Store.{Store, Thing, Scalar, ArrayAt, Fixed, thing_of}
 use Rattle.zpl_meaning.specs.Context.{Setup, Place, Currents, reach_of, rank_in}
 use Rattle.zpl_meaning.specs.Scalars.{IsScalarName, IsScalar}
-use Rattle.zpl_meaning.specs.Points.{assigned_expr, shattered}
+use Rattle.zpl_meaning.specs.Points.{assigned_expr}
 use Rattle.zpl_meaning.specs.Calls.{formals_in, actual_thing}
 use Rattle.zpl_meaning.specs.Proper.{IsRead, IsProper, IsProperScalar, IsProperWhole, IsTarget, IsPlainAssign, IsProperAssign, AreProperActuals, IsVariable, IsArray, AreProperTests, IsProperTested, AreProperItems, IsProperForm, IsProperStmt}
 use Rattle.zpl_meaning.specs.Visited.{IsVisited, Holds, Calls, Itself, AsStatement, list_of, parts_of, arms_parts, else_parts}
-use Rattle.zpl_meaning.specs.Outcome as out
 use Rattle.zpl_meaning.specs.Outcome.{Outcome}
 use Rattle.zpl_meaning.specs.Statement as mean
 use Rattle.zpl_meaning.specs.Statement.{Context, step_expr}

@@ -1,7 +1,7 @@
 -- The code of a statement goes as the statement does, where all forms in it suit their places: by
 -- what is known of prefixes, and of forms that have no statements in them.
-use Rattle.std.proofs.Common.{◌≡◌, ◌⊎◌, inl, inr, ℕ, suc, ◌+◌, Bool, false, List, arith}
-use Rattle.zpl_tree.specs.Syntax.{Prefix, Expr, Stmt, Prefixed, Stmts, NoStmt, ThenStmt, Form, Assign, Invoke, Block, If, While, Repeat, For, Border, Write, Return, Tested, Arms, NoArm, ThenArm, Otherwise, NoElse, Else}
+use Rattle.std.proofs.Common.{◌≡◌, ◌⊎◌, inl, inr, ℕ, ◌+◌, Bool, false, List, arith}
+use Rattle.zpl_tree.specs.Syntax.{Prefix, Stmt, Prefixed, Stmts, NoStmt, ThenStmt, Form, Assign, Invoke, Block, If, While, Repeat, For, Border, Write, Return, Tested, Arms, NoArm, ThenArm, Otherwise, NoElse, Else}
 use Rattle.zpl_names.specs.Sites.{is_shattered}
 use Rattle.zpl_meaning.specs.Store.{Store}
 use Rattle.zpl_meaning.specs.Context.{Place, reach_of}
