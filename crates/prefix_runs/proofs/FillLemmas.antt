@@ -1,6 +1,6 @@
 -- Rows that fill slots with a region: declared and current regions, bounds, and forms around them.
 use Rattle.std.proofs.Common.{◌≡◌, refl, sym, ◌∙◌, ap, subst, arith, ℕ, zero, suc, ◌+◌, ◌≤◌, ◌<◌}
-use Rattle.std.proofs.Common.{Bool, true, false, List, [], ◌∷◌, ◌++◌, length, Option, Some, None}
+use Rattle.std.proofs.Common.{Bool, true, false, List, [], ◌∷◌, ◌++◌, length, Option, Some}
 use Rattle.std.proofs.Common.{length-append}
 use Rattle.std.specs.Prelude.{slice_get, option_and_then, is_none}
 use Rattle.zpl_nums.specs.declared.ends.End.TheVariants.{Trap}
@@ -12,7 +12,6 @@ use Rattle.zpl_binding.specs.Outcome.{Computed, value_or}
 use Rattle.zpl_binding.specs.Regions.{no_region}
 use Rattle.zpl_meaning.specs.Computed as mean
 use Rattle.zpl_meaning.specs.Computed.{computed_then}
-use Rattle.zpl_meaning.specs.Regions.{computed_of}
 use Rattle.node_form.specs.declared.instructions.Instr.TheVariants as instr
 use Rattle.node_form.specs.declared.tables.Tables.{Tables}
 use Rattle.node_form.specs.Control.{formed_by}

@@ -1,9 +1,8 @@
 -- The code of a bracket fills a slot with the region that the bracket means, or ends with the same
 -- trap.
-use Rattle.std.proofs.Common.{◌≡◌, refl, sym, ◌∙◌, ap, subst, arith, ℕ, zero, suc, ◌+◌, ◌≤◌, ◌<◌}
-use Rattle.std.proofs.Common.{Bool, true, false, List, [], ◌∷◌, ◌++◌, length, Option, Some, None}
+use Rattle.std.proofs.Common.{◌≡◌, refl, sym, ◌∙◌, ap, subst, arith, ℕ, suc, ◌+◌, ◌≤◌, ◌<◌}
+use Rattle.std.proofs.Common.{Bool, true, false, List, [], ◌∷◌, length, Option, Some, None}
 use Rattle.std.specs.Prelude.{slice_get}
-use Rattle.zpl_nums.specs.declared.ends.End.TheVariants.{Trap}
 use Rattle.zpl_region.specs.declared.regions.Region.{Region}
 use Rattle.zpl_tree.specs.Syntax.{Name, Pre, NamedRegion, Ditto, Named, Inner, Rexpr, Dims, Posts, One, DimTexts, NoDim, ThenDim}
 use Rattle.zpl_names.specs.Ranks.{dims_count, is_index}
@@ -17,7 +16,7 @@ use Rattle.zpl_meaning.specs.Proper.{HasCurrent}
 use Rattle.zpl_meaning.specs.Regions.{computed_of, span_in, name_in, inner_over}
 use Rattle.node_form.specs.declared.instructions.Instr.TheVariants as instr
 use Rattle.node_form.specs.declared.tables.Tables.{Tables}
-use Rattle.row_runs.specs.Run.{Step, Ends}
+use Rattle.row_runs.specs.Run.{Step}
 use Rattle.row_runs.specs.Structured as code
 use Rattle.row_runs.specs.Structured.{Course, by_step, rows_do}
 use Rattle.flat_form.specs.Row as row
@@ -28,15 +27,15 @@ use Rattle.zpl_lowering.specs.Bracket as low
 use Rattle.zpl_lowering.specs.Bracket.{Opened, Form, forms_of, formed, standing, named_region, region_slot, dims_flood, three_parts, parts_of, spanned, name_opened, computed, constant_region, one_row, fixed_or, bracket}
 use Rattle.lowering_runs.specs.Seen.{Sight, seen_place, seen_store}
 use Rattle.lowering_runs.specs.Run.{step, decide}
-use Rattle.lowering_runs.specs.Stands.{Stands, SlotsAt, IsCurrent, IsTaken, IsSound, AreDeclared}
+use Rattle.lowering_runs.specs.Stands.{Stands, SlotsAt, IsSound, AreDeclared}
 use Rattle.lowering_runs.proofs.NumberLemmas.{get_same}
 use Rattle.lowering_runs.proofs.EntryLemmas.{fix_step}
 use Rattle.prefix_runs.specs.Opens.{IsOpenedAs, IsGivenRegion, AreGivenPres, AreGivenPosts, OpenDims, OpensName, Opens}
-use Rattle.prefix_runs.proofs.PartLemmas.{spans, dims_step}
+use Rattle.prefix_runs.proofs.PartLemmas.{dims_step}
 use Rattle.prefix_runs.proofs.ShapeLemmas.{flood_length, opened_itself}
-use Rattle.prefix_runs.proofs.ShapedLemmas.{filled, shaped, forms_are, Told, shaped_told}
+use Rattle.prefix_runs.proofs.ShapedLemmas.{shaped, forms_are, Told, shaped_told}
 use Rattle.prefix_runs.proofs.SpanLemmas.{CurrentIf, span_told, span_step, spans_is}
-use Rattle.prefix_runs.proofs.FillLemmas.{IsFilled, filled_itself, filled_more, Filling, Fills, Refuses, slots_below, declared_first, region_below, forms_fill, formed_flood, formed_many, formed_slot}
+use Rattle.prefix_runs.proofs.FillLemmas.{filled_itself, filled_more, Filling, Fills, Refuses, slots_below, declared_first, region_below, forms_fill, formed_flood, formed_many, formed_slot}
 use Rattle.prefix_runs.proofs.ConstantLemmas.{constant_region_is}
 
 module _ (tables : Tables) (n : ℕ) (sight : Sight) (w : Where) (next : Next) (now : Whole)

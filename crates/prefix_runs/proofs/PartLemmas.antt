@@ -1,6 +1,6 @@
 -- A row that makes a region of dimensions: each is computed by itself.
 use Rattle.std.proofs.Common.{◌≡◌, refl, ◌∙◌, ap, ℕ, zero, suc, ◌+◌, true, ℤ, List, [], ◌∷◌}
-use Rattle.std.proofs.Common.{◌++◌, take, drop, length, Option, Some, None, pos, append_assoc}
+use Rattle.std.proofs.Common.{◌++◌, take, drop, length, Some, pos, append_assoc}
 use Rattle.std.proofs.Common.{sym, append-nil}
 use Rattle.std.specs.Prelude.{flat_map, slice_get}
 use Rattle.zpl_region.specs.declared.dims.Dim.{Dim}

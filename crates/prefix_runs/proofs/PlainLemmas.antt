@@ -1,12 +1,10 @@
 -- Statements of scalars and arrays, under prefixes.
 use Rattle.std.proofs.Common.{ℕ, List}
 use Rattle.zpl_tree.specs.Syntax.{Stmt, Form, Assign, Invoke, Block, If, While, Repeat, For, Border, Write, Return}
-use Rattle.zpl_meaning.specs.Store.{Store}
 use Rattle.zpl_meaning.specs.Context.{Setup, Place}
 use Rattle.zpl_meaning.specs.Statement as mean
 use Rattle.zpl_meaning.specs.Statement.{Context}
-use Rattle.zpl_lowering.specs.Where.{Where, Next}
-use Rattle.zpl_lowering.specs.Lowered.{Lowered}
+use Rattle.zpl_lowering.specs.Where.{Where}
 use Rattle.zpl_lowering.specs.Statement as low
 use Rattle.zpl_lowering.specs.Statement.{Lowering}
 use Rattle.lowering_runs.specs.Seen.{seen_place}

@@ -1,6 +1,6 @@
 -- Regions whose flood dimensions are known before the run: those that are made of dimensions, and
 -- what forms make of them.
-use Rattle.std.proofs.Common.{◌≡◌, refl, sym, ◌∙◌, ap, subst, arith, ℕ, zero, suc, ◌+◌, ◌-◌, ◌≤◌}
+use Rattle.std.proofs.Common.{◌≡◌, refl, sym, ◌∙◌, ap, arith, ℕ, zero, suc, ◌≤◌}
 use Rattle.std.proofs.Common.{Bool, true, false, cond, ℤ, pos, List, [], ◌∷◌, length, map, take}
 use Rattle.std.specs.Prelude.{All, int_lt}
 use Rattle.std.specs.List.{AllByRecursion}
@@ -10,7 +10,7 @@ use Rattle.zpl_region.specs.declared.dims.Dim.{Dim}
 use Rattle.zpl_region.specs.declared.dims.Dim.TheVariants.{Range, Flood}
 use Rattle.zpl_region.specs.declared.regions.Region.{Region}
 use Rattle.zpl_region.specs.Dim.{HasStep, IsDim, IsDimWithinLimit, dim_outside_of, dim_inside_of, dim_moved, dim_strided}
-use Rattle.zpl_region.specs.Region.{IsRegion, IsWithinLimit, components, each, formed}
+use Rattle.zpl_region.specs.Region.{IsRegion, components, each, formed}
 use Rattle.zpl_region.specs.Tests.{is_within_limit}
 use Rattle.zpl_region.proofs.HullLemmas.{has_steps}
 use Rattle.zpl_region.proofs.RegionLemmas.{within_is_dim}

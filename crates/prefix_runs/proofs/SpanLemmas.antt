@@ -1,13 +1,12 @@
 -- Brackets with bounds: what each dimension is in the meaning, and in the row.
 use Rattle.std.proofs.Common.{◌≡◌, refl, sym, ◌∙◌, ap, subst, arith, ℕ, zero, suc, ◌+◌, ◌-◌, ◌≤◌, ◌<◌}
 use Rattle.std.proofs.Common.{Bool, true, false, ℤ, pos, List, [], ◌∷◌, ◌++◌, length, map, take}
-use Rattle.std.proofs.Common.{replicate, Option, Some, None}
+use Rattle.std.proofs.Common.{replicate, Option, Some}
 use Rattle.std.specs.Prelude.{slice_get, slice_index_or, get_or, option_and_then}
 use Rattle.std.specs.List.{AllByRecursion}
 use Rattle.std.proofs.lemmas.List.{length-map}
 use Rattle.zpl_nums.specs.declared.ends.End.TheVariants.{Trap}
 use Rattle.zpl_nums.specs.declared.ends.TrapKind.TheVariants as trap
-use Rattle.zpl_nums.specs.Integer.{IsInteger}
 use Rattle.zpl_region.specs.declared.dims.Dim.{Dim}
 use Rattle.zpl_region.specs.declared.dims.Dim.TheVariants as dim
 use Rattle.zpl_region.specs.declared.regions.Region.{Region}
@@ -16,12 +15,11 @@ use Rattle.zpl_region.specs.Region.{dim_at, padding}
 use Rattle.zpl_region.specs.Hull.{all_from}
 use Rattle.zpl_region.specs.Tests.{is_within_limit}
 use Rattle.zpl_tree.specs.Syntax.{Expr, DimText, Blank, Star, One, Span, DimTexts, NoDim, ThenDim}
-use Rattle.zpl_names.specs.Kinds.{Rank}
 use Rattle.zpl_names.specs.Ranks.{dims_count}
 use Rattle.zpl_binding.specs.Regions.{dims_of, region_over, limited}
 use Rattle.zpl_meaning.specs.Computed as mean
 use Rattle.zpl_meaning.specs.Computed.{both_then, computed_then}
-use Rattle.zpl_meaning.specs.Store.{Environment, Store}
+use Rattle.zpl_meaning.specs.Store.{Store}
 use Rattle.zpl_meaning.specs.Value.{value_of as mean_value}
 use Rattle.zpl_meaning.specs.Context.{Place}
 use Rattle.zpl_meaning.specs.Proper.{HasCurrent}
@@ -34,18 +32,17 @@ use Rattle.node_form.specs.Value.{and_then, mapped, read, scalar_operands, tree_
 use Rattle.node_form.proofs.ValueLemmas.{value_of-words_of}
 use Rattle.row_runs.specs.Run.{Step, Stops, Ends}
 use Rattle.flat_form.specs.Act.{controlled}
-use Rattle.flat_form.specs.Row as row
 use Rattle.flat_form.specs.Row.{Part}
 use Rattle.flat_form.specs.Whole.{Whole, registers_of}
-use Rattle.zpl_lowering.specs.Where.{Slotted, Where, Next, is_flood, flood_of}
+use Rattle.zpl_lowering.specs.Where.{Slotted, Where, Next, is_flood}
 use Rattle.zpl_lowering.specs.Words.{scalar_code}
 use Rattle.zpl_lowering.specs.Bracket.{part_of, parts_of, dim_flood, dims_flood, three_parts}
-use Rattle.lowering_runs.specs.Seen.{Sight, seen_names, seen_place, seen_store}
+use Rattle.lowering_runs.specs.Seen.{Sight, seen_place, seen_store}
 use Rattle.lowering_runs.specs.Run.{straight}
 use Rattle.lowering_runs.specs.Scalars.{IsSameValue, BothGive, BothDivide, IsScalarAt}
 use Rattle.lowering_runs.specs.Stands.{Stands, IsCurrent, IsSound}
 use Rattle.lowering_runs.proofs.ValueLemmas.{value_same}
-use Rattle.prefix_runs.specs.Opens.{IsOpenedAs, OpensDim, OpenDims}
+use Rattle.prefix_runs.specs.Opens.{OpensDim, OpenDims}
 use Rattle.prefix_runs.proofs.PartLemmas.{part_value, parts_value, spans}
 use Rattle.prefix_runs.proofs.ShapeLemmas.{formed_of, over_opened}
 use Rattle.prefix_runs.proofs.ShapedLemmas.{limit_step, slot_step, at_limit, limited_is, Told, limit_told}

@@ -1,6 +1,6 @@
 -- A statement under prefixes goes as its code, where what stands behind them does.
-use Rattle.std.proofs.Common.{◌≡◌, refl, sym, ◌∙◌, ap, subst, arith, ℕ, zero, suc, ◌+◌, ◌≤◌, ◌<◌}
-use Rattle.std.proofs.Common.{Bool, true, false, ℤ, pos, List, [], ◌∷◌, map, length, Option, Some, None}
+use Rattle.std.proofs.Common.{◌≡◌, refl, sym, ◌∙◌, ap, subst, arith, ℕ, zero, suc, ◌≤◌, ◌<◌}
+use Rattle.std.proofs.Common.{Bool, true, false, ℤ, pos, List, [], ◌∷◌, length, Option, Some, None}
 use Rattle.std.specs.Prelude.{IsSome, slice_get, slice_index_or, option_and_then, is_none}
 use Rattle.std.specs.Option.{option_map}
 use Rattle.std.specs.List.{AllZip}
@@ -8,16 +8,16 @@ use Rattle.zpl_nums.specs.Integer.{IsInteger}
 use Rattle.zpl_nums.specs.declared.folds.Fold.{Fold}
 use Rattle.zpl_region.specs.declared.regions.Region.{Region}
 use Rattle.zpl_arrays.specs.Array.{Array}
-use Rattle.zpl_tree.specs.Syntax.{Name, Mask as MaskText, Pre, RegionBase, NamedRegion, Ditto, NamedDir, Inner, Rexpr, Dims, Posts, NoPost, ThenPost, Prefix}
+use Rattle.zpl_tree.specs.Syntax.{Name, Mask as MaskText, RegionBase, NamedRegion, Ditto, NamedDir, Inner, Rexpr, Dims, NoPost, ThenPost, Prefix}
 use Rattle.zpl_names.specs.Kinds.{Rank}
 use Rattle.zpl_names.specs.Ranks.{inner_rank, mask_rank}
 use Rattle.zpl_names.specs.Shapes.{prefix_rank}
 use Rattle.zpl_binding.specs.Outcome.{Outcome as BoundOutcome, value_or}
-use Rattle.zpl_binding.specs.Regions.{Known, no_region, region_named}
+use Rattle.zpl_binding.specs.Regions.{Known, no_region}
 use Rattle.zpl_meaning.specs.Computed as mean_computed
 use Rattle.zpl_meaning.specs.Computed.{computed_then}
 use Rattle.zpl_meaning.specs.Store.{Thing, Scalar, ArrayAt, Fixed, Store, thing_of}
-use Rattle.zpl_meaning.specs.Context.{Mask, Over, Currents, over_at, with_over, Edge, Place}
+use Rattle.zpl_meaning.specs.Context.{Mask, Currents, over_at, with_over, Edge, Place}
 use Rattle.zpl_meaning.specs.Proper.{HasCurrent, IsArrayRank}
 use Rattle.zpl_meaning.specs.Regions.{vector_in, inner_over, mask_thing, mask_in, base_in, edge_in}
 use Rattle.zpl_meaning.specs.Regions as mean_regions
@@ -35,15 +35,15 @@ use Rattle.zpl_lowering.specs.Lowered.{Lowered, behind}
 use Rattle.zpl_lowering.specs.Bracket.{Opened, region_slot}
 use Rattle.zpl_lowering.specs.Statement as low
 use Rattle.zpl_lowering.specs.Statement.{Lowering, of_opened}
-use Rattle.lowering_runs.specs.Seen.{scalar_in, slot_in, Spot, seen_spot, Sight, numbered, seen_thing, seen_names, seen_over, seen_currents, seen_edge, seen_place, seen_store}
+use Rattle.lowering_runs.specs.Seen.{slot_in, Spot, Sight, numbered, seen_thing, seen_names, seen_over, seen_currents, seen_edge, seen_place, seen_store}
 use Rattle.lowering_runs.specs.Run.{step, decide, does}
 use Rattle.lowering_runs.specs.Agrees.{Agrees, Trapping}
-use Rattle.lowering_runs.specs.Stands.{IsBefore, IsTaken, IsTakenEdge, AreTaken, Stands, HasRoom, IsCurrent, IsCurrentIf, IsHeld, IsSound, Keeps, IsLike}
+use Rattle.lowering_runs.specs.Stands.{IsBefore, IsTaken, IsTakenEdge, AreTaken, Stands, HasRoom, IsCurrent, IsHeld, IsSound, IsLike}
 use Rattle.lowering_runs.specs.Goes.{World, context, lowering, Goes}
 use Rattle.lowering_runs.proofs.AgreeLemmas.{alike_agrees}
 use Rattle.lowering_runs.proofs.ValueLemmas.{thing_seen}
 use Rattle.lowering_runs.proofs.FitLemmas.{currents_kept, held_on, stands_on, before_behind, keeps_all, anew_goes, room_first, room_rest, room_here}
-use Rattle.array_runs.proofs.CodedLemmas.{CurrentOf, current_of, region_of}
+use Rattle.array_runs.proofs.CodedLemmas.{current_of, region_of}
 use Rattle.array_runs.proofs.StoredLemmas.{index_of_found}
 use Rattle.prefix_runs.specs.Opens.{IsOpenedAs, IsGivenRegion, Opens}
 use Rattle.prefix_runs.specs.Under.{OpensPrefix, opened_at, over_of, mean_under, IsUnder}
