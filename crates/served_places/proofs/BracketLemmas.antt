@@ -1,6 +1,6 @@
 -- The flood dimensions of a bracket's slot are those that the text tells.
 use Rattle.std.proofs.Common.{◌≡◌, refl, sym, ◌∙◌, ap, subst, arith, ℕ, zero, suc, ◌≤◌, Bool, true}
-use Rattle.std.proofs.Common.{false, List, [], ◌∷◌, length, map, take, Option, Some, None}
+use Rattle.std.proofs.Common.{false, List, [], ◌∷◌, length, map, Option, Some, None}
 use Rattle.std.proofs.Common.{option_map, ℤ}
 use Rattle.std.specs.Prelude.{get_or, slice_get, option_and_then, if◌then◌else◌}
 use Rattle.zpl_region.specs.declared.dims.Dim.{Dim}
@@ -8,7 +8,7 @@ use Rattle.zpl_region.specs.declared.dims.Dim.TheVariants as dim
 use Rattle.zpl_region.specs.declared.regions.Region.{Region}
 use Rattle.zpl_region.specs.Hull.{all_from}
 use Rattle.zpl_region.specs.Tests.{is_within_limit}
-use Rattle.zpl_tree.specs.Syntax.{Name, Pre, NamedRegion, Ditto, Named, Expr, Inner, Rexpr, Dims, Posts, DimText, Blank, Star, One, Span, DimTexts, NoDim, ThenDim}
+use Rattle.zpl_tree.specs.Syntax.{Name, Pre, NamedRegion, Ditto, Named, Inner, Rexpr, Dims, Posts, DimText, Blank, Star, One, Span, DimTexts, NoDim, ThenDim}
 use Rattle.zpl_names.specs.Kinds.{Shape}
 use Rattle.zpl_names.specs.Scope.{kind_of}
 use Rattle.zpl_names.specs.Ranks.{dims_count, is_index, region_shape}

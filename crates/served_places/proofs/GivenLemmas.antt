@@ -1,19 +1,19 @@
 -- A proper prefix whose ranks agree may be opened.
-use Rattle.std.proofs.Common.{◌≡◌, refl, sym, ◌∙◌, ap, subst, arith, ℕ, zero, suc, ◌≤◌, Bool, true}
+use Rattle.std.proofs.Common.{◌≡◌, refl, ◌∙◌, ap, arith, ℕ, zero, suc, ◌≤◌, Bool, true}
 use Rattle.std.proofs.Common.{false, List, [], ◌∷◌, length, Option, Some, None, option_map}
 use Rattle.std.specs.Prelude.{if◌then◌else◌}
-use Rattle.zpl_tree.specs.Syntax.{Name, Pre, NamedRegion, Ditto, Expr, Number, Truth, Coord, Named, Shifted, Around, Remap, Call, Paren, Neg, Not, Abs, Pair, Reduce, Scan, Flood, Inner, Rexpr, Dims, Posts, DimText, Blank, Star, One, Span, DimTexts, NoDim, ThenDim, Prefix}
+use Rattle.zpl_tree.specs.Syntax.{Name, Pre, NamedRegion, Ditto, Expr, Number, Truth, Coord, Named, Shifted, Around, Remap, Call, Paren, Neg, Not, Abs, Pair, Reduce, Scan, Flood, Inner, Rexpr, Dims, Posts, Blank, Star, One, Span, DimTexts, NoDim, ThenDim, Prefix}
 use Rattle.zpl_names.specs.Kinds.{Rank, Shape}
 use Rattle.zpl_names.specs.Scope.{kind_of}
-use Rattle.zpl_names.specs.Ranks.{dims_count, inner_rank, is_index, mask_rank, region_shape}
+use Rattle.zpl_names.specs.Ranks.{inner_rank, is_index, mask_rank, region_shape}
 use Rattle.zpl_meaning.specs.Store.{Thing, Scalar, ArrayAt, Fixed, Environment, thing_of}
 use Rattle.zpl_meaning.specs.Context.{Place}
-use Rattle.zpl_meaning.specs.Proper.{IsValue, HasValue, IsProperDim, AreProperDims, IsProperName, IsProperInner, IsArrayRank, IsProperPrefix}
+use Rattle.zpl_meaning.specs.Proper.{IsValue, HasValue, AreProperDims, IsProperName, IsProperInner, IsArrayRank, IsProperPrefix}
 use Rattle.zpl_meaning.specs.Scalars.{IsScalarName, IsScalar}
 use Rattle.meaning_ranks.specs.Ranked.{ArePresOf, IsInnerOf, IsRankedPrefix}
 use Rattle.zpl_lowering.specs.Where.{flood_of}
-use Rattle.lowering_runs.specs.Scalars.{IsScalarExpr, IsScalarAt}
-use Rattle.prefix_runs.specs.Opens.{IsGivenRegion, AreGivenPres, AreGivenPosts, OpensDim, OpenDims, OpensName, Opens}
+use Rattle.lowering_runs.specs.Scalars.{IsScalarExpr}
+use Rattle.prefix_runs.specs.Opens.{IsGivenRegion, AreGivenPres, AreGivenPosts, OpenDims, OpensName, Opens}
 use Rattle.prefix_runs.specs.Under.{OpensPrefix}
 use Rattle.prefix_runs.proofs.ShapeLemmas.{flood_length}
 use Rattle.served_places.specs.Given.{KnowsGiven, HasSmall, HaveSmallDims, IsSound}

@@ -1,14 +1,13 @@
 -- Behind a prefix, current regions and arrays are as the text says there.
-use Rattle.std.proofs.Common.{◌≡◌, refl, sym, ◌∙◌, ap, subst, ℕ, zero, suc, Bool, true, false, List}
-use Rattle.std.proofs.Common.{[], ◌∷◌, length, Option, Some, None}
+use Rattle.std.proofs.Common.{◌≡◌, refl, sym, ◌∙◌, ap, subst, ℕ, zero, suc, Bool, true, false}
+use Rattle.std.proofs.Common.{[], length, Option, Some, None}
 use Rattle.std.specs.Prelude.{is_some, slice_get}
-use Rattle.std.specs.Option.{option_map}
 use Rattle.zpl_tree.specs.Syntax.{Base, Mask as MaskText, Prefix}
 use Rattle.zpl_names.specs.Kinds.{Rank, Shape}
 use Rattle.zpl_names.specs.Scope.{kind_of}
 use Rattle.zpl_names.specs.Ranks.{array_rank, array_shape}
-use Rattle.zpl_names.specs.Shapes.{Current, Over, Shapes, current_at, current_over, with_current, inner_shape, shape_within, prefix_rank, shapes_under}
-use Rattle.zpl_names.specs.Sites.{Reach, AtMask}
+use Rattle.zpl_names.specs.Shapes.{Over, Shapes, current_at, current_over, with_current, inner_shape, shape_within, prefix_rank, shapes_under}
+use Rattle.zpl_names.specs.Sites.{AtMask}
 use Rattle.zpl_names.specs.Faults.{reaches_beyond, both_known, flood_clashes}
 use Rattle.zpl_names.proofs.NameLemmas.{no_place}
 use Rattle.zpl_meaning.specs.Store.{Thing, Scalar, ArrayAt, Fixed, Environment, thing_of}
@@ -16,12 +15,12 @@ use Rattle.zpl_meaning.specs.Context.{Mask, Currents, Edge}
 use Rattle.zpl_meaning.specs.Regions.{mask_thing, mask_in}
 use Rattle.zpl_meaning.specs.Proper.{IsArrayRank}
 use Rattle.meaning_ranks.specs.Ranked.{IsMaskOf}
-use Rattle.zpl_lowering.specs.Where.{Slotted, SlotCurrents, slotted_or, slotted_at, with_slotted, Where}
+use Rattle.zpl_lowering.specs.Where.{Slotted, SlotCurrents, slotted_at, with_slotted, Where}
 use Rattle.zpl_lowering.specs.Bracket.{Opened}
 use Rattle.zpl_lowering.specs.Statement as low
 use Rattle.array_runs.specs.Floods.{IsReadableMaskAs}
 use Rattle.prefix_runs.specs.Under.{OpensPrefix, opened_at}
-use Rattle.served_places.specs.Told.{IsSlotTold, AreSlotsTold, IsMaskTold, IsTold, place_of, reach_told}
+use Rattle.served_places.specs.Told.{AreSlotsTold, IsMaskTold, IsTold, place_of, reach_told}
 use Rattle.served_places.specs.Given.{KnowsGiven}
 use Rattle.served_places.proofs.ToldLemmas.{reads_as}
 use Rattle.served_places.proofs.BracketLemmas.{IsCurrentTold, slot_current, opened_told}

@@ -1,7 +1,7 @@
 -- The slot of a declared region's name has it.
-use Rattle.std.proofs.Common.{◌≡◌, refl, ◌∙◌, ap, arith, ℕ, zero, suc, ◌+◌, ◌<◌, Bool, true, false}
+use Rattle.std.proofs.Common.{◌≡◌, refl, ◌∙◌, ap, arith, ℕ, suc, ◌+◌, ◌<◌, Bool, true, false}
 use Rattle.std.proofs.Common.{List, [], ◌∷◌, length}
-use Rattle.std.specs.Prelude.{cond, find, not, nat_lt, slice_get, Option, Some, None}
+use Rattle.std.specs.Prelude.{cond, find, not, nat_lt, slice_get, Some}
 use Rattle.std.specs.List.{position_or_len}
 use Rattle.std.proofs.lemmas.Bool.Decides.{nat_tests}
 use Rattle.std.specs.Str.{bytes_eq}

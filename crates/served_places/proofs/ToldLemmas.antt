@@ -3,17 +3,16 @@ use Rattle.std.proofs.Common.{◌≡◌, ◌⊎◌, inl, inr, refl, sym, ◌∙�
 use Rattle.std.proofs.Common.{◌-◌, ◌<◌, ◌≤◌, Bool, true, false, not, ◌&&◌, ◌||◌, List, [], ◌∷◌, ◌++◌}
 use Rattle.std.proofs.Common.{length, map, Option, Some, None, option_map, ℤ}
 use Rattle.std.specs.Prelude.{IsSome, slice_get}
-use Rattle.std.specs.List.{AllByRecursion}
 use Rattle.zpl_nums.specs.declared.operators.Op.{Op}
 use Rattle.zpl_region.specs.declared.regions.Region.{Region}
-use Rattle.zpl_tree.specs.Syntax.{Name, Dir, Expr, Number, Truth, Coord, Named, Shifted, Around, Remap, Call, Paren, Neg, Not, Abs, Pair, Reduce, Scan, Flood, Prefix, Assign, Base}
+use Rattle.zpl_tree.specs.Syntax.{Name, Expr, Number, Truth, Coord, Named, Shifted, Around, Remap, Call, Paren, Neg, Not, Abs, Pair, Reduce, Scan, Flood, Prefix, Assign, Base}
 use Rattle.zpl_names.specs.Kinds as kind
 use Rattle.zpl_names.specs.Kinds.{Kind, Rank, Shape}
 use Rattle.zpl_names.specs.Scope.{kind_of}
-use Rattle.zpl_names.specs.Ranks.{array_rank, array_shape, dir_rank}
-use Rattle.zpl_names.specs.Shapes.{Current, Absent, Unknown, Over, Shapes, current_of, shape_of_current}
-use Rattle.zpl_names.specs.Sites.{Reach, Site, AtStmt, Assigned, expr_sites, dir_sites, target_rank, handed, whole_rank}
-use Rattle.zpl_names.specs.Faults.{reaches_beyond, both_known, shape_at, flood_clashes, is_flood_written}
+use Rattle.zpl_names.specs.Ranks.{array_rank, array_shape}
+use Rattle.zpl_names.specs.Shapes.{Current, Absent, Unknown, Over, Shapes, shape_of_current}
+use Rattle.zpl_names.specs.Sites.{Reach, Site, AtStmt, Assigned, expr_sites, target_rank, handed, whole_rank}
+use Rattle.zpl_names.specs.Faults.{reaches_beyond, both_known, shape_at, flood_clashes}
 use Rattle.zpl_names.proofs.NameLemmas.{no_place}
 use Rattle.zpl_meaning.specs.Store.{Thing, Scalar, ArrayAt, Fixed, Environment, thing_of}
 use Rattle.zpl_meaning.specs.Context.{Currents, Edge, Place, reach_of, rank_in}
@@ -22,7 +21,7 @@ use Rattle.zpl_meaning.specs.Points.{assigned_expr}
 use Rattle.zpl_meaning.specs.Proper.{HasCurrent, IsRead, IsProper, IsTarget, IsPlainAssign}
 use Rattle.zpl_meaning.specs.Scalars.{IsScalarName, IsScalar}
 use Rattle.meaning_ranks.specs.Ranked.{IsNameOf, IsOfRank, IsRankedValue, TakesRank}
-use Rattle.zpl_lowering.specs.Where.{Stored, Slotted, SlotCurrents, Where, slotted_or, slotted_at, is_flood}
+use Rattle.zpl_lowering.specs.Where.{Stored, Slotted, Where, slotted_or, slotted_at, is_flood}
 use Rattle.lowering_runs.specs.Seen.{Spot, seen_thing}
 use Rattle.array_runs.specs.Reads.{IsShift}
 use Rattle.array_runs.specs.Floods.{three_floods, CoversFlood, CoverFloods, slot_floods, IsReadableAs, IsElementAs, IsElementwiseAs, IsReadableMaskAs, IsWritableAs, IsArrayServed}

@@ -2,7 +2,7 @@
 -- numbers are of 64 bits.
 use Rattle.std.specs.Prelude.{◌≡◌, ℕ, [], Some}
 use Rattle.zpl_nums.specs.Integer.{IsInteger}
-use Rattle.zpl_tree.specs.Syntax.{Name, Expr, Number, Truth, Coord, Named, Shifted, Around, Remap, Call, Paren, Neg, Not, Abs, Pair, Reduce, Scan, Flood, Inner, Rexpr, Dims, DimText, Blank, Star, One, Span, DimTexts, NoDim, ThenDim, Posts}
+use Rattle.zpl_tree.specs.Syntax.{Name, Expr, Number, Truth, Coord, Named, Shifted, Around, Remap, Call, Paren, Neg, Not, Abs, Pair, Reduce, Scan, Flood, Inner, Rexpr, Dims, DimText, Blank, Star, One, Span, DimTexts, NoDim, ThenDim}
 use Rattle.zpl_names.specs.Kinds.{Shape}
 use Rattle.zpl_names.specs.Scope.{Scope, kind_of}
 use Rattle.zpl_names.specs.Ranks.{direction_rank, region_shape}
