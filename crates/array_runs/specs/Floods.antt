@@ -1,5 +1,5 @@
--- What is asked of an assignment of an array before the run: of flood dimensions alone, whatever the
--- current regions are.
+-- What is asked of an assignment of an array before the run: of flood dimensions alone, whatever
+-- the current regions are.
 use Rattle.std.specs.Prelude.{◌≡◌, ◌⊎◌, ◌-◌, ◌<◌, ℕ, zero, suc, Bool, true, false, ℤ, List, [], ◌∷◌, length, map, Option, Some, None, slice_get}
 use Rattle.zpl_nums.specs.declared.operators.Op.{Op}
 use Rattle.zpl_region.specs.declared.regions.Region.{Region}
@@ -96,7 +96,8 @@ pub record IsArrayServed (name : Name) (op : Option Op) (value : Expr) (w : Wher
       ⊎ IsScalar place.environment (assigned_expr name op value)
   pub writable : IsWritableAs (slotted_at w.currents (handed (reach_of place) (Assigned name op)))
       (slice_get w.numbers.arrays target)
-  pub masked : IsReadableMaskAs w (slotted_at w.currents (handed (reach_of place) (Assigned name op)))
+  pub masked : IsReadableMaskAs w
+      (slotted_at w.currents (handed (reach_of place) (Assigned name op)))
       (slotted_at w.currents (handed (reach_of place) (Assigned name op))).mask
   pub elementwise : IsElementwiseAs w
       (slotted_at w.currents (handed (reach_of place) (Assigned name op)))

@@ -487,7 +487,8 @@ module _ (world : World) (setup : Setup) (IsCallable : List ℕ → Type 0)
           (stmt_suits first w p both.0, all_suit rest w p both.1)
 
       form_suits : (form : Form) (at : ℕ) (w : Where) (p : Place)
-          → IsServedForm setup IsCallable at form p → SuitsForm Bare (ScalarLeaf setup IsCallable) at form w p
+          → IsServedForm setup IsCallable at form p
+          → SuitsForm Bare (ScalarLeaf setup IsCallable) at form w p
       form_suits (Assign name op value) at w p h = assigned_of at name op value w p h
       form_suits (Invoke name actuals) at w p h = invoked_of at name actuals w p h
       form_suits (Block body) at w p h =
@@ -545,6 +546,9 @@ module _ (world : World) (setup : Setup) (IsCallable : List ℕ → Type 0)
         → Goes world (λ w p. IsServed setup IsCallable stmt p)
         (λ c store. mean.exec c world.turns stmt store) (λ l next. low.lowered l next stmt) 0
     stmt_agrees stmt =
-        goes_by world (λ w p. IsServed setup IsCallable stmt p) (SuitsStmt Bare (ScalarLeaf setup IsCallable) stmt)
+        goes_by world (λ w p. IsServed setup IsCallable stmt p)
+        (SuitsStmt Bare (ScalarLeaf setup IsCallable) stmt)
         (λ c store. mean.exec c world.turns stmt store) (λ l next. low.lowered l next stmt) 0
-        (λ w p h. stmt_suits stmt w p h) (suited_goes world Bare (ScalarLeaf setup IsCallable) bare_goes (scalar_leaves world setup IsCallable calls) stmt)
+        (λ w p h. stmt_suits stmt w p h)
+        (suited_goes world Bare (ScalarLeaf setup IsCallable) bare_goes
+        (scalar_leaves world setup IsCallable calls) stmt)

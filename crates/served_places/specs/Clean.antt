@@ -1,6 +1,6 @@
--- Statements of scalars and arrays that are proper, whose ranks agree, and in which no flood dimension
--- meets what it can't meet: by their text, at a place of the meaning, under current regions of these
--- shapes.
+-- Statements of scalars and arrays that are proper, whose ranks agree, and in which no flood
+-- dimension meets what it can't meet: by their text, at a place of the meaning, under current regions
+-- of these shapes.
 use Rattle.std.specs.Prelude.{◌≡◌, ◌⊎◌, ℕ, false, List, [], ◌∷◌, length, Option, Some}
 use Rattle.zpl_nums.specs.declared.operators.Op.{Op}
 use Rattle.zpl_region.specs.declared.regions.Region.{Region}

@@ -1,5 +1,5 @@
--- What is known of brackets in accepted programs: declared regions and directions have no fault, and
--- numbers are of 64 bits.
+-- What is known of brackets in accepted programs: declared regions and directions have no fault,
+-- and numbers are of 64 bits.
 use Rattle.std.specs.Prelude.{◌≡◌, ℕ, [], Some}
 use Rattle.zpl_nums.specs.Integer.{IsInteger}
 use Rattle.zpl_tree.specs.Syntax.{Name, Expr, Number, Truth, Coord, Named, Shifted, Around, Remap, Call, Paren, Neg, Not, Abs, Pair, Reduce, Scan, Flood, Inner, Rexpr, Dims, DimText, Blank, Star, One, Span, DimTexts, NoDim, ThenDim}

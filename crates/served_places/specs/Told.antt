@@ -68,8 +68,8 @@ place_of w environment result currents edge = record {
   edge = edge;
 }
 
--- The same names stand there, for what is seen of a state; and where there is a current region, there
--- is a slot.
+-- The same names stand there, for what is seen of a state; and where there is a current region,
+-- there is a slot.
 pub record IsSeenFrom (spots : List Spot) (w : Where) (environment : Environment)
     (currents : Currents) : Type 0 where
   pub names : (text : List ℕ) → thing_of environment text

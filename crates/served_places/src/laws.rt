@@ -41,7 +41,8 @@ pub trait Callables {
 pub fn assigned_arrays_are_served()
     ensures { (spots : List Spot) (w : Where) (environment : Environment) (answer : ℕ)
         (currents : Currents) (edge : Option Edge) → IsSeenFrom spots w environment currents →
-        (shapes : Shapes) → IsTold w shapes → (shattered : Rank) (result : Option Base) (at : ℕ) (prefixes : List Prefix) (name : Name)
+        (shapes : Shapes) → IsTold w shapes → (shattered : Rank) (result : Option Base) (at : ℕ)
+        (prefixes : List Prefix) (name : Name)
         (op : Option Operator) (value : Expr) (target : ℕ) (home : Places) →
         thing_of w.environment name.text ≡ Some (ArrayAt target home) → IsPlainExpr value →
         IsPlainAssign (place_of w environment answer currents edge) name op value →
