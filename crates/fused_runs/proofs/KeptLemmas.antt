@@ -165,7 +165,7 @@ module _ (tables : Tables) (n : ℕ) where
   abbrev pub rewrite : List Instr → List Grouped
   rewrite front = joined tables [] None (map (grouped.grouped tables) front)
 
-  old_rows : (rows : List Instr) (s : Whole)
+  pub old_rows : (rows : List Instr) (s : Whole)
       → through (row_does tables n) (map (grouped.grouped tables) rows) s
       ≡ through (does tables n) rows s
   old_rows [] s = refl
