@@ -155,7 +155,8 @@ apart_still = (refl, refl)
 -- ---- a cell that the second loop doesn't keep starts as 0, and joined as what the first one kept
 abbrev with_cell : Tables
 with_cell = with_loops 1
-    (loop (Cell 0 (Const (pos 5) ∷ []) None 1) ∷ put 1 (word.Cell 0 ∷ []) 2 ∷ gathered ∷ [])
+    (Loop 0 (Cell 0 (Const (pos 5) ∷ []) None 1 ∷ Put 0 (Const (pos 1) ∷ []) None 1 ∷ [])
+    ∷ put 1 (word.Cell 0 ∷ []) 2 ∷ gathered ∷ [])
 
 cell_apart : flat_run with_cell 1 0 ≡ shown (codes "0 0 0") (Ends Done)
 unfolding digits int_wrap
