@@ -1,18 +1,18 @@
 -- A stored array is read well where its check passes.
-use Rattle.std.proofs.Common.{◌≡◌, refl, sym, ◌∙◌, ap, subst, arith, ℕ, Bool, true, false}
+use Rattle.std.proofs.Common.{◌≡◌, refl, sym, ◌∙◌, subst, arith, Bool, true, false}
 use Rattle.std.proofs.Common.{true≢false, List, [], ◌∷◌, length, map, ℤ, pos, ◌+ℤ◌, ◌-ℤ◌, All}
-use Rattle.std.specs.Prelude.{◌&&◌, ◌||◌, ◌==◌, if◌then◌else◌}
+use Rattle.std.specs.Prelude.{◌&&◌, ◌||◌, if◌then◌else◌}
 use Rattle.std.specs.List.{AllByRecursion, AllZip, list_all}
 use Rattle.std.proofs.lemmas.Int.{ints}
 use Rattle.std.proofs.lemmas.Bool.{and_from, and_parts, eqb-true}
-use Rattle.std.proofs.lemmas.List.Elements.{All-cons, All-nil, All-from_recursion, recursion_from_All}
+use Rattle.std.proofs.lemmas.List.Elements.{All-from_recursion, recursion_from_All}
 use Rattle.zpl_region.specs.declared.dims.Dim.{Dim}
 use Rattle.zpl_region.specs.declared.dims.Dim.TheVariants.{Range, Flood}
 use Rattle.zpl_region.specs.declared.regions.Region.{Region}
-use Rattle.zpl_region.specs.Dim.{HasStep, IsCoordinate, IsMultiple, coordinates, dim_moved}
+use Rattle.zpl_region.specs.Dim.{HasStep, IsCoordinate, IsMultiple, dim_moved}
 use Rattle.zpl_region.specs.Ends.{has_none, tuple_count}
 use Rattle.zpl_region.specs.Hull.{IsBoxed}
-use Rattle.zpl_region.specs.Region.{IsMember, components, each, members, moved, tuples}
+use Rattle.zpl_region.specs.Region.{IsMember, components, each, members, moved}
 use Rattle.zpl_region.proofs.EndLemmas.{length-tuple_count}
 use Rattle.zpl_arrays.specs.Array.{Array, each_has_place, has_place}
 use Rattle.zpl_arrays.specs.Reference.{dim_lies_in, each_lies_in, is_reference}
@@ -92,9 +92,10 @@ range_place from to every base lo hi low high d x step e is =
     whole_place (dim_moved d (Range from to every base) ∷ []) (axis.Range lo hi low high ∷ [])
     ((x +ℤ d) ∷ []) (step, tt) refl
     (and_from (dim_lies_in (dim_moved d (Range from to every base)) (Range lo hi (pos 1) lo)) true
-    e refl)
-    ((omega (arith, ints, is.0), omega (arith, ints, is.1), still_multiple every base d x is.2),
-    tt)
+    e refl) (
+      (omega (arith, ints, is.0), omega (arith, ints, is.1), still_multiple every base d x is.2),
+      tt,
+    )
 
 pub place_there : (own : List Dim) (rows : List ArrayDim) (v t : List ℤ)
     → AllByRecursion HasStep own → length own ≡ length rows

@@ -3,12 +3,12 @@ use Rattle.std.proofs.Common.{◌≡◌, refl, sym, ◌∙◌, ap, subst, arith,
 use Rattle.std.proofs.Common.{true≢false, List, [], ◌∷◌, ◌++◌, map, Option, Some, None}
 use Rattle.std.specs.Prelude.{◌&&◌, ◌==◌, flat_map, if◌then◌else◌, is_none, option_and_then}
 use Rattle.std.specs.Prelude.{slice_get, ⊤}
-use Rattle.std.specs.List.{AllByRecursion, AllZip, list_all, list_any}
+use Rattle.std.specs.List.{AllByRecursion, list_all}
 use Rattle.std.proofs.lemmas.Bool.Decides.{nat_tests}
 use Rattle.std.proofs.lemmas.Grind.{flat_map-append}
 use Rattle.std.proofs.lemmas.List.Elements.{recursion_from_All}
 use Rattle.zpl_region.specs.declared.regions.Region.{Region}
-use Rattle.row_runs.specs.Run.{Does, Effect, Goes, Leaps, Passes, Result, Step, Stops, Wrong, runs}
+use Rattle.row_runs.specs.Run.{Does, Effect, Goes, Leaps, Passes, Stops, Wrong, runs}
 use Rattle.row_runs.specs.Segments.{Keeps}
 use Rattle.row_runs.specs.Straight.{Flow, Halts, IsStep, OnTo, Stepping, Tied, TiedHalt, TiedOn}
 use Rattle.row_runs.specs.Straight.{TiedWrong, flow_behind, flow_step, through}
@@ -17,11 +17,10 @@ use Rattle.node_form.specs.declared.instructions.Instr.{Instr}
 use Rattle.node_form.specs.declared.instructions.Instr.TheVariants as instr
 use Rattle.node_form.specs.declared.members.Member.{Member}
 use Rattle.node_form.specs.declared.tables.Tables.{Tables}
-use Rattle.node_form.specs.declared.touches.Thing.TheVariants as thing
 use Rattle.node_form.specs.Fits.{Fits, FitsInstr}
 use Rattle.nest_meaning.specs.Tree.{nest_of}
 use Rattle.code_parts.specs.Stretch.{ends_stretch}
-use Rattle.code_parts.specs.Uses.{accumulated_by, members_of, rows_or_none}
+use Rattle.code_parts.specs.Uses.{accumulated_by, members_of}
 use Rattle.flat_form.specs.Act.{act, flat_run}
 use Rattle.flat_form.specs.Loop.{loop_stands, looped, tree_does}
 use Rattle.flat_form.specs.Right.{are_settled}
@@ -46,7 +45,7 @@ use Rattle.contracted_runs.specs.Three.{HaveThreeDims}
 use Rattle.fused_runs.specs.Typed.{IsTyped}
 use Rattle.fused_runs.proofs.BareLemmas.{IsBare, both_bare, no_cells, rows_fine}
 use Rattle.fused_runs.proofs.BeginLemmas.{NotAmong, inline}
-use Rattle.fused_runs.proofs.ForwardLemmas.{StandsAtZero, turns_are_joined}
+use Rattle.fused_runs.proofs.ForwardLemmas.{turns_are_joined}
 use Rattle.fused_runs.proofs.HoldsLemmas.{Holds, IsGood, all_good, groups_apart, holds_first}
 use Rattle.fused_runs.proofs.HoldsLemmas.{holds_on, is_one_of}
 use Rattle.fused_runs.proofs.JoinedLemmas.{IsSame, same_flow, scalar_left, slot_left, storages}

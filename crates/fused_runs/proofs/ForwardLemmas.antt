@@ -1,8 +1,7 @@
 -- Two loops in turn, and the loop over both groups: where both may stand in turn, so may the joined
 -- one; and where the first one comes to a trap, it does so too, if it may stand there.
 use Rattle.std.proofs.Common.{◌≡◌, refl, sym, ◌∙◌, ap, subst, arith, ℕ, Bool, true, false}
-use Rattle.std.proofs.Common.{true≢false}
-use Rattle.std.proofs.Common.{List, [], ◌∷◌, ◌++◌, map, Option, Some, None, inl, inr}
+use Rattle.std.proofs.Common.{List, [], ◌∷◌, ◌++◌, Option, Some, None, inl, inr}
 use Rattle.std.specs.Prelude.{◌&&◌, ◌||◌, ◌==◌, ◌⊎◌, flat_map, fold, if◌then◌else◌, not, is_none}
 use Rattle.std.specs.Prelude.{option_and_then, slice_get}
 use Rattle.std.specs.List.{AllByRecursion, list_all, list_any}
@@ -14,7 +13,7 @@ use Rattle.zpl_nums.specs.declared.ends.End.TheVariants.{Trap}
 use Rattle.zpl_nums.specs.declared.ends.TrapKind.TheVariants.{DivideByZero}
 use Rattle.zpl_nums.specs.Fold.{unit_of}
 use Rattle.zpl_region.specs.declared.regions.Region.{Region}
-use Rattle.row_runs.specs.Run.{Does, Effect, Ends, Goes, Step, Stops, Wrong}
+use Rattle.row_runs.specs.Run.{Does, Ends, Goes, Step, Stops, Wrong}
 use Rattle.row_runs.specs.Straight.{Flow, TiedHalt, TiedWrong, flow_behind, flow_step}
 use Rattle.node_form.specs.declared.members.Member as number
 use Rattle.node_form.specs.declared.tables.Tables.{Tables}

@@ -1,8 +1,8 @@
 -- What holds at every place of a run: of its state, and of scalars whose fold is still to come.
-use Rattle.std.proofs.Common.{◌≡◌, refl, sym, ◌∙◌, ap, subst, ℕ, zero, suc, Bool, true, false}
-use Rattle.std.proofs.Common.{true≢false, List, [], ◌∷◌, ◌++◌, Option, Some, None, All, Any}
+use Rattle.std.proofs.Common.{◌≡◌, refl, sym, ◌∙◌, ap, ℕ, zero, suc, Bool, true, false}
+use Rattle.std.proofs.Common.{true≢false, List, [], ◌∷◌, Option, Some, None, Any}
 use Rattle.std.proofs.Common.{arith, replicate}
-use Rattle.std.specs.Prelude.{◌==◌, ◌||◌, flat_map, if◌then◌else◌, is_none, option_and_then}
+use Rattle.std.specs.Prelude.{◌==◌, flat_map, if◌then◌else◌, is_none, option_and_then}
 use Rattle.std.specs.Prelude.{slice_get, slice_set}
 use Rattle.std.specs.List.{AllByRecursion, list_any}
 use Rattle.std.specs.Option.{IsSomeAnd}
@@ -10,7 +10,7 @@ use Rattle.std.proofs.lemmas.Bool.Decides.{nat_tests}
 use Rattle.std.proofs.lemmas.List.Elements.{All-from_recursion, recursion_from_All}
 use Rattle.std.proofs.lemmas.List.Folds.{list_any-append}
 use Rattle.zpl_nums.specs.declared.folds.Fold.{Fold}
-use Rattle.row_runs.specs.Run.{Does, Effect, Goes, Step, Stops, Wrong}
+use Rattle.row_runs.specs.Run.{Does, Effect, Goes, Stops, Wrong}
 use Rattle.node_form.specs.declared.instructions.Instr.{Instr}
 use Rattle.node_form.specs.declared.instructions.Instr.TheVariants as instr
 use Rattle.node_form.specs.declared.members.Member.{Member}
@@ -22,7 +22,7 @@ use Rattle.node_form.specs.Control.{Control}
 use Rattle.node_form.specs.Fits.{Fits, FitsInstr, IsRank}
 use Rattle.node_form.specs.Touch.{IsWritten, IsWrittenByMember}
 use Rattle.code_parts.specs.Uses.{accumulated_by, members_of, rows_or_none}
-use Rattle.flat_form.specs.Act.{control_of, controlled, folded, is_awaited}
+use Rattle.flat_form.specs.Act.{control_of, controlled, is_awaited}
 use Rattle.flat_form.specs.Right.{are_settled, is_settled}
 use Rattle.flat_form.specs.Row.{inlined}
 use Rattle.flat_form.specs.States.{IsWhole}

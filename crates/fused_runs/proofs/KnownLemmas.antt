@@ -1,19 +1,18 @@
 -- References that are known can be read, at every place of a run.
-use Rattle.std.proofs.Common.{◌≡◌, refl, sym, ◌∙◌, ap, subst, arith, ℕ, zero, suc, Bool, true, false}
-use Rattle.std.proofs.Common.{true≢false, List, [], ◌∷◌, ◌++◌, ℤ, pos, All, drop, length}
+use Rattle.std.proofs.Common.{◌≡◌, refl, sym, ◌∙◌, ap, subst, ℕ, zero, suc, Bool, true, false}
+use Rattle.std.proofs.Common.{true≢false, List, [], ◌∷◌, ℤ, pos, drop, length}
 use Rattle.std.proofs.Common.{Option, Some, None}
 use Rattle.std.specs.Prelude.{◌&&◌, ◌||◌, ◌==◌, filter, if◌then◌else◌, not, slice_get, slice_set}
 use Rattle.std.specs.List.{AllByRecursion, AllZip, list_all, list_any}
 use Rattle.std.specs.Option.{IsSomeAnd, option_map}
 use Rattle.std.proofs.lemmas.Bool.{and_from, and_parts}
 use Rattle.std.proofs.lemmas.List.Elements.{recursion_from_All}
-use Rattle.zpl_region.specs.Dim.{HasStep}
 use Rattle.zpl_region.specs.declared.regions.Region.{Region}
 use Rattle.zpl_region.specs.Region.{IsMember, components, members}
 use Rattle.zpl_arrays.specs.Array.{Array, has_place}
 use Rattle.zpl_arrays.specs.Reference.{is_reference}
 use Rattle.zpl_nums.specs.declared.ends.TrapKind.TheVariants.{OutsideStorage}
-use Rattle.row_runs.specs.Run.{Does, Effect, Goes, Step, Stops, Wrong}
+use Rattle.row_runs.specs.Run.{Does, Effect, Goes, Stops, Wrong}
 use Rattle.node_form.specs.declared.arrays.ArrayRow.{ArrayRow}
 use Rattle.node_form.specs.declared.arrays.Item.{Item}
 use Rattle.node_form.specs.declared.instructions.Instr.{Instr}
@@ -22,7 +21,6 @@ use Rattle.node_form.specs.declared.tables.Tables.{Tables}
 use Rattle.node_form.specs.Control as control
 use Rattle.node_form.specs.Fits.{FitsInstr, HasSlot, IsVector, storage_of}
 use Rattle.node_form.specs.Value.{unmoved}
-use Rattle.grid_meaning.specs.Place.{moved_by}
 use Rattle.grid_meaning.specs.Room.{zeros_at}
 use Rattle.code_parts.specs.Uses.{is_item, written_slots}
 use Rattle.flat_form.specs.Act.{controlled}
@@ -137,8 +135,10 @@ module _ (tables : Tables) where
         → is_reference item.shift region (storage_of row) ≡ true)
         → Lies s item
     checked_lies item rank over vector stored passes =
-        record { lies = λ region here some. by region here some (slice_get tables.arrays item.array)
-        refl stored }
+        record {
+          lies = λ region here some. by region here some (slice_get tables.arrays item.array)
+              refl stored;
+        }
       where
         by_store : (region : Region) → slice_get s.slots item.slot ≡ Some region
             → (members region ≡ [] → ⊥) → (row : ArrayRow)

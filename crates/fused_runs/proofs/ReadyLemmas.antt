@@ -1,7 +1,7 @@
 -- Where a loop comes to a zero divisor, one that joins it may stand in front of that trap.
 use Rattle.std.proofs.Common.{◌≡◌, refl, sym, ◌∙◌, ap, subst, ℕ, Bool, true, false, true≢false}
 use Rattle.std.proofs.Common.{List, [], ◌∷◌, ◌++◌, map, ℤ, Option, Some, None}
-use Rattle.std.specs.Prelude.{◌&&◌, ◌||◌, ◌==◌, flat_map, if◌then◌else◌, not, slice_get}
+use Rattle.std.specs.Prelude.{◌&&◌, flat_map, if◌then◌else◌, not, slice_get}
 use Rattle.std.specs.List.{AllByRecursion, list_all, list_any}
 use Rattle.std.proofs.lemmas.Bool.{and_from, and_parts}
 use Rattle.std.proofs.lemmas.Grind.{flat_map-append}
@@ -24,7 +24,7 @@ use Rattle.node_form.specs.Value.{unmoved}
 use Rattle.code_parts.specs.Uses.{put_by, scalars_in, share}
 use Rattle.code_parts.specs.Uses as uses
 use Rattle.flat_form.specs.Loop.{loop_stands}
-use Rattle.flat_form.specs.Names.{Read, Total, each_word, group_puts, group_reads, group_totals}
+use Rattle.flat_form.specs.Names.{each_word, group_puts, group_reads, group_totals}
 use Rattle.flat_form.specs.Names.{group_words, member_puts, member_totals, word_reads, word_scalars}
 use Rattle.flat_form.specs.Right.{all_begin, are_settled, can_read, can_write, has_places}
 use Rattle.flat_form.specs.Right.{dim_covers, dim_matches, each_covers, each_matches, is_settled}

@@ -12,7 +12,6 @@ use Rattle.zpl_arrays.specs.Border.{border_source}
 use Rattle.zpl_arrays.specs.Flood.{flood_source}
 use Rattle.zpl_arrays.specs.Fold.{partly_reduced}
 use Rattle.row_runs.specs.Run.{Does, Effect, Goes, Step, Stops, Wrong}
-use Rattle.node_form.specs.declared.arrays.Item.{Item}
 use Rattle.node_form.specs.declared.instructions.Instr.{Instr}
 use Rattle.node_form.specs.declared.instructions.Instr.TheVariants as instr
 use Rattle.node_form.specs.declared.tables.Tables.{Tables}
