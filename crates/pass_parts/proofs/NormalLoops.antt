@@ -565,9 +565,12 @@ module _ (tables : Tables) where
         (group_there plan before (groups_of (walked (at + 1) rows)) members count is size)
         (all_there group) goes needed)
         (later (n + 1) (count + 1) (one_since slot count) (before ++ members ∷ []) goals
-        (reset_goes (n + 1) (one_since slot count) (one_since slot group)
-        (refl, refl, same_stands (members_of plan count) members
-        (group_there plan before (groups_of (walked (at + 1) rows)) members count is size))) right
+        (reset_goes (n + 1) (one_since slot count) (one_since slot group) (
+          refl,
+          refl,
+          same_stands (members_of plan count) members
+              (group_there plan before (groups_of (walked (at + 1) rows)) members count is size),
+        )) right
         (is ∙ sym (append_assoc before (members ∷ []) (groups_of (walked (at + 1) rows))))
         (length-append before (members ∷ []) ∙ ap (λ k. k + 1) size))
 
@@ -623,10 +626,13 @@ module _ (tables : Tables) where
         ((before ++ one ∷ []) ++ other ∷ [])
         (subst (λ k. GoalsMoved tables.code plan.code (at + 1) (counted (at + 1) k rows)) three
         goals)
-        (reset_goes (n + 1 + 1 + 1) (one_since slot (first + 1)) (one_since slot group)
-        (refl, refl, stands_on (members_of plan (first + 1)) (members_of tables group)
-        (ap (list_any is_accumulating) put_there ∙ ap (list_any is_accumulating) (sym is_put))
-        (ap (flat_map put_by) put_there ∙ ap (flat_map put_by) (sym is_put)))) right
+        (reset_goes (n + 1 + 1 + 1) (one_since slot (first + 1)) (one_since slot group) (
+          refl,
+          refl,
+          stands_on (members_of plan (first + 1)) (members_of tables group)
+              (ap (list_any is_accumulating) put_there ∙ ap (list_any is_accumulating) (sym is_put))
+              (ap (flat_map put_by) put_there ∙ ap (flat_map put_by) (sym is_put)),
+        )) right
         (second_is ∙ sym (append_assoc (before ++ one ∷ []) (other ∷ []) more))
         (length-append (before ++ one ∷ []) (other ∷ []) ∙ ap (λ k. k + 1) second_size)))
       where

@@ -1,6 +1,6 @@
 -- What may stand wherever the second of two groups does may stand wherever both do, where the second
 -- one may stand wherever the first one does.
-use Rattle.std.proofs.Common.{◌≡◌, refl, sym, ap, ◌∙◌, subst, ℕ, ◌==◌, Bool, true, false, not}
+use Rattle.std.proofs.Common.{◌≡◌, refl, sym, ap, ◌∙◌, ℕ, ◌==◌, Bool, true, false, not}
 use Rattle.std.proofs.Common.{true≢false, List, [], ◌∷◌, ◌++◌}
 use Rattle.std.specs.Prelude.{◌&&◌, ◌||◌, flat_map, Option, Some, None, slice_get}
 use Rattle.std.specs.List.{list_all, list_any}
@@ -15,7 +15,7 @@ use Rattle.node_form.specs.declared.arrays.ArrayRow.{ArrayRow}
 use Rattle.node_form.specs.declared.members.Member.{Member}
 use Rattle.node_form.specs.declared.tables.Tables.{Tables}
 use Rattle.code_parts.specs.Uses.{member_words, put_by, scalars_in, share}
-use Rattle.temp_norm.specs.Normalised.{is_like, is_same_kind}
+use Rattle.temp_norm.specs.Normalised.{is_same_kind}
 use Rattle.fuse_contract.specs.Fusing.{all_accumulated, are_like, are_put_alike, are_rows_like}
 use Rattle.fuse_contract.specs.Fusing.{is_accumulating, stands_with}
 
