@@ -117,8 +117,12 @@ fn all_like(tables: &Tables, array: u32, others: &Rows<u32>) -> bool
 fn are_like(tables: &Tables, array: u32, other: u32) -> bool
     ensures { result ≡ are_like tables.now array other }
 {
-    let Some(row) = tables.arrays.get(u64::from(array)) else { return false };
-    let Some(other_row) = tables.arrays.get(u64::from(other)) else { return false };
+    let Some(row) = tables.arrays.get(u64::from(array)) else {
+        return false
+    };
+    let Some(other_row) = tables.arrays.get(u64::from(other)) else {
+        return false
+    };
     is_like(row, other_row)
 }
 
