@@ -1,0 +1,13 @@
+pub mod AwaitLemmas
+pub mod ColumnLemmas
+pub mod FlatLemmas
+pub mod GroupLemmas
+pub mod KeepLemmas
+pub mod LineLemmas
+pub mod MemberLemmas
+pub mod NestLemmas
+pub mod PartLemmas
+pub mod ShareLemmas
+pub mod TupleLemmas
+pub mod WordLemmas
+pub mod WriteLemmas

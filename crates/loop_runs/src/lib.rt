@@ -1,0 +1,4 @@
+//! Loops of plans do what the flat loops do.
+//!
+//! The lemmas stand in `proofs/`. Nothing here runs.
+#![tactic(auto)]
