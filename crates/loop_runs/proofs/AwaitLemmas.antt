@@ -1,9 +1,8 @@
 -- Behind a loop the fold of each scalar that it accumulates is to come.
-use Rattle.std.proofs.Common.{◌≡◌, ◌⊎◌, inl, inr, refl, sym, ◌∙◌, ap, subst, arith, ℕ, zero, suc, ◌<◌}
-use Rattle.std.proofs.Common.{Bool, true, false, true≢false, ◌||◌, List, [], ◌∷◌, length, map, Option, Some}
-use Rattle.std.proofs.Common.{None, eqb-true}
+use Rattle.std.proofs.Common.{◌≡◌, inl, inr, refl, sym, ◌∙◌, ap, subst, arith, ℕ, zero, suc, ◌<◌}
+use Rattle.std.proofs.Common.{Bool, true, false, true≢false, ◌||◌, List, [], ◌∷◌, length, map, Some}
+use Rattle.std.proofs.Common.{eqb-true}
 use Rattle.std.specs.Prelude.{◌==◌, fold, slice_get, slice_set}
-use Rattle.std.specs.List.{list_any}
 use Rattle.zpl_nums.specs.declared.folds.Fold.{Fold}
 use Rattle.zpl_region.proofs.ListLemmas.{Among}
 use Rattle.flat_form.specs.Loop.{awaiting}

@@ -1,13 +1,12 @@
 -- Behind a loop that goes on all processors hold the flat state.
-use Rattle.std.proofs.Common.{◌≡◌, ◌⊎◌, inl, inr, refl, sym, ◌∙◌, ap, subst, arith, ℕ, zero, suc, ◌+◌}
-use Rattle.std.proofs.Common.{◌<◌, Bool, true, false, true≢false, List, [], ◌∷◌, ◌++◌, length, map, All, ℤ}
+use Rattle.std.proofs.Common.{◌≡◌, inl, inr, refl, sym, ◌∙◌, ap, subst, arith, ℕ, zero, suc, ◌+◌}
+use Rattle.std.proofs.Common.{◌<◌, Bool, true, false, true≢false, List, [], ◌∷◌, length, map, All, ℤ}
 use Rattle.std.proofs.Common.{pos, Option, Some, None, IsPermutation}
-use Rattle.std.specs.Prelude.{flat_map, fold, is_none, option_and_then, slice_get, slice_index_or, ⊤}
+use Rattle.std.specs.Prelude.{flat_map, fold, is_none, option_and_then, slice_get, slice_index_or}
 use Rattle.std.specs.List.{AllZip, range_with_len}
 use Rattle.std.proofs.lemmas.List.Elements.{All-nil, All-cons}
 use Rattle.zpl_nums.specs.declared.folds.Fold.{Fold}
 use Rattle.zpl_nums.specs.Fold.{folded, joined, unit_of}
-use Rattle.zpl_region.specs.declared.regions.Region.{Region}
 use Rattle.zpl_region.proofs.ListLemmas.{Among}
 use Rattle.zpl_arrays.specs.Array.{Array, IsArray}
 use Rattle.grid_layout.specs.Words.{numbers_from}
@@ -21,10 +20,10 @@ use Rattle.row_orders.specs.Agreement.{joined_over}
 use Rattle.flat_form.specs.Loop.{awaiting}
 use Rattle.flat_form.specs.Names.{Total, group_totals}
 use Rattle.flat_form.specs.Right.{is_among, is_settled}
-use Rattle.flat_form.specs.Row.{Member, member_inlined}
+use Rattle.flat_form.specs.Row.{member_inlined}
 use Rattle.flat_form.specs.States.{IsWhole}
 use Rattle.flat_form.specs.Whole.{Whole}
-use Rattle.plan_meaning.specs.Abreast.{Abreast, Share, locals_of, standing}
+use Rattle.plan_meaning.specs.Abreast.{Abreast, Share, locals_of}
 use Rattle.needs_runs.specs.Holds.{Holds, HoldsOwn}
 use Rattle.needs_runs.proofs.HoldsLemmas.{joined_same, some_processors}
 use Rattle.needs_runs.proofs.OwnerLemmas.{processors_are}
@@ -32,15 +31,14 @@ use Rattle.needs_runs.proofs.RoomRows.{all_get}
 use Rattle.needs_runs.proofs.SlotLemmas.{zip_back}
 use Rattle.loop_runs.proofs.AwaitLemmas.{IsAwaited, await_here, await_other, await_scalars, await_slots}
 use Rattle.loop_runs.proofs.AwaitLemmas.{await_stores, numbers}
-use Rattle.loop_runs.proofs.FlatLemmas.{Kept, kept_joins}
+use Rattle.loop_runs.proofs.FlatLemmas.{Kept}
 use Rattle.loop_runs.proofs.GroupLemmas.{all_at, among_left, among_map, among_of_is, begins, is_among_of}
 use Rattle.loop_runs.proofs.LoopEnd.{EndsAre, StageIs, ThroughTo, WroteTo, done_sum, ends_sum, part_has}
 use Rattle.loop_runs.proofs.LoopEnd.{sum_at, wrote_to}
 use Rattle.loop_runs.proofs.LoopStart.{Given, J, K, P, begins_unit, low, part, state, tuples}
 use Rattle.loop_runs.proofs.PartLemmas.{parts_are}
 use Rattle.loop_runs.proofs.TotalLemmas.{parts_joined, whole_folded}
-use Rattle.loop_runs.proofs.WriteLemmas.{all_joins, some_is}
-use Rattle.loop_runs.proofs.TupleLemmas.{bare_column}
+use Rattle.loop_runs.proofs.WriteLemmas.{some_is}
 
 -- ---- lists
 all_from : {X : Type 0} (Q : X → Type 0) (xs : List X)

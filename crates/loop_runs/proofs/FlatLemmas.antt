@@ -4,28 +4,26 @@
 --   Kept, Stage    what each tuple has come to; and the state of the flat loop there
 --   FlatTo         what a flat loop comes to
 --   flat_goes      so it does
-use Rattle.std.proofs.Common.{◌≡◌, ◌⊎◌, inl, inr, refl, sym, ◌∙◌, ap, subst, arith, ℕ, zero, suc}
-use Rattle.std.proofs.Common.{◌+◌, ◌≤◌, Bool, true, false, true≢false, List, [], ◌∷◌, ◌++◌, length}
+use Rattle.std.proofs.Common.{◌≡◌, inl, inr, refl, sym, ◌∙◌, ap, subst, arith, ℕ}
+use Rattle.std.proofs.Common.{◌+◌, Bool, true, false, List, [], ◌∷◌, ◌++◌, length}
 use Rattle.std.proofs.Common.{map, ℤ, Option, Some, None, append_assoc}
-use Rattle.std.specs.Prelude.{◌==◌, fold, if◌then◌else◌, option_and_then, slice_get, slice_set, ⊤}
+use Rattle.std.specs.Prelude.{◌==◌, if◌then◌else◌, option_and_then, slice_get, slice_set}
 use Rattle.zpl_nums.specs.declared.ends.End.TheVariants.{Trap, More}
 use Rattle.zpl_nums.specs.declared.ends.TrapKind.TheVariants.{DivideByZero}
 use Rattle.zpl_nums.specs.declared.folds.Fold.{Fold}
 use Rattle.zpl_nums.specs.Fold.{folded, joined, unit_of}
 use Rattle.zpl_nums.proofs.FoldLemmas.{folded-append, joined_assoc, joined_comm}
 use Rattle.zpl_region.specs.declared.regions.Region.{Region}
-use Rattle.zpl_region.proofs.ListLemmas.{Among}
 use Rattle.zpl_arrays.specs.Array.{flattened, has_place}
 use Rattle.row_runs.specs.Run.{Ends as Ended, Goes, Step, Stops, Wrong}
 use Rattle.row_runs.specs.Straight.{Every}
 use Rattle.node_form.specs.declared.tables.Tables.{Tables}
 use Rattle.node_form.specs.Nest.{Nest, members_of}
 use Rattle.grid_meaning.specs.Place.{held_value, moved_by, value_at}
-use Rattle.nest_meaning.specs.Alike.{AreBoth, AreLeaves, AreTold, AreValues, Both, BothFine, BothLost}
+use Rattle.nest_meaning.specs.Alike.{AreLeaves, AreTold, AreValues, Both, BothFine, BothLost}
 use Rattle.nest_meaning.specs.Alike.{BothWant, BothZero, JoinLeaf, KeepLeaf, Leaf, PutLeaf}
 use Rattle.nest_meaning.specs.Nested.{Ways, Told, Fine, Zero, Wants, Lost, nested}
 use Rattle.nest_meaning.proofs.AlikeLemmas.{does_alike}
-use Rattle.nest_meaning.proofs.JoinLemmas.{want_nothing}
 use Rattle.flat_form.specs.Loop.{AllFine, AllTold, Column, Joins, Log, Point, Puts, SomeLost}
 use Rattle.flat_form.specs.Loop.{SomeWant, SomeZero, Write, all_told, all_written, both_told}
 use Rattle.flat_form.specs.Loop.{columns_behind, element_at, from_written, log_ways, logged}
@@ -35,7 +33,7 @@ use Rattle.flat_form.specs.Row.{Words}
 use Rattle.flat_form.specs.Whole.{Whole}
 use Rattle.flat_form.proofs.WordLemmas.{every_append}
 use Rattle.loop_runs.proofs.NestLemmas.{NestOf, nest_same}
-use Rattle.loop_runs.proofs.ColumnLemmas.{AnyOf, From, Gone, HasFlag, IsLine, IsLoopless, Keeps, LoopsFirst}
+use Rattle.loop_runs.proofs.ColumnLemmas.{AnyOf, From, HasFlag, IsLine, IsLoopless, Keeps, LoopsFirst}
 use Rattle.loop_runs.proofs.ColumnLemmas.{Own, Waits, behind_first, less_from, own_from, own_next, own_run}
 use Rattle.loop_runs.proofs.WordLemmas.{ExprOf, LeafOf, is_moved_none, logged_append, value_by}
 use Rattle.loop_runs.proofs.WriteLemmas.{AllWrote, Apart, AreOwn, FarFrom, HasOwn, LogsOf, Placed}

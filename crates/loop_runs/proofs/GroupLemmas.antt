@@ -4,18 +4,16 @@
 --   puts_it                      whether an array is put
 --   members_of_group             each member reads and writes so
 use Rattle.std.proofs.Common.{◌≡◌, ◌⊎◌, inl, inr, refl, sym, ◌∙◌, ap, subst, arith, ℕ, zero, suc}
-use Rattle.std.proofs.Common.{◌<◌, ◌≤◌, Bool, true, false, true≢false, ◌&&◌, ◌||◌, List, [], ◌∷◌, ◌++◌}
-use Rattle.std.proofs.Common.{map, All, ℤ, Option, Some, None, eqb-true}
-use Rattle.std.specs.Prelude.{◌==◌, flat_map, fold, if◌then◌else◌, not, slice_get, slice_index_or, ⊤}
+use Rattle.std.proofs.Common.{◌<◌, Bool, true, false, true≢false, ◌&&◌, ◌||◌, List, [], ◌∷◌, ◌++◌}
+use Rattle.std.proofs.Common.{map, All, ℤ, Some, None, eqb-true}
+use Rattle.std.specs.Prelude.{◌==◌, flat_map, fold, if◌then◌else◌, not, slice_get, slice_index_or}
 use Rattle.std.specs.List.{list_all, list_any}
-use Rattle.std.specs.Option.{IfSome, IsSomeAnd, option_map}
 use Rattle.std.proofs.lemmas.Bool.Decides.{nat_tests}
 use Rattle.std.proofs.lemmas.List.Elements.{All-head, All-tail}
 use Rattle.zpl_nums.specs.declared.folds.Fold.{Fold}
 use Rattle.zpl_nums.specs.Fold.{unit_of}
 use Rattle.zpl_region.specs.declared.regions.Region.{Region}
 use Rattle.zpl_region.proofs.ListLemmas.{Among}
-use Rattle.row_runs.specs.Straight.{Every}
 use Rattle.node_form.specs.declared.arrays.Item.{Item}
 use Rattle.node_form.specs.declared.members.Member as number
 use Rattle.node_form.specs.declared.members.Member.TheVariants as member
@@ -25,25 +23,20 @@ use Rattle.node_form.specs.declared.words.ExprOp.TheVariants as word
 use Rattle.node_form.specs.Fits.{FitsExpr, FitsMember, FitsWord, HasArray}
 use Rattle.node_form.specs.Value.{unmoved}
 use Rattle.code_parts.specs.Exchanged as exchanged
-use Rattle.code_parts.specs.Uses.{as_list, divides_in, exprs_of, put_by, rows_or_none, shifted_in}
+use Rattle.code_parts.specs.Uses.{divides_in, exprs_of, put_by, rows_or_none, shifted_in}
 use Rattle.code_parts.specs.Uses as uses
 use Rattle.plan_form.specs.Units.{with_item}
 use Rattle.plan_form.proofs.ItemLemmas.{is_item-Decides}
 use Rattle.comm_needs.specs.Needs.{is_voted_on, needed_by, needs_of}
 use Rattle.flat_form.specs.Names.{Read, Total, each_word, group_puts, group_reads, group_totals}
-use Rattle.flat_form.specs.Names.{group_words, member_puts, member_totals, row_scalars, word_reads}
+use Rattle.flat_form.specs.Names.{group_words, member_puts, row_scalars, word_reads}
 use Rattle.flat_form.specs.Names.{word_scalars}
 use Rattle.flat_form.specs.Right.{all_begin, are_distinct, are_settled, can_read, can_write, is_among}
 use Rattle.flat_form.specs.Right.{is_settled, is_unmoved, is_value, no_flood, total_begins}
 use Rattle.flat_form.specs.Right.{totals_begin}
 use Rattle.flat_form.specs.Row.{Member, Loop, Words, member_inlined, member_words, words_at}
-use Rattle.flat_form.specs.Row.{mask_words}
 use Rattle.flat_form.specs.Loop.{loop_stands}
-use Rattle.flat_form.specs.Static.{are_among, cells_in}
 use Rattle.flat_form.specs.Whole.{Whole}
-use Rattle.loop_runs.proofs.KeepLemmas.{KeepsMember}
-use Rattle.loop_runs.proofs.NestLemmas.{MemberOf}
-use Rattle.loop_runs.proofs.WordLemmas.{ExprOf, LeafOf}
 use Rattle.needs_runs.proofs.HoldsLemmas.{both_parts}
 
 -- ---- lists

@@ -6,6 +6,8 @@ pub mod GroupLemmas
 pub mod KeepLemmas
 pub mod LineLemmas
 pub mod LoopEnd
+pub mod LoopLemmas
+pub mod LoopRows
 pub mod LoopStart
 pub mod MemberLemmas
 pub mod NestLemmas

@@ -5,10 +5,10 @@
 --   line_is         the line of the unit whose first member has a number
 --   loops_none      a group without `while` and `repeat` has no loop
 --   loops_first     one that has some has one unit
-use Rattle.std.proofs.Common.{◌≡◌, ◌⊎◌, inl, inr, refl, sym, ◌∙◌, ap, subst, arith, ℕ, zero, suc, ◌+◌}
-use Rattle.std.proofs.Common.{◌≤◌, Bool, true, false, true≢false, ◌||◌, List, [], ◌∷◌, ◌++◌, length, map}
-use Rattle.std.proofs.Common.{Option, Some, None, append_assoc, nat_le}
-use Rattle.std.specs.Prelude.{flat_map, not, option_and_then, slice_get, ⊤}
+use Rattle.std.proofs.Common.{◌≡◌, inl, inr, refl, sym, ◌∙◌, ap, subst, arith, ℕ, ◌+◌}
+use Rattle.std.proofs.Common.{◌≤◌, Bool, true, false, true≢false, ◌||◌, List, [], ◌∷◌, ◌++◌, length}
+use Rattle.std.proofs.Common.{Some, append_assoc, nat_le}
+use Rattle.std.specs.Prelude.{flat_map, not, slice_get}
 use Rattle.std.specs.List.{list_any}
 use Rattle.std.proofs.lemmas.Bool.Decides.{nat_tests}
 use Rattle.std.proofs.lemmas.List.{length-map}

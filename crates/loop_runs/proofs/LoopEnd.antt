@@ -4,18 +4,17 @@
 --   end_at, done_at   what a tuple has come to, in the one and the other
 --   part_has          arrays
 --   ends_sum, done_sum   what is accumulated
-use Rattle.std.proofs.Common.{◌≡◌, ◌⊎◌, inl, inr, refl, sym, ◌∙◌, ap, subst, arith, ℕ, zero, suc, ◌<◌}
-use Rattle.std.proofs.Common.{Bool, true, false, List, [], ◌∷◌, ◌++◌, length, map, ℤ, pos}
+use Rattle.std.proofs.Common.{◌≡◌, ◌⊎◌, inl, inr, refl, sym, ◌∙◌, ap, subst, ℕ, ◌<◌}
+use Rattle.std.proofs.Common.{Bool, true, false, List, [], ◌∷◌, map, ℤ}
 use Rattle.std.proofs.Common.{Option, Some, None}
-use Rattle.std.specs.Prelude.{option_and_then, slice_get, ⊤}
-use Rattle.std.specs.List.{AllZip}
+use Rattle.std.specs.Prelude.{slice_get}
 use Rattle.zpl_nums.specs.declared.folds.Fold.{Fold}
-use Rattle.zpl_nums.specs.Fold.{folded, joined, unit_of}
+use Rattle.zpl_nums.specs.Fold.{folded, joined}
 use Rattle.zpl_nums.proofs.FoldLemmas.{folded-append, folded-cons}
 use Rattle.zpl_region.specs.declared.regions.Region.{Region}
 use Rattle.zpl_region.specs.Region.{IsMember}
 use Rattle.zpl_region.proofs.ListLemmas.{Among}
-use Rattle.zpl_arrays.specs.Array.{Array, IsArray, each_has_place, element, flattened, has_place}
+use Rattle.zpl_arrays.specs.Array.{Array, each_has_place, element, flattened, has_place}
 use Rattle.zpl_arrays.proofs.ArrayLemmas.{place_of_member}
 use Rattle.row_runs.specs.Straight.{Every}
 use Rattle.node_form.specs.declared.arrays.ArrayRow.{ArrayRow}
@@ -23,8 +22,7 @@ use Rattle.node_form.specs.declared.tables.Tables.{Tables}
 use Rattle.node_form.specs.Fits.{storage_of}
 use Rattle.node_form.specs.Group as group_of
 use Rattle.grid_meaning.specs.Local.{processors}
-use Rattle.grid_meaning.specs.Place.{held_value, own_part, value_at}
-use Rattle.grid_meaning.specs.State.{IsStore}
+use Rattle.grid_meaning.specs.Place.{own_part, value_at}
 use Rattle.flat_form.specs.Loop.{Column, Log, Point, log_ways, logged}
 use Rattle.flat_form.specs.Whole.{Whole}
 use Rattle.plan_meaning.specs.Abreast.{Abreast}
@@ -34,10 +32,9 @@ use Rattle.normal_runs.proofs.PlaceLemmas.{Apart as AreApart}
 use Rattle.needs_runs.specs.Holds.{HasPart, lies_in_own}
 use Rattle.needs_runs.proofs.BringLemmas.{tuple_cases, value_held}
 use Rattle.needs_runs.proofs.ExchangeLemmas.{has_flattened}
-use Rattle.needs_runs.proofs.PlaceLemmas.{held_there, in_own_part, place_of_held}
+use Rattle.needs_runs.proofs.PlaceLemmas.{held_there, in_own_part}
 use Rattle.loop_runs.proofs.ColumnLemmas.{Gone, Keeps, Own, Waits, own_run}
-use Rattle.loop_runs.proofs.FlatLemmas.{Ends, Kept, KeptOwn, MoreEnds, NoEnd, Stage, kept_joins}
-use Rattle.loop_runs.proofs.GroupLemmas.{can_put}
+use Rattle.loop_runs.proofs.FlatLemmas.{Ends, Kept, MoreEnds, NoEnd, Stage, kept_joins}
 use Rattle.loop_runs.proofs.LoopStart.{C, D, Given, J, K, P, R, S, Zp, Zw, are, brought_here, distinct}
 use Rattle.loop_runs.proofs.LoopStart.{far, kept_at, low, one, part, state, tuples, units, zeros}
 use Rattle.loop_runs.proofs.LoopStart.{has_tuple, zeros_long}
@@ -46,10 +43,10 @@ use Rattle.loop_runs.proofs.PartLemmas.{inside_region, member_coordinates, membe
 use Rattle.loop_runs.proofs.PlaceLemmas.{matched_same, own_has, three}
 use Rattle.loop_runs.proofs.SpotLemmas.{IsWritable, held_of_value, is_written, own_flat, slot_of}
 use Rattle.loop_runs.proofs.SpotLemmas.{storage_or}
-use Rattle.loop_runs.proofs.TupleLemmas.{Done, HasState, HasTuple, IsThrough, MoreDone, NoneDone}
+use Rattle.loop_runs.proofs.TupleLemmas.{Done, IsThrough, MoreDone, NoneDone}
 use Rattle.loop_runs.proofs.TupleLemmas.{bare_column, whole_of}
 use Rattle.loop_runs.proofs.WriteLemmas.{AllWrote, AreOwn, FarFrom, HasOwn, all_joins, all_wrote, joins}
-use Rattle.loop_runs.proofs.WriteLemmas.{Apart, some_is, value_there}
+use Rattle.loop_runs.proofs.WriteLemmas.{Apart, some_is}
 
 -- ---- a tuple is one of some
 among_cases : (ts : List (List ℤ)) (v : List ℤ) → Among ts v ⊎ Every (λ t. v ≡ t → ⊥) ts

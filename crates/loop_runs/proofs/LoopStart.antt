@@ -4,9 +4,9 @@
 --   flat_to      what the flat loop comes to
 --   own_to       what a processor comes to
 use Rattle.std.proofs.Common.{◌≡◌, inl, inr, refl, sym, ◌∙◌, ap, subst, arith, ℕ, zero, suc, ◌<◌, ◌≤◌}
-use Rattle.std.proofs.Common.{Bool, true, false, List, [], ◌∷◌, ◌++◌, length, map, All, ℤ, pos}
+use Rattle.std.proofs.Common.{Bool, true, false, List, [], ◌∷◌, length, map, All, ℤ, pos}
 use Rattle.std.proofs.Common.{Option, Some, None, replicate, append-nil}
-use Rattle.std.specs.Prelude.{slice_get, ⊤}
+use Rattle.std.specs.Prelude.{slice_get}
 use Rattle.std.specs.Ordering.{int_eq}
 use Rattle.std.proofs.lemmas.Int.{ints}
 use Rattle.zpl_nums.specs.declared.folds.Fold.{Fold}
@@ -14,12 +14,12 @@ use Rattle.zpl_nums.specs.Fold.{folded, unit_of}
 use Rattle.zpl_region.specs.declared.regions.Region.{Region}
 use Rattle.zpl_region.specs.Region.{IsMember, members}
 use Rattle.zpl_region.proofs.ListLemmas.{Among}
-use Rattle.zpl_arrays.specs.Array.{Array, IsArray, flattened, has_place}
+use Rattle.zpl_arrays.specs.Array.{IsArray, flattened, has_place}
 use Rattle.row_runs.specs.Run.{Step}
 use Rattle.row_runs.specs.Straight.{Every}
 use Rattle.node_form.specs.declared.members.Member as number
 use Rattle.node_form.specs.declared.tables.Tables.{Tables}
-use Rattle.node_form.specs.Fits.{FitsExpr, FitsMember, storage_of}
+use Rattle.node_form.specs.Fits.{FitsExpr, FitsMember}
 use Rattle.node_form.specs.Nest.{Nest, members_of}
 use Rattle.node_form.specs.Value.{unmoved}
 use Rattle.code_parts.specs.Uses as uses
@@ -29,10 +29,10 @@ use Rattle.grid_meaning.specs.Place.{moved_by, own_part, value_at}
 use Rattle.grid_meaning.specs.State.{IsSlot}
 use Rattle.nest_meaning.specs.Tree.{nest_of}
 use Rattle.nest_meaning.specs.Units.{units_of}
-use Rattle.nest_meaning.proofs.Spelled.{spelled, spelled_is}
+use Rattle.nest_meaning.proofs.Spelled.{spelled_is}
 use Rattle.nest_meaning.proofs.TreeLemmas.{reads_only}
 use Rattle.flat_form.specs.Loop.{Column, logged, loop_stands, start_columns, units_do}
-use Rattle.flat_form.specs.Right.{are_settled, has_places, is_unmoved, is_value}
+use Rattle.flat_form.specs.Right.{are_settled, is_unmoved, is_value}
 use Rattle.flat_form.specs.Row.{Loop, Member, member_inlined}
 use Rattle.flat_form.specs.Static.{keeps_from}
 use Rattle.flat_form.specs.Whole.{Whole}

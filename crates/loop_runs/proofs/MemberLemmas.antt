@@ -2,10 +2,10 @@
 --
 --   units_of_group    units, and the cells that are kept in front of each
 --   units_good        nothing that they read is missing
-use Rattle.std.proofs.Common.{◌≡◌, inl, inr, refl, sym, ◌∙◌, ap, subst, arith, ℕ, zero, suc, ◌+◌}
+use Rattle.std.proofs.Common.{◌≡◌, inl, inr, refl, sym, ap, subst, arith, ℕ, ◌+◌}
 use Rattle.std.proofs.Common.{◌<◌, ◌≤◌, Bool, true, false, ◌||◌, List, [], ◌∷◌, ◌++◌, length, map, All, ℤ}
 use Rattle.std.proofs.Common.{Option, Some, None, max, eqb-true}
-use Rattle.std.specs.Prelude.{◌==◌, flat_map, fold, slice_get, ⊤}
+use Rattle.std.specs.Prelude.{◌==◌, flat_map, fold, slice_get}
 use Rattle.std.specs.List.{list_any}
 use Rattle.std.specs.Option.{IfSome, IsSomeAnd}
 use Rattle.std.proofs.lemmas.List.Elements.{All-tail}
@@ -22,7 +22,6 @@ use Rattle.node_form.specs.declared.words.ExprOp.TheVariants as word
 use Rattle.node_form.specs.Expression.{IsExpression}
 use Rattle.node_form.specs.Fits.{FitsExpr, FitsMember, FitsWord, HasArray, HasExpr}
 use Rattle.node_form.specs.Nest.{Nest, members_of}
-use Rattle.node_form.specs.Value.{unmoved}
 use Rattle.code_parts.specs.Uses.{as_list, exprs_of}
 use Rattle.code_parts.specs.Uses as uses
 use Rattle.comm_needs.specs.Needs.{is_voted_on}
@@ -33,14 +32,14 @@ use Rattle.flat_form.specs.Names.{group_cells, group_puts, group_totals, group_w
 use Rattle.flat_form.specs.Names.{member_cells, member_puts, member_totals, word_cells}
 use Rattle.flat_form.specs.Right.{are_settled}
 use Rattle.flat_form.specs.Row.{Loop, Member, Words, member_inlined}
-use Rattle.flat_form.specs.Static.{are_among, cells_in}
+use Rattle.flat_form.specs.Static.{cells_in}
 use Rattle.flat_form.specs.Whole.{Whole}
-use Rattle.loop_runs.proofs.GroupLemmas.{CellOf, ReadOf, SettledOf, TotalOf, all_at, all_member}
-use Rattle.loop_runs.proofs.GroupLemmas.{among_of_is, among_flat, among_get, among_left, among_map, divides, inline}
+use Rattle.loop_runs.proofs.GroupLemmas.{ReadOf, SettledOf, TotalOf, all_at, all_member}
+use Rattle.loop_runs.proofs.GroupLemmas.{among_of_is, among_flat, among_get, among_left, among_map, divides}
 use Rattle.loop_runs.proofs.GroupLemmas.{is_among_of, puts_it, read_far, read_here, scalar, settled_is}
-use Rattle.loop_runs.proofs.KeepLemmas.{KeepsMember, UnitsKeep}
+use Rattle.loop_runs.proofs.KeepLemmas.{KeepsMember}
 use Rattle.loop_runs.proofs.NestLemmas.{MemberOf, NestOf, nest_from}
-use Rattle.loop_runs.proofs.ShareLemmas.{ExprGood, IsHeld, WordGood, known_behind}
+use Rattle.loop_runs.proofs.ShareLemmas.{ExprGood, IsHeld, WordGood}
 use Rattle.loop_runs.proofs.WordLemmas.{ExprOf, LeafOf, WordOf}
 
 every_of : {X : Type 0} (P : X → Type 0) (xs : List X) → ((x : X) → Among xs x → P x) → Every P xs

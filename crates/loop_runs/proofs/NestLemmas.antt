@@ -3,7 +3,7 @@
 --   NestOf, nest_from     a fact of all expressions and leaves in a tree, from those of its members
 --   nest_same             then the tree does alike by two ways
 --   ToldGood, nested_good a tree whose expressions lack nothing is never lost
-use Rattle.std.proofs.Common.{◌≡◌, refl, sym, ap, subst, ℕ, zero, suc, Bool, true, false}
+use Rattle.std.proofs.Common.{ℕ, zero, suc, Bool, true, false}
 use Rattle.std.proofs.Common.{List, [], ◌∷◌, ◌++◌, Option, Some, None, ℤ}
 use Rattle.std.specs.Prelude.{if◌then◌else◌, ⊤}
 use Rattle.std.specs.Option.{IfSome}
@@ -16,7 +16,7 @@ use Rattle.node_form.specs.Value.{Computed, Gives, Divides, Lacks}
 use Rattle.row_runs.specs.Straight.{Every}
 use Rattle.nest_meaning.specs.Alike.{AreLeaves, AreValues, IsNestSame, JoinLeaf, KeepLeaf, Leaf}
 use Rattle.nest_meaning.specs.Alike.{PutLeaf, way_of}
-use Rattle.nest_meaning.specs.Nested.{Ways, Told, Fine, Zero, Wants, Lost, leaf_does, masked}
+use Rattle.nest_meaning.specs.Nested.{Ways, Told, Fine, Zero, Wants, leaf_does, masked}
 use Rattle.nest_meaning.specs.Nested.{nested, repeat_turns, then_do, until_done, while_turns}
 use Rattle.nest_meaning.specs.Nested.{with_state, with_value}
 

@@ -4,13 +4,13 @@
 use Rattle.std.proofs.Common.{◌≡◌, refl, sym, ◌∙◌, ap, ℕ, zero, suc}
 use Rattle.std.proofs.Common.{List, [], ◌∷◌, map, ℤ, Option, Some, None}
 use Rattle.std.specs.Prelude.{slice_get, slice_index_or, slice_set}
-use Rattle.row_runs.specs.Run.{Step, Stops, Wrong}
+use Rattle.row_runs.specs.Run.{Step}
 use Rattle.node_form.specs.declared.members.Member as number
 use Rattle.node_form.specs.declared.tables.Tables.{Tables}
 use Rattle.node_form.specs.Nest.{Nest, Nothing, Putting, Keeping, Joining, Choosing, ChoosingElse}
 use Rattle.node_form.specs.Nest.{Looping, Repeating}
 use Rattle.node_form.specs.Value.{Operands, and_then, read, value_of}
-use Rattle.nest_meaning.specs.Nested.{Told, Fine, Zero, Wants, Lost, Ways, nested}
+use Rattle.nest_meaning.specs.Nested.{Told, Fine, Zero, Ways}
 use Rattle.nest_meaning.specs.Tree.{nest_of}
 use Rattle.nest_meaning.specs.Units.{units_of}
 use Rattle.nest_meaning.specs.Alike.{AreLeaves, AreMasks, AreNests, AreTold, AreValues, Both, BothFine}

@@ -3,10 +3,10 @@
 --   inside_region   a tuple of a processor's part is one of the region, and lies in its own block
 --   own_has         each tuple of the region is in the part of its owner
 --   parts_are       without flood dimensions the parts of all processors are the region
-use Rattle.std.proofs.Common.{◌≡◌, inl, inr, refl, sym, ◌∙◌, ap, subst, arith, ℕ, zero, suc, IsPermutation}
-use Rattle.std.proofs.Common.{◌<◌, ◌≤◌, ◌-◌, Bool, true, false, true≢false, ◌&&◌, List, [], ◌∷◌, ◌↔◌}
+use Rattle.std.proofs.Common.{◌≡◌, refl, sym, ◌∙◌, ap, subst, arith, ℕ, zero, suc, IsPermutation}
+use Rattle.std.proofs.Common.{◌<◌, ◌≤◌, ◌-◌, true, true≢false, List, [], ◌∷◌, ◌↔◌}
 use Rattle.std.proofs.Common.{length, ℤ, pos, ◌≤ℤ◌, All, replicate}
-use Rattle.std.specs.Prelude.{◌==◌, drop, filter, flat_map, not}
+use Rattle.std.specs.Prelude.{◌==◌, drop, flat_map, not}
 use Rattle.std.specs.List.{AllZip, list_all}
 use Rattle.std.proofs.lemmas.Int.{ints}
 use Rattle.std.proofs.lemmas.List.Elements.{All-nil, All-cons, All-head, All-tail}
@@ -37,7 +37,7 @@ use Rattle.grid_meaning.specs.State.{IsSlot}
 use Rattle.grid_meaning.specs.Stored.{arrangement_of}
 use Rattle.flat_form.specs.Right.{is_flood, no_flood}
 use Rattle.needs_runs.specs.Agree.{HasLayout}
-use Rattle.needs_runs.proofs.HoldsLemmas.{both_parts, both_true}
+use Rattle.needs_runs.proofs.HoldsLemmas.{both_true}
 use Rattle.needs_runs.proofs.NeedLemmas.{InBlocks}
 use Rattle.needs_runs.proofs.OwnerLemmas.{boxes_of_rows, in_blocks, processors_are, uncut_three}
 

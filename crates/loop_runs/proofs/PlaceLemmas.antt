@@ -3,19 +3,17 @@
 --   own_shape       a processor's array has the shape of its row
 --   matched_flat    a tuple of a region that an array matches is its own place
 --   own_value       what a whole array has at a tuple of the part, the processor has
-use Rattle.std.proofs.Common.{◌≡◌, ◌⊎◌, inl, inr, refl, sym, ◌∙◌, ap, subst, arith, ℕ, zero, suc}
-use Rattle.std.proofs.Common.{◌<◌, ◌≤◌, Bool, true, false, true≢false, ◌&&◌, List, [], ◌∷◌, length, map}
-use Rattle.std.proofs.Common.{ℤ, pos, All, Option, Some, None}
-use Rattle.std.specs.Prelude.{if◌then◌else◌, option_and_then, slice_get}
-use Rattle.std.specs.List.{AllZip, list_all}
+use Rattle.std.proofs.Common.{◌≡◌, inl, inr, refl, sym, ◌∙◌, ap, subst, arith, ℕ, zero, suc}
+use Rattle.std.proofs.Common.{◌<◌, Bool, true, false, true≢false, List, [], ◌∷◌, length, map}
+use Rattle.std.proofs.Common.{ℤ, pos, Some}
+use Rattle.std.specs.Prelude.{slice_get}
+use Rattle.std.specs.List.{AllZip}
 use Rattle.std.proofs.lemmas.Int.{ints}
-use Rattle.std.proofs.lemmas.Bool.Decides.{nat_tests}
-use Rattle.std.proofs.lemmas.List.{length-map}
 use Rattle.zpl_region.specs.declared.dims.Dim.{Dim}
 use Rattle.zpl_region.specs.declared.dims.Dim.TheVariants as dim
 use Rattle.zpl_region.specs.declared.regions.Region.{Region}
 use Rattle.zpl_region.specs.Dim.{IsCoordinate, lies_within}
-use Rattle.zpl_region.specs.Region.{components, each_lies_within, lies_in_box, members}
+use Rattle.zpl_region.specs.Region.{components, each_lies_within, members}
 use Rattle.zpl_region.specs.Hull.{all_from}
 use Rattle.zpl_region.specs.Tests.{is_coordinate}
 use Rattle.zpl_region.proofs.TestLemmas.{is_coordinate_iff}
@@ -35,10 +33,10 @@ use Rattle.node_form.specs.declared.arrays.ArrayRow.{ArrayRow}
 use Rattle.node_form.specs.declared.tables.Tables.{Tables}
 use Rattle.node_form.specs.Fits.{FitsArray, IsRank, storage_dim, storage_of}
 use Rattle.grid_meaning.specs.Local.{processors}
-use Rattle.grid_meaning.specs.Place.{held_value, own_part, value_at}
-use Rattle.grid_meaning.specs.State.{ArePlaces, AreRoomIn, IsRoom, IsSlot, IsStore}
+use Rattle.grid_meaning.specs.Place.{own_part, value_at}
+use Rattle.grid_meaning.specs.State.{ArePlaces, AreRoomIn, IsSlot, IsStore}
 use Rattle.grid_meaning.specs.Stored.{arrangement_of, box_of, no_places}
-use Rattle.flat_form.specs.Right.{each_covers, each_matches, matches}
+use Rattle.flat_form.specs.Right.{each_covers, each_matches}
 use Rattle.flat_form.specs.Whole.{Whole}
 use Rattle.plan_meaning.specs.Abreast.{Abreast}
 use Rattle.needs_runs.specs.Agree.{HasLayout}

@@ -5,19 +5,18 @@
 --   IsAt           a processor's state within a tuple, and what the tuple has come to by itself
 --   owns_alike     both come to the same
 --   owns_good      nothing that they read is missing, and where none divides, no divisor is zero
-use Rattle.std.proofs.Common.{◌≡◌, ◌⊎◌, inl, inr, refl, sym, ◌∙◌, ap, subst, arith, ℕ, zero, suc}
-use Rattle.std.proofs.Common.{◌+◌, ◌<◌, ◌≤◌, Bool, true, false, List, [], ◌∷◌, ◌++◌, length, All, ℤ}
+use Rattle.std.proofs.Common.{◌≡◌, inl, inr, refl, sym, ◌∙◌, ap, subst, arith, ℕ, zero, suc}
+use Rattle.std.proofs.Common.{◌+◌, ◌<◌, ◌≤◌, Bool, true, false, List, [], ◌∷◌, length, All, ℤ}
 use Rattle.std.proofs.Common.{Option, Some, None}
-use Rattle.std.specs.Prelude.{◌==◌, if◌then◌else◌, option_and_then, slice_get, slice_set, ⊤}
+use Rattle.std.specs.Prelude.{if◌then◌else◌, option_and_then, slice_get, slice_set, ⊤}
 use Rattle.std.specs.Option.{option_map}
 use Rattle.zpl_nums.specs.declared.folds.Fold.{Fold}
 use Rattle.zpl_nums.specs.declared.operators.Op.{Op}
-use Rattle.zpl_nums.specs.declared.operators.Op.TheVariants as op
 use Rattle.zpl_nums.specs.Fold.{joined}
 use Rattle.zpl_nums.specs.Op.{Divides as IsDivision}
 use Rattle.zpl_region.specs.declared.regions.Region.{Region}
 use Rattle.zpl_region.proofs.ListLemmas.{Among}
-use Rattle.zpl_arrays.specs.Array.{Array, element, flattened, has_place, updated}
+use Rattle.zpl_arrays.specs.Array.{Array, element, has_place, updated}
 use Rattle.row_runs.specs.Straight.{Every}
 use Rattle.node_form.specs.declared.tables.Tables.{Tables}
 use Rattle.node_form.specs.declared.words.ExprOp.{ExprOp}
@@ -32,18 +31,17 @@ use Rattle.node_form.specs.Value.{DividesByZero, IsUnheld, ReadsUnheld, value_of
 use Rattle.node_form.proofs.ValueLemmas.{value_of-Divides, value_of-Lacks}
 use Rattle.grid_meaning.specs.Loop.{access_at}
 use Rattle.grid_meaning.specs.Place.{held_value, held_with, moved_by, value_at, where_held, with_value}
-use Rattle.code_parts.specs.Uses.{divides_in, is_division}
+use Rattle.code_parts.specs.Uses.{is_division}
 use Rattle.nest_meaning.specs.Alike.{AreBoth, AreLeaves, AreTold, AreValues, Both, BothFine, BothLost}
 use Rattle.nest_meaning.specs.Alike.{BothWant, BothZero, JoinLeaf, KeepLeaf, Leaf, PutLeaf, way_of}
 use Rattle.nest_meaning.specs.Nested.{Ways, Told, Fine, Zero, Wants, Lost, nested, then_do, ways_of}
 use Rattle.nest_meaning.specs.Nested as tree
 use Rattle.nest_meaning.proofs.AlikeLemmas.{does_alike}
-use Rattle.flat_form.specs.Loop.{Joins, Log, Point, Puts, Write, element_at, log_ways, log_written}
+use Rattle.flat_form.specs.Loop.{Joins, Point, Puts, Write, element_at, log_ways, log_written}
 use Rattle.flat_form.specs.Loop.{logged, operands_at, written}
 use Rattle.flat_form.specs.Right.{is_unmoved}
 use Rattle.flat_form.specs.Whole.{Whole}
 use Rattle.loop_runs.proofs.ColumnLemmas.{Gone, Keeps, Own, Waits, own_next, own_run}
-use Rattle.loop_runs.proofs.FlatLemmas.{choice_same}
 use Rattle.loop_runs.proofs.NestLemmas.{GoodFine, GoodWant, GoodZero, NestOf, StateGood, ToldGood}
 use Rattle.loop_runs.proofs.NestLemmas.{ValueGood, every_behind, nest_same, nested_good}
 use Rattle.loop_runs.proofs.WordLemmas.{ExprOf, LeafOf, is_moved_none, value_by}

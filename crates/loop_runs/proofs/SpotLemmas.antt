@@ -3,49 +3,45 @@
 --   read_there     a value that is read there is the whole array's
 --   put_there      a place that is put there is held, and is the tuple's own
 --   tuple_has, state_has
-use Rattle.std.proofs.Common.{◌≡◌, ◌⊎◌, inl, inr, refl, sym, ◌∙◌, ap, subst, arith, ℕ, zero, suc}
-use Rattle.std.proofs.Common.{◌<◌, ◌≤◌, Bool, true, false, ◌&&◌, List, [], ◌∷◌, length, map, ℤ, All}
+use Rattle.std.proofs.Common.{◌≡◌, ◌⊎◌, inl, inr, refl, sym, ◌∙◌, ap, subst, ℕ}
+use Rattle.std.proofs.Common.{◌<◌, Bool, true, false, ◌&&◌, List, [], ℤ, All}
 use Rattle.std.proofs.Common.{Option, Some, None}
 use Rattle.std.specs.Prelude.{if◌then◌else◌, option_and_then, slice_get}
 use Rattle.std.specs.Option.{IsSomeAnd}
-use Rattle.std.specs.List.{AllZip, list_all}
-use Rattle.zpl_nums.specs.declared.folds.Fold.{Fold}
 use Rattle.zpl_region.specs.declared.regions.Region.{Region}
 use Rattle.zpl_region.specs.Region.{IsMember, members}
 use Rattle.zpl_region.proofs.ListLemmas.{Among}
-use Rattle.zpl_arrays.specs.Array.{Array, IsArray, element, flattened, has_place}
+use Rattle.zpl_arrays.specs.Array.{Array, element, flattened, has_place}
 use Rattle.node_form.specs.declared.arrays.ArrayRow.{ArrayRow}
 use Rattle.node_form.specs.declared.members.Member as number
 use Rattle.node_form.specs.declared.tables.Tables.{Tables}
 use Rattle.node_form.specs.Fits.{FitsExpr, FitsMember, HasArray, storage_of}
-use Rattle.node_form.specs.Group as group_of
 use Rattle.node_form.specs.Value.{unmoved}
 use Rattle.code_parts.specs.Uses as uses
 use Rattle.comm_needs.specs.Needs.{needs_of}
 use Rattle.grid_meaning.specs.Local.{processors}
 use Rattle.grid_meaning.specs.Place.{held_value, moved_by, own_part, value_at, where_held}
-use Rattle.grid_meaning.specs.State.{IsSlot, IsStore}
+use Rattle.grid_meaning.specs.State.{IsSlot}
 use Rattle.grid_meaning.specs.Stored.{no_places}
 use Rattle.flat_form.specs.Loop.{loop_stands}
 use Rattle.flat_form.specs.Right.{are_settled, can_read, can_write, each_covers, has_places, is_unmoved}
 use Rattle.flat_form.specs.Right.{matches, may_read, reads_well, writes_well}
-use Rattle.flat_form.specs.Row.{Loop, member_inlined}
+use Rattle.flat_form.specs.Row.{Loop}
 use Rattle.flat_form.specs.Whole.{Whole}
 use Rattle.plan_meaning.specs.Abreast.{Abreast, Share}
-use Rattle.plan_meaning.specs.Loops.{point_of}
 use Rattle.normal_runs.proofs.PlaceLemmas.{moved_none}
 use Rattle.needs_runs.specs.Agree.{HasLayout}
 use Rattle.needs_runs.specs.Holds.{Holds}
 use Rattle.needs_runs.proofs.BringLemmas.{value_held}
 use Rattle.needs_runs.proofs.HoldsLemmas.{both_parts}
 use Rattle.needs_runs.proofs.PlaceLemmas.{held_there}
-use Rattle.loop_runs.proofs.GroupLemmas.{ReadOf, all_at, can_put, one_total}
+use Rattle.loop_runs.proofs.GroupLemmas.{all_at, can_put, one_total}
 use Rattle.loop_runs.proofs.MemberLemmas.{Puts, Read, Total, count, members_inline, put_ranked}
 use Rattle.loop_runs.proofs.PartLemmas.{inside_region, member_coordinates, part_member}
 use Rattle.loop_runs.proofs.PlaceLemmas.{matched_flat, matches_cover, own_found, own_has, own_lies}
 use Rattle.loop_runs.proofs.PlaceLemmas.{own_shape, three}
 use Rattle.loop_runs.proofs.ShareLemmas.{IsHeld}
-use Rattle.loop_runs.proofs.WriteLemmas.{HasOwn, Placed, PlacedAt}
+use Rattle.loop_runs.proofs.WriteLemmas.{HasOwn, Placed}
 
 -- ---- what is found
 pub record IsReadable (code : Tables) (whole : Whole) (region : Region) (a : ℕ) (shift : List ℤ)

@@ -2,14 +2,14 @@
 --
 --   parts_joined   values of parts, joined over all processors
 --   part_folded    the values of the tuples of a part
-use Rattle.std.proofs.Common.{◌≡◌, refl, sym, ◌∙◌, ap, subst, arith, ℕ, zero, suc, ◌+◌, ◌-◌, ◌<◌, ◌≤◌}
+use Rattle.std.proofs.Common.{◌≡◌, refl, sym, ◌∙◌, ap, arith, ℕ, zero, suc, ◌+◌, ◌-◌, ◌<◌, ◌≤◌}
 use Rattle.std.proofs.Common.{List, [], ◌∷◌, ◌++◌, map, ℤ, IsPermutation, append_assoc}
 use Rattle.std.specs.Prelude.{flat_map, fold}
 use Rattle.std.specs.List.{range_with_len}
 use Rattle.std.proofs.lemmas.List.{map-append}
 use Rattle.std.proofs.lemmas.List.Sorted.{IsPermutation-map}
 use Rattle.zpl_nums.specs.declared.folds.Fold.{Fold}
-use Rattle.zpl_nums.specs.Fold.{folded, joined, unit_of}
+use Rattle.zpl_nums.specs.Fold.{folded, joined}
 use Rattle.zpl_nums.proofs.FoldLemmas.{folded-append, folded-cons, folded-IsPermutation}
 use Rattle.grid_meaning.specs.Local.{Local}
 use Rattle.row_orders.specs.Agreement.{joined_over}

@@ -3,13 +3,13 @@
 --   own_at      what all units do at a tuple by itself
 --   TuplesTo    what a processor comes to at some tuples
 --   tuples_go   so it does
-use Rattle.std.proofs.Common.{◌≡◌, ◌⊎◌, inl, inr, refl, sym, ◌∙◌, ap, subst, arith, ℕ, zero, suc}
+use Rattle.std.proofs.Common.{◌≡◌, inl, inr, refl, sym, ◌∙◌, ap, subst, ℕ}
 use Rattle.std.proofs.Common.{◌+◌, ◌<◌, ◌≤◌, Bool, true, false, true≢false, List, [], ◌∷◌, length, map}
 use Rattle.std.proofs.Common.{ℤ, Option, Some, None}
 use Rattle.std.specs.Prelude.{if◌then◌else◌, option_and_then, slice_get, ⊤}
 use Rattle.zpl_nums.specs.declared.folds.Fold.{Fold}
 use Rattle.zpl_region.specs.declared.regions.Region.{Region}
-use Rattle.zpl_arrays.specs.Array.{Array, flattened, has_place}
+use Rattle.zpl_arrays.specs.Array.{Array}
 use Rattle.row_runs.specs.Straight.{Every}
 use Rattle.node_form.specs.declared.tables.Tables.{Tables}
 use Rattle.node_form.specs.Group as group
@@ -17,17 +17,16 @@ use Rattle.node_form.specs.Nest.{Nest, members_of}
 use Rattle.grid_meaning.specs.Loop.{access_at}
 use Rattle.grid_meaning.specs.Place.{held_value, moved_by, value_at}
 use Rattle.nest_meaning.specs.Nested.{Told, Fine, Zero, Wants, Lost, nested, ways_of}
-use Rattle.flat_form.specs.Loop.{Column, Log, Point, all_written, log_ways, log_written}
+use Rattle.flat_form.specs.Loop.{Column, Point, all_written, log_ways, log_written}
 use Rattle.flat_form.specs.Right.{is_unmoved}
 use Rattle.flat_form.specs.Whole.{Whole}
-use Rattle.nest_meaning.specs.Nested.{Ways}
 use Rattle.plan_meaning.specs.Loops.{LacksPlace, Shared, Through, WantsTurn, least_of, tuple_next}
 use Rattle.plan_meaning.specs.Loops.{tuples_shared, unit_next, units_shared}
-use Rattle.loop_runs.proofs.ColumnLemmas.{AnyOf, Gone, HasFlag, Keeps, Own, Waits, own_next, own_run}
+use Rattle.loop_runs.proofs.ColumnLemmas.{AnyOf, Gone, Keeps, Own, Waits, own_next, own_run}
 use Rattle.loop_runs.proofs.NestLemmas.{NestOf}
 use Rattle.loop_runs.proofs.ShareLemmas.{AreUnitsOf, BothGone, BothKeep, BothWait, ExprGood, GoodFlag}
 use Rattle.loop_runs.proofs.ShareLemmas.{GoodKeeps, GoodWaits, IsAt, IsCell, IsHeld, OwnGood, OwnsAlike}
-use Rattle.loop_runs.proofs.ShareLemmas.{Sized, facts, owns_alike, owns_good}
+use Rattle.loop_runs.proofs.ShareLemmas.{facts, owns_alike, owns_good}
 use Rattle.loop_runs.proofs.WordLemmas.{LeafOf, is_moved_none}
 use Rattle.loop_runs.proofs.WriteLemmas.{HasOwn, LogsOf, Placed, WriteOf, Wrote}
 

@@ -3,7 +3,7 @@
 --   flags_from, flags_have   over tuples
 --   vote_least, vote_none    over processors
 use Rattle.std.proofs.Common.{◌≡◌, ◌⊎◌, inl, inr, refl, sym, ◌∙◌, ap, subst, arith, ℕ, zero, suc}
-use Rattle.std.proofs.Common.{◌+◌, ◌-◌, ◌<◌, ◌≤◌, Bool, true, false, List, [], ◌∷◌, ℤ, pos, neg_ℤ}
+use Rattle.std.proofs.Common.{◌+◌, ◌-◌, ◌<◌, ◌≤◌, Bool, true, false, List, [], ◌∷◌, pos, neg_ℤ}
 use Rattle.std.proofs.Common.{Option, Some, None}
 use Rattle.std.specs.Prelude.{fold, if◌then◌else◌, int_lt, nat_lt, unsigned_abs}
 use Rattle.std.specs.Int.{int_min}
@@ -13,7 +13,6 @@ use Rattle.std.proofs.lemmas.Int.{clamps, ints}
 use Rattle.row_runs.specs.Straight.{Every}
 use Rattle.grid_meaning.specs.Collective.{flag_word, least_flag, word_flag}
 use Rattle.grid_meaning.specs.Local.{Local}
-use Rattle.grid_meaning.specs.Loop.{flagged}
 use Rattle.row_orders.specs.Agreement.{joined_over}
 use Rattle.plan_meaning.specs.Loops.{least_of}
 use Rattle.loop_runs.proofs.ColumnLemmas.{AnyOf, FlagFrom}

@@ -4,7 +4,7 @@
 --   joins          the values that a log joins to a scalar
 --   Wrote          what a log makes of a state
 --   AllWrote       what the logs of all tuples make of it
-use Rattle.std.proofs.Common.{◌≡◌, ◌⊎◌, inl, inr, refl, sym, ◌∙◌, ap, subst, ℕ, zero, suc}
+use Rattle.std.proofs.Common.{◌≡◌, inl, inr, refl, sym, ◌∙◌, ap, subst, ℕ, zero, suc}
 use Rattle.std.proofs.Common.{Bool, true, false, true≢false, List, [], ◌∷◌, ◌++◌, length, ℤ, Option, Some, None}
 use Rattle.std.proofs.Common.{eqb-true, arith}
 use Rattle.std.specs.Prelude.{◌==◌, fold, if◌then◌else◌, option_and_then, slice_get, slice_set, ⊤}
