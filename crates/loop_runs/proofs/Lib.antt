@@ -1,3 +1,4 @@
+mod Examples
 pub mod AwaitLemmas
 pub mod BehindLemmas
 pub mod ColumnLemmas
@@ -14,6 +15,8 @@ pub mod NestLemmas
 pub mod NumberLemmas
 pub mod PartLemmas
 pub mod PlaceLemmas
+pub mod ShapeLemmas
+pub mod ShapeRows
 pub mod ShareLemmas
 pub mod SpotLemmas
 pub mod TotalLemmas
