@@ -130,6 +130,7 @@ module _ (code : Tables) (whole : Whole) (all : Abreast) (holds : Holds code who
         stores = holds.is_whole.stores;
       };
       arrays = holds.arrays;
+      floods = holds.floods;
       slots = holds.slots;
       own = λ p below. let own = holds.own p below in record {
         parts = record {

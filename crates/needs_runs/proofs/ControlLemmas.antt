@@ -153,6 +153,7 @@ module _ (code : Tables) (whole : Whole) (all : Abreast) (some : 0 < processors 
       stores = holds.is_whole.stores;
     };
     arrays = holds.arrays;
+    floods = holds.floods;
     slots = holds.slots;
     own = λ p below.
         let own = holds.own p below in record {
@@ -196,6 +197,7 @@ module _ (code : Tables) (whole : Whole) (all : Abreast) (some : 0 < processors 
       stores = holds.is_whole.stores;
     };
     arrays = holds.arrays;
+    floods = holds.floods;
     slots = zip_set IsSlot code.slots whole.slots slot rank region holds.slots there fits;
     own = λ p below.
         let own = holds.own p below in record {

@@ -503,6 +503,7 @@ module _ (code : Tables) (layout : HasLayout code) (links : Option ℕ)
     holds_behind = record {
       is_whole = holds.is_whole;
       arrays = holds.arrays;
+      floods = holds.floods;
       slots = holds.slots;
       own = λ p below. subst (HoldsOwn code p whole) (sym (share_behind p below)) (own_behind p below);
       totals = λ scalar f is.
