@@ -2,3 +2,4 @@ pub mod PrintRows
 pub mod FoldRows
 pub mod OwnLemmas
 pub mod DeliverLemmas
+pub mod GatherRows

@@ -4,11 +4,11 @@
 //! contract, and a call brings the law into a proof.
 #![tactic(auto)]
 
-ghost use Rattle.std.specs.Prelude.{Option, ℕ};
+ghost use Rattle.std.specs.Prelude.{Bool, Option, ℕ};
 ghost use Rattle.zpl_nums.specs.declared.folds.Fold.{Fold as Operator};
 ghost use Rattle.node_form.specs.declared.instructions.Instr.TheVariants as instr;
 ghost use Rattle.node_form.specs.declared.tables.Tables.{Tables as Code};
-ghost use Rattle.needs_runs.specs.Agree.{FitRowAgrees};
+ghost use Rattle.needs_runs.specs.Agree.{FitRowAgrees, HasLayout};
 
 /// Prints of texts, of numbers and of truth values agree.
 pub fn prints_agree()
@@ -24,4 +24,10 @@ pub fn prints_agree()
 pub fn folds_agree()
     ensures { (code : Code) (links : Option ℕ) (n scalar : ℕ) (operator : Operator) →
         FitRowAgrees code links n (instr.Fold scalar operator) }
+{}
+
+/// A gather agrees: processor 0 prints each value of the whole array from its owner's words.
+pub fn gathers_agree()
+    ensures { (code : Code) → HasLayout code → (links : Option ℕ) (n : ℕ) (truth : Bool)
+        (array slot : ℕ) → FitRowAgrees code links n (instr.Gather truth array slot) }
 {}
