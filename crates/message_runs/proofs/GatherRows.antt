@@ -1,5 +1,5 @@
 -- A gather agrees: processor 0 prints each value from its owner's words.
-use Rattle.std.proofs.Common.{◌≡◌, ◌⊎◌, refl, sym, ◌∙◌, ap, ap₂, subst, inl, inr, ℕ, zero, suc, ◌+◌, ◌<◌, ◌≤◌, ◌==◌, Bool, true, false, ◌&&◌, not, nat_lt, cond, List, [], ◌∷◌, ◌++◌, ℤ, pos, length, map, filter, All, Option, Some, None, arith, eq-eqb, eqb-true, eq-or-lt_of_le}
+use Rattle.std.proofs.Common.{◌≡◌, ◌⊎◌, refl, sym, ◌∙◌, ap, ap₂, subst, inl, inr, ℕ, zero, suc, ◌+◌, ◌<◌, ◌≤◌, ◌==◌, Bool, true, false, ◌&&◌, not, nat_lt, cond, List, [], ◌∷◌, ℤ, pos, length, map, filter, All, Option, Some, None, arith, eq-eqb, eqb-true, eq-or-lt_of_le}
 use Rattle.std.specs.Prelude.{find, option_and_then, if◌then◌else◌, slice_get, slice_index_or, unwrap_or}
 use Rattle.std.specs.List.{list_all, range_with_len}
 use Rattle.std.specs.Option.{IsSomeAnd}
@@ -24,14 +24,14 @@ use Rattle.grid_paths.specs.Tree.{times}
 use Rattle.grid_layout.specs.declared.blocks.Blocks.{Blocks}
 use Rattle.grid_layout.specs.Grid.{processors_of}
 use Rattle.grid_layout.specs.Layout.{AreBlocks, laid_out}
-use Rattle.grid_layout.specs.Piece.{IsRange, owned_part}
+use Rattle.grid_layout.specs.Piece.{IsRange}
 use Rattle.grid_layout.specs.Piece.{owner_for as owner_in}
 use Rattle.grid_layout.proofs.SoundLemmas.{blocks_are}
 use Rattle.grid_layout.proofs.PartLemmas.{owner_for_below, owner_for_ranges, parts_by_owner}
 use Rattle.node_form.specs.declared.arrays.ArrayRow.{ArrayRow}
 use Rattle.node_form.specs.declared.instructions.Instr.TheVariants as instr
 use Rattle.node_form.specs.declared.tables.Tables.{Tables}
-use Rattle.node_stages.proofs.OwnLemmas.{IsShaped, IsShaped-slot, own_tuples}
+use Rattle.node_stages.proofs.OwnLemmas.{IsShaped-slot, own_tuples}
 use Rattle.grid_meaning.specs.Action.{goes_on}
 use Rattle.grid_meaning.specs.Collective.{Collective, Last, Sends, kept_with, keeping, others, others_where}
 use Rattle.grid_meaning.specs.Gather.{element_text, gather_last, gather_stages, gathered, gathered_value, prints_gathered, words_from, words_or_none}
@@ -47,7 +47,7 @@ use Rattle.row_runs.specs.Run.{Does, Goes}
 use Rattle.flat_form.specs.Moves.{found, provided, reads_in}
 use Rattle.flat_form.specs.Right.{is_flood, no_flood}
 use Rattle.flat_form.specs.Whole.{Whole}
-use Rattle.plan_meaning.specs.Abreast.{Abreast, locals_of, share_of, standing}
+use Rattle.plan_meaning.specs.Abreast.{Abreast, locals_of}
 use Rattle.plan_meaning.specs.Messages.{delivered}
 use Rattle.row_runs.specs.Rows.{AreEffects, OldWrong}
 use Rattle.needs_runs.specs.Agree.{FitRowAgrees, HasLayout}
