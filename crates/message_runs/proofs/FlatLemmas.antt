@@ -1,5 +1,5 @@
 -- Places of an array by the coordinates in the dimensions in which its row has a range.
-use Rattle.std.proofs.Common.{◌≡◌, ◌⊎◌, refl, sym, ◌∙◌, ap, subst, inl, inr, ℕ, zero, suc, ◌<◌, Bool, true, false, ◌&&◌, true≢false, List, [], ◌∷◌, ℤ, pos, length, map, All, Option, Some, None, arith}
+use Rattle.std.proofs.Common.{◌≡◌, ◌⊎◌, refl, sym, ◌∙◌, ap, subst, inl, inr, ℕ, zero, suc, ◌<◌, Bool, true, false, true≢false, List, [], ◌∷◌, ℤ, pos, length, map, All, Option, Some, None, arith}
 use Rattle.std.specs.Prelude.{slice_get}
 use Rattle.std.proofs.lemmas.Int.{ints}
 use Rattle.zpl_region.specs.declared.dims.Dim.{Dim}
@@ -40,6 +40,7 @@ use Rattle.flat_form.specs.Whole.{Whole}
 use Rattle.needs_runs.specs.Agree.{HasLayout}
 use Rattle.needs_runs.specs.Holds.{HasFloodsOf, lies_in_own}
 use Rattle.needs_runs.proofs.BringLemmas.{flattened_as}
+use Rattle.needs_runs.proofs.ExchangeLemmas.{has_flattened}
 use Rattle.needs_runs.proofs.HoldsLemmas.{both_parts}
 use Rattle.needs_runs.proofs.OwnerLemmas.{KindsAs, boxes_of_rows}
 use Rattle.needs_runs.proofs.PieceLemmas.{held_many_dims, kinds}
@@ -67,16 +68,6 @@ pub matching_flat : (row : ArrayRow) (region : Region) → matches row region �
     → flattened region.dims t ≡ flat_of row t
 matching_flat row region match long t =
     flattened_as row.dims region.dims t (matching_kinds row.dims region.dims match) long
-
--- a place goes by the flattened tuple
-pub has_flattened : (dims : List Dim) (t : List ℤ)
-    → each_has_place dims (flattened dims t) ≡ each_has_place dims t
-has_flattened [] t = refl
-has_flattened (dim.Flood ∷ dims) [] = refl
-has_flattened (dim.Range lo hi step align ∷ dims) [] = refl
-has_flattened (dim.Flood ∷ dims) (x ∷ t) = has_flattened dims t
-has_flattened (dim.Range lo hi step align ∷ dims) (x ∷ t) =
-    ap (λ b. is_coordinate (dim.Range lo hi step align) x && b) (has_flattened dims t)
 
 no_place : (rank : ℕ) (t : List ℤ) → IsRank rank → has_place (no_places rank) t ≡ true → ⊥
 no_place zero t ranked has = absurd (omega (arith, ranked.0))

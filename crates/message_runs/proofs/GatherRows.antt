@@ -1,7 +1,6 @@
 -- A gather agrees: processor 0 prints each value from its owner's words.
-use Rattle.std.proofs.Common.{◌≡◌, ◌⊎◌, refl, sym, ◌∙◌, ap, ap₂, subst, inl, inr, ℕ, zero, suc, ◌+◌, ◌<◌, ◌≤◌, ◌==◌, Bool, true, false, ◌&&◌, not, nat_lt, cond, List, [], ◌∷◌, ℤ, pos, length, map, filter, All, Option, Some, None, arith, eq-eqb, eqb-true, eq-or-lt_of_le}
+use Rattle.std.proofs.Common.{◌≡◌, ◌⊎◌, refl, sym, ◌∙◌, ap, ap₂, subst, inl, inr, ℕ, zero, suc, ◌+◌, ◌<◌, ◌≤◌, ◌==◌, Bool, true, false, ◌&&◌, not, nat_lt, cond, List, [], ◌∷◌, ℤ, pos, length, map, filter, All, Option, Some, None, arith, eq-eqb, eqb-true}
 use Rattle.std.specs.Prelude.{find, option_and_then, if◌then◌else◌, slice_get, slice_index_or, unwrap_or}
-use Rattle.std.specs.List.{list_all, range_with_len}
 use Rattle.std.specs.Option.{IsSomeAnd}
 use Rattle.std.proofs.lemmas.Bool.{ne_eqb}
 use Rattle.std.proofs.lemmas.Bool.Decides.{nat_tests}
@@ -10,11 +9,10 @@ use Rattle.std.proofs.lemmas.List.Elements.{All-cons, All-head, All-nil, All-tai
 use Rattle.zpl_region.specs.declared.dims.Dim.{Dim}
 use Rattle.zpl_region.specs.declared.dims.Dim.TheVariants as dim
 use Rattle.zpl_region.specs.declared.regions.Region.{Region}
-use Rattle.zpl_region.specs.Dim.{HasBounds, HasStep, IsDimWithinLimit, dim_met}
+use Rattle.zpl_region.specs.Dim.{HasStep, dim_met}
 use Rattle.zpl_region.specs.Region.{IsMember, each_met, members}
-use Rattle.zpl_region.proofs.RegionLemmas.{within_is_dim}
 use Rattle.zpl_region.proofs.LawLemmas.{members_iff}
-use Rattle.zpl_region.proofs.ListLemmas.{Among, Among-filter, Contains-from_among, among_filtered}
+use Rattle.zpl_region.proofs.ListLemmas.{Among, Among-filter, Contains-from_among}
 use Rattle.zpl_arrays.specs.Array.{array_of, element, has_place, place_among}
 use Rattle.zpl_arrays.specs.ArrayText.{array_text}
 use Rattle.array_prints.proofs.TextLemmas.{no_text, some_text}
@@ -24,7 +22,6 @@ use Rattle.grid_paths.specs.Tree.{times}
 use Rattle.grid_layout.specs.declared.blocks.Blocks.{Blocks}
 use Rattle.grid_layout.specs.Grid.{processors_of}
 use Rattle.grid_layout.specs.Layout.{AreBlocks, laid_out}
-use Rattle.grid_layout.specs.Piece.{IsRange}
 use Rattle.grid_layout.specs.Piece.{owner_for as owner_in}
 use Rattle.grid_layout.proofs.SoundLemmas.{blocks_are}
 use Rattle.grid_layout.proofs.PartLemmas.{owner_for_below, owner_for_ranges, parts_by_owner}
@@ -33,9 +30,9 @@ use Rattle.node_form.specs.declared.instructions.Instr.TheVariants as instr
 use Rattle.node_form.specs.declared.tables.Tables.{Tables}
 use Rattle.node_stages.proofs.OwnLemmas.{IsShaped-slot, own_tuples}
 use Rattle.grid_meaning.specs.Action.{goes_on}
-use Rattle.grid_meaning.specs.Collective.{Collective, Last, Sends, kept_with, keeping, others, others_where}
+use Rattle.grid_meaning.specs.Collective.{Collective, Last, Sends, kept_with, keeping, others_where}
 use Rattle.grid_meaning.specs.Gather.{element_text, gather_last, gather_stages, gathered, gathered_value, prints_gathered, words_from, words_or_none}
-use Rattle.grid_meaning.specs.Local.{Local, processor_numbers, processors}
+use Rattle.grid_meaning.specs.Local.{Local, processors}
 use Rattle.grid_meaning.specs.Owner.{owner_for, region_in, tuples_of}
 use Rattle.grid_meaning.specs.Place.{own_part, values_at}
 use Rattle.grid_meaning.specs.State.{IsSlot}
@@ -45,7 +42,7 @@ use Rattle.row_orders.specs.Rows.{ArePartners, delivery_stages, taken_where, tak
 use Rattle.row_orders.proofs.PartnerLemmas.{times-cons, times-others_where}
 use Rattle.row_runs.specs.Run.{Does, Goes}
 use Rattle.flat_form.specs.Moves.{found, provided, reads_in}
-use Rattle.flat_form.specs.Right.{is_flood, no_flood}
+use Rattle.flat_form.specs.Right.{no_flood}
 use Rattle.flat_form.specs.Whole.{Whole}
 use Rattle.plan_meaning.specs.Abreast.{Abreast, locals_of}
 use Rattle.plan_meaning.specs.Messages.{delivered}
@@ -58,22 +55,10 @@ use Rattle.needs_runs.proofs.SlotLemmas.{zip_back}
 use Rattle.needs_runs.proofs.HoldsLemmas.{both_parts, holds_as, some_processors}
 use Rattle.message_runs.proofs.DeliverLemmas.{IsDelivered, delivered_agrees}
 use Rattle.message_runs.proofs.OwnLemmas.{IsRead, own_values, read_parts}
+use Rattle.message_runs.proofs.OwnerLemmas.{limited_bounds, ranges}
+use Rattle.message_runs.proofs.WorkLemmas.{others_among, others_below}
 
 -- ---- regions
-limited_bounds : (dims : List Dim) → All HasStep dims → All IsDimWithinLimit dims
-    → All HasBounds dims
-limited_bounds [] steps all = All-nil HasBounds
-limited_bounds (d ∷ dims) steps all =
-    All-cons HasBounds d dims
-    (within_is_dim d (All-head HasStep d dims steps) (All-head IsDimWithinLimit d dims all)).1
-    (limited_bounds dims (All-tail HasStep d dims steps) (All-tail IsDimWithinLimit d dims all))
-
-ranges : (dims : List Dim) → list_all (λ d. not (is_flood d)) dims ≡ true → All IsRange dims
-ranges [] e = All-nil IsRange
-ranges (dim.Flood ∷ dims) e = cc
-ranges (dim.Range lo hi step align ∷ dims) e =
-    All-cons IsRange (dim.Range lo hi step align) dims tt (ranges dims e)
-
 met_steps : (lows highs : List ℤ) (dims : List Dim) → All HasStep dims
     → All HasStep (each_met lows highs dims)
 met_steps [] highs dims steps = steps
@@ -89,23 +74,6 @@ met_steps (l ∷ lows) (h ∷ highs) (d ∷ dims) steps =
     kept (dim.Range lo hi step align) has = has
 
 -- ---- numbers of processors
-range_below : (a n q : ℕ) → Among (range_with_len a n) q → q < a + n
-range_below a zero q among = absurd among
-range_below a (suc n) q (inl same) = omega (arith, same)
-range_below a (suc n) q (inr later) =
-    let less = range_below (a + 1) n q later in omega (arith, less)
-
-range_among : (a n q : ℕ) → a ≤ q → q < a + n → Among (range_with_len a n) q
-range_among a zero q low high = absurd (omega (arith, low, high))
-range_among a (suc n) q low high =
-    by (eq-or-lt_of_le low)
-    (λ less. range_among (a + 1) n q (omega (arith, less)) (omega (arith, high)))
-  where
-    by : (a ≡ q) ⊎ (a < q) → (a < q → Among (range_with_len (a + 1) n) q)
-        → (a ≡ q) ⊎ Among (range_with_len (a + 1) n) q
-    by (inl same) rest = inl same
-    by (inr less) rest = inr (rest less)
-
 not_zero : (n : ℕ) → (suc n == 0) ≡ false
 not_zero n = ne_eqb (suc n) 0 (λ same. cc)
 
@@ -318,10 +286,7 @@ module _ (code : Tables) (are_blocks : AreBlocks (laid_out (arrangement_of code)
   hears_are : (p q : ℕ) → p < processors code → Among (from_of p) q
       → (q < processors code) × ((row q).words_to (start q) p ≡ Some (values_of q))
   hears_are zero q below among =
-      let low = range_below 0 (processors code) q
-      (among_filtered (λ q. not (q == 0)) (processor_numbers code) q
-      (among_filtered (λ q. nat_lt 0 (many q)) (others code 0) q among).0).0 in
-      let inside : q < processors code = omega (arith, low) in
+      let inside = others_below code 0 many q among in
       (inside, words_are q 0 inside)
   hears_are (suc p) q below among = absurd among
 
@@ -385,15 +350,11 @@ module _ (code : Tables) (are_blocks : AreBlocks (laid_out (arrangement_of code)
       (ne_eqb 0 (suc q) (λ same. cc))
       ∙ found_words values_of (suc q) (kept_at 0) (all_words values_of (from_of 0) [] tt)
       (all_kept values_of (from_of 0) (suc q) []
-      (Among-filter (λ r. nat_lt 0 (many r)) (others code 0) (suc q)
-      (Among-filter (λ r. not (r == 0)) (processor_numbers code) (suc q)
-      (range_among 0 (processors code) (suc q) (omega arith) (omega (arith, below)))
-      (ap not (not_zero q)))
-      (some (part_of (suc q)) t among)))
+      (others_among code 0 many (suc q) below (not_zero q) (some (part_of (suc q)) t among)))
     where
-      some : (ts : List (List ℤ)) (t : List ℤ) → Among ts t → nat_lt 0 (length ts) ≡ true
+      some : (ts : List (List ℤ)) (t : List ℤ) → Among ts t → 0 < length ts
       some [] t among = absurd among
-      some (u ∷ ts) t among = zero_below (length ts)
+      some (u ∷ ts) t among = omega arith
 
   part_steps : (q : ℕ) → All HasStep (own_part code q region).dims
   part_steps q = met_steps _ _ region.dims in_slot.fits.steps

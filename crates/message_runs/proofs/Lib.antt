@@ -1,3 +1,4 @@
+mod Examples
 pub mod PrintRows
 pub mod FoldRows
 pub mod OwnLemmas

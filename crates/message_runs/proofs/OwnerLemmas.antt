@@ -1,5 +1,6 @@
 -- The owner of a tuple, for any receiver, has it in its own block.
-use Rattle.std.proofs.Common.{◌≡◌, refl, sym, ◌∙◌, subst, ℕ, ◌<◌, ◌==◌, true, List, [], ◌∷◌, ℤ, length, map, All, arith, eq-eqb}
+use Rattle.std.proofs.Common.{◌≡◌, refl, sym, ◌∙◌, subst, ℕ, ◌<◌, ◌==◌, true, not, List, [], ◌∷◌, ℤ, length, map, All, arith, eq-eqb}
+use Rattle.std.specs.List.{list_all}
 use Rattle.zpl_region.specs.declared.dims.Dim.{Dim}
 use Rattle.zpl_region.specs.declared.dims.Dim.TheVariants as dim
 use Rattle.zpl_region.specs.declared.regions.Region.{Region}
@@ -15,6 +16,7 @@ use Rattle.grid_layout.specs.declared.blocks.Blocks.{Blocks}
 use Rattle.grid_layout.specs.Block.{block_first, block_last}
 use Rattle.grid_layout.specs.Grid.{blocks_at, cuts, processors_of}
 use Rattle.grid_layout.specs.Layout.{AreBlocks, axes_at, laid_out}
+use Rattle.grid_layout.specs.Piece.{IsRange}
 use Rattle.grid_layout.specs.Piece.{owner_for as owner_in}
 use Rattle.grid_layout.proofs.PartLemmas.{blocks_length, both_true, has_each, has_owner_for, near_of, owner_for_below, parts_by_owner, true_both}
 use Rattle.node_form.specs.declared.tables.Tables.{Tables}
@@ -24,6 +26,7 @@ use Rattle.grid_meaning.specs.Owner.{owner_for, tuples_of}
 use Rattle.grid_meaning.specs.State.{IsSlot}
 use Rattle.grid_meaning.specs.Stored.{arrangement_of}
 use Rattle.grid_meaning.proofs.WorldLemmas.{processors_alike}
+use Rattle.flat_form.specs.Right.{is_flood}
 
 pub limited_bounds : (dims : List Dim) → All HasStep dims → All IsDimWithinLimit dims
     → All HasBounds dims
@@ -32,6 +35,12 @@ limited_bounds (d ∷ dims) steps all =
     All-cons HasBounds d dims
     (within_is_dim d (All-head HasStep d dims steps) (All-head IsDimWithinLimit d dims all)).1
     (limited_bounds dims (All-tail HasStep d dims steps) (All-tail IsDimWithinLimit d dims all))
+
+pub ranges : (dims : List Dim) → list_all (λ d. not (is_flood d)) dims ≡ true → All IsRange dims
+ranges [] e = All-nil IsRange
+ranges (dim.Flood ∷ dims) e = cc
+ranges (dim.Range lo hi step align ∷ dims) e =
+    All-cons IsRange (dim.Range lo hi step align) dims tt (ranges dims e)
 
 -- what a block has for another receiver it has for itself
 has_itself : (axes : List Axis) (ns cs ks : List ℕ) (dims : List Dim) (t : List ℤ)

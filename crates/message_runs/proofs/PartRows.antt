@@ -1,16 +1,13 @@
 -- A partial fold agrees: each tuple's value is what all processors' partial folds come to.
-use Rattle.std.proofs.Common.{◌≡◌, refl, sym, ◌∙◌, ap, ap₂, subst, inl, inr, ◌⊎◌, ℕ, zero, suc, ◌+◌, ◌<◌, ◌≤◌, ◌==◌, nat_lt, Bool, true, false, ◌&&◌, ◌||◌, not, cond, true≢false, List, [], ◌∷◌, ◌++◌, ℤ, length, map, filter, All, IsPermutation, Option, Some, None, arith, eq-eqb, eq-or-lt_of_le}
+use Rattle.std.proofs.Common.{◌≡◌, refl, sym, ◌∙◌, ap, ap₂, subst, inl, inr, ◌⊎◌, ℕ, zero, suc, ◌+◌, ◌<◌, ◌≤◌, ◌==◌, nat_lt, Bool, true, false, ◌&&◌, ◌||◌, not, cond, true≢false, List, [], ◌∷◌, ◌++◌, ℤ, length, map, filter, IsPermutation, Option, Some, None, arith, eq-eqb, eq-or-lt_of_le}
 use Rattle.std.specs.Prelude.{option_and_then, slice_get, slice_set}
-use Rattle.std.specs.List.{flat_map, list_all, list_any, range_with_len}
+use Rattle.std.specs.List.{flat_map, list_any, range_with_len}
 use Rattle.std.specs.Option.{option_map}
 use Rattle.std.proofs.lemmas.Bool.{ne_eqb}
 use Rattle.std.proofs.lemmas.Bool.Decides.{nat_tests}
-use Rattle.std.proofs.lemmas.List.Elements.{All-cons, All-nil}
 use Rattle.zpl_nums.specs.declared.folds.Fold.{Fold}
 use Rattle.zpl_nums.specs.Fold.{folded, joined, unit_of}
 use Rattle.zpl_nums.proofs.FoldLemmas.{IsSettled, folded-cons, joined_assoc, joined_comm, settled-folded, settled_right}
-use Rattle.zpl_region.specs.declared.dims.Dim.{Dim}
-use Rattle.zpl_region.specs.declared.dims.Dim.TheVariants as dim
 use Rattle.zpl_region.specs.declared.regions.Region.{Region}
 use Rattle.zpl_region.specs.Region.{members}
 use Rattle.zpl_region.proofs.ListLemmas.{Among, Among-filter, among_filtered}
@@ -20,7 +17,6 @@ use Rattle.zpl_arrays.specs.Fold.{agrees, kept_fold, partly_reduced}
 use Rattle.zpl_arrays.proofs.FoldLemmas.{fold_of_parts}
 use Rattle.grid_layout.specs.Grid.{processors_of}
 use Rattle.grid_layout.specs.Layout.{AreBlocks, laid_out}
-use Rattle.grid_layout.specs.Piece.{IsRange}
 use Rattle.grid_layout.specs.Piece.{owner_for as owner_in}
 use Rattle.grid_layout.specs.Words.{numbers_from}
 use Rattle.grid_layout.specs.Words.{processors as grid_processors}
@@ -41,7 +37,7 @@ use Rattle.grid_meaning.proofs.WorldLemmas.{processors_alike}
 use Rattle.row_runs.specs.Run.{Does}
 use Rattle.row_runs.specs.Rows.{AreEffects, OldWrong}
 use Rattle.flat_form.specs.Moves.{found, moved_in, parted, provided, reads_in}
-use Rattle.flat_form.specs.Right.{can_write, is_flood, no_flood}
+use Rattle.flat_form.specs.Right.{can_write, no_flood}
 use Rattle.flat_form.specs.Whole.{Whole}
 use Rattle.plan_meaning.specs.Abreast.{Abreast, locals_of}
 use Rattle.plan_meaning.specs.Messages as plan
@@ -51,7 +47,7 @@ use Rattle.needs_runs.specs.Holds.{Holds}
 use Rattle.needs_runs.proofs.HoldsLemmas.{both_parts, some_processors}
 use Rattle.message_runs.proofs.FlatLemmas.{IsWritable, are_blocks, flat_of, three, write_parts}
 use Rattle.message_runs.proofs.OwnLemmas.{IsRead, own_value, read_parts, values_are}
-use Rattle.message_runs.proofs.OwnerLemmas.{limited_bounds}
+use Rattle.message_runs.proofs.OwnerLemmas.{limited_bounds, ranges}
 use Rattle.message_runs.proofs.RankLemmas.{array_rank, region_is, slot_is}
 use Rattle.message_runs.proofs.SetLemmas.{IsFinal, dest_member, final_set, is_flat, mine_alike, mine_array, tuple_place}
 use Rattle.message_runs.proofs.WorkLemmas.{IsWork, after, final, final_is, final_storage, mine, moved_step, work, work_agrees}
@@ -154,12 +150,6 @@ map_parts : {X Y Z : Type 0} (g : X → Y) (h : Y → Z) (xs : List X)
     → map h (map g xs) ≡ map (λ x. h (g x)) xs
 map_parts g h [] = refl
 map_parts g h (x ∷ xs) = ap (λ rest. h (g x) ∷ rest) (map_parts g h xs)
-
-pub ranges : (dims : List Dim) → list_all (λ d. not (is_flood d)) dims ≡ true → All IsRange dims
-ranges [] e = All-nil IsRange
-ranges (dim.Flood ∷ dims) e = cc
-ranges (dim.Range lo hi step align ∷ dims) e =
-    All-cons IsRange (dim.Range lo hi step align) dims tt (ranges dims e)
 
 -- ---- the parts of all processors have each tuple of a region once
 module _ (code : Tables) (are : AreBlocks (laid_out (arrangement_of code))) (rank : ℕ)
