@@ -11,6 +11,8 @@ pub mod FlatLemmas
 pub mod SetLemmas
 pub mod SourceLemmas
 pub mod RemapLemmas
+pub mod RequestLemmas
+pub mod HomeLemmas
 pub mod GatherRows
 pub mod FloodRows
 pub mod EdgeRows
