@@ -12,3 +12,4 @@ pub mod PlaceLemmas
 pub mod PlannedLemmas
 pub mod RoomRows
 pub mod SlotLemmas
+pub mod FloodLemmas
