@@ -24,7 +24,8 @@ use Rattle.row_runs.specs.Run.{Wrong, Effect, Does}
 use Rattle.row_runs.specs.Straight.{Flow, Halts, OnTo, TiedWrong, flow_behind, flow_step, flow_then}
 use Rattle.row_runs.specs.Straight.{through}
 use Rattle.row_runs.proofs.StraightLemmas.{through_append}
-use Rattle.plan_meaning.specs.Abreast.{Abreast, Share, every, go_where, locals_of, share_of}
+use Rattle.plan_meaning.specs.Abreast.{Abreast, Share, every, go_where, locals_of, of_processors}
+use Rattle.plan_meaning.specs.Abreast.{share_of}
 use Rattle.plan_meaning.specs.Act.{found}
 use Rattle.plan_meaning.specs.Messages.{are_partners, does_well, finished_of, from_of, next_with}
 use Rattle.plan_meaning.specs.Messages.{begun, final_of, leaves_row, middle_of, next_or, receivers}
@@ -162,7 +163,8 @@ module _ (code : Tables) (links : Option ℕ) (n : ℕ) where
 
     abbrev pub received : Abreast
     received =
-        next_with code (finish_row code 0 items) (locals_of (quiet shares)) sent_flight.words []
+        of_processors code (quiet shares)
+        (next_with code (finish_row code 0 items) (locals_of (quiet shares)) sent_flight.words [])
 
   abbrev pub exchange_flow : List Item → Await → Flow Await
   exchange_flow items (Ready all) =
@@ -237,14 +239,17 @@ module _ (code : Tables) (links : Option ℕ) (n : ℕ) where
           ∙ (ap (λ b. Does (ready_step (go_where (b && partners items shares
           && every code (does_well code (finish_row code exchange items) (locals_of (quiet shares))
           (sent_flight items shares).words)) []
+          (of_processors code (quiet shares)
           (next_with code (finish_row code exchange items) (locals_of (quiet shares))
-          (sent_flight items shares).words [])))) same_number
+          (sent_flight items shares).words []))))) same_number
           ∙ (ap (λ w. Does (ready_step (go_where (true && partners items shares && every code w) []
+          (of_processors code (quiet shares)
           (next_with code (finish_row code exchange items) (locals_of (quiet shares))
-          (sent_flight items shares).words []))))
+          (sent_flight items shares).words [])))))
           (well_same code items (quiet shares) (sent_flight items shares).words exchange)
           ∙ ap (λ next. Does (ready_step (go_where
-          (true && partners items shares && all_well items shares) [] next)))
+          (true && partners items shares && all_well items shares) []
+          (of_processors code (quiet shares) next))))
           (next_same code items (quiet shares) (sent_flight items shares).words exchange [])))
 
       start_does : (shares : ℕ → Share)
