@@ -14,3 +14,17 @@ pub mod EarlyRunLemmas
 pub mod UnitLemmas
 pub mod UnitRunLemmas
 pub mod WithUnitsLemmas
+pub mod WriteLemmas
+pub mod SentLemmas
+pub mod OwnerLemmas
+pub mod PlaceLemmas
+pub mod ShapeLemmas
+pub mod TakenLemmas
+pub mod KeepLemmas
+pub mod GoodLemmas
+pub mod JoinLemmas
+pub mod FlowLemmas
+pub mod GoodUnitLemmas
+pub mod MergeLemmas
+pub mod DoneLemmas
+pub mod RepeatLemmas

@@ -109,6 +109,7 @@ same_stores s t shapes cells =
 pub record Puts (w : Write) (s r : List Array) : Type 0 where
   pub shapes : (a : ℕ) → shape r a ≡ shape s a
   pub cells : (a i : ℕ) → cell r a i ≡ over (hits s w a i) w.value (cell s a i)
+  pub others : (a : ℕ) → a ≢ w.array → slice_get r a ≡ slice_get s a
 
 module _ (w : Write) (s : List Array) (x : Array) (there : slice_get s w.array ≡ Some x) where
   abbrev after : List Array
@@ -150,6 +151,7 @@ module _ (w : Write) (s : List Array) (x : Array) (there : slice_get s w.array �
         ∙ ap (λ o. over ((w.array == a)
         && (place_in (option_map (λ (z : Array). z.storage) o) w.place == i)) w.value (cell s a i))
         (sym there);
+    others = λ a apart. other_set s w.array a (updated x w.place w.value) apart;
   }
 
   puts_there : (b : Bool) (r : List Array)
@@ -367,3 +369,45 @@ value_same r s a t shapes cells = by (slice_get r a) (slice_get s a) shapes cell
       where
         some_is : {r u : Region} → Some r ≡ Some u → r ≡ u
         some_is e = cc
+
+-- a value is there where a place is
+pub some_has : (s : List Array) (a : ℕ) (t : List ℤ) → is_some (value_at s a t) ≡ true
+    → has_in (shape s a) t ≡ true
+some_has s a t e = by (slice_get s a) e
+  where
+    by : (o : Option Array) → is_some (option_and_then (held_value t) o) ≡ true
+        → has_in (option_map (λ (x : Array). x.storage) o) t ≡ true
+    by None e = e
+    by (Some x) e = at (has_place x.storage t) (element x t) e
+      where
+        at : (b : Bool) (v : ℤ) → is_some (where_held b v) ≡ true → b ≡ true
+        at true v e = refl
+        at false v e = e
+
+-- what is there is there still where its array stays
+pub held_other : (w : Write) (s t : List Array) → slice_get t w.array ≡ slice_get s w.array
+    → Held s w → Held t w
+held_other w s t same held =
+    let can : can_put t w ≡ true =
+    ap (λ o. has_in (option_map (λ (x : Array). x.storage) o) w.place) same
+    ∙ (sym (can_is w s) ∙ ap is_some held) in
+    let (m, put_is) = some_there (put w t) (can_is w t ∙ can) in
+    let one = puts w t m put_is in
+    put_is
+    ∙ ap Some (same_stores m t one.shapes (λ a i. one.cells a i ∙ by a i (hits t w a i) refl))
+  where
+    by : (a i : ℕ) (b : Bool) → hits t w a i ≡ b → over b w.value (cell t a i) ≡ cell t a i
+    by a i false e = refl
+    by a i true e =
+        let same_array : w.array ≡ a = eqb-true w.array a (first (w.array == a) _ e) in
+        let cells : cell t a i ≡ cell s a i =
+        subst (λ k. cell t k i ≡ cell s k i) same_array
+        (ap (option_and_then (λ (x : Array). slice_get x.values i)) same) in
+        let hit : hits s w a i ≡ true =
+        sym (ap (λ o. (w.array == a)
+        && (place_in (option_map (λ (x : Array). x.storage) o) w.place == i)) same) ∙ e in
+        ap (option_map (λ _. w.value)) cells ∙ (sym (held_cell s w held a i hit) ∙ sym cells)
+      where
+        first : (b c : Bool) → (b && c) ≡ true → b ≡ true
+        first true c e = refl
+        first false c e = e
