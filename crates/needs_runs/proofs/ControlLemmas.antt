@@ -15,7 +15,7 @@ use Rattle.node_form.specs.Control.{Control, Steps, Leaps, Ends, Outside, Regist
 use Rattle.node_form.specs.Value.{Computed, Gives, Divides, Lacks, and_then, read, scalar_operands, value_of}
 use Rattle.row_runs.specs.Straight.{Every}
 use Rattle.row_runs.specs.Run as run
-use Rattle.row_runs.specs.Run.{Goes, Stops, Wrong, Effect, Does}
+use Rattle.row_runs.specs.Run.{Goes, Stops, Does}
 use Rattle.grid_meaning.specs.Collective.{scalar_at}
 use Rattle.grid_meaning.specs.Local.{processors}
 use Rattle.grid_meaning.specs.State.{IsSlot}

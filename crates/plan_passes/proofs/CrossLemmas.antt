@@ -22,8 +22,8 @@ use Rattle.plan_meaning.specs.Abreast.{Abreast, every, go_where, locals_of}
 use Rattle.plan_meaning.proofs.ThereLemmas.{either_share}
 use Rattle.plan_meaning.specs.Act.{found}
 use Rattle.plan_meaning.specs.Messages as messages
-use Rattle.plan_meaning.specs.Messages.{are_partners, does_well, final_of, finished, finished_in}
-use Rattle.plan_meaning.specs.Messages.{finished_of, from_of, next_or, next_with, started}
+use Rattle.plan_meaning.specs.Messages.{are_partners, does_well, finished, finished_in}
+use Rattle.plan_meaning.specs.Messages.{finished_of, from_of, next_with, started}
 use Rattle.plan_passes.proofs.AwaitLemmas.{Await, Ready, Wanted, await_act, ready_step}
 use Rattle.plan_passes.proofs.FinishLemmas.{finish_leaves, finish_row}
 use Rattle.plan_passes.proofs.FreeLemmas.{Free, FreeOn, FreeWanted, FreeWrong, IsFree, LeavesItems}

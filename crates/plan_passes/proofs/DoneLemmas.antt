@@ -1,7 +1,7 @@
 -- Items whose exchange brings what is there: they stay so behind exchanges, and behind rows that
 -- write neither their arrays nor their slots.
-use Rattle.std.proofs.Common.{◌≡◌, ◌⊎◌, inl, inr, refl, sym, ◌∙◌, ap, subst, ℕ, ◌<◌, Bool, true, false}
-use Rattle.std.proofs.Common.{List, [], ◌∷◌, ℤ, pos, Option, Some, is_some}
+use Rattle.std.proofs.Common.{◌≡◌, inl, inr, refl, sym, ◌∙◌, ap, subst, ℕ, ◌<◌, Bool, true, false}
+use Rattle.std.proofs.Common.{List, [], ◌∷◌, ℤ, pos}
 use Rattle.std.specs.Prelude.{◌==◌, if◌then◌else◌, nat_lt, option_and_then, slice_get, unwrap_or}
 use Rattle.std.specs.Option.{option_map}
 use Rattle.zpl_region.specs.declared.regions.Region.{Region}

@@ -1,6 +1,5 @@
 -- Flows that are tied by being the same, and good.
-use Rattle.std.proofs.Common.{◌≡◌, refl, sym, ap, subst, ℕ, List, []}
-use Rattle.row_runs.specs.Run.{Wrong}
+use Rattle.std.proofs.Common.{◌≡◌, refl, sym, subst, ℕ, List, []}
 use Rattle.row_runs.specs.Straight.{Flow, Halts, OnTo, Tied, TiedHalt, TiedOn, TiedWrong, flow_behind}
 use Rattle.row_runs.specs.Straight.{flow_then}
 use Rattle.plan_passes.proofs.AwaitLemmas.{Await}

@@ -1,14 +1,13 @@
 -- States of plans in which slots are the same on all processors, and arrays are where they belong;
 -- rows of a stretch and exchanges keep them so.
-use Rattle.std.proofs.Common.{◌≡◌, ◌≢◌, ◌⊎◌, inl, inr, refl, sym, ◌∙◌, ap, subst, ℕ, zero, suc, ◌<◌, Bool}
-use Rattle.std.proofs.Common.{true, false, List, [], ◌∷◌, length, take, ℤ, Option, Some, None, All}
+use Rattle.std.proofs.Common.{◌≡◌, ◌≢◌, inl, inr, refl, sym, ◌∙◌, ap, subst, ℕ, zero, suc, ◌<◌, Bool}
+use Rattle.std.proofs.Common.{true, false, List, [], ◌∷◌, length, take, Option, Some, None, All}
 use Rattle.std.proofs.Common.{eqb-true, is_some, true≢false}
 use Rattle.std.specs.Prelude.{◌||◌, ◌==◌, IsSomeAnd, slice_get, unwrap_or}
 use Rattle.std.specs.List.{AllByRecursion, AllZip}
 use Rattle.std.specs.Option.{option_map}
 use Rattle.std.proofs.lemmas.List.Elements.{All-head, All-tail}
 use Rattle.zpl_nums.specs.declared.ends.TrapKind.{TrapKind}
-use Rattle.zpl_region.specs.declared.dims.Dim.{Dim}
 use Rattle.zpl_region.specs.declared.regions.Region.{Region}
 use Rattle.zpl_region.specs.Tests.{is_within_limit}
 use Rattle.zpl_region.proofs.ListLemmas.{Among}
@@ -27,16 +26,14 @@ use Rattle.node_form.specs.declared.instructions.Instr.TheVariants as instr
 use Rattle.node_form.specs.declared.tables.Tables.{Tables}
 use Rattle.code_parts.specs.Exchanged.{is_exchange_row}
 use Rattle.code_parts.specs.Stretch.{ends_stretch}
-use Rattle.code_parts.specs.Uses.{items_of, rows_or_none}
+use Rattle.code_parts.specs.Uses.{rows_or_none}
 use Rattle.grid_meaning.specs.Local.{processors}
 use Rattle.grid_meaning.specs.State.{ArePlaces, IsSlot, IsStore}
-use Rattle.grid_meaning.specs.Stored.{arrangement_of, box_of}
-use Rattle.grid_layout.specs.Layout.{held_of, laid_out}
 use Rattle.plan_form.specs.Units.{Exchange, PlanUnit, Single, unit_of}
 use Rattle.row_runs.specs.Run.{Effect}
-use Rattle.row_runs.specs.Straight.{flow_step, Flow, Halts, OnTo, through}
-use Rattle.plan_meaning.specs.Abreast.{Abreast, Share, of_processors, start_abreast}
-use Rattle.plan_meaning.specs.Act.{control_of, registers_of}
+use Rattle.row_runs.specs.Straight.{flow_step, OnTo, through}
+use Rattle.plan_meaning.specs.Abreast.{Abreast, Share, start_abreast}
+use Rattle.plan_meaning.specs.Act.{registers_of}
 use Rattle.plan_meaning.proofs.ThereLemmas.{either_share, there_is}
 use Rattle.needs_runs.specs.Agree.{HasLayout, HasThreeOf}
 use Rattle.needs_runs.proofs.BeginLemmas.{begins}
@@ -51,7 +48,7 @@ use Rattle.plan_passes.proofs.KeepLemmas.{RowKeeps, made_arrays, row_keeps}
 use Rattle.plan_passes.proofs.LoopLemmas.{Misses}
 use Rattle.plan_passes.proofs.OpenLemmas.{KeepsOpen, OpenLeap, OpenOn, OpenPass, OpenStop, OpenWanted}
 use Rattle.plan_passes.proofs.OpenLemmas.{row_open}
-use Rattle.plan_passes.proofs.PlaceLemmas.{ArePlaced, FitsWell, held_by}
+use Rattle.plan_passes.proofs.PlaceLemmas.{ArePlaced, FitsWell}
 use Rattle.plan_passes.proofs.SentLemmas.{AllWrite, all_behind, all_writes, behind, stores_behind}
 use Rattle.plan_passes.proofs.UnitLemmas.{quiet}
 use Rattle.plan_passes.proofs.WriteLemmas.{shape, written, written_shapes}

@@ -1,26 +1,23 @@
 -- Units of a plan keep its states good.
-use Rattle.std.proofs.Common.{◌≡◌, ◌⊎◌, inl, inr, refl, sym, ◌∙◌, ap, subst, ℕ, Bool, true, false, List, []}
-use Rattle.std.proofs.Common.{◌∷◌, ◌++◌, Option, Some, None, true≢false}
-use Rattle.std.specs.Prelude.{◌||◌, cond, if◌then◌else◌, fold}
+use Rattle.std.proofs.Common.{◌≡◌, ◌⊎◌, inl, inr, refl, sym, subst, ℕ, Bool, true, false, List, []}
+use Rattle.std.proofs.Common.{◌∷◌, ◌++◌, Option, true≢false}
+use Rattle.std.specs.Prelude.{◌||◌, if◌then◌else◌, fold}
 use Rattle.std.specs.List.{AllByRecursion, list_any}
-use Rattle.zpl_region.specs.declared.regions.Region.{Region}
 use Rattle.zpl_region.proofs.ListLemmas.{Among, Among-append_left, Among-append_right, among_appended}
 use Rattle.node_form.specs.declared.arrays.Item.{Item}
 use Rattle.node_form.specs.declared.instructions.Instr.{Instr}
 use Rattle.node_form.specs.declared.tables.Tables.{Tables}
-use Rattle.code_parts.specs.Early.{is_roomy}
 use Rattle.code_parts.specs.Exchanged.{is_among}
 use Rattle.code_parts.specs.Uses.{is_item}
 use Rattle.plan_form.specs.Units.{Exchange, PlanUnit, Single, with_item}
 use Rattle.plan_form.proofs.ItemLemmas.{is_item-Decides}
-use Rattle.row_runs.specs.Straight.{Flow, Halts, OnTo, flow_then, through}
-use Rattle.plan_meaning.specs.Abreast.{Abreast}
+use Rattle.row_runs.specs.Straight.{Flow, through}
 use Rattle.needs_runs.specs.Agree.{HasLayout}
 use Rattle.plan_passes.proofs.AwaitLemmas.{Await, Ready, Wanted, await_act}
 use Rattle.plan_passes.proofs.EarlyLemmas.{IfOn, on_then}
 use Rattle.plan_passes.proofs.FlowLemmas.{weaker_on}
-use Rattle.plan_passes.proofs.GoodLemmas.{Good, IsFit, IsGood, RowBehind, good_exchange, good_row}
-use Rattle.plan_passes.proofs.SentLemmas.{AllSaid, AllWrite, Exchanged, Rightly, Wrongly, behind, exchanged}
+use Rattle.plan_passes.proofs.GoodLemmas.{IsFit, IsGood, RowBehind, good_exchange, good_row}
+use Rattle.plan_passes.proofs.SentLemmas.{Exchanged, Rightly, Wrongly, behind, exchanged}
 use Rattle.plan_passes.proofs.UnitLemmas.{IsPlain, exchange_flow, units_flow}
 
 -- ---- items, each once

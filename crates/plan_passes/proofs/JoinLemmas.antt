@@ -1,6 +1,6 @@
 -- What exchanges do without items that bring what is there; and two of them one behind the other are
 -- one with the items of both.
-use Rattle.std.proofs.Common.{◌≡◌, ◌⊎◌, inl, inr, refl, sym, ◌∙◌, ap, ap₂, subst, ℕ, ◌<◌, Bool, true, false}
+use Rattle.std.proofs.Common.{◌≡◌, ◌⊎◌, inl, inr, refl, sym, ◌∙◌, ap, ℕ, ◌<◌, Bool, true, false}
 use Rattle.std.proofs.Common.{List, [], ◌∷◌, ◌++◌, ℤ, pos, Option, Some, None, is_some, ltb-true, true≢false}
 use Rattle.std.proofs.Math.Path.{fun_ext}
 use Rattle.std.specs.Prelude.{◌==◌, if◌then◌else◌, nat_lt, option_and_then, unwrap_or}
@@ -18,7 +18,7 @@ use Rattle.plan_passes.proofs.GoodLemmas.{Good}
 use Rattle.plan_passes.proofs.PlaceLemmas.{FitsWell, coherent, value_stays}
 use Rattle.plan_passes.proofs.SentLemmas.{AllSaid, AllWrite, IsSent, all_behind, all_writes, behind}
 use Rattle.plan_passes.proofs.SentLemmas.{is_sent, owned}
-use Rattle.plan_passes.proofs.SentLemmas.{sent_is, stores_behind, value_there, write_of, written_append}
+use Rattle.plan_passes.proofs.SentLemmas.{sent_is, stores_behind, write_of, written_append}
 use Rattle.plan_passes.proofs.UnitLemmas.{quiet}
 use Rattle.plan_passes.proofs.WriteLemmas.{Coherent, Held, Write, all_can, can_each, has_in, same_written}
 use Rattle.plan_passes.proofs.WriteLemmas.{shape, some_has, written, written_shapes}

@@ -1,13 +1,12 @@
 -- What rows of a stretch leave on all processors, but exchanges: arrays and slots that they don't
 -- write, and the storage of each array, but that of a `room`. Slots stay the same on all.
 use Rattle.std.proofs.Common.{◌≡◌, ◌≢◌, refl, sym, ◌∙◌, ap, subst, ℕ, zero, suc, ◌<◌, Bool, true, false, ℤ}
-use Rattle.std.proofs.Common.{List, [], ◌∷◌, length, Option, Some, None, true≢false, eqb-true, arith}
+use Rattle.std.proofs.Common.{List, [], ◌∷◌, Option, Some, None, true≢false, eqb-true, arith}
 use Rattle.std.specs.Prelude.{◌&&◌, ◌||◌, ◌==◌, if◌then◌else◌, not, slice_get, slice_set, unwrap_or}
 use Rattle.std.specs.Prelude.{flat_map}
 use Rattle.std.specs.List.{filter_map}
 use Rattle.std.specs.Option.{option_map}
 use Rattle.std.proofs.lemmas.Bool.Decides.{nat_tests}
-use Rattle.std.specs.Cmp.Lexicographic.{pointwise}
 use Rattle.std.specs.Fmt.{signed_decimal}
 use Rattle.zpl_nums.specs.declared.ends.End.{End}
 use Rattle.zpl_nums.specs.declared.ends.End.TheVariants.{More}
@@ -16,7 +15,7 @@ use Rattle.zpl_arrays.specs.Array.{Array}
 use Rattle.zpl_arrays.specs.ArrayText.{truth_text}
 use Rattle.node_form.specs.Control as control
 use Rattle.node_form.specs.Control.{Control, Registers}
-use Rattle.node_form.specs.Nest.{Nest, members_of}
+use Rattle.node_form.specs.Nest.{Nest}
 use Rattle.node_form.specs.Value.{Computed, Gives, Divides, Lacks}
 use Rattle.node_form.specs.declared.arrays.ArrayRow.{ArrayRow}
 use Rattle.node_form.specs.declared.instructions.Instr.{Instr}
@@ -32,31 +31,30 @@ use Rattle.grid_meaning.specs.Gather as gather
 use Rattle.grid_meaning.specs.Local.{Local, processors}
 use Rattle.grid_meaning.specs.Remap as remap
 use Rattle.grid_meaning.specs.Room.{cleared, roomed, zeros_at}
-use Rattle.grid_meaning.specs.Scan as scan
 use Rattle.grid_meaning.specs.Turn.{expression_value, prints_text, prints_value}
 use Rattle.nest_meaning.specs.Tree.{nest_of}
 use Rattle.nest_meaning.specs.Units.{units_of}
 use Rattle.nest_meaning.proofs.TreeLemmas.{reads_only}
-use Rattle.row_orders.specs.Rows.{alone_where, at_turn, taking}
+use Rattle.row_orders.specs.Rows.{at_turn}
 use Rattle.row_runs.specs.Run.{Goes, Stop, Stops, Ends, Wrong, Effect, Does}
 use Rattle.plan_meaning.specs.Abreast.{Abreast, Share, every, go_where, is_quiet, locals_of, share_of}
 use Rattle.plan_meaning.specs.Abreast.{standing}
-use Rattle.plan_meaning.specs.Act.{action_of, alone, control_of, controlled, controlled_as, ended_by}
-use Rattle.plan_meaning.specs.Act.{ends_where, folded, found, go_one_way, is_region, is_way, print_ends}
-use Rattle.plan_meaning.specs.Act.{registers_of, registers_or, shares_on, value_printed, voted, voted_as}
+use Rattle.plan_meaning.specs.Act.{action_of, alone, control_of, controlled, controlled_as}
+use Rattle.plan_meaning.specs.Act.{ends_where, folded, found, go_one_way, is_way, print_ends}
+use Rattle.plan_meaning.specs.Act.{registers_of, registers_or, shares_on, voted_as}
 use Rattle.plan_meaning.specs.Loops.{LacksPlace, Shared, Through, WantsTurn, lacks, looped}
 use Rattle.plan_meaning.specs.Loops.{share_behind, shared, tree_looped, wants}
-use Rattle.plan_meaning.specs.Messages.{answered, answers_from, asked, begun, behind_answers, delivered}
-use Rattle.plan_meaning.specs.Messages.{final_of, from_of, heard_by, leaves_row, middle_of, next_or}
+use Rattle.plan_meaning.specs.Messages.{answered, asked, begun, behind_answers, delivered}
+use Rattle.plan_meaning.specs.Messages.{final_of, from_of, heard_by, middle_of, next_or}
 use Rattle.plan_meaning.specs.Messages.{remapped, starts_alone, took, words_of}
 use Rattle.plan_meaning.proofs.SlotLemmas.{slots-Decides}
-use Rattle.plan_passes.proofs.AwaitLemmas.{Await, Ready, Wanted, looping, ready, ready_act, ready_step}
+use Rattle.plan_passes.proofs.AwaitLemmas.{Await, Ready, Wanted, looping, ready, ready_act}
 use Rattle.plan_passes.proofs.ControlLemmas.{EndsThere, IsStraightly, NotSaid, StepsOn, misses_one}
 use Rattle.plan_passes.proofs.ControlLemmas.{other_set, straightly}
 use Rattle.plan_passes.proofs.LoopLemmas.{Misses, behind_stays, differs, shared_stays}
 use Rattle.plan_passes.proofs.SentLemmas.{every_at}
 use Rattle.plan_passes.proofs.ShapeLemmas as shapes
-use Rattle.plan_passes.proofs.TakenLemmas.{IfAction, IfLocal, LocalKept, RowKept, StoresKept, action_kept}
+use Rattle.plan_passes.proofs.TakenLemmas.{IfLocal, LocalKept, RowKept, action_kept}
 use Rattle.plan_passes.proofs.TakenLemmas.{begun_kept, delivery_kept, gather_kept, local_same, local_trans}
 use Rattle.plan_passes.proofs.TakenLemmas.{or_local, remap_kept, scan_kept, taking_kept}
 use Rattle.plan_passes.proofs.WriteLemmas.{shape}

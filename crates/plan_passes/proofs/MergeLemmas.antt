@@ -13,14 +13,13 @@ use Rattle.grid_meaning.specs.Local.{processors}
 use Rattle.plan_form.specs.Units.{Exchange, PlanUnit, Single, with_item}
 use Rattle.comm_combine.specs.Merge.{joined_to, neighbours_merged, units_merged}
 use Rattle.row_runs.specs.Segments.{Keeps}
-use Rattle.row_runs.specs.Straight.{Flow, Halts, OnTo, Tied, TiedWrong, flow_behind, flow_then, through}
+use Rattle.row_runs.specs.Straight.{Flow, OnTo, Tied, TiedWrong, flow_behind, flow_then, through}
 use Rattle.plan_meaning.specs.Abreast.{Abreast, Share}
 use Rattle.plan_meaning.specs.Act.{plan_run}
 use Rattle.needs_runs.specs.Agree.{HasLayout}
 use Rattle.plan_passes.specs.Threes.{HasThrees}
 use Rattle.plan_passes.specs.Units.{IsInUnits}
 use Rattle.plan_passes.proofs.AwaitLemmas.{Await, Ready, Wanted, await_act}
-use Rattle.plan_passes.proofs.EarlyLemmas.{IfOn}
 use Rattle.plan_passes.proofs.FlowLemmas.{Like, behind_nothing, tied_behind, tied_self, tied_then, tied_trans}
 use Rattle.plan_passes.proofs.GoodLemmas.{Good, IsFit, IsGood, code_fit, good_exchange, good_start}
 use Rattle.plan_passes.proofs.GoodUnitLemmas.{exchange_good, into_fold, out_of_fold, row_good, units_good}

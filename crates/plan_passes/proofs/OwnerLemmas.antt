@@ -1,8 +1,8 @@
 -- A place has one owner for each processor that holds it.
-use Rattle.std.proofs.Common.{◌≡◌, ◌≢◌, refl, sym, ◌∙◌, ap, ap₂, subst, arith, ℕ, zero, suc, ◌+◌, ◌*◌, ◌<◌, ◌≤◌}
-use Rattle.std.proofs.Common.{◌/◌, ◌%◌, Bool, true, false, List, [], ◌∷◌, length, ℤ, pos, true≢false, All}
+use Rattle.std.proofs.Common.{◌≡◌, refl, sym, ◌∙◌, ap₂, arith, ℕ, ◌+◌, ◌*◌, ◌<◌, ◌≤◌}
+use Rattle.std.proofs.Common.{◌/◌, ◌%◌, Bool, true, false, List, [], ◌∷◌, length, ℤ, pos}
 use Rattle.std.proofs.Common.{eqb-true, eq-eqb}
-use Rattle.std.specs.Prelude.{◌&&◌, ◌==◌, ◌+ℤ◌, if◌then◌else◌, int_le}
+use Rattle.std.specs.Prelude.{◌==◌, ◌+ℤ◌, if◌then◌else◌, int_le}
 use Rattle.std.specs.Int.{int_max, int_min}
 use Rattle.std.specs.List.{AllZip}
 use Rattle.std.proofs.lemmas.Int.{ints}
@@ -15,8 +15,8 @@ use Rattle.zpl_region.proofs.ListLemmas.{le_from_test}
 use Rattle.grid_layout.specs.declared.axes.Axis.{Axis}
 use Rattle.grid_layout.specs.Block.{block_first, block_last, block_of}
 use Rattle.grid_layout.specs.Grid.{blocks_at, product}
-use Rattle.grid_layout.specs.Piece.{each_needed, needed_dim, nothing, part, place_dim, range_or_nothing}
-use Rattle.grid_layout.proofs.BlockLemmas.{div_below_by, in_block}
+use Rattle.grid_layout.specs.Piece.{each_needed, nothing, part, place_dim, range_or_nothing}
+use Rattle.grid_layout.proofs.BlockLemmas.{in_block}
 use Rattle.grid_layout.proofs.OwnerLemmas.{EachSome, some_product}
 use Rattle.grid_layout.proofs.PartLemmas.{AreBelow, both_true, has_dim, has_each, true_both}
 use Rattle.node_form.specs.declared.arrays.ArrayDim.{ArrayDim}

@@ -1,11 +1,10 @@
 -- The writes of an exchange: those of one place write one value, and none is at a place that is sent.
-use Rattle.std.proofs.Common.{◌≡◌, ◌⊎◌, inl, inr, refl, sym, ◌∙◌, ap, subst, arith, ℕ, zero, suc, ◌<◌}
+use Rattle.std.proofs.Common.{◌≡◌, refl, sym, ◌∙◌, ap, subst, arith, ℕ, zero, suc, ◌<◌}
 use Rattle.std.proofs.Common.{Bool, true, false, List, [], ◌∷◌, length, map, ℤ, pos, Option, Some, None}
-use Rattle.std.proofs.Common.{is_some, eqb-true, eq-eqb, true≢false, All}
+use Rattle.std.proofs.Common.{eqb-true, eq-eqb, true≢false, All}
 use Rattle.std.proofs.lemmas.List.Elements.{All-head, All-tail}
-use Rattle.std.specs.Prelude.{◌&&◌, ◌==◌, IsSomeAnd, drop, option_and_then, slice_get, unwrap_or}
+use Rattle.std.specs.Prelude.{◌==◌, IsSomeAnd, drop, slice_get}
 use Rattle.std.specs.List.{AllZip}
-use Rattle.std.specs.Option.{option_map}
 use Rattle.zpl_region.specs.declared.dims.Dim.{Dim}
 use Rattle.zpl_region.specs.declared.dims.Dim.TheVariants as dim
 use Rattle.zpl_region.specs.declared.regions.Region.{Region}
@@ -13,7 +12,7 @@ use Rattle.zpl_region.specs.Dim.{HasStep, IsCoordinate, coordinates}
 use Rattle.zpl_region.specs.Region.{IsMember, components, members, tuples}
 use Rattle.zpl_region.proofs.ListLemmas.{Among}
 use Rattle.zpl_region.proofs.TestLemmas.{is_coordinate_iff}
-use Rattle.zpl_arrays.specs.Array.{Array, each_has_place, element, has_place, place_among}
+use Rattle.zpl_arrays.specs.Array.{Array, each_has_place, has_place, place_among}
 use Rattle.zpl_arrays.proofs.ArrayLemmas.{place_of_tuple}
 use Rattle.grid_layout.specs.Grid.{blocks_at, cuts, processors_of, product}
 use Rattle.grid_layout.specs.Layout.{axes_at, held_of, laid_out}
@@ -27,18 +26,18 @@ use Rattle.node_form.specs.declared.tables.Tables.{Tables}
 use Rattle.node_form.specs.Fits.{FitsItem}
 use Rattle.grid_meaning.specs.Exchange.{places_in}
 use Rattle.grid_meaning.specs.Local.{processors}
-use Rattle.grid_meaning.specs.Place.{held_value, value_at, where_held}
+use Rattle.grid_meaning.specs.Place.{value_at}
 use Rattle.grid_meaning.specs.State.{IsSlot}
 use Rattle.grid_meaning.specs.Stored.{arrangement_of, box_of}
 use Rattle.plan_meaning.specs.Abreast.{Share}
 use Rattle.needs_runs.specs.Agree.{HasLayout}
 use Rattle.needs_runs.proofs.OwnerLemmas.{KindsAs, boxed_steps, processors_are}
 use Rattle.needs_runs.proofs.PieceLemmas.{axes_many, box_there, boxed, components_many, cuts_are}
-use Rattle.needs_runs.proofs.PieceLemmas.{held_many_dims, inside, kinds, ks_many, piece_has, three_dims}
+use Rattle.needs_runs.proofs.PieceLemmas.{held_many_dims, kinds, ks_many, piece_has, three_dims}
 use Rattle.needs_runs.proofs.PieceLemmas.{zip_many}
 use Rattle.needs_runs.proofs.SlotLemmas.{zip_there}
 use Rattle.plan_passes.proofs.OwnerLemmas.{needed_as_held, one_each, own_each, same_processor}
-use Rattle.plan_passes.proofs.SentLemmas.{IsSent, Said, all_writes, owned, sent_is, stores_behind}
+use Rattle.plan_passes.proofs.SentLemmas.{IsSent, all_writes, owned, sent_is}
 use Rattle.plan_passes.proofs.SentLemmas.{value_there, write_of}
 use Rattle.plan_passes.proofs.WriteLemmas.{CellIs, Coherent, Touched, Untouched, Write, cell, cell_is}
 use Rattle.plan_passes.proofs.WriteLemmas.{has_in, hits, place_in, shape, value_same, written, written_shapes}

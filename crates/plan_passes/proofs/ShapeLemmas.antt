@@ -1,22 +1,21 @@
 -- A loop leaves the storage of each array as it is.
-use Rattle.std.proofs.Common.{◌≡◌, ◌≢◌, refl, sym, ◌∙◌, ap, subst, ℕ, ◌+◌, Bool, true, false, ℤ}
-use Rattle.std.proofs.Common.{List, [], ◌∷◌, ◌++◌, length, true≢false, eq-eqb}
-use Rattle.std.specs.Prelude.{◌||◌, ◌==◌, Option, Some, None, flat_map, option_and_then, slice_get}
+use Rattle.std.proofs.Common.{◌≡◌, refl, ◌∙◌, ap, subst, ℕ, ◌+◌, ℤ}
+use Rattle.std.proofs.Common.{List, [], ◌∷◌, length}
+use Rattle.std.specs.Prelude.{Option, Some, None, slice_get}
 use Rattle.std.specs.Prelude.{slice_set}
-use Rattle.std.specs.List.{AllByRecursion, list_any}
+use Rattle.std.specs.List.{AllByRecursion}
 use Rattle.std.specs.Option.{IfSome, option_map}
 use Rattle.zpl_nums.specs.Fold.{joined}
 use Rattle.zpl_nums.specs.declared.folds.Fold.{Fold}
 use Rattle.zpl_region.specs.declared.regions.Region.{Region}
 use Rattle.zpl_region.specs.Region.{members}
 use Rattle.zpl_arrays.specs.Array.{Array}
-use Rattle.node_form.specs.declared.members.Member.{Member}
 use Rattle.node_form.specs.declared.tables.Tables.{Tables}
 use Rattle.node_form.specs.Group.{Point}
 use Rattle.node_form.specs.Nest.{Nest, Nothing, Putting, Keeping, Joining, Choosing, ChoosingElse}
 use Rattle.node_form.specs.Nest.{Looping, Repeating, members_of}
 use Rattle.grid_meaning.specs.Loop.{access_at}
-use Rattle.grid_meaning.specs.Place.{own_part, with_value, with_values}
+use Rattle.grid_meaning.specs.Place.{own_part, with_value}
 use Rattle.nest_meaning.specs.Alike.{AreBoth, AreLeaves, AreTold, AreValues, Both, BothFine, BothLost}
 use Rattle.nest_meaning.specs.Alike.{BothWant, BothZero, IsNestSame, IsSame, JoinLeaf, KeepLeaf}
 use Rattle.nest_meaning.specs.Alike.{Neither, PutLeaf, way_of}

@@ -1,11 +1,10 @@
 -- What rows with messages leave on a processor: its slots, the arrays that they don't write, and the
 -- storage of each.
-use Rattle.std.proofs.Common.{◌≡◌, ◌≢◌, refl, sym, ◌∙◌, ap, subst, ℕ, zero, suc, Bool, true, false, ℤ}
+use Rattle.std.proofs.Common.{◌≡◌, ◌≢◌, refl, ◌∙◌, ℕ, zero, suc, Bool, true, false, ℤ}
 use Rattle.std.proofs.Common.{List, [], ◌∷◌, length, Option, Some, None}
 use Rattle.std.specs.Prelude.{◌==◌, if◌then◌else◌, option_and_then, slice_get, unwrap_or}
 use Rattle.std.specs.Option.{option_map}
 use Rattle.zpl_nums.specs.declared.folds.Fold.{Fold}
-use Rattle.zpl_nums.specs.declared.ends.Border.{Border}
 use Rattle.zpl_region.specs.declared.regions.Region.{Region}
 use Rattle.zpl_arrays.specs.Array.{Array}
 use Rattle.zpl_arrays.specs.Row.{running}
@@ -23,9 +22,8 @@ use Rattle.grid_meaning.specs.Place.{value_at, values_at, with_value, with_value
 use Rattle.grid_meaning.specs.Remap as remap
 use Rattle.grid_meaning.specs.Remap.{Want}
 use Rattle.grid_meaning.specs.Scan as scan
-use Rattle.row_orders.specs.Rows.{alone_where, at_turn, taken_where, taking}
+use Rattle.row_orders.specs.Rows.{alone_where, taken_where, taking}
 use Rattle.plan_meaning.specs.Messages.{next_or}
-use Rattle.plan_passes.proofs.LoopLemmas.{Misses, differs, neither}
 use Rattle.plan_passes.proofs.WriteLemmas.{puts, shape}
 
 -- ---- arrays

@@ -19,7 +19,7 @@ use Rattle.plan_form.specs.Units.{Exchange, PlanRow, PlanUnit, Single, exchanges
 use Rattle.plan_form.specs.Units.{unit_rows, units_of}
 use Rattle.plan_form.proofs.PassLemmas.{exchanges_both, numbered_both, numbered_length}
 use Rattle.row_runs.specs.Cut as cut
-use Rattle.row_runs.specs.Cut.{LastAlike, Stretch, all_rows, as_list, moved_by, passed, rewritten_by}
+use Rattle.row_runs.specs.Cut.{LastAlike, Stretch, all_rows, as_list, moved_by, rewritten_by}
 use Rattle.row_runs.specs.Cut.{rows_of, segments_by}
 use Rattle.row_runs.specs.Run.{Effect, runs}
 use Rattle.row_runs.specs.Segments.{AllAlike, AreAlike, Behind, Here, IsStart, Keeps, Segment, news, olds}

@@ -1,7 +1,7 @@
 -- Values that are written at places of arrays, one after another: what they come to goes by which
 -- are written, where those of one place are the same.
 use Rattle.std.proofs.Common.{◌≡◌, ◌≢◌, ◌⊎◌, inl, inr, refl, sym, ◌∙◌, ap, ap₂, subst, ℕ, zero, suc}
-use Rattle.std.proofs.Common.{Bool, true, false, List, [], ◌∷◌, ◌++◌, ℤ, pos, Option, Some, None}
+use Rattle.std.proofs.Common.{Bool, true, false, List, [], ◌∷◌, ℤ, pos, Option, Some, None}
 use Rattle.std.proofs.Common.{true≢false, is_some, eqb-true}
 use Rattle.std.specs.Prelude.{◌&&◌, ◌==◌, option_and_then, slice_get, slice_index_or, slice_set}
 use Rattle.std.specs.Prelude.{if◌then◌else◌, unwrap_or}
