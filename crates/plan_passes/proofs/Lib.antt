@@ -28,3 +28,4 @@ pub mod GoodUnitLemmas
 pub mod MergeLemmas
 pub mod DoneLemmas
 pub mod RepeatLemmas
+pub mod InUnitsLemmas
