@@ -2,14 +2,14 @@
 """What the documents show of the scripts is what these print.
 
 Run it at the top of the repository, once the program is built: .ci/checks/scripts.py. In README.md and in each page of docs/ a
-line that is set in by four and begins with `$ ./show`, `$ ./why` or `$ ./costs` is run, and the lines below it, set in as
+line that is set in by four and begins with `$ ./show` is run, and the lines below it, set in as
 far, are compared with what it puts and tells. Each script says how it is called, with --help.
 """
 import glob
 import subprocess
 import sys
 
-SCRIPTS = ["show", "why", "costs"]
+SCRIPTS = ["show"]
 
 
 def calls_in(path):

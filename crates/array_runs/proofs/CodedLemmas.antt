@@ -40,6 +40,7 @@ use Rattle.array_runs.proofs.ElementLemmas.{element_part}
 
 pub record CurrentOf (w : Where) (now : Whole) (rank : Rank) : Type 0 where
   pub of : ℕ
+  pub is_of : rank ≡ Some of
   pub current : IsCurrent now.slots of (slotted_at w.currents rank)
   pub over_is : over_at (seen_currents now w.currents) rank
       ≡ seen_over now (slotted_at w.currents rank)
@@ -52,17 +53,17 @@ some_current now k (Some one) s h = (h, refl)
 some_current now k None s h = absurd (let bad : false ≡ true = s in cc)
 
 pub current_of : (tables : Tables) (w : Where) (now : Whole) (rank : Rank)
-    → IsHeld tables w.numbers.arrays w.currents now.slots
+    → IsHeld tables w.setup.known w.numbers.arrays w.currents now.slots
     → HasCurrent (seen_currents now w.currents) rank → CurrentOf w now rank
 current_of tables w now (Some (suc zero)) held h =
     let c = some_current now 1 w.currents.one h held.one in
-    record { of = 1; current = c.0; over_is = c.1 }
+    record { of = 1; is_of = refl; current = c.0; over_is = c.1 }
 current_of tables w now (Some (suc (suc zero))) held h =
     let c = some_current now 2 w.currents.two h held.two in
-    record { of = 2; current = c.0; over_is = c.1 }
+    record { of = 2; is_of = refl; current = c.0; over_is = c.1 }
 current_of tables w now (Some (suc (suc (suc zero)))) held h =
     let c = some_current now 3 w.currents.three h held.three in
-    record { of = 3; current = c.0; over_is = c.1 }
+    record { of = 3; is_of = refl; current = c.0; over_is = c.1 }
 current_of tables w now (Some zero) held h = absurd h
 current_of tables w now (Some (suc (suc (suc (suc k))))) held h = absurd h
 current_of tables w now None held h = absurd h
@@ -78,7 +79,7 @@ region_of w now rank c =
 
 module _ (tables : Tables) (sight : Sight) (w : Where) (line : ℕ) (next : Next) (now : Whole)
     (stands : Stands sight.spots w next) (room : next.scalars ≤ tables.scalars)
-    (sound : IsSound tables now) (held : IsHeld tables w.numbers.arrays w.currents now.slots)
+    (sound : IsSound tables now) (held : IsHeld tables w.setup.known w.numbers.arrays w.currents now.slots)
     (rank : Rank) (c : CurrentOf w now rank) where
   abbrev spots : List Spot
   spots = sight.spots

@@ -21,7 +21,7 @@ use Rattle.lowering_runs.specs.Run.{does}
 use Rattle.lowering_runs.specs.Agrees.{Agrees}
 use Rattle.lowering_runs.specs.Goes.{World, context, lowering}
 use Rattle.lowering_runs.specs.Stands.{HasRoom, IsLike, Stands}
-use Rattle.lowering_runs.proofs.ControlLemmas.{room_here}
+use Rattle.lowering_runs.proofs.FitLemmas.{room_here}
 use Rattle.lowering_runs.proofs.ValueLemmas.{thing_seen}
 use Rattle.array_runs.specs.Assigned.{IsArrayAssigned}
 use Rattle.array_runs.specs.Elementwise.{IsElementwise}

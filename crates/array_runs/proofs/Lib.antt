@@ -8,5 +8,7 @@ pub mod LikeLemmas
 pub mod MaskLemmas
 pub mod TargetLemmas
 pub mod AssignLemmas
+pub mod RanklessLemmas
 pub mod WholeLemmas
 pub mod FormLemmas
+pub mod FloodLemmas

@@ -1,5 +1,6 @@
 -- The code of an assignment of an array, with its references and its loop.
 use Rattle.std.proofs.Common.{◌≡◌, refl, sym, ◌∙◌, ap, subst, ℕ, ◌≤◌, Bool, true, false}
+use Rattle.std.proofs.Common.{◌⊎◌, inl, inr}
 use Rattle.std.proofs.Common.{◌&&◌, List, [], ◌∷◌, ◌++◌, Option, Some, None, append-nil}
 use Rattle.std.specs.Prelude.{slice_get}
 use Rattle.std.specs.List.{list_all}
@@ -15,6 +16,7 @@ use Rattle.zpl_meaning.specs.Computed.{both_then, computed_then, provided}
 use Rattle.zpl_meaning.specs.Store.{Store, array_at, with_array}
 use Rattle.zpl_meaning.specs.Context.{Over, Place, over_at}
 use Rattle.zpl_meaning.specs.Term.{Term, NoTerm, ThenTerm}
+use Rattle.zpl_meaning.specs.Scalars.{IsScalar}
 use Rattle.zpl_meaning.specs.Settled as meant
 use Rattle.zpl_meaning.specs.Checks.{conform, has_mask_within, is_within, refer, refers}
 use Rattle.zpl_meaning.specs.Fields.{Field, array_over, fields_of, is_kept_in}
@@ -42,10 +44,12 @@ use Rattle.lowering_runs.specs.Run.{does, decide, step}
 use Rattle.lowering_runs.specs.Agrees.{Agrees}
 use Rattle.lowering_runs.specs.Stands.{IsLike, Stands}
 use Rattle.lowering_runs.proofs.FitLemmas.{place_kept}
+use Rattle.lowering_runs.proofs.ValueLemmas.{scalar_unseen}
 use Rattle.array_runs.specs.Gates.{holds, gate}
 use Rattle.array_runs.specs.Elementwise.{IsElementwise, IsReadableMask}
 use Rattle.array_runs.specs.Assigned.{IsAssigned, IsWritable}
 use Rattle.array_runs.proofs.GateLemmas.{needs_gate}
+use Rattle.array_runs.proofs.RanklessLemmas.{meant_any, code_any}
 use Rattle.array_runs.proofs.StoredLemmas.{IsFound, found_array, index_of_found}
 use Rattle.array_runs.proofs.PartLemmas.{IsStill, alone_still, both_still}
 use Rattle.array_runs.proofs.CodedLemmas.{CurrentOf, current_of, IsCoded, coded}
@@ -61,7 +65,8 @@ module _ (tables : Tables) (n : ℕ) (sight : Sight) (w : Where) (next : Next) (
     (now : Whole) (like : IsLike tables sight.spots w next start
     (seen_store sight.spots w.numbers.arrays now) now) (rank : Rank) (c : CurrentOf w now rank)
     (stored : Stored) (found : slice_get w.numbers.arrays target ≡ Some stored) (own_rank : Rank)
-    (value : Expr) (ranked : own_rank ≡ rank)
+    (value : Expr)
+    (ranked : (own_rank ≡ rank) ⊎ IsScalar (seen_place sight w now).environment value)
     (writable : IsWritable c.current.region (Some stored))
     (masked : IsReadableMask w c.current.region (slotted_at w.currents rank).mask)
     (elementwise : IsElementwise w c.current.region value) where
@@ -104,6 +109,20 @@ module _ (tables : Tables) (n : ℕ) (sight : Sight) (w : Where) (next : Next) (
   abbrev goes : Bool
   goes = own && refers store it.term
 
+  -- ---- the rank of an array's value is the array's, or a scalar is put at all tuples
+
+  meant_same : (own_rank ≡ rank) ⊎ IsScalar place.environment value
+      → meant.settled place store own_rank value ≡ meant.settled place store rank value
+  meant_same (inl same) = ap (λ (r : Rank). meant.settled place store r value) same
+  meant_same (inr scalar) = meant_any place store own_rank rank value scalar
+
+  code_same : (own_rank ≡ rank) ⊎ IsScalar place.environment value
+      → settled w line next own_rank value ≡ settled w line next rank value
+  code_same (inl same) = ap (λ (r : Rank). settled w line next r value) same
+  code_same (inr scalar) =
+      code_any w line next own_rank rank value
+      (scalar_unseen sight.spots w.environment value scalar)
+
   -- ---- the meaning
 
   fields_are : fields_in place store own (record { rank = own_rank; expr = value } ∷ [])
@@ -113,7 +132,7 @@ module _ (tables : Tables) (n : ℕ) (sight : Sight) (w : Where) (next : Next) (
       (λ term terms. mean.Gives (ThenTerm term terms))) (λ terms.
       provided (conform terms) RegionMismatch (λ _.
       provided (own && refer store terms) OutsideStorage (λ _. fields_of store terms))))
-      (ap (λ (r : Rank). meant.settled place store r value) ranked ∙ it.termed)
+      (meant_same ranked ∙ it.termed)
       ∙ ap (λ b. provided (b && true) RegionMismatch (λ _.
       provided (own && (refers store it.term && true)) OutsideStorage (λ _.
       fields_of store (ThenTerm it.term NoTerm)))) it.part.conformed
@@ -139,7 +158,7 @@ module _ (tables : Tables) (n : ℕ) (sight : Sight) (w : Where) (next : Next) (
       ≡ slate.alone slates
   settled_is =
       ap (λ x. slate.both ThenSlate x (slate.alone NoSlate))
-      (ap (λ (r : Rank). settled w line next r value) ranked ∙ it.slated next)
+      (code_same ranked ∙ it.slated next)
 
   still : IsStill (List Expression) (all_hoisted w.numbers line (free_at next 0) slates)
       (it.left ∷ [])

@@ -1,5 +1,5 @@
 -- Arrays that are assigned without operators over regions.
-use Rattle.std.specs.Prelude.{◌≡◌, ℕ, Option, Some, None, slice_get}
+use Rattle.std.specs.Prelude.{◌≡◌, ◌⊎◌, ℕ, Option, Some, None, slice_get}
 use Rattle.zpl_nums.specs.declared.operators.Op.{Op}
 use Rattle.zpl_region.specs.declared.regions.Region.{Region}
 use Rattle.zpl_tree.specs.Syntax.{Expr, Name}
@@ -8,6 +8,7 @@ use Rattle.zpl_meaning.specs.Store.{ArrayAt, thing_of}
 use Rattle.zpl_meaning.specs.Points.{assigned_expr}
 use Rattle.zpl_meaning.specs.Context.{Place, over_at, reach_of, rank_in}
 use Rattle.zpl_meaning.specs.Proper.{HasCurrent}
+use Rattle.zpl_meaning.specs.Scalars.{IsScalar}
 use Rattle.zpl_lowering.specs.Where.{Stored, Where}
 use Rattle.array_runs.specs.Reads.{EachMatches}
 use Rattle.array_runs.specs.Elementwise.{IsElementwise, IsReadableMask}
@@ -17,11 +18,13 @@ IsWritable region None = ⊥
 IsWritable region (Some stored) = EachMatches stored.storage.dims region.dims
 
 -- An array by its place in the store is assigned under the current region of its rank: it has flood
--- dimensions where the region has them, and the value and the mask have a value at each tuple.
+-- dimensions where the region has them, the value and the mask have a value at each tuple, and the
+-- value has the array's rank or is of scalars alone.
 pub record IsAssigned (w : Where) (place : Place) (role : Role) (target : ℕ) (value : Expr)
     : Type 0 where
   pub current : HasCurrent place.currents (handed (reach_of place) role)
-  pub ranked : rank_in place role value ≡ handed (reach_of place) role
+  pub ranked : (rank_in place role value ≡ handed (reach_of place) role)
+      ⊎ IsScalar place.environment value
   pub writable : IsWritable (over_at place.currents (handed (reach_of place) role)).region
       (slice_get w.numbers.arrays target)
   pub masked : IsReadableMask w (over_at place.currents (handed (reach_of place) role)).region

@@ -2,3 +2,4 @@ pub mod Reads
 pub mod Gates
 pub mod Elementwise
 pub mod Assigned
+pub mod Floods

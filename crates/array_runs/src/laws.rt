@@ -12,11 +12,12 @@ ghost use Rattle.flat_form.specs.Whole.{Whole};
 ghost use Rattle.zpl_lowering.specs.Where.{Next, Where, rank_for, slotted_at};
 ghost use Rattle.zpl_lowering.specs.Statement.{lowered_array, lowered_form, placed_in};
 ghost use Rattle.lowering_runs.specs.Agrees.{Agrees};
-ghost use Rattle.lowering_runs.specs.Goes.{World, context, lowering};
+ghost use Rattle.lowering_runs.specs.Goes.{Goes, World, context, lowering};
 ghost use Rattle.lowering_runs.specs.Run.{does};
 ghost use Rattle.lowering_runs.specs.Seen.{Sight, seen_place};
 ghost use Rattle.lowering_runs.specs.Stands.{HasRoom, IsLike, Stands};
 ghost use Rattle.array_runs.specs.Assigned.{IsArrayAssigned, IsAssigned};
+ghost use Rattle.array_runs.specs.Floods.{IsArrayServed};
 
 /// The code of an assignment of an array without operators over regions goes as the assignment
 /// does, from each state that its place fits: it comes to the same values in the array and leaves
@@ -45,4 +46,14 @@ pub fn array_statements_go_alike()
         (exec_form (context world sight w start) world.turns at (Assign name op value) store)
         (does world.tables world.turns
         (lowered_form (lowering world w) next at (Assign name op value)).code now) }
+{}
+
+/// So it does where flood dimensions are known before the run: those of the slot that has the
+/// current region, of the array, and of what is read. No region is named, so this holds whatever
+/// bounds the prefixes around the statement have.
+pub fn known_arrays_go_alike()
+    ensures { (world : World) (at : ℕ) (name : Name) (op : Option Operator) (value : Expr) →
+        Goes world (IsArrayServed name op value)
+        (λ c store. exec_form c world.turns at (Assign name op value) store)
+        (λ l next. lowered_form l next at (Assign name op value)) 0 }
 {}

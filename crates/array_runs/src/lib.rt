@@ -6,4 +6,4 @@
 
 mod laws;
 
-pub use laws::{array_assignments_go_alike, array_statements_go_alike};
+pub use laws::{array_assignments_go_alike, array_statements_go_alike, known_arrays_go_alike};

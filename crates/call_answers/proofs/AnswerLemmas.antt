@@ -38,8 +38,6 @@ build_other build.TooManyStatements =
     record { put = λ e. omega arith; memory = λ e. omega arith; usage = λ e. omega arith }
 build_other build.TooManyNodes =
     record { put = λ e. omega arith; memory = λ e. omega arith; usage = λ e. omega arith }
-build_other build.NotBuilt =
-    record { put = λ e. omega arith; memory = λ e. omega arith; usage = λ e. omega arith }
 build_other build.TooMuchStorage =
     record { put = λ e. omega arith; memory = λ e. omega arith; usage = λ e. omega arith }
 
@@ -48,7 +46,6 @@ pub build_refuses : (f : BuildFault) → (build_status f ≡ REFUSED) ⊎ (build
 build_refuses build.BadShape = inr refl
 build_refuses build.TooManyStatements = inl refl
 build_refuses build.TooManyNodes = inl refl
-build_refuses build.NotBuilt = inl refl
 build_refuses build.TooMuchStorage = inr refl
 
 -- so it is no other

@@ -66,12 +66,10 @@ abbrev pub build_status : BuildFault → ℕ
 build_status build.BadShape = UNBOUND
 build_status build.TooManyStatements = REFUSED
 build_status build.TooManyNodes = REFUSED
-build_status build.NotBuilt = REFUSED
 build_status build.TooMuchStorage = UNBOUND
 
 abbrev pub build_text : BuildFault → List ℕ
 build_text build.BadShape = bad_shape_text
 build_text build.TooManyStatements = whole_text (codes "TooManyStatements")
 build_text build.TooManyNodes = whole_text (codes "TooManyNodes")
-build_text build.NotBuilt = fault_text (codes "NotBuilt") 1 0
 build_text build.TooMuchStorage = too_much_storage_text

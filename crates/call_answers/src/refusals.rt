@@ -49,8 +49,6 @@ pub enum BuildFault {
     TooManyStatements,
     /// The expressions of the program have too many nodes.
     TooManyNodes,
-    /// The tables that it is compiled to break a rule of node code.
-    NotBuilt,
     /// The processors of the grid would hold too much of its arrays.
     TooMuchStorage,
 }
@@ -62,9 +60,7 @@ impl BuildFault {
     {
         match self {
             BuildFault::BadShape | BuildFault::TooMuchStorage => status::UNBOUND,
-            BuildFault::TooManyStatements | BuildFault::TooManyNodes | BuildFault::NotBuilt => {
-                status::REFUSED
-            }
+            BuildFault::TooManyStatements | BuildFault::TooManyNodes => status::REFUSED,
         }
     }
 }

@@ -179,7 +179,6 @@ fn build_piece(alloc: Global, fault: BuildFault) -> Result<Piece, AllocError>
         BuildFault::BadShape => settings_line(alloc, "BadShape")?,
         BuildFault::TooManyStatements => whole_line(alloc, "TooManyStatements")?,
         BuildFault::TooManyNodes => whole_line(alloc, "TooManyNodes")?,
-        BuildFault::NotBuilt => fault_line(alloc, "NotBuilt", 1, 0)?,
         BuildFault::TooMuchStorage => settings_line(alloc, "TooMuchStorage")?,
     };
     Ok(Piece::Made(piece))

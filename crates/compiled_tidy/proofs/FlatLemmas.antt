@@ -21,11 +21,11 @@ use Rattle.pass_sizes.specs.Sizes.{is_unflat}
 use Rattle.pass_sizes.proofs.NormalLemmas.{normal_count}
 use Rattle.pass_sizes.proofs.SettledLemmas.{checked_count}
 use Rattle.pass_sizes.proofs.TestLemmas.{unflat_blind}
-use Rattle.pass_parts.specs.Checks.{ChecksWhatFollows}
+use Rattle.pass_parts.specs.Checks.{ChecksWhatFollows, StandsWithWhatFollows}
 use Rattle.pass_parts.specs.Parts.{CanBeFused}
-use Rattle.pass_parts.proofs.CheckedLoops.{checked_knows}
+use Rattle.pass_parts.proofs.CheckedLoops.{checked_knows, checked_stands}
 use Rattle.pass_parts.proofs.NameLemmas.{none_counted, none_first}
-use Rattle.pass_parts.proofs.NormalLoops.{normal_checks}
+use Rattle.pass_parts.proofs.NormalLoops.{normal_checks, normal_stands}
 use Rattle.zpl_compile.specs.Compile.{if_asked}
 
 -- ---- rows of flat programs
@@ -96,13 +96,18 @@ module _ (flat : Tables) (is : IsFlat flat) where
   joined_fits =
       checked_fits (normalised flat) normal_fits
 
-  pub can_be_fused : ChecksWhatFollows flat → CanBeFused (checked (normalised flat))
-  can_be_fused checks = record {
+  pub can_be_fused : ChecksWhatFollows flat → StandsWithWhatFollows flat
+      → CanBeFused (checked (normalised flat))
+  can_be_fused checks stands = record {
     flat =
         All-from_recursion (λ row. is_between_loops row ≡ false) (checked (normalised flat)).code
         (all_between (checked (normalised flat)).code checked_none);
     known =
-        checked_knows (normalised flat) normal_fits (normal_checks flat is.fits checks);
+        checked_knows (normalised flat) normal_fits (normal_checks flat is.fits checks stands)
+        (normal_stands flat is.fits checks stands);
+    stands =
+        checked_stands (normalised flat) normal_fits (normal_checks flat is.fits checks stands)
+        (normal_stands flat is.fits checks stands);
   }
 
   -- with loops joined, or not

@@ -54,7 +54,7 @@ tidy origin is =
       undecided = still_undecided build program;
       fused = λ asked.
           all_fused build (lowered_for build program)
-          (can_be_fused (lowered_for build program) lowered.flat is.checks) asked;
+          (can_be_fused (lowered_for build program) lowered.flat is.checks is.stands) asked;
       contracted = λ asked.
           all_contracted build (lowered_for build program)
           (first_fits (lowered_for build program) lowered.flat build.options.fuse) asked;

@@ -7,7 +7,7 @@ use Rattle.node_form.specs.declared.tables.Tables.{Tables}
 use Rattle.grid_meaning.specs.Stored.{arrangement_of}
 use Rattle.zpl_lowering.specs.Tables.{flat_tables}
 use Rattle.temp_norm.specs.Normalised.{loops_on_themselves}
-use Rattle.pass_parts.specs.Checks.{ChecksWhatFollows}
+use Rattle.pass_parts.specs.Checks.{ChecksWhatFollows, StandsWithWhatFollows}
 use Rattle.zpl_claims.specs.Build.{Build}
 use Rattle.zpl_claims.specs.Origin.{Origin}
 use Rattle.compiled_sizes.specs.Lowered.{IsLowered}
@@ -18,7 +18,8 @@ lowered_for build program = flat_tables program build.settings
 
 -- The program is lowered to a flat program, with at most so many tokens. Its stored arrays are the
 -- program's. Few of its loops read with a shift what they put. And wherever checks alone stand
--- between two loops over one slot, the references of the second one are among theirs.
+-- between two loops over one slot, the references of the second one are among theirs, and it may
+-- stand wherever the first one does.
 pub record IsLoweredTidily (origin : Origin) : Type 0 where
   pub lowered : IsLowered origin.build origin.program
   pub tokens : length (program_words origin.program) ≤ origin.tokens
@@ -26,3 +27,4 @@ pub record IsLoweredTidily (origin : Origin) : Type 0 where
   pub themselves : loops_on_themselves (lowered_for origin.build origin.program) ≤
       16 * (other_size origin.program origin.tokens + 1)
   pub checks : ChecksWhatFollows (lowered_for origin.build origin.program)
+  pub stands : StandsWithWhatFollows (lowered_for origin.build origin.program)

@@ -6,7 +6,7 @@ ghost use Rattle.code_parts.specs.Contracted.{IsContracted};
 ghost use Rattle.code_parts.specs.Early.{IsEarly};
 ghost use Rattle.code_parts.specs.Exchanged.{HasNoRepeats, IsMerged};
 ghost use Rattle.code_parts.specs.Fused.{IsFused};
-ghost use Rattle.pass_parts.specs.Checks.{ChecksWhatFollows};
+ghost use Rattle.pass_parts.specs.Checks.{ChecksWhatFollows, StandsWithWhatFollows};
 ghost use Rattle.zpl_claims.specs.Build.{Build};
 ghost use Rattle.zpl_claims.specs.Origin.{Origin};
 ghost use Rattle.zpl_claims.specs.Tidy.{IsTidy};
@@ -17,10 +17,12 @@ ghost use Rattle.compiled_tidy.specs.Lowered.{IsLoweredTidily, lowered_for};
 /// others are: of repeated exchanges, of exchanges that could be one, and of starts that could be
 /// earlier; of arrays that could be cells, where the lowered tables are a flat program's; and of
 /// loops that could be one, where besides wherever checks alone stand between two loops over one
-/// slot the references of the second one are among theirs.
+/// slot the references of the second one are among theirs, and it may stand wherever the first one
+/// does.
 pub fn letters_are_kept()
     ensures fused { (build : Build) (program : Program) → IsFlat (lowered_for build program) →
-        ChecksWhatFollows (lowered_for build program) → build.options.fuse ≡ true →
+        ChecksWhatFollows (lowered_for build program) →
+        StandsWithWhatFollows (lowered_for build program) → build.options.fuse ≡ true →
         IsFused (compiled build program) }
     ensures contracted { (build : Build) (program : Program) → IsFlat (lowered_for build program) →
         build.options.contract ≡ true → IsContracted (compiled build program) }

@@ -1,7 +1,6 @@
 -- From flat programs to node code: the passes one behind the other.
 use Rattle.std.specs.Prelude.{ℕ, Bool, true, false, Option}
 use Rattle.node_form.specs.declared.tables.Tables.{Tables}
-use Rattle.node_form.specs.Fits.{Fits}
 use Rattle.code_layout.specs.Room.{HasRoom}
 use Rattle.zpl_claims.specs.declared.options.Options.{Options}
 use Rattle.temp_norm.specs.Normalised.{normalised}
@@ -38,8 +37,7 @@ node_tables build flat =
     (improved build.options build.links
     (planned build.grid (settled build.options (checked (normalised flat)))))
 
--- why they are no program that can run: they break a rule, or the grid has no room for their arrays
+-- why they are no program that can run: the grid has no room for their arrays
 abbrev pub Refuses : Tables → FlatFault → Type 0
-Refuses tables fault.NotBuilt = Fits tables → ⊥
-Refuses tables fault.TooMuchStorage = Fits tables × (HasRoom tables → ⊥)
+Refuses tables fault.TooMuchStorage = HasRoom tables → ⊥
 Refuses tables fault.NoMemory = Unit {0}

@@ -7,8 +7,6 @@ use std::alloc::AllocError;
 /// Why a flat program gets no node code.
 #[derive(Clone, Copy, Debug, PartialEq, Eq)]
 pub enum FlatFault {
-    /// The tables break a rule of node code.
-    NotBuilt,
     /// The processors of the grid would hold more than 16,777,216 words of the arrays.
     TooMuchStorage,
     /// Memory was wanting, or a row's number doesn't fit into 32 bits.

@@ -5,9 +5,9 @@ mod asked;
 mod builds;
 mod codes;
 mod faults;
-mod flats;
+mod laws;
 
 pub use builds::Build;
 pub use codes::code_of;
 pub use faults::FlatFault;
-pub use flats::flat_of;
+pub use laws::node_tables_fit;

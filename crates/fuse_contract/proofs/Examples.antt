@@ -137,6 +137,15 @@ accumulated :
     ≡ summing
 accumulated = refl
 
+-- a scalar that another group accumulates: its fold could be still to come
+abbrev awaiting : List (List Member)
+awaiting = (put 0 0 ∷ []) ∷ (put 1 5 ∷ []) ∷ (member.Acc 0 operator.Sum 1 None 1 ∷ []) ∷ []
+
+awaited :
+    groups_of (fused (with_groups awaiting (fixed ∷ instr.Loop 0 0 ∷ instr.Loop 0 1 ∷ [])))
+    ≡ (put 0 0 ∷ []) ∷ (put 1 5 ∷ []) ∷ []
+awaited = refl
+
 -- ---- cells: arrays 0 and 1 of this group are named nowhere else, and 2 is gathered. They come
 -- behind the two cells that there are.
 abbrev three_in_one : List (List Member)

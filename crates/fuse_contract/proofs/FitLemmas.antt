@@ -117,7 +117,8 @@ module _ (tables : Tables) (fits : Fits tables) (end : ℕ) where
           else Runs last.slot last.group ∷ rest loop)
       by true e =
           later (both tables last loop)
-          (both_fit last loop (eqb-true last.slot loop.slot (both_left _ _ (both_left _ _ e)))
+          (both_fit last loop (eqb-true last.slot loop.slot
+          (both_left _ _ (both_left _ _ (both_left _ _ e))))
           before fit)
       by false e = (before, later loop fit)
 

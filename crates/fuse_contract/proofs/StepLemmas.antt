@@ -19,7 +19,8 @@ use Rattle.flat_passes.specs.Grouped.{Grouped, Plain}
 use Rattle.flat_passes.proofs.DraftLemmas.{no_rows, rows_both}
 use Rattle.plan_form.proofs.ItemLemmas.{taken_more}
 use Rattle.fuse_contract.specs.Behind.{GoesOn, IsBehind, IsGrown, IsLast}
-use Rattle.fuse_contract.specs.Fusing.{Loop, known_behind, last_rows, lies_within, references_of}
+use Rattle.fuse_contract.specs.Fusing.{Loop, can_join, known_behind, last_rows, lies_within}
+use Rattle.fuse_contract.specs.Fusing.{references_of, stands_with}
 use Rattle.fuse_contract.specs.Joining.{Facts, behind_loop, can_take, facts_behind, joins_last}
 use Rattle.fuse_contract.specs.Joining.{last_with, loop_over, loop_rows, no_facts, no_numbers, row_rows}
 use Rattle.fuse_contract.specs.Joining.{uses_of, with_uses}
@@ -55,7 +56,7 @@ passes_more test xs k x there before here =
 -- ---- whether a loop joins the last one
 module _ (tables : Tables) (known : List Item) (grown : Grown) (slot : ℕ) (uses : GroupUses)
     (group : List Member) (used : uses ≡ uses_of tables slot group) (near answer : Bool)
-    (near_is : near ≡ ((grown.slot == slot) && can_take grown.used uses))
+    (near_is : near ≡ ((grown.slot == slot) && can_take tables grown.used uses))
     (within : near ≡ true → answer ≡ list_all (lies_within tables known) uses.references)
     (apart : near ≡ false → answer ≡ false) where
   abbrev all_within : Bool
@@ -72,11 +73,17 @@ module _ (tables : Tables) (known : List Item) (grown : Grown) (slot : ℕ) (use
   joins_loop loop is =
       both_are near refl
       ∙ ap (λ b. b && all_within) (near_is
-      ∙ (ap (λ n. (n == slot) && can_take grown.used uses) is.slot
-      ∙ (ap (λ u. (loop.slot == slot) && can_take u uses) is.used
+      ∙ (ap (λ n. (n == slot) && can_take tables grown.used uses) is.slot
+      ∙ (ap (λ u. (loop.slot == slot) && can_take tables u uses) is.used
       ∙ (ap (λ u. (loop.slot == slot)
-      && can_take (with_uses no_numbers (uses_of tables loop.slot loop.group)) u) used
-      ∙ ap (λ b. (loop.slot == slot) && b) (takes tables loop.slot slot loop.group group)))))
+      && can_take tables (with_uses no_numbers (uses_of tables loop.slot loop.group)) u) used
+      ∙ (ap (λ b. (loop.slot == slot) && b) (takes tables loop.slot slot loop.group group)
+      ∙ regrouped (loop.slot == slot) (can_join tables loop.group group)
+      (stands_with tables loop.group group))))))
+    where
+      regrouped : (a b c : Bool) → (a && (b && c)) ≡ (a && b && c)
+      regrouped true b c = refl
+      regrouped false b c = refl
 
   joins_known : (last : Option Loop) → IsLast tables (Some grown) last
       → answer ≡ joins_last tables known last (record { slot = slot; group = group })

@@ -78,7 +78,8 @@ module _ (tables : Tables) (most : ℕ) where
           else Runs last.slot last.group ∷ rest loop)
       by true e =
           later (both tables last loop)
-          (joined_turns last.group loop.group (both_right _ _ (both_left _ _ e)))
+          (joined_turns last.group loop.group
+          (both_right _ _ (both_left _ _ (both_left _ _ e))))
       by false e = (before.0, later loop few)
 
   rows_turn : (known : List Item) (last : Option Loop) (rows : List Grouped)

@@ -3,22 +3,24 @@ use Rattle.std.proofs.Common.{◌≡◌, refl, sym, ap, ◌∙◌, ℕ, zero, su
 use Rattle.std.proofs.Common.{List, [], ◌∷◌, ◌++◌, map, take, eq-eqb, eqb-true}
 use Rattle.std.specs.Prelude.{◌==◌, ◌&&◌, ◌||◌, not, Option, Some, flat_map, fold, if◌then◌else◌}
 use Rattle.std.specs.Prelude.{slice_get}
-use Rattle.std.specs.List.{list_any}
+use Rattle.std.specs.List.{list_all, list_any}
 use Rattle.std.proofs.lemmas.Grind.{flat_map-append}
 use Rattle.std.proofs.lemmas.List.{append-nil, append_assoc, map-append}
 use Rattle.std.proofs.lemmas.List.Sums.{fold-append}
 use Rattle.std.proofs.lemmas.List.Folds.{list_any-append}
 use Rattle.node_form.specs.declared.arrays.Item.{Item}
 use Rattle.node_form.specs.declared.members.Member.{Member}
+use Rattle.node_form.specs.declared.members.Member.TheVariants as member
 use Rattle.node_form.specs.declared.tables.Tables.{Tables}
 use Rattle.node_form.specs.declared.words.ExprOp.{ExprOp}
 use Rattle.node_form.specs.Value.{unmoved}
 use Rattle.code_parts.specs.Uses.{accumulated_by, as_list, exprs_of, is_turning, member_words, put_by}
 use Rattle.code_parts.specs.Uses.{scalars_in, share, shifted_in, words_of}
 use Rattle.plan_form.proofs.ItemLemmas.{taken_more}
-use Rattle.fuse_contract.specs.Fusing.{can_join, reference, references_in}
-use Rattle.fuse_contract.specs.Joining.{can_take, no_numbers, no_uses, uses_of, with_member}
-use Rattle.fuse_contract.specs.Joining.{with_number, with_uses, with_word}
+use Rattle.fuse_contract.specs.Fusing.{all_accumulated, are_like, are_put_alike, can_join}
+use Rattle.fuse_contract.specs.Fusing.{is_accumulating, reference, references_in, stands_with}
+use Rattle.fuse_contract.specs.Joining.{can_take, no_numbers, no_uses, stays_alone, uses_of}
+use Rattle.fuse_contract.specs.Joining.{with_member, with_number, with_uses, with_word}
 use Rattle.fuse_contract.specs.declared.grown.UsedNumbers.{UsedNumbers}
 use Rattle.fuse_contract.specs.declared.uses.GroupUses.{GroupUses}
 
@@ -53,36 +55,40 @@ both_exprs step tables one expr mask old half new is first last =
     (flat_map (words_of tables) (as_list mask)))
     ∙ ap (fold step old) (sym (member_words_are tables one expr mask is))))
 
+-- of lists that elements give
+pub lists_more : {A X Y : Type 0} (step : A → Y → A) (f : X → List Y) (xs : List X) (k : ℕ) (x : X)
+    (old now new : A) → slice_get xs k ≡ Some x → now ≡ fold step old (flat_map f (take k xs))
+    → new ≡ fold step now (f x) → new ≡ fold step old (flat_map f (take (k + 1) xs))
+lists_more step f xs k x old now new there is added =
+    added
+    ∙ (ap (λ a. fold step a (f x)) is
+    ∙ (sym (fold-append step old (flat_map f (take k xs)) (f x))
+    ∙ ap (fold step old)
+    (ap (λ l. flat_map f (take k xs) ++ l) (sym (append-nil (f x)))
+    ∙ (sym (flat_map-append f (take k xs) (x ∷ []))
+    ∙ ap (flat_map f) (sym (taken_more xs k x there))))))
+
 pub words_more : {A : Type 0} (step : A → ExprOp → A) (tables : Tables) (members : List Member)
     (k : ℕ) (one : Member) (old now new : A) → slice_get members k ≡ Some one
     → now ≡ fold step old (flat_map (member_words tables) (take k members))
     → new ≡ fold step now (member_words tables one)
     → new ≡ fold step old (flat_map (member_words tables) (take (k + 1) members))
 words_more step tables members k one old now new there is added =
-    added
-    ∙ (ap (λ a. fold step a (member_words tables one)) is
-    ∙ (sym (fold-append step old (flat_map (member_words tables) (take k members))
-    (member_words tables one))
-    ∙ ap (fold step old)
-    (ap (λ l. flat_map (member_words tables) (take k members) ++ l)
-    (sym (append-nil (member_words tables one)))
-    ∙ (sym (flat_map-append (member_words tables) (take k members) (one ∷ []))
-    ∙ ap (flat_map (member_words tables)) (sym (taken_more members k one there))))))
+    lists_more step (member_words tables) members k one old now new there is added
 
 -- ---- all of a group
-abbrev same_uses : List ℕ → List ℕ → List ℕ → List ℕ → List Item → Bool → GroupUses
-same_uses puts shifted accumulated scalars references turns = record {
+abbrev same_uses : List ℕ → List ℕ → List ℕ → List Item → Bool → GroupUses
+same_uses puts shifted scalars references alone = record {
   puts = puts;
   shifted = shifted;
-  accumulated = accumulated;
   scalars = scalars;
   references = references;
-  turns = turns;
+  alone = alone;
 }
 
-by_parts : {p p' s s' a a' c c' : List ℕ} {r r' : List Item} {t t' : Bool} → p ≡ p' → s ≡ s'
-    → a ≡ a' → c ≡ c' → r ≡ r' → t ≡ t' → same_uses p s a c r t ≡ same_uses p' s' a' c' r' t'
-by_parts p s a c r t = cc
+by_parts : {p p' s s' c c' : List ℕ} {r r' : List Item} {t t' : Bool} → p ≡ p' → s ≡ s'
+    → c ≡ c' → r ≡ r' → t ≡ t' → same_uses p s c r t ≡ same_uses p' s' c' r' t'
+by_parts p s c r t = cc
 
 or_assoc : (a b c : Bool) → ((a || b) || c) ≡ (a || (b || c))
 or_assoc true b c = refl
@@ -106,22 +112,20 @@ members_used : (slot : ℕ) (uses : GroupUses) (members : List Member)
     → fold (with_member slot) uses members
     ≡ record uses {
       puts = uses.puts ++ flat_map put_by members;
-      accumulated = uses.accumulated ++ flat_map accumulated_by members;
       references =
           uses.references
           ++ flat_map (λ one. map (λ array. reference slot array unmoved) (put_by one)) members;
-      turns = uses.turns || list_any is_turning members;
+      alone = uses.alone || list_any stays_alone members;
     }
 members_used slot uses [] =
-    by_parts (sym (append-nil uses.puts)) refl (sym (append-nil uses.accumulated)) refl
-    (sym (append-nil uses.references)) (or_false uses.turns)
+    by_parts (sym (append-nil uses.puts)) refl refl (sym (append-nil uses.references))
+    (or_false uses.alone)
 members_used slot uses (one ∷ members) =
     members_used slot (with_member slot uses one) members
-    ∙ by_parts (append_assoc uses.puts (put_by one) (flat_map put_by members)) refl
-    (append_assoc uses.accumulated (accumulated_by one) (flat_map accumulated_by members)) refl
+    ∙ by_parts (append_assoc uses.puts (put_by one) (flat_map put_by members)) refl refl
     (append_assoc uses.references (map (λ array. reference slot array unmoved) (put_by one))
     (flat_map (λ one. map (λ array. reference slot array unmoved) (put_by one)) members))
-    (or_assoc uses.turns (is_turning one) (list_any is_turning members))
+    (or_assoc uses.alone (stays_alone one) (list_any stays_alone members))
 
 words_used : (slot : ℕ) (uses : GroupUses) (words : List ExprOp)
     → fold (with_word slot) uses words
@@ -131,11 +135,11 @@ words_used : (slot : ℕ) (uses : GroupUses) (words : List ExprOp)
       references = uses.references ++ flat_map (references_in slot) words;
     }
 words_used slot uses [] =
-    by_parts refl (sym (append-nil uses.shifted)) refl (sym (append-nil uses.scalars))
+    by_parts refl (sym (append-nil uses.shifted)) (sym (append-nil uses.scalars))
     (sym (append-nil uses.references)) refl
 words_used slot uses (one ∷ words) =
     words_used slot (with_word slot uses one) words
-    ∙ by_parts refl (append_assoc uses.shifted (shifted_in one) (flat_map shifted_in words)) refl
+    ∙ by_parts refl (append_assoc uses.shifted (shifted_in one) (flat_map shifted_in words))
     (append_assoc uses.scalars (scalars_in one) (flat_map scalars_in words))
     (append_assoc uses.references (references_in slot one) (flat_map (references_in slot) words))
     refl
@@ -153,7 +157,7 @@ all_used tables slot members =
       references =
           uses.references ++ flat_map (references_in slot) (flat_map (member_words tables) members);
     }) (members_used slot no_uses members)
-    ∙ by_parts refl refl refl refl
+    ∙ by_parts refl refl refl
     (ap (λ l. l ++ flat_map (references_in slot) (flat_map (member_words tables) members))
     (flat_map_map slot members)) refl)
 
@@ -246,20 +250,116 @@ module _ (tables : Tables) (slot other : ℕ) (group more : List Member) where
       → share others (fold with_number [] numbers) ≡ share numbers others
   once numbers others = shares_once others numbers ∙ share_either others numbers
 
-  by_seven : (a b : Bool) {c d e f g c' d' e' f' g' : Bool} → c ≡ c' → d ≡ d' → e ≡ e' → f ≡ f'
-      → g ≡ g'
-      → (not a && not b && not c && not d && not e && not f && not g)
-      ≡ (not a && not b && not c' && not d' && not e' && not f' && not g')
-  by_seven a b c d e f g = cc
+  -- what stays alone, by its two causes
+  alone_is : (members : List Member)
+      → list_any stays_alone members
+      ≡ (list_any is_turning members || list_any is_accumulating members)
+  alone_is [] = refl
+  alone_is (one ∷ members) =
+      ap (λ b. stays_alone one || b) (alone_is members)
+      ∙ change (is_turning one) (is_accumulating one) (list_any is_turning members)
+      (list_any is_accumulating members)
+    where
+      change : (a b c d : Bool) → ((a || b) || (c || d)) ≡ ((a || c) || (b || d))
+      change true b c d = refl
+      change false true true d = refl
+      change false true false d = refl
+      change false false c d = refl
 
-  pub takes : can_take (with_uses no_numbers (uses_of tables slot group)) (uses_of tables other more)
-      ≡ can_join tables group more
+  none_by : (members : List Member) → list_any is_accumulating members ≡ false
+      → flat_map accumulated_by members ≡ []
+  none_by [] e = refl
+  none_by (member.Acc scalar fold expr mask line ∷ members) e = absurd (true≢false e)
+  none_by (member.Put array expr mask line ∷ members) e = none_by members e
+  none_by (member.Cell cell expr mask line ∷ members) e = none_by members e
+  none_by (member.OpenIf expr mask line ∷ members) e = none_by members e
+  none_by (member.Otherwise ∷ members) e = none_by members e
+  none_by (member.CloseIf ∷ members) e = none_by members e
+  none_by (member.OpenWhile expr mask line ∷ members) e = none_by members e
+  none_by (member.CloseWhile ∷ members) e = none_by members e
+  none_by (member.OpenRepeat mask line ∷ members) e = none_by members e
+  none_by (member.Until expr ∷ members) e = none_by members e
+
+  shares_none : (members : List Member) → list_any is_accumulating members ≡ false
+      → (numbers : List ℕ) → share (flat_map accumulated_by members) numbers ≡ false
+  shares_none members e numbers = ap (λ l. share l numbers) (none_by members e)
+
+  no : (x : Bool) → false ≡ (x && false)
+  no true = refl
+  no false = refl
+
+  -- truth values: two groups that turn (t) and accumulate (c)
+  same : (t c u d p q s l x y z : Bool) → (c ≡ false → x ≡ false) → (d ≡ false → y ≡ false)
+      → (c ≡ false → z ≡ false)
+      → (not (t || c) && not (u || d) && not p && not q && not s && l)
+      ≡ ((not t && not u && not p && not q && not x && not y && not z)
+      && (not c && not d && not s && l))
+  same true c u d p q s l x y z e f g = refl
+  same false true u d p q s l x y z e f g =
+      no (not u && not p && not q && not x && not y && not z)
+  same false false true d p q s l x y z e f g = refl
+  same false false false true p q s l x y z e f g =
+      no (not p && not q && not x && not y && not z)
+  same false false false false p q s l x y z e f g = by p q x y z (e refl) (f refl) (g refl)
+    where
+      by : (p q x y z : Bool) → x ≡ false → y ≡ false → z ≡ false
+          → (not p && not q && not s && l)
+          ≡ ((not p && not q && not x && not y && not z) && (not s && l))
+      by true q x y z e f g = refl
+      by false true x y z e f g = refl
+      by false false true y z e f g = absurd (true≢false e)
+      by false false false true z e f g = absurd (true≢false f)
+      by false false false false true e f g = absurd (true≢false g)
+      by false false false false false e f g = refl
+
+  -- the first of numbers that stand there once is the first of them
+  puts_alike : (arrays others : List ℕ)
+      → are_put_alike tables (fold with_number [] arrays) others
+      ≡ are_put_alike tables arrays others
+  puts_alike [] others = refl
+  puts_alike (array ∷ arrays) others = by array [] arrays others
+    where
+      grown : (front : ℕ) (numbers : List ℕ) (one : ℕ)
+          → (rest : List ℕ) × (with_number (front ∷ numbers) one ≡ front ∷ rest)
+      grown front numbers one = by_test (list_any (λ other. one == other) (front ∷ numbers))
+        where
+          by_test : (b : Bool) → (rest : List ℕ)
+              × ((if b then front ∷ numbers else (front ∷ numbers) ++ one ∷ []) ≡ front ∷ rest)
+          by_test true = (numbers, refl)
+          by_test false = (numbers ++ one ∷ [], refl)
+
+      by : (front : ℕ) (numbers arrays others : List ℕ)
+          → are_put_alike tables (fold with_number (front ∷ numbers) arrays) others
+          ≡ list_all (are_like tables front) others
+      by front numbers [] [] = refl
+      by front numbers [] (other ∷ others) = refl
+      by front numbers (one ∷ arrays) others =
+          let more = grown front numbers one in
+          ap (λ l. are_put_alike tables (fold with_number l arrays) others) more.1
+          ∙ by front more.0 arrays others
+
+  pub takes : can_take tables (with_uses no_numbers (uses_of tables slot group))
+      (uses_of tables other more)
+      ≡ (can_join tables group more && stands_with tables group more)
   takes =
-      by_seven one.turns two.turns (once one.puts two.shifted)
-      (shares_once two.puts one.shifted)
-      (once one.accumulated two.scalars)
-      (shares_once two.accumulated one.scalars)
-      (once one.accumulated two.accumulated)
+      parts (alone_is group) (alone_is more) (once one.puts two.shifted)
+      (shares_once two.puts one.shifted) (shares_once two.scalars (all_accumulated tables))
+      (puts_alike one.puts two.puts)
+      ∙ same (list_any is_turning group) (list_any is_accumulating group)
+      (list_any is_turning more) (list_any is_accumulating more)
+      (share one.puts two.shifted) (share two.puts one.shifted)
+      (share two.scalars (all_accumulated tables)) (are_put_alike tables one.puts two.puts)
+      (share (flat_map accumulated_by group) two.scalars)
+      (share (flat_map accumulated_by more) one.scalars)
+      (share (flat_map accumulated_by group) (flat_map accumulated_by more))
+      (λ e. shares_none group e two.scalars) (λ e. shares_none more e one.scalars)
+      (λ e. shares_none group e (flat_map accumulated_by more))
+    where
+      parts : {a b c d s l a' b' c' d' s' l' : Bool} → a ≡ a' → b ≡ b' → c ≡ c' → d ≡ d'
+          → s ≡ s' → l ≡ l'
+          → (not a && not b && not c && not d && not s && l)
+          ≡ (not a' && not b' && not c' && not d' && not s' && l')
+      parts a b c d s l = cc
 
 -- what is used by a group that another one joins
 module _ (tables : Tables) (slot other : ℕ) (group more : List Member) where
@@ -271,18 +371,12 @@ module _ (tables : Tables) (slot other : ℕ) (group more : List Member) where
       → list_any test (xs ++ ys) ≡ (list_any test xs || list_any test ys)
   any_both test xs ys = list_any-append test xs ys
 
-  abbrev numbers_by : List ℕ → List ℕ → List ℕ → List ℕ → Bool → UsedNumbers
-  numbers_by puts shifted accumulated scalars turns = record {
-    puts = puts;
-    shifted = shifted;
-    accumulated = accumulated;
-    scalars = scalars;
-    turns = turns;
-  }
+  abbrev numbers_by : List ℕ → List ℕ → Bool → UsedNumbers
+  numbers_by puts shifted alone = record { puts = puts; shifted = shifted; alone = alone }
 
-  same_used : {p p' s s' a a' c c' : List ℕ} {t t' : Bool} → p ≡ p' → s ≡ s' → a ≡ a' → c ≡ c'
-      → t ≡ t' → numbers_by p s a c t ≡ numbers_by p' s' a' c' t'
-  same_used p s a c t = cc
+  same_used : {p p' s s' : List ℕ} {t t' : Bool} → p ≡ p' → s ≡ s' → t ≡ t'
+      → numbers_by p s t ≡ numbers_by p' s' t'
+  same_used p s t = cc
 
   in_turn : (xs ys : List ℕ)
       → fold with_number (fold with_number [] xs) ys ≡ fold with_number [] (xs ++ ys)
@@ -311,8 +405,7 @@ module _ (tables : Tables) (slot other : ℕ) (group more : List Member) where
       (uses_of tables other more)
       ≡ with_uses no_numbers (uses_of tables slot (group ++ more))
   grown_by =
-      same_used (of_members put_by) (of_words shifted_in) (of_members accumulated_by)
-      (of_words scalars_in) (sym (any_both is_turning group more))
+      same_used (of_members put_by) (of_words shifted_in) (sym (any_both stays_alone group more))
 
 -- a test of each number
 pub shares_more : (numbers others : List ℕ) (k number : ℕ) → slice_get numbers k ≡ Some number

@@ -1,6 +1,6 @@
 -- Loops that stand one directly behind the other over one slot are one loop, where their groups
 -- can be joined.
-use Rattle.std.specs.Prelude.{ℕ, ◌==◌, Bool, false, not, ◌&&◌, ◌||◌, ℤ, Option, Some, None}
+use Rattle.std.specs.Prelude.{ℕ, ◌==◌, Bool, true, false, not, ◌&&◌, ◌||◌, ℤ, Option, Some, None}
 use Rattle.std.specs.Prelude.{List, [], ◌∷◌, ◌++◌, filter, flat_map, map, slice_get}
 use Rattle.std.specs.Prelude.{if◌then◌else◌}
 use Rattle.std.specs.List.{list_all, list_any}
@@ -9,14 +9,17 @@ use Rattle.node_form.specs.declared.words.ExprOp.TheVariants as word
 use Rattle.node_form.specs.declared.arrays.ArrayRow.{ArrayRow}
 use Rattle.node_form.specs.declared.arrays.Item.{Item}
 use Rattle.node_form.specs.declared.members.Member.{Member}
+use Rattle.node_form.specs.declared.members.Member.TheVariants as member
 use Rattle.node_form.specs.declared.instructions.Instr.{Instr}
 use Rattle.node_form.specs.declared.instructions.Instr.TheVariants as instr
 use Rattle.node_form.specs.declared.tables.Tables.{Tables}
 use Rattle.node_form.specs.Value.{unmoved}
-use Rattle.code_parts.specs.Uses.{is_item, member_words, put_by, written_slots}
+use Rattle.code_parts.specs.Uses.{accumulated_by, is_item, member_words, put_by, scalars_in}
+use Rattle.code_parts.specs.Uses.{share, written_slots}
 use Rattle.code_parts.specs.Needs.{is_decided}
 use Rattle.code_parts.specs.Fused.{are_joinable}
 use Rattle.flat_passes.specs.Grouped.{Grouped, Runs, Plain, rewritten_rows, with_grouped}
+use Rattle.temp_norm.specs.Normalised.{is_like}
 
 -- ---- references: an array, by a slot's region moved by a shift
 abbrev pub reference : ℕ → ℕ → List ℤ → Item
@@ -62,6 +65,30 @@ always_lies tables item =
 abbrev pub lies_within : Tables → List Item → Item → Bool
 lies_within tables known item = list_any (is_item item) known || always_lies tables item
 
+-- ---- two arrays have one rank and the same flood dimensions
+abbrev pub are_rows_like : Option ArrayRow → Option ArrayRow → Bool
+are_rows_like (Some row) (Some other) = is_like row other
+are_rows_like row other = false
+
+abbrev pub are_like : Tables → ℕ → ℕ → Bool
+are_like tables array other =
+    are_rows_like (slice_get tables.arrays array) (slice_get tables.arrays other)
+
+-- the first one of some arrays is like each of the others; where there is none, there are no others
+abbrev pub are_put_alike : Tables → List ℕ → List ℕ → Bool
+are_put_alike tables [] [] = true
+are_put_alike tables [] (other ∷ others) = false
+are_put_alike tables (array ∷ arrays) others = list_all (are_like tables array) others
+
+-- ---- what is accumulated
+abbrev pub is_accumulating : Member → Bool
+is_accumulating (member.Acc scalar fold expr mask line) = true
+is_accumulating one = false
+
+-- the scalars that some group accumulates
+abbrev pub all_accumulated : Tables → List ℕ
+all_accumulated tables = flat_map (flat_map accumulated_by) tables.groups
+
 -- ---- joining
 -- the group of a loop, and its slot
 pub record Loop : Type 0 where
@@ -78,11 +105,25 @@ module _ (tables : Tables) where
   can_join group other =
       are_joinable (record tables { groups = group ∷ other ∷ [] }) 0 1
 
+  -- Where the first loop comes to a trap, the second one is never looked at; joined to it, it has
+  -- to stand in front of that trap. So it has to be one that may stand wherever the first one does:
+  -- neither accumulates, no group accumulates a scalar that the second one reads, so that no fold
+  -- of it is still to come, and what the second one puts has the flood dimensions of what the first
+  -- one puts.
+  abbrev pub stands_with : List Member → List Member → Bool
+  stands_with group other =
+      not (list_any is_accumulating group) && not (list_any is_accumulating other)
+      && not (share (flat_map scalars_in (flat_map (member_words tables) other))
+      (all_accumulated tables))
+      && are_put_alike tables (flat_map put_by group) (flat_map put_by other)
+
   -- The second loop joins the first where it would run over the same slot, where the groups can be
-  -- joined, and where each of its references is known to lie within its array before the first.
+  -- joined, and where it may stand wherever the first one does, which wants that each of its
+  -- references is known to lie within its array before the first.
   abbrev pub joins : List Item → Loop → Loop → Bool
   joins known loop other =
       (loop.slot == other.slot) && can_join loop.group other.group
+      && stands_with loop.group other.group
       && list_all (lies_within tables known) (references_of tables other.slot other.group)
 
   abbrev pub both : Loop → Loop → Loop

@@ -1,8 +1,9 @@
 -- Loops joined one row after another: what is known in front of a row, and what each row lets be
 -- written.
 --
---   GroupUses    what a group puts, reads and accumulates, and the references of its loop
---   UsedNumbers  the same numbers of a group that grows, each once
+--   GroupUses    what a group puts and reads, and the references of its loop
+--   UsedNumbers  the arrays of a group that grows, each once
+--   all_totals   the scalars that groups accumulate, each once
 --   Facts        the references that are known, and the loop that others may still join
 --   row_rows     the rows that one lets be written
 --   facts_behind what is known behind a row
@@ -16,11 +17,12 @@ use Rattle.node_form.specs.declared.instructions.Instr.{Instr}
 use Rattle.node_form.specs.declared.instructions.Instr.TheVariants as instr
 use Rattle.node_form.specs.declared.tables.Tables.{Tables}
 use Rattle.node_form.specs.Value.{unmoved}
-use Rattle.code_parts.specs.Uses.{accumulated_by, is_turning, member_words, members_of, put_by}
-use Rattle.code_parts.specs.Uses.{scalars_in, share, shifted_in}
+use Rattle.code_parts.specs.Uses.{is_turning, member_words, members_of, put_by, scalars_in, share}
+use Rattle.code_parts.specs.Uses.{shifted_in}
 use Rattle.flat_passes.specs.Grouped.{Grouped, Plain}
-use Rattle.fuse_contract.specs.Fusing.{Loop, both, joins, known_behind, last_rows, reference}
-use Rattle.fuse_contract.specs.Fusing.{references_in, references_of}
+use Rattle.fuse_contract.specs.Fusing.{Loop, all_accumulated, are_put_alike, both, is_accumulating}
+use Rattle.fuse_contract.specs.Fusing.{joins, known_behind, last_rows, reference, references_in}
+use Rattle.fuse_contract.specs.Fusing.{references_of}
 use Rattle.fuse_contract.specs.declared.uses.GroupUses.{GroupUses}
 use Rattle.fuse_contract.specs.declared.grown.UsedNumbers.{UsedNumbers}
 
@@ -29,19 +31,21 @@ abbrev pub no_uses : GroupUses
 no_uses = record {
   puts = [];
   shifted = [];
-  accumulated = [];
   scalars = [];
   references = [];
-  turns = false;
+  alone = false;
 }
+
+-- a group with this member joins no other one
+abbrev pub stays_alone : Member → Bool
+stays_alone one = is_turning one || is_accumulating one
 
 -- with a member's own, and with those of a word
 abbrev pub with_member : ℕ → GroupUses → Member → GroupUses
 with_member slot uses one = record uses {
   puts = uses.puts ++ put_by one;
-  accumulated = uses.accumulated ++ accumulated_by one;
   references = uses.references ++ map (λ array. reference slot array unmoved) (put_by one);
-  turns = uses.turns || is_turning one;
+  alone = uses.alone || stays_alone one;
 }
 
 abbrev pub with_word : ℕ → GroupUses → ExprOp → GroupUses
@@ -56,10 +60,9 @@ abbrev pub uses_of : Tables → ℕ → List Member → GroupUses
 uses_of tables slot group = record {
   puts = flat_map put_by group;
   shifted = flat_map shifted_in (flat_map (member_words tables) group);
-  accumulated = flat_map accumulated_by group;
   scalars = flat_map scalars_in (flat_map (member_words tables) group);
   references = references_of tables slot group;
-  turns = list_any is_turning group;
+  alone = list_any stays_alone group;
 }
 
 -- ---- of a group that grows
@@ -69,26 +72,26 @@ with_number numbers number =
     if list_any (λ other. number == other) numbers then numbers else numbers ++ number ∷ []
 
 abbrev pub no_numbers : UsedNumbers
-no_numbers = record { puts = []; shifted = []; accumulated = []; scalars = []; turns = false }
+no_numbers = record { puts = []; shifted = []; alone = false }
 
 abbrev pub with_uses : UsedNumbers → GroupUses → UsedNumbers
 with_uses used uses = record {
   puts = fold with_number used.puts uses.puts;
   shifted = fold with_number used.shifted uses.shifted;
-  accumulated = fold with_number used.accumulated uses.accumulated;
-  scalars = fold with_number used.scalars uses.scalars;
-  turns = used.turns || uses.turns;
+  alone = used.alone || uses.alone;
 }
 
+abbrev pub all_totals : Tables → List ℕ
+all_totals tables = fold with_number [] (all_accumulated tables)
+
 -- another group can be joined to it
-abbrev pub can_take : UsedNumbers → GroupUses → Bool
-can_take used uses =
-    not used.turns && not uses.turns
+abbrev pub can_take : Tables → UsedNumbers → GroupUses → Bool
+can_take tables used uses =
+    not used.alone && not uses.alone
     && not (share uses.shifted used.puts)
     && not (share uses.puts used.shifted)
-    && not (share uses.scalars used.accumulated)
-    && not (share uses.accumulated used.scalars)
-    && not (share uses.accumulated used.accumulated)
+    && not (share uses.scalars (all_totals tables))
+    && are_put_alike tables used.puts uses.puts
 
 -- ---- what is known in front of a row
 pub record Facts : Type 0 where

@@ -15,6 +15,7 @@ ghost use Rattle.fuse_contract.specs.Behind.{FitsReference, GoesOn, IsBehind, Is
 ghost use Rattle.fuse_contract.specs.Known.{IsKnown};
 ghost use Rattle.fuse_contract.specs.Joining.{
   Facts,
+  all_totals,
   behind_loop,
   can_take,
   facts_behind,
@@ -30,7 +31,7 @@ ghost use Rattle.fuse_contract.specs.Joining.{
   uses_of,
 };
 
-use crate::grown::UsedNumbers;
+use crate::grown::{NumberSet, UsedNumbers, totals_of};
 use crate::known::Known;
 use crate::uses::{GroupUses, uses_of};
 use bound_check::{Writes, is_decided};
@@ -49,10 +50,12 @@ pub(crate) struct Grown {
 
 impl Grown {
     /// Whether a loop over the slot may join it, by what the two groups use.
-    fn can_take(&self, slot: u32, uses: &GroupUses) -> bool
-        ensures { result ≡ ((self.now.slot == slot) && can_take self.now.used uses.now) }
+    fn can_take(&self, tables: &Tables, totals: &NumberSet, slot: u32, uses: &GroupUses) -> bool
+        requires totals { totals.now ≡ all_totals tables.now }
+        ensures { result
+            ≡ ((self.now.slot == slot) && can_take tables.now self.now.used uses.now) }
     {
-        self.slot == slot && self.used.can_take(uses)
+        self.slot == slot && self.used.can_take(tables, totals, uses)
     }
 }
 
@@ -86,24 +89,27 @@ fn joined(alloc: Global, tables: &Tables) -> Result<Draft, AllocError>
         ≡ record { code = (fused tables.now).code; groups = (fused tables.now).groups }) }
 {
     let writes = Writes::of(alloc, tables)?;
+    let totals = totals_of(alloc, tables)?;
     let goals = goals_of(alloc, &tables.code)?;
-    joined_by(alloc, tables, &writes, goals.as_slice())
+    joined_by(alloc, tables, &writes, &totals, goals.as_slice())
 }
 
 fn joined_by(
     alloc: Global,
     tables: &Tables,
     writes: &Writes,
+    totals: &NumberSet,
     goals: &[bool],
 ) -> Result<Draft, AllocError>
     requires fits { Fits tables.now }
     requires writes { writes.now ≡ all_noted (length tables.now.slots) tables.now.code }
+    requires totals { totals.now ≡ all_totals tables.now }
     requires goals { AreGoals tables.now.code goals.now }
     ensures { IfOk result (λ draft. draft
         ≡ record { code = (fused tables.now).code; groups = (fused tables.now).groups }) }
 {
     let mut walk = begin(alloc);
-    join_all(alloc, tables, writes, goals, &mut walk)?;
+    join_all(alloc, tables, writes, totals, goals, &mut walk)?;
     let Walk { draft, .. } = walk;
     Ok(draft)
 }
@@ -112,11 +118,13 @@ fn join_all(
     alloc: Global,
     tables: &Tables,
     writes: &Writes,
+    totals: &NumberSet,
     goals: &[bool],
     walk: &mut Walk,
 ) -> Result<(), AllocError>
     requires fits { Fits tables.now }
     requires writes { writes.now ≡ all_noted (length tables.now.slots) tables.now.code }
+    requires totals { totals.now ≡ all_totals tables.now }
     requires goals { AreGoals tables.now.code goals.now }
     requires draft { walk.old.draft ≡ empty_draft }
     requires behind { IsBehind tables.now walk.old no_facts }
@@ -128,7 +136,7 @@ fn join_all(
         forget_at_goal(alloc, goals[i as usize], walk)?;
         numbers.note(walk.draft.code.len())?;
         let row = *tables.code.get(i).unwrap();
-        add_row(alloc, tables, writes, row, walk)?;
+        add_row(alloc, tables, writes, totals, row, walk)?;
     }
     push_last(alloc, walk)?;
     walk.draft.move_goals(&numbers)
@@ -187,17 +195,19 @@ fn add_row(
     alloc: Global,
     tables: &Tables,
     writes: &Writes,
+    totals: &NumberSet,
     row: Instr,
     walk: &mut Walk,
 ) -> Result<(), AllocError>
     requires fits { Fits tables.now }
     requires row { FitsInstr tables.now row }
     requires writes { writes.now ≡ all_noted (length tables.now.slots) tables.now.code }
+    requires totals { totals.now ≡ all_totals tables.now }
     ensures { OnOk result (GoesOn tables.now walk.old walk.new
         (λ facts. row_rows tables.now facts row) (λ facts. facts_behind tables.now facts row)) }
 {
     match row {
-        Instr::Loop { slot, group } => add_loop(alloc, tables, writes, slot, group, walk),
+        Instr::Loop { slot, group } => add_loop(alloc, tables, writes, totals, slot, group, walk),
         other => {
             push_last(alloc, walk)?;
             walk.known.pass(alloc, other)?;
@@ -210,6 +220,7 @@ fn add_loop(
     alloc: Global,
     tables: &Tables,
     writes: &Writes,
+    totals: &NumberSet,
     slot: u32,
     group: u32,
     walk: &mut Walk,
@@ -217,23 +228,32 @@ fn add_loop(
     requires fits { Fits tables.now }
     requires row { FitsInstr tables.now (instr.Loop slot group) }
     requires writes { writes.now ≡ all_noted (length tables.now.slots) tables.now.code }
+    requires totals { totals.now ≡ all_totals tables.now }
     ensures { OnOk result (GoesOn tables.now walk.old walk.new
         (λ facts. loop_rows tables.now facts (loop_over tables.now slot group))
         (λ facts. behind_loop tables.now facts (loop_over tables.now slot group))) }
 {
     let members = members_of(tables, group);
     let uses = uses_of(alloc, tables, slot, members)?;
-    let joined = joins(tables, writes, walk, slot, &uses);
+    let joined = joins(tables, writes, totals, walk, slot, &uses);
     push_unless(alloc, joined, walk)?;
     grow(alloc, &mut walk.last, slot, members, &uses)?;
     walk.known.learn_all(&uses.references)
 }
 
 /// Whether a loop over the slot joins the last one, if there is one.
-fn joins(tables: &Tables, writes: &Writes, walk: &Walk, slot: u32, uses: &GroupUses) -> bool
+fn joins(
+    tables: &Tables,
+    writes: &Writes,
+    totals: &NumberSet,
+    walk: &Walk,
+    slot: u32,
+    uses: &GroupUses,
+) -> bool
     requires fits { Fits tables.now }
     requires references { All (FitsReference tables.now) uses.now.references }
     requires writes { writes.now ≡ all_noted (length tables.now.slots) tables.now.code }
+    requires totals { totals.now ≡ all_totals tables.now }
     ensures { (facts : Facts) (group : List Part) → IsBehind tables.now walk.now facts →
         uses.now ≡ uses_of tables.now slot group →
         result ≡ joins_last tables.now facts.known facts.last
@@ -241,7 +261,7 @@ fn joins(tables: &Tables, writes: &Writes, walk: &Walk, slot: u32, uses: &GroupU
 {
     match &walk.last {
         Some(last) => {
-            last.can_take(slot, uses)
+            last.can_take(tables, totals, slot, uses)
                 && all_lie_within(tables, writes, &walk.known, &uses.references)
         }
         None => false,

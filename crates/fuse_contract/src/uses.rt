@@ -1,4 +1,4 @@
-//! What the group of a loop puts, reads and accumulates.
+//! What the group of a loop puts and reads.
 ghost use Rattle.std.specs.Prelude.{◌≡◌, ◌++◌, IfOk, OnOk, flat_map, fold};
 ghost use Rattle.code_parts.specs.Uses.{as_list, exprs_of, member_words, words_of};
 ghost use Rattle.fuse_contract.specs.Joining.{no_uses, uses_of, with_member, with_word};
@@ -7,17 +7,15 @@ use node_form::{ExprOp, Item, Member, Rows, Tables};
 use plan_form::words_of;
 use std::alloc::{AllocError, Global};
 
-/// The arrays that a group puts, and those that it reads with a shift; the scalars that it
-/// accumulates, and those that it reads; the references of its loop; and whether it has `while` or
-/// `repeat`.
+/// The arrays that a group puts, and those that it reads with a shift; the scalars that it reads;
+/// the references of its loop; and whether it has `while` or `repeat`, or accumulates.
 #[derive(Drop)]
 pub(crate) struct GroupUses {
     pub puts: Rows<u32>,
     pub shifted: Rows<u32>,
-    pub accumulated: Rows<u32>,
     pub scalars: Rows<u32>,
     pub references: Rows<Item>,
-    pub turns: bool,
+    pub alone: bool,
 }
 
 /// What a group uses, where a loop runs it over the slot. Each of its words is looked at once.
@@ -43,10 +41,9 @@ fn no_uses(alloc: Global) -> GroupUses
     GroupUses {
         puts: Rows::new(alloc),
         shifted: Rows::new(alloc),
-        accumulated: Rows::new(alloc),
         scalars: Rows::new(alloc),
         references: Rows::new(alloc),
-        turns: false,
+        alone: false,
     }
 }
 
@@ -84,8 +81,9 @@ fn add_member(
                 },
             )?;
         }
-        Member::Acc { scalar, .. } => uses.accumulated.push(alloc, scalar)?,
-        Member::OpenWhile { .. } | Member::OpenRepeat { .. } => uses.turns = true,
+        Member::Acc { .. } | Member::OpenWhile { .. } | Member::OpenRepeat { .. } => {
+            uses.alone = true
+        }
         _ => {}
     }
     Ok(())

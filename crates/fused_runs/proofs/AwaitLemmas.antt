@@ -7,7 +7,7 @@ use Rattle.zpl_nums.specs.declared.folds.Fold.{Fold}
 use Rattle.zpl_nums.specs.Fold.{joined}
 use Rattle.zpl_region.specs.declared.regions.Region.{Region}
 use Rattle.zpl_arrays.specs.Array.{Array}
-use Rattle.row_runs.specs.Run.{Goes, Step, Stops, Wrong}
+use Rattle.row_runs.specs.Run.{Goes, Step, Stops}
 use Rattle.node_form.specs.declared.tables.Tables.{Tables}
 use Rattle.node_form.specs.Nest.{Nest}
 use Rattle.grid_meaning.specs.Place.{with_value}

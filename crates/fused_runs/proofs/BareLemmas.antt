@@ -15,14 +15,14 @@ use Rattle.node_form.specs.declared.members.Member.TheVariants as member
 use Rattle.node_form.specs.declared.tables.Tables.{Tables}
 use Rattle.node_form.specs.declared.words.ExprOp.{ExprOp}
 use Rattle.node_form.specs.declared.words.ExprOp.TheVariants as word
-use Rattle.node_form.specs.Fits.{Fits, FitsGroup, FitsInstr, FitsMember, FitsWord, HasExpr}
+use Rattle.node_form.specs.Fits.{Fits, FitsGroup, FitsMember, FitsWord, HasExpr}
 use Rattle.node_form.specs.Nest.{Nest, Nothing}
 use Rattle.nest_meaning.specs.Tree.{nest_of}
 use Rattle.nest_meaning.specs.Units.{followed_by}
 use Rattle.nest_meaning.proofs.TreeLemmas.{reads_again}
-use Rattle.code_parts.specs.Uses.{members_of, rows_or_none}
+use Rattle.code_parts.specs.Uses.{rows_or_none}
 use Rattle.flat_form.specs.Names.{each_word, group_cells, group_words, member_cells, word_cells}
-use Rattle.flat_form.specs.Row.{Member, Words, mask_words, member_inlined, member_words, words_at}
+use Rattle.flat_form.specs.Row.{Words, mask_words, member_inlined, member_words, words_at}
 use Rattle.flat_passes.specs.Grouped.{Grouped, Plain, Runs, grouped}
 use Rattle.fused_runs.proofs.BeginLemmas.{inline}
 use Rattle.fused_runs.proofs.UnitLemmas.{both_nests}

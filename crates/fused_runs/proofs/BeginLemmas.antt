@@ -3,7 +3,7 @@ use Rattle.std.proofs.Common.{◌≡◌, refl, sym, ◌∙◌, ap, subst, arith,
 use Rattle.std.proofs.Common.{false}
 use Rattle.std.proofs.Common.{true≢false}
 use Rattle.std.proofs.Common.{List, [], ◌∷◌, ◌++◌, map, Option, Some, None, inl, inr}
-use Rattle.std.specs.Prelude.{◌&&◌, ◌||◌, ◌==◌, ◌⊎◌, flat_map, not, slice_get, slice_index_or, ⊤}
+use Rattle.std.specs.Prelude.{◌&&◌, ◌||◌, ◌==◌, ◌⊎◌, flat_map, not, slice_get, slice_index_or}
 use Rattle.std.specs.List.{AllByRecursion, list_all, list_any}
 use Rattle.std.specs.Option.{option_map}
 use Rattle.std.proofs.lemmas.Bool.{and_from, and_parts}
@@ -113,32 +113,36 @@ module _ (tables : Tables) where
   scalars_same (word.Scalar scalar ∷ words) = ap (λ l. scalar ∷ l) (scalars_same words)
   scalars_same (one ∷ words) = scalars_same words
 
-  exprs_same : (exprs : List ℕ)
-      → each_word word_scalars (map (words_at tables) exprs)
-      ≡ flat_map scalars_in (flat_map (words_of tables) exprs)
-  exprs_same [] = refl
-  exprs_same (expr ∷ exprs) =
-      ap (λ l. l ++ each_word word_scalars (map (words_at tables) exprs))
-      (scalars_same (words_at tables expr)
-      ∙ ap (flat_map scalars_in) (words_same tables.exprs expr))
-      ∙ (ap (λ l. flat_map scalars_in (words_of tables expr) ++ l) (exprs_same exprs)
-      ∙ sym (flat_map-append scalars_in (words_of tables expr)
-      (flat_map (words_of tables) exprs)))
+  -- what words name, of expressions and of a group
+  all_named : {X : Type 0} (f : ExprOp → List X) (exprs : List ℕ)
+      → each_word f (map (words_at tables) exprs)
+      ≡ flat_map f (flat_map (words_of tables) exprs)
+  all_named f [] = refl
+  all_named f (expr ∷ exprs) =
+      ap (λ words. flat_map f words ++ each_word f (map (words_at tables) exprs))
+      (words_same tables.exprs expr)
+      ∙ (ap (λ l. flat_map f (words_of tables expr) ++ l) (all_named f exprs)
+      ∙ sym (flat_map-append f (words_of tables expr) (flat_map (words_of tables) exprs)))
+
+  pub named_are : {X : Type 0} (f : ExprOp → List X) (group : List number.Member)
+      → each_word f (group_words (inline group))
+      ≡ flat_map f (flat_map (uses.member_words tables) group)
+  named_are f [] = refl
+  named_are f (one ∷ group) =
+      flat_map-append (λ words. flat_map f words)
+      (member_words (member_inlined tables one)) (group_words (inline group))
+      ∙ (ap (λ l. each_word f l ++ each_word f (group_words (inline group))) (member_same one)
+      ∙ (ap (λ l. l ++ each_word f (group_words (inline group))) (all_named f (exprs_of one))
+      ∙ (ap (λ l. flat_map f (uses.member_words tables one) ++ l) (named_are f group)
+      ∙ sym (flat_map-append f (uses.member_words tables one)
+      (flat_map (uses.member_words tables) group)))))
 
   pub reads_are : (group : List number.Member)
       → each_word word_scalars (group_words (inline group))
       ≡ flat_map scalars_in (flat_map (uses.member_words tables) group)
-  reads_are [] = refl
-  reads_are (one ∷ group) =
-      flat_map-append (λ words. flat_map word_scalars words)
-      (member_words (member_inlined tables one)) (group_words (inline group))
-      ∙ (ap (λ l. each_word word_scalars l ++ each_word word_scalars (group_words (inline group)))
-      (member_same one)
-      ∙ (ap (λ l. l ++ each_word word_scalars (group_words (inline group)))
-      (exprs_same (exprs_of one))
-      ∙ (ap (λ l. flat_map scalars_in (uses.member_words tables one) ++ l) (reads_are group)
-      ∙ sym (flat_map-append scalars_in (uses.member_words tables one)
-      (flat_map (uses.member_words tables) group)))))
+  reads_are group =
+      named_are word_scalars group
+      ∙ scalars_same (flat_map (uses.member_words tables) group)
 
   totals_of : (one : number.Member)
       → map (λ (total : Total). total.scalar) (member_totals (member_inlined tables one))

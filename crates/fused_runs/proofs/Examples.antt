@@ -1,5 +1,5 @@
 -- Flat programs with loops that are joined, run as they are and joined.
-use Rattle.std.proofs.Common.{◌≡◌, ℕ, List, [], ◌∷◌, ◌++◌, Some, None, true, false, ℤ}
+use Rattle.std.proofs.Common.{◌≡◌, ℕ, List, [], ◌∷◌, None, true, false, ℤ}
 use Rattle.std.proofs.Common.{pos, codes, refl}
 use Rattle.std.specs.Fmt.{digits}
 use Rattle.std.specs.Int.{int_wrap}
@@ -18,7 +18,7 @@ use Rattle.node_form.specs.declared.instructions.Instr.TheVariants as instr
 use Rattle.node_form.specs.declared.tables.Tables.{Tables}
 use Rattle.node_form.specs.declared.words.ExprOp.TheVariants.{Const, Coord, Here, Pair, Scalar}
 use Rattle.node_form.specs.declared.words.ExprOp.TheVariants as word
-use Rattle.row_runs.specs.Run.{Ends, Result, Stop, Wrong}
+use Rattle.row_runs.specs.Run.{Ends, Result, Stop}
 use Rattle.flat_form.specs.Act.{flat_run}
 use Rattle.flat_form.specs.Row.{Acc, Cell, Loop, Member, Plain, Print, Put, Row, Words, with_rows}
 use Rattle.fuse_contract.specs.Fusing.{fused}
@@ -97,8 +97,9 @@ trapped_together : flat_run (fused two_traps) 1 0 ≡ shown [] (Ends (Trap Divid
 unfolding digits int_wrap
 trapped_together = refl
 
--- ---- Where the first loop comes to a trap, the second one is never looked at. Joined, it has to
--- stand in front of the trap too: a scalar that doesn't hold the unit of its fold,
+-- ---- Where the first loop comes to a trap, the second one is never looked at. Joined, it would have
+-- to stand in front of the trap too, and so it doesn't join: a scalar that doesn't hold the unit of
+-- its fold,
 abbrev no_unit : Tables
 no_unit = with_loops 0
     (put 0 quotient 1 ∷ loop (Acc 0 operator.Prod (Const (pos 1) ∷ []) None 2) ∷ [])
@@ -107,7 +108,7 @@ no_unit_apart : flat_run no_unit 1 0 ≡ shown [] (Ends (Trap DivideByZero 1))
 unfolding digits int_wrap
 no_unit_apart = refl
 
-no_unit_together : flat_run (fused no_unit) 1 0 ≡ shown [] Wrong
+no_unit_together : flat_run (fused no_unit) 1 0 ≡ shown [] (Ends (Trap DivideByZero 1))
 unfolding digits int_wrap
 no_unit_together = refl
 
@@ -121,7 +122,7 @@ unfolded_apart : flat_run unfolded 1 0 ≡ shown [] (Ends (Trap DivideByZero 2))
 unfolding digits int_wrap
 unfolded_apart = refl
 
-unfolded_together : flat_run (fused unfolded) 1 0 ≡ shown [] Wrong
+unfolded_together : flat_run (fused unfolded) 1 0 ≡ shown [] (Ends (Trap DivideByZero 2))
 unfolding digits int_wrap
 unfolded_together = refl
 
@@ -133,14 +134,29 @@ flooded_apart : flat_run flooded 1 0 ≡ shown [] (Ends (Trap DivideByZero 1))
 unfolding digits int_wrap
 flooded_apart = refl
 
-flooded_together : flat_run (fused flooded) 1 0 ≡ shown [] Wrong
+flooded_together : flat_run (fused flooded) 1 0 ≡ shown [] (Ends (Trap DivideByZero 1))
 unfolding digits int_wrap
 flooded_together = refl
+
+-- what is put has the flood dimensions of what the first loop puts, and joins
+abbrev alike : Tables
+alike = with_loops 0 (put 0 quotient 1 ∷ put 1 (Const (pos 1) ∷ []) 2 ∷ [])
+
+alike_together : flat_run (fused alike) 1 0 ≡ shown [] (Ends (Trap DivideByZero 1))
+unfolding digits int_wrap
+alike_together = refl
+
+alike_joined : length (fused alike).code ≡ 2
+alike_joined = refl
+
+apart_still : (length (fused no_unit).code ≡ 3) × (length (fused flooded).code ≡ 3)
+apart_still = (refl, refl)
 
 -- ---- a cell that the second loop doesn't keep starts as 0, and joined as what the first one kept
 abbrev with_cell : Tables
 with_cell = with_loops 1
-    (loop (Cell 0 (Const (pos 5) ∷ []) None 1) ∷ put 1 (word.Cell 0 ∷ []) 2 ∷ gathered ∷ [])
+    (Loop 0 (Cell 0 (Const (pos 5) ∷ []) None 1 ∷ Put 0 (Const (pos 1) ∷ []) None 1 ∷ [])
+    ∷ put 1 (word.Cell 0 ∷ []) 2 ∷ gathered ∷ [])
 
 cell_apart : flat_run with_cell 1 0 ≡ shown (codes "0 0 0") (Ends Done)
 unfolding digits int_wrap

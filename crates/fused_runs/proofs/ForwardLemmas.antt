@@ -1,8 +1,7 @@
--- Two loops in turn that come to no zero divisor, and the loop over both groups: where both may
--- stand in turn, so may the joined one.
+-- Two loops in turn, and the loop over both groups: where both may stand in turn, so may the joined
+-- one; and where the first one comes to a trap, it does so too, if it may stand there.
 use Rattle.std.proofs.Common.{◌≡◌, refl, sym, ◌∙◌, ap, subst, arith, ℕ, Bool, true, false}
-use Rattle.std.proofs.Common.{true≢false}
-use Rattle.std.proofs.Common.{List, [], ◌∷◌, ◌++◌, map, Option, Some, None, inl, inr}
+use Rattle.std.proofs.Common.{List, [], ◌∷◌, ◌++◌, Option, Some, None, inl, inr}
 use Rattle.std.specs.Prelude.{◌&&◌, ◌||◌, ◌==◌, ◌⊎◌, flat_map, fold, if◌then◌else◌, not, is_none}
 use Rattle.std.specs.Prelude.{option_and_then, slice_get}
 use Rattle.std.specs.List.{AllByRecursion, list_all, list_any}
@@ -10,10 +9,12 @@ use Rattle.std.proofs.lemmas.Bool.{and_from, and_parts}
 use Rattle.std.proofs.lemmas.Bool.Decides.{nat_tests}
 use Rattle.std.proofs.lemmas.List.{map-append}
 use Rattle.std.proofs.lemmas.List.Folds.{list_all-append}
+use Rattle.zpl_nums.specs.declared.ends.End.TheVariants.{Trap}
+use Rattle.zpl_nums.specs.declared.ends.TrapKind.TheVariants.{DivideByZero}
 use Rattle.zpl_nums.specs.Fold.{unit_of}
 use Rattle.zpl_region.specs.declared.regions.Region.{Region}
-use Rattle.row_runs.specs.Run.{Does, Effect, Goes, Step, Stops, Wrong}
-use Rattle.row_runs.specs.Straight.{Flow, TiedWrong, flow_behind, flow_step}
+use Rattle.row_runs.specs.Run.{Does, Ends, Goes, Step, Stops, Wrong}
+use Rattle.row_runs.specs.Straight.{Flow, TiedHalt, TiedWrong, flow_behind, flow_step}
 use Rattle.node_form.specs.declared.members.Member as number
 use Rattle.node_form.specs.declared.tables.Tables.{Tables}
 use Rattle.node_form.specs.Nest.{Nest}
@@ -39,7 +40,7 @@ use Rattle.fused_runs.proofs.JoinedLemmas.{same_flow, scalar_left, scalars_apart
 use Rattle.fused_runs.proofs.JoinedLemmas.{scalars_of, slot_left, storages, totals_both}
 use Rattle.fused_runs.proofs.JoinedLemmas.{writes_same}
 use Rattle.fused_runs.proofs.UnitLemmas.{both_do, nest_does, step_then}
-use Rattle.fused_runs.proofs.ZeroLemmas.{Comes, ComesOn, ComesWrong, ComesZero, nest_comes, strict}
+use Rattle.fused_runs.proofs.ZeroLemmas.{Comes, ComesOn, ComesWrong, ComesZero, nest_comes}
 
 -- ---- numbers that are none of others
 flip : (a b : ℕ) → (a == b) ≡ false → (b == a) ≡ false
@@ -334,20 +335,28 @@ module _ (tables : Tables) (n slot : ℕ) (one other : List number.Member)
           (sym (totals_both tables n slot one other apart_totals apart_reads few few_other few_both
           first second read read_other)) totals)))
 
-    -- ---- both loops, in which a zero divisor counts as wrong
+    -- ---- both loops
     abbrev in_turn : Whole → (Whole → Flow Whole) → Flow Whole
     in_turn s more =
-        flow_step (strict (does tables n slot one s))
-        (λ next. flow_step (strict (does tables n slot other next)) more)
+        flow_step (does tables n slot one s)
+        (λ next. flow_step (does tables n slot other next) more)
 
-    module _ (s : Whole) (more : Whole → Flow Whole) where
+    -- where the first loop comes to a zero divisor, the joined one may stand
+    abbrev pub StandsAtZero : Whole → Type 0
+    StandsAtZero s =
+        (region : Region) → slice_get s.slots slot ≡ Some region
+        → are_settled s (Loop slot A) ≡ true → loop_stands tables s region A ≡ true → (line : ℕ)
+        → nest_does tables n region (nest_of one) s ≡ Stops (Ends (Trap DivideByZero line))
+        → (are_settled s (Loop slot AB) ≡ true) × (loop_stands tables s region AB ≡ true)
+
+    module _ (s : Whole) (zero : StandsAtZero s) (more : Whole → Flow Whole) where
       abbrev IsKept : Flow Whole → Type 0
-      IsKept flow = IsSame flow (flow_step (strict (does tables n slot (one ++ other) s)) more)
+      IsKept flow = IsSame flow (flow_step (does tables n slot (one ++ other) s) more)
 
       wrong_kept : does tables n slot one s ≡ Does (Stops Wrong) → IsKept (in_turn s more)
       wrong_kept e =
-          subst (λ effect. IsKept (flow_step (strict effect)
-          (λ next. flow_step (strict (does tables n slot other next)) more))) (sym e) TiedWrong
+          subst (λ effect. IsKept (flow_step effect
+          (λ next. flow_step (does tables n slot other next) more))) (sym e) TiedWrong
 
       module _ (region : Region) (here : slice_get s.slots slot ≡ Some region)
           (settled : are_settled s (Loop slot A) ≡ true)
@@ -365,14 +374,14 @@ module _ (tables : Tables) (n slot : ℕ) (one other : List number.Member)
           here_next = sym (slot_left tables n slot one s next [] goes slot) ∙ here
 
           second_wrong : does tables n slot other next ≡ Does (Stops Wrong)
-              → IsKept (flow_behind [] (flow_step (strict (does tables n slot other next)) more))
+              → IsKept (flow_behind [] (flow_step (does tables n slot other next) more))
           second_wrong f =
-              subst (λ effect. IsKept (flow_behind [] (flow_step (strict effect) more))) (sym f)
+              subst (λ effect. IsKept (flow_behind [] (flow_step effect more))) (sym f)
               TiedWrong
 
           by_stands : (b : Bool) → are_settled next (Loop slot B) ≡ true
               → loop_stands tables next region B ≡ b
-              → IsKept (flow_behind [] (flow_step (strict (does tables n slot other next)) more))
+              → IsKept (flow_behind [] (flow_step (does tables n slot other next) more))
           by_stands true settled_next stands_next =
               let joined : does tables n slot (one ++ other) s
               ≡ Does (all_awaiting (group_totals A ++ group_totals B)
@@ -398,11 +407,11 @@ module _ (tables : Tables) (n slot : ℕ) (one other : List number.Member)
               ∙ (ap Does (await_either tables n region (nest_of other) (group_totals A)
               (group_totals B) mid) ∙ sym after) in
               subst (λ flow. IsSame flow
-              (flow_step (strict (does tables n slot (one ++ other) s)) more))
-              (sym (behind_none (flow_step (strict (does tables n slot other next)) more)))
-              (subst (λ effect. IsSame (flow_step (strict (does tables n slot other next)) more)
-              (flow_step (strict effect) more)) (sym same)
-              (same_flow (flow_step (strict (does tables n slot other next)) more)))
+              (flow_step (does tables n slot (one ++ other) s) more))
+              (sym (behind_none (flow_step (does tables n slot other next) more)))
+              (subst (λ effect. IsSame (flow_step (does tables n slot other next) more)
+              (flow_step effect more)) (sym same)
+              (same_flow (flow_step (does tables n slot other next) more)))
           by_stands false settled_next stands_next =
               second_wrong (ap (λ b. if b then Does (looped tables n B next
               (slice_get next.slots slot))
@@ -412,7 +421,7 @@ module _ (tables : Tables) (n slot : ℕ) (one other : List number.Member)
               else Stops Wrong)) stands_next))
 
           by_settled_next : (b : Bool) → are_settled next (Loop slot B) ≡ b
-              → IsKept (flow_behind [] (flow_step (strict (does tables n slot other next)) more))
+              → IsKept (flow_behind [] (flow_step (does tables n slot other next) more))
           by_settled_next true settled_next =
               by_stands (loop_stands tables next region B) settled_next refl
           by_settled_next false settled_next =
@@ -422,18 +431,29 @@ module _ (tables : Tables) (n slot : ℕ) (one other : List number.Member)
 
         by_step : (step : Step Whole) → Comes step
             → nest_does tables n region (nest_of one) s ≡ step
-            → IsKept (flow_step (strict (Does (all_awaiting (group_totals A) step)))
-            (λ next. flow_step (strict (does tables n slot other next)) more))
+            → IsKept (flow_step (Does (all_awaiting (group_totals A) step))
+            (λ next. flow_step (does tables n slot other next) more))
         by_step step ComesWrong e = TiedWrong
-        by_step step ComesZero e = TiedWrong
+        by_step step (ComesZero {line = line}) e =
+            let both = zero region here settled stands line e in
+            let joined : does tables n slot (one ++ other) s
+            ≡ Does (Stops (Ends (Trap DivideByZero line))) =
+            loop_is tables n slot (one ++ other) s region both.0 here both.1 few_both
+            ∙ (ap (λ u. Does (all_awaiting (group_totals AB) u))
+            (both_do tables n region one other first second read read_other s)
+            ∙ ap (λ u. Does (all_awaiting (group_totals AB)
+            (step_then u (λ w. nest_does tables n region (nest_of other) w)))) e) in
+            subst (λ effect. IsSame (flow_step (Does (Stops (Ends (Trap DivideByZero line)))) (λ next.
+            flow_step (does tables n slot other next) more)) (flow_step effect more)) (sym joined)
+            TiedHalt
         by_step step (ComesOn {next = mid}) e =
             by_settled_next mid e
             (are_settled (fold awaiting mid (group_totals A)) (Loop slot B)) refl
 
         standing : IsKept (in_turn s more)
         standing =
-            subst (λ effect. IsKept (flow_step (strict effect)
-            (λ next. flow_step (strict (does tables n slot other next)) more)))
+            subst (λ effect. IsKept (flow_step effect
+            (λ next. flow_step (does tables n slot other next) more)))
             (sym (loop_is tables n slot one s region settled here stands few))
             (by_step (nest_does tables n region (nest_of one) s)
             (nest_comes tables n region one first read straight s) refl)
@@ -460,7 +480,7 @@ module _ (tables : Tables) (n slot : ℕ) (one other : List number.Member)
           wrong_kept (ap (λ b. if b then Does (looped tables n A s (slice_get s.slots slot))
           else Does (Stops Wrong)) settled)
 
-      -- unless the two in turn are wrong, or one meets a zero divisor, they are the loop over both
+      -- unless the two in turn are wrong, they are the loop over both
       pub turns_are_joined : IsSame (in_turn s more)
-          (flow_step (strict (does tables n slot (one ++ other) s)) more)
+          (flow_step (does tables n slot (one ++ other) s) more)
       turns_are_joined = by_settled (are_settled s (Loop slot A)) refl

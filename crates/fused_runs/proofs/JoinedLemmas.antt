@@ -1,8 +1,8 @@
 -- A loop over two groups in a row does what a loop over the first one does, and then one over the
 -- second.
-use Rattle.std.proofs.Common.{◌≡◌, refl, sym, ◌∙◌, ap, subst, ℕ, zero, Bool, true, false}
-use Rattle.std.proofs.Common.{List, [], ◌∷◌, ◌++◌, map, All, Any, Option, Some, None, ℤ}
-use Rattle.std.specs.Prelude.{◌&&◌, flat_map, fold, if◌then◌else◌, not, option_and_then, is_none}
+use Rattle.std.proofs.Common.{◌≡◌, refl, sym, ◌∙◌, ap, subst, ℕ, Bool, true, false}
+use Rattle.std.proofs.Common.{List, [], ◌∷◌, ◌++◌, map, Option, Some, None, ℤ}
+use Rattle.std.specs.Prelude.{◌&&◌, flat_map, fold, if◌then◌else◌, option_and_then, is_none}
 use Rattle.std.specs.Prelude.{slice_get}
 use Rattle.std.specs.List.{AllByRecursion, list_all}
 use Rattle.std.specs.Option.{option_map}
@@ -33,7 +33,6 @@ use Rattle.flat_form.specs.Act.{act}
 use Rattle.flat_form.specs.Loop.{all_awaiting, awaiting, loop_stands, looped, tree_does}
 use Rattle.flat_form.specs.Names.{Read, Total, each_word, group_cells, group_puts, group_reads}
 use Rattle.flat_form.specs.Names.{group_totals, group_words, member_puts, member_totals}
-use Rattle.flat_form.specs.Names.{row_scalars}
 use Rattle.flat_form.specs.Names.{word_reads, word_scalars}
 use Rattle.flat_form.specs.Right.{all_begin, are_settled, can_read, can_write, has_places}
 use Rattle.flat_form.specs.Right.{is_settled, matches}
@@ -43,7 +42,7 @@ use Rattle.flat_form.specs.Touches.{HaveSame}
 use Rattle.flat_form.specs.Whole.{Whole}
 use Rattle.flat_form.proofs.ChangeLemmas.{change_written}
 use Rattle.normal_runs.proofs.NameLemmas.{any_all}
-use Rattle.contracted_runs.proofs.StorageLemmas.{SameStorages, loop_same, storage_of_array}
+use Rattle.contracted_runs.proofs.StorageLemmas.{SameStorages, loop_same}
 use Rattle.fused_runs.proofs.AwaitLemmas.{await_either}
 use Rattle.fused_runs.proofs.BeginLemmas.{NotAmong, all_apart, first_begins, inline, reads_are}
 use Rattle.fused_runs.proofs.BeginLemmas.{second_begins, totals_are}

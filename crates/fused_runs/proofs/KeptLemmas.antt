@@ -29,7 +29,7 @@ use Rattle.flat_passes.specs.Grouped as grouped
 use Rattle.flat_passes.specs.Grouped.{Grouped, Runs, all_numbered, ended_by, groups_of}
 use Rattle.flat_passes.specs.Grouped.{rewritten_rows}
 use Rattle.flat_passes.specs.Kept.{goal_of}
-use Rattle.flat_passes.specs.Rewritten.{has_goal, stretches_of, with_moved_goal}
+use Rattle.flat_passes.specs.Rewritten.{has_goal, stretches_of}
 use Rattle.flat_passes.proofs.FlatRowLemmas.{does, straight}
 use Rattle.flat_passes.proofs.SeenLemmas.{runs_seen}
 use Rattle.flat_passes.proofs.StretchLemmas.{HoldsOf, IsCut, all_cut, news_hold}
@@ -165,7 +165,7 @@ module _ (tables : Tables) (n : ℕ) where
   abbrev pub rewrite : List Instr → List Grouped
   rewrite front = joined tables [] None (map (grouped.grouped tables) front)
 
-  old_rows : (rows : List Instr) (s : Whole)
+  pub old_rows : (rows : List Instr) (s : Whole)
       → through (row_does tables n) (map (grouped.grouped tables) rows) s
       ≡ through (does tables n) rows s
   old_rows [] s = refl

@@ -1,11 +1,18 @@
+mod Examples
 pub mod AwaitLemmas
 pub mod BareLemmas
 pub mod BeginLemmas
-mod Examples
+pub mod CheckedLemmas
 pub mod ForthLemmas
 pub mod ForwardLemmas
+pub mod HoldsLemmas
 pub mod JoinedLemmas
 pub mod KeptLemmas
+pub mod KnownLemmas
+pub mod PassingLemmas
+pub mod ReadyLemmas
+pub mod SizedLemmas
+pub mod StillLemmas
 pub mod SwapLemmas
 pub mod UnitLemmas
 pub mod WalkLemmas

@@ -1,5 +1,5 @@
 -- A loop over a group without cells, and over one group behind another.
-use Rattle.std.proofs.Common.{◌≡◌, refl, sym, ◌∙◌, ap, subst, ℕ, zero, suc, Bool, true, false}
+use Rattle.std.proofs.Common.{◌≡◌, refl, sym, ◌∙◌, ap, ℕ, zero, suc}
 use Rattle.std.proofs.Common.{List, [], ◌∷◌, ◌++◌, map, replicate, ℤ, pos, Option, Some, None}
 use Rattle.std.specs.Prelude.{slice_get, slice_index_or, slice_set, ⊤}
 use Rattle.std.specs.List.{AllByRecursion}
@@ -12,7 +12,7 @@ use Rattle.node_form.specs.Nest.{Nest, Nothing, Putting, Keeping, Joining, Choos
 use Rattle.node_form.specs.Nest.{Looping, Repeating}
 use Rattle.node_form.specs.Nest as nest
 use Rattle.node_form.specs.Value.{Operands, and_then, read, value_of}
-use Rattle.nest_meaning.specs.Nested.{Told, Fine, Zero, Wants, Lost, Ways, nested}
+use Rattle.nest_meaning.specs.Nested.{Told, Fine, Zero, Wants, Lost, Ways}
 use Rattle.nest_meaning.specs.Tree.{nest_of}
 use Rattle.nest_meaning.specs.Units.{followed_by, units_of}
 use Rattle.nest_meaning.specs.Alike.{AreBoth, AreLeaves, AreMasks, AreNests, AreTold, AreValues}
@@ -29,7 +29,7 @@ use Rattle.flat_form.specs.Laws.{HaveMasks, HaveWords, NoMasks, NoTree}
 use Rattle.flat_form.specs.Loop.{AllFine, AllTold, Column, Joins, Point, Puts, SomeLost, SomeWant}
 use Rattle.flat_form.specs.Loop.{SomeZero, all_awaiting, all_told, all_written, both_told}
 use Rattle.flat_form.specs.Loop.{columns_behind, from_written, log_ways, logging, operands_at}
-use Rattle.flat_form.specs.Loop.{start_columns, tree_does, unit_at, unit_does, unit_line, units_do}
+use Rattle.flat_form.specs.Loop.{tree_does, unit_at, unit_does, unit_line, units_do}
 use Rattle.flat_form.specs.Names.{group_cells, group_totals, group_words}
 use Rattle.flat_form.specs.Row.{Member, Words, group_coded, member_inlined}
 use Rattle.flat_form.specs.Whole.{Whole}

@@ -5,7 +5,7 @@ use Rattle.std.specs.Prelude.{◌&&◌, ◌==◌, flat_map, if◌then◌else◌,
 use Rattle.std.specs.List.{AllByRecursion, list_all, list_any}
 use Rattle.std.proofs.lemmas.Bool.Decides.{nat_tests}
 use Rattle.row_runs.specs.Run.{Does, Effect, Goes, Leaps, Passes, Stops}
-use Rattle.row_runs.specs.Straight.{Flow, Halts, OnTo, Tied, TiedHalt, TiedOn, TiedWrong}
+use Rattle.row_runs.specs.Straight.{Flow, OnTo, TiedHalt, TiedOn, TiedWrong}
 use Rattle.row_runs.specs.Straight.{flow_behind, flow_step, through}
 use Rattle.node_form.specs.declared.arrays.Item.{Item}
 use Rattle.node_form.specs.declared.members.Member.{Member}
@@ -16,7 +16,7 @@ use Rattle.flat_form.specs.Act.{act}
 use Rattle.flat_form.specs.Whole.{Whole}
 use Rattle.flat_passes.specs.Grouped.{Grouped, Plain, Runs}
 use Rattle.fuse_contract.specs.Fusing.{Loop, both, can_join, joined, joins, known_behind, last_rows}
-use Rattle.fuse_contract.specs.Fusing.{lies_within, references_of}
+use Rattle.fuse_contract.specs.Fusing.{lies_within, references_of, stands_with}
 use Rattle.normal_runs.proofs.InlineLemmas.{seen}
 use Rattle.fused_runs.proofs.BareLemmas.{IsBare, IsFine, both_bare, no_cells}
 use Rattle.fused_runs.proofs.JoinedLemmas.{IsSame, loops_in_turn, same_flow}
@@ -100,15 +100,16 @@ module _ (tables : Tables) (n : ℕ) where
   LastFine (Some loop) = IsBare tables loop.group
   LastFine None = ⊤
 
-  three : (a b c : Bool) → (a && b && c) ≡ true → (a ≡ true) × (b ≡ true)
-  three true true c e = (refl, refl)
-  three true false c e = absurd (differ e)
-  three false b c e = absurd (differ e)
+  three : (a b c d : Bool) → (a && b && c && d) ≡ true → (a ≡ true) × (b ≡ true)
+  three true true c d e = (refl, refl)
+  three true false c d e = absurd (differ e)
+  three false b c d e = absurd (differ e)
 
   pub joined_parts : (known : List Item) (loop other : Loop) → joins tables known loop other ≡ true
       → ((loop.slot == other.slot) ≡ true) × (can_join tables loop.group other.group ≡ true)
   joined_parts known loop other e =
       three (loop.slot == other.slot) (can_join tables loop.group other.group)
+      (stands_with tables loop.group other.group)
       (list_all (lies_within tables known) (references_of tables other.slot other.group)) e
 
   -- ---- two loops

@@ -1,14 +1,13 @@
--- Groups without loops never want a further turn, and runs in which a zero divisor counts as wrong.
-use Rattle.std.proofs.Common.{◌≡◌, refl, sym, ◌∙◌, ap, subst, arith, ℕ, ◌+◌, zero, suc, Bool, false}
-use Rattle.std.proofs.Common.{true≢false, List, [], ◌∷◌, ◌++◌, Option, Some, None}
-use Rattle.std.specs.Prelude.{◌||◌, drop, ⊤}
+-- Groups without loops never want a further turn, and meet no zero divisor over no tuples.
+use Rattle.std.proofs.Common.{◌≡◌, refl, sym, ◌∙◌, subst, arith, ℕ, Bool, false}
+use Rattle.std.proofs.Common.{true≢false, List, [], ◌∷◌, ◌++◌, map, Option, Some, None}
 use Rattle.std.specs.List.{AllByRecursion, list_any}
 use Rattle.std.proofs.lemmas.List.Folds.{list_any-append}
-use Rattle.zpl_nums.specs.declared.ends.End.TheVariants.{Done, More, Trap}
+use Rattle.zpl_nums.specs.declared.ends.End.TheVariants.{Trap}
 use Rattle.zpl_nums.specs.declared.ends.TrapKind.TheVariants.{DivideByZero}
 use Rattle.zpl_region.specs.declared.regions.Region.{Region}
-use Rattle.row_runs.specs.Run.{Does, Effect, Ends, Goes, Leaps, Passes, Result, Step, Stop, Stops}
-use Rattle.row_runs.specs.Run.{Wrong, printed, runs, stopped, walked, went}
+use Rattle.zpl_region.specs.Region.{members}
+use Rattle.row_runs.specs.Run.{Ends, Goes, Step, Stops, Wrong}
 use Rattle.node_form.specs.declared.members.Member as number
 use Rattle.node_form.specs.declared.members.Member.TheVariants as member
 use Rattle.node_form.specs.declared.tables.Tables.{Tables}
@@ -133,66 +132,17 @@ nest_comes tables n region group nest read straight s =
     (subst (λ g. list_any is_turning g ≡ false) (sym (reads_only group nest read)) straight)))
     (bare_columns region) s)
 
--- ---- a zero divisor counts as wrong
-abbrev pub strict_stop : Stop → Stop
-strict_stop (Ends (Trap DivideByZero line)) = Wrong
-strict_stop stop = stop
+-- ---- over a region without tuples nothing is met
+units_meet : (n : ℕ) (exprs : List Words) (units : List Nest) (s : Whole) (line : ℕ)
+    → units_do n exprs units [] s ≡ Stops (Ends (Trap DivideByZero line)) → ⊥
+units_meet n exprs [] s line e = cc
+units_meet n exprs (unit ∷ units) s line e = units_meet n exprs units s line e
 
-abbrev pub strict_step : {S : Type 0} → Step S → Step S
-strict_step (Goes bytes next) = Goes bytes next
-strict_step (Stops stop) = Stops (strict_stop stop)
-
-abbrev pub strict : {S : Type 0} → Effect S → Effect S
-strict (Does step) = Does (strict_step step)
-strict (Leaps goal) = Leaps goal
-strict Passes = Passes
-
--- the run is the same, or ended by a zero divisor
-pub data IsStrict (result other : Result) : Type 0 where
-  StaysSame : result ≡ other → IsStrict result other
-  WasZero : (line : ℕ) → result.stop ≡ Ends (Trap DivideByZero line) → other.stop ≡ Wrong
-      → IsStrict result other
-
-print_strict : (bytes : List ℕ) (one two : Result) → IsStrict one two
-    → IsStrict (printed bytes one) (printed bytes two)
-print_strict bytes one two (StaysSame e) = StaysSame (ap (printed bytes) e)
-print_strict bytes one two (WasZero line e f) = WasZero line e f
-
-stop_strict : (stop : Stop) → IsStrict (stopped stop) (stopped (strict_stop stop))
-stop_strict (Ends (Trap DivideByZero line)) = WasZero line refl refl
-stop_strict stop = StaysSame refl
-
-module _ {S Row : Type 0} (act : Row → S → Effect S) where
-  abbrev pub strict_act : Row → S → Effect S
-  strict_act row s = strict (act row s)
-
-  walk_strict : (leap leap' : ℕ → S → Result) → ((g : ℕ) (s : S) → IsStrict (leap g s) (leap' g s))
-      → (at : ℕ) (rows : List Row) (s : S)
-      → IsStrict (walked act leap (λ _. stopped (Ends Done)) at rows s)
-      (walked strict_act leap' (λ _. stopped (Ends Done)) at rows s)
-  walk_strict leap leap' leaps at [] s = StaysSame refl
-  walk_strict leap leap' leaps at (row ∷ rows) s =
-      by (act row s) (λ next. walk_strict leap leap' leaps (at + 1) rows next)
-    where
-      by : (effect : Effect S)
-          → ((next : S)
-          → IsStrict (walked act leap (λ _. stopped (Ends Done)) (at + 1) rows next)
-          (walked strict_act leap' (λ _. stopped (Ends Done)) (at + 1) rows next))
-          → IsStrict (went leap at s effect
-          (λ next. walked act leap (λ _. stopped (Ends Done)) (at + 1) rows next))
-          (went leap' at s (strict effect)
-          (λ next. walked strict_act leap' (λ _. stopped (Ends Done)) (at + 1) rows next))
-      by (Does (Goes bytes next)) more =
-          print_strict bytes
-          (walked act leap (λ _. stopped (Ends Done)) (at + 1) rows next)
-          (walked strict_act leap' (λ _. stopped (Ends Done)) (at + 1) rows next) (more next)
-      by (Does (Stops stop)) more = stop_strict stop
-      by (Leaps goal) more = leaps goal s
-      by Passes more = leaps (at + 1) s
-
-  pub runs_strict : (code : List Row) (left at : ℕ) (s : S)
-      → IsStrict (runs act code left at s) (runs strict_act code left at s)
-  runs_strict code zero at s = StaysSame refl
-  runs_strict code (suc left) at s =
-      walk_strict (runs act code left) (runs strict_act code left)
-      (λ g s. runs_strict code left g s) at (drop at code) s
+pub nest_meets : (tables : Tables) (n : ℕ) (region : Region) (o : Option Nest) (s : Whole) (line : ℕ)
+    → nest_does tables n region o s ≡ Stops (Ends (Trap DivideByZero line))
+    → members region ≡ [] → ⊥
+nest_meets tables n region None s line e empty = cc
+nest_meets tables n region (Some nest) s line e empty =
+    units_meet n tables.exprs (units_of nest) s line
+    (subst (λ ts. units_do n tables.exprs (units_of nest)
+    (map (λ t. record { at = t; cells = [] }) ts) s ≡ Stops (Ends (Trap DivideByZero line))) empty e)

@@ -10,19 +10,19 @@ ghost use Rattle.node_form.specs.Fits.{Fits};
 ghost use Rattle.row_runs.specs.Segments.{Keeps};
 ghost use Rattle.flat_form.specs.Act.{flat_run};
 ghost use Rattle.fuse_contract.specs.Fusing.{fused};
-ghost use Rattle.fused_runs.specs.Zero.{MeetsNoZero};
+ghost use Rattle.fused_runs.specs.Typed.{IsTyped};
 
 /// A flat program shows with joined loops what it showed with each loop alone, for every bound on
 /// its jumps and on the turns of loops in its groups, unless it comes to a row that may not stand
-/// there, or ends at a zero divisor. Of the tables is asked that they fit, and have no cells yet.
+/// there. Of the tables is asked that they fit, that they have no cells yet, and what their type
+/// gives.
 pub fn joined_loops_keep_runs()
-    ensures { (code : Code) → Fits code → code.cells ≡ 0 → (a n : ℕ) →
-        MeetsNoZero (flat_run code a n) →
+    ensures { (code : Code) → Fits code → IsTyped code → code.cells ≡ 0 → (a n : ℕ) →
         Keeps (flat_run code a n) (flat_run (fused code) a n) }
 {}
 
-/// A flat program shows with each loop alone what it shows with joined loops, also at a zero
-/// divisor, unless with joined loops it comes to a row that may not stand there.
+/// A flat program shows with each loop alone what it shows with joined loops, unless with joined
+/// loops it comes to a row that may not stand there.
 pub fn joined_loops_show_the_same()
     ensures { (code : Code) → Fits code → code.cells ≡ 0 → (a n : ℕ) →
         Keeps (flat_run (fused code) a n) (flat_run code a n) }

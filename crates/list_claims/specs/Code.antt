@@ -42,7 +42,7 @@ pub record IsSmallCode (text : List ℕ) (build : Build) (code : Tables) : Type 
 
 -- ---- all others
 -- The text is accepted with the settings of the build, the grid is one, and the program can be
--- compiled for it: it isn't too much, its tables break no rule, and there is room for their arrays.
+-- compiled for it: it isn't too much, and there is room for its arrays.
 pub record IsAcceptedFor (text : List ℕ) (build : Build) (program : Program) : Type 0 where
   pub under : IsAcceptedUnder text build.settings program
   pub grid : IsGrid build.grid

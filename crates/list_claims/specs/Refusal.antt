@@ -10,18 +10,17 @@ use Rattle.zpl_binding.specs.Bound.{HasBindFault}
 use Rattle.node_form.specs.Grid.{IsGrid}
 use Rattle.code_layout.specs.Room.{HasRoom}
 use Rattle.zpl_claims.specs.Build.{Build}
-use Rattle.zpl_compile.specs.Compilable.{IsBuilt, IsCounted}
+use Rattle.zpl_compile.specs.Compilable.{IsCounted}
 use Rattle.zpl_compile.specs.Compile.{compiled}
 use Rattle.call_claims.specs.Accepted.{IsAccepted, IsAcceptedUnder}
 use Rattle.call_claims.specs.Refusal.{IsFault}
-use Rattle.call_claims.specs.Texts.{bad_shape_text, bind_name, fault_text, settings_text}
+use Rattle.call_claims.specs.Texts.{bad_shape_text, bind_name, settings_text}
 use Rattle.call_claims.specs.Texts.{too_much_storage_text, whole_text}
 use Rattle.list_claims.specs.Code.{HasNoProgram}
 
 -- ---- a text that is to be built
 -- It has no code, and this is told of it: it is faulty; or it isn't, nor are its settings, and it
--- is too much to compile; or the tables that it is compiled to break a rule of node code. No
--- program is known of which that holds.
+-- is too much to compile.
 pub data IsCodeless (text : List ℕ) (build : Build) : List ℕ → Type 0 where
   faulty : {told : List ℕ} → IsFault text told → IsCodeless text build told
   many_statements : (program : Program) → IsAcceptedUnder text build.settings program
@@ -30,9 +29,6 @@ pub data IsCodeless (text : List ℕ) (build : Build) : List ℕ → Type 0 wher
   many_nodes : (program : Program) → IsAcceptedUnder text build.settings program
       → ¬ HasTooManyStatements program → HasTooManyNodes program
       → IsCodeless text build (whole_text (codes "TooManyNodes"))
-  not_built : (program : Program) → IsAcceptedUnder text build.settings program
-      → IsCounted program → ¬ IsBuilt build program
-      → IsCodeless text build (fault_text (codes "NotBuilt") 1 0)
 
 -- Something is wrong with what it is built for, and this is told of it: the grid is none; or it is
 -- one, the text is accepted, and its settings, or its declarations under them, have a fault; or
@@ -45,7 +41,7 @@ pub data IsSetWrong (text : List ℕ) (build : Build) : List ℕ → Type 0 wher
       → IsSetWrong text build (settings_text (bind_name fault))
   no_room : (program : Program) → IsGrid build.grid
       → IsAcceptedUnder text build.settings program → IsCounted program
-      → IsBuilt build program → ¬ HasRoom (compiled build program)
+      → ¬ HasRoom (compiled build program)
       → IsSetWrong text build too_much_storage_text
 
 -- The text has no program that is built so, and such a fault is told.

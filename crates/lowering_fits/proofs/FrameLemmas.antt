@@ -57,7 +57,7 @@ stored_both : (base : Tables) (xs ys : List Stored) → AllStored base xs → Al
 stored_both base [] ys first rest = rest
 stored_both base (x ∷ xs) ys first rest = (first.0, stored_both base xs ys first.1 rest)
 
-kept_both : (xs ys : List Stored) → AllKept xs → AllKept ys → AllKept (xs ++ ys)
+pub kept_both : (xs ys : List Stored) → AllKept xs → AllKept ys → AllKept (xs ++ ys)
 kept_both [] ys first rest = rest
 kept_both (x ∷ xs) ys first rest = (first.0, kept_both xs ys first.1 rest)
 

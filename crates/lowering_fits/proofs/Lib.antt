@@ -1,5 +1,6 @@
 pub mod TableLemmas
 pub mod PieceLemmas
+pub mod ReadLemmas
 pub mod TreeLemmas
 pub mod VectorLemmas
 pub mod SlateLemmas

@@ -2,21 +2,24 @@
 use Rattle.std.proofs.Common.{◌≡◌, ℕ, ◌+◌, ◌≤◌, List, [], ◌∷◌, ◌++◌, map, length, refl, arith, length-append}
 use Rattle.std.specs.Prelude.{All}
 use Rattle.std.proofs.lemmas.List.{length-map, length-replicate}
+use Rattle.node_form.specs.declared.instructions.Instr.{Instr}
 use Rattle.node_form.specs.declared.instructions.Instr.TheVariants as instr
 use Rattle.node_form.specs.declared.tables.Tables.{Tables}
 use Rattle.node_form.specs.Fits.{IsRank, FitsArray, Grows}
 use Rattle.node_form.specs.Grid.{IsGrid}
 use Rattle.node_form.proofs.GrowthLemmas.{Keeps-same, FitsInstr-grows}
 use Rattle.row_runs.specs.Code.{CodeRow, Straight, Jump, Unless}
+use Rattle.row_runs.specs.Straight.{Every}
 use Rattle.row_runs.specs.Structured as piece
 use Rattle.row_runs.specs.Structured.{Piece, size, flattened}
 use Rattle.flat_form.specs.Flat.{IsFlat}
+use Rattle.flat_form.specs.Laws.{IsInline, IsPlain}
 use Rattle.flat_form.specs.Row as row
 use Rattle.flat_form.specs.Row.{Row}
 use Rattle.zpl_lowering.specs.Check.{Check, flat_row}
 use Rattle.zpl_lowering.specs.Lowered.{Lowered}
 use Rattle.zpl_lowering.specs.Tables.{empty_tables, rows_of, tables_of}
-use Rattle.lowering_fits.specs.Inline.{long, FitsRow, FitRows, FitsPiece, IsGround}
+use Rattle.lowering_fits.specs.Inline.{long, IsOwnRow, FitsRow, FitRows, FitsPiece, IsGround}
 use Rattle.lowering_fits.proofs.TableLemmas.{rows_make_flat}
 
 -- ---- rows in longer code
@@ -173,14 +176,76 @@ ground : (grid : List ℕ) (lowered : Lowered) → IsGround (empty_tables grid l
 ground grid lowered =
     record { exprs = refl; groups = refl; texts = refl; exchanges = refl; code = refl }
 
+-- rows of code that fits
+pub all_rows_fit : (grid : List ℕ) (lowered : Lowered) →
+    FitsPiece (empty_tables grid lowered) lowered.code →
+    FitRows (empty_tables grid lowered) (length (rows_of lowered)) (rows_of lowered)
+all_rows_fit grid lowered fits =
+    let base : Tables = empty_tables grid lowered in
+    let count : ℕ = length (rows_of lowered) in
+    let counted = all_length lowered in
+    rows_fit base count (flattened 0 lowered.code) (row.Plain instr.End ∷ [])
+    (laid_out base count 0 lowered.code fits (omega arith)) (end_fits base count)
+
 -- code that fits the scalars, slots and arrays of its own
 pub code_makes_flat : (grid : List ℕ) (lowered : Lowered) → IsGrid grid → All IsRank lowered.slots →
     All FitsArray (empty_tables grid lowered).arrays →
     FitsPiece (empty_tables grid lowered) lowered.code → IsFlat (tables_of grid lowered)
 code_makes_flat grid lowered is slots arrays fits =
-    let base : Tables = empty_tables grid lowered in
-    let count : ℕ = length (rows_of lowered) in
-    let counted = all_length lowered in
-    rows_make_flat base (rows_of lowered) (ground grid lowered) is slots arrays
-    (rows_fit base count (flattened 0 lowered.code) (row.Plain instr.End ∷ [])
-    (laid_out base count 0 lowered.code fits (omega arith)) (end_fits base count))
+    rows_make_flat (empty_tables grid lowered) (rows_of lowered) (ground grid lowered) is slots
+    arrays (all_rows_fit grid lowered fits)
+
+-- ---- and each row has its expressions and its group in its place
+
+plain_of : (one : Instr) → IsOwnRow one → IsPlain one
+plain_of (instr.Set scalar expr line) own = absurd own
+plain_of (instr.Fix slot region) own = tt
+plain_of (instr.Dims slot parts line) own = absurd own
+plain_of (instr.Formed form slot from shift line) own = tt
+plain_of (instr.Need slot array shift line) own = tt
+plain_of (instr.Same target source kind line) own = tt
+plain_of (instr.Fits slot shift line) own = tt
+plain_of (instr.Room array slot) own = tt
+plain_of (instr.Clear array) own = tt
+plain_of (instr.Loop slot group) own = absurd own
+plain_of (instr.Start exchange) own = absurd own
+plain_of (instr.Finish exchange) own = absurd own
+plain_of (instr.Edge kind array slot shift) own = tt
+plain_of (instr.Flood array target from source) own = tt
+plain_of (instr.Part array target fold from source) own = tt
+plain_of (instr.Scan array slot fold along from mask) own = tt
+plain_of (instr.Vote group) own = absurd own
+plain_of (instr.Fold scalar fold) own = tt
+plain_of (instr.TreeVote group) own = absurd own
+plain_of (instr.TreeFold scalar fold) own = absurd own
+plain_of (instr.Print text) own = absurd own
+plain_of (instr.Number expr) own = absurd own
+plain_of (instr.Truth expr) own = absurd own
+plain_of (instr.Gather truth array slot) own = tt
+plain_of (instr.Jump goal) own = tt
+plain_of (instr.Unless expr goal line) own = absurd own
+plain_of (instr.Trap kind line) own = tt
+plain_of instr.End own = tt
+plain_of (instr.Remap array slot from parts) own = tt
+
+row_inline : (base : Tables) (count : ℕ) (one : Row) → FitsRow base count one → IsInline one
+row_inline base count (row.Set scalar expr line) fits = tt
+row_inline base count (row.Dims slot parts line) fits = tt
+row_inline base count (row.Loop slot group) fits = tt
+row_inline base count (row.Print text) fits = tt
+row_inline base count (row.Number expr) fits = tt
+row_inline base count (row.Truth expr) fits = tt
+row_inline base count (row.Unless expr goal line) fits = tt
+row_inline base count (row.Plain one) fits = plain_of one fits.1
+
+rows_inline : (base : Tables) (count : ℕ) (rows : List Row) → FitRows base count rows →
+    Every IsInline rows
+rows_inline base count [] fit = tt
+rows_inline base count (one ∷ rows) fit =
+    (row_inline base count one fit.0, rows_inline base count rows fit.1)
+
+pub code_inline : (grid : List ℕ) (lowered : Lowered) →
+    FitsPiece (empty_tables grid lowered) lowered.code → Every IsInline (rows_of lowered)
+code_inline grid lowered fits =
+    rows_inline (empty_tables grid lowered) (length (rows_of lowered)) (rows_of lowered)
+    (all_rows_fit grid lowered fits)

@@ -99,7 +99,7 @@ arrays_stored tables k [] are = tt
 arrays_stored tables k (array ∷ arrays) are = (are.0, arrays_stored tables (suc k) arrays are.1)
 
 -- their storages
-abbrev AllBoxes : List Array → Type 0
+abbrev pub AllBoxes : List Array → Type 0
 AllBoxes [] = Unit {0}
 AllBoxes (array ∷ arrays) = IsStorage array.storage × AllBoxes arrays
 
@@ -150,7 +150,7 @@ module _ (setup : Setup) where
   decl_boxed (Vars vars) frame xs fits are = vars_boxed vars frame xs fits are
   decl_boxed (Defined procedure) frame xs fits are = are
 
-  decls_boxed : (decls : List Decl) (frame : Frame) (xs : List Entry) → FitDecls setup xs decls →
+  pub decls_boxed : (decls : List Decl) (frame : Frame) (xs : List Entry) → FitDecls setup xs decls →
       AllBoxes frame.store.arrays →
       AllBoxes (with_declarations setup.known setup.borders frame decls).store.arrays
   decls_boxed [] frame xs fits are = are

@@ -26,7 +26,7 @@ use Rattle.lowering_fits.specs.Lowerings.{AllRanks, region_rank}
 use Rattle.lowering_fits.proofs.SettleLemmas.{array_rank_number}
 use Rattle.lowering_fits.proofs.MadeWholeLemmas.{entry_is_there}
 
-given_rank : (shape : Option Shape) (outcome : Outcome Region) →
+pub given_rank : (shape : Option Shape) (outcome : Outcome Region) →
     IsArrayRank (option_map length shape) → Fits shape outcome →
     IsRank (value_or no_region outcome).rank
 given_rank None outcome is fits = absurd is

@@ -21,7 +21,7 @@ use Rattle.node_form.specs.Expression as expr
 use Rattle.node_form.specs.Expression.{Expression, words_of}
 use Rattle.node_form.specs.Nest as nest
 use Rattle.node_form.specs.Nest.{IsNest}
-use Rattle.node_form.specs.Fits.{IsRank, IsVector, HasSlot, HasArray, IsTemporary, FitsRemap, IsIndexArray}
+use Rattle.node_form.specs.Fits.{IsRank, IsVector, HasSlot, HasArray, IsStored, IsTemporary, FitsRemap, IsIndexArray}
 use Rattle.row_runs.specs.Structured as piece
 use Rattle.row_runs.specs.Structured.{Piece}
 use Rattle.flat_form.specs.Row as row
@@ -35,7 +35,7 @@ use Rattle.zpl_lowering.specs.Hoist.{Hoisted, Free, alone, behind, both, neighbo
 use Rattle.lowering_fits.specs.Inline.{long, FitsMask, FitsRow, FitRows, FitsPiece, AllInside}
 use Rattle.lowering_fits.specs.Slates.{SlotsAt, TempsAt, AllRanges, IsRowOf, HasStorage, FitNumbers, IsOfRank, IsRemapOf, IsMaskOf, FitsOver, slates_count, FitsCopy, FitsSlate, FitsSlates, FitsTree, FitTrees, AllTemps, AllShifts, IsPlaced, FitsHoist}
 use Rattle.lowering_fits.proofs.VectorLemmas.{by_vector, vector_by, opposite_by, VectorsBy, borders_by, double, border_count}
-use Rattle.lowering_fits.proofs.TreeLemmas.{tree_fits, scalar_tree, below_at, variable_fits, IsThere, stored_at, array_of, temps_first, temps_rest, temps_both, shifts_both, over_fits}
+use Rattle.lowering_fits.proofs.TreeLemmas.{tree_fits, scalar_tree, below_at, variable_fits, IsThere, stored_at, array_of, stored_of, temps_first, temps_rest, temps_both, shifts_both, over_fits}
 
 -- ---- groups of one and of two members
 
@@ -164,12 +164,12 @@ module _ (base : Tables) where
   -- ---- elements
 
   element_fits : (rank array : ℕ) (shift : List ℤ) → IsRank rank → HasArray base rank array →
-      IsVector rank shift → FitsTree base rank (element_code array shift)
-  element_fits rank array shift is has vector = by (is_unmoved shift)
+      IsVector rank shift → IsStored base array → FitsTree base rank (element_code array shift)
+  element_fits rank array shift is has vector stored = by (is_unmoved shift)
     where
       by : (b : Bool) → FitsTree base rank (neighbour_if b array shift)
       by true = (is, has)
-      by false = (is, has, vector)
+      by false = (is, has, vector, stored)
 
   shifts_fit : (rank array : ℕ) (shift : List ℤ) → IsVector rank shift →
       AllShifts (shifts_of array shift)
@@ -209,7 +209,8 @@ module _ (base : Tables) where
           shifts = shifts_fit base rank stored.array (vector_over stored.storage shift) over;
         };
         left = element_fits base rank stored.array (vector_over stored.storage shift) is
-            (array_of base rank stored.array stored.storage there same) over;
+            (array_of base rank stored.array stored.storage there same) over
+            (stored_of base stored.array stored.storage there);
       }
 
   -- the parts that two expressions have
@@ -776,7 +777,7 @@ module _ (base : Tables) where
           temps = tt;
           shifts = shifts_fit base rank copy shift vector;
         };
-        left = element_fits base rank copy shift is fits.has vector;
+        left = element_fits base rank copy shift is fits.has vector fits.is_stored;
       }
 
   -- ---- all expressions

@@ -35,7 +35,7 @@ all_pads (one ∷ dims) are = by are.0 (all_pads dims are.1)
         one ∷ dims ≡ padding ∷ replicate (length dims) padding
     by first rest = cc
 
-padded_from : (n rank : ℕ) (dims : List Dim) → length dims ≡ n → PadsFrom rank dims →
+pub padded_from : (n rank : ℕ) (dims : List Dim) → length dims ≡ n → PadsFrom rank dims →
     drop rank dims ≡ replicate (n - rank) padding
 padded_from n zero dims same are =
     let less : length dims ≡ n - 0 = omega arith in
@@ -67,7 +67,7 @@ hull_pad = refl
 pair_pad : dim_hull_with padding padding ≡ padding
 pair_pad = refl
 
-hulls_boxed : (dims : List Dim) → AllBoxed (map dim_hull dims)
+pub hulls_boxed : (dims : List Dim) → AllBoxed (map dim_hull dims)
 hulls_boxed [] = tt
 hulls_boxed (dim.Range lo hi step align ∷ dims) = ((refl, refl), hulls_boxed dims)
 hulls_boxed (dim.Flood ∷ dims) = (tt, hulls_boxed dims)
@@ -83,7 +83,7 @@ all_boxed : (dims : List Dim) → PadsFrom zero dims → AllBoxed dims
 all_boxed [] are = tt
 all_boxed (one ∷ dims) are = (pad_boxed one are.0, all_boxed dims are.1)
 
-emptied_boxed : (rank : ℕ) (dims : List Dim) → PadsFrom rank dims → AllBoxed (emptied rank dims)
+pub emptied_boxed : (rank : ℕ) (dims : List Dim) → PadsFrom rank dims → AllBoxed (emptied rank dims)
 emptied_boxed zero dims are = all_boxed dims are
 emptied_boxed (suc rank) [] are = tt
 emptied_boxed (suc rank) (dim.Range lo hi step align ∷ dims) are =
@@ -101,7 +101,7 @@ emptied_count zero dims = refl
 emptied_count (suc rank) [] = refl
 emptied_count (suc rank) (one ∷ dims) = ap suc (emptied_count rank dims)
 
-hull_is : (rank : ℕ) (region : Region) → IsThree rank region → IsHull rank (hull region)
+pub hull_is : (rank : ℕ) (region : Region) → IsThree rank region → IsHull rank (hull region)
 hull_is rank region is =
     by (has_none region) (subst (λ n. PadsFrom n region.dims) (sym is.same) is.padded)
   where
@@ -152,7 +152,7 @@ pairs_count [] es same = refl
 pairs_count (d ∷ ds) [] same = sym same
 pairs_count (d ∷ ds) (e ∷ es) same = ap suc (pairs_count ds es (omega arith))
 
-hull_with_is : (rank : ℕ) (one other : Region) → IsThree rank one → IsThree rank other →
+pub hull_with_is : (rank : ℕ) (one other : Region) → IsThree rank one → IsThree rank other →
     IsHull rank (hull_with one other)
 hull_with_is rank one other is are = by (has_none other) (has_none one)
   where
@@ -170,7 +170,7 @@ hull_with_is rank one other is are = by (has_none other) (has_none one)
       };
     }
 
-three_of : (rank : ℕ) (region : Region) → IsBox rank region → IsThree rank region
+pub three_of : (rank : ℕ) (region : Region) → IsBox rank region → IsThree rank region
 three_of rank region is = record {
   three = is.three;
   padded = subst (λ n. PadsFrom n region.dims) is.same

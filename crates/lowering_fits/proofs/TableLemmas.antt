@@ -16,7 +16,7 @@ use Rattle.node_form.proofs.GrowthLemmas.{Keeps-append, Keeps-same, FitsWord-gro
 use Rattle.flat_form.specs.Flat.{IsFlatRow, IsFlat}
 use Rattle.flat_form.specs.Row as row
 use Rattle.flat_form.specs.Row.{Words, Member, Part, Row, with_row, with_rows, all_coded, member_words, member_coded, mask_words, numbered, part_words, part_coded, row_words, row_groups, row_texts, coded, group_coded}
-use Rattle.lowering_fits.specs.Inline.{FitsWords, FitsScalar, FitsMask, FitsInside, AllInside, FitsDim, AllDims, AllStars, StarsPast, long, FitsRow, FitRows, IsGround}
+use Rattle.lowering_fits.specs.Inline.{IsOwnRow, FitsWords, FitsScalar, FitsMask, FitsInside, AllInside, FitsDim, AllDims, AllStars, StarsPast, long, FitsRow, FitRows, IsGround}
 
 -- ---- what stands behind other things
 
@@ -287,6 +287,37 @@ long_grows old new count grows = record {
   code = omega arith;
 }
 
+flat_of : (one : Instr) → IsOwnRow one → IsFlatRow one
+flat_of (instr.Set scalar expr line) own = absurd own
+flat_of (instr.Fix slot region) own = tt
+flat_of (instr.Dims slot parts line) own = absurd own
+flat_of (instr.Formed form slot from shift line) own = tt
+flat_of (instr.Need slot array shift line) own = tt
+flat_of (instr.Same target source kind line) own = tt
+flat_of (instr.Fits slot shift line) own = tt
+flat_of (instr.Room array slot) own = tt
+flat_of (instr.Clear array) own = tt
+flat_of (instr.Loop slot group) own = absurd own
+flat_of (instr.Start exchange) own = absurd own
+flat_of (instr.Finish exchange) own = absurd own
+flat_of (instr.Edge kind array slot shift) own = tt
+flat_of (instr.Flood array target from source) own = tt
+flat_of (instr.Part array target fold from source) own = tt
+flat_of (instr.Scan array slot fold along from mask) own = tt
+flat_of (instr.Vote group) own = absurd own
+flat_of (instr.Fold scalar fold) own = tt
+flat_of (instr.TreeVote group) own = absurd own
+flat_of (instr.TreeFold scalar fold) own = absurd own
+flat_of (instr.Print text) own = absurd own
+flat_of (instr.Number expr) own = absurd own
+flat_of (instr.Truth expr) own = absurd own
+flat_of (instr.Gather truth array slot) own = tt
+flat_of (instr.Jump goal) own = tt
+flat_of (instr.Unless expr goal line) own = absurd own
+flat_of (instr.Trap kind line) own = tt
+flat_of instr.End own = tt
+flat_of (instr.Remap array slot from parts) own = tt
+
 module _ (base now : Tables) (count : ℕ) (laid : Laid base now count) where
   laid_more : (exprs : List Words) (groups : List (List number.Member)) (texts : List (List ℕ))
       (one : Instr) →
@@ -421,7 +452,7 @@ module _ (base now : Tables) (count : ℕ) (laid : Laid base now count) where
       grows_on base now new laid.grows (more_grows now [] [] [] one) in
       laid_more [] [] [] one (All-nil (FitsExpr new)) (All-nil (FitsGroup new))
       (FitsInstr-grows (long base count) (long new count) (long_grows base new count grows) one
-      fits.0) fits.1
+      fits.0) (flat_of one fits.1)
 
 laid_rows : (base : Tables) (count : ℕ) (now : Tables) (rows : List Row) → Laid base now count →
     FitRows base count rows → Laid base (with_rows now rows) count

@@ -9,6 +9,7 @@ use Rattle.zpl_region.specs.declared.dims.Dim.TheVariants as dim
 use Rattle.zpl_region.specs.declared.regions.Region.{Region}
 use Rattle.zpl_region.specs.Dim.{IsUpTo}
 use Rattle.node_form.specs.declared.arrays.ArrayRow.{ArrayRow}
+use Rattle.node_form.specs.declared.words.ExprOp.{ExprOp}
 use Rattle.node_form.specs.declared.words.ExprOp.TheVariants as word
 use Rattle.node_form.specs.declared.tables.Tables.{Tables}
 use Rattle.node_form.specs.Expression as expr
@@ -19,6 +20,7 @@ use Rattle.zpl_lowering.specs.Where.{Stored}
 use Rattle.zpl_lowering.specs.Words.{variable_code}
 use Rattle.zpl_lowering.specs.Reference.{shift_in, vector_over}
 use Rattle.zpl_lowering.specs.Hoist.{Shifted}
+use Rattle.stored_shifts.specs.Stored.{IsStoredRead}
 use Rattle.lowering_fits.specs.Inline.{FitsWords, FitsScalar}
 use Rattle.lowering_fits.specs.Slates.{SlotsAt, TempsAt, IsRowOf, HasStorage, StoragesAt, AllBelow, AllStored, FitsTree, AllTemps, AllShifts}
 
@@ -58,10 +60,45 @@ module _ (base : Tables) where
       (tree_all rank operand fits)
       (All-cons (FitsWord base rank) word.Abs [] tt (All-nil (FitsWord base rank)))
 
+  -- what it reads with a shift
+  behind_stored : (front back : List ExprOp) → All (IsStoredRead base) front →
+      All (IsStoredRead base) back → All (IsStoredRead base) (front ++ back)
+  behind_stored front back = All-append (IsStoredRead base) front back
+
+  one_stored : (one : ExprOp) → IsStoredRead base one → All (IsStoredRead base) (one ∷ [])
+  one_stored one is = All-cons (IsStoredRead base) one [] is (All-nil (IsStoredRead base))
+
+  tree_stored : (rank : ℕ) (tree : Expression) → FitsTree base rank tree →
+      All (IsStoredRead base) (words_of tree)
+  tree_stored rank (expr.Constant value) fits = one_stored (word.Const value) tt
+  tree_stored rank (expr.Variable scalar) fits = one_stored (word.Scalar scalar) tt
+  tree_stored rank (expr.Element array) fits = one_stored (word.Here array) tt
+  tree_stored rank (expr.Neighbour array shift) fits =
+      one_stored (word.Shifted array shift) fits.3
+  tree_stored rank (expr.CellValue cell) fits = absurd fits
+  tree_stored rank (expr.Coordinate dimension) fits = one_stored (word.Coord dimension) tt
+  tree_stored rank (expr.Operation op left right) fits =
+      behind_stored (words_of left) (words_of right ++ word.Pair op ∷ [])
+      (tree_stored rank left fits.0)
+      (behind_stored (words_of right) (word.Pair op ∷ []) (tree_stored rank right fits.1)
+      (one_stored (word.Pair op) tt))
+  tree_stored rank (expr.Negation operand) fits =
+      behind_stored (words_of operand) (word.Neg ∷ []) (tree_stored rank operand fits)
+      (one_stored word.Neg tt)
+  tree_stored rank (expr.Denial operand) fits =
+      behind_stored (words_of operand) (word.Not ∷ []) (tree_stored rank operand fits)
+      (one_stored word.Not tt)
+  tree_stored rank (expr.Absolute operand) fits =
+      behind_stored (words_of operand) (word.Abs ∷ []) (tree_stored rank operand fits)
+      (one_stored word.Abs tt)
+
   pub tree_fits : (rank : ℕ) (tree : Expression) → FitsTree base rank tree →
       FitsWords base rank (words_of tree)
-  tree_fits rank tree fits =
-      record { stack = record { tree = tree; spelled = refl }; fit = tree_all rank tree fits }
+  tree_fits rank tree fits = record {
+    stack = record { tree = tree; spelled = refl };
+    fit = tree_all rank tree fits;
+    stored = tree_stored rank tree fits;
+  }
 
   -- a scalar has every rank
   pub tree_of_rank : (rank : ℕ) (tree : Expression) → FitsTree base 0 tree →

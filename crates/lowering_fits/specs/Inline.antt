@@ -1,12 +1,13 @@
 -- When rows that are seen inline fit: what their numbers name is asked of tables that have as many
 -- scalars, the same slots and the same arrays as those that the rows are laid out in.
 use Rattle.std.specs.Prelude.{◌≡◌, ℕ, zero, suc, ◌<◌, ◌≤◌, List, [], ◌∷◌, Option, Some, None, All, replicate}
+use Rattle.node_form.specs.declared.instructions.Instr.{Instr}
 use Rattle.node_form.specs.declared.instructions.Instr.TheVariants as instr
 use Rattle.node_form.specs.declared.tables.Tables.{Tables}
 use Rattle.node_form.specs.Expression.{IsExpression}
 use Rattle.node_form.specs.Fits.{IsRank, HasSlot, HasArray, FitsWord, IsScalarWord, FitsInstr}
 use Rattle.node_form.specs.Nest.{IsNest}
-use Rattle.flat_form.specs.Flat.{IsFlatRow}
+use Rattle.stored_shifts.specs.Stored.{IsStoredRead}
 use Rattle.flat_form.specs.Row as row
 use Rattle.flat_form.specs.Row.{Words, Member, Part, Row, group_coded}
 use Rattle.row_runs.specs.Structured as piece
@@ -15,10 +16,11 @@ use Rattle.zpl_lowering.specs.Check.{Check}
 
 -- ---- expressions
 
--- the words are those of an expression, and fit at the rank
+-- the words are those of an expression, and fit at the rank; what they read with a shift is stored
 pub record FitsWords (tables : Tables) (rank : ℕ) (words : Words) : Type 0 where
   pub stack : IsExpression words
   pub fit : All (FitsWord tables rank) words
+  pub stored : All (IsStoredRead tables) words
 
 -- and none of them needs an index
 pub record FitsScalar (tables : Tables) (words : Words) : Type 0 where
@@ -99,6 +101,22 @@ pub record FitsDims (tables : Tables) (slot : ℕ) (parts : List Part) : Type 0 
 abbrev pub long : Tables → ℕ → Tables
 long tables count = record tables { code = replicate count instr.End }
 
+-- a row of a flat program that names no expression, group or text
+abbrev pub IsOwnRow : Instr → Type 0
+IsOwnRow (instr.Set scalar expr line) = ⊥
+IsOwnRow (instr.Dims slot parts line) = ⊥
+IsOwnRow (instr.Loop slot group) = ⊥
+IsOwnRow (instr.Start exchange) = ⊥
+IsOwnRow (instr.Finish exchange) = ⊥
+IsOwnRow (instr.Vote group) = ⊥
+IsOwnRow (instr.TreeVote group) = ⊥
+IsOwnRow (instr.TreeFold scalar fold) = ⊥
+IsOwnRow (instr.Print text) = ⊥
+IsOwnRow (instr.Number expr) = ⊥
+IsOwnRow (instr.Truth expr) = ⊥
+IsOwnRow (instr.Unless expr goal line) = ⊥
+IsOwnRow row = Unit {0}
+
 -- in code of so many rows
 abbrev pub FitsRow : Tables → ℕ → Row → Type 0
 FitsRow tables count (row.Set scalar expr line) =
@@ -109,7 +127,7 @@ FitsRow tables count (row.Print text) = Unit {0}
 FitsRow tables count (row.Number expr) = FitsScalar tables expr
 FitsRow tables count (row.Truth expr) = FitsScalar tables expr
 FitsRow tables count (row.Unless expr goal line) = FitsScalar tables expr × (goal ≤ count)
-FitsRow tables count (row.Plain one) = FitsInstr (long tables count) one × IsFlatRow one
+FitsRow tables count (row.Plain one) = FitsInstr (long tables count) one × IsOwnRow one
 
 abbrev pub FitRows : Tables → ℕ → List Row → Type 0
 FitRows tables count [] = Unit {0}

@@ -151,7 +151,7 @@ FitsTree tables rank (expr.Constant value) = Unit {0}
 FitsTree tables rank (expr.Variable scalar) = scalar < tables.scalars
 FitsTree tables rank (expr.Element array) = IsRank rank × HasArray tables rank array
 FitsTree tables rank (expr.Neighbour array shift) =
-    IsRank rank × HasArray tables rank array × IsVector rank shift
+    IsRank rank × HasArray tables rank array × IsVector rank shift × IsStored tables array
 FitsTree tables rank (expr.CellValue cell) = ⊥
 FitsTree tables rank (expr.Coordinate dimension) = (1 ≤ dimension) × (dimension ≤ rank)
 FitsTree tables rank (expr.Operation op left right) =

@@ -1,6 +1,7 @@
 //! The laws of tables that lowered code comes to.
 ghost use Rattle.std.specs.Prelude.{◌≡◌, ◌++◌, All, Bool, IsTrue, List, Option, length, map, take};
 ghost use Rattle.std.specs.Prelude.{ℕ, ℤ};
+ghost use Rattle.row_runs.specs.Straight.{Every};
 ghost use Rattle.zpl_tree.specs.Grammar.{IsBody, IsProgram};
 ghost use Rattle.zpl_tree.specs.Syntax.{Inner, Program, Stmt};
 ghost use Rattle.zpl_names.specs.Accepted.{IsFaultless};
@@ -22,14 +23,16 @@ ghost use Rattle.node_form.specs.Fits.{FitsArray, IsRank};
 ghost use Rattle.node_form.specs.Grid.{IsGrid};
 ghost use Rattle.node_form.specs.declared.tables.Tables.{Tables as Code};
 ghost use Rattle.flat_form.specs.Flat.{IsFlat};
+ghost use Rattle.flat_form.specs.Laws.{IsInline};
 ghost use Rattle.flat_form.specs.Row.{Row, with_rows};
+ghost use Rattle.stored_shifts.specs.Stored.{ShiftsAreStored};
 ghost use Rattle.zpl_lowering.specs.Hoist.{Free, hoisted};
 ghost use Rattle.zpl_lowering.specs.Lowered.{Lowered};
 ghost use Rattle.zpl_lowering.specs.Program.{Entry, body_code, first_next, lowered_program};
 ghost use Rattle.zpl_lowering.specs.Program.{call_code, where_in};
 ghost use Rattle.zpl_lowering.specs.Slate.{Slate};
 ghost use Rattle.zpl_lowering.specs.Statement.{Calling, lowered};
-ghost use Rattle.zpl_lowering.specs.Tables.{empty_tables, tables_of};
+ghost use Rattle.zpl_lowering.specs.Tables.{empty_tables, rows_of, tables_of};
 ghost use Rattle.zpl_lowering.specs.Where.{Next, Numbers, Where};
 ghost use Rattle.lowering_fits.specs.Inline.{FitRows, FitsPiece, IsGround};
 ghost use Rattle.lowering_fits.specs.Lowerings.{FitsLowered, IsLaidOut, IsSoundStmt, answering};
@@ -151,13 +154,16 @@ pub fn bodies_fit()
 }
 
 /// Code that is numbered as it is laid out has what is its own in its tables; and if it fits them
-/// then, and its storages are boxes within the limit, they are a flat program's.
+/// then, and its storages are boxes within the limit, they are a flat program's. What their
+/// expressions read with a shift is stored.
 pub fn numbered_code_makes_a_flat_program()
     ensures laid { (grid : List ℕ) (next : Next) (lowered : Lowered) → IsNumbered next lowered →
         IsLaidOut (empty_tables grid lowered) next lowered }
     ensures flat { (grid : List ℕ) (lowered : Lowered) → IsGrid grid →
         AllStorages (lowered.arrays ++ (lowered.copies ++ lowered.later)) →
         FitsLowered (empty_tables grid lowered) lowered → IsFlat (tables_of grid lowered) }
+    ensures stored { (grid : List ℕ) (lowered : Lowered) →
+        FitsLowered (empty_tables grid lowered) lowered → ShiftsAreStored (tables_of grid lowered) }
 {}
 
 /// All code of a program of the grammar without faults is numbered as it is laid out: the program
@@ -194,7 +200,8 @@ pub fn calls_fit()
 }
 
 /// And so does all code of the program: it makes a flat program's tables, if its storages are boxes
-/// within the limit.
+/// within the limit. What their expressions read with a shift is stored, and each row has its
+/// expressions and its group in its place.
 pub fn lowered_programs_fit()
     ensures fit { (program : Program) (settings : List Setting) → IsProgram program →
         IsFaultless program → IsAcceptedWith program settings → FitsProgram program settings →
@@ -205,6 +212,12 @@ pub fn lowered_programs_fit()
         (let lowered = lowered_program program settings in
         AllStorages (lowered.arrays ++ (lowered.copies ++ lowered.later)) →
         (grid : List ℕ) → IsGrid grid → IsFlat (tables_of grid lowered)) }
+    ensures stored { (program : Program) (settings : List Setting) → IsProgram program →
+        IsFaultless program → IsAcceptedWith program settings → FitsProgram program settings →
+        (grid : List ℕ) → ShiftsAreStored (tables_of grid (lowered_program program settings)) }
+    ensures inline { (program : Program) (settings : List Setting) → IsProgram program →
+        IsFaultless program → IsAcceptedWith program settings → FitsProgram program settings →
+        Every IsInline (rows_of (lowered_program program settings)) }
 {
     ranks_agree();
     no_stand_in_is_met();

@@ -22,32 +22,21 @@ use Rattle.row_runs.specs.Structured as code
 use Rattle.row_runs.specs.Structured.{Course}
 use Rattle.flat_form.specs.Whole.{Whole}
 use Rattle.zpl_lowering.specs.Where.{Where, Next, line_of}
-use Rattle.zpl_lowering.specs.Lowered.{behind, phased}
+use Rattle.zpl_lowering.specs.Lowered.{behind, joined, phased}
 use Rattle.zpl_lowering.specs.Statement as low
 use Rattle.zpl_lowering.specs.Statement.{Given, Lowering}
 use Rattle.lowering_runs.specs.Seen.{scalar_in, Spot, Sight, numbered, seen_place, seen_thing, seen_names}
 use Rattle.lowering_runs.specs.Run.{does}
 use Rattle.lowering_runs.specs.Agrees.{Agrees}
-use Rattle.lowering_runs.specs.Scalars.{IsScalarAt}
-use Rattle.lowering_runs.specs.Stands.{IsKnown, Stands, IsLike}
+use Rattle.lowering_runs.specs.Stands.{IsKnown, Stands, HasRoom, IsLike}
 use Rattle.lowering_runs.specs.Frames.{seen_given, AreGiven}
 use Rattle.lowering_runs.specs.Goes.{World, Goes}
+use Rattle.lowering_runs.specs.Leaves.{AreServedActuals, IsServedInvoke}
 use Rattle.lowering_runs.specs.Called.{calling_at, CallsAgree}
+use Rattle.lowering_runs.proofs.FitLemmas.{room_first, room_rest}
 use Rattle.lowering_runs.proofs.ValueLemmas.{thing_seen, known_thing}
 use Rattle.lowering_runs.proofs.ListLemmas.{Hold, AreScalarsAt, meant, meant_length}
 use Rattle.lowering_runs.proofs.HeadLemmas.{with_computed_value, valued_agrees, left_length}
-
--- what parameters of scalars take, and references; arrays by value are left out
-abbrev pub AreServedActuals : Place → List Formal → Exprs → Type 0
-AreServedActuals place [] actuals = Unit {0}
-AreServedActuals place (formal ∷ formals) NoExpr = Unit {0}
-AreServedActuals place (ScalarFormal false base ∷ formals) (ThenExpr actual rest) =
-    IsScalarAt place actual × AreServedActuals place formals rest
-AreServedActuals place (ScalarFormal true base ∷ formals) (ThenExpr actual rest) =
-    IsSome (actual_thing place.environment actual) × AreServedActuals place formals rest
-AreServedActuals place (ArrayFormal true base shape ∷ formals) (ThenExpr actual rest) =
-    IsSome (actual_thing place.environment actual) × AreServedActuals place formals rest
-AreServedActuals place (ArrayFormal false base shape ∷ formals) (ThenExpr actual rest) = ⊥
 
 actual_seen : (spots : List Spot) (environment : Environment) (actual : Expr)
     → actual_thing (record { names = seen_names spots environment.names }) actual
@@ -211,21 +200,7 @@ given_earlier scalars arrays from later (low.Copied stored home ∷ givens) to l
 
 module _ (world : World) (setup : Setup) (IsCallable : List ℕ → Type 0)
     (calls : CallsAgree world setup IsCallable) (at : ℕ) (name : Name) (actuals : Exprs) where
-  pub record IsServedInvoke (p : Place) : Type 0 where
-    pub setup_is : p.setup ≡ setup
-    pub callable : IsCallable name.text
-    pub actuals_are : AreServedActuals p (formals_in (kind_of p.scope name)) actuals
-    pub visited : (values : List ℤ) (before : Store)
-        → length values
-        ≡ length (mean_calls.value_exprs p (formals_in (kind_of p.scope name)) actuals)
-        → IsVisitedCall setup (record {
-          name = name.text;
-          actuals = handed_on p.environment before (formals_in (kind_of p.scope name)) actuals values;
-          currents = p.currents;
-          result = 0;
-        })
-
-  pub invoke_goes : Goes world IsServedInvoke
+  pub invoke_goes : Goes world (IsServedInvoke setup IsCallable name actuals)
       (λ c store. mean_statement.exec_form c world.turns at (Invoke name actuals) store)
       (λ l next. low.lowered_form l next at (Invoke name actuals)) 0
   invoke_goes sight w next start stands served room store now like =
@@ -243,6 +218,8 @@ module _ (world : World) (setup : Setup) (IsCallable : List ℕ → Type 0)
       let givens = low.given_to w first formals actuals in
       let calling = calling_at w name.text givens 0 line in
       let scalars = value_scalars sight w start formals actuals served.actuals_are in
+      let rooms : HasRoom tables next (joined (code.Rows []) own (world.code calling more)) =
+      record { scalars = room.scalars; slots = room.slots } in
       let many = left_length sight w line next start exprs scalars in
       let handed : List ℤ → List Handed =
       λ values. handed_on p.environment store formals actuals values in
@@ -257,7 +234,7 @@ module _ (world : World) (setup : Setup) (IsCallable : List ℕ → Type 0)
       (code.then_do (does tables n own.code now) (does tables n (world.code calling more).code)))
       (value_meant sight w start formals actuals)
       (valued_agrees tables n sight w next start stands line exprs scalars Like n 0
-      (record { scalars = omega (arith, room.scalars) }) store now like
+      (room_first tables next (code.Rows []) own (world.code calling more) rooms) store now like
       (λ vs. world.call (called (handed vs)) store) (does tables n (world.code calling more).code)
       (λ vs after l are.
       let same : handed vs ≡ map (seen_given sight.spots after) givens =
@@ -271,7 +248,7 @@ module _ (world : World) (setup : Setup) (IsCallable : List ℕ → Type 0)
       givens more.scalars (omega arith)
       (given_is sight w start next stands formals actuals first more.scalars served.actuals_are
       (omega (arith, many))))
-      (record { scalars = omega (arith, room.scalars) }) store after l
+      (room_rest tables next (code.Rows []) own (world.code calling more) rooms) store after l
       (subst (λ (hs : List Handed). IsVisitedCall setup (called hs)) same
       (served.visited vs store (are.as_many
       ∙ sym (meant_length exprs)

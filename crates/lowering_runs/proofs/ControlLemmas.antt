@@ -1,5 +1,5 @@
 -- Sequences, choices and loops of statements.
-use Rattle.std.proofs.Common.{◌≡◌, ℕ, ◌≤◌, Bool, true, false, []}
+use Rattle.std.proofs.Common.{◌≡◌, ℕ, Bool, true, false, []}
 use Rattle.std.proofs.Common.{sym, subst, arith}
 use Rattle.zpl_tree.specs.Syntax.{Expr, Stmts, Form, Tested}
 use Rattle.zpl_names.specs.Sites.{is_shattered}
@@ -9,12 +9,9 @@ use Rattle.zpl_meaning.specs.Outcome as out
 use Rattle.zpl_meaning.specs.Outcome.{Outcome}
 use Rattle.zpl_meaning.specs.Statement as mean
 use Rattle.zpl_meaning.specs.Statement.{Context}
-use Rattle.node_form.specs.declared.tables.Tables.{Tables}
 use Rattle.row_runs.specs.Structured as code
-use Rattle.row_runs.specs.Structured.{Piece, Course}
-use Rattle.flat_form.specs.Row.{Row}
+use Rattle.row_runs.specs.Structured.{Course}
 use Rattle.flat_form.specs.Whole.{Whole}
-use Rattle.zpl_lowering.specs.Check.{Check}
 use Rattle.zpl_lowering.specs.Where.{Where, Next}
 use Rattle.zpl_lowering.specs.Where.{reach_of as where_reach}
 use Rattle.zpl_lowering.specs.Lowered.{Lowered, behind, joined, followed, rows_alone}
@@ -29,38 +26,25 @@ use Rattle.lowering_runs.specs.Goes.{World, context, lowering, Goes}
 use Rattle.lowering_runs.proofs.AgreeLemmas.{goes_agrees, weaker_agrees, jumping_agrees}
 use Rattle.lowering_runs.proofs.AgreeLemmas.{leaving_agrees, then_agrees}
 use Rattle.lowering_runs.proofs.LoopLemmas.{tested_agrees, while_agrees, repeat_agrees}
-use Rattle.lowering_runs.proofs.FitLemmas.{itself, before_behind, later_goes}
+use Rattle.lowering_runs.proofs.FitLemmas.{itself, before_behind, room_first, room_rest, room_here}
+use Rattle.lowering_runs.proofs.FitLemmas.{later_goes}
 use Rattle.lowering_runs.proofs.ScalarLemmas.{heads}
-
--- ---- room for both parts
-
-pub room_first : (tables : Tables) (next : Next) (piece : Piece Row Check) (one other : Lowered)
-    → HasRoom tables next (joined piece one other) → HasRoom tables next one
-room_first tables next piece one other h = record { scalars = omega (arith, h.scalars) }
-
-pub room_rest : (tables : Tables) (next : Next) (piece : Piece Row Check) (one other : Lowered)
-    → HasRoom tables next (joined piece one other) → HasRoom tables (behind next one) other
-room_rest tables next piece one other h = record { scalars = omega (arith, h.scalars) }
-
-pub room_here : (tables : Tables) (next : Next) (own : Lowered) → HasRoom tables next own
-    → next.scalars ≤ tables.scalars
-room_here tables next own h = omega (arith, h.scalars)
 
 module _ (world : World) where
   abbrev Like : Sight → Where → Next → Whole → Store → Whole → Type 0
   Like sight w next start = IsLike world.tables sight.spots w next start
 
-  pub nothing_goes : (IsServed : Place → Type 0)
+  pub nothing_goes : (IsServed : Where → Place → Type 0)
       → Goes world IsServed (λ c store. out.goes_on store) (λ l next. rows_alone []) 0
   nothing_goes IsServed sight w next start stands served room store now like =
       goes_agrees (Like sight w next start) world.turns store now like
 
   -- ---- one after the other
 
-  pub two_go : (One Other : Place → Type 0) (run rest : Context → Store → Outcome)
+  pub two_go : (One Other : Where → Place → Type 0) (run rest : Context → Store → Outcome)
       (made more : Lowering → Next → Lowered)
       → Goes world One run made 0 → Goes world Other rest more 0
-      → Goes world (λ p. One p × Other p) (λ c store. out.then_do (run c store) (rest c))
+      → Goes world (λ w p. One w p × Other w p) (λ c store. out.then_do (run c store) (rest c))
       (λ l next. followed next (made l next) (λ after. more l after)) 0
   two_go One Other run rest made more first second sight w next start stands served room store now
       like =
@@ -76,10 +60,10 @@ module _ (world : World) where
 
   -- ---- statements that are not shattered
 
-  pub unsplit_goes : (IsServed : Place → Type 0) (form : Form)
+  pub unsplit_goes : (IsServed : Where → Place → Type 0) (form : Form)
       (split plain : Context → Store → Outcome) (shattered made : Lowering → Next → Lowered)
       (spare : ℕ) → Goes world IsServed plain made spare
-      → Goes world (λ p. (is_shattered (reach_of p) form ≡ false) × IsServed p)
+      → Goes world (λ w p. (is_shattered (reach_of p) form ≡ false) × IsServed w p)
       (λ c store. out.choose (is_shattered (reach_of c.place) form) (split c) (plain c) store)
       (λ l next. low.choose_code (is_shattered (where_reach l.place) form) (shattered l next)
       (made l next)) spare
@@ -97,11 +81,11 @@ module _ (world : World) where
 
   -- ---- choices
 
-  module _ (at offset : ℕ) (test : Expr) (body : Stmts) (IsServed : Place → Type 0)
+  module _ (at offset : ℕ) (test : Expr) (body : Stmts) (IsServed : Where → Place → Type 0)
       (goes : Goes world IsServed (λ c. mean.exec_all c world.turns body)
       (λ l next. low.lowered_all l next body) 0) where
     pub when_goes : (last : Lowering → Next → Lowered)
-        → Goes world (λ p. IsScalarAt p test × IsServed p)
+        → Goes world (λ w p. IsScalarAt p test × IsServed w p)
         (λ c store. mean.exec_arm c world.turns at (Tested offset test body) out.goes_on store)
         (λ l next. low.lowered_arm l next at (Tested offset test body) true (last l)) 0
     when_goes last sight w next start stands served room store now like =
@@ -126,14 +110,14 @@ module _ (world : World) where
         (λ l next. low.lowered_all l next body) 0 goes sight w next more start
         (before_behind next t.before) stands served.1
         (room_rest world.tables next (code.Then t.before.code inside.code) t.before inside
-        (record { scalars = room.scalars })) store v k)))
+        (record { scalars = room.scalars; slots = room.slots })) store v k)))
         (λ v k. weaker_agrees (Like sight w next start) world.turns world.turns 1 2 _ _ (omega arith)
         (omega arith) (jumping_agrees (Like sight w next start) world.turns 0 _ _
         (goes_agrees (Like sight w next start) world.turns store v k)))
 
-    pub chosen_goes : (Other : Place → Type 0) (rest : Context → Store → Outcome)
+    pub chosen_goes : (Other : Where → Place → Type 0) (rest : Context → Store → Outcome)
         (last : Lowering → Next → Lowered) → Goes world Other rest last 0
-        → Goes world (λ p. IsScalarAt p test × IsServed p × Other p)
+        → Goes world (λ w p. IsScalarAt p test × IsServed w p × Other w p)
         (λ c store. mean.exec_arm c world.turns at (Tested offset test body) (rest c) store)
         (λ l next. low.lowered_arm l next at (Tested offset test body) false (last l)) 0
     chosen_goes Other rest last others sight w next start stands served room store now like =
@@ -147,7 +131,9 @@ module _ (world : World) where
         (low.lowered_arm l next at (Tested offset test body) false (last l)) room in
         let rooms : HasRoom world.tables more
         (joined (code.Then inside.code other.code) inside other) =
-        record { scalars = omega (arith, room.scalars) } in
+        room_rest world.tables next (code.Then t.before.code inside.code) t.before
+        (joined (code.Then inside.code other.code) inside other)
+        (record { scalars = room.scalars; slots = room.slots }) in
         let leave : Whole → Course Whole = λ state. code.jumping (code.goes_on state) in
         tested_agrees (Like sight w next start) (Like sight w next start) world.turns
         (mean.test_of (seen_place sight w start) test at)
@@ -179,10 +165,10 @@ module _ (world : World) where
 
   -- ---- loops
 
-  module _ (at : ℕ) (test : Expr) (body : Stmts) (IsServed : Place → Type 0)
+  module _ (at : ℕ) (test : Expr) (body : Stmts) (IsServed : Where → Place → Type 0)
       (goes : Goes world IsServed (λ c. mean.exec_all c world.turns body)
       (λ l next. low.lowered_all l next body) 0) where
-    pub while_goes : Goes world (λ p. IsScalarAt p test × IsServed p)
+    pub while_goes : Goes world (λ w p. IsScalarAt p test × IsServed w p)
         (λ c store. out.while_turns world.turns (mean.test_of c.place test at)
         (mean.exec_all c world.turns body) store)
         (λ l next. low.while_code next (low.test_of l.place next test at)
@@ -208,7 +194,7 @@ module _ (world : World) where
         room) s v k)
         world.turns (omega arith) store now like
 
-    pub repeat_goes : Goes world (λ p. IsScalarAt p test × IsServed p)
+    pub repeat_goes : Goes world (λ w p. IsScalarAt p test × IsServed w p)
         (λ c store. out.repeat_turns world.turns (mean.test_of c.place test at)
         (mean.exec_all c world.turns body) store)
         (λ l next. low.repeat_code next (low.lowered_all l next body)

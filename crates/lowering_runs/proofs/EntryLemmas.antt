@@ -1,5 +1,5 @@
 -- The start of a run: global variables, declared regions, and the entry procedure.
-use Rattle.std.proofs.Common.{◌≡◌, ℕ, zero, suc, ◌+◌, ◌≤◌, true, false, ℤ, pos, List, [], ◌∷◌}
+use Rattle.std.proofs.Common.{◌≡◌, ℕ, zero, suc, ◌+◌, ◌≤◌, ◌<◌, true, false, ℤ, pos, List, [], ◌∷◌}
 use Rattle.std.proofs.Common.{◌++◌, map, length, Option, None, refl, sym, ap, ◌∙◌, subst, arith}
 use Rattle.std.proofs.Common.{length-append}
 use Rattle.std.specs.Prelude.{replicate, slice_get, slice_set, slice_index_or, option_and_then, is_none}
@@ -24,10 +24,10 @@ use Rattle.flat_form.proofs.WholeLemmas.{begin_whole}
 use Rattle.zpl_lowering.specs.Program as low
 use Rattle.lowering_runs.specs.Seen.{scalar_in, Spot, At, seen_spot, seen_names, seen_thing, numbered, place_of}
 use Rattle.lowering_runs.specs.Run.{straight, step, decide}
-use Rattle.lowering_runs.specs.Stands.{Rises, AreKnown, IsSound}
+use Rattle.lowering_runs.specs.Stands.{Rises, AreKnown, AreDeclared, IsSound}
 use Rattle.lowering_runs.specs.Frames.{IsScalarShape, AreScalarLocals}
 use Rattle.lowering_runs.specs.ScalarText.{AreScalarDecls}
-use Rattle.lowering_runs.proofs.NumberLemmas.{length_set}
+use Rattle.lowering_runs.proofs.NumberLemmas.{length_set, get_same, get_other}
 use Rattle.lowering_runs.proofs.FrameLemmas.{known_more, known_both}
 use Rattle.lowering_runs.proofs.RowLemmas.{settled_act}
 
@@ -187,10 +187,10 @@ start_sound tables = record {
 -- ---- declared regions
 
 module _ (tables : Tables) (n : ℕ) where
-  abbrev fixed : Whole → ℕ → Region → Whole
+  abbrev pub fixed : Whole → ℕ → Region → Whole
   fixed whole slot region = record whole { slots = slice_set whole.slots slot region }
 
-  fix_step : (whole : Whole) → IsSound tables whole → (slot : ℕ) (region : Region)
+  pub fix_step : (whole : Whole) → IsSound tables whole → (slot : ℕ) (region : Region)
       → step tables n (row.Plain (instr.Fix slot region)) whole ≡ Goes [] (fixed whole slot region)
   fix_step whole sound slot region =
       ap straight (settled_act tables n whole sound.settled (row.Plain (instr.Fix slot region)))
@@ -215,15 +215,27 @@ module _ (tables : Tables) (n : ℕ) where
         ≡ code.goes_on after
     pub sound : IsSound tables after
     pub scalars : after.scalars ≡ whole.scalars
+    pub many : length after.slots ≡ length whole.slots
+    pub below : (k : ℕ) → k < slot → slice_get after.slots k ≡ slice_get whole.slots k
+    pub declared : AreDeclared slot regions after.slots
 
   pub regions_fixed : (slot : ℕ) (regions : List (Computed Region)) (whole : Whole)
-      → IsSound tables whole → AreFixed slot regions whole
-  regions_fixed slot [] whole sound =
-      record { after = whole; course = refl; sound = sound; scalars = refl }
-  regions_fixed slot (one ∷ rest) whole sound =
+      → IsSound tables whole → slot + length regions ≤ length whole.slots
+      → AreFixed slot regions whole
+  regions_fixed slot [] whole sound le = record {
+    after = whole;
+    course = refl;
+    sound = sound;
+    scalars = refl;
+    many = refl;
+    below = λ k l. refl;
+    declared = tt;
+  }
+  regions_fixed slot (one ∷ rest) whole sound le =
       let region = value_or no_region one.outcome in
+      let same = length_set whole.slots slot region in
       let r = regions_fixed (suc slot) rest (fixed whole slot region)
-      (fixed_sound whole sound slot region) in
+      (fixed_sound whole sound slot region) (omega (arith, le, same)) in
       record {
         after = r.after;
         course =
@@ -233,4 +245,11 @@ module _ (tables : Tables) (n : ℕ) where
             ∙ r.course;
         sound = r.sound;
         scalars = r.scalars;
+        many = r.many ∙ same;
+        below = λ k l. r.below k (omega (arith, l))
+            ∙ get_other whole.slots slot k region (λ e. absurd (omega (arith, l, e)));
+        declared = (
+          r.below slot (omega arith) ∙ get_same whole.slots slot region (omega (arith, le)),
+          r.declared,
+        );
       }

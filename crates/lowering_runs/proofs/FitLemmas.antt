@@ -1,10 +1,11 @@
 -- What holds where a statement stands holds behind what comes before it.
-use Rattle.std.proofs.Common.{◌≡◌, ℕ, zero, suc, ◌≤◌, ◌<◌, List, [], ◌∷◌, length}
+use Rattle.std.proofs.Common.{◌≡◌, ℕ, zero, suc, ◌+◌, ◌≤◌, ◌<◌, List, [], ◌∷◌, ◌++◌, length}
 use Rattle.std.specs.Prelude.{slice_get, slice_index_or}
 use Rattle.std.proofs.Common.{Option, Some, None, refl, sym, ap, ◌∙◌, subst, arith}
 use Rattle.std.specs.Option.{option_map}
 use Rattle.zpl_region.specs.declared.regions.Region.{Region}
-use Rattle.zpl_binding.specs.Regions.{no_region}
+use Rattle.zpl_binding.specs.Outcome.{Computed, value_or}
+use Rattle.zpl_binding.specs.Regions.{Known, no_region}
 use Rattle.zpl_meaning.specs.Store.{Store}
 use Rattle.zpl_meaning.specs.Context.{Over, Currents, Edge, Place}
 use Rattle.zpl_meaning.specs.Outcome.{Outcome}
@@ -12,12 +13,15 @@ use Rattle.zpl_meaning.specs.Statement.{Context}
 use Rattle.node_form.specs.declared.tables.Tables.{Tables}
 use Rattle.flat_form.specs.Whole.{Whole}
 use Rattle.zpl_lowering.specs.Where.{Stored, Slotted, SlotCurrents, SlotEdge, Where, Next}
-use Rattle.zpl_lowering.specs.Lowered.{Lowered, behind}
+use Rattle.row_runs.specs.Structured.{Piece}
+use Rattle.flat_form.specs.Row.{Row}
+use Rattle.zpl_lowering.specs.Check.{Check}
+use Rattle.zpl_lowering.specs.Lowered.{Lowered, behind, joined}
 use Rattle.zpl_lowering.specs.Statement.{Lowering}
-use Rattle.lowering_runs.specs.Seen.{slot_in, Spot, Sight, numbered, seen_over, seen_currents, seen_edge, seen_place}
+use Rattle.lowering_runs.specs.Seen.{slot_in, Spot, Sight, numbered, seen_over, seen_currents, seen_edge, seen_place, seen_store}
 use Rattle.lowering_runs.specs.Run.{does}
 use Rattle.lowering_runs.specs.Agrees.{Agrees}
-use Rattle.lowering_runs.specs.Stands.{IsBefore, IsTaken, IsTakenEdge, AreTaken, IsCurrentIf, IsHeld, Stands, HasRoom, Keeps, IsLike}
+use Rattle.lowering_runs.specs.Stands.{IsBefore, IsTaken, IsTakenEdge, AreTaken, SlotsAt, IsCurrentIf, AreDeclared, IsHeld, Stands, HasRoom, Keeps, IsLike}
 use Rattle.lowering_runs.specs.Goes.{World, context, lowering, Goes}
 use Rattle.lowering_runs.proofs.NumberLemmas.{rises_on}
 use Rattle.lowering_runs.proofs.AgreeLemmas.{alike_agrees}
@@ -110,23 +114,35 @@ module _ (before after : Whole) (slots : ℕ) (many : length after.slots ≡ len
     flood = h.flood;
   }
 
-  all_current_on : (tables : Tables) (arrays : List Stored) (currents : SlotCurrents)
-      → AreTaken currents slots → IsHeld tables arrays currents before.slots
-      → IsHeld tables arrays currents after.slots
-  all_current_on tables arrays currents t h = record {
+  declared_on : (k : ℕ) (regions : List (Computed Region)) → k + length regions ≤ slots
+      → AreDeclared k regions before.slots → AreDeclared k regions after.slots
+  declared_on k [] le h = tt
+  declared_on k (one ∷ rest) le h = (
+    same_get before.slots after.slots k (value_or no_region one.outcome) many
+        (kept k (omega (arith, le))) h.0,
+    declared_on (suc k) rest (omega (arith, le)) h.1,
+  )
+
+  all_current_on : (tables : Tables) (known : Known) (arrays : List Stored)
+      (currents : SlotCurrents) → AreTaken currents slots → length known.regions ≤ slots
+      → IsHeld tables known arrays currents before.slots
+      → IsHeld tables known arrays currents after.slots
+  all_current_on tables known arrays currents t le h = record {
     stored = h.stored;
     apart = h.apart;
     one = current_on 1 currents.one t.one h.one;
     two = current_on 2 currents.two t.two h.two;
     three = current_on 3 currents.three t.three h.three;
+    declared = declared_on 0 known.regions (omega (arith, le)) h.declared;
   }
 
-pub held_on : (tables : Tables) (arrays : List Stored) (currents : SlotCurrents) (slots : ℕ)
-    (before after : Whole) → length after.slots ≡ length before.slots
+pub held_on : (tables : Tables) (known : Known) (arrays : List Stored) (currents : SlotCurrents)
+    (slots : ℕ) (before after : Whole) → length after.slots ≡ length before.slots
     → ((k : ℕ) → k < slots → slot_in after k ≡ slot_in before k) → AreTaken currents slots
-    → IsHeld tables arrays currents before.slots → IsHeld tables arrays currents after.slots
-held_on tables arrays currents slots before after many kept =
-    all_current_on before after slots many kept tables arrays currents
+    → length known.regions ≤ slots → IsHeld tables known arrays currents before.slots
+    → IsHeld tables known arrays currents after.slots
+held_on tables known arrays currents slots before after many kept =
+    all_current_on before after slots many kept tables known arrays currents
 
 -- ---- places
 
@@ -140,6 +156,7 @@ stands_on spots w next more b h = record {
   unmoved = h.unmoved;
   taken = all_taken_on w.currents next.slots more.slots b.slots h.taken;
   edge = edge_on w.edge next.slots more.slots b.slots h.edge;
+  declared = omega (arith, h.declared, b.slots);
 }
 
 -- ---- what is kept
@@ -175,13 +192,44 @@ module _ (tables : Tables) (spots : List Spot) (w : Where) where
     held = k.held;
   }
 
+-- ---- room for both parts
+
+slots_first : (slots : List ℕ) (k : ℕ) (ranks more : List ℕ) → SlotsAt slots k (ranks ++ more)
+    → SlotsAt slots k ranks
+slots_first slots k [] more h = tt
+slots_first slots k (rank ∷ ranks) more h = (h.0, slots_first slots (suc k) ranks more h.1)
+
+slots_rest : (slots : List ℕ) (k : ℕ) (ranks more : List ℕ) → SlotsAt slots k (ranks ++ more)
+    → SlotsAt slots (k + length ranks) more
+slots_rest slots k [] more h = subst (λ (i : ℕ). SlotsAt slots i more) (omega arith) h
+slots_rest slots k (rank ∷ ranks) more h =
+    subst (λ (i : ℕ). SlotsAt slots i more) (omega arith) (slots_rest slots (suc k) ranks more h.1)
+
+pub room_first : (tables : Tables) (next : Next) (piece : Piece Row Check) (one other : Lowered)
+    → HasRoom tables next (joined piece one other) → HasRoom tables next one
+room_first tables next piece one other h = record {
+  scalars = omega (arith, h.scalars);
+  slots = slots_first tables.slots next.slots one.slots other.slots h.slots;
+}
+
+pub room_rest : (tables : Tables) (next : Next) (piece : Piece Row Check) (one other : Lowered)
+    → HasRoom tables next (joined piece one other) → HasRoom tables (behind next one) other
+room_rest tables next piece one other h = record {
+  scalars = omega (arith, h.scalars);
+  slots = slots_rest tables.slots next.slots one.slots other.slots h.slots;
+}
+
+pub room_here : (tables : Tables) (next : Next) (own : Lowered) → HasRoom tables next own
+    → next.scalars ≤ tables.scalars
+room_here tables next own h = omega (arith, h.scalars)
+
 -- ---- a part of a statement, behind others
 
 module _ (world : World) where
-  pub inner_goes : (IsServed : Place → Type 0) (run : Context → Store → Outcome)
+  pub inner_goes : (IsServed : Where → Place → Type 0) (run : Context → Store → Outcome)
       (made : Lowering → Next → Lowered) (spare : ℕ) → Goes world IsServed run made spare
       → (sight : Sight) (w : Where) (next more : Next) (start : Whole) → IsBefore next more
-      → Stands sight.spots w next → IsServed (seen_place sight w start)
+      → Stands sight.spots w next → IsServed w (seen_place sight w start)
       → HasRoom world.tables more (made (lowering world w) more) → (store : Store) (mid : Whole)
       → IsLike world.tables sight.spots w next start store mid
       → Agrees (IsLike world.tables sight.spots w more mid) world.turns spare
@@ -195,13 +243,13 @@ module _ (world : World) where
       subst (λ (p : Place). Agrees (IsLike world.tables sight.spots w more mid) world.turns spare
       (run (record { place = p; call = world.call }) store) made_of) same
       (goes sight w more mid (stands_on sight.spots w next more b stands)
-      (subst (λ (p : Place). IsServed p) (sym same) served) room store mid
+      (subst (λ (p : Place). IsServed w p) (sym same) served) room store mid
       (like_anew world.tables sight.spots w next more start store mid like))
 
-  pub later_goes : (IsServed : Place → Type 0) (run : Context → Store → Outcome)
+  pub later_goes : (IsServed : Where → Place → Type 0) (run : Context → Store → Outcome)
       (made : Lowering → Next → Lowered) (spare : ℕ) → Goes world IsServed run made spare
       → (sight : Sight) (w : Where) (next more : Next) (start : Whole) → IsBefore next more
-      → Stands sight.spots w next → IsServed (seen_place sight w start)
+      → Stands sight.spots w next → IsServed w (seen_place sight w start)
       → HasRoom world.tables more (made (lowering world w) more) → (store : Store) (mid : Whole)
       → IsLike world.tables sight.spots w next start store mid
       → Agrees (IsLike world.tables sight.spots w next start) world.turns spare
@@ -214,3 +262,35 @@ module _ (world : World) where
       (λ s v l. like_then world.tables sight.spots w next more start store mid s v b like l)
       (inner_goes IsServed run made spare goes sight w next more start b stands served room store
       mid like)
+
+-- ---- from a state on
+
+module _ (world : World) where
+  -- it is enough to begin in the state at the start
+  pub anew_goes : (IsServed : Where → Place → Type 0) (run : Context → Store → Outcome)
+      (made : Lowering → Next → Lowered) (spare : ℕ)
+      → ((sight : Sight) (w : Where) (next : Next) (now : Whole) → Stands sight.spots w next
+      → IsServed w (seen_place sight w now)
+      → HasRoom world.tables next (made (lowering world w) next)
+      → IsLike world.tables sight.spots w next now (seen_store sight.spots w.numbers.arrays now) now
+      → Agrees (IsLike world.tables sight.spots w next now) world.turns spare
+      (run (context world sight w now) (seen_store sight.spots w.numbers.arrays now))
+      (does world.tables world.turns (made (lowering world w) next).code now))
+      → Goes world IsServed run made spare
+  anew_goes IsServed run made spare h sight w next start stands served room store now like =
+      let Like = IsLike world.tables sight.spots w next in
+      let same : seen_place sight w now ≡ seen_place sight w start =
+      place_kept start now next.slots like.kept.slots sight w stands.taken stands.edge in
+      let course = does world.tables world.turns (made (lowering world w) next).code now in
+      let anew : Like now store now =
+      like_anew world.tables sight.spots w next next start store now like in
+      subst (λ (p : Place). Agrees (Like start) world.turns spare
+      (run (record { place = p; call = world.call }) store) course) same
+      (subst (λ (s : Store).
+      Agrees (Like start) world.turns spare (run (context world sight w now) s) course)
+      (sym like.seen)
+      (alike_agrees (Like now) (Like start) world.turns spare _ _
+      (λ s v l. like_then world.tables sight.spots w next next start store now s v (itself next) like
+      l)
+      (h sight w next now stands (subst (λ (p : Place). IsServed w p) (sym same) served) room
+      (subst (λ (s : Store). Like now s now) like.seen anew))))

@@ -213,9 +213,9 @@ module _ (world : World) (sight : Sight) (w : Where) (next : Next) (start : Whol
 
     module _ (p k : ℕ) (found : slice_get (numbered sight.spots) p ≡ Some k)
         (more : Next) (before : IsBefore next more) (taken : c + 3 ≤ more.scalars)
-        (IsServed : Place → Type 0) (run : Context → Store → Outcome)
+        (IsServed : Where → Place → Type 0) (run : Context → Store → Outcome)
         (made : Lowering → Next → Lowered) (goes : Goes world IsServed run made 0)
-        (served : IsServed (seen_place sight w start))
+        (served : IsServed w (seen_place sight w start))
         (room : HasRoom world.tables more (made (lowering world w) more)) where
       abbrev set_variable : ℤ → Store → Store
       set_variable v store = mean_store.with_scalar store (place_of sight.spots p) v

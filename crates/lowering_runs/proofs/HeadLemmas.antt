@@ -24,17 +24,18 @@ use Rattle.row_runs.specs.Structured as code
 use Rattle.row_runs.specs.Structured.{Course, rows_do}
 use Rattle.flat_form.specs.Whole.{Whole}
 use Rattle.zpl_lowering.specs.Where.{Where, Next, line_of}
-use Rattle.zpl_lowering.specs.Lowered.{Lowered, behind, check_of, phased, rows_alone}
+use Rattle.zpl_lowering.specs.Lowered.{Lowered, behind, followed, check_of, phased, rows_alone}
 use Rattle.zpl_lowering.specs.Slate as low_slate
 use Rattle.zpl_lowering.specs.Statement as low
 use Rattle.zpl_lowering.specs.Statement.{Lowering}
 use Rattle.lowering_runs.specs.Seen.{Sight, numbered, place_of, seen_place, seen_thing}
 use Rattle.lowering_runs.specs.Run.{step, decide, does}
 use Rattle.lowering_runs.specs.Agrees.{Agrees}
-use Rattle.lowering_runs.specs.Scalars.{IsScalarAt}
+use Rattle.lowering_runs.specs.Suits.{IsServedHead}
 use Rattle.lowering_runs.specs.Stands.{IsBefore, Stands, HasRoom, IsLike}
 use Rattle.lowering_runs.specs.Goes.{World, context, lowering, Goes}
 use Rattle.lowering_runs.proofs.NumberLemmas.{get_some}
+use Rattle.lowering_runs.proofs.FitLemmas.{room_first, room_rest}
 use Rattle.lowering_runs.proofs.AgreeLemmas.{goes_agrees, jumping_agrees}
 use Rattle.lowering_runs.proofs.ValueLemmas.{thing_seen, known_thing, scalar_unseen}
 use Rattle.lowering_runs.proofs.BareLemmas.{AreScalarsOf, codes_of, all_passed}
@@ -126,16 +127,15 @@ past_turns count set body (suc m) v store e =
     ap (λ b. out.choose b out.goes_on (λ store. out.counting 1 (out.then_do (body (set v store))
     (out.for_turns m count set body (out.next_value count v)))) store) e
 
-module _ (world : World) (at : ℕ) (head : ForHead) (body : Stmts) (IsServed : Place → Type 0)
+module _ (world : World) (at : ℕ) (head : ForHead) (body : Stmts)
+    (IsServed : Where → Place → Type 0)
     (goes : Goes world IsServed (λ c. mean_statement.exec_all c world.turns body)
     (λ l next. low.lowered_all l next body) 0) where
-  abbrev pub IsServedFor : Place → Type 0
-  IsServedFor p =
-      IsScalarAt p head.first × IsScalarAt p head.last × IsScalarAt p (step_expr head.step)
-      × IsVariable (thing_of p.environment head.name.text) × IsServed p
+  abbrev pub IsServedFor : Where → Place → Type 0
+  IsServedFor w p = IsServedHead head p × IsServed w p
 
   module _ (sight : Sight) (w : Where) (next : Next) (start : Whole)
-      (stands : Stands sight.spots w next) (served : IsServedFor (seen_place sight w start))
+      (stands : Stands sight.spots w next) (served : IsServedFor w (seen_place sight w start))
       (room : HasRoom world.tables next (low.lowered_form (lowering world w) next at (For head body)))
     where
       abbrev Like : Store → Whole → Type 0
@@ -148,7 +148,7 @@ module _ (world : World) (at : ℕ) (head : ForHead) (body : Stmts) (IsServed : 
       exprs = low.head_exprs w head
 
       abbrev scalars : AreScalarsAt (seen_place sight w start) exprs
-      scalars = (served.0, (served.1, (served.2, tt)))
+      scalars = (served.0.0, (served.0.1, (served.0.2, tt)))
 
       abbrev c : ℕ
       c = next.scalars + (phased w line next exprs).lowered.scalars
@@ -187,7 +187,15 @@ module _ (world : World) (at : ℕ) (head : ForHead) (body : Stmts) (IsServed : 
       taken = omega (arith, left_length sight w line next start exprs scalars)
 
       inside_room : HasRoom world.tables inner inside
-      inside_room = record { scalars = omega (arith, room.scalars) }
+      inside_room =
+          let first = low.with_values line c (phased w line next exprs) in
+          let variable = low.scalar_of w.numbers (thing_of w.environment head.name.text) in
+          let set_ = rows_alone (low.set_row line (Variable c) variable) in
+          let rest = followed after set_ (λ more. low.lowered_all (lowering world w) more body) in
+          let rows = room_rest world.tables next (code.Then first.code rest.code) first rest
+          (record { scalars = room.scalars; slots = room.slots }) in
+          room_rest world.tables after (code.Then set_.code inside.code) set_ inside
+          (record { scalars = rows.scalars; slots = rows.slots })
 
       abbrev turn : ℕ → Whole → Course Whole
       turn k now =
@@ -229,7 +237,7 @@ module _ (world : World) (at : ℕ) (head : ForHead) (body : Stmts) (IsServed : 
           (turns_agree world sight w next start stands c free fits head.down by last line
           (not_below by (pos 1) e) p k found inner before taken IsServed
           (λ c. mean_statement.exec_all c world.turns body) (λ l next. low.lowered_all l next body)
-          goes served.4 inside_room world.turns (omega arith) first store begun h f)
+          goes served.1 inside_room world.turns (omega arith) first store begun h f)
 
       begins : (p k : ℕ) → slice_get (numbered sight.spots) p ≡ Some k → (first by last : ℤ)
           (store : Store) (begun : Whole)
@@ -297,7 +305,11 @@ module _ (world : World) (at : ℕ) (head : ForHead) (body : Stmts) (IsServed : 
           (sym (with_computed_value (scalars_in place store (meant exprs)) (start_of head.down) store
           line (λ begin. mean_statement.for_from world.turns thing begin run store)))
           (valued_agrees world.tables world.turns sight w next start stands line exprs scalars Like
-          world.turns 1 (record { scalars = omega (arith, room.scalars) }) store now like
+          world.turns 1
+          (room_first world.tables next (code.Rows [])
+          (low.with_values line c (phased w line next exprs))
+          (coded (low.scalar_of w.numbers (thing_of w.environment head.name.text)))
+          (record { scalars = room.scalars; slots = room.slots })) store now like
           (λ values. mean_statement.for_from world.turns thing (start_of head.down values) run store)
           (does world.tables world.turns
           (coded (low.scalar_of w.numbers (thing_of w.environment head.name.text))).code)
@@ -308,7 +320,7 @@ module _ (world : World) (at : ℕ) (head : ForHead) (body : Stmts) (IsServed : 
           (coded (low.scalar_of w.numbers (thing_of w.environment head.name.text))).code begun))
           (sym seen)
           (counted values store now begun l are (thing_of w.environment head.name.text) refl
-          (subst (λ (t : Option Thing). IsVariable t) seen served.3))))
+          (subst (λ (t : Option Thing). IsVariable t) seen served.0.3))))
 
   pub for_goes : Goes world IsServedFor
       (λ c store. mean_statement.exec_form c world.turns at (For head body) store)

@@ -16,6 +16,7 @@ pub mod PrintLemmas
 pub mod FrameLemmas
 pub mod BodyLemmas
 pub mod CallLemmas
+pub mod SuitLemmas
 pub mod StatementLemmas
 pub mod RoutineLemmas
 pub mod EntryLemmas

@@ -131,3 +131,17 @@ pub get_some : {A : Type 0} (xs : List A) (k : ℕ) (d : A) → k < length xs
 get_some [] k d lt = absurd (omega (arith, lt))
 get_some (x ∷ xs) zero d lt = refl
 get_some (x ∷ xs) (suc k) d lt = get_some xs k d (omega (arith, lt))
+
+pub get_same : {A : Type 0} (xs : List A) (k : ℕ) (v : A) → k < length xs
+    → slice_get (slice_set xs k v) k ≡ Some v
+get_same [] k v lt = absurd (omega (arith, lt))
+get_same (x ∷ xs) zero v lt = refl
+get_same (x ∷ xs) (suc k) v lt = get_same xs k v (omega (arith, lt))
+
+pub get_other : {A : Type 0} (xs : List A) (k j : ℕ) (v : A) → j ≢ k
+    → slice_get (slice_set xs k v) j ≡ slice_get xs j
+get_other [] k j v ne = refl
+get_other (x ∷ xs) zero zero v ne = absurd (ne refl)
+get_other (x ∷ xs) zero (suc j) v ne = refl
+get_other (x ∷ xs) (suc k) zero v ne = refl
+get_other (x ∷ xs) (suc k) (suc j) v ne = get_other xs k j v (λ e. ne (ap suc e))

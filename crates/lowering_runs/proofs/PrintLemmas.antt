@@ -44,9 +44,9 @@ use Rattle.zpl_lowering.specs.Statement.{Lowering, Prints}
 use Rattle.lowering_runs.specs.Seen.{scalar_in, Sight, seen_place}
 use Rattle.lowering_runs.specs.Run.{step, decide, does}
 use Rattle.lowering_runs.specs.Agrees.{Agrees, Going}
-use Rattle.lowering_runs.specs.Scalars.{IsScalarAt}
 use Rattle.lowering_runs.specs.Stands.{IsSound, IsLike}
 use Rattle.lowering_runs.specs.Goes.{World, Goes}
+use Rattle.lowering_runs.specs.Leaves.{AreScalarItems}
 use Rattle.lowering_runs.proofs.NumberLemmas.{get_some}
 use Rattle.lowering_runs.proofs.BareLemmas.{codes_of, all_passed}
 use Rattle.lowering_runs.proofs.RowLemmas.{print_step, number_step, truth_step}
@@ -54,12 +54,6 @@ use Rattle.lowering_runs.proofs.ListLemmas.{Hold, AreScalarsAt, meant, meant_len
 use Rattle.lowering_runs.proofs.HeadLemmas.{scalars_of}
 
 -- scalars alone are printed
-abbrev pub AreScalarItems : Place → List Item → Type 0
-AreScalarItems place [] = Unit {0}
-AreScalarItems place (Str bytes ∷ items) = AreScalarItems place items
-AreScalarItems place (Value expr ∷ items) =
-    (rank_in place Printed expr ≡ Some 0) × IsScalarAt place expr × AreScalarItems place items
-
 printed_scalars : (sight : Sight) (w : Where) (start : Whole) (items : List Item)
     → AreScalarItems (seen_place sight w start) items
     → AreScalarsAt (seen_place sight w start) (low.printed_exprs w items)
@@ -230,7 +224,7 @@ behind_then bytes course f = by course.close course.state course.bytes course.ju
     by (code.Over stop) state b j = refl
     by code.Wants state b j = refl
 
-rows_append : (tables : Tables) (n : ℕ) (one other : List Row) (now : Whole)
+pub rows_append : (tables : Tables) (n : ℕ) (one other : List Row) (now : Whole)
     → rows_do (step tables n) (decide tables n) (one ++ other) now
     ≡ code.then_do (rows_do (step tables n) (decide tables n) one now)
     (rows_do (step tables n) (decide tables n) other)
@@ -338,7 +332,7 @@ computed_text (mean.Gives vs) t store line = refl
 computed_text (mean.Traps kind) t store line = refl
 
 module _ (world : World) (at : ℕ) (ends : Bool) (items : List Item) where
-  pub write_goes : Goes world (λ p. AreScalarItems p items)
+  pub write_goes : Goes world (λ w p. AreScalarItems p items)
       (λ c store. mean_statement.exec_form c world.turns at (Write ends items) store)
       (λ l next. low.lowered_form l next at (Write ends items)) 0
   write_goes sight w next start stands served room store now like =

@@ -1,14 +1,16 @@
 -- The flat program of a program of scalars shows what the program means.
 use Rattle.std.proofs.Common.{◌≡◌, ℕ, zero, suc, false, ℤ, pos, List, [], ◌∷◌, ◌++◌}
+use Rattle.std.proofs.Common.{append_assoc, length-append}
 use Rattle.std.proofs.Common.{map, length, Option, Some, None, refl, sym, ap, ◌∙◌, subst, arith}
 use Rattle.std.proofs.lemmas.List.Elements.{All-from_recursion}
-use Rattle.std.specs.Prelude.{All, slice_index_or}
+use Rattle.std.specs.Prelude.{All, slice_get, slice_index_or}
 use Rattle.zpl_tree.specs.Syntax.{Stmt, Program}
 use Rattle.zpl_names.specs.Declared.{Routine, scope_of}
 use Rattle.zpl_names.specs.Reached.{longest_chain}
 use Rattle.zpl_binding.specs.Settings.{Setting}
 use Rattle.zpl_binding.specs.Declarations.{known_of}
-use Rattle.zpl_binding.specs.Regions.{Known}
+use Rattle.zpl_binding.specs.Outcome.{value_or}
+use Rattle.zpl_binding.specs.Regions.{Known, no_region}
 use Rattle.zpl_binding.specs.Storages.{Border, borders_of}
 use Rattle.zpl_arrays.specs.Array.{Array}
 use Rattle.zpl_meaning.specs.Store.{Store}
@@ -42,7 +44,7 @@ use Rattle.lowering_runs.specs.Seen.{scalar_in, Spot, seen_store, numbered}
 use Rattle.lowering_runs.specs.Run.{does}
 use Rattle.lowering_runs.specs.Agrees.{Agrees}
 use Rattle.lowering_runs.specs.Shown.{Shows}
-use Rattle.lowering_runs.specs.Stands.{AreKnown, Stands, HasRoom, IsSound, IsLike, IsHeld}
+use Rattle.lowering_runs.specs.Stands.{AreKnown, Stands, SlotsAt, HasRoom, AreDeclared, IsSound, IsLike, IsHeld}
 use Rattle.lowering_runs.specs.ScalarText.{IsScalarCall, IsScalarProgram}
 use Rattle.lowering_runs.proofs.TopLemmas.{shows}
 use Rattle.lowering_runs.proofs.AgreeLemmas.{alike_agrees}
@@ -123,6 +125,33 @@ scalars_again : (grid : List ℕ) (own : Lowered) (rows : List Row)
 scalars_again grid own rows =
     ap (λ (t : Tables). t.scalars) (rows_dressed (empty_tables grid own) bare rows)
 
+slots_again : (grid : List ℕ) (own : Lowered) (rows : List Row)
+    → (with_rows (empty_tables grid own) rows).slots ≡ own.slots
+slots_again grid own rows =
+    ap (λ (t : Tables). t.slots) (rows_dressed (empty_tables grid own) bare rows)
+
+map_length : {A B : Type 0} (f : A → B) (xs : List A) → length (map f xs) ≡ length xs
+map_length f [] = refl
+map_length f (x ∷ xs) = ap suc (map_length f xs)
+
+-- behind others
+slots_behind : (front ranks : List ℕ) → SlotsAt (front ++ ranks) (length front) ranks
+slots_behind front [] = tt
+slots_behind front (rank ∷ ranks) = (
+  there front,
+  subst (λ (k : ℕ). SlotsAt (front ++ rank ∷ ranks) k ranks) (longer front)
+      (subst (λ (xs : List ℕ). SlotsAt xs (length (front ++ rank ∷ [])) ranks)
+      (append_assoc front (rank ∷ []) ranks) (slots_behind (front ++ rank ∷ []) ranks)),
+)
+  where
+    there : (xs : List ℕ) → slice_get (xs ++ rank ∷ ranks) (length xs) ≡ Some rank
+    there [] = refl
+    there (x ∷ xs) = there xs
+
+    longer : (xs : List ℕ) → length (xs ++ rank ∷ []) ≡ suc (length xs)
+    longer [] = refl
+    longer (x ∷ xs) = ap suc (longer xs)
+
 map_append : {A B : Type 0} (f : A → B) (xs ys : List A) → map f (xs ++ ys) ≡ map f xs ++ map f ys
 map_append f [] ys = refl
 map_append f (x ∷ xs) ys = ap (λ zs. f x ∷ zs) (map_append f xs ys)
@@ -157,6 +186,17 @@ module _ (program : Program) (settings : List Setting) (s : IsScalarProgram prog
   abbrev entry_own : Lowered
   entry_own = low.entry_code setup longest_chain calling next
 
+  -- ---- declared regions have the first slots
+
+  abbrev declared_ranks : List ℕ
+  declared_ranks = map (λ one. (value_or no_region one.outcome).rank) known.regions
+
+  many_declared : length declared_ranks ≡ length known.regions
+  many_declared = map_length (λ one. (value_or no_region one.outcome).rank) known.regions
+
+  first_slots : length declared_ranks ≡ next.slots
+  first_slots = omega arith
+
   -- ---- inline
 
   rows_are_inline : Every IsInline (rows_of own)
@@ -175,6 +215,9 @@ module _ (program : Program) (settings : List Setting) (s : IsScalarProgram prog
 
   scalars_are : tables.scalars ≡ own.scalars
   scalars_are = scalars_again (1 ∷ 0 ∷ 0 ∷ []) own (rows_of own)
+
+  slots_are : tables.slots ≡ own.slots
+  slots_are = slots_again (1 ∷ 0 ∷ 0 ∷ []) own (rows_of own)
 
   -- ---- the entry procedure
 
@@ -215,12 +258,13 @@ module _ (program : Program) (settings : List Setting) (s : IsScalarProgram prog
         unmoved = spots_names 0 frame.store.scalars frame.names;
         taken = record { one = tt; two = tt; three = tt };
         edge = tt;
+        declared = omega (arith, many_declared);
       }
 
   like : (routine : Routine) (now : Whole) → IsSound tables now
-      → ((k : ℕ) → scalar_in now k ≡ pos 0)
+      → ((k : ℕ) → scalar_in now k ≡ pos 0) → AreDeclared 0 known.regions now.slots
       → IsLike tables spots (outside routine) next now frame.store now
-  like routine now sound zero_ = record {
+  like routine now sound zero_ are = record {
     seen =
         ap (λ (xs : List ℤ). record frame.store { scalars = xs })
         (spots_zero 0 frame.store.scalars now zero_ global.zeros)
@@ -228,8 +272,16 @@ module _ (program : Program) (settings : List Setting) (s : IsScalarProgram prog
         ∙ ap (λ (xs : List Stored). seen_store spots xs now) (sym (no_arrays 0));
     sound = sound;
     kept = keeps_all (numbered spots) next now;
-    held = subst (λ (xs : List Stored). IsHeld tables xs no_slots now.slots) (sym (no_arrays 0))
-        (record { stored = tt; apart = omega arith; one = tt; two = tt; three = tt });
+    held = subst (λ (xs : List Stored). IsHeld tables known xs no_slots now.slots)
+        (sym (no_arrays 0))
+        (record {
+          stored = tt;
+          apart = omega arith;
+          one = tt;
+          two = tt;
+          three = tt;
+          declared = are;
+        });
   }
 
   -- what the run is like at its end
@@ -239,11 +291,12 @@ module _ (program : Program) (settings : List Setting) (s : IsScalarProgram prog
 
   entry_agrees : (n depth : ℕ) → IsScalarCall program depth program.name.text → (now : Whole)
       → IsSound tables now → ((k : ℕ) → scalar_in now k ≡ pos 0)
+      → AreDeclared 0 known.regions now.slots
       → HasRoom tables next (low.entry_code setup depth calling next)
       → Agrees (Ended now) n 0 (call_at setup n depth (entry_call program) frame.store)
       (does tables n (low.entry_code setup depth calling next).code now)
-  entry_agrees n zero h now sound zero_ room = absurd h
-  entry_agrees n (suc depth) h now sound zero_ room =
+  entry_agrees n zero h now sound zero_ are room = absurd h
+  entry_agrees n (suc depth) h now sound zero_ are room =
       let w = outside h.routine in
       subst (λ (r : Option Routine).
       HasRoom tables next
@@ -258,9 +311,9 @@ module _ (program : Program) (settings : List Setting) (s : IsScalarProgram prog
       (λ store whole l. (h.routine, l))
       (routine_agrees tables n setup proper depth (calls_agree tables n setup proper depth) h.routine
       h.scalar false spots w next now program.name.text [] 0 refl (stands h.routine) now
-      sound.filled.slots (λ k lt. refl) (like h.routine now sound zero_).held next
+      sound.filled.slots (λ k lt. refl) (like h.routine now sound zero_ are).held next
       (itself next) (omega arith) (λ k le. zero_ k) room frame.store
-      (like h.routine now sound zero_)
+      (like h.routine now sound zero_ are)
       (Begins h.routine frame.store h.named))) room
 
   -- ---- the whole run
@@ -269,12 +322,21 @@ module _ (program : Program) (settings : List Setting) (s : IsScalarProgram prog
       → Shows (λ a. flat_run tables a n) n (outcome_of program settings n)
   program_shows n =
       let start = start_whole tables in
-      let r = regions_fixed tables n 0 known.regions start (start_sound tables) in
+      let sound = start_sound tables in
+      let apart = length-append declared_ranks entry_own.slots in
+      let long = ap (λ (xs : List ℕ). length xs) slots_are in
+      let r = regions_fixed tables n 0 known.regions start sound
+      (omega (arith, many_declared, long, apart, sound.filled.slots)) in
       let zero_ : (k : ℕ) → scalar_in r.after k ≡ pos 0 =
       λ k. ap (λ (xs : List ℤ). slice_index_or xs k (pos 0)) r.scalars ∙ start_zero tables k in
       let room : HasRoom tables next entry_own =
-      record { scalars = omega (arith, scalars_are) } in
-      let agrees = entry_agrees n longest_chain s.entry r.after r.sound zero_ room in
+      record {
+        scalars = omega (arith, scalars_are);
+        slots = subst (λ (xs : List ℕ). SlotsAt xs next.slots entry_own.slots) (sym slots_are)
+            (subst (λ (k : ℕ). SlotsAt (declared_ranks ++ entry_own.slots) k entry_own.slots)
+            first_slots (slots_behind declared_ranks entry_own.slots));
+      } in
+      let agrees = entry_agrees n longest_chain s.entry r.after r.sound zero_ r.declared room in
       let code_is : does tables n own.code start ≡ does tables n entry_own.code r.after =
       ap (λ (c : Course Whole). code.then_do c (does tables n entry_own.code)) r.course in
       let shown = shows tables n (Ended r.after) 0 own.code start (outcome_of program settings n)

@@ -58,7 +58,7 @@ module _ (tables : Tables) (n : ℕ) (setup : Setup)
         (stands : Stands spots w low_next) (now : Whole)
         (many : length now.slots ≡ length tables.slots)
         (same : (k : ℕ) → k < low_next.slots → slot_in now k ≡ slot_in start k)
-        (held : IsHeld tables w.numbers.arrays w.currents now.slots) where
+        (held : IsHeld tables w.setup.known w.numbers.arrays w.currents now.slots) where
       abbrev Like : Store → Whole → Type 0
       Like = IsLike tables spots w low_next start
 
@@ -141,6 +141,12 @@ module _ (tables : Tables) (n : ℕ) (setup : Setup)
             unmoved = still;
             taken = all_taken_on w.currents low_next.slots next.slots before.slots stands.taken;
             edge = tt;
+            declared = omega (
+              arith,
+              before.slots,
+              subst (λ (s : Setup).
+                  length s.known.regions ≤ low_next.slots) setup_is stands.declared,
+            );
           })
           (record {
             setup_is = refl;
@@ -153,10 +159,12 @@ module _ (tables : Tables) (n : ℕ) (setup : Setup)
             seen = refl;
             sound = sound;
             kept = keeps_all (numbered here) next mid;
-            held = subst (λ (xs : List Stored). IsHeld tables xs w.currents mid.slots)
-                (sym f.arrays_are) (held_on tables arrays w.currents low_next.slots now mid
+            held = subst (λ (s : Setup).
+                IsHeld tables s.known framed.numbers.arrays w.currents mid.slots) setup_is
+                (subst (λ (xs : List Stored). IsHeld tables w.setup.known xs w.currents mid.slots)
+                (sym f.arrays_are) (held_on tables w.setup.known arrays w.currents low_next.slots now mid
                 (sound.filled.slots ∙ sym many) (λ k lt. kept.slots k lt ∙ sym (same k lt))
-                stands.taken held);
+                stands.taken stands.declared held));
           }) in
           subst (λ (p : Place). Agrees Like n 0
           (returned begun (exec (record { place = p; call = call_at setup n depth }) n
@@ -178,8 +186,9 @@ module _ (tables : Tables) (n : ℕ) (setup : Setup)
                   ∙ kept.hidden k lt m;
               slots = λ k lt. l.kept.slots k (omega (arith, lt, before.slots)) ∙ kept.slots k lt;
             };
-            held = subst (λ (xs : List Stored). IsHeld tables xs w.currents v.slots) f.arrays_are
-                l.held;
+            held = subst (λ (s : Setup). IsHeld tables s.known arrays w.currents v.slots)
+                (sym setup_is) (subst (λ (xs : List Stored).
+                IsHeld tables setup.known xs w.currents v.slots) f.arrays_are l.held);
           }) agrees)
 
       pub routine_agrees : (next : Next) → IsBefore low_next next
@@ -230,7 +239,8 @@ module _ (tables : Tables) (n : ℕ) (setup : Setup)
           (does tables n (framed_code inner).code now)) (sym g.frame_is)
           (all g.frame g.sight inner now g.framing
           (record { scalars = before.scalars; slots = before.slots }) like.sound like.kept fresh
-          (subst (λ (x : Lowered). HasRoom tables inner x) code_is (record { scalars = room.scalars })))
+          (subst (λ (x : Lowered). HasRoom tables inner x) code_is
+          (record { scalars = room.scalars; slots = room.slots })))
           reached))
           reached
 

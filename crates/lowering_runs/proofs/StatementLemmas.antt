@@ -1,27 +1,26 @@
 -- The code of a statement of scalars goes as the statement does.
-use Rattle.std.proofs.Common.{◌≡◌, ℕ, suc, ◌+◌, ◌<◌, Bool, true, false, List, []}
-use Rattle.std.proofs.Common.{append_assoc}
+use Rattle.std.proofs.Common.{◌≡◌, ℕ, suc, ◌<◌, Bool, true, false, List, []}
+use Rattle.std.proofs.Common.{append_assoc, inr}
 use Rattle.std.proofs.Common.{◌∷◌, ◌++◌, length, Option, Some, None, refl, sym, ap, ◌∙◌, subst, arith}
 use Rattle.std.specs.Option.{option_map}
 use Rattle.std.specs.Prelude.{Contains, IsSome, slice_get, slice_index_or}
 use Rattle.std.proofs.lemmas.List.Elements.{Contains-append_left, Contains-append_right}
 use Rattle.zpl_nums.specs.declared.operators.Op.{Op}
-use Rattle.zpl_tree.specs.Syntax.{Name, Expr, Number, Truth, Coord, Named, Shifted, Around, Remap, Call, Paren, Neg, Not, Abs, Pair, Reduce, Scan, Flood, Exprs, NoExpr, ThenExpr, Item, Str, Value, Stmt, Prefixed, Stmts, NoStmt, ThenStmt, Form, Assign, Invoke, Block, If, While, Repeat, For, Border, Write, Return, Tested, Arms, NoArm, ThenArm, Otherwise, NoElse, Else}
+use Rattle.zpl_tree.specs.Syntax.{Name, Prefix, Expr, Number, Truth, Coord, Named, Shifted, Around, Remap, Call, Paren, Neg, Not, Abs, Pair, Reduce, Scan, Flood, Exprs, NoExpr, ThenExpr, Item, Str, Value, Stmt, Prefixed, Stmts, NoStmt, ThenStmt, Form, Assign, Invoke, Block, If, While, Repeat, For, Border, Write, Return, Tested, Arms, NoArm, ThenArm, Otherwise, NoElse, Else}
 use Rattle.zpl_names.specs.Kinds.{Rank, Formal, ScalarFormal, ArrayFormal}
 use Rattle.zpl_names.specs.Scope.{kind_of}
-use Rattle.zpl_names.specs.Sites.{Role, Limit, Actual, Assigned, Printed, Test as TestRole, is_shattered, handed}
+use Rattle.zpl_names.specs.Sites.{Role, Limit, Actual, Assigned, Printed, Test as TestRole, is_shattered}
 use Rattle.zpl_meaning.specs.Store.{Store, Thing, Scalar, ArrayAt, Fixed, thing_of}
 use Rattle.zpl_meaning.specs.Context.{Setup, Place, Currents, reach_of, rank_in}
 use Rattle.zpl_meaning.specs.Scalars.{IsScalarName, IsScalar}
-use Rattle.zpl_meaning.specs.Points.{assigned_expr, shattered}
+use Rattle.zpl_meaning.specs.Points.{assigned_expr}
 use Rattle.zpl_meaning.specs.Calls.{formals_in, actual_thing}
 use Rattle.zpl_meaning.specs.Proper.{IsRead, IsProper, IsProperScalar, IsProperWhole, IsTarget, IsPlainAssign, IsProperAssign, AreProperActuals, IsVariable, IsArray, AreProperTests, IsProperTested, AreProperItems, IsProperForm, IsProperStmt}
 use Rattle.zpl_meaning.specs.Visited.{IsVisited, Holds, Calls, Itself, AsStatement, list_of, parts_of, arms_parts, else_parts}
-use Rattle.zpl_meaning.specs.Outcome as out
 use Rattle.zpl_meaning.specs.Outcome.{Outcome}
 use Rattle.zpl_meaning.specs.Statement as mean
 use Rattle.zpl_meaning.specs.Statement.{Context, step_expr}
-use Rattle.zpl_lowering.specs.Where.{Next, line_of}
+use Rattle.zpl_lowering.specs.Where.{Where, Next, line_of}
 use Rattle.zpl_lowering.specs.Lowered.{Lowered}
 use Rattle.zpl_lowering.specs.Statement as low
 use Rattle.zpl_lowering.specs.Statement.{Lowering}
@@ -34,14 +33,15 @@ use Rattle.lowering_runs.specs.Goes.{World, context, lowering, Goes}
 use Rattle.lowering_runs.specs.Called.{CallsAgree}
 use Rattle.lowering_runs.specs.ScalarText.{AreScalarActuals, AreScalarTexts, AreScalarStmts, AreScalarArms, IsScalarElse}
 use Rattle.lowering_runs.specs.Served.{IsServed, AreServed, IsServedForm}
+use Rattle.lowering_runs.specs.Leaves.{IsScalarAssigned, AreScalarItems, AreServedActuals, IsServedInvoke, ScalarLeaf}
+use Rattle.lowering_runs.specs.Suits.{SuitsStmt, SuitAll, SuitsForm, SuitArms, SuitsElse}
 use Rattle.lowering_runs.proofs.NumberLemmas.{get_some, number_below}
-use Rattle.lowering_runs.proofs.AgreeLemmas.{weaker_agrees, counting_agrees}
 use Rattle.lowering_runs.proofs.ValueLemmas.{thing_seen, known_thing}
 use Rattle.lowering_runs.proofs.ScalarLemmas.{assigned_agrees}
-use Rattle.lowering_runs.proofs.ControlLemmas.{nothing_goes, two_go, unsplit_goes, when_goes, chosen_goes, while_goes, repeat_goes, room_here}
-use Rattle.lowering_runs.proofs.HeadLemmas.{IsServedFor, for_goes}
-use Rattle.lowering_runs.proofs.PrintLemmas.{AreScalarItems, write_goes}
-use Rattle.lowering_runs.proofs.CallLemmas.{AreServedActuals, IsServedInvoke, invoke_goes}
+use Rattle.lowering_runs.proofs.FitLemmas.{room_here}
+use Rattle.lowering_runs.proofs.SuitLemmas.{goes_by, goes_more, FormGoes, suited_goes}
+use Rattle.lowering_runs.proofs.PrintLemmas.{write_goes}
+use Rattle.lowering_runs.proofs.CallLemmas.{invoke_goes}
 
 -- ---- proper expressions of rank 0 are scalars
 
@@ -184,28 +184,8 @@ proper_plain place name None (Flood at source operand) h p = p
 proper_plain place name None (Call at it actuals) h p = absurd h
 
 module _ (world : World) where
-  goes_by : (One Other : Place → Type 0) (run : Context → Store → Outcome)
-      (made : Lowering → Next → Lowered) (spare : ℕ) → ((p : Place) → One p → Other p)
-      → Goes world Other run made spare → Goes world One run made spare
-  goes_by One Other run made spare f goes sight w next start stands served room store now like =
-      goes sight w next start stands (f (seen_place sight w start) served) room store now like
-
-  goes_more : (One : Place → Type 0) (run : Context → Store → Outcome)
-      (made : Lowering → Next → Lowered) → Goes world One run made 0 → Goes world One run made 1
-  goes_more One run made goes sight w next start stands served room store now like =
-      weaker_agrees (IsLike world.tables sight.spots w next start) world.turns world.turns 0 1 _ _
-      (omega arith) (omega arith) (goes sight w next start stands served room store now like)
-
-  -- a scalar is assigned
-  pub record IsAssigned (name : Name) (op : Option Op) (value : Expr) (p : Place) : Type 0 where
-    pub scalar : IsScalarExpr (assigned_expr name op value)
-    pub handed_is : handed (reach_of p) (Assigned name op) ≡ Some 0
-    pub target : IsTarget p.currents (handed (reach_of p) (Assigned name op))
-        (thing_of p.environment name.text)
-    pub value_is : IsScalarAt p (assigned_expr name op value)
-
-  assign_goes : (at : ℕ) (name : Name) (op : Option Op) (value : Expr)
-      → Goes world (IsAssigned name op value)
+  pub assign_goes : (at : ℕ) (name : Name) (op : Option Op) (value : Expr)
+      → Goes world (IsScalarAssigned name op value)
       (λ c store. mean.exec_form c world.turns at (Assign name op value) store)
       (λ l next. low.lowered_form l next at (Assign name op value)) 0
   assign_goes at name op value sight w next start stands served room store now like =
@@ -268,6 +248,42 @@ module _ (world : World) where
       by (Some (Fixed value)) e t = absurd t
       by None e t = absurd t
 
+-- ---- forms that have no statements in them
+
+module _ (world : World) (setup : Setup) (IsCallable : List ℕ → Type 0)
+    (calls : CallsAgree world setup IsCallable) where
+  abbrev Leaf : ℕ → Form → Where → Place → Type 0
+  Leaf = ScalarLeaf setup IsCallable
+
+  no_leaf : (at : ℕ) (form : Form) → ((w : Where) (p : Place) → Leaf at form w p → ⊥)
+      → FormGoes world Leaf at form
+  no_leaf at form never sight w next start stands served room store now like =
+      absurd (never w (seen_place sight w start) served)
+
+  pub scalar_leaves : (at : ℕ) (form : Form) → FormGoes world Leaf at form
+  scalar_leaves at (Assign name op value) =
+      goes_more world (IsScalarAssigned name op value)
+      (λ c store. mean.exec_form c world.turns at (Assign name op value) store)
+      (λ l next. low.lowered_form l next at (Assign name op value))
+      (assign_goes world at name op value)
+  scalar_leaves at (Invoke name actuals) =
+      goes_more world (IsServedInvoke setup IsCallable name actuals)
+      (λ c store. mean.exec_form c world.turns at (Invoke name actuals) store)
+      (λ l next. low.lowered_form l next at (Invoke name actuals))
+      (invoke_goes world setup IsCallable calls at name actuals)
+  scalar_leaves at (Write ends items) =
+      goes_more world (λ w p. AreScalarItems p items)
+      (λ c store. mean.exec_form c world.turns at (Write ends items) store)
+      (λ l next. low.lowered_form l next at (Write ends items))
+      (write_goes world at ends items)
+  scalar_leaves at (Block body) = no_leaf at (Block body) (λ w p h. h)
+  scalar_leaves at (If arms otherwise) = no_leaf at (If arms otherwise) (λ w p h. h)
+  scalar_leaves at (While test body) = no_leaf at (While test body) (λ w p h. h)
+  scalar_leaves at (Repeat body until test) = no_leaf at (Repeat body until test) (λ w p h. h)
+  scalar_leaves at (For head body) = no_leaf at (For head body) (λ w p h. h)
+  scalar_leaves at (Border kind names) = no_leaf at (Border kind names) (λ w p h. h)
+  scalar_leaves at (Return value) = no_leaf at (Return value) (λ w p h. h)
+
 -- ---- the statements in a statement
 
 contains_first : (first : Stmt) (rest : List Stmt) → Contains (first ∷ rest) first
@@ -294,22 +310,6 @@ module _ (world : World) (setup : Setup) (IsCallable : List ℕ → Type 0)
         → IsProperForm place form
     proper_form at form place h = proper place (Prefixed at [] form) h.visited
 
-    stmt_goes : (at : ℕ) (form : Form)
-        → Goes world (IsServedForm setup IsCallable at form)
-        (λ c store. mean.exec_form c world.turns at form store)
-        (λ l next. low.lowered_form l next at form) 1
-        → Goes world (IsServed setup IsCallable (Prefixed at [] form))
-        (λ c store. mean.exec c world.turns (Prefixed at [] form) store)
-        (λ l next. low.lowered l next (Prefixed at [] form)) 0
-    stmt_goes at form goes sight w next start stands served room store now like =
-        counting_agrees (IsLike world.tables sight.spots w next start) world.turns 1 0
-        (1 + mean.nodes_under [] form) _ _ (omega arith)
-        (goes sight w next start stands (record {
-          setup_is = served.setup_is;
-          visited = served.visited;
-          scalar = served.scalar.1;
-        }) room store now like)
-
     -- what stands behind the arms, and the arms
     pub record IsElse (otherwise : Otherwise) (place : Place) : Type 0 where
       pub setup_is : place.setup ≡ setup
@@ -324,15 +324,10 @@ module _ (world : World) (setup : Setup) (IsCallable : List ℕ → Type 0)
       pub scalar : AreScalarArms IsCallable (reach_of place) arms
       pub scalar_else : IsScalarElse IsCallable (reach_of place) otherwise
 
-    abbrev ElseGoes : Otherwise → Type 0
-    ElseGoes otherwise =
-        Goes world (IsElse otherwise) (λ c store. mean.exec_otherwise c world.turns otherwise store)
-        (λ l next. low.lowered_otherwise l next otherwise) 0
-
-    assigned_of : (at : ℕ) (name : Name) (op : Option Op) (value : Expr) (place : Place)
+    assigned_of : (at : ℕ) (name : Name) (op : Option Op) (value : Expr) (w : Where) (place : Place)
         → IsServedForm setup IsCallable at (Assign name op value) place
-        → IsAssigned world name op value place
-    assigned_of at name op value place h =
+        → IsScalarAssigned name op value w place
+    assigned_of at name op value w place h =
         let s = h.scalar.2 in
         let p = proper_plain place name op value s (proper_form at (Assign name op value) place h) in
         record {
@@ -342,10 +337,10 @@ module _ (world : World) (setup : Setup) (IsCallable : List ℕ → Type 0)
           value_is = scalar_at place (Assigned name op) (assigned_expr name op value) s h.scalar.1 p.1;
         }
 
-    invoked_of : (at : ℕ) (name : Name) (actuals : Exprs) (place : Place)
+    invoked_of : (at : ℕ) (name : Name) (actuals : Exprs) (w : Where) (place : Place)
         → IsServedForm setup IsCallable at (Invoke name actuals) place
-        → IsServedInvoke world setup IsCallable calls at name actuals place
-    invoked_of at name actuals place h =
+        → IsServedInvoke setup IsCallable name actuals w place
+    invoked_of at name actuals w place h =
         let c = proper_form at (Invoke name actuals) place h in
         record {
           setup_is = h.setup_is;
@@ -411,11 +406,6 @@ module _ (world : World) (setup : Setup) (IsCallable : List ℕ → Type 0)
           },
         )
 
-    else_of : (otherwise : Otherwise) (place : Place) → AreArms NoArm otherwise place
-        → IsElse otherwise place
-    else_of otherwise place h =
-        record { setup_is = h.setup_is; visited = h.visited; scalar = h.scalar_else }
-
     arms_of : (at : ℕ) (arms : Arms) (otherwise : Otherwise) (place : Place)
         → IsServedForm setup IsCallable at (If arms otherwise) place
         → (is_shattered (reach_of place) (If arms otherwise) ≡ false) × AreArms arms otherwise place
@@ -462,210 +452,103 @@ module _ (world : World) (setup : Setup) (IsCallable : List ℕ → Type 0)
           ),
         )
 
-    abbrev StmtGoes : Stmt → Type 0
-    StmtGoes stmt =
-        Goes world (IsServed setup IsCallable stmt) (λ c store. mean.exec c world.turns stmt store)
-        (λ l next. low.lowered l next stmt) 0
+    -- ---- each form suits its place
 
-    abbrev AllGo : Stmts → Type 0
-    AllGo stmts =
-        Goes world (AreServed setup IsCallable stmts)
-        (λ c. mean.exec_all c world.turns stmts) (λ l next. low.lowered_all l next stmts) 0
+    -- no prefix
+    abbrev Bare : Bool → List Prefix → (Where → Place → Type 0) → Where → Place → Type 0
+    Bare borders [] IsServed w p = IsServed w p
+    Bare borders (prefix ∷ rest) IsServed w p = ⊥
 
-    abbrev FormGoes : Form → ℕ → Type 0
-    FormGoes form at =
-        Goes world (IsServedForm setup IsCallable at form)
-        (λ c store. mean.exec_form c world.turns at form store)
-        (λ l next. low.lowered_form l next at form) 1
-
-    abbrev ArmsGo : Arms → ℕ → Otherwise → Type 0
-    ArmsGo arms at otherwise =
-        Goes world (AreArms arms otherwise)
-        (λ c store. mean.exec_arms c world.turns at arms (mean.exec_otherwise c world.turns otherwise)
-        store)
-        (λ l next. low.lowered_arms l next at arms otherwise
-        (λ after. low.lowered_otherwise l after otherwise)) 0
-
-    form_from : (form : Form) (at : ℕ) (Other : Place → Type 0)
-        → ((p : Place) → IsServedForm setup IsCallable at form p → Other p)
-        → Goes world Other (λ c store. mean.exec_form c world.turns at form store)
-        (λ l next. low.lowered_form l next at form) 0 → FormGoes form at
-    form_from form at Other f goes =
-        goes_more world (IsServedForm setup IsCallable at form)
-        (λ c store. mean.exec_form c world.turns at form store)
-        (λ l next. low.lowered_form l next at form)
-        (goes_by world (IsServedForm setup IsCallable at form) Other
-        (λ c store. mean.exec_form c world.turns at form store)
-        (λ l next. low.lowered_form l next at form) 0 f goes)
-
-    form_with : (form : Form) (at : ℕ) (Other : Place → Type 0)
-        → ((p : Place) → IsServedForm setup IsCallable at form p → Other p)
-        → Goes world Other (λ c store. mean.exec_form c world.turns at form store)
-        (λ l next. low.lowered_form l next at form) 1 → FormGoes form at
-    form_with form at Other f goes =
-        goes_by world (IsServedForm setup IsCallable at form) Other
-        (λ c store. mean.exec_form c world.turns at form store)
-        (λ l next. low.lowered_form l next at form) 1 f goes
-
-    all_from : (stmts : Stmts) (Other : Place → Type 0)
-        → ((p : Place) → AreServed setup IsCallable stmts p → Other p)
-        → Goes world Other (λ c. mean.exec_all c world.turns stmts)
-        (λ l next. low.lowered_all l next stmts) 0 → AllGo stmts
-    all_from stmts Other f goes =
-        goes_by world (AreServed setup IsCallable stmts) Other (λ c. mean.exec_all c world.turns stmts)
-        (λ l next. low.lowered_all l next stmts) 0 f goes
-
-    arms_from : (arms : Arms) (at : ℕ) (otherwise : Otherwise) (Other : Place → Type 0)
-        → ((p : Place) → AreArms arms otherwise p → Other p)
-        → Goes world Other
-        (λ c store. mean.exec_arms c world.turns at arms (mean.exec_otherwise c world.turns otherwise)
-        store)
-        (λ l next. low.lowered_arms l next at arms otherwise
-        (λ after. low.lowered_otherwise l after otherwise)) 0 → ArmsGo arms at otherwise
-    arms_from arms at otherwise Other f goes =
-        goes_by world (AreArms arms otherwise) Other
-        (λ c store. mean.exec_arms c world.turns at arms (mean.exec_otherwise c world.turns otherwise)
-        store)
-        (λ l next. low.lowered_arms l next at arms otherwise
-        (λ after. low.lowered_otherwise l after otherwise)) 0 f goes
-
-    else_from : (otherwise : Otherwise) (Other : Place → Type 0)
-        → ((p : Place) → IsElse otherwise p → Other p)
-        → Goes world Other (λ c store. mean.exec_otherwise c world.turns otherwise store)
-        (λ l next. low.lowered_otherwise l next otherwise) 0 → ElseGoes otherwise
-    else_from otherwise Other f goes =
-        goes_by world (IsElse otherwise) Other
-        (λ c store. mean.exec_otherwise c world.turns otherwise store)
-        (λ l next. low.lowered_otherwise l next otherwise) 0 f goes
-
-    no_form : (at : ℕ) (form : Form)
-        → ((place : Place) → IsServedForm setup IsCallable at form place → ⊥) → FormGoes form at
-    no_form at form never sight w next start stands served room store now like =
-        absurd (never (seen_place sight w start) served)
+    bare_goes : (borders : Bool) (prefixes : List Prefix) (IsServed : Where → Place → Type 0)
+        (run : Context → Store → Outcome) (made : Lowering → Next → Lowered)
+        → Goes world IsServed run made 1 → Goes world (Bare borders prefixes IsServed)
+        (λ c store. mean.under c prefixes store (λ inner. run inner store))
+        (λ l next. low.lowered_under borders l next prefixes made) 1
+    bare_goes borders [] IsServed run made goes = goes
+    bare_goes borders (prefix ∷ rest) IsServed run made goes = λ sight w next start stands served room
+        store now like. absurd served
 
     mutual
-      pub stmt_agrees : (stmt : Stmt) → StmtGoes stmt
-      stmt_agrees (Prefixed at [] form) = stmt_goes at form (form_agrees form at)
-      stmt_agrees (Prefixed at (prefix ∷ rest) form) = λ sight w next start stands served room store
-          now like. absurd served.scalar.0
+      stmt_suits : (stmt : Stmt) (w : Where) (p : Place) → IsServed setup IsCallable stmt p
+          → SuitsStmt Bare (ScalarLeaf setup IsCallable) stmt w p
+      stmt_suits (Prefixed at [] form) w p h =
+          form_suits form at w p (record {
+            setup_is = h.setup_is;
+            visited = h.visited;
+            scalar = h.scalar.1;
+          })
+      stmt_suits (Prefixed at (prefix ∷ rest) form) w p h = absurd h.scalar.0
 
-      all_agree : (stmts : Stmts) → AllGo stmts
-      all_agree NoStmt = nothing_goes world (AreServed setup IsCallable NoStmt)
-      all_agree (ThenStmt first rest) =
-          all_from (ThenStmt first rest)
-          (λ p. IsServed setup IsCallable first p × AreServed setup IsCallable rest p)
-          (first_of first rest)
-          (two_go world (IsServed setup IsCallable first) (AreServed setup IsCallable rest)
-          (λ c store. mean.exec c world.turns first store) (λ c. mean.exec_all c world.turns rest)
-          (λ l next. low.lowered l next first) (λ l next. low.lowered_all l next rest)
-          (stmt_agrees first) (all_agree rest))
+      all_suit : (stmts : Stmts) (w : Where) (p : Place) → AreServed setup IsCallable stmts p
+          → SuitAll Bare (ScalarLeaf setup IsCallable) stmts w p
+      all_suit NoStmt w p h = tt
+      all_suit (ThenStmt first rest) w p h =
+          let both = first_of first rest p h in
+          (stmt_suits first w p both.0, all_suit rest w p both.1)
 
-      form_agrees : (form : Form) (at : ℕ) → FormGoes form at
-      form_agrees (Assign name op value) at =
-          form_from (Assign name op value) at (IsAssigned world name op value)
-          (assigned_of at name op value) (assign_goes world at name op value)
-      form_agrees (Invoke name actuals) at =
-          form_from (Invoke name actuals) at
-          (IsServedInvoke world setup IsCallable calls at name actuals) (invoked_of at name actuals)
-          (invoke_goes world setup IsCallable calls at name actuals)
-      form_agrees (Block body) at =
-          form_from (Block body) at (AreServed setup IsCallable body)
-          (λ p h. body_of at (Block body) body p h refl h.scalar) (all_agree body)
-      form_agrees (If arms otherwise) at =
-          form_from (If arms otherwise) at
-          (λ p. (is_shattered (reach_of p) (If arms otherwise) ≡ false) × AreArms arms otherwise p)
-          (arms_of at arms otherwise)
-          (unsplit_goes world (AreArms arms otherwise) (If arms otherwise)
-          (λ c. shattered c.place (mean.line_of c.place at) world.turns (If arms otherwise))
-          (λ c store. mean.exec_arms c world.turns at arms
-          (mean.exec_otherwise c world.turns otherwise) store)
-          (λ l next. low.shattered l.place (line_of l.place at) next (If arms otherwise))
-          (λ l next. low.lowered_arms l next at arms otherwise
-          (λ after. low.lowered_otherwise l after otherwise)) 0
-          (arms_agree arms at otherwise (else_agrees otherwise)))
-      form_agrees (While test body) at =
-          form_from (While test body) at
-          (λ p. (is_shattered (reach_of p) (While test body) ≡ false)
-          × (IsScalarAt p test × AreServed setup IsCallable body p)) (while_of at test body)
-          (unsplit_goes world (λ p. IsScalarAt p test × AreServed setup IsCallable body p)
-          (While test body)
-          (λ c. shattered c.place (mean.line_of c.place at) world.turns (While test body))
-          (λ c store. out.while_turns world.turns (mean.test_of c.place test at)
-          (mean.exec_all c world.turns body) store)
-          (λ l next. low.shattered l.place (line_of l.place at) next (While test body))
-          (λ l next. low.while_code next (low.test_of l.place next test at)
-          (λ after. low.lowered_all l after body)) 0
-          (while_goes world at test body (AreServed setup IsCallable body) (all_agree body)))
-      form_agrees (Repeat body until test) at =
-          form_with (Repeat body until test) at
-          (λ p. (is_shattered (reach_of p) (Repeat body until test) ≡ false)
-          × (IsScalarAt p test × AreServed setup IsCallable body p)) (repeat_of at body until test)
-          (unsplit_goes world (λ p. IsScalarAt p test × AreServed setup IsCallable body p)
-          (Repeat body until test)
-          (λ c. shattered c.place (mean.line_of c.place at) world.turns (Repeat body until test))
-          (λ c store. out.repeat_turns world.turns (mean.test_of c.place test until)
-          (mean.exec_all c world.turns body) store)
-          (λ l next. low.shattered l.place (line_of l.place at) next (Repeat body until test))
-          (λ l next. low.repeat_code next (low.lowered_all l next body)
-          (λ after. low.test_of l.place after test until)) 1
-          (repeat_goes world until test body (AreServed setup IsCallable body) (all_agree body)))
-      form_agrees (For head body) at =
-          form_with (For head body) at
-          (IsServedFor world at head body (AreServed setup IsCallable body) (all_agree body))
-          (λ p h. let f = proper_form at (For head body) p h in (
-            role_scalar p Limit head.first h.scalar.0 f.1,
-            role_scalar p Limit head.last h.scalar.1 f.2,
-            role_scalar p Limit (step_expr head.step) h.scalar.2 f.3,
-            f.0,
-            body_of at (For head body) body p h refl h.scalar.3,
-          ))
-          (for_goes world at head body (AreServed setup IsCallable body) (all_agree body))
-      form_agrees (Border kind names) at = no_form at (Border kind names) (λ p h. h.scalar)
-      form_agrees (Write ends items) at =
-          form_from (Write ends items) at (λ p. AreScalarItems p items)
-          (λ p h. items_scalar p items h.scalar (proper_form at (Write ends items) p h))
-          (write_goes world at ends items)
-      form_agrees (Return value) at = no_form at (Return value) (λ p h. h.scalar)
+      form_suits : (form : Form) (at : ℕ) (w : Where) (p : Place)
+          → IsServedForm setup IsCallable at form p
+          → SuitsForm Bare (ScalarLeaf setup IsCallable) at form w p
+      form_suits (Assign name op value) at w p h = assigned_of at name op value w p h
+      form_suits (Invoke name actuals) at w p h = invoked_of at name actuals w p h
+      form_suits (Block body) at w p h =
+          all_suit body w p (body_of at (Block body) body p h refl h.scalar)
+      form_suits (If arms otherwise) at w p h =
+          let a = arms_of at arms otherwise p h in
+          inr (
+            a.0,
+            (
+              arms_suit arms otherwise w p a.1,
+              else_suits otherwise w p (record {
+                setup_is = h.setup_is;
+                visited = λ stmt c. a.1.visited stmt
+                    (Contains-append_right (arms_parts arms) (else_parts otherwise) stmt c);
+                scalar = h.scalar.2;
+              }),
+            ),
+          )
+      form_suits (While test body) at w p h =
+          let a = while_of at test body p h in
+          inr (a.0, (a.1.0, all_suit body w p a.1.1))
+      form_suits (Repeat body until test) at w p h =
+          let a = repeat_of at body until test p h in
+          inr (a.0, (a.1.0, all_suit body w p a.1.1))
+      form_suits (For head body) at w p h =
+          let f = proper_form at (For head body) p h in (
+            (
+              role_scalar p Limit head.first h.scalar.0 f.1,
+              role_scalar p Limit head.last h.scalar.1 f.2,
+              role_scalar p Limit (step_expr head.step) h.scalar.2 f.3,
+              f.0,
+            ),
+            all_suit body w p (body_of at (For head body) body p h refl h.scalar.3),
+          )
+      form_suits (Border kind names) at w p h = absurd h.scalar
+      form_suits (Write ends items) at w p h =
+          items_scalar p items h.scalar (proper_form at (Write ends items) p h)
+      form_suits (Return value) at w p h = absurd h.scalar
 
-      arms_agree : (arms : Arms) (at : ℕ) (otherwise : Otherwise) → ElseGoes otherwise
-          → ArmsGo arms at otherwise
-      arms_agree NoArm at otherwise h =
-          arms_from NoArm at otherwise (IsElse otherwise) (else_of otherwise) h
-      arms_agree (ThenArm (Tested own test body) NoArm) at NoElse h =
-          arms_from (ThenArm (Tested own test body) NoArm) at NoElse
-          (λ p. IsScalarAt p test × AreServed setup IsCallable body p)
-          (λ p k. let a = arm_of own test body NoArm NoElse p k in (a.0, a.1))
-          (when_goes world at own test body (AreServed setup IsCallable body) (all_agree body)
-          (λ l after. low.lowered_arms l after (mean.arms_at NoArm) NoArm NoElse
-          (λ last. low.lowered_otherwise l last NoElse)))
-      arms_agree (ThenArm (Tested own test body) NoArm) at (Else other) h =
-          arms_from (ThenArm (Tested own test body) NoArm) at (Else other)
-          (λ p. IsScalarAt p test × AreServed setup IsCallable body p × AreArms NoArm (Else other) p)
-          (arm_of own test body NoArm (Else other))
-          (chosen_goes world at own test body (AreServed setup IsCallable body) (all_agree body)
-          (AreArms NoArm (Else other))
-          (λ c store. mean.exec_arms c world.turns (mean.arms_at NoArm) NoArm
-          (mean.exec_otherwise c world.turns (Else other)) store)
-          (λ l after. low.lowered_arms l after (mean.arms_at NoArm) NoArm (Else other)
-          (λ last. low.lowered_otherwise l last (Else other)))
-          (arms_from NoArm (mean.arms_at NoArm) (Else other) (IsElse (Else other))
-          (else_of (Else other)) h))
-      arms_agree (ThenArm (Tested own test body) (ThenArm second rest)) at otherwise h =
-          arms_from (ThenArm (Tested own test body) (ThenArm second rest)) at otherwise
-          (λ p. IsScalarAt p test × AreServed setup IsCallable body p
-          × AreArms (ThenArm second rest) otherwise p)
-          (arm_of own test body (ThenArm second rest) otherwise)
-          (chosen_goes world at own test body (AreServed setup IsCallable body) (all_agree body)
-          (AreArms (ThenArm second rest) otherwise)
-          (λ c store. mean.exec_arms c world.turns (mean.arms_at (ThenArm second rest))
-          (ThenArm second rest) (mean.exec_otherwise c world.turns otherwise) store)
-          (λ l after. low.lowered_arms l after (mean.arms_at (ThenArm second rest))
-          (ThenArm second rest) otherwise (λ last. low.lowered_otherwise l last otherwise))
-          (arms_agree (ThenArm second rest) (mean.arms_at (ThenArm second rest)) otherwise h))
+      arms_suit : (arms : Arms) (otherwise : Otherwise) (w : Where) (p : Place)
+          → AreArms arms otherwise p → SuitArms Bare (ScalarLeaf setup IsCallable) arms w p
+      arms_suit NoArm otherwise w p h = tt
+      arms_suit (ThenArm (Tested own test body) rest) otherwise w p h =
+          let a = arm_of own test body rest otherwise p h in
+          ((a.0, all_suit body w p a.1), arms_suit rest otherwise w p a.2)
 
-      else_agrees : (otherwise : Otherwise) → ElseGoes otherwise
-      else_agrees NoElse = nothing_goes world (IsElse NoElse)
-      else_agrees (Else body) =
-          else_from (Else body) (AreServed setup IsCallable body)
-          (λ p h. record { setup_is = h.setup_is; visited = h.visited; scalar = h.scalar })
-          (all_agree body)
+      else_suits : (otherwise : Otherwise) (w : Where) (p : Place) → IsElse otherwise p
+          → SuitsElse Bare (ScalarLeaf setup IsCallable) otherwise w p
+      else_suits NoElse w p h = tt
+      else_suits (Else body) w p h =
+          all_suit body w p
+          (record { setup_is = h.setup_is; visited = h.visited; scalar = h.scalar })
+
+    pub stmt_agrees : (stmt : Stmt)
+        → Goes world (λ w p. IsServed setup IsCallable stmt p)
+        (λ c store. mean.exec c world.turns stmt store) (λ l next. low.lowered l next stmt) 0
+    stmt_agrees stmt =
+        goes_by world (λ w p. IsServed setup IsCallable stmt p)
+        (SuitsStmt Bare (ScalarLeaf setup IsCallable) stmt)
+        (λ c store. mean.exec c world.turns stmt store) (λ l next. low.lowered l next stmt) 0
+        (λ w p h. stmt_suits stmt w p h)
+        (suited_goes world Bare (ScalarLeaf setup IsCallable) bare_goes
+        (scalar_leaves world setup IsCallable calls) stmt)

@@ -30,11 +30,11 @@ module _ (world : World) where
   lowering w = record { place = w; call = world.code }
 
   -- from a state at the start of a statement, and any that it may come to
-  abbrev pub Goes : (Place → Type 0) → (Context → Store → Outcome) → (Lowering → Next → Lowered)
+  abbrev pub Goes : (Where → Place → Type 0) → (Context → Store → Outcome) → (Lowering → Next → Lowered)
       → ℕ → Type 0
   Goes IsServed run made spare =
       (sight : Sight) (w : Where) (next : Next) (start : Whole) → Stands sight.spots w next
-      → IsServed (seen_place sight w start)
+      → IsServed w (seen_place sight w start)
       → HasRoom world.tables next (made (lowering w) next) → (store : Store) (now : Whole)
       → IsLike world.tables sight.spots w next start store now
       → Agrees (IsLike world.tables sight.spots w next start) world.turns spare

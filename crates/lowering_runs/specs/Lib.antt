@@ -10,3 +10,5 @@ pub mod Frames
 pub mod Called
 pub mod ScalarText
 pub mod Served
+pub mod Suits
+pub mod Leaves

@@ -2,6 +2,8 @@
 -- code keeps of it.
 use Rattle.std.specs.Prelude.{◌≡◌, ◌≢◌, ℕ, suc, ◌+◌, ◌<◌, ◌≤◌, true, List, [], ◌∷◌, length, map, Option, Some, None, slice_get}
 use Rattle.zpl_nums.specs.Integer.{IsInteger}
+use Rattle.zpl_binding.specs.Outcome.{Computed, value_or}
+use Rattle.zpl_binding.specs.Regions.{Known, no_region}
 use Rattle.zpl_region.specs.declared.regions.Region.{Region}
 use Rattle.zpl_region.specs.Region.{IsRegion}
 use Rattle.zpl_meaning.specs.Store.{Thing, Scalar, ArrayAt, Fixed, Names, Store}
@@ -72,10 +74,18 @@ pub record Stands (spots : List Spot) (w : Where) (next : Next) : Type 0 where
   pub unmoved : seen_names spots w.setup.globals ≡ w.setup.globals
   pub taken : AreTaken w.currents next.slots
   pub edge : IsTakenEdge w.edge next.slots
+  -- declared regions have the first slots
+  pub declared : length w.setup.known.regions ≤ next.slots
+
+-- slots have these ranks, from a number on
+abbrev pub SlotsAt : List ℕ → ℕ → List ℕ → Type 0
+SlotsAt slots k [] = Unit {0}
+SlotsAt slots k (rank ∷ ranks) = (slice_get slots k ≡ Some rank) × SlotsAt slots (suc k) ranks
 
 -- there is room in the tables for what code has of its own
 pub record HasRoom (tables : Tables) (next : Next) (own : Lowered) : Type 0 where
   pub scalars : next.scalars + own.scalars ≤ tables.scalars
+  pub slots : SlotsAt tables.slots next.slots own.slots
 
 -- ---- arrays and current regions
 
@@ -107,15 +117,22 @@ abbrev pub IsCurrentIf : List Region → ℕ → Option Slotted → Type 0
 IsCurrentIf slots rank None = Unit {0}
 IsCurrentIf slots rank (Some slotted) = IsCurrent slots rank slotted
 
--- All arrays of the store are stored ones, each by a number of its own; and current regions are in
--- their slots.
-pub record IsHeld (tables : Tables) (arrays : List Stored) (currents : SlotCurrents)
+-- each declared region is in its slot, from a number on
+abbrev pub AreDeclared : ℕ → List (Computed Region) → List Region → Type 0
+AreDeclared k [] slots = Unit {0}
+AreDeclared k (one ∷ rest) slots =
+    (slice_get slots k ≡ Some (value_or no_region one.outcome)) × AreDeclared (suc k) rest slots
+
+-- All arrays of the store are stored ones, each by a number of its own; and declared and current
+-- regions are in their slots.
+pub record IsHeld (tables : Tables) (known : Known) (arrays : List Stored) (currents : SlotCurrents)
     (slots : List Region) : Type 0 where
   pub stored : AreStored tables arrays
   pub apart : Rises 0 (array_numbers arrays) (length tables.arrays)
   pub one : IsCurrentIf slots 1 currents.one
   pub two : IsCurrentIf slots 2 currents.two
   pub three : IsCurrentIf slots 3 currents.three
+  pub declared : AreDeclared 0 known.regions slots
 
 -- ---- states
 
@@ -138,4 +155,4 @@ pub record IsLike (tables : Tables) (spots : List Spot) (w : Where) (next : Next
   pub seen : store ≡ seen_store spots w.numbers.arrays whole
   pub sound : IsSound tables whole
   pub kept : Keeps (numbered spots) next start whole
-  pub held : IsHeld tables w.numbers.arrays w.currents whole.slots
+  pub held : IsHeld tables w.setup.known w.numbers.arrays w.currents whole.slots

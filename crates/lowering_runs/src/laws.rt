@@ -51,7 +51,8 @@ pub fn scalar_programs_are_shown()
 pub fn scalar_statements_go_alike<C: Callables>()
     ensures { (world : World) (setup : Setup) → CallsAgree world setup C.IsCallable →
         ((place : Place) (stmt : Stmt) → IsVisited setup place stmt → IsProperStmt place stmt) →
-        (stmt : Stmt) → Goes world (IsServed setup C.IsCallable stmt)
+        (stmt : Stmt) →
+        Goes world (λ _ place. IsServed setup C.IsCallable stmt place)
         (λ c store. exec c world.turns stmt store) (λ l next. lowered l next stmt) 0 }
 {}
 

@@ -1,6 +1,6 @@
 -- A row in which words are delivered agrees where each processor begins, says, takes and goes on as
 -- it must.
-use Rattle.std.proofs.Common.{◌≡◌, ◌⊎◌, refl, sym, ◌∙◌, ap, ap₂, subst, inl, inr, ℕ, zero, suc, ◌<◌, ◌≤◌, ◌==◌, nat_le, Bool, true, false, ◌&&◌, List, [], ◌∷◌, ℤ, length, Option, Some, None, is_some, arith, eq-eqb}
+use Rattle.std.proofs.Common.{◌≡◌, refl, sym, ◌∙◌, ap, ap₂, subst, inl, inr, ℕ, zero, suc, ◌<◌, ◌≤◌, ◌==◌, nat_le, Bool, true, false, ◌&&◌, List, [], ◌∷◌, ℤ, length, Option, Some, None, is_some, arith, eq-eqb}
 use Rattle.std.specs.Prelude.{is_none, option_and_then, unwrap_or}
 use Rattle.std.specs.List.{list_all}
 use Rattle.std.proofs.lemmas.Bool.Decides.{nat_tests}
@@ -13,7 +13,7 @@ use Rattle.grid_meaning.specs.Local.{Local, processors}
 use Rattle.row_orders.specs.Rows.{ArePartners, alone_where, delivery_stages, taken_where, taking}
 use Rattle.row_runs.specs.Run.{Does, Goes}
 use Rattle.flat_form.specs.Whole.{Whole}
-use Rattle.plan_meaning.specs.Abreast.{Abreast, are_none, every, every_two, go_where, is_quiet, locals_of, share_of}
+use Rattle.plan_meaning.specs.Abreast.{Abreast, are_none, every, go_where, is_quiet, locals_of, share_of}
 use Rattle.plan_meaning.specs.Messages.{are_partners, begun, bytes, delivered, does_well, final_of, from_of, leaves_row, middle_of, next_or, next_with, receivers, senders, shown_of, starts_alone, to_of, took, words_of}
 use Rattle.plan_orders.proofs.DeliverLemmas.{alone_of, receivers_of, senders_of}
 use Rattle.row_runs.specs.Rows.{AreEffects, BothGo}
@@ -21,7 +21,7 @@ use Rattle.needs_runs.specs.Holds.{Holds}
 use Rattle.needs_runs.proofs.HoldsLemmas.{both_true, every_all, holds_as, some_processors}
 
 -- what is among some numbers passes a test of all of them
-all_pass : (test : ℕ → Bool) (numbers : List ℕ) → ((q : ℕ) → Among numbers q → test q ≡ true)
+pub all_pass : (test : ℕ → Bool) (numbers : List ℕ) → ((q : ℕ) → Among numbers q → test q ≡ true)
     → list_all test numbers ≡ true
 all_pass test [] each = refl
 all_pass test (q ∷ numbers) each =
@@ -29,7 +29,7 @@ all_pass test (q ∷ numbers) each =
     (all_pass test numbers (λ r later. each r (inr later)))
 
 -- words that are the same from those that are taken from
-taking_same : (row : Collective) (one other : ℕ → List ℤ) (from : List ℕ)
+pub taking_same : (row : Collective) (one other : ℕ → List ℤ) (from : List ℕ)
     → ((q : ℕ) → Among from q → one q ≡ other q) → (local : Local)
     → taking row one local from ≡ taking row other local from
 taking_same row one other [] same local = refl
@@ -46,7 +46,7 @@ taking_same row one other (q ∷ from) same local =
     by (Some next) rest = rest next
     by None rest = refl
 
-few_is : (n : ℕ) → n ≤ 1 → nat_le n 1 ≡ true
+pub few_is : (n : ℕ) → n ≤ 1 → nat_le n 1 ≡ true
 few_is n few = grind (arith, few, nat_tests)
 
 module _ (code : Tables) (row : ℕ → Collective) (all : Abreast) where

@@ -7,18 +7,18 @@ use Rattle.zpl_nums.specs.Fold.{joined}
 use Rattle.node_form.specs.declared.instructions.Instr.TheVariants as instr
 use Rattle.node_form.specs.declared.tables.Tables.{Tables}
 use Rattle.grid_meaning.specs.Collective.{scalar_at}
-use Rattle.grid_meaning.specs.Local.{Local, processors}
+use Rattle.grid_meaning.specs.Local.{processors}
 use Rattle.row_orders.specs.Agreement.{joined_over}
-use Rattle.row_runs.specs.Run.{Does, Effect, Goes, Stops, Wrong}
+use Rattle.row_runs.specs.Run.{Does, Goes, Stops, Wrong}
 use Rattle.flat_form.specs.Act.{fold_number, is_awaited}
 use Rattle.flat_form.specs.Right.{is_settled}
 use Rattle.flat_form.specs.Whole.{Whole}
-use Rattle.plan_meaning.specs.Abreast.{Abreast, are_none, go_where, is_quiet, locals_of, standing}
+use Rattle.plan_meaning.specs.Abreast.{Abreast, are_none, go_where, locals_of}
 use Rattle.plan_meaning.specs.Act as plan
 use Rattle.normal_runs.proofs.PlaceLemmas.{set_apart, set_length, set_there}
 use Rattle.row_runs.specs.Rows.{AreEffects, BothGo, OldWrong}
 use Rattle.needs_runs.specs.Agree.{FitRowAgrees}
-use Rattle.needs_runs.specs.Holds.{Holds, HoldsOwn}
+use Rattle.needs_runs.specs.Holds.{Holds}
 use Rattle.needs_runs.proofs.HoldsLemmas.{joined_same, some_processors}
 use Rattle.needs_runs.proofs.RoomRows.{set_cases}
 use Rattle.message_runs.proofs.PrintRows.{index_there}
@@ -130,6 +130,7 @@ module _ (code : Tables) (whole : Whole) (all : Abreast) (holds : Holds code who
         stores = holds.is_whole.stores;
       };
       arrays = holds.arrays;
+      floods = holds.floods;
       slots = holds.slots;
       own = λ p below. let own = holds.own p below in record {
         parts = record {

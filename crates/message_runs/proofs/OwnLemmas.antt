@@ -68,7 +68,7 @@ lies_by_cover (l ∷ lows) (h ∷ highs) (Range a b c d ∷ rows) (dim.Range lo 
     (lies_by_cover lows highs rows dims t (omega (arith, long)) cover parts.1)
 
 -- ---- lists
-all_among : {X : Type 0} (test : X → Bool) (xs : List X) (x : X) → list_all test xs ≡ true
+pub all_among : {X : Type 0} (test : X → Bool) (xs : List X) (x : X) → list_all test xs ≡ true
     → Among xs x → test x ≡ true
 all_among test [] x all among = absurd among
 all_among test (y ∷ xs) x all (inl same) =
@@ -124,6 +124,14 @@ read_parts code whole region array =
     by (Some row) None there here e = cc
     by None store there here e = cc
 
+pub read_place : (code : Tables) (whole : Whole) (region : Region) (array : ℕ)
+    (is : IsRead code whole region array) (t : List ℤ) → Among (members region) t
+    → has_place is.store.storage t ≡ true
+read_place code whole region array is t among =
+    ap (has_place is.store.storage) (sym (moved_none t))
+    ∙ all_among (λ t. has_place is.store.storage (moved_by unmoved t)) (members region) t is.places
+    among
+
 module _ (code : Tables) (whole : Whole) (all : Abreast) (holds : Holds code whole all)
     (region : Region) (array : ℕ) (is : IsRead code whole region array)
     (ranked : region.rank ≡ is.row.rank) (long : length is.row.dims ≡ length region.dims) where
@@ -140,9 +148,7 @@ module _ (code : Tables) (whole : Whole) (all : Abreast) (holds : Holds code who
       (subst (λ ts. Among ts t)
       (members-met region (own_first blocks region.rank p) (own_last blocks region.rank p)) among) in
       let place : has_place is.store.storage t ≡ true =
-      ap (has_place is.store.storage) (sym (moved_none t))
-      ∙ all_among (λ t. has_place is.store.storage (moved_by unmoved t)) (members region) t
-      is.places inside.0 in
+      read_place code whole region array is t inside.0 in
       let lies : lies_in_own code p is.row t ≡ true =
       lies_by_cover (components is.row.rank (own_first blocks is.row.rank p))
       (components is.row.rank (own_last blocks is.row.rank p)) is.row.dims region.dims t long

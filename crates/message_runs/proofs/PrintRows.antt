@@ -11,7 +11,7 @@ use Rattle.node_form.specs.declared.instructions.Instr.TheVariants as instr
 use Rattle.node_form.specs.declared.tables.Tables.{Tables}
 use Rattle.node_form.specs.Control.{register_value}
 use Rattle.node_form.specs.Value.{Computed, Gives, Divides, Lacks, scalar_operands, value_of}
-use Rattle.grid_meaning.specs.Action.{Action, goes_on, moves, prints}
+use Rattle.grid_meaning.specs.Action.{prints}
 use Rattle.grid_meaning.specs.Local.{processors}
 use Rattle.grid_meaning.specs.Turn.{prints_text, prints_value}
 use Rattle.row_runs.specs.Run.{Does, Goes}
@@ -29,7 +29,7 @@ use Rattle.needs_runs.specs.Agree.{FitRowAgrees}
 use Rattle.needs_runs.specs.Holds.{Holds}
 use Rattle.needs_runs.proofs.ControlLemmas.{all_parts, scalars_same, words_value}
 use Rattle.needs_runs.proofs.ControlRows.{agree_if}
-use Rattle.needs_runs.proofs.HoldsLemmas.{both_true, every_all, holds_as, same_number, some_processors}
+use Rattle.needs_runs.proofs.HoldsLemmas.{both_true, every_all, holds_as, some_processors}
 
 -- ---- elements of lists
 pub index_there : {X : Type 0} (xs : List X) (k : ℕ) (d : X) → k < length xs

@@ -4,11 +4,12 @@
 //! contract, and a call brings the law into a proof.
 #![tactic(auto)]
 
-ghost use Rattle.std.specs.Prelude.{Option, ℕ};
+ghost use Rattle.std.specs.Prelude.{Bool, List, Option, ℕ, ℤ};
+ghost use Rattle.zpl_nums.specs.declared.ends.Border.{Border as Kind};
 ghost use Rattle.zpl_nums.specs.declared.folds.Fold.{Fold as Operator};
 ghost use Rattle.node_form.specs.declared.instructions.Instr.TheVariants as instr;
 ghost use Rattle.node_form.specs.declared.tables.Tables.{Tables as Code};
-ghost use Rattle.needs_runs.specs.Agree.{FitRowAgrees};
+ghost use Rattle.needs_runs.specs.Agree.{FitRowAgrees, HasLayout};
 
 /// Prints of texts, of numbers and of truth values agree.
 pub fn prints_agree()
@@ -24,4 +25,32 @@ pub fn prints_agree()
 pub fn folds_agree()
     ensures { (code : Code) (links : Option ℕ) (n scalar : ℕ) (operator : Operator) →
         FitRowAgrees code links n (instr.Fold scalar operator) }
+{}
+
+/// A gather agrees: processor 0 prints each value of the whole array from its owner's words.
+pub fn gathers_agree()
+    ensures { (code : Code) → HasLayout code → (links : Option ℕ) (n : ℕ) (truth : Bool)
+        (array slot : ℕ) → FitRowAgrees code links n (instr.Gather truth array slot) }
+{}
+
+/// A flood agrees: each processor sets its tuples of the target from the owners of their sources.
+pub fn floods_agree()
+    ensures { (code : Code) → HasLayout code → (links : Option ℕ) (n : ℕ)
+        (array target from source : ℕ) →
+        FitRowAgrees code links n (instr.Flood array target from source) }
+{}
+
+/// `wrap` and `reflect` agree: each processor sets its tuples beside the region from the owners of
+/// their sources.
+pub fn edges_agree()
+    ensures { (code : Code) → HasLayout code → (links : Option ℕ) (n : ℕ) (kind : Kind)
+        (array slot : ℕ) (shift : List ℤ) →
+        FitRowAgrees code links n (instr.Edge kind array slot shift) }
+{}
+
+/// A partial fold agrees: what all processors have folded comes to the fold of the whole array.
+pub fn parts_agree()
+    ensures { (code : Code) → HasLayout code → (links : Option ℕ) (n : ℕ) (array target : ℕ)
+        (operator : Operator) (from source : ℕ) →
+        FitRowAgrees code links n (instr.Part array target operator from source) }
 {}

@@ -1,7 +1,7 @@
 -- At the start all processors hold the flat state.
 use Rattle.std.proofs.Common.{◌≡◌, refl, sym, ◌∙◌, ap, subst, arith, ℕ, zero, suc, ◌<◌, Bool, true}
 use Rattle.std.proofs.Common.{false, List, [], ◌∷◌, ◌&&◌, length, map, replicate, inl, ℤ, pos, All}
-use Rattle.std.proofs.Common.{true≢false, Option, Some, None}
+use Rattle.std.proofs.Common.{true≢false, Option, Some, None, inr}
 use Rattle.std.specs.Prelude.{int_le, neg_ℤ, slice_get}
 use Rattle.std.specs.List.{AllZip}
 use Rattle.std.proofs.lemmas.Int.{ints}
@@ -40,7 +40,7 @@ use Rattle.flat_form.proofs.WholeLemmas.{begin_whole}
 use Rattle.normal_runs.proofs.PlaceLemmas.{moved_none}
 use Rattle.plan_meaning.specs.Abreast.{start_abreast}
 use Rattle.needs_runs.specs.Agree.{HasLayout}
-use Rattle.needs_runs.specs.Holds.{HasPart, Holds, lies_in_own}
+use Rattle.needs_runs.specs.Holds.{HasFloodsOf, HasPart, Holds, lies_in_own}
 use Rattle.needs_runs.proofs.BringLemmas.{flattened_as}
 use Rattle.needs_runs.proofs.ExchangeLemmas.{has_flattened}
 use Rattle.needs_runs.proofs.HoldsLemmas.{both_parts, both_true}
@@ -209,6 +209,20 @@ module _ (code : Tables) (layout : HasLayout code) where
       by true = storage_steps row.dims
       by false = no_steps row.rank
 
+  storage_matches : (rows : List ArrayDim) → each_matches rows (map storage_dim rows) ≡ true
+  storage_matches [] = refl
+  storage_matches (Star ∷ rows) = storage_matches rows
+  storage_matches (Range a b c d ∷ rows) = storage_matches rows
+
+  floods_begin : (rows : List ArrayRow)
+      → AllZip HasFloodsOf rows (map (λ row. zeros_at (start_places row row.stored)) rows)
+  floods_begin [] = tt
+  floods_begin (row ∷ rows) = (by row.stored, floods_begin rows)
+    where
+      by : (b : Bool) → HasFloodsOf row (zeros_at (start_places row b))
+      by true = inr (length-map row.dims storage_dim, storage_matches row.dims)
+      by false = inl refl
+
   part_begins : (p : ℕ) → p < processors code → (array : ℕ) (row : ArrayRow)
       → slice_get code.arrays array ≡ Some row → (b : Bool) → row.stored ≡ b
       → HasPart code p row (zeros_at (start_places row b)) (array_of (grid.start_places blocks_here p row b) (λ t. pos 0))
@@ -229,6 +243,7 @@ module _ (code : Tables) (layout : HasLayout code) where
   begins = record {
     is_whole = begin_whole code;
     arrays = wholes_begin code.arrays;
+    floods = floods_begin code.arrays;
     slots = slots_begin code.slots layout.slots;
     own = λ p below. record {
       parts = record {

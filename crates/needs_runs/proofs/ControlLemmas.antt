@@ -15,7 +15,7 @@ use Rattle.node_form.specs.Control.{Control, Steps, Leaps, Ends, Outside, Regist
 use Rattle.node_form.specs.Value.{Computed, Gives, Divides, Lacks, and_then, read, scalar_operands, value_of}
 use Rattle.row_runs.specs.Straight.{Every}
 use Rattle.row_runs.specs.Run as run
-use Rattle.row_runs.specs.Run.{Goes, Stops, Wrong, Effect, Does}
+use Rattle.row_runs.specs.Run.{Goes, Stops, Does}
 use Rattle.grid_meaning.specs.Collective.{scalar_at}
 use Rattle.grid_meaning.specs.Local.{processors}
 use Rattle.grid_meaning.specs.State.{IsSlot}
@@ -154,6 +154,7 @@ module _ (code : Tables) (whole : Whole) (all : Abreast) (some : 0 < processors 
       stores = holds.is_whole.stores;
     };
     arrays = holds.arrays;
+    floods = holds.floods;
     slots = holds.slots;
     own = λ p below.
         let own = holds.own p below in record {
@@ -197,6 +198,7 @@ module _ (code : Tables) (whole : Whole) (all : Abreast) (some : 0 < processors 
       stores = holds.is_whole.stores;
     };
     arrays = holds.arrays;
+    floods = holds.floods;
     slots = zip_set IsSlot code.slots whole.slots slot rank region holds.slots there fits;
     own = λ p below.
         let own = holds.own p below in record {

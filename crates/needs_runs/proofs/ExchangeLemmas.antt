@@ -45,7 +45,8 @@ use Rattle.flat_form.specs.Right.{each_covers}
 use Rattle.flat_form.specs.Static.{is_in_fringe}
 use Rattle.flat_form.specs.States.{IsStoreOf}
 use Rattle.flat_form.specs.Whole.{Whole}
-use Rattle.plan_meaning.specs.Abreast.{Abreast, Share, every, go_where, locals_of, share_of, standing}
+use Rattle.plan_meaning.specs.Abreast.{Abreast, Share, every, go_where, locals_of, of_processors, share_of, standing}
+use Rattle.plan_meaning.proofs.ThereLemmas.{there_is}
 use Rattle.plan_meaning.specs.Messages.{begun, does_well, final_of, finished, from_of, middle_of, next_with, receivers, senders, started, starts_alone, to_of, took, words_of}
 use Rattle.needs_runs.specs.Agree.{HasLayout}
 use Rattle.needs_runs.specs.Holds.{Holds, HoldsOwn, HasPart, lies_in_own}
@@ -432,7 +433,8 @@ module _ (code : Tables) (layout : HasLayout code) (links : Option ℕ)
         (ap (λ (l : Local). is_none l.ended) (final_finish p below))
 
     abbrev pub behind_finish : Abreast
-    behind_finish = next_with code finish_row locals (words_of code start_row locals) []
+    behind_finish =
+        of_processors code behind_start (next_with code finish_row locals (words_of code start_row locals) [])
 
     pub finishes : finished code finish_row behind_start number ≡ Goes [] behind_finish
     finishes =
@@ -449,7 +451,9 @@ module _ (code : Tables) (layout : HasLayout code) (links : Option ℕ)
 
     share_behind : (p : ℕ) (below : p < processors code)
         → behind_finish.shares p ≡ record (all.shares p) { stores = (taken_by p below).behind }
-    share_behind p below = ap (λ l. share_of (goes_on l)) (final_finish p below)
+    share_behind p below =
+        there_is code behind_start (next_with code finish_row locals (words_of code start_row locals) []) p below
+        ∙ ap (λ l. share_of (goes_on l)) (final_finish p below)
 
     -- ---- what all have behind it
     own_behind : (p : ℕ) (below : p < processors code)
@@ -503,6 +507,7 @@ module _ (code : Tables) (layout : HasLayout code) (links : Option ℕ)
     holds_behind = record {
       is_whole = holds.is_whole;
       arrays = holds.arrays;
+      floods = holds.floods;
       slots = holds.slots;
       own = λ p below. subst (HoldsOwn code p whole) (sym (share_behind p below)) (own_behind p below);
       totals = λ scalar f is.

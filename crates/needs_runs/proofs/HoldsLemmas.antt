@@ -83,6 +83,7 @@ pub holds_as : (code : Tables) (whole : Whole) (all other : Abreast) → 0 < pro
 holds_as code whole all other some same quiet holds = record {
   is_whole = holds.is_whole;
   arrays = holds.arrays;
+  floods = holds.floods;
   slots = holds.slots;
   own = λ p below. subst (HoldsOwn code p whole) (sym (same p below)) (holds.own p below);
   totals = λ scalar f is. holds.totals scalar f is

@@ -12,3 +12,5 @@ pub mod PlaceLemmas
 pub mod PlannedLemmas
 pub mod RoomRows
 pub mod SlotLemmas
+pub mod FlatLemmas
+pub mod FloodLemmas

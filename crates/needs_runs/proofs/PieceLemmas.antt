@@ -52,7 +52,7 @@ use Rattle.needs_runs.proofs.NeedLemmas.{InBlocks, held_dims, needs_are_held, pl
 use Rattle.needs_runs.proofs.OwnerLemmas.{AreUncut, AreZeroPast, KindsAs, boxed_steps, boxes_of_rows, emptied_boxed, emptied_kinds, emptied_many, held_boxed, held_kinds, held_many, in_blocks, lies_by_owner, map_at, processors_are, stored_at, uncut_three}
 use Rattle.needs_runs.proofs.RoomRows.{all_get}
 
-zip_many : {X Y : Type 0} (R : X → Y → Type 0) (xs : List X) (ys : List Y) → AllZip R xs ys
+pub zip_many : {X Y : Type 0} (R : X → Y → Type 0) (xs : List X) (ys : List Y) → AllZip R xs ys
     → length ys ≡ length xs
 zip_many R [] [] all = refl
 zip_many R [] (y ∷ ys) all = absurd all
@@ -129,7 +129,7 @@ zero_past zero (Range lo hi low high ∷ rows) (x ∷ u) unused are =
       zero_past zero rows u (All-tail IsUnused (Range lo hi low high) rows unused) are.1,
     )
 
-components_many : (rank : ℕ) (v : List ℤ) → length (components rank v) ≡ length v
+pub components_many : (rank : ℕ) (v : List ℤ) → length (components rank v) ≡ length v
 components_many zero [] = refl
 components_many (suc rank) [] = refl
 components_many zero (x ∷ v) = ap suc (components_many zero v)
@@ -146,7 +146,7 @@ module _ (code : Tables) (layout : HasLayout code) (array : ℕ) (row : ArrayRow
   abbrev pub number : ℕ
   number = box_number code array
 
-  fit : FitsArray row
+  pub fit : FitsArray row
   fit = all_get FitsArray code.arrays array row layout.arrays there
 
   pub three_dims : length row.dims ≡ 3
@@ -155,7 +155,7 @@ module _ (code : Tables) (layout : HasLayout code) (array : ℕ) (row : ArrayRow
   boxes : All IsArrayBox (arrangement_of code).boxes
   boxes = boxes_of_rows code.arrays layout.arrays layout.three
 
-  are_blocks : AreBlocks blocks
+  pub are_blocks : AreBlocks blocks
   are_blocks = blocks_are code.grid (arrangement_of code).boxes boxes
 
   is_box : IsArrayBox (box_of row)
@@ -179,20 +179,20 @@ module _ (code : Tables) (layout : HasLayout code) (array : ℕ) (row : ArrayRow
   abbrev axes : List Axis
   axes = axes_at blocks row.rank
 
-  cuts_are : AreCuts code.grid row.rank
+  pub cuts_are : AreCuts code.grid row.rank
   cuts_are = are_cuts code.grid row.rank fit.rank.0 fit.rank.1
 
-  axes_many : length axes ≡ 3
+  pub axes_many : length axes ≡ 3
   axes_many = axes_three blocks row.rank are_blocks fit.rank.0 fit.rank.1
 
   module _ (p : ℕ) (below : p < processors code) where
-    inside : p < processors_of code.grid
+    pub inside : p < processors_of code.grid
     inside = subst (λ n. p < n) (processors_are code) below
 
     abbrev ks : List ℕ
     ks = blocks_at ns p
 
-    ks_many : length ks ≡ 3
+    pub ks_many : length ks ≡ 3
     ks_many = blocks_length ns p ∙ cuts_are.three
 
     abbrev helds : List Dim
@@ -346,4 +346,23 @@ module _ (code : Tables) (layout : HasLayout code) (array : ℕ) (row : ArrayRow
                 (axes_many ∙ sym three_dims) (cuts_are.three ∙ sym three_dims) (blocks_length ns from ∙ (cuts_are.three ∙ sym three_dims))
                 (ks_many ∙ sym three_dims) (held_many_dims ∙ sym three_dims) (components_many row.rank shift ∙ (long ∙ sym three_dims))
                 (slot.many ∙ sym three_dims) kinds (zero_past row.rank row.dims u fit.padded stored_there) has_here,
+          )
+
+      -- a place of a piece is one that is held, and the owner's block has it
+      pub piece_has : (from : ℕ) → from < processors code → (u : List ℤ)
+          → Among (members (owned_part blocks from p needed)) u
+          → IsMember held u × AllZip IsCoordinate (needed_dims held.dims row.rank) u
+          × (has_each axes ns (blocks_at ns from) ks (needed_dims held.dims row.rank) u ≡ true)
+      piece_has from from_below u among =
+          let from_inside : from < processors_of code.grid = subst (λ n. from < n) (processors_are code) from_below in
+          let parts = among_filtered (λ t. owner_for blocks p needed t == from) (members needed) u
+          (subst (λ ts. Among ts u) (parts_by_owner blocks from p needed are_blocks slot.fits.rank.0 slot.fits.rank.1 needed_many needed_bounds inside from_inside) among) in
+          let is : IsMember needed u = (members_iff needed u needed_step).0 (Contains-from_among (members needed) u parts.0) in
+          let near = near_of needed.dims u needed_bounds (among_tuples (map coordinates needed.dims) u parts.0) in
+          let has : has_each (axes_at blocks region.rank) (cuts code.grid region.rank) (blocks_at (cuts code.grid region.rank) from) (blocks_at (cuts code.grid region.rank) p) needed.dims u ≡ true =
+          (has_owner_for blocks from p needed u are_blocks slot.fits.rank.0 slot.fits.rank.1 needed_many inside from_inside near).1
+          (sym (eqb-true (owner_for blocks p needed u) from parts.1)) in (
+            needed_held u is,
+            subst (λ rank. AllZip IsCoordinate (needed_dims held.dims rank) u) slot.ranked is,
+            subst (λ rank. has_each (axes_at blocks rank) (cuts code.grid rank) (blocks_at (cuts code.grid rank) from) (blocks_at (cuts code.grid rank) p) (needed_dims held.dims rank) u ≡ true) slot.ranked has,
           )

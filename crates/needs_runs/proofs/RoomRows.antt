@@ -32,7 +32,7 @@ use Rattle.plan_meaning.specs.Abreast.{Abreast, every, go_where, locals_of, shar
 use Rattle.plan_meaning.specs.Act.{action_of, alone}
 use Rattle.plan_meaning.specs.Messages.{leaves_row, next_or, shown_of}
 use Rattle.grid_meaning.specs.Action.{goes_on, moves}
-use Rattle.needs_runs.specs.Holds.{HasPart, Holds}
+use Rattle.needs_runs.specs.Holds.{HasFloodsOf, HasPart, Holds}
 use Rattle.row_runs.specs.Rows.{AreEffects, BothGo, OldWrong}
 use Rattle.needs_runs.specs.Agree.{HasLayout, FitRowAgrees}
 use Rattle.needs_runs.proofs.HoldsLemmas.{every_all, holds_as, some_processors}
@@ -76,6 +76,7 @@ module _ (code : Tables) (whole : Whole) (all : Abreast) (holds : Holds code who
     pub there : slice_get code.arrays array ≡ Some row
     pub is_array : IsArray store
     pub whole_is : IsStoreOf row store
+    pub floods : HasFloodsOf row store
     pub own_is : (p : ℕ) → p < processors code → IsStore code p row (own p)
     pub part : (p : ℕ) → p < processors code → HasPart code p row store (own p)
 
@@ -91,6 +92,7 @@ module _ (code : Tables) (whole : Whole) (all : Abreast) (holds : Holds code who
       stores = zip_set IsStoreOf code.arrays whole.stores array row store holds.is_whole.stores is.there is.whole_is;
     };
     arrays = all_set IsArray whole.stores array store holds.arrays is.is_array;
+    floods = zip_set HasFloodsOf code.arrays whole.stores array row store holds.floods is.there is.floods;
     slots = holds.slots;
     own = λ p below.
         let own_holds = holds.own p below in record {
@@ -198,6 +200,7 @@ module _ (code : Tables) (layout : HasLayout code) (links : Option ℕ) (n : ℕ
               filled = length-map (members region) (λ t. pos 0);
               placed = λ stored. absurd (true≢false (sym stored ∙ temporary));
             };
+            floods = inr (is.many ∙ sym long, match);
             own_is = λ p below. placed p row region temporary fit long is (has_none (own_part code p region)) refl;
             part = λ p below. record {
               has = λ t value lies held.
@@ -277,6 +280,13 @@ module _ (code : Tables) (layout : HasLayout code) (links : Option ℕ) (n : ℕ
           zip_there (IsStore code p) code.arrays (all.shares p).stores array row
           (holds.own p below).parts.stores there
 
+      all_floods : (row : ArrayRow) (store : Array) → slice_get code.arrays array ≡ Some row
+          → slice_get whole.stores array ≡ Some store → HasFloodsOf row (zeros_at store.storage)
+      all_floods row store there here =
+          let found = zip_there HasFloodsOf code.arrays whole.stores array row holds.floods there in
+          let same : found.0 ≡ store = let e = sym found.1 ∙ here in cc in
+          subst (λ (s : Array). HasFloodsOf row (zeros_at s.storage)) same found.2
+
       set : (row : ArrayRow) (store : Array) → slice_get code.arrays array ≡ Some row
           → slice_get whole.stores array ≡ Some store → IsStoreOf row store
           → IsSet code whole all holds array row (zeros_at store.storage) own
@@ -289,6 +299,7 @@ module _ (code : Tables) (layout : HasLayout code) (links : Option ℕ) (n : ℕ
               filled = length-map (members store.storage) (λ t. pos 0);
               placed = is.placed;
             };
+            floods = all_floods row store there here;
             own_is = λ p below.
                 let found = mine p below row there in
                 subst (λ o. IsStore code p row (own_by o)) (sym found.1)

@@ -3,8 +3,8 @@
 --   lies_in_own      a tuple lies in a processor's own block
 --   HasPart          what a whole array has there, the processor has
 --   HoldsOwn, Holds  one processor, and all of them
-use Rattle.std.specs.Prelude.{◌≡◌, ℕ, ◌<◌, Bool, true, ℤ, List, [], All, slice_get, Some}
-use Rattle.std.specs.Prelude.{None}
+use Rattle.std.specs.Prelude.{◌≡◌, ◌⊎◌, ℕ, ◌<◌, Bool, true, ℤ, List, [], All, length, slice_get}
+use Rattle.std.specs.Prelude.{Some, None}
 use Rattle.std.specs.List.{AllZip}
 use Rattle.zpl_nums.specs.declared.folds.Fold.{Fold}
 use Rattle.zpl_nums.specs.Fold.{joined}
@@ -18,9 +18,9 @@ use Rattle.grid_meaning.specs.Collective.{scalar_at}
 use Rattle.grid_meaning.specs.Local.{processors}
 use Rattle.grid_meaning.specs.Place.{held_value}
 use Rattle.grid_meaning.specs.State.{HasParts, IsSlot}
-use Rattle.grid_meaning.specs.Stored.{arrangement_of}
+use Rattle.grid_meaning.specs.Stored.{arrangement_of, no_places}
 use Rattle.row_orders.specs.Agreement.{joined_over}
-use Rattle.flat_form.specs.Right.{is_settled}
+use Rattle.flat_form.specs.Right.{is_settled, matches}
 use Rattle.flat_form.specs.States.{IsWhole}
 use Rattle.flat_form.specs.Whole.{Whole}
 use Rattle.plan_meaning.specs.Abreast.{Abreast, Share, locals_of, standing}
@@ -49,11 +49,19 @@ pub record HoldsOwn (code : Tables) (p : ℕ) (whole : Whole) (share : Share) : 
       → slice_get code.arrays array ≡ Some row → slice_get whole.stores array ≡ Some store
       → slice_get share.stores array ≡ Some own → HasPart code p row store own
 
+-- An array that has places has the flood dimensions of its row: a temporary has none before its
+-- first `room`.
+abbrev pub HasFloodsOf : ArrayRow → Array → Type 0
+HasFloodsOf row store =
+    (store.storage ≡ no_places row.rank)
+    ⊎ ((length store.storage.dims ≡ length row.dims) × (matches row store.storage ≡ true))
+
 -- Between a loop that accumulates a scalar and its fold the whole scalar is what those of all
 -- processors come to when they are joined. No exchange is open.
 pub record Holds (code : Tables) (whole : Whole) (all : Abreast) : Type 0 where
   pub is_whole : IsWhole code whole
   pub arrays : All IsArray whole.stores
+  pub floods : AllZip HasFloodsOf code.arrays whole.stores
   pub slots : AllZip IsSlot code.slots whole.slots
   pub own : (p : ℕ) → p < processors code → HoldsOwn code p whole (all.shares p)
   pub totals : (scalar : ℕ) (f : Fold) → slice_get whole.awaited scalar ≡ Some (Some f)

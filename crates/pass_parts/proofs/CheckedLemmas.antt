@@ -3,6 +3,7 @@ use Rattle.std.proofs.Common.{◌≡◌, refl, sym, ap, ◌∙◌, subst, ℕ, �
 use Rattle.std.proofs.Common.{true≢false, List, [], ◌∷◌, ◌++◌, ℤ, append_assoc, append-nil}
 use Rattle.std.specs.Prelude.{◌&&◌, ◌||◌, fold, Option, Some, None}
 use Rattle.std.specs.List.{AllByRecursion, list_all}
+use Rattle.std.proofs.lemmas.Bool.{and_from, and_parts}
 use Rattle.std.proofs.lemmas.Bool.Decides.{Decides-eqb}
 use Rattle.std.proofs.lemmas.List.Sums.{fold-append}
 use Rattle.node_form.specs.declared.arrays.Item.{Item}
@@ -12,8 +13,9 @@ use Rattle.node_form.specs.declared.tables.Tables.{Tables}
 use Rattle.code_parts.specs.Stretch.{IsRightInStretches, IsStretch, is_right_throughout}
 use Rattle.code_parts.specs.Uses.{members_of}
 use Rattle.code_parts.proofs.WalkLemmas.{in_stretches, throughout}
-use Rattle.fuse_contract.specs.Fusing.{reference, references_of}
-use Rattle.pass_parts.specs.Checks.{ChecksBetween, checked_by, checked_in, is_check, is_one_of}
+use Rattle.fuse_contract.specs.Fusing.{reference, references_of, stands_with}
+use Rattle.pass_parts.specs.Checks.{ChecksBetween, StandsBetween, checked_by, checked_in, is_check}
+use Rattle.pass_parts.specs.Checks.{is_one_of}
 
 -- a loop, and the references of the checks that alone stand behind it
 pub record Since : Type 0 where
@@ -33,11 +35,17 @@ module _ (tables : Tables) (joins : ℕ → ℕ → Bool) where
       needed_behind since (reference slot array shift)
   old_learn since row = None
 
+  -- the group may stand wherever that of the loop does
+  abbrev pub stands_too : Since → ℕ → Bool
+  stands_too since group =
+      stands_with tables (members_of tables since.loop.1) (members_of tables group)
+
   abbrev pub are_needed : Option Since → ℕ → ℕ → Bool
   are_needed None slot group = true
   are_needed (Some since) slot group =
       not ((since.loop.0 == slot) && joins since.loop.1 group)
-      || list_all (is_one_of since.items) (references_of tables slot (members_of tables group))
+      || (list_all (is_one_of since.items) (references_of tables slot (members_of tables group))
+      && stands_too since group)
 
   abbrev pub old_right : Option Since → Instr → Bool
   old_right since (instr.Loop slot group) = are_needed since slot group
@@ -105,16 +113,17 @@ module _ (tables : Tables) (joins : ℕ → ℕ → Bool) where
       (found_all (rows ++ row ∷ []) more (old_learn since row) (found_row rows since row found))
 
   -- ---- so it is right
-  loop_right : ChecksBetween tables joins → (before : List Instr) (slot group : ℕ)
+  loop_right : ChecksBetween tables joins → StandsBetween tables joins
+      → (before : List Instr) (slot group : ℕ)
       → IsStretch tables.code (before ++ instr.Loop slot group ∷ [])
       → are_needed (fold old_learn None before) slot group ≡ true
-  loop_right checks before slot group s =
+  loop_right checks stands before slot group s =
       by (fold old_learn None before) (found_all [] before None tt)
     where
       standing : (since : Since) → IsSince before since → (since.loop.0 == slot) ≡ true
           → joins since.loop.1 group ≡ true
-          → list_all (is_one_of since.items) (references_of tables slot (members_of tables group))
-          ≡ true
+          → (list_all (is_one_of since.items)
+          (references_of tables slot (members_of tables group)) && stands_too since group) ≡ true
       standing since found same joinable =
           let here : since.loop.0 ≡ slot = (Decides-eqb since.loop.0 slot).0 same in
           let place : before ++ instr.Loop slot group ∷ []
@@ -124,15 +133,19 @@ module _ (tables : Tables) (joins : ℕ → ℕ → Bool) where
           (found.is ∙ ap (λ n. found.before ++ instr.Loop n since.loop.1 ∷ found.between) here)
           ∙ append_assoc found.before (instr.Loop slot since.loop.1 ∷ found.between)
           (instr.Loop slot group ∷ []) in
-          ap (λ items. list_all (is_one_of items)
+          let stretch = subst (IsStretch tables.code) place s in
+          and_from (list_all (is_one_of since.items)
+          (references_of tables slot (members_of tables group))) (stands_too since group)
+          (ap (λ items. list_all (is_one_of items)
           (references_of tables slot (members_of tables group))) found.items
-          ∙ checks found.before found.between slot since.loop.1 group
-          (subst (IsStretch tables.code) place s) found.checks joinable
+          ∙ checks found.before found.between slot since.loop.1 group stretch found.checks
+          joinable)
+          (stands found.before found.between slot since.loop.1 group stretch found.checks joinable)
 
       cases : (since : Since) → IsSince before since → (a b : Bool) → (since.loop.0 == slot) ≡ a
           → joins since.loop.1 group ≡ b
-          → (not (a && b) || list_all (is_one_of since.items)
-          (references_of tables slot (members_of tables group))) ≡ true
+          → (not (a && b) || (list_all (is_one_of since.items)
+          (references_of tables slot (members_of tables group)) && stands_too since group)) ≡ true
       cases since found true true same joinable = standing since found same joinable
       cases since found true false same joinable = refl
       cases since found false b same joinable = refl
@@ -142,13 +155,16 @@ module _ (tables : Tables) (joins : ℕ → ℕ → Bool) where
       by (Some since) found =
           cases since found (since.loop.0 == slot) (joins since.loop.1 group) refl refl
 
-  old_all : ChecksBetween tables joins → IsRightInStretches None old_learn old_right tables.code
-  old_all checks before (instr.Loop slot group) s = loop_right checks before slot group s
-  old_all checks before row s = refl
+  old_all : ChecksBetween tables joins → StandsBetween tables joins
+      → IsRightInStretches None old_learn old_right tables.code
+  old_all checks stands before (instr.Loop slot group) s =
+      loop_right checks stands before slot group s
+  old_all checks stands before row s = refl
 
-  pub old_throughout : ChecksBetween tables joins
+  pub old_throughout : ChecksBetween tables joins → StandsBetween tables joins
       → is_right_throughout None old_learn old_right tables.code ≡ true
-  old_throughout checks = throughout None old_learn old_right tables.code (old_all checks)
+  old_throughout checks stands =
+      throughout None old_learn old_right tables.code (old_all checks stands)
 
   -- ---- and back
   folded : (between : List Instr) (loop : ℕ × ℕ) (items : List Item)
@@ -168,9 +184,15 @@ module _ (tables : Tables) (joins : ℕ → ℕ → Bool) where
   joined true false x one other known = absurd (true≢false (sym other))
   joined false b x one other known = absurd (true≢false (sym one))
 
-  pub checks_back : is_right_throughout None old_learn old_right tables.code ≡ true
-      → ChecksBetween tables joins
-  checks_back right before between slot one other s checks joinable =
+  both_back : is_right_throughout None old_learn old_right tables.code ≡ true
+      → (before between : List Instr) (slot one other : ℕ)
+      → IsStretch tables.code
+      (before ++ instr.Loop slot one ∷ (between ++ instr.Loop slot other ∷ []))
+      → AllByRecursion (λ row. is_check row ≡ true) between → joins one other ≡ true
+      → (list_all (is_one_of (checked_in between))
+      (references_of tables slot (members_of tables other))
+      && stands_with tables (members_of tables one) (members_of tables other)) ≡ true
+  both_back right before between slot one other s checks joinable =
       let rows = before ++ instr.Loop slot one ∷ between in
       let place : before ++ instr.Loop slot one ∷ (between ++ instr.Loop slot other ∷ [])
       ≡ rows ++ instr.Loop slot other ∷ [] =
@@ -183,6 +205,21 @@ module _ (tables : Tables) (joins : ℕ → ℕ → Bool) where
       (instr.Loop slot other) (subst (IsStretch tables.code) place s) in
       joined (slot == slot) (joins one other)
       (list_all (is_one_of (checked_in between))
-      (references_of tables slot (members_of tables other)))
+      (references_of tables slot (members_of tables other))
+      && stands_with tables (members_of tables one) (members_of tables other))
       ((Decides-eqb slot slot).1 refl) joinable
       (ap (λ since. are_needed since slot other) (sym since) ∙ there)
+
+  pub checks_back : is_right_throughout None old_learn old_right tables.code ≡ true
+      → ChecksBetween tables joins
+  checks_back right before between slot one other s checks joinable =
+      (and_parts (list_all (is_one_of (checked_in between))
+      (references_of tables slot (members_of tables other))) _
+      (both_back right before between slot one other s checks joinable)).0
+
+  pub stands_back : is_right_throughout None old_learn old_right tables.code ≡ true
+      → StandsBetween tables joins
+  stands_back right before between slot one other s checks joinable =
+      (and_parts (list_all (is_one_of (checked_in between))
+      (references_of tables slot (members_of tables other))) _
+      (both_back right before between slot one other s checks joinable)).1

@@ -5,6 +5,7 @@ use Rattle.std.specs.Prelude.{◌&&◌, ◌||◌, filter, fold, if◌then◌else
 use Rattle.std.specs.Option.{IsSomeAnd}
 use Rattle.std.specs.List.{AllByRecursion, list_all, list_any}
 use Rattle.std.proofs.Math.Path.{fun_ext}
+use Rattle.std.proofs.lemmas.Bool.{and_parts}
 use Rattle.std.proofs.lemmas.Bool.Decides.{Decides-eqb}
 use Rattle.std.proofs.lemmas.List.Elements.{recursion_from_All}
 use Rattle.std.proofs.lemmas.List.Folds.{list_all-append}
@@ -29,14 +30,15 @@ use Rattle.plan_form.proofs.WalkLemmas as walks
 use Rattle.comm_combine.proofs.ReachLemmas.{GoalsMoved}
 use Rattle.bound_check.specs.Checked.{checked, rows_stayed, stays}
 use Rattle.fuse_contract.specs.Fusing.{always_lies, is_stored, lies_within, reference, references_of}
-use Rattle.pass_parts.specs.Checks.{ChecksWhatItJoins, is_one_of}
-use Rattle.pass_parts.specs.Parts.{KnowsWhatItJoins, known_after}
+use Rattle.fuse_contract.specs.Fusing.{stands_with}
+use Rattle.pass_parts.specs.Checks.{ChecksWhatItJoins, StandsBehindChecks, is_one_of}
+use Rattle.pass_parts.specs.Parts.{KnowsWhatItJoins, StandsWithWhatItJoins, known_after}
 use Rattle.pass_parts.proofs.CheckedLemmas.{Since, are_needed, needed_behind, old_learn, old_right}
 use Rattle.pass_parts.proofs.CheckedLemmas.{old_throughout}
 use Rattle.pass_parts.proofs.NearLemmas.{ends_moved}
 use Rattle.pass_parts.proofs.RowGoals as goals
 use Rattle.pass_parts.proofs.RowGoals.{all_moved, closed, new}
-use Rattle.pass_parts.proofs.SeenLemmas.{could_join}
+use Rattle.pass_parts.proofs.SeenLemmas.{could_join, may_stand}
 
 both : (a b : Bool) → a ≡ true → b ≡ true → (a && b) ≡ true
 both true b one other = other
@@ -173,7 +175,8 @@ module _ (tables : Tables) where
   abbrev new_right : Option (ℕ × ℕ) → Instr → Bool
   new_right known (instr.Loop slot group) =
       not (could_join tables known slot group)
-      || list_all (always_lies plan) (references_of tables slot (members_of tables group))
+      || (list_all (always_lies plan) (references_of tables slot (members_of tables group))
+      && may_stand tables known group)
   new_right known row = true
 
   abbrev from : ℕ → Option (ℕ × ℕ) → List Instr → Bool
@@ -223,13 +226,19 @@ module _ (tables : Tables) where
   loop_right None since slot group goes needed = refl
   loop_right (Some loop) None slot group goes needed = absurd goes
   loop_right (Some loop) (Some since) slot group goes needed =
+      let references = references_of tables slot (members_of tables group) in
       weaker (could_join tables (Some loop) slot group)
-      (list_all (is_one_of since.items) (references_of tables slot (members_of tables group)))
-      (list_all (always_lies plan) (references_of tables slot (members_of tables group)))
+      (list_all (is_one_of since.items) references && may_stand tables (Some loop) group)
+      (list_all (always_lies plan) references && may_stand tables (Some loop) group)
+      (λ e.
+      let parts = and_parts (list_all (is_one_of since.items) references)
+      (may_stand tables (Some loop) group) e in
+      both (list_all (always_lies plan) references) (may_stand tables (Some loop) group)
       (all_weaker (is_one_of since.items) (always_lies plan) (one_lies since.items goes.1)
-      (references_of tables slot (members_of tables group)))
+      references parts.0) parts.1)
       (ap (λ loop. not (could_join tables (Some loop) slot group)
-      || list_all (is_one_of since.items) (references_of tables slot (members_of tables group)))
+      || (list_all (is_one_of since.items) (references_of tables slot (members_of tables group))
+      && may_stand tables (Some loop) group))
       (sym goes.0) ∙ needed)
 
   abbrev IsLater : ℕ → Option Since → List Instr → Type 0
@@ -376,8 +385,13 @@ module _ (tables : Tables) where
       either true b e = refl
       either false b e = e
 
-  knows : is_right_throughout None new_learn new_right plan.code ≡ true → KnowsWhatItJoins plan
-  knows right before slot one other s joinable =
+  both_known : is_right_throughout None new_learn new_right plan.code ≡ true
+      → (before : List Instr) (slot one other : ℕ)
+      → IsStretch plan.code (before ++ instr.Loop slot one ∷ instr.Loop slot other ∷ [])
+      → are_joinable plan one other ≡ true
+      → (list_all (always_lies plan) (references_of tables slot (members_of tables other))
+      && stands_with tables (members_of tables one) (members_of tables other)) ≡ true
+  both_known right before slot one other s joinable =
       let rows = before ++ instr.Loop slot one ∷ [] in
       let place : before ++ instr.Loop slot one ∷ instr.Loop slot other ∷ []
       ≡ rows ++ instr.Loop slot other ∷ [] =
@@ -386,20 +400,43 @@ module _ (tables : Tables) where
       fold-append new_learn None before (instr.Loop slot one ∷ []) in
       let there = in_stretches None new_learn new_right plan.code right rows
       (instr.Loop slot other) (subst (IsStretch plan.code) place s) in
-      all_weaker (always_lies plan) (lies_within plan (known_after plan rows))
-      (lies (known_after plan rows)) (references_of plan slot (members_of plan other))
-      (joined (could_join tables (Some (slot, one)) slot other)
-      (list_all (always_lies plan) (references_of tables slot (members_of tables other)))
+      joined (could_join tables (Some (slot, one)) slot other)
+      (list_all (always_lies plan) (references_of tables slot (members_of tables other))
+      && stands_with tables (members_of tables one) (members_of tables other))
       (both (slot == slot) _ ((Decides-eqb slot slot).1 refl) joinable)
-      (ap (λ known. new_right known (instr.Loop slot other)) (sym last) ∙ there))
+      (ap (λ known. new_right known (instr.Loop slot other)) (sym last) ∙ there)
     where
       joined : (c x : Bool) → c ≡ true → (not c || x) ≡ true → x ≡ true
       joined true x could known = known
       joined false x could known = absurd (true≢false (sym could))
 
-  pub checked_knows : Fits tables → ChecksWhatItJoins tables → KnowsWhatItJoins (checked tables)
-  checked_knows fits checks =
-      subst KnowsWhatItJoins (sym checked_is)
-      (knows (all_right tables.code 0 None 0 None (all_moved tables.code step)
-      (none_goes 0 None) (old_throughout tables (are_joinable tables) checks)
-      (recursion_from_All (FitsInstr tables) tables.code fits.code)))
+  knows : is_right_throughout None new_learn new_right plan.code ≡ true → KnowsWhatItJoins plan
+  knows right before slot one other s joinable =
+      all_weaker (always_lies plan)
+      (lies_within plan (known_after plan (before ++ instr.Loop slot one ∷ [])))
+      (lies (known_after plan (before ++ instr.Loop slot one ∷ [])))
+      (references_of plan slot (members_of plan other))
+      (and_parts (list_all (always_lies plan)
+      (references_of tables slot (members_of tables other))) _
+      (both_known right before slot one other s joinable)).0
+
+  stands : is_right_throughout None new_learn new_right plan.code ≡ true
+      → StandsWithWhatItJoins plan
+  stands right before slot one other s joinable =
+      (and_parts (list_all (always_lies plan)
+      (references_of tables slot (members_of tables other))) _
+      (both_known right before slot one other s joinable)).1
+
+  module _ (fits : Fits tables) (checks : ChecksWhatItJoins tables)
+      (stand : StandsBehindChecks tables) where
+    new_throughout : is_right_throughout None new_learn new_right plan.code ≡ true
+    new_throughout =
+        all_right tables.code 0 None 0 None (all_moved tables.code step)
+        (none_goes 0 None) (old_throughout tables (are_joinable tables) checks stand)
+        (recursion_from_All (FitsInstr tables) tables.code fits.code)
+
+    pub checked_knows : KnowsWhatItJoins (checked tables)
+    checked_knows = subst KnowsWhatItJoins (sym checked_is) (knows new_throughout)
+
+    pub checked_stands : StandsWithWhatItJoins (checked tables)
+    checked_stands = subst StandsWithWhatItJoins (sym checked_is) (stands new_throughout)

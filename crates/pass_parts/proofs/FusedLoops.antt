@@ -23,7 +23,7 @@ use Rattle.flat_passes.specs.Grouped.{Grouped, Plain, Runs, all_numbered, ended_
 use Rattle.flat_passes.specs.Grouped.{with_grouped}
 use Rattle.plan_form.proofs.WalkLemmas as walks
 use Rattle.fuse_contract.specs.Fusing.{Loop, can_join, fused, joins, known_behind}
-use Rattle.fuse_contract.specs.Fusing.{last_rows, references_of}
+use Rattle.fuse_contract.specs.Fusing.{last_rows, references_of, stands_with}
 use Rattle.fuse_contract.specs.Fusing.{both as both_loops}
 use Rattle.fuse_contract.specs.Joining.{Facts, behind_row, joins_last, last_with, loop_over}
 use Rattle.fuse_contract.specs.Joining.{no_facts, row_rows}
@@ -35,7 +35,8 @@ use Rattle.pass_parts.proofs.GoalLemmas.{all_moved, group_there, new}
 use Rattle.pass_parts.proofs.JoinableLemmas.{AreApart, apart, can_be, first_apart, last_apart}
 use Rattle.pass_parts.proofs.NearLemmas.{end_row, ends_moved, from, reset}
 use Rattle.pass_parts.proofs.SeenLemmas.{Seen, all_known, could_join, is_known, known_throughout}
-use Rattle.pass_parts.proofs.SeenLemmas.{nothing_seen, seen_with}
+use Rattle.pass_parts.proofs.SeenLemmas.{may_stand, nothing_seen, seen_with}
+use Rattle.pass_parts.proofs.StandLemmas.{both_stand}
 
 both : (a b : Bool) → a ≡ true → b ≡ true → (a && b) ≡ true
 both true b one other = other
@@ -96,6 +97,9 @@ module _ (tables : Tables) where
     slot : last.slot ≡ loop.0
     before : List Member
     is : last.group ≡ before ++ members_of tables loop.1
+    stands : (other : List Member)
+        → stands_with tables (members_of tables loop.1) other ≡ true
+        → stands_with tables last.group other ≡ true
 
   abbrev IsLastSeen : Option Loop → Option (ℕ × ℕ) → Type 0
   IsLastSeen None None = Unit {0}
@@ -173,12 +177,20 @@ module _ (tables : Tables) where
       (apart tables last.group loop.group
       (both_right (last.slot == loop.slot) _ joins)))))
 
-  -- truth values: without b nothing is left of it
-  no_join : (a c d : Bool) → (a && c) ≡ false → (a ≡ true → (not d || c) ≡ true)
-      → (a ≡ true → d ≡ true) → a ≡ false
-  no_join true c d none known joins =
-      absurd (true≢false (sym (ap (λ b. not b || c) (sym (joins refl)) ∙ known refl) ∙ none))
-  no_join false c d none known joins = refl
+  -- truth values: without the others nothing is left of the first one
+  no_join : (a s c d r : Bool) → (a && s && c) ≡ false → (a ≡ true → (not d || (r && c)) ≡ true)
+      → (a ≡ true → d ≡ true) → (r ≡ true → s ≡ true) → a ≡ false
+  no_join true s c d r none known joins stands =
+      by d r c (known refl) (joins refl) (λ e. stands e) none
+    where
+      by : (d r c : Bool) → (not d || (r && c)) ≡ true → d ≡ true → (r ≡ true → s ≡ true)
+          → (s && c) ≡ false → true ≡ false
+      by true true true there joins stands none =
+          absurd (true≢false (sym (ap (λ b. b && true) (stands refl)) ∙ none))
+      by true true false there joins stands none = absurd (true≢false (sym there))
+      by true false c there joins stands none = absurd (true≢false (sym there))
+      by false r c there joins stands none = absurd (true≢false (sym joins))
+  no_join false s c d r none known joins stands = refl
 
   not_joined : (known : List Item) (last : Loop) (seen : Seen) (slot group : ℕ)
       → joins tables known last (loop_over tables slot group) ≡ false
@@ -187,17 +199,21 @@ module _ (tables : Tables) where
       → ((last.slot == slot) && can_join tables last.group (members_of tables group)) ≡ false
   not_joined known last seen slot group none same there =
       by seen.last same.last (ap (λ l. not (could_join tables seen.last slot group)
-      || all_known tables l slot group) same.known ∙ there)
+      || (may_stand tables seen.last group && all_known tables l slot group)) same.known ∙ there)
     where
       by : (one : Option (ℕ × ℕ)) → IsLastSeen (Some last) one
-          → (not (could_join tables one slot group) || all_known tables known slot group) ≡ true
+          → (not (could_join tables one slot group)
+          || (may_stand tables one group && all_known tables known slot group)) ≡ true
           → ((last.slot == slot) && can_join tables last.group (members_of tables group)) ≡ false
       by None ends there = absurd ends
       by (Some one) ends there =
           no_join ((last.slot == slot) && can_join tables last.group (members_of tables group))
-          (all_known tables known slot group) (could_join tables (Some one) slot group) none
+          (stands_with tables last.group (members_of tables group))
+          (all_known tables known slot group) (could_join tables (Some one) slot group)
+          (stands_with tables (members_of tables one.1) (members_of tables group)) none
           (λ joins. there)
           (λ joins. could last (loop_over tables slot group) one group refl ends joins)
+          (λ stands. ends.stands (members_of tables group) stands)
 
   -- ---- rows from a number on are right, where so many groups stand before them
   abbrev AreRight : ℕ → ℕ → Option (ℕ × ℕ) → List (List Member) → List Grouped → Type 0
@@ -326,7 +342,7 @@ module _ (tables : Tables) where
     next_seen seen = seen_with tables seen (instr.Loop slot group)
 
     alone : EndsWith loop (slot, group)
-    alone = record { slot = refl; before = []; is = refl }
+    alone = record { slot = refl; before = []; is = refl; stands = λ other stands. stands }
 
     loop_by : (known : List Item) (last : Option Loop) (at : ℕ) (rows : List Instr) (seen : Seen)
         → ((now : Facts) (past : Seen) → IsLater (at + 1) now past rows)
@@ -363,9 +379,19 @@ module _ (tables : Tables) where
             slot = (Decides-eqb last.slot slot).0
                 (both_left (last.slot == slot) _
                 (both_left ((last.slot == slot)
-                && can_join tables last.group (members_of tables group)) _ is));
+                && can_join tables last.group (members_of tables group)) _
+                (both_left ((last.slot == slot)
+                && can_join tables last.group (members_of tables group)
+                && stands_with tables last.group (members_of tables group)) _ is)));
             before = last.group;
             is = refl;
+            stands = λ other stands.
+                both_stand tables last.group (members_of tables group) other
+                (both_right ((last.slot == slot)
+                && can_join tables last.group (members_of tables group)) _
+                (both_left ((last.slot == slot)
+                && can_join tables last.group (members_of tables group)
+                && stands_with tables last.group (members_of tables group)) _ is)) stands;
           };
         })
         (grown_stands (reset plan n k) last loop stands) right far

@@ -1,4 +1,5 @@
 mod Examples
+pub mod StandLemmas
 pub mod NearLemmas
 pub mod FusedPlans
 pub mod FusedPasses

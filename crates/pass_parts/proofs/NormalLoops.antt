@@ -4,9 +4,12 @@ use Rattle.std.proofs.Common.{◌<◌, ◌==◌, Bool, true, false, not, true≢
 use Rattle.std.proofs.Common.{length, length-append, append_assoc, map}
 use Rattle.std.specs.Prelude.{◌&&◌, ◌||◌, All, flat_map, if◌then◌else◌, slice_get, Option, Some, None}
 use Rattle.std.specs.Option.{IfSome, IsSomeAnd}
-use Rattle.std.specs.List.{AllByRecursion, list_all}
+use Rattle.std.specs.List.{AllByRecursion, list_all, list_any}
 use Rattle.std.proofs.Math.Path.{fun_ext}
+use Rattle.std.proofs.lemmas.Bool.{and_parts}
+use Rattle.std.proofs.lemmas.Bool.Decides.{Decides-eqb}
 use Rattle.std.proofs.lemmas.List.Elements.{recursion_from_All}
+use Rattle.std.proofs.lemmas.List.Folds.{list_any-append}
 use Rattle.std.proofs.lemmas.Option.{slice_get_within}
 use Rattle.node_form.specs.declared.arrays.ArrayRow.{ArrayRow}
 use Rattle.node_form.specs.declared.arrays.Item.{Item}
@@ -20,9 +23,9 @@ use Rattle.node_form.specs.Value.{unmoved}
 use Rattle.node_form.specs.Fits.{Fits, FitsGroup, FitsMember, FitsWord, HasExpr}
 use Rattle.row_runs.specs.Cut.{passed}
 use Rattle.code_parts.specs.Fused.{are_joinable}
-use Rattle.code_parts.specs.Stretch.{ends_stretch, is_goal, right_from}
-use Rattle.code_parts.specs.Uses.{as_list, exprs_of, member_words, members_of, put_by, rows_or_none}
-use Rattle.code_parts.specs.Uses.{share, shifted_in, words_of}
+use Rattle.code_parts.specs.Stretch.{ends_stretch, is_goal, is_right_throughout, right_from}
+use Rattle.code_parts.specs.Uses.{accumulated_by, as_list, exprs_of, member_words, members_of}
+use Rattle.code_parts.specs.Uses.{put_by, rows_or_none, scalars_in, share, shifted_in, words_of}
 use Rattle.code_parts.proofs.WalkLemmas.{both_left, both_right}
 use Rattle.flat_passes.specs.Rewritten.{stretches_of, with_moved_goal}
 use Rattle.flat_passes.specs.Grouped.{Grouped, Plain, Runs, all_numbered, ended_by, grouped, groups_of}
@@ -32,14 +35,18 @@ use Rattle.comm_combine.proofs.ReachLemmas.{GoalsMoved}
 use Rattle.temp_norm.specs.Normalised.{loop_through, normalised, place_among, put_alone}
 use Rattle.temp_norm.specs.Normalised.{read_each, reads_itself, row_through, temporaries}
 use Rattle.temp_norm.specs.Normalised.{with_temporaries}
-use Rattle.fuse_contract.specs.Fusing.{can_join, reference, references_in, references_of}
-use Rattle.pass_parts.specs.Checks.{ChecksWhatFollows, ChecksWhatItJoins, is_one_of}
+use Rattle.fuse_contract.specs.Fusing.{all_accumulated, are_like, are_put_alike, are_rows_like}
+use Rattle.fuse_contract.specs.Fusing.{can_join, is_accumulating, reference, references_in}
+use Rattle.fuse_contract.specs.Fusing.{references_of, stands_with}
+use Rattle.pass_parts.specs.Checks.{ChecksWhatFollows, ChecksWhatItJoins, StandsBehindChecks}
+use Rattle.pass_parts.specs.Checks.{StandsWithWhatFollows, is_one_of}
 use Rattle.pass_parts.proofs.CheckedLemmas.{Since, are_needed, needed_behind, old_learn, old_right}
-use Rattle.pass_parts.proofs.CheckedLemmas.{checks_back, old_throughout}
+use Rattle.pass_parts.proofs.CheckedLemmas.{checks_back, old_throughout, stands_back}
 use Rattle.pass_parts.proofs.GoalLemmas as goals
 use Rattle.pass_parts.proofs.GoalLemmas.{all_moved, group_there, new}
 use Rattle.pass_parts.proofs.JoinableLemmas.{apart}
 use Rattle.pass_parts.proofs.NearLemmas.{ends_moved}
+use Rattle.pass_parts.proofs.StandLemmas.{all_four, four}
 
 both : (a b : Bool) → a ≡ true → b ≡ true → (a && b) ≡ true
 both true b one other = other
@@ -261,11 +268,18 @@ module _ (tables : Tables) where
   abbrev reset : ℕ → Option Since → Option Since
   reset n since = if is_goal plan.code n then None else since
 
+  -- what may stand wherever the old group does may stand wherever the new one does
+  abbrev StandsOn : List Member → List Member → Type 0
+  StandsOn one old =
+      (other : List Member) → AllByRecursion AreThere other
+      → stands_with tables old other ≡ true → stands_with plan one other ≡ true
+
   abbrev Goes : Option Since → Option Since → Type 0
   Goes None past = Unit {0}
   Goes (Some since) None = ⊥
   Goes (Some since) (Some past) =
       (since.loop.0 ≡ past.loop.0) × (since.items ≡ past.items)
+      × StandsOn (members_of plan since.loop.1) (members_of tables past.loop.1)
 
   reset_goes : (n : ℕ) (since past : Option Since) → Goes since past → Goes (reset n since) past
   reset_goes n since past goes = by (is_goal plan.code n)
@@ -283,12 +297,14 @@ module _ (tables : Tables) where
   need_goes None past item goes = tt
   need_goes (Some since) None item goes = absurd goes
   need_goes (Some since) (Some past) item goes =
-      (goes.0, ap (λ items. items ++ item ∷ []) goes.1)
+      (goes.0, ap (λ items. items ++ item ∷ []) goes.1, goes.2)
 
-  fewer : (a b x : Bool) → (not (a && true) || x) ≡ true → (not (a && b) || x) ≡ true
-  fewer true true x known = known
-  fewer true false x known = refl
-  fewer false b x known = refl
+  fewer : (a b x y z w : Bool) → (x ≡ true → z ≡ true) → (y ≡ true → w ≡ true)
+      → (not (a && true) || (x && y)) ≡ true → (not (a && b) || (z && w)) ≡ true
+  fewer true true x y z w one other known =
+      let parts = and_parts x y known in both z w (one parts.0) (other parts.1)
+  fewer true false x y z w one other known = refl
+  fewer false b x y z w one other known = refl
 
   loop_right : (since past : Option Since) (slot group number : ℕ)
       → members_of plan number ≡ members_of tables group
@@ -298,18 +314,221 @@ module _ (tables : Tables) where
   loop_right None past slot group number same there goes needed = refl
   loop_right (Some since) None slot group number same there goes needed = absurd goes
   loop_right (Some since) (Some past) slot group number same there goes needed =
-      ap (λ members. not ((since.loop.0 == slot) && are_joinable plan since.loop.1 number)
-      || list_all (is_one_of since.items) (references_of plan slot members)) same
-      ∙ (ap (λ references. not ((since.loop.0 == slot) && are_joinable plan since.loop.1 number)
-      || list_all (is_one_of since.items) references)
-      (same_references slot (members_of tables group) there)
-      ∙ fewer (since.loop.0 == slot) (are_joinable plan since.loop.1 number)
-      (list_all (is_one_of since.items) (references_of tables slot (members_of tables group)))
-      (ap (λ n. not ((n == slot) && true) || list_all (is_one_of since.items)
-      (references_of tables slot (members_of tables group))) goes.0
-      ∙ (ap (λ items. not ((past.loop.0 == slot) && true) || list_all (is_one_of items)
-      (references_of tables slot (members_of tables group))) goes.1
-      ∙ needed)))
+      let members = members_of tables group in
+      fewer (since.loop.0 == slot) (are_joinable plan since.loop.1 number)
+      (list_all (is_one_of past.items) (references_of tables slot members))
+      (stands_with tables (members_of tables past.loop.1) members)
+      (list_all (is_one_of since.items) (references_of plan slot (members_of plan number)))
+      (stands_with plan (members_of plan since.loop.1) (members_of plan number))
+      (λ e. ap (λ members. list_all (is_one_of since.items) (references_of plan slot members)) same
+      ∙ (ap (list_all (is_one_of since.items)) (same_references slot members there)
+      ∙ (ap (λ items. list_all (is_one_of items) (references_of tables slot members)) goes.1
+      ∙ e)))
+      (λ e. ap (stands_with plan (members_of plan since.loop.1)) same ∙ goes.2 members there e)
+      (ap (λ n. not ((n == slot) && true)
+      || (list_all (is_one_of past.items) (references_of tables slot members)
+      && stands_with tables (members_of tables past.loop.1) members)) goes.0
+      ∙ needed)
+
+  -- ---- groups that accumulate and put the same
+  front_get : {X : Type 0} (xs ys : List X) (k : ℕ) (x : X) → slice_get xs k ≡ Some x
+      → slice_get (xs ++ ys) k ≡ Some x
+  front_get [] ys k x e = absurd (none e)
+    where
+      none : {X : Type 0} {x : X} → (let n : Option X = None in n) ≡ Some x → ⊥
+      none e = cc
+  front_get (y ∷ xs) ys zero x e = e
+  front_get (y ∷ xs) ys (suc k) x e = front_get xs ys k x e
+
+  still_like : (array other : ℕ) → are_like tables array other ≡ true
+      → are_like plan array other ≡ true
+  still_like array other e =
+      by (slice_get tables.arrays array) refl (slice_get tables.arrays other) refl e
+    where
+      by : (one : Option ArrayRow) → slice_get tables.arrays array ≡ one
+          → (two : Option ArrayRow) → slice_get tables.arrays other ≡ two
+          → are_rows_like one two ≡ true → are_like plan array other ≡ true
+      by None e two f like = absurd (true≢false (sym like))
+      by (Some row) e None f like = absurd (true≢false (sym like))
+      by (Some row) e (Some two) f like =
+          ap (λ o. are_rows_like o (slice_get plan.arrays other))
+          (front_get tables.arrays extra array row e)
+          ∙ (ap (are_rows_like (Some row)) (front_get tables.arrays extra other two f) ∙ like)
+
+  all_like : (array : ℕ) (others : List ℕ) → list_all (are_like tables array) others ≡ true
+      → list_all (are_like plan array) others ≡ true
+  all_like array [] e = refl
+  all_like array (other ∷ others) e =
+      let parts = and_parts (are_like tables array other)
+      (list_all (are_like tables array) others) e in
+      both (are_like plan array other) (list_all (are_like plan array) others)
+      (still_like array other parts.0) (all_like array others parts.1)
+
+  still_alike : (arrays others : List ℕ) → are_put_alike tables arrays others ≡ true
+      → are_put_alike plan arrays others ≡ true
+  still_alike [] [] e = refl
+  still_alike [] (other ∷ others) e = absurd (true≢false (sym e))
+  still_alike (array ∷ arrays) others e = all_like array others e
+
+  -- ---- no other scalar is accumulated
+  abbrev Among : ℕ → Type 0
+  Among k = list_any (λ other. k == other) (all_accumulated tables) ≡ true
+
+  abbrev AllAmong : List Member → Type 0
+  AllAmong group = AllByRecursion Among (flat_map accumulated_by group)
+
+  all_append : {X : Type 0} (P : X → Type 0) (xs ys : List X) → AllByRecursion P xs
+      → AllByRecursion P ys → AllByRecursion P (xs ++ ys)
+  all_append P [] ys left right = right
+  all_append P (x ∷ xs) ys left right = (left.0, all_append P xs ys left.1 right)
+
+  either_first : (a b : Bool) → a ≡ true → (a || b) ≡ true
+  either_first true b e = refl
+  either_first false b e = absurd (true≢false (sym e))
+
+  either_last : (a b : Bool) → b ≡ true → (a || b) ≡ true
+  either_last true b e = refl
+  either_last false b e = e
+
+  any_first : (k : ℕ) (xs ys : List ℕ) → list_any (λ other. k == other) xs ≡ true
+      → list_any (λ other. k == other) (xs ++ ys) ≡ true
+  any_first k xs ys e =
+      list_any-append (λ other. k == other) xs ys ∙ either_first _ _ e
+
+  any_last : (k : ℕ) (xs ys : List ℕ) → list_any (λ other. k == other) ys ≡ true
+      → list_any (λ other. k == other) (xs ++ ys) ≡ true
+  any_last k xs ys e =
+      list_any-append (λ other. k == other) xs ys ∙ either_last _ _ e
+
+  own : (all : List ℕ) (numbers : List ℕ)
+      → ((k : ℕ) → list_any (λ other. k == other) numbers ≡ true
+      → list_any (λ other. k == other) all ≡ true)
+      → AllByRecursion (λ k. list_any (λ other. k == other) all ≡ true) numbers
+  own all [] more = tt
+  own all (k ∷ numbers) more = (
+    more k (either_first (k == k) _ ((Decides-eqb k k).1 refl)),
+    own all numbers (λ j e. more j (either_last (j == k) _ e)),
+  )
+
+  found_among : (groups : List (List Member)) (k group : ℕ)
+      → list_any (λ other. k == other)
+      (flat_map accumulated_by (rows_or_none (slice_get groups group))) ≡ true
+      → list_any (λ other. k == other) (flat_map (flat_map accumulated_by) groups) ≡ true
+  found_among [] k group e = e
+  found_among (first ∷ groups) k zero e =
+      any_first k (flat_map accumulated_by first) (flat_map (flat_map accumulated_by) groups) e
+  found_among (first ∷ groups) k (suc group) e =
+      any_last k (flat_map accumulated_by first) (flat_map (flat_map accumulated_by) groups)
+      (found_among groups k group e)
+
+  group_among : (group : ℕ) → AllAmong (members_of tables group)
+  group_among group =
+      own (all_accumulated tables) (flat_map accumulated_by (members_of tables group))
+      (λ k e. found_among tables.groups k group e)
+
+  abbrev RowAmong : Grouped → Type 0
+  RowAmong (Runs slot group) = AllAmong group
+  RowAmong (Plain row) = Unit {0}
+
+  loop_among : (slot group : ℕ)
+      → IsKept slot (members_of tables group) ⊎ IsSplit slot (members_of tables group)
+      → AllByRecursion RowAmong (row_through tables extra (Runs slot (members_of tables group)))
+  loop_among slot group (inl kept) =
+      subst (AllByRecursion RowAmong) (sym kept) (group_among group, tt)
+  loop_among slot group (inr s) =
+      subst (AllByRecursion RowAmong) (sym s.rows) (tt, (tt, (tt, tt)))
+
+  row_among : (row : Instr)
+      → AllByRecursion RowAmong (row_through tables extra (grouped tables row))
+  row_among (instr.Loop slot group) =
+      loop_among slot group (seen slot (members_of tables group))
+  row_among row = (tt, tt)
+
+  put_among : (e : Bool) (row : Instr) → AllByRecursion RowAmong (put e moves row)
+  put_among true row = (tt, tt)
+  put_among false row = row_among row
+
+  front_among : (b : Bool) → AllByRecursion RowAmong (front b)
+  front_among true = tt
+  front_among false = tt
+
+  walked_among : (at : ℕ) (rows : List Instr) → AllByRecursion RowAmong (walked at rows)
+  walked_among at [] = tt
+  walked_among at (row ∷ rows) =
+      all_append RowAmong (front (is_goal tables.code at))
+      (put (ends_stretch row) moves row ++ walked (at + 1) rows)
+      (front_among (is_goal tables.code at))
+      (all_append RowAmong (put (ends_stretch row) moves row) (walked (at + 1) rows)
+      (put_among (ends_stretch row) row) (walked_among (at + 1) rows))
+
+  groups_among : (rows : List Grouped) → AllByRecursion RowAmong rows
+      → AllByRecursion Among (flat_map (flat_map accumulated_by) (groups_of rows))
+  groups_among [] all = tt
+  groups_among (Runs slot group ∷ rows) all =
+      all_append Among (flat_map accumulated_by group)
+      (flat_map (flat_map accumulated_by) (groups_of rows)) all.0 (groups_among rows all.1)
+  groups_among (Plain row ∷ rows) all = groups_among rows all.1
+
+  none_of : (k : ℕ) (numbers : List ℕ) → AllByRecursion Among numbers
+      → list_any (λ other. k == other) (all_accumulated tables) ≡ false
+      → list_any (λ other. k == other) numbers ≡ false
+  none_of k [] all none = refl
+  none_of k (other ∷ numbers) all none =
+      by (k == other) refl (none_of k numbers all.1 none)
+    where
+      by : (b : Bool) → (k == other) ≡ b → list_any (λ other. k == other) numbers ≡ false
+          → (b || list_any (λ other. k == other) numbers) ≡ false
+      by false e rest = rest
+      by true e rest =
+          absurd (true≢false (sym (subst Among (sym ((Decides-eqb k other).0 e)) all.0) ∙ none))
+
+  shares_none : (numbers all : List ℕ) → AllByRecursion Among all
+      → share numbers (all_accumulated tables) ≡ false → share numbers all ≡ false
+  shares_none [] all among none = refl
+  shares_none (k ∷ numbers) all among none =
+      let parts = neither (list_any (λ other. k == other) (all_accumulated tables))
+      (share numbers (all_accumulated tables)) none in
+      ap (λ b. b || share numbers all) (none_of k all among parts.0)
+      ∙ shares_none numbers all among parts.1
+    where
+      neither : (a b : Bool) → (a || b) ≡ false → (a ≡ false) × (b ≡ false)
+      neither true b e = absurd (true≢false e)
+      neither false b e = (refl, e)
+
+  new_among : AllByRecursion Among (all_accumulated plan)
+  new_among = groups_among made (walked_among 0 tables.code)
+
+  still_none : (numbers : List ℕ) → not (share numbers (all_accumulated tables)) ≡ true
+      → not (share numbers (all_accumulated plan)) ≡ true
+  still_none numbers e =
+      ap not (shares_none numbers (all_accumulated plan) new_among
+      (denied (share numbers (all_accumulated tables)) e))
+    where
+      denied : (b : Bool) → not b ≡ true → b ≡ false
+      denied true e = sym e
+      denied false e = refl
+
+  -- so a group that accumulates and puts the same stands on
+  stands_on : (one old : List Member)
+      → list_any is_accumulating one ≡ list_any is_accumulating old
+      → flat_map put_by one ≡ flat_map put_by old → StandsOn one old
+  stands_on one old totals puts other there e =
+      let words = λ (tables : Tables). flat_map scalars_in (flat_map (member_words tables) other) in
+      let parts = four (not (list_any is_accumulating old)) (not (list_any is_accumulating other))
+      (not (share (words tables) (all_accumulated tables)))
+      (are_put_alike tables (flat_map put_by old) (flat_map put_by other)) e in
+      all_four (not (list_any is_accumulating one)) (not (list_any is_accumulating other))
+      (not (share (words plan) (all_accumulated plan)))
+      (are_put_alike plan (flat_map put_by one) (flat_map put_by other))
+      (ap not totals ∙ parts.0) parts.1
+      (ap (λ words. not (share (flat_map scalars_in words) (all_accumulated plan)))
+      (group_same other there) ∙ still_none (words tables) parts.2)
+      (ap (λ l. are_put_alike plan l (flat_map put_by other)) puts
+      ∙ still_alike (flat_map put_by old) (flat_map put_by other) parts.3)
+
+  same_stands : (one old : List Member) → one ≡ old → StandsOn one old
+  same_stands one old same =
+      stands_on one old (ap (list_any is_accumulating) same) (ap (flat_map put_by) same)
 
   module _ (all_there : (group : ℕ) → AllByRecursion AreThere (members_of tables group)) where
     abbrev AreRight : ℕ → ℕ → Option Since → List (List Member) → List Grouped → Type 0
@@ -346,7 +565,12 @@ module _ (tables : Tables) where
         (group_there plan before (groups_of (walked (at + 1) rows)) members count is size)
         (all_there group) goes needed)
         (later (n + 1) (count + 1) (one_since slot count) (before ++ members ∷ []) goals
-        (reset_goes (n + 1) (one_since slot count) (one_since slot group) (refl, refl)) right
+        (reset_goes (n + 1) (one_since slot count) (one_since slot group) (
+          refl,
+          refl,
+          same_stands (members_of plan count) members
+              (group_there plan before (groups_of (walked (at + 1) rows)) members count is size),
+        )) right
         (is ∙ sym (append_assoc before (members ∷ []) (groups_of (walked (at + 1) rows))))
         (length-append before (members ∷ []) ∙ ap (λ k. k + 1) size))
 
@@ -375,10 +599,11 @@ module _ (tables : Tables) where
         by true = refl
         by false =
             cases (slot == slot) (are_joinable plan one other)
-            (list_all (is_one_of []) (references_of plan slot (members_of plan other))) never
+            (list_all (is_one_of []) (references_of plan slot (members_of plan other))
+            && stands_with plan (members_of plan one) (members_of plan other)) never
 
     split_loop : (slot group temporary read array expr : ℕ) (mask : Option ℕ) (line at : ℕ)
-        (rows : List Instr)
+        (rows : List Instr) → members_of tables group ≡ the_put array expr mask line
         → AllByRecursion AreThere (the_put array expr mask line)
         → reads_itself tables (the_put array expr mask line) ≡ true
         → IsLater (at + 1) (one_since slot group) rows
@@ -388,7 +613,7 @@ module _ (tables : Tables) where
         → AreRight n count since before (Plain (instr.Room temporary slot)
         ∷ Runs slot (the_put temporary expr mask line)
         ∷ Runs slot (the_put array read mask line) ∷ walked (at + 1) rows)
-    split_loop slot group temporary read array expr mask line at rows there itself later n count
+    split_loop slot group temporary read array expr mask line at rows is_put there itself later n count
         since before goals right is size =
         both (are_needed plan (are_joinable plan) (reset (n + 1) None) slot first) _
         (none_needed (n + 1) slot first)
@@ -401,8 +626,13 @@ module _ (tables : Tables) where
         ((before ++ one ∷ []) ++ other ∷ [])
         (subst (λ k. GoalsMoved tables.code plan.code (at + 1) (counted (at + 1) k rows)) three
         goals)
-        (reset_goes (n + 1 + 1 + 1) (one_since slot (first + 1)) (one_since slot group)
-        (refl, refl)) right
+        (reset_goes (n + 1 + 1 + 1) (one_since slot (first + 1)) (one_since slot group) (
+          refl,
+          refl,
+          stands_on (members_of plan (first + 1)) (members_of tables group)
+              (ap (list_any is_accumulating) put_there ∙ ap (list_any is_accumulating) (sym is_put))
+              (ap (flat_map put_by) put_there ∙ ap (flat_map put_by) (sym is_put)),
+        )) right
         (second_is ∙ sym (append_assoc (before ++ one ∷ []) (other ∷ []) more))
         (length-append (before ++ one ∷ []) (other ∷ []) ∙ ap (λ k. k + 1) second_size)))
       where
@@ -427,6 +657,9 @@ module _ (tables : Tables) where
         second_size : length (before ++ one ∷ []) ≡ first + 1
         second_size =
             length-append before (one ∷ []) ∙ ap (λ k. k + 1) (plus_none (length before) count size)
+
+        put_there : members_of plan (first + 1) ≡ other
+        put_there = group_there plan (before ++ one ∷ []) more other (first + 1) second_is second_size
 
         same_joins : are_joinable plan first (first + 1) ≡ can_join plan one other
         same_joins =
@@ -454,7 +687,7 @@ module _ (tables : Tables) where
         kept goals) goes needed right)
     loop_row slot group at rows past (inr s) later n count since before goals goes needed right =
         subst (λ l. AreRight n count since before (l ++ walked (at + 1) rows)) (sym s.rows)
-        (split_loop slot group s.temporary s.read s.array s.expr s.mask s.line at rows
+        (split_loop slot group s.temporary s.read s.array s.expr s.mask s.line at rows s.is
         (subst (AllByRecursion AreThere) s.is (all_there group))
         (ap (reads_itself tables) (sym s.is) ∙ s.itself) later n count since before
         (subst (λ l. GoalsMoved tables.code plan.code (at + 1) (counted (at + 1) (n + length l) rows))
@@ -590,13 +823,23 @@ module _ (tables : Tables) where
         at_row (is_goal tables.code at) row at rows past refl
         (λ now. all_right rows (at + 1) now) n count since before goals goes right is size
 
-  pub normal_checks : Fits tables → ChecksWhatFollows tables
-      → ChecksWhatItJoins (normalised tables)
-  normal_checks fits checks =
-      subst ChecksWhatItJoins (sym normalised_is)
-      (checks_back plan (are_joinable plan)
-      (all_right
-      (group_fits tables.groups (recursion_from_All (FitsGroup tables) tables.groups fits.groups))
-      tables.code 0 None 0 0 None []
-      (all_moved {F = Unit {0}} tables tt step (λ facts row. tt) (λ facts. []) refl)
-      (none_goes 0 None) (old_throughout tables always checks) refl refl))
+  module _ (fits : Fits tables) (checks : ChecksWhatFollows tables)
+      (stand : StandsWithWhatFollows tables) where
+    new_throughout : is_right_throughout None (old_learn plan (are_joinable plan))
+        (old_right plan (are_joinable plan)) plan.code ≡ true
+    new_throughout =
+        all_right
+        (group_fits tables.groups (recursion_from_All (FitsGroup tables) tables.groups fits.groups))
+        tables.code 0 None 0 0 None []
+        (all_moved {F = Unit {0}} tables tt step (λ facts row. tt) (λ facts. []) refl)
+        (none_goes 0 None) (old_throughout tables always checks stand) refl refl
+
+    pub normal_checks : ChecksWhatItJoins (normalised tables)
+    normal_checks =
+        subst ChecksWhatItJoins (sym normalised_is)
+        (checks_back plan (are_joinable plan) new_throughout)
+
+    pub normal_stands : StandsBehindChecks (normalised tables)
+    normal_stands =
+        subst StandsBehindChecks (sym normalised_is)
+        (stands_back plan (are_joinable plan) new_throughout)

@@ -3,6 +3,7 @@ use Rattle.std.proofs.Common.{◌≡◌, ◌⊎◌, inl, inr, refl, ap, ◌∙�
 use Rattle.std.proofs.Common.{false, not, List, [], ◌∷◌, ◌++◌, append_assoc}
 use Rattle.std.specs.Prelude.{◌&&◌, ◌||◌, fold, Option, Some, None}
 use Rattle.std.specs.List.{list_all}
+use Rattle.std.proofs.lemmas.Bool.{and_from}
 use Rattle.std.proofs.lemmas.Bool.Decides.{Decides-eqb}
 use Rattle.node_form.specs.declared.arrays.Item.{Item}
 use Rattle.node_form.specs.declared.instructions.Instr.{Instr}
@@ -12,7 +13,7 @@ use Rattle.code_parts.specs.Fused.{are_joinable}
 use Rattle.code_parts.specs.Stretch.{IsRightInStretches, IsStretch, is_right_throughout}
 use Rattle.code_parts.specs.Uses.{members_of}
 use Rattle.code_parts.proofs.WalkLemmas.{throughout}
-use Rattle.fuse_contract.specs.Fusing.{known_behind, lies_within, references_of}
+use Rattle.fuse_contract.specs.Fusing.{known_behind, lies_within, references_of, stands_with}
 use Rattle.pass_parts.specs.Parts.{CanBeFused, known_after, known_with}
 
 -- the references that are known, and the loop directly in front of a row
@@ -39,9 +40,16 @@ module _ (tables : Tables) where
   all_known known slot group =
       list_all (lies_within tables known) (references_of tables slot (members_of tables group))
 
+  -- the loop may stand wherever the last one does
+  abbrev pub may_stand : Option (ℕ × ℕ) → ℕ → Bool
+  may_stand None group = true
+  may_stand (Some loop) group =
+      stands_with tables (members_of tables loop.1) (members_of tables group)
+
   abbrev pub is_known : Seen → Instr → Bool
   is_known seen (instr.Loop slot group) =
-      not (could_join seen.last slot group) || all_known seen.known slot group
+      not (could_join seen.last slot group)
+      || (may_stand seen.last group && all_known seen.known slot group)
   is_known seen row = true
 
   -- ---- behind rows
@@ -101,12 +109,14 @@ module _ (tables : Tables) where
   known_there : CanBeFused tables → (before : List Instr) (slot group : ℕ)
       → IsStretch tables.code (before ++ instr.Loop slot group ∷ [])
       → (not (could_join (seen_after before).last slot group)
-      || all_known (seen_after before).known slot group) ≡ true
+      || (may_stand (seen_after before).last group
+      && all_known (seen_after before).known slot group)) ≡ true
   known_there can before slot group s = by (seen_after before).last refl
     where
       standing : (loop : ℕ × ℕ) → IsLast before loop → (loop.0 == slot) ≡ true
           → are_joinable tables loop.1 group ≡ true
-          → all_known (seen_after before).known slot group ≡ true
+          → (stands_with tables (members_of tables loop.1) (members_of tables group)
+          && all_known (seen_after before).known slot group) ≡ true
       standing loop l same joinable =
           let here : loop.0 ≡ slot = (Decides-eqb loop.0 slot).0 same in
           let rows : before ≡ l.before ++ instr.Loop slot loop.1 ∷ [] =
@@ -115,20 +125,26 @@ module _ (tables : Tables) where
           ≡ l.before ++ instr.Loop slot loop.1 ∷ instr.Loop slot group ∷ [] =
           ap (λ rows. rows ++ instr.Loop slot group ∷ []) rows
           ∙ append_assoc l.before (instr.Loop slot loop.1 ∷ []) (instr.Loop slot group ∷ []) in
-          ap (λ known. all_known known slot group)
+          let stretch = subst (IsStretch tables.code) place s in
+          and_from (stands_with tables (members_of tables loop.1) (members_of tables group))
+          (all_known (seen_after before).known slot group)
+          (can.stands l.before slot loop.1 group stretch joinable)
+          (ap (λ known. all_known known slot group)
           (same_known before nothing_seen [] refl ∙ ap (known_after tables) rows)
-          ∙ can.known l.before slot loop.1 group (subst (IsStretch tables.code) place s) joinable
+          ∙ can.known l.before slot loop.1 group stretch joinable)
 
       cases : (loop : ℕ × ℕ) → IsLast before loop → (a b : Bool) → (loop.0 == slot) ≡ a
           → are_joinable tables loop.1 group ≡ b
-          → (not (a && b) || all_known (seen_after before).known slot group) ≡ true
+          → (not (a && b)
+          || (stands_with tables (members_of tables loop.1) (members_of tables group)
+          && all_known (seen_after before).known slot group)) ≡ true
       cases loop l true true same joinable = standing loop l same joinable
       cases loop l true false same joinable = refl
       cases loop l false b same joinable = refl
 
       by : (last : Option (ℕ × ℕ)) → (seen_after before).last ≡ last
           → (not (could_join last slot group)
-          || all_known (seen_after before).known slot group) ≡ true
+          || (may_stand last group && all_known (seen_after before).known slot group)) ≡ true
       by None is = refl
       by (Some loop) is =
           cases loop (last_of before loop is) (loop.0 == slot) (are_joinable tables loop.1 group)

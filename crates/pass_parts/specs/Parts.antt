@@ -2,6 +2,7 @@
 --
 --   known_after        the references that are known behind rows that begin a stretch
 --   KnowsWhatItJoins   where a loop could join the one in front of it, its references are known
+--   StandsWithWhatItJoins   and it may stand wherever that one does
 --   CanBeFused         loops can be joined wherever that leaves one
 --   names_alone        a row names an array by itself
 --   IsCellLeft         exchanges aside, an array could be a cell
@@ -21,7 +22,7 @@ use Rattle.code_parts.specs.Stretch.{IsStretch}
 use Rattle.code_parts.specs.Uses.{arrays_in, members_of, named_arrays, named_by, shifted_arrays}
 use Rattle.code_parts.specs.Uses.{words_of}
 use Rattle.fuse_contract.specs.Contracting.{arrays_of_row, is_among}
-use Rattle.fuse_contract.specs.Fusing.{known_behind, lies_within, references_of}
+use Rattle.fuse_contract.specs.Fusing.{known_behind, lies_within, references_of, stands_with}
 
 -- ---- joined loops
 -- behind a loop its references are known, and behind other rows what these leave known
@@ -43,10 +44,19 @@ KnowsWhatItJoins tables =
     list_all (lies_within tables (known_after tables (before ++ instr.Loop slot one ∷ [])))
     (references_of tables slot (members_of tables other)) ≡ true
 
--- and no vote and no exchange stands there
+-- and it may stand wherever that one does
+abbrev pub StandsWithWhatItJoins : Tables → Type 0
+StandsWithWhatItJoins tables =
+    (before : List Instr) (slot one other : ℕ) →
+    IsStretch tables.code (before ++ instr.Loop slot one ∷ instr.Loop slot other ∷ []) →
+    are_joinable tables one other ≡ true →
+    stands_with tables (members_of tables one) (members_of tables other) ≡ true
+
+-- both, and no vote and no exchange stands there
 pub record CanBeFused (tables : Tables) : Type 0 where
   pub flat : All (λ row. is_between_loops row ≡ false) tables.code
   pub known : KnowsWhatItJoins tables
+  pub stands : StandsWithWhatItJoins tables
 
 -- ---- cells
 -- a row of a flat program names the array by itself, and not by its group; `need`, `room` and

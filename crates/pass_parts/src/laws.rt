@@ -13,23 +13,30 @@ ghost use Rattle.fuse_contract.specs.Contracting.{contracted};
 ghost use Rattle.fuse_contract.specs.Fusing.{fused};
 ghost use Rattle.node_emit.specs.Emit.{emitted};
 ghost use Rattle.pass_parts.specs.Checks.{ChecksWhatFollows, ChecksWhatItJoins};
+ghost use Rattle.pass_parts.specs.Checks.{StandsBehindChecks, StandsWithWhatFollows};
 ghost use Rattle.pass_parts.specs.Parts.{CanBeFused, HasNoCellLeft, KnowsWhatItJoins};
+ghost use Rattle.pass_parts.specs.Parts.{StandsWithWhatItJoins};
 ghost use Rattle.temp_norm.specs.Normalised.{normalised};
 
 /// Where loops are joined, no two are left that could be one, if wherever a loop could join the one
-/// directly in front of it its references are known there.
+/// directly in front of it its references are known there, and it may stand wherever that one does.
 pub fn loops_are_joined_wherever_they_can_be()
     ensures { (code : Code) → CanBeFused code → IsFused (fused code) }
 {}
 
 /// Where checks alone stand between two loops over one slot, let the references of the second one
-/// be among theirs. Then so they are behind values that go through temporaries, of loops that could
-/// be joined; and where checks that always pass are left out, the references are known.
+/// be among theirs, and let it be one that may stand wherever the first one does. Then so it is
+/// behind values that go through temporaries, of loops that could be joined; and where checks that
+/// always pass are left out, the references are known.
 pub fn checks_say_what_is_joined()
     ensures normalised { (code : Code) → Fits code → ChecksWhatFollows code →
-        ChecksWhatItJoins (normalised code) }
+        StandsWithWhatFollows code → ChecksWhatItJoins (normalised code) }
+    ensures stands_behind { (code : Code) → Fits code → ChecksWhatFollows code →
+        StandsWithWhatFollows code → StandsBehindChecks (normalised code) }
     ensures checked { (code : Code) → Fits code → ChecksWhatItJoins code →
-        KnowsWhatItJoins (checked code) }
+        StandsBehindChecks code → KnowsWhatItJoins (checked code) }
+    ensures stands { (code : Code) → Fits code → ChecksWhatItJoins code →
+        StandsBehindChecks code → StandsWithWhatItJoins (checked code) }
 {}
 
 /// Where no two loops could be one, none can behind a later pass.

@@ -32,7 +32,8 @@ use Rattle.fuse_contract.specs.Contracting.{cell_among, contracted, contracted_a
 use Rattle.fuse_contract.specs.Contracting.{here_or_cell, member_contracted, put_or_cell}
 use Rattle.fuse_contract.specs.Contracting.{word_contracted}
 use Rattle.fuse_contract.specs.Fusing.{Loop, both, can_join, fused, joined, joins, known_behind}
-use Rattle.fuse_contract.specs.Fusing.{last_rows, lies_within, references_of, with_loop}
+use Rattle.fuse_contract.specs.Fusing.{last_rows, lies_within, references_of, stands_with}
+use Rattle.fuse_contract.specs.Fusing.{with_loop}
 use Rattle.pass_promises.specs.Promises.{HasLoopsUpTo, loops_in}
 
 -- ---- What holds of the groups that rows have holds of the groups of tables that are made of such
@@ -149,10 +150,10 @@ module _ (R : List Member → Type 0) where
       last_holds None is = tt
       last_holds (Some loop) is = ((is, tt), tt)
 
-      join_holds : (a b c : Bool) → (a && b && c) ≡ true → b ≡ true
-      join_holds true true c e = refl
-      join_holds true false c e = e
-      join_holds false b c e = absurd (true≢false (sym e))
+      join_holds : (a b c d : Bool) → (a && b && c && d) ≡ true → b ≡ true
+      join_holds true true c d e = refl
+      join_holds true false c d e = e
+      join_holds false b c d e = absurd (true≢false (sym e))
 
       with_holds : (known : List Item) (last : Option Loop) (loop : Loop)
           (rest : Loop → List Grouped) → LastHolds last → R loop.group
@@ -169,6 +170,7 @@ module _ (R : List Member → Type 0) where
               more (both tables last loop)
               (joining last.group loop.group is own
               (join_holds (last.slot == loop.slot) (can_join tables last.group loop.group)
+              (stands_with tables last.group loop.group)
               (list_all (lies_within tables known)
               (references_of tables loop.slot loop.group)) e))
           by false e = ((is, tt), more loop own)

@@ -1,3 +1,4 @@
 mod Examples
 pub mod SlotLemmas
+pub mod ThereLemmas
 mod SlotExamples

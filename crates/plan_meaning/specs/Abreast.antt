@@ -3,12 +3,13 @@
 --   Share     what a processor has there
 --   Abreast   all of them, and the exchanges that are open
 --   standing  a processor's state in front of a row: of which one, no row looks at
-use Rattle.std.specs.Prelude.{ℕ, Bool, true, false, ℤ, List, [], ◌∷◌, Option, None}
+use Rattle.std.specs.Prelude.{ℕ, Bool, true, false, ℤ, List, [], ◌∷◌, Option, None, nat_lt}
+use Rattle.std.specs.Prelude.{if◌then◌else◌}
 use Rattle.std.specs.List.{list_all}
 use Rattle.zpl_region.specs.declared.regions.Region.{Region}
 use Rattle.zpl_arrays.specs.Array.{Array}
 use Rattle.node_form.specs.declared.tables.Tables.{Tables}
-use Rattle.grid_meaning.specs.Local.{Local, processor_numbers, start_local}
+use Rattle.grid_meaning.specs.Local.{Local, processor_numbers, processors, start_local}
 use Rattle.row_orders.specs.Rows.{Flight}
 use Rattle.row_runs.specs.Run.{Step, Goes, Stops, Wrong}
 
@@ -78,3 +79,9 @@ is_quiet all = are_none all.flights
 abbrev pub go_where : Bool → List ℕ → Abreast → Step Abreast
 go_where true bytes next = Goes bytes next
 go_where false bytes next = Stops Wrong
+
+-- What becomes of the processors that there are: what other numbers stand for stays as it was.
+abbrev pub of_processors : Tables → Abreast → Abreast → Abreast
+of_processors code before next = record next {
+  shares = λ p. if nat_lt p (processors code) then next.shares p else before.shares p;
+}

@@ -20,7 +20,7 @@ use Rattle.grid_meaning.specs.Local.{Local, processors}
 use Rattle.row_orders.specs.Rows.{Flight, alone_where, at_turn, taking}
 use Rattle.row_runs.specs.Run.{Step, Stops, Wrong}
 use Rattle.plan_meaning.specs.Abreast.{Abreast, every, every_two, go_where, is_quiet, locals_of}
-use Rattle.plan_meaning.specs.Abreast.{share_of}
+use Rattle.plan_meaning.specs.Abreast.{of_processors, share_of}
 
 -- ---- the stages of a row: whether it begins alone, to whom it sends, and from whom it takes
 abbrev pub starts_alone : List Stage → Bool
@@ -134,7 +134,8 @@ module _ (code : Tables) (row : ℕ → Collective) (all : Abreast) where
       go_where
       (flight.exchange == exchange && are_partners code flight.to (from_of code row locals)
       && every code (does_well code row locals flight.words))
-      (bytes code row locals flight.words) (next_with code row locals flight.words flights)
+      (bytes code row locals flight.words)
+      (of_processors code all (next_with code row locals flight.words flights))
 
   abbrev pub finished_in : ℕ → List Flight → Step Abreast
   finished_in exchange [] = Stops Wrong

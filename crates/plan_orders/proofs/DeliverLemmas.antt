@@ -5,7 +5,8 @@ use Rattle.std.proofs.lemmas.List.Elements.{All-nil, All-cons, All-tail, All-app
 use Rattle.grid_links.specs.Machine.{Goes as Moves, Ended, Blocked, Awaits}
 use Rattle.grid_links.specs.Run.{count_of}
 use Rattle.grid_paths.specs.Path.{AreOthers}
-use Rattle.grid_paths.specs.Scene.{Leads}
+use Rattle.grid_links.specs.declared.messages.Message.{Message}
+use Rattle.grid_paths.specs.Scene.{Leads, Scene}
 use Rattle.grid_paths.specs.Tree.{times}
 use Rattle.grid_paths.proofs.RoundLemmas.{leads_agreed}
 use Rattle.code_parts.specs.Early.{is_roomy}
@@ -20,7 +21,8 @@ use Rattle.row_orders.specs.Rows.{Acting, Flight, HasRoom, IsBlind, IsFlight, al
 use Rattle.row_orders.proofs.ExchangeLemmas.{delivers, exchanges}
 use Rattle.row_orders.proofs.StarLemmas.{processor_count}
 use Rattle.row_runs.specs.Run.{Does}
-use Rattle.plan_meaning.specs.Abreast.{Abreast, every, every_two, go_where, is_quiet, locals_of}
+use Rattle.plan_meaning.specs.Abreast.{Abreast, every, every_two, go_where, is_quiet, locals_of, of_processors}
+use Rattle.plan_meaning.proofs.ThereLemmas.{there_is}
 use Rattle.plan_meaning.specs.Messages.{are_partners, begun, bytes, delivered, does_well, final_of, finished, finished_in, from_of, leaves_row, middle_of, next_or, next_with, receivers, senders, shown_of, started, starts_alone, to_of, took, words_of}
 use Rattle.plan_orders.specs.Brings.{AreOpen, GoesWell, IsLimited, in_front, placed, row_most, standing_at}
 use Rattle.plan_orders.proofs.QuietLemmas.{most_some}
@@ -391,6 +393,30 @@ module _ (code : Tables) (links : Option ℕ) (at : ℕ) (instr : Instr)
   less_room None many room = tt
   less_room (Some capacity) many room = omega (arith, room)
 
+  -- as far as there are processors
+  leads_there : (scene : Scene Local Message) (others thirds : ℕ → Local) (flights : List Flight)
+      (many : ℕ → ℕ) (shown : ℕ → List ℕ) → ((p : ℕ) → p < count → others p ≡ thirds p)
+      → Leads (system_over code links) scene (flying others flights) many shown
+      → Leads (system_over code links) scene (flying thirds flights) many shown
+  leads_there scene others thirds flights many shown same leads = λ world has.
+      let comes = leads world has in
+      record {
+        order = comes.order;
+        only_moves = comes.only_moves;
+        arrives = record {
+          size = comes.arrives.size;
+          many = comes.arrives.many;
+          local = λ p below. comes.arrives.local p below ∙ ap Some (same p below);
+          link = comes.arrives.link;
+        };
+        moved = comes.moved;
+        shows = comes.shows;
+      }
+
+  abbrev behind_finish : Flight → List Flight → Abreast
+  behind_finish flight flights =
+      of_processors code all (next_with code row locals flight.words flights)
+
   pub finished_well : (n number : ℕ) → AreOpen code links all → tag ≡ 2 * number
       → ((p : ℕ) → receivers ((row p).stages (locals p)) ≡ [])
       → GoesWell code links n at all (Does (finished code row all number))
@@ -402,7 +428,7 @@ module _ (code : Tables) (links : Option ℕ) (at : ℕ) (instr : Instr)
           → (flight.exchange == number && are_partners code flight.to (from_of code row locals)
           && every code (does_well code row locals flight.words)) ≡ b
           → GoesWell code links n at all (Does (go_where b (bytes code row locals flight.words)
-          (next_with code row locals flight.words flights)))
+          (of_processors code all (next_with code row locals flight.words flights))))
       of_flight flight flights are false e = tt
       of_flight flight flights are true e =
           let (same, partners, well) = three_parts (flight.exchange == number)
@@ -417,7 +443,12 @@ module _ (code : Tables) (links : Option ℕ) (at : ℕ) (instr : Instr)
               many = turns;
               shown = shown flight.words well;
               leads =
-                  subst (λ f. Leads (system_over code links) (flying one f)
+                  leads_there (flying one all.flights) (other flight.words well)
+                  (λ p. standing_at (at + 1) ((behind_finish flight flights).shares p)) flights turns
+                  (shown flight.words well)
+                  (λ p below. ap (standing_at (at + 1)) (sym (there_is code all
+                  (next_with code row locals flight.words flights) p (inside p below))))
+                  (subst (λ f. Leads (system_over code links) (flying one f)
                   (flying (other flight.words well) flights) turns (shown flight.words well))
                   (sym are)
                   ((exchanges code links).finishes row one (other flight.words well)
@@ -428,7 +459,7 @@ module _ (code : Tables) (links : Option ℕ) (at : ℕ) (instr : Instr)
                     from = λ p q a b.
                         (partners_both flight.to (from_of code row locals) partners p q a b).0;
                     words = λ p q. refl;
-                  }) flying_now room);
+                  }) flying_now room));
               enough = turns_some flight.words well;
               few = λ limited p below. turns_few flight.words well limited n p below;
               printed = refl;

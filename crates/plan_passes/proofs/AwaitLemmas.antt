@@ -54,7 +54,7 @@ module _ (code : Tables) (links : Option ℕ) (n : ℕ) where
   await_act row (Ready all) = ready_act row all
 
 -- ---- a loop, whatever is next
-abbrev next_as : Bool → Step Abreast → Step Abreast
+abbrev pub next_as : Bool → Step Abreast → Step Abreast
 next_as b (Stops (Ends More)) = Stops (wanted_stop b)
 next_as b step = step
 
@@ -89,7 +89,7 @@ module _ (code : Tables) (links : Option ℕ) (n : ℕ) where
   same_group : (group : ℕ) → (group == group) ≡ true
   same_group group = let one : (group == group) ≡ true = grind (arith, nat_tests) in one
 
-  loop_next : (slot group : ℕ) (next : Option Instr) (all : Abreast)
+  pub loop_next : (slot group : ℕ) (next : Option Instr) (all : Abreast)
       → loop_does code links n slot group next all
       ≡ next_as (is_vote_of group next)
       (loop_does code links n slot group (Some (instr.Vote group)) all)

@@ -17,11 +17,13 @@ use Rattle.row_orders.specs.Rows.{Flight}
 use Rattle.row_runs.specs.Run.{Goes, Effect, Does}
 use Rattle.row_runs.specs.Straight.{Flow, OnTo, Tied, TiedOn, TiedWrong}
 use Rattle.row_runs.specs.Straight.{flow_behind, flow_step, through}
+use Rattle.plan_meaning.specs.Abreast.{of_processors}
 use Rattle.plan_meaning.specs.Abreast.{Abreast, every, go_where, locals_of}
+use Rattle.plan_meaning.proofs.ThereLemmas.{either_share}
 use Rattle.plan_meaning.specs.Act.{found}
 use Rattle.plan_meaning.specs.Messages as messages
-use Rattle.plan_meaning.specs.Messages.{are_partners, does_well, final_of, finished, finished_in}
-use Rattle.plan_meaning.specs.Messages.{finished_of, from_of, next_or, next_with, started}
+use Rattle.plan_meaning.specs.Messages.{are_partners, does_well, finished, finished_in}
+use Rattle.plan_meaning.specs.Messages.{finished_of, from_of, next_with, started}
 use Rattle.plan_passes.proofs.AwaitLemmas.{Await, Ready, Wanted, await_act, ready_step}
 use Rattle.plan_passes.proofs.FinishLemmas.{finish_leaves, finish_row}
 use Rattle.plan_passes.proofs.FreeLemmas.{Free, FreeOn, FreeWanted, FreeWrong, IsFree, LeavesItems}
@@ -171,7 +173,7 @@ module _ (code : Tables) (links : Option ℕ) (n exchange : ℕ) where
     shown = messages.bytes code row locals flight.words
 
     abbrev behind : List Flight → Abreast
-    behind = next_with code row locals flight.words
+    behind flights = of_processors code all (next_with code row locals flight.words flights)
 
     finish_does : (more : List Flight) → test ≡ true
         → act finish (Ready (record all { flights = flight ∷ more }))
@@ -193,7 +195,11 @@ module _ (code : Tables) (links : Option ℕ) (n exchange : ℕ) where
             let misses : Misses item.array (arrays_of_items items) =
             subst (λ o. Misses item.array (arrays_of_items (rows_or_none o))) here
             (misses_changes code finish item none.0).0 in
-            let is = finish_leaves code other items item.array misses all flight.words p in
+            let is =
+            either_share (λ share. (share.slots ≡ (all.shares p).slots)
+            × (slice_get share.stores item.array ≡ slice_get (all.shares p).stores item.array)) code all
+            (next_with code row locals flight.words flights) p (refl, refl)
+            (finish_leaves code other items item.array misses all flight.words p) in
             ((ap (λ slots. slice_get slots item.slot) is.0, is.1), each some none.1)
 
     both_go : (r c : Bool) (fl : Flight) → test ≡ true

@@ -24,7 +24,8 @@ use Rattle.row_runs.specs.Run.{Wrong, Effect, Does}
 use Rattle.row_runs.specs.Straight.{Flow, Halts, OnTo, TiedWrong, flow_behind, flow_step, flow_then}
 use Rattle.row_runs.specs.Straight.{through}
 use Rattle.row_runs.proofs.StraightLemmas.{through_append}
-use Rattle.plan_meaning.specs.Abreast.{Abreast, Share, every, go_where, locals_of, share_of}
+use Rattle.plan_meaning.specs.Abreast.{Abreast, Share, every, go_where, locals_of, of_processors}
+use Rattle.plan_meaning.specs.Abreast.{share_of}
 use Rattle.plan_meaning.specs.Act.{found}
 use Rattle.plan_meaning.specs.Messages.{are_partners, does_well, finished_of, from_of, next_with}
 use Rattle.plan_meaning.specs.Messages.{begun, final_of, leaves_row, middle_of, next_or, receivers}
@@ -40,7 +41,7 @@ use Rattle.plan_passes.proofs.OpenLemmas.{row_open}
 use Rattle.plan_passes.proofs.StartLemmas.{can_send, flight_of, start_row, started_is}
 
 -- ---- a finish doesn't look at its number
-senders_takes : (xs : List ℕ) → senders (map TakesFrom xs ++ Last ∷ []) ≡ xs
+pub senders_takes : (xs : List ℕ) → senders (map TakesFrom xs ++ Last ∷ []) ≡ xs
 senders_takes [] = refl
 senders_takes (x ∷ xs) = ap (λ l. x ∷ l) (senders_takes xs)
 
@@ -52,7 +53,7 @@ module _ (code : Tables) (items : List Item) (all : Abreast) (heard : ℕ → �
   abbrev locals : ℕ → Local
   locals = locals_of all
 
-  abbrev from : ℕ → List ℕ
+  abbrev pub from : ℕ → List ℕ
   from p = others_where code p (λ q. word_count code (locals p) items q p)
 
   taking_number : (k p : ℕ) (words : ℕ → List ℤ) (from : List ℕ) (local : Local)
@@ -65,10 +66,10 @@ module _ (code : Tables) (items : List Item) (all : Abreast) (heard : ℕ → �
       ((finish_row code 0 items p).taken local q (words q))))
       (fun_ext (λ next. taking_number k p words from next))
 
-  abbrev outcome : ℕ → Option Local
+  abbrev pub outcome : ℕ → Option Local
   outcome p = taking (finish_row code 0 items p) (λ q. heard q p) (locals p) (from p)
 
-  abbrev final : ℕ → Local
+  abbrev pub final : ℕ → Local
   final p = unwrap_or (outcome p) (locals p)
 
   module _ (k : ℕ) where
@@ -92,7 +93,7 @@ module _ (code : Tables) (items : List Item) (all : Abreast) (heard : ℕ → �
         ap (λ o. unwrap_or o (middle_of code row locals p)) (took_is p)
         ∙ ap (λ l. unwrap_or (outcome p) l) (middle_is p)
 
-    well_is : (p : ℕ) → does_well code row locals heard p
+    pub well_is : (p : ℕ) → does_well code row locals heard p
         ≡ (is_some (outcome p) && leaves_row ((finish_row code 0 items p).last (final p)))
     well_is p =
         ap (λ o. is_some o
@@ -107,7 +108,7 @@ module _ (code : Tables) (items : List Item) (all : Abreast) (heard : ℕ → �
         (took_is p)
         ∙ ap (λ l. is_some (outcome p) && leaves_row ((row p).last l)) (final_is p)))
 
-    share_is : (p : ℕ)
+    pub share_is : (p : ℕ)
         → share_of (next_or (final_of code row locals heard p)
         ((row p).last (final_of code row locals heard p)))
         ≡ share_of (next_or (final p) ((finish_row code 0 items p).last (final p)))
@@ -162,7 +163,8 @@ module _ (code : Tables) (links : Option ℕ) (n : ℕ) where
 
     abbrev pub received : Abreast
     received =
-        next_with code (finish_row code 0 items) (locals_of (quiet shares)) sent_flight.words []
+        of_processors code (quiet shares)
+        (next_with code (finish_row code 0 items) (locals_of (quiet shares)) sent_flight.words [])
 
   abbrev pub exchange_flow : List Item → Await → Flow Await
   exchange_flow items (Ready all) =
@@ -237,14 +239,17 @@ module _ (code : Tables) (links : Option ℕ) (n : ℕ) where
           ∙ (ap (λ b. Does (ready_step (go_where (b && partners items shares
           && every code (does_well code (finish_row code exchange items) (locals_of (quiet shares))
           (sent_flight items shares).words)) []
+          (of_processors code (quiet shares)
           (next_with code (finish_row code exchange items) (locals_of (quiet shares))
-          (sent_flight items shares).words [])))) same_number
+          (sent_flight items shares).words []))))) same_number
           ∙ (ap (λ w. Does (ready_step (go_where (true && partners items shares && every code w) []
+          (of_processors code (quiet shares)
           (next_with code (finish_row code exchange items) (locals_of (quiet shares))
-          (sent_flight items shares).words []))))
+          (sent_flight items shares).words [])))))
           (well_same code items (quiet shares) (sent_flight items shares).words exchange)
           ∙ ap (λ next. Does (ready_step (go_where
-          (true && partners items shares && all_well items shares) [] next)))
+          (true && partners items shares && all_well items shares) []
+          (of_processors code (quiet shares) next))))
           (next_same code items (quiet shares) (sent_flight items shares).words exchange [])))
 
       start_does : (shares : ℕ → Share)

@@ -19,7 +19,7 @@ use Rattle.plan_form.specs.Units.{Exchange, PlanRow, PlanUnit, Single, exchanges
 use Rattle.plan_form.specs.Units.{unit_rows, units_of}
 use Rattle.plan_form.proofs.PassLemmas.{exchanges_both, numbered_both, numbered_length}
 use Rattle.row_runs.specs.Cut as cut
-use Rattle.row_runs.specs.Cut.{LastAlike, Stretch, all_rows, as_list, moved_by, passed, rewritten_by}
+use Rattle.row_runs.specs.Cut.{LastAlike, Stretch, all_rows, as_list, moved_by, rewritten_by}
 use Rattle.row_runs.specs.Cut.{rows_of, segments_by}
 use Rattle.row_runs.specs.Run.{Effect, runs}
 use Rattle.row_runs.specs.Segments.{AllAlike, AreAlike, Behind, Here, IsStart, Keeps, Segment, news, olds}
@@ -37,7 +37,7 @@ use Rattle.plan_passes.proofs.RowLemmas.{ends_alike, straight}
 use Rattle.plan_passes.proofs.UnitLemmas.{IsPlain, NoFlights, first_dropped, numbered_flow}
 use Rattle.plan_passes.proofs.UnitLemmas.{rows_are_units, units_flow}
 
-abbrev AreStraight : List Instr → Type 0
+abbrev pub AreStraight : List Instr → Type 0
 AreStraight rows = AllByRecursion (λ row. ends_stretch row ≡ false) rows
 
 -- ---- one stretch, whose last row leads elsewhere
@@ -101,7 +101,7 @@ same_starts ones others
 
 -- ---- the pass
 module _ (code : Tables) (links : Option ℕ) (n : ℕ) (IsGood : Await → Type 0)
-    (rewrite : List PlanUnit → List PlanUnit) where
+    (IsFit : PlanUnit → Type 0) (rewrite : List PlanUnit → List PlanUnit) where
   abbrev act : Instr → Await → Effect Await
   act = await_act code links n
 
@@ -109,16 +109,17 @@ module _ (code : Tables) (links : Option ℕ) (n : ℕ) (IsGood : Await → Type
   IsLike s t = (s ≡ t) × IsGood t
 
   -- What a pass owes of the units of a stretch: its rows are those of a stretch, and from good
-  -- states units go on as before, to good ones, unless they are wrong.
+  -- states units that are fit go on as before, to good ones, unless they are wrong.
   pub record KeepsUnits : Type 0 where
     pub none : rewrite [] ≡ []
     pub quiet : (s : Await) → IsGood s → NoFlights s
     pub plain : (units : List PlanUnit) → AllByRecursion IsPlain units
         → AllByRecursion IsPlain (rewrite units)
-    pub ties : (units : List PlanUnit) → AllByRecursion IsPlain units → (s : Await) → IsGood s
+    pub ties : (units : List PlanUnit) → AllByRecursion IsPlain units
+        → AllByRecursion IsFit units → (s : Await) → IsGood s
         → Tied IsLike (units_flow code links n units s) (units_flow code links n (rewrite units) s)
 
-  units_plain : (rows : List Instr) → AreUnits rows → AreStraight rows
+  pub units_plain : (rows : List Instr) → AreUnits rows → AreStraight rows
       → AllByRecursion IsPlain (units_of code rows)
   units_plain rows NoUnits all = tt
   units_plain rows (MoreExchange more) all = (tt, units_plain _ more all.1.1)
@@ -248,13 +249,13 @@ module _ (code : Tables) (links : Option ℕ) (n : ℕ) (IsGood : Await → Type
     old_straight [] all = tt
     old_straight (row ∷ rows) all = (straight code links n row all.0, old_straight rows all.1)
 
-    front_ties : (front : List Instr) → AreUnits front → AreStraight front → (count : ℕ)
-        (rest : List (List Item))
+    front_ties : (front : List Instr) → AreUnits front → AreStraight front
+        → AllByRecursion IsFit (units_of code front) → (count : ℕ) (rest : List (List Item))
         → drop count exchanges ≡ exchanges_in (rows_by code rewrite front) ++ rest
         → (s t : Await) → IsLike s t
         → Tied IsLike (through act front s)
         (through new_act (numbered_from count (rows_by code rewrite front)) t)
-    front_ties front units all count rest there s t like =
+    front_ties front units all fit count rest there s t like =
         let plain = units_plain front units all in
         let none : NoFlights t = keeps.quiet t like.1 in
         subst (λ s. Tied IsLike (through act front s)
@@ -265,7 +266,7 @@ module _ (code : Tables) (links : Option ℕ) (n : ℕ) (IsGood : Await → Type
         (tied_through (through act front t) (units_flow code links n (units_of code front) t)
         (units_flow code links n (rewrite (units_of code front)) t)
         (rows_are_units code links n front units t none)
-        (keeps.ties (units_of code front) plain t like.1)))
+        (keeps.ties (units_of code front) plain fit t like.1)))
 
     same_end : (row : Instr) → ends_stretch row ≡ true → (s : Await) → new_act row s ≡ act row s
     same_end (instr.Jump goal) e (Ready all) = refl
@@ -321,12 +322,13 @@ module _ (code : Tables) (links : Option ℕ) (n : ℕ) (IsGood : Await → Type
     all_alike : (count at at' : ℕ) (stretches : List (Stretch Instr))
         → AllByRecursion (IsCut ends_stretch (is_goal code.code)) stretches
         → AllByRecursion (λ stretch. AreUnits stretch.front) stretches
+        → AllByRecursion (λ stretch. AllByRecursion IsFit (units_of code stretch.front)) stretches
         → AllByRecursion (LastHas (IsOf code.code)) stretches
         → drop count exchanges ≡ exchanges_in (news (segments stretches))
         → ((g h : ℕ) → IsStart (numbered count stretches) g h → Start (at + g) (at' + h))
         → AllAlike act new_act IsLike Start (numbered count stretches) at at'
-    all_alike count at at' [] are units goals there within = tt
-    all_alike count at at' (stretch ∷ stretches) are units goals there within =
+    all_alike count at at' [] are units fit goals there within = tt
+    all_alike count at at' (stretch ∷ stretches) are units fit goals there within =
         let rows : List Instr = numbered_from count (rows_by code rewrite stretch.front) in
         let a = length (rows_of stretch) in
         let b = length (rows ++ as_list (option_map (with_moved_goal moved) stretch.last)) in
@@ -337,7 +339,7 @@ module _ (code : Tables) (links : Option ℕ) (n : ℕ) (IsGood : Await → Type
               (old_straight stretch.front are.0.straight)
               (front_straight (rewrite (units_of code stretch.front))
               (keeps.plain (units_of code stretch.front) plain) count)
-              (front_ties stretch.front units.0 are.0.straight count rest here) stretch.last
+              (front_ties stretch.front units.0 are.0.straight fit.0 count rest here) stretch.last
               (λ row last next s t like.
               last_alike Start row (at + length stretch.front) (at' + length rows)
               (start_of row (goals.0 row last)) next (act row s)
@@ -352,7 +354,7 @@ module _ (code : Tables) (links : Option ℕ) (n : ℕ) (IsGood : Await → Type
               subst (λ k. Start k (at' + b)) e
               (subst (λ k. Start (at + (a + 0)) k) f (within (a + 0) (b + 0) (Behind Here)))),
           all_alike (count + length (exchanges_in (rows_by code rewrite stretch.front))) (at + a)
-              (at' + b) stretches are.1 units.1 goals.1
+              (at' + b) stretches are.1 units.1 fit.1 goals.1
               (drop_over count (exchanges_in (rows_by code rewrite stretch.front)) rest exchanges here)
               (λ g h start. let e : at + (a + g) ≡ at + a + g = omega arith in
               let f : at' + (b + h) ≡ at' + b + h = omega arith in
@@ -360,9 +362,11 @@ module _ (code : Tables) (links : Option ℕ) (n : ℕ) (IsGood : Await → Type
               (subst (λ k. Start (at + (a + g)) k) f (within (a + g) (b + h) (Behind start)))),
         )
 
-    pub ended_runs : GoalsWithin code.code → IsInUnits code → (a : ℕ) (s : Await) → IsGood s
+    pub ended_runs : GoalsWithin code.code → IsInUnits code
+        → AllByRecursion (λ stretch. AllByRecursion IsFit (units_of code stretch.front)) ended
+        → (a : ℕ) (s : Await) → IsGood s
         → Keeps (runs act (code.code ++ instr.End ∷ []) a 0 s) (runs new_act new_code a 0 s)
-    ended_runs within units a s good =
+    ended_runs within units fit a s good =
         let rows = code.code ++ instr.End ∷ [] in
         let same : all_rows ended ≡ rows = cut_rows ends_stretch (is_goal code.code) 0 rows in
         let found : AllByRecursion (IsOf code.code) rows =
@@ -373,7 +377,7 @@ module _ (code : Tables) (links : Option ℕ) (n : ℕ) (IsGood : Await → Type
         (keeps_runs act new_act IsLike (numbered 0 ended)
         (all_alike 0 0 0 ended (all_cut ends_stretch (is_goal code.code) 0 rows)
         (fronts_ended AreUnits NoUnits (stretches_of code.code) ended
-        (cut_ended (is_goal code.code) 0 code.code) units)
+        (cut_ended (is_goal code.code) 0 code.code) units) fit
         (lasts_have (IsOf code.code) ended
         (subst (AllByRecursion (IsOf code.code)) (sym same) found)) refl
         (λ g h start. let e : g ≡ 0 + g = omega arith in let f : h ≡ 0 + h = omega arith in

@@ -15,7 +15,8 @@ use Rattle.code_parts.specs.Stretch.{ends_stretch, is_goal}
 use Rattle.flat_passes.specs.Kept.{GoalsWithin, goal_of}
 use Rattle.flat_passes.specs.Rewritten.{has_goal, stretches_of, with_moved_goal}
 use Rattle.plan_form.specs.Rewrite.{ended_by, rows_by, with_units}
-use Rattle.plan_form.specs.Units.{Other, PlanRow, PlanUnit, exchanges_in, numbered_from, unit_rows}
+use Rattle.plan_form.specs.Units.{Other, PlanRow, PlanUnit, Single, exchanges_in, numbered_from}
+use Rattle.plan_form.specs.Units.{unit_of, unit_rows, units_of}
 use Rattle.plan_form.proofs.PassLemmas.{exchanges_both, numbered_both}
 use Rattle.row_runs.specs.Cut as cut
 use Rattle.row_runs.specs.Cut.{Stretch, all_rows, as_list, moved_by, passed, rewritten_by, rows_of}
@@ -124,7 +125,7 @@ module _ (code : Tables) (rewrite : List PlanUnit → List PlanUnit) where
   moved_there = moved_by (rows_by code rewrite) ended_by whole
 
   -- goals within the code, and its end
-  abbrev IsGoalOf : Instr → Type 0
+  abbrev pub IsGoalOf : Instr → Type 0
   IsGoalOf row =
       has_goal row ≡ true
       → (is_goal code.code (goal_of row) ≡ true) × (goal_of row ≤ length code.code)
@@ -165,7 +166,7 @@ module _ (code : Tables) (rewrite : List PlanUnit → List PlanUnit) where
       by None goal = refl
       by (Some row) goal = ap (λ r. Other r ∷ []) (same_row row (goal row refl))
 
-  goals_of_code : (some : List Instr) → AllByRecursion (IsOf code.code) (some ++ instr.End ∷ [])
+  pub goals_of_code : (some : List Instr) → AllByRecursion (IsOf code.code) (some ++ instr.End ∷ [])
       → AllByRecursion (λ row. has_goal row ≡ true → goal_of row ≤ length code.code) some
       → AllByRecursion IsGoalOf some
   goals_of_code [] found within = tt
@@ -187,6 +188,42 @@ module _ (code : Tables) (rewrite : List PlanUnit → List PlanUnit) where
       (same_segments whole
       (lasts_have IsGoalOf whole (subst (AllByRecursion IsGoalOf) (sym same) goals)))
 
+  -- ---- what each unit of the code is
+  all_parts : {X : Type 0} (P : X → Type 0) (xs ys : List X) → AllByRecursion P (xs ++ ys)
+      → AllByRecursion P xs × AllByRecursion P ys
+  all_parts P [] ys all = (tt, all)
+  all_parts P (x ∷ xs) ys all =
+      let parts = all_parts P xs ys all.1 in ((all.0, parts.0), parts.1)
+
+  all_both : {X : Type 0} (P : X → Type 0) (xs ys : List X) → AllByRecursion P xs
+      → AllByRecursion P ys → AllByRecursion P (xs ++ ys)
+  all_both P [] ys one two = two
+  all_both P (x ∷ xs) ys one two = (one.0, all_both P xs ys one.1 two)
+
+  front_fit : (IsFit : PlanUnit → Type 0) (some : List Instr)
+      → AllByRecursion (λ row. AllByRecursion IsFit (unit_of code row)) some
+      → AllByRecursion IsFit (units_of code some)
+  front_fit IsFit [] all = tt
+  front_fit IsFit (row ∷ some) all =
+      all_both IsFit (unit_of code row) (units_of code some) all.0 (front_fit IsFit some all.1)
+
+  fronts_fit : (IsFit : PlanUnit → Type 0) (stretches : List (Stretch Instr))
+      → AllByRecursion (λ row. AllByRecursion IsFit (unit_of code row)) (all_rows stretches)
+      → AllByRecursion (λ stretch. AllByRecursion IsFit (units_of code stretch.front)) stretches
+  fronts_fit IsFit [] all = tt
+  fronts_fit IsFit (stretch ∷ stretches) all =
+      let P : Instr → Type 0 = λ row. AllByRecursion IsFit (unit_of code row) in
+      let parts = all_parts P (rows_of stretch) (all_rows stretches) all in
+      let own = all_parts P stretch.front (as_list stretch.last) parts.0 in
+      (front_fit IsFit stretch.front own.0, fronts_fit IsFit stretches parts.1)
+
+  one_fit_more : (IsFit : PlanUnit → Type 0) (some : List Instr)
+      → AllByRecursion (λ row. AllByRecursion IsFit (unit_of code row)) some
+      → IsFit (Single instr.End)
+      → AllByRecursion (λ row. AllByRecursion IsFit (unit_of code row)) (some ++ instr.End ∷ [])
+  one_fit_more IsFit [] all last = ((last, tt), tt)
+  one_fit_more IsFit (row ∷ some) all last = (all.0, one_fit_more IsFit some all.1 last)
+
   module _ (links : Option ℕ) (n : ℕ) where
     code_blind : (exchanges : List (List Item)) (one other : List Instr) (row : Instr) (s : Await)
         → await_act (record code { exchanges = exchanges; code = one }) links n row s
@@ -195,7 +232,7 @@ module _ (code : Tables) (rewrite : List PlanUnit → List PlanUnit) where
     code_blind exchanges one other row (Ready all) = refl
     code_blind exchanges one other row (Wanted group) = refl
 
-    goals_within : (some : List Instr) → AllByRecursion (FitsInstr code) some
+    pub goals_within : (some : List Instr) → AllByRecursion (FitsInstr code) some
         → AllByRecursion (λ row. has_goal row ≡ true → goal_of row ≤ length code.code) some
     goals_within [] all = tt
     goals_within (row ∷ some) all = (one row all.0, goals_within some all.1)
@@ -208,10 +245,12 @@ module _ (code : Tables) (rewrite : List PlanUnit → List PlanUnit) where
 
     -- A pass over units that keeps what they do from good states, of which the start is one, keeps
     -- the runs of plans in units that fit.
-    pub units_keep_runs : (IsGood : Await → Type 0) → KeepsUnits code links n IsGood rewrite
-        → Fits code → IsInUnits code → IsGood (Ready (start_abreast code)) → (a : ℕ)
+    pub units_keep_runs : (IsGood : Await → Type 0) (IsFit : PlanUnit → Type 0)
+        → KeepsUnits code links n IsGood IsFit rewrite → Fits code → IsInUnits code
+        → AllByRecursion (λ row. AllByRecursion IsFit (unit_of code row)) code.code
+        → IsFit (Single instr.End) → IsGood (Ready (start_abreast code)) → (a : ℕ)
         → Keeps (plan_run code links a n) (plan_run (with_units rewrite code) links a n)
-    units_keep_runs IsGood keeps fits units good a =
+    units_keep_runs IsGood IsFit keeps fits units fit last good a =
         let within : GoalsWithin code.code =
         goals_within code.code (recursion_from_All (FitsInstr code) code.code fits.code) in
         let begin : Await = Ready (start_abreast code) in
@@ -233,4 +272,8 @@ module _ (code : Tables) (rewrite : List PlanUnit → List PlanUnit) where
         (ap (λ f. runs f (numbered_from 0 made) a 0 begin) acts
         ∙ (ap (λ r. runs (await_act new links n) r a 0 begin) there
         ∙ sym (plan_awaits new links n a)))
-        (ended_runs code links n IsGood rewrite keeps within units a begin good))
+        (ended_runs code links n IsGood IsFit rewrite keeps within units
+        (fronts_fit IsFit ended_whole
+        (subst (AllByRecursion (λ row. AllByRecursion IsFit (unit_of code row)))
+        (sym (cut_rows ends_stretch (is_goal code.code) 0 rows)) (one_fit_more IsFit code.code fit last)))
+        a begin good))

@@ -4,9 +4,7 @@ use Rattle.std.proofs.Common.{IfErr, IsErrAnd}
 use Rattle.zpl_tree.specs.Syntax.{Program}
 use Rattle.zpl_names.specs.Accepted.{HasTooManyNodes, HasTooManyStatements}
 use Rattle.zpl_binding.specs.Settings.{Setting}
-use Rattle.node_form.specs.Fits.{Fits}
 use Rattle.node_form.specs.declared.tables.Tables.{Tables}
-use Rattle.flat_form.specs.Flat.{IsFlat}
 use Rattle.code_layout.specs.Room.{HasRoom}
 use Rattle.zpl_lowering.specs.Tables.{flat_tables}
 use Rattle.flat_code.specs.Passes as flat
@@ -28,7 +26,7 @@ use Rattle.comm_early.specs.Send.{sent_early}
 use Rattle.node_emit.specs.Emit.{emitted}
 use Rattle.zpl_compile.specs.Compile as whole
 use Rattle.zpl_compile.specs.Compile.{compiled}
-use Rattle.zpl_compile.specs.Compilable.{IsBuilt, IsCompiledTo, IsCounted}
+use Rattle.zpl_compile.specs.Compilable.{IsCompiledTo, IsCounted}
 use Rattle.program_code.specs.Faults.{of_flat, of_lowering}
 use Rattle.program_code.specs.Outcome.{IsUncompiled, build_with}
 use Rattle.program_code.specs.declared.faults.CompileFault.{CompileFault}
@@ -91,32 +89,18 @@ module _ (build : Build) (program : Program) (settings : List Setting) where
     is_code : node_tables build tables ≡ compiled (build_with build settings) program
     is_code = ap (node_tables build) are ∙ as_compiled
 
-    pub none_flat : ¬ IsFlat tables → IsCounted program × (¬ IsBuilt (build_with build settings) program)
-    none_flat none = (counted, λ built. none (subst IsFlat (sym are) built.flat))
-
     -- the passes behind them refuse it
-    pub passes_refuse : IsFlat tables → (fault : FlatFault) →
-        flat.Refuses (node_tables build tables) fault →
+    pub passes_refuse : (fault : FlatFault) → flat.Refuses (node_tables build tables) fault →
         IsUncompiled (build_with build settings) program (of_flat fault)
-    passes_refuse flat flat_fault.NotBuilt h =
-        (counted, λ built. h (subst Fits (sym is_code) built.fits))
-    passes_refuse flat flat_fault.TooMuchStorage h = (
-      counted,
-      record { flat = subst IsFlat are flat; fits = subst Fits is_code h.0 },
-      λ room. h.1 (subst HasRoom (sym is_code) room),
-    )
-    passes_refuse flat flat_fault.NoMemory h = tt
+    passes_refuse flat_fault.TooMuchStorage h =
+        (counted, λ room. h (subst HasRoom (sym is_code) room))
+    passes_refuse flat_fault.NoMemory h = tt
 
     -- or there is code
-    pub made : IsFlat tables → (code : Tables) → code ≡ node_tables build tables →
-        Fits (node_tables build tables) → HasRoom (node_tables build tables) →
-        IsCompiledTo (build_with build settings) program code
-    made flat code is fits room = record {
-      can = record {
-        counted = counted;
-        built = record { flat = subst IsFlat are flat; fits = subst Fits is_code fits };
-        room = subst HasRoom is_code room;
-      };
+    pub made : (code : Tables) → code ≡ node_tables build tables →
+        HasRoom (node_tables build tables) → IsCompiledTo (build_with build settings) program code
+    made code is room = record {
+      can = record { counted = counted; room = subst HasRoom is_code room };
       is = is ∙ is_code;
     }
 

@@ -6,7 +6,7 @@ use Rattle.zpl_binding.specs.Settings.{Setting}
 use Rattle.code_layout.specs.Room.{HasRoom}
 use Rattle.flat_code.specs.declared.builds.Build.{Build}
 use Rattle.zpl_claims.specs.Build as claims
-use Rattle.zpl_compile.specs.Compilable.{IsBuilt, IsCounted}
+use Rattle.zpl_compile.specs.Compilable.{IsCounted}
 use Rattle.zpl_compile.specs.Compile.{compiled}
 use Rattle.program_code.specs.declared.faults.CompileFault.{CompileFault}
 use Rattle.program_code.specs.declared.faults.CompileFault.TheVariants as fault
@@ -20,13 +20,12 @@ build_with build settings = record {
   settings = settings;
 }
 
--- Why there is no code: the program is too much, its tables break a rule, or the grid has no room
--- for its arrays; or memory was wanting.
+-- Why there is no code: the program is too much, or the grid has no room for its arrays; or memory
+-- was wanting.
 abbrev pub IsUncompiled : claims.Build → Program → CompileFault → Type 0
 IsUncompiled build program fault.TooManyStatements = HasTooManyStatements program
 IsUncompiled build program fault.TooManyNodes =
     (¬ HasTooManyStatements program) × HasTooManyNodes program
-IsUncompiled build program fault.NotBuilt = IsCounted program × (¬ IsBuilt build program)
 IsUncompiled build program fault.TooMuchStorage =
-    IsCounted program × IsBuilt build program × (¬ HasRoom (compiled build program))
+    IsCounted program × (¬ HasRoom (compiled build program))
 IsUncompiled build program fault.NoMemory = ⊤

@@ -12,8 +12,6 @@ pub enum CompileFault {
     TooManyStatements,
     /// It has more than 200,000 nodes of expressions, counted so.
     TooManyNodes,
-    /// The tables break a rule of flat programs or of node code.
-    NotBuilt,
     /// The processors of the grid would hold more than 16,777,216 words of their arrays.
     TooMuchStorage,
     /// Memory was wanting.
@@ -37,7 +35,6 @@ impl From<FlatFault> for CompileFault {
 
     fn from(fault: FlatFault) -> CompileFault {
         match fault {
-            FlatFault::NotBuilt => CompileFault::NotBuilt,
             FlatFault::TooMuchStorage => CompileFault::TooMuchStorage,
             FlatFault::NoMemory => CompileFault::NoMemory,
         }

@@ -2,8 +2,10 @@
 #![tactic(auto)]
 
 mod faults;
+mod laws;
 mod programs;
 
 pub use faults::CompileFault;
 pub use flat_code::Build;
+pub use laws::{compiled_programs_fit, lowered_shifts_are_stored};
 pub use programs::compile;

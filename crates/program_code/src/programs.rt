@@ -7,11 +7,15 @@ ghost use Rattle.zpl_bind.specs.Bound.{IsBoundBy};
 ghost use Rattle.rank_types.specs.Typed.{HasText};
 ghost use Rattle.array_meaning.specs.Means.{IsBound};
 ghost use Rattle.node_form.specs.Grid.{IsGrid};
+ghost use Rattle.lowered_flat.specs.Apart.{NamesStandApart};
 ghost use Rattle.zpl_compile.specs.Compilable.{IsCompiledTo};
 ghost use Rattle.program_code.specs.Outcome.{build_with, IsUncompiled};
 
 use crate::faults::CompileFault;
-use flat_code::{Build, code_of, flat_of};
+use crate::laws::lowered_shifts_are_stored;
+use flat_code::{Build, code_of};
+use flat_form::Flat;
+use lowered_flat::lowered_programs_are_flat;
 use node_form::NodeProgram;
 use rank_types::Typed;
 use std::alloc::Global;
@@ -29,6 +33,7 @@ pub fn compile<'n>(
 ) -> Result<NodeProgram, CompileFault>
     requires text { HasText typed.now }
     requires grammar { IsProgram (syntax_of typed.now.program.now) }
+    requires apart { NamesStandApart (syntax_of typed.now.program.now) }
     requires bound { IsBound (syntax_of typed.now.program.now) bound.now }
     requires short { length typed.now.program.now.source.now ≤ 1048576 }
     requires grid { IsGrid build.grid }
@@ -41,10 +46,9 @@ pub fn compile<'n>(
         IfErr result (IsUncompiled (build_with build settings)
         (syntax_of typed.now.program.now)) }
 {
+    lowered_programs_are_flat();
+    lowered_shifts_are_stored();
     let tables = lower(alloc, typed, bound)?;
-    let Some(flat) = flat_of(tables) else {
-        return Err(CompileFault::NotBuilt);
-    };
-    let code = code_of(alloc, flat, &build)?;
+    let code = code_of(alloc, Flat::of(tables), &build)?;
     Ok(code)
 }

@@ -1,2 +1,2 @@
 pub mod SettledLemmas
-pub mod VoteLemmas
+pub mod RowLemmas

@@ -1,7 +1,7 @@
 -- The passes over flat tables one behind the other.
-use Rattle.std.proofs.Common.{◌≡◌, refl, ◌∙◌, ap, ℕ, Bool, true, false}
+use Rattle.std.proofs.Common.{◌≡◌, refl, ℕ, Bool, true, false}
 use Rattle.row_runs.specs.Run.{Result}
-use Rattle.row_runs.specs.Segments.{Keeps, Same, WasWrong}
+use Rattle.row_runs.specs.Segments.{Keeps, Same}
 use Rattle.row_runs.proofs.RowLemmas.{keeps_through}
 use Rattle.node_form.specs.declared.tables.Tables.{Tables}
 use Rattle.node_form.specs.Fits.{Fits}
@@ -17,12 +17,13 @@ use Rattle.fuse_contract.proofs.FitLemmas.{fused_fits}
 use Rattle.normal_runs.proofs.KeptLemmas as normal
 use Rattle.contracted_runs.specs.Three.{HaveThreeDims}
 use Rattle.contracted_runs.proofs.KeptLemmas as cells
-use Rattle.contracted_runs.proofs.ThreeLemmas.{checked_three, fused_three, normalised_three}
-use Rattle.fused_runs.specs.Zero.{MeetsNoZero}
+use Rattle.contracted_runs.proofs.ThreeLemmas.{fused_three}
+use Rattle.fused_runs.specs.Typed.{IsTyped}
 use Rattle.fused_runs.proofs.ForthLemmas.{fused_shows}
 use Rattle.zpl_compile.specs.Compile.{if_asked, settled}
 use Rattle.zpl_claims.specs.Build.{Build}
-use Rattle.settled_runs.proofs.VoteLemmas.{HaveNoVotes, checked_votes, normalised_votes}
+use Rattle.settled_runs.proofs.RowLemmas.{HaveNoVotes, checked_typed, checked_votes}
+use Rattle.settled_runs.proofs.RowLemmas.{normalised_typed, normalised_votes}
 
 -- what is asked of tables
 record AreFine (tables : Tables) : Type 0 where
@@ -40,14 +41,12 @@ module _ (n a : ℕ) where
 
   -- loops are joined behind passes that keep the run
   fuse_keeps : (asked : Bool) (code tables : Tables) → Keeps (shown code) (shown tables)
-      → Fits tables → tables.cells ≡ 0 → (asked ≡ true → MeetsNoZero (shown code))
+      → Fits tables → tables.cells ≡ 0 → IsTyped tables
       → Keeps (shown code) (shown (if_asked asked fused tables))
-  fuse_keeps false code tables kept fits none zero = kept
-  fuse_keeps true code tables (WasWrong wrong) fits none zero = WasWrong wrong
-  fuse_keeps true code tables (Same same) fits none zero =
-      keeps_through (shown code) (shown tables) (shown (fused tables)) (Same same)
-      (fused_shows tables n fits none a
-      (λ line e. zero refl line (ap (λ (r : Result). r.stop) same ∙ e)))
+  fuse_keeps false code tables kept fits none typed = kept
+  fuse_keeps true code tables kept fits none typed =
+      keeps_through (shown code) (shown tables) (shown (fused tables)) kept
+      (fused_shows tables n fits typed none a)
 
   fuse_fine : (asked : Bool) (tables : Tables) → AreFine tables → HaveNoVotes tables
       → AreFine (if_asked asked fused tables)
@@ -57,17 +56,17 @@ module _ (n a : ℕ) where
     three = fused_three tables fine.three;
   }
 
-  pub settled_keeps : (build : Build) (code : Tables) → Fits code → HaveThreeDims code
-      → code.cells ≡ 0 → HaveNoVotes code → (build.options.fuse ≡ true → MeetsNoZero (shown code))
-      → Keeps (shown code) (shown (settled build code))
-  settled_keeps build code fits three none votes zero =
+  pub settled_keeps : (build : Build) (code : Tables) → Fits code → IsTyped code
+      → code.cells ≡ 0 → HaveNoVotes code → Keeps (shown code) (shown (settled build code))
+  settled_keeps build code fits typed none votes =
       let one = normalised code in
       let one_fits : Fits one = normalised_fits code fits votes in
       let one_votes : HaveNoVotes one = normalised_votes code fits votes in
       let two = checked one in
+      let two_typed : IsTyped two = checked_typed one (normalised_typed code fits typed) in
       let two_fine : AreFine two = record {
         fits = checked_fits one one_fits;
-        three = checked_three one (normalised_three code three);
+        three = two_typed.arrays;
       } in
       let fuse = build.options.fuse in
       let joined = if_asked fuse fused two in
@@ -75,6 +74,6 @@ module _ (n a : ℕ) where
       keeps_through (shown code) (shown one) (shown two) (normal.runs_kept code fits n a)
       (checks.runs_kept one one_fits a n) in
       keeps_through (shown code) (shown joined) (shown (settled build code))
-      (fuse_keeps fuse code two kept two_fine.fits none zero)
+      (fuse_keeps fuse code two kept two_fine.fits none two_typed)
       (contract_keeps build.options.contract joined
       (fuse_fine fuse two two_fine (checked_votes one one_votes)))

@@ -31,18 +31,17 @@ use Rattle.zpl_binding.specs.Settings.{Setting}
 use Rattle.node_form.specs.Grid.{IsGrid}
 use Rattle.call_claims.specs.Refusal.{IsFault}
 use Rattle.list_claims.specs.Refusal.{IsCodeless, IsRefusal, IsSetWrong}
-use Rattle.list_claims.specs.Refusal.IsCodeless.{faulty, many_nodes, many_statements, not_built}
+use Rattle.list_claims.specs.Refusal.IsCodeless.{faulty, many_nodes, many_statements}
 use Rattle.list_claims.specs.Refusal.IsSetWrong.{bad_shape, declared, no_room}
 use Rattle.list_claims.specs.Code.{HasNoProgram, HasNoSmall, IsCodeOf, IsSmallText}
 use Rattle.list_claims.specs.declared.limits.TheConstants.{MOST_TOKENS}
 use Rattle.call_claims.specs.Accepted.{IsAccepted, IsAcceptedUnder, IsFaulty}
 use Rattle.list_claims.specs.Code.IsCodeOf.{of_small, of_other}
-use Rattle.zpl_compile.specs.Compilable.{IsBuilt, IsCompilable, IsCompiledTo, IsCounted}
+use Rattle.zpl_compile.specs.Compilable.{IsCompilable, IsCompiledTo, IsCounted}
 use Rattle.program_code.specs.Outcome.{IsUncompiled}
 use Rattle.zpl_compile.specs.Compile.{compiled}
 use Rattle.program_code.specs.declared.faults.CompileFault.{CompileFault}
 use Rattle.program_code.specs.declared.faults.CompileFault.TheVariants as compile
-use Rattle.node_form.specs.Fits.{Fits}
 use Rattle.code_layout.specs.Room.{HasRoom}
 use Rattle.call_answers.specs.declared.refusals.Refusal.{Refusal}
 use Rattle.call_answers.specs.declared.refusals.Refusal.TheVariants.{Lex, Parse, Judge, Bind}
@@ -155,7 +154,7 @@ module _ (text : List ℕ) (build : Build) (grid : IsGrid build.grid) where
   not_wrong : {told : List ℕ} → IsFaulty text → ¬ IsSetWrong text build told
   not_wrong is (bad_shape none) = none grid
   not_wrong is (declared program fault good accepted holds) = is program accepted
-  not_wrong is (no_room program good under counted fits room) = is program under.accepted
+  not_wrong is (no_room program good under counted room) = is program under.accepted
 
   -- nor has it code
   none_faulty : HasNoSmall text build → IsFaulty text → HasNoProgram text build
@@ -242,15 +241,15 @@ module _ (text : List ℕ) (build : Build) (grid : IsGrid build.grid) where
 
     -- for want of room alone it isn't told that something is wrong with what it is built for
     abbrev LacksRoom : Program → Type 0
-    LacksRoom p = IsCounted p × IsBuilt build p × (¬ HasRoom (compiled build p))
+    LacksRoom p = IsCounted p × (¬ HasRoom (compiled build p))
 
     set_right : {told : List ℕ} → ¬ LacksRoom program → ¬ IsSetWrong text build told
     set_right has (bad_shape bad) = bad grid
     set_right has (declared other fault good accepted holds) =
         under.bound fault (subst (λ p. HasBindFault p build.settings fault)
         (sym (only other accepted)) holds)
-    set_right has (no_room other good also counted built room) =
-        has (subst LacksRoom (sym (only other also.accepted)) (counted, built, room))
+    set_right has (no_room other good also counted room) =
+        has (subst LacksRoom (sym (only other also.accepted)) (counted, room))
 
     refused_for : {told : List ℕ} → ¬ IsCompilable build program → ¬ LacksRoom program
         → IsCodeless text build told → IsRefusal text build told
@@ -268,12 +267,9 @@ module _ (text : List ℕ) (build : Build) (grid : IsGrid build.grid) where
     uncompiled_refuses compile.TooManyNodes many =
         refused_for (λ can. can.counted.nodes many.1) (λ lacks. lacks.0.nodes many.1)
         (many_nodes program under many.0 many.1)
-    uncompiled_refuses compile.NotBuilt is =
-        refused_for (λ can. is.1 can.built) (λ lacks. is.1 lacks.1)
-        (not_built program under is.0 is.1)
     uncompiled_refuses compile.TooMuchStorage is = record {
-      none = none_built (λ can. is.2 can.room);
-      wrong = no_room program grid under is.0 is.1 is.2;
+      none = none_built (λ can. is.1 can.room);
+      wrong = no_room program grid under is.0 is.1;
     }
     uncompiled_refuses compile.NoMemory is = tt
 

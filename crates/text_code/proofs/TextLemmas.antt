@@ -39,7 +39,6 @@ uncoded text build (Refused NoMemory) refuses = λ d. absurd (d.memory refl)
 uncoded text build (Unbuilt unbuilt.BadShape) refuses = λ d. unbound _ refuses
 uncoded text build (Unbuilt unbuilt.TooManyStatements) refuses = λ d. refused _ refuses
 uncoded text build (Unbuilt unbuilt.TooManyNodes) refuses = λ d. refused _ refuses
-uncoded text build (Unbuilt unbuilt.NotBuilt) refuses = λ d. refused _ refuses
 uncoded text build (Unbuilt unbuilt.TooMuchStorage) refuses = λ d. unbound _ refuses
 
 -- its answer is no failed put

@@ -23,7 +23,6 @@ use Rattle.text_code.specs.declared.compiling.Uncoded.TheVariants.{Refused, Unbu
 abbrev pub of_compile : CompileFault → Uncoded
 of_compile compile.TooManyStatements = Unbuilt unbuilt.TooManyStatements
 of_compile compile.TooManyNodes = Unbuilt unbuilt.TooManyNodes
-of_compile compile.NotBuilt = Unbuilt unbuilt.NotBuilt
 of_compile compile.TooMuchStorage = Unbuilt unbuilt.TooMuchStorage
 of_compile compile.NoMemory = Refused NoMemory
 
@@ -48,7 +47,6 @@ RefusesBuild text build unbuilt.BadShape = IsUnbound text build (build_text unbu
 RefusesBuild text build unbuilt.TooManyStatements =
     IsRefusal text build (build_text unbuilt.TooManyStatements)
 RefusesBuild text build unbuilt.TooManyNodes = IsRefusal text build (build_text unbuilt.TooManyNodes)
-RefusesBuild text build unbuilt.NotBuilt = IsRefusal text build (build_text unbuilt.NotBuilt)
 RefusesBuild text build unbuilt.TooMuchStorage = IsUnbound text build (build_text unbuilt.TooMuchStorage)
 
 abbrev pub Refuses : List ℕ → Build → Uncoded → Type 0

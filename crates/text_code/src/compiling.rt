@@ -21,6 +21,7 @@ use bumpalo::Bump;
 use call_answers::{Answer, BuildFault, Refusal};
 use call_words::{Asked, sets_nothing};
 use list_claims::MOST_TOKENS;
+use lowered_flat::parsed_names_stand_apart;
 use node_form::{NodeProgram, is_grid};
 use program_code::{Build, CompileFault, compile as compile_program};
 use small_code::{CodeFault, code_of_small};
@@ -75,7 +76,6 @@ impl From<CompileFault> for Uncoded {
         match fault {
             CompileFault::TooManyStatements => Uncoded::Unbuilt(BuildFault::TooManyStatements),
             CompileFault::TooManyNodes => Uncoded::Unbuilt(BuildFault::TooManyNodes),
-            CompileFault::NotBuilt => Uncoded::Unbuilt(BuildFault::NotBuilt),
             CompileFault::TooMuchStorage => Uncoded::Unbuilt(BuildFault::TooMuchStorage),
             CompileFault::NoMemory => Uncoded::Refused(Refusal::NoMemory),
         }
@@ -202,6 +202,7 @@ fn code_of_other_tree<'a>(
         (build_of (asked_in asked.entry))) }
 {
     text_is_cut_one_way();
+    parsed_names_stand_apart();
     let found = accepted_tree(alloc, arena, text, tokens, program, asked.words)?;
     let build = Build {
         grid: asked.factors(),

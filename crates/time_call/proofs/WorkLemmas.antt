@@ -71,7 +71,6 @@ unbuilt_end : (fault : BuildFault) → ¬ IsRunEnd (status_of (answer.Unbuilt fa
 unbuilt_end unbuilt.BadShape = not_end 5 (λ e. omega arith) (λ e. omega arith) (λ e. omega arith) (λ e. omega arith)
 unbuilt_end unbuilt.TooManyStatements = not_end 4 (λ e. omega arith) (λ e. omega arith) (λ e. omega arith) (λ e. omega arith)
 unbuilt_end unbuilt.TooManyNodes = not_end 4 (λ e. omega arith) (λ e. omega arith) (λ e. omega arith) (λ e. omega arith)
-unbuilt_end unbuilt.NotBuilt = not_end 4 (λ e. omega arith) (λ e. omega arith) (λ e. omega arith) (λ e. omega arith)
 unbuilt_end unbuilt.TooMuchStorage = not_end 5 (λ e. omega arith) (λ e. omega arith) (λ e. omega arith) (λ e. omega arith)
 
 unrun_end : (a : Answer) → IsUnrun a → ¬ IsRunEnd (status_of a)

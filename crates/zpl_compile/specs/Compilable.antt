@@ -3,11 +3,8 @@ use Rattle.std.specs.Prelude.{◌≡◌}
 use Rattle.zpl_tree.specs.Syntax.{Program}
 use Rattle.zpl_names.specs.Accepted.{HasTooManyNodes, HasTooManyStatements}
 use Rattle.node_form.specs.declared.tables.Tables.{Tables}
-use Rattle.node_form.specs.Fits.{Fits}
-use Rattle.flat_form.specs.Flat.{IsFlat}
 use Rattle.code_layout.specs.Room.{HasRoom}
 use Rattle.zpl_claims.specs.Build.{Build}
-use Rattle.zpl_lowering.specs.Tables.{flat_tables}
 use Rattle.zpl_compile.specs.Compile.{compiled}
 
 -- It is not too much to compile.
@@ -15,16 +12,9 @@ pub record IsCounted (program : Program) : Type 0 where
   pub statements : ¬ HasTooManyStatements program
   pub nodes : ¬ HasTooManyNodes program
 
--- Its tables break no rule: those that it is lowered to are a flat program's, and those that it is
--- compiled to fit.
-pub record IsBuilt (build : Build) (program : Program) : Type 0 where
-  pub flat : IsFlat (flat_tables program build.settings)
-  pub fits : Fits (compiled build program)
-
--- All of that, and the grid has room for its arrays.
+-- Nor is it too much for the grid, which has room for its arrays.
 pub record IsCompilable (build : Build) (program : Program) : Type 0 where
   pub counted : IsCounted program
-  pub built : IsBuilt build program
   pub room : HasRoom (compiled build program)
 
 -- The code is what the program is compiled to.

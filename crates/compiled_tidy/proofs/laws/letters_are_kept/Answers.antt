@@ -6,8 +6,9 @@ use Rattle.compiled_tidy.proofs.laws.letters_are_kept.Goals as goal
 
 pub returns : goal.returns
 returns c = record {
-  fused = λ build program is checks asked.
-      all_fused build (lowered_for build program) (can_be_fused (lowered_for build program) is checks) asked;
+  fused = λ build program is checks stands asked.
+      all_fused build (lowered_for build program)
+      (can_be_fused (lowered_for build program) is checks stands) asked;
   contracted = λ build program is asked.
       all_contracted build (lowered_for build program)
       (first_fits (lowered_for build program) is build.options.fuse) asked;

@@ -1,5 +1,6 @@
 use Rattle.lowering_fits.proofs.ArrayLemmas.{whole_laid, whole_flat}
+use Rattle.lowering_fits.proofs.ReadLemmas.{whole_stored}
 use Rattle.lowering_fits.proofs.laws.numbered_code_makes_a_flat_program.Goals as goal
 
 pub returns : goal.returns
-returns c = record { laid = whole_laid; flat = whole_flat }
+returns c = record { laid = whole_laid; flat = whole_flat; stored = whole_stored }

@@ -18,6 +18,12 @@ returns-in_err-found-clause-refused c =
     c.from_residual.result c.in_err-found.field-0.0 c.requires.none
     c.from_residual.ensures.1 (c.in_err-found.ensures {u = tt}).refused
 
+pub compile-requires-clause-apart : goal.compile-requires-clause-apart
+compile-requires-clause-apart c =
+    let accepted = (c.in_ok-found.ensures {u = tt}).accepted in
+    c.parsed_names_stand_apart.ensures c.args.text.now accepted.tokens
+    (program_of c.in_ok-found.found) accepted.of_text accepted.tree.tree
+
 pub returns-in_err-code-clause-refused : goal.returns-in_err-code-clause-refused
 returns-in_err-code-clause-refused c =
     let text = c.args.text.now in

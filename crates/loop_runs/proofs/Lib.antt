@@ -1,0 +1,24 @@
+mod Examples
+pub mod AwaitLemmas
+pub mod BehindLemmas
+pub mod ColumnLemmas
+pub mod FlatLemmas
+pub mod GroupLemmas
+pub mod KeepLemmas
+pub mod LineLemmas
+pub mod LoopEnd
+pub mod LoopLemmas
+pub mod LoopRows
+pub mod LoopStart
+pub mod MemberLemmas
+pub mod NestLemmas
+pub mod NumberLemmas
+pub mod PartLemmas
+pub mod PlaceLemmas
+pub mod ShareLemmas
+pub mod SpotLemmas
+pub mod TotalLemmas
+pub mod TupleLemmas
+pub mod VoteLemmas
+pub mod WordLemmas
+pub mod WriteLemmas

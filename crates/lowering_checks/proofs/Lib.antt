@@ -1,0 +1,14 @@
+pub mod WalkLemmas
+pub mod KnownLemmas
+pub mod SlateLemmas
+pub mod HoistLemmas
+pub mod PhaseLemmas
+pub mod ShatterLemmas
+pub mod HeldLemmas
+pub mod VectorLemmas
+pub mod AssignLemmas
+pub mod FormLemmas
+pub mod BodyLemmas
+pub mod CallLemmas
+pub mod WholeLemmas
+pub mod TableLemmas

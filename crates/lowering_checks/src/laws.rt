@@ -1,0 +1,40 @@
+//! The laws of checks in lowered programs.
+ghost use Rattle.std.specs.Prelude.{◌≡◌, List, None};
+ghost use Rattle.zpl_tree.specs.Grammar.{IsProgram};
+ghost use Rattle.zpl_tree.specs.Syntax.{Program};
+ghost use Rattle.zpl_names.specs.Accepted.{IsFaultless};
+ghost use Rattle.zpl_binding.specs.Bound.{IsAcceptedWith};
+ghost use Rattle.zpl_binding.specs.Settings.{Setting};
+ghost use Rattle.node_form.specs.declared.tables.Tables.{Tables as Code};
+ghost use Rattle.row_runs.specs.Straight.{Every};
+ghost use Rattle.flat_form.specs.Laws.{IsInline};
+ghost use Rattle.flat_form.specs.Row.{Row, all_inlined};
+ghost use Rattle.pass_parts.specs.Checks.{ChecksWhatFollows};
+ghost use Rattle.zpl_lowering.specs.Program.{lowered_program};
+ghost use Rattle.zpl_lowering.specs.Tables.{rows_of};
+ghost use Rattle.lowering_checks.specs.Walked.{AreChecked};
+
+use meaning_ranks::ranks_agree;
+use zpl_meaning::{no_stand_in_is_met, what_is_computed_has_a_value};
+
+/// In the rows of a program of the grammar without faults, under settings that it accepts, the
+/// checks that alone stand between two loops over one slot are those of the second one's
+/// references; and each row has its expressions, its group and its text in its place.
+pub fn loops_are_checked()
+    ensures rows { (program : Program) (settings : List Setting) → IsProgram program →
+        IsFaultless program → IsAcceptedWith program settings →
+        AreChecked None (rows_of (lowered_program program settings)) }
+    ensures inline { (program : Program) (settings : List Setting) → IsProgram program →
+        IsFaultless program → IsAcceptedWith program settings →
+        Every IsInline (rows_of (lowered_program program settings)) }
+{
+    ranks_agree();
+    no_stand_in_is_met();
+    what_is_computed_has_a_value();
+}
+
+/// Where the rows of tables are checked so, the tables' checks say what follows.
+pub fn checks_say_what_follows()
+    ensures { (tables : Code) (rows : List Row) → all_inlined tables ≡ rows →
+        AreChecked None rows → ChecksWhatFollows tables }
+{}

@@ -1,0 +1,9 @@
+//! Checks in front of the loops of lowered programs.
+//!
+//! The functions here do nothing: each has a law of the definitions as its contract, and a call
+//! brings the law into a proof.
+#![tactic(auto)]
+
+mod laws;
+
+pub use laws::{checks_say_what_follows, loops_are_checked};

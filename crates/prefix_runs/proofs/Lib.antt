@@ -1,0 +1,9 @@
+pub mod PartLemmas
+pub mod ShapeLemmas
+pub mod ShapedLemmas
+pub mod SpanLemmas
+pub mod FillLemmas
+pub mod ConstantLemmas
+pub mod OpenLemmas
+pub mod UnderLemmas
+pub mod PlainLemmas

@@ -1,0 +1,65 @@
+-- Statements of scalars and arrays, under prefixes.
+use Rattle.std.proofs.Common.{ℕ, List}
+use Rattle.zpl_tree.specs.Syntax.{Stmt, Form, Assign, Invoke, Block, If, While, Repeat, For, Border, Write, Return}
+use Rattle.zpl_meaning.specs.Context.{Setup, Place}
+use Rattle.zpl_meaning.specs.Statement as mean
+use Rattle.zpl_meaning.specs.Statement.{Context}
+use Rattle.zpl_lowering.specs.Where.{Where}
+use Rattle.zpl_lowering.specs.Statement as low
+use Rattle.zpl_lowering.specs.Statement.{Lowering}
+use Rattle.lowering_runs.specs.Seen.{seen_place}
+use Rattle.lowering_runs.specs.Goes.{World, Goes}
+use Rattle.lowering_runs.specs.Called.{CallsAgree}
+use Rattle.lowering_runs.specs.Suits.{SuitsStmt}
+use Rattle.lowering_runs.specs.Leaves.{ScalarLeaf}
+use Rattle.lowering_runs.proofs.SuitLemmas.{goes_more, either_goes, FormGoes, suited_goes}
+use Rattle.lowering_runs.proofs.StatementLemmas.{scalar_leaves}
+use Rattle.array_runs.specs.Floods.{IsArrayServed}
+use Rattle.array_runs.proofs.FloodLemmas.{served_goes}
+use Rattle.prefix_runs.specs.Under.{IsUnder}
+use Rattle.prefix_runs.specs.Plain.{ArrayLeaf, PlainLeaf}
+use Rattle.prefix_runs.proofs.UnderLemmas.{under_goes}
+
+pub suited_agrees : (world : World) (IsLeaf : ℕ → Form → Where → Place → Type 0)
+    → ((at : ℕ) (form : Form) → Goes world (IsLeaf at form)
+    (λ c store. mean.exec_form c world.turns at form store)
+    (λ l next. low.lowered_form l next at form) 1) → (stmt : Stmt)
+    → Goes world (SuitsStmt IsUnder IsLeaf stmt) (λ c store. mean.exec c world.turns stmt store)
+    (λ l next. low.lowered l next stmt) 0
+suited_agrees world IsLeaf leaves stmt =
+    suited_goes world IsUnder IsLeaf
+    (λ borders prefixes IsServed run made goes.
+    under_goes world borders prefixes IsServed run made goes) leaves stmt
+
+module _ (world : World) where
+  no_array : (at : ℕ) (form : Form) → ((w : Where) (p : Place) → ArrayLeaf at form w p → ⊥)
+      → FormGoes world ArrayLeaf at form
+  no_array at form never sight w next start stands served room store now like =
+      absurd (never w (seen_place sight w start) served)
+
+  array_leaves : (at : ℕ) (form : Form) → FormGoes world ArrayLeaf at form
+  array_leaves at (Assign name op value) =
+      goes_more world (IsArrayServed name op value)
+      (λ c store. mean.exec_form c world.turns at (Assign name op value) store)
+      (λ l next. low.lowered_form l next at (Assign name op value))
+      (served_goes world at name op value)
+  array_leaves at (Invoke name actuals) = no_array at (Invoke name actuals) (λ w p h. h)
+  array_leaves at (Block body) = no_array at (Block body) (λ w p h. h)
+  array_leaves at (If arms otherwise) = no_array at (If arms otherwise) (λ w p h. h)
+  array_leaves at (While test body) = no_array at (While test body) (λ w p h. h)
+  array_leaves at (Repeat body until test) = no_array at (Repeat body until test) (λ w p h. h)
+  array_leaves at (For head body) = no_array at (For head body) (λ w p h. h)
+  array_leaves at (Border kind names) = no_array at (Border kind names) (λ w p h. h)
+  array_leaves at (Write ends items) = no_array at (Write ends items) (λ w p h. h)
+  array_leaves at (Return value) = no_array at (Return value) (λ w p h. h)
+
+  pub plain_agrees : (setup : Setup) (IsCallable : List ℕ → Type 0)
+      → CallsAgree world setup IsCallable → (stmt : Stmt)
+      → Goes world (SuitsStmt IsUnder (PlainLeaf setup IsCallable) stmt)
+      (λ c store. mean.exec c world.turns stmt store) (λ l next. low.lowered l next stmt) 0
+  plain_agrees setup IsCallable calls stmt =
+      suited_agrees world (PlainLeaf setup IsCallable)
+      (λ at form. either_goes world (ScalarLeaf setup IsCallable at form) (ArrayLeaf at form)
+      (λ c store. mean.exec_form c world.turns at form store)
+      (λ l next. low.lowered_form l next at form) 1
+      (scalar_leaves world setup IsCallable calls at form) (array_leaves at form)) stmt

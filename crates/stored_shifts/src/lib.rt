@@ -1,0 +1,2 @@
+//! What expressions read with a shift is stored.
+#![tactic(auto)]
