@@ -96,7 +96,7 @@ fringes_fit k shifts small =
     ((no_width, no_width), ((no_width, no_width), ((no_width, no_width), tt)))
     (filtered (λ one. one.array == k) shifts small)
 
-fringes_count : (k : ℕ) (shifts : List Shifted) → length (fringes_of k shifts) ≡ 3
+pub fringes_count : (k : ℕ) (shifts : List Shifted) → length (fringes_of k shifts) ≡ 3
 fringes_count k shifts =
     widened_count (no_fringe ∷ no_fringe ∷ no_fringe ∷ [])
     (filter (λ one. one.array == k) shifts)

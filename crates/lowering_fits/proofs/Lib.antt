@@ -1,6 +1,7 @@
 pub mod TableLemmas
 pub mod PieceLemmas
 pub mod ReadLemmas
+pub mod TypedLemmas
 pub mod TreeLemmas
 pub mod VectorLemmas
 pub mod SlateLemmas

@@ -210,7 +210,7 @@ mutual
   referred_fit base numbers rank (slate.Coordinate k) fits is = tt
   referred_fit base numbers rank (slate.Element slot place shift) fits is =
       refers_fit base rank slot shift (slice_get numbers.arrays place) is.1
-      (stored_at base numbers.arrays place fits.arrays) is.2 is.3
+      (stored_at base numbers.arrays place fits.arrays) is.2 is.3.0
   referred_fit base numbers rank (slate.Wrapped slot place home shift copy first) fits is = (
     record {
       rank = rank;
@@ -225,7 +225,7 @@ mutual
         has = is.1;
         there = is.4.has;
         is_stored = is.4.is_stored;
-        vector = is.3;
+        vector = is.3.0;
       },
       tt,
     ),

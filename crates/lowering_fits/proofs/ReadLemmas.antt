@@ -97,14 +97,14 @@ module _ (base : Tables) where
       (rows_stored count rows fits.1)
 
 -- ---- tables that rows are laid out in
-exprs_are : (base : Tables) (rows : List Row) →
+pub exprs_are : (base : Tables) (rows : List Row) →
     (with_rows base rows).exprs ≡ base.exprs ++ flat_map row_words rows
 exprs_are base [] = sym (append-nil base.exprs)
 exprs_are base (one ∷ rows) =
     exprs_are (with_row base one) rows
     ∙ append_assoc base.exprs (row_words one) (flat_map row_words rows)
 
-arrays_are : (base : Tables) (rows : List Row) → (with_rows base rows).arrays ≡ base.arrays
+pub arrays_are : (base : Tables) (rows : List Row) → (with_rows base rows).arrays ≡ base.arrays
 arrays_are base [] = refl
 arrays_are base (one ∷ rows) = arrays_are (with_row base one) rows
 

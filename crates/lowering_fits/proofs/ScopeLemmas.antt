@@ -11,16 +11,16 @@ use Rattle.zpl_names.specs.Scope.{kind_in, kind_of}
 use Rattle.zpl_names.specs.Ranks.{dir_rank, direction_rank, region_shape}
 use Rattle.zpl_names.specs.Declared.{Routine, globals_of, scope_of}
 use Rattle.zpl_binding.specs.Outcome.{Outcome, Gives, Fails, value_or, Computed, outcome_or, outcome_of}
-use Rattle.zpl_binding.specs.Vectors.{three_components, vector_of}
+use Rattle.zpl_binding.specs.Vectors.{three_components, vector_of, dir_of}
 use Rattle.zpl_binding.specs.Regions.{Known, no_region, region_named}
 use Rattle.zpl_binding.specs.Settings.{Setting}
 use Rattle.zpl_binding.specs.Declarations.{known_of}
 use Rattle.zpl_meaning.specs.Regions.{vector_in}
 use Rattle.zpl_meaning.specs.Given.{IsGiven}
 use Rattle.node_form.specs.declared.tables.Tables.{Tables}
-use Rattle.node_form.specs.Fits.{IsVector, HasSlot}
+use Rattle.node_form.specs.Fits.{HasSlot}
 use Rattle.zpl_lowering.specs.Bracket.{region_slot}
-use Rattle.lowering_fits.specs.Slates.{SlotsAt}
+use Rattle.lowering_fits.specs.Slates.{SlotsAt, FitsVector}
 use Rattle.lowering_fits.specs.Reach.{IsGivenBox, FitsKnown}
 use Rattle.lowering_fits.specs.Lowerings.{region_rank}
 use Rattle.lowering_fits.proofs.VectorLemmas.{VectorBy, vector_by}
@@ -42,7 +42,7 @@ IsVariableKind (Some (kind.Procedure signature)) = ⊥
 
 directed_vector : (rank : ℕ) (one : Option Kind) (found : Option (Computed (List ℤ))) →
     AreOf IsDirected directed_stays one found → direction_rank one ≡ Some rank →
-    VectorBy rank (value_or (three_components []) (outcome_or (three_components []) found))
+    IsOut (Some rank) (outcome_or (three_components []) found)
 directed_vector rank None found are is = let no : ⊥ = cc in absurd no
 directed_vector rank (Some (kind.Direction other)) None are is = absurd are
 directed_vector rank (Some (kind.Direction other)) (Some found) are is =
@@ -110,19 +110,21 @@ module _ (tables : Tables) (program : Program) (settings : List Setting) (routin
     HasRankOf rank (region_named (known_of program settings) name))
     (slots : SlotsAt tables 0 (map region_rank (known_of program settings).regions)) where
   dirs_fit : (rank : ℕ) (dir : Dir) → dir_rank (scope_of program routine) dir ≡ Some rank →
-      IsVector rank (vector_in (known_of program settings) dir)
+      FitsVector rank (vector_in (known_of program settings) dir)
   dirs_fit rank (NamedDir name) is =
       let known : Known = known_of program settings in
-      vector_by rank (vector_in known (NamedDir name))
-      (directed_vector rank (kind_in (globals_of program) name.text)
+      let out : IsOut (Some rank) (dir_of known.values known.directions (NamedDir name)) =
+      directed_vector rank (kind_in (globals_of program) name.text)
       (find (λ one. bytes_eq one.name name.text) known.directions)
       (globals_directed program settings name.text)
       (global_direction rank (kind_in routine.own name.text)
-      (kind_in (globals_of program) name.text) (own name.text) is))
+      (kind_in (globals_of program) name.text) (own name.text) is) in
+      (vector_by rank (vector_in known (NamedDir name)) out.0, out.1)
   dirs_fit rank (Vector parts) is =
       let known : Known = known_of program settings in
-      vector_by rank (vector_in known (Vector parts))
-      (subst (λ r. IsOut r (vector_of known.values parts)) is (vector_out known.values parts))
+      let out : IsOut (Some rank) (vector_of known.values parts) =
+      subst (λ r. IsOut r (vector_of known.values parts)) is (vector_out known.values parts) in
+      (vector_by rank (vector_in known (Vector parts)) out.0, out.1)
 
   box_of : (rank : ℕ) (name : Name) →
       option_map length (region_shape (kind_of (scope_of program routine) name)) ≡ Some rank →

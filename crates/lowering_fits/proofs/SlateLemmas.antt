@@ -1,5 +1,6 @@
 -- What comes of expressions with slots fits: the rows of their operators, and what is left.
 use Rattle.std.proofs.Common.{◌≡◌, ℕ, zero, suc, ◌+◌, ◌<◌, ◌≤◌, Bool, true, false, ℤ, List, [], ◌∷◌, ◌++◌, map, length, drop, take, refl, sym, ap, ◌∙◌, subst, arith}
+use Rattle.std.proofs.lemmas.List.{length-map}
 use Rattle.std.specs.Prelude.{pos, neg_ℤ, Option, Some, None, slice_get, All, replicate}
 use Rattle.std.specs.List.{AllByRecursion}
 use Rattle.std.specs.Option.{IfSome, IsSomeAnd, IsNone}
@@ -33,9 +34,9 @@ use Rattle.zpl_lowering.specs.Slate as slate
 use Rattle.zpl_lowering.specs.Slate.{Slate, Slates, NoSlate, ThenSlate, border_slots}
 use Rattle.zpl_lowering.specs.Hoist.{Hoisted, Free, alone, behind, both, neighbour_if, element_code, shifted_if, shifts_of, stored_element, array_code, mask_word, mask_code, unary_code, fold_rows, folding, kept_rows, part_folding, flooding, along_of, scan_row, scan_with, scan_without, masked_scan, number_of, scanning, temps_from, some_of, three_of, rooms, index_puts, past_dims, any_of, outside_code, trap_if, remap_code, remapping, border_vectors, border_rows, wrapping, hoisted, all_hoisted}
 use Rattle.lowering_fits.specs.Inline.{long, FitsMask, FitsRow, FitRows, FitsPiece, AllInside}
-use Rattle.lowering_fits.specs.Slates.{SlotsAt, TempsAt, AllRanges, IsRowOf, HasStorage, FitNumbers, IsOfRank, IsRemapOf, IsMaskOf, FitsOver, slates_count, FitsCopy, FitsSlate, FitsSlates, FitsTree, FitTrees, AllTemps, AllShifts, IsPlaced, FitsHoist}
-use Rattle.lowering_fits.proofs.VectorLemmas.{by_vector, vector_by, opposite_by, VectorsBy, borders_by, double, border_count}
-use Rattle.lowering_fits.proofs.TreeLemmas.{tree_fits, scalar_tree, below_at, variable_fits, IsThere, stored_at, array_of, stored_of, temps_first, temps_rest, temps_both, shifts_both, over_fits}
+use Rattle.lowering_fits.specs.Slates.{SlotsAt, TempsAt, AllRanges, IsRowOf, HasStorage, FitNumbers, IsOfRank, IsRemapOf, IsMaskOf, FitsOver, slates_count, FitsCopy, FitsSlate, FitsSlates, FitsShift, FitsTree, FitTrees, FitsVector, AllTemps, AllShifts, IsPlaced, FitsHoist}
+use Rattle.lowering_fits.proofs.VectorLemmas.{by_vector, vector_by, opposite_by, VectorsBy, borders_by, AllCount, borders_alike, double, border_count}
+use Rattle.lowering_fits.proofs.TreeLemmas.{tree_fits, scalar_tree, below_at, variable_fits, IsThere, stored_at, array_of, stored_of, temps_first, temps_rest, temps_both, shifts_both, over_fits, over_three}
 
 -- ---- groups of one and of two members
 
@@ -164,7 +165,7 @@ module _ (base : Tables) where
   -- ---- elements
 
   element_fits : (rank array : ℕ) (shift : List ℤ) → IsRank rank → HasArray base rank array →
-      IsVector rank shift → IsStored base array → FitsTree base rank (element_code array shift)
+      FitsVector rank shift → IsStored base array → FitsTree base rank (element_code array shift)
   element_fits rank array shift is has vector stored = by (is_unmoved shift)
     where
       by : (b : Bool) → FitsTree base rank (neighbour_if b array shift)
@@ -197,11 +198,12 @@ module _ (base : Tables) where
       record { rows = record { code = tt; temps = tt; shifts = tt }; left = fits }
 
   stored_fits : (rank : ℕ) (stored : Option Stored) (shift : List ℤ) → IsRank rank →
-      IsThere base stored → IsOfRank rank stored → IsVector rank shift →
+      IsThere base stored → IsOfRank rank stored → FitsShift rank shift →
       FitsLeft base rank (stored_element stored shift)
   stored_fits rank None shift is there same vector = alone_fits rank (expr.Constant (pos 0)) tt
   stored_fits rank (Some stored) shift is there same vector =
-      let over = over_fits rank stored.storage shift vector in
+      let over = over_fits rank stored.storage shift vector.0 in
+      let three = over_three stored.storage shift vector.1 in
       record {
         rows = record {
           code = tt;
@@ -209,7 +211,7 @@ module _ (base : Tables) where
           shifts = shifts_fit base rank stored.array (vector_over stored.storage shift) over;
         };
         left = element_fits base rank stored.array (vector_over stored.storage shift) is
-            (array_of base rank stored.array stored.storage there same) over
+            (array_of base rank stored.array stored.storage there same) (over, three)
             (stored_of base stored.array stored.storage there);
       }
 
@@ -733,29 +735,30 @@ module _ (base : Tables) where
 
   borders_fit : (rank line copy home next : ℕ) (vectors : List (List ℤ)) → IsRank rank →
       HasSlot base rank home → HasArray base rank copy → VectorsBy rank vectors →
-      SlotsAt base next (replicate (double vectors) rank) →
+      AllCount 3 vectors → SlotsAt base next (replicate (double vectors) rank) →
       FitRows base 0 (border_rows line copy home next vectors)
-  borders_fit rank line copy home next [] is has there by at = tt
-  borders_fit rank line copy home next (v ∷ vectors) is has there by at = (
-    (record { rank = rank; fit = (at.0, has, vector_by rank v by.0) }, tt),
+  borders_fit rank line copy home next [] is has there by three at = tt
+  borders_fit rank line copy home next (v ∷ vectors) is has there by three at = (
+    (record { rank = rank; fit = (at.0, has, vector_by rank v by.0) }, three.0),
     (
       (
         record {
           rank = rank;
           fit = (at.1.0, has, vector_by rank (map neg_ℤ v) (opposite_by rank v by.0));
         },
-        tt,
+        length-map v neg_ℤ ∙ three.0,
       ),
       (
-        (record { rank = rank; fit = (has, there, vector_by rank v by.0) }, tt),
-        borders_fit rank line copy home (suc (suc next)) vectors is has there by.1 at.1.1,
+        (record { rank = rank; fit = (has, there, vector_by rank v by.0) }, three.0),
+        borders_fit rank line copy home (suc (suc next)) vectors is has there by.1 three.1
+            at.1.1,
       ),
     ),
   )
 
   wrap_fit : (rank line : ℕ) (stored : Option Stored) (home : Region) (shift : List ℤ)
       (copy first : ℕ) → IsRank rank → IsThere base stored → IsOfRank rank stored →
-      IsVector rank shift → FitsCopy base rank copy first home shift →
+      FitsVector rank shift → FitsCopy base rank copy first home shift →
       FitsLeft base rank (wrapping line stored home shift copy first)
   wrap_fit rank line None home shift copy first is there same vector fits =
       alone_fits rank (expr.Constant (pos 0)) tt
@@ -765,17 +768,19 @@ module _ (base : Tables) where
       record {
         rows = record {
           code = (
-            (record { rank = rank; fit = (slots.0, fits.box, fits.same) }, tt),
+            (record { rank = rank; fit = (slots.0, fits.box.0, fits.same) }, fits.box.1),
             (
               put_loop base rank first copy (expr.Element stored.array) None line is slots.0
                   fits.has
                   (is, array_of base rank stored.array stored.storage there same) tt,
               borders_fit rank line copy first (suc first) (border_vectors shift) is slots.0
-                  fits.has (borders_by rank shift (by_vector rank shift vector)) slots.1,
+                  fits.has (borders_by rank shift (by_vector rank shift vector.0))
+                  (subst (λ n. AllCount n (border_vectors shift)) vector.1 (borders_alike shift))
+                  slots.1,
             ),
           );
           temps = tt;
-          shifts = shifts_fit base rank copy shift vector;
+          shifts = shifts_fit base rank copy shift vector.0;
         };
         left = element_fits base rank copy shift is fits.has vector fits.is_stored;
       }

@@ -1,6 +1,6 @@
 -- When rows that are seen inline fit: what their numbers name is asked of tables that have as many
 -- scalars, the same slots and the same arrays as those that the rows are laid out in.
-use Rattle.std.specs.Prelude.{◌≡◌, ℕ, zero, suc, ◌<◌, ◌≤◌, List, [], ◌∷◌, Option, Some, None, All, replicate}
+use Rattle.std.specs.Prelude.{◌≡◌, ℕ, zero, suc, ◌<◌, ◌≤◌, List, [], ◌∷◌, Option, Some, None, All, length, replicate}
 use Rattle.node_form.specs.declared.instructions.Instr.{Instr}
 use Rattle.node_form.specs.declared.instructions.Instr.TheVariants as instr
 use Rattle.node_form.specs.declared.tables.Tables.{Tables}
@@ -8,6 +8,7 @@ use Rattle.node_form.specs.Expression.{IsExpression}
 use Rattle.node_form.specs.Fits.{IsRank, HasSlot, HasArray, FitsWord, IsScalarWord, FitsInstr}
 use Rattle.node_form.specs.Nest.{IsNest}
 use Rattle.stored_shifts.specs.Stored.{IsStoredRead}
+use Rattle.typed_tables.specs.Typed.{IsTypedWord}
 use Rattle.flat_form.specs.Row as row
 use Rattle.flat_form.specs.Row.{Words, Member, Part, Row, group_coded}
 use Rattle.row_runs.specs.Structured as piece
@@ -16,11 +17,13 @@ use Rattle.zpl_lowering.specs.Check.{Check}
 
 -- ---- expressions
 
--- the words are those of an expression, and fit at the rank; what they read with a shift is stored
+-- The words are those of an expression, and fit at the rank. What they read with a shift is stored,
+-- and shifts have three components.
 pub record FitsWords (tables : Tables) (rank : ℕ) (words : Words) : Type 0 where
   pub stack : IsExpression words
   pub fit : All (FitsWord tables rank) words
   pub stored : All (IsStoredRead tables) words
+  pub typed : All IsTypedWord words
 
 -- and none of them needs an index
 pub record FitsScalar (tables : Tables) (words : Words) : Type 0 where
@@ -88,11 +91,12 @@ StarsPast rank [] = Unit {0}
 StarsPast zero (part ∷ parts) = AllStars (part ∷ parts)
 StarsPast (suc rank) (part ∷ parts) = StarsPast rank parts
 
--- past the rank stands a star
+-- there are three; past the rank stands a star
 pub record FitsDims (tables : Tables) (slot : ℕ) (parts : List Part) : Type 0 where
   pub rank : ℕ
   pub over : HasSlot tables rank slot
   pub fit : AllDims tables rank parts
+  pub three : length parts ≡ 3
   pub stars : StarsPast rank parts
 
 -- ---- rows
@@ -101,8 +105,12 @@ pub record FitsDims (tables : Tables) (slot : ℕ) (parts : List Part) : Type 0 
 abbrev pub long : Tables → ℕ → Tables
 long tables count = record tables { code = replicate count instr.End }
 
--- a row of a flat program that names no expression, group or text
+-- a row of a flat program that names no expression, group or text; regions and vectors in it have
+-- three dimensions
 abbrev pub IsOwnRow : Instr → Type 0
+IsOwnRow (instr.Fix slot region) = length region.dims ≡ 3
+IsOwnRow (instr.Formed form slot from shift line) = length shift ≡ 3
+IsOwnRow (instr.Edge kind array slot shift) = length shift ≡ 3
 IsOwnRow (instr.Set scalar expr line) = ⊥
 IsOwnRow (instr.Dims slot parts line) = ⊥
 IsOwnRow (instr.Loop slot group) = ⊥

@@ -9,12 +9,12 @@ use Rattle.zpl_meaning.specs.Context.{Currents}
 use Rattle.zpl_meaning.specs.Proper.{HasCurrent}
 use Rattle.zpl_meaning.specs.Statement.{step_expr}
 use Rattle.node_form.specs.declared.tables.Tables.{Tables}
-use Rattle.node_form.specs.Fits.{IsRank, IsVector, HasSlot}
+use Rattle.node_form.specs.Fits.{IsRank, HasSlot}
 use Rattle.zpl_lowering.specs.Where.{SlotEdge, Where, Next}
 use Rattle.zpl_lowering.specs.Lowered.{Lowered}
 use Rattle.lowering_fits.specs.Inline.{FitsPiece}
 use Rattle.lowering_fits.specs.Reach.{HasFlatRemaps, HaveFlatRemaps}
-use Rattle.lowering_fits.specs.Slates.{SlotsAt, TempsAt, StoragesAt, AllTemps, AllShifts}
+use Rattle.lowering_fits.specs.Slates.{SlotsAt, TempsAt, StoragesAt, AllTemps, AllShifts, FitsVector}
 
 abbrev pub AllRanks : List ℕ → Type 0
 AllRanks [] = Unit {0}
@@ -45,7 +45,7 @@ FitsEdge tables w currents None = Unit {0}
 FitsEdge tables w currents (Some edge) =
     (rank : ℕ)
     × ((w.prefix ≡ Some rank) × HasCurrent currents w.prefix × HasSlot tables rank edge.slot
-    × IsVector rank edge.shift)
+    × FitsVector rank edge.shift)
 
 -- ---- texts
 

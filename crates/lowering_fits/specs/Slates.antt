@@ -97,10 +97,26 @@ abbrev pub slates_count : Slates → ℕ
 slates_count NoSlate = 0
 slates_count (ThenSlate first rest) = suc (slates_count rest)
 
+-- a region that may stand in a row, of three dimensions
+abbrev pub FitsBox : Region → Type 0
+FitsBox region = FitsRegion region × (length region.dims ≡ 3)
+
+-- a vector of the rank, of three components
+abbrev pub FitsVector : ℕ → List ℤ → Type 0
+FitsVector rank vector = IsVector rank vector × (length vector ≡ 3)
+
+-- and so is a shift, which has none where nothing is moved
+abbrev pub IsWhole : List ℤ → Type 0
+IsWhole [] = Unit {0}
+IsWhole (d ∷ shift) = length (d ∷ shift) ≡ 3
+
+abbrev pub FitsShift : ℕ → List ℤ → Type 0
+FitsShift rank shift = IsVector rank shift × IsWhole shift
+
 -- a copy that is read round a box: its slots, and its place in the tables
 pub record FitsCopy (tables : Tables) (rank copy first : ℕ) (home : Region) (shift : List ℤ) : Type
     0 where
-  pub box : FitsRegion home
+  pub box : FitsBox home
   pub same : home.rank ≡ rank
   pub has : HasArray tables rank copy
   pub is_stored : IsStored tables copy
@@ -113,10 +129,10 @@ abbrev mutual
   FitsSlate tables numbers rank (slate.Coordinate k) = (1 ≤ k) × (k ≤ rank)
   FitsSlate tables numbers rank (slate.Element slot place shift) =
       IsRank rank × HasSlot tables rank slot × IsOfRank rank (slice_get numbers.arrays place)
-      × IsVector rank shift
+      × FitsShift rank shift
   FitsSlate tables numbers rank (slate.Wrapped slot place home shift copy first) =
       IsRank rank × HasSlot tables rank slot × IsOfRank rank (slice_get numbers.arrays place)
-      × IsVector rank shift × FitsCopy tables rank copy first home shift
+      × FitsVector rank shift × FitsCopy tables rank copy first home shift
   FitsSlate tables numbers rank (slate.Unary operator operand) =
       FitsSlate tables numbers rank operand
   FitsSlate tables numbers rank (slate.Binary operator left right) =
@@ -151,7 +167,7 @@ FitsTree tables rank (expr.Constant value) = Unit {0}
 FitsTree tables rank (expr.Variable scalar) = scalar < tables.scalars
 FitsTree tables rank (expr.Element array) = IsRank rank × HasArray tables rank array
 FitsTree tables rank (expr.Neighbour array shift) =
-    IsRank rank × HasArray tables rank array × IsVector rank shift × IsStored tables array
+    IsRank rank × HasArray tables rank array × FitsVector rank shift × IsStored tables array
 FitsTree tables rank (expr.CellValue cell) = ⊥
 FitsTree tables rank (expr.Coordinate dimension) = (1 ≤ dimension) × (dimension ≤ rank)
 FitsTree tables rank (expr.Operation op left right) =

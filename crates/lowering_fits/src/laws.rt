@@ -26,6 +26,7 @@ ghost use Rattle.flat_form.specs.Flat.{IsFlat};
 ghost use Rattle.flat_form.specs.Laws.{IsInline};
 ghost use Rattle.flat_form.specs.Row.{Row, with_rows};
 ghost use Rattle.stored_shifts.specs.Stored.{ShiftsAreStored};
+ghost use Rattle.typed_tables.specs.Typed.{AreTyped};
 ghost use Rattle.zpl_lowering.specs.Hoist.{Free, hoisted};
 ghost use Rattle.zpl_lowering.specs.Lowered.{Lowered};
 ghost use Rattle.zpl_lowering.specs.Program.{Entry, body_code, first_next, lowered_program};
@@ -154,8 +155,8 @@ pub fn bodies_fit()
 }
 
 /// Code that is numbered as it is laid out has what is its own in its tables; and if it fits them
-/// then, and its storages are boxes within the limit, they are a flat program's. What their
-/// expressions read with a shift is stored.
+/// then, and its storages are boxes within the limit, they are a flat program's, and are as a
+/// program's types give them. What their expressions read with a shift is stored.
 pub fn numbered_code_makes_a_flat_program()
     ensures laid { (grid : List ℕ) (next : Next) (lowered : Lowered) → IsNumbered next lowered →
         IsLaidOut (empty_tables grid lowered) next lowered }
@@ -164,6 +165,9 @@ pub fn numbered_code_makes_a_flat_program()
         FitsLowered (empty_tables grid lowered) lowered → IsFlat (tables_of grid lowered) }
     ensures stored { (grid : List ℕ) (lowered : Lowered) →
         FitsLowered (empty_tables grid lowered) lowered → ShiftsAreStored (tables_of grid lowered) }
+    ensures typed { (grid : List ℕ) (lowered : Lowered) →
+        AllStorages (lowered.arrays ++ (lowered.copies ++ lowered.later)) →
+        FitsLowered (empty_tables grid lowered) lowered → AreTyped (tables_of grid lowered) }
 {}
 
 /// All code of a program of the grammar without faults is numbered as it is laid out: the program
