@@ -10,7 +10,7 @@ use Rattle.zpl_names.specs.Kinds.{Kind, Shape, Formal, ScalarFormal, ArrayFormal
 use Rattle.zpl_names.specs.Scope.{kind_in, kind_of}
 use Rattle.zpl_names.specs.Ranks.{array_shape}
 use Rattle.zpl_names.specs.Declared.{Routine, globals_of, scope_of}
-use Rattle.zpl_meaning.specs.Store.{Thing, Scalar, ArrayAt, Fixed, Names, thing_of}
+use Rattle.zpl_meaning.specs.Store.{Thing, Scalar, ArrayAt, Fixed, Names, Environment, thing_of}
 use Rattle.zpl_meaning.specs.Context.{Currents, Edge}
 use Rattle.zpl_meaning.specs.Calls.{actual_thing}
 use Rattle.zpl_meaning.specs.Proper.{IsArray, IsVariable, AreProperActuals}
@@ -19,7 +19,7 @@ use Rattle.node_form.specs.declared.tables.Tables.{Tables}
 use Rattle.zpl_lowering.specs.Where.{Stored, Numbers, Where}
 use Rattle.zpl_lowering.specs.Statement.{Given, Copied, Referring, referring, copying, given_to}
 use Rattle.lowering_fits.specs.Slates.{AllBelow}
-use Rattle.lowering_fits.specs.Reach.{place_at, IsStoredAs, FitsName, FitNames, FitScalars, IsKept, named_thing, AreGlobals, IsReach}
+use Rattle.lowering_fits.specs.Reach.{place_at, IsStoredAs, FitsName, FitNames, FitScalars, IsKept, named_thing, AreGlobals}
 use Rattle.lowering_fits.proofs.KeptLemmas.{AreKept, IsBoth, kept_found, AreGivenOf}
 
 -- ---- names of lists, one behind the other
@@ -68,6 +68,23 @@ record IsNamedAs (program : Program) (routine : Routine) (numbers : Numbers) (na
 some_same : (a b : Thing) → Some a ≡ Some b → a ≡ b
 some_same a b same = cc
 
+-- names of scalars are among those that have numbers
+abbrev pub FewScalars : Environment → Numbers → Type 0
+FewScalars environment numbers =
+    (text : List ℕ) (place : ℕ) → thing_of environment text ≡ Some (Scalar place) →
+    place < length numbers.scalars
+
+pub scalars_are_few : (tables : Tables) (environment : Environment) (numbers : Numbers) →
+    FitScalars tables environment numbers → FewScalars environment numbers
+scalars_are_few tables environment numbers variables text place is =
+    by numbers.scalars place (variables text place is)
+  where
+    by : (xs : List ℕ) (place : ℕ) → IsSomeAnd (slice_get xs place) (λ n. n < tables.scalars) →
+        place < length xs
+    by [] place is = absurd is
+    by (x ∷ xs) zero is = omega arith
+    by (x ∷ xs) (suc place) is = let later = by xs place is in omega (arith, later)
+
 module _ (program : Program) (routine : Routine) (numbers : Numbers) (names globals : Names)
     (own : AreKept numbers routine.own names) (others : AreGlobals program numbers globals) where
   named_as : (name : Name) (thing : Thing) →
@@ -110,6 +127,11 @@ module _ (program : Program) (routine : Routine) (numbers : Numbers) (names glob
   scalar_there most (x ∷ xs) (suc place) below less =
       scalar_there most xs place below.1 (omega (arith, less))
 
+  pub scalars_few : FewScalars (record { names = names ++ globals }) numbers
+  scalars_few text place is =
+      let found = named_as (record { text = text; at = 0 }) (Scalar place) is in
+      scalar_kept_as numbers found.one place found.kept
+
   pub scalars_fit : (tables : Tables) → AllBelow tables.scalars numbers.scalars →
       FitScalars tables (record { names = names ++ globals }) numbers
   scalars_fit tables below text place is =
@@ -119,18 +141,9 @@ module _ (program : Program) (routine : Routine) (numbers : Numbers) (names glob
 
 -- ---- what a call hands on
 
-module _ (tables : Tables) (w : Where) (result : ℕ) (currents : Currents) (edge : Option Edge)
-    (reach : IsReach tables w currents) where
-  scalar_below : (text : List ℕ) (place : ℕ) → thing_of w.environment text ≡ Some (Scalar place) →
-      place < length w.numbers.scalars
-  scalar_below text place is = by w.numbers.scalars place (reach.variables text place is)
-    where
-      by : (xs : List ℕ) (place : ℕ) → IsSomeAnd (slice_get xs place) (λ n. n < tables.scalars) →
-          place < length xs
-      by [] place is = absurd is
-      by (x ∷ xs) zero is = omega arith
-      by (x ∷ xs) (suc place) is = let later = by xs place is in omega (arith, later)
-
+module _ (w : Where) (result : ℕ) (currents : Currents) (edge : Option Edge)
+    (names : FitNames w.scope w.environment w.numbers)
+    (scalar_below : FewScalars w.environment w.numbers) where
   scalar_actual : (actual : Expr) (rest : List Given) →
       IsVariable (actual_thing w.environment actual) → (Holds : List Given → Type 0) →
       ((place : ℕ) → place < length w.numbers.scalars → Holds (Referring (Scalar place) ∷ rest)) →
@@ -173,7 +186,7 @@ module _ (tables : Tables) (w : Where) (result : ℕ) (currents : Currents) (edg
   array_actual base by_ref shape (Named at name) is shaped =
       by (thing_of w.environment name.text) is
       (λ place home there. subst (λ s. FitsName w.numbers s place home) shaped.1
-      (reach.names name place home there))
+      (names name place home there))
     where
       by : (thing : Option Thing) → IsArray thing →
           ((place : ℕ) (home : Region) → thing ≡ Some (ArrayAt place home) →

@@ -219,7 +219,7 @@ module _ (world : World) (setup : Setup) (IsCallable : List ℕ → Type 0)
       let calling = calling_at w name.text givens 0 line in
       let scalars = value_scalars sight w start formals actuals served.actuals_are in
       let rooms : HasRoom tables next (joined (code.Rows []) own (world.code calling more)) =
-      record { scalars = room.scalars; slots = room.slots } in
+      record { scalars = room.scalars; slots = room.slots; arrays = room.arrays } in
       let many = left_length sight w line next start exprs scalars in
       let handed : List ℤ → List Handed =
       λ values. handed_on p.environment store formals actuals values in
@@ -243,7 +243,7 @@ module _ (world : World) (setup : Setup) (IsCallable : List ℕ → Type 0)
       subst (λ (hs : List Handed). Agrees Like n 0 (world.call (called hs) store)
       (does tables n (world.code calling more).code after)) (sym same)
       (calls.by sight.spots w next more start name.text givens line served.setup_is stands
-      (record { scalars = omega arith; slots = omega arith }) served.callable
+      (record { scalars = omega arith; slots = omega arith; arrays = omega arith }) served.callable
       (given_earlier (length (numbered sight.spots)) (length w.numbers.arrays) next.scalars first
       givens more.scalars (omega arith)
       (given_is sight w start next stands formals actuals first more.scalars served.actuals_are
