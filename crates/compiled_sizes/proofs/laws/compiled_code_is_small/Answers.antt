@@ -1,10 +1,10 @@
-use Rattle.std.proofs.Common.{ℕ, ◌+◌, ◌*◌, ◌≤◌, arith, length}
+use Rattle.std.proofs.Common.{ℕ, ◌+◌, ◌*◌, ◌≤◌, arith}
 use Rattle.zpl_tree.specs.Syntax.{Program}
-use Rattle.zpl_tree.specs.Spelling.{program_words}
 use Rattle.zpl_names.specs.Expansion.{other_size, plain_assignments, source_size}
 use Rattle.code_parts.specs.Counts.{code_size, count_of, is_counted}
 use Rattle.temp_norm.specs.Normalised.{loops_on_themselves}
 use Rattle.zpl_lowering.specs.Tables.{flat_tables}
+use Rattle.lowering_sizes.specs.Sizes.{HasTokens}
 use Rattle.lowering_sizes.proofs.CountedProgram.{count_law}
 use Rattle.lowering_sizes.proofs.TextLemmas.{size_law}
 use Rattle.zpl_claims.specs.Build.{Build}
@@ -34,7 +34,7 @@ small build program is =
     )
 
 few : (build : Build) (program : Program) (tokens : ℕ) → IsLowered build program →
-    length (program_words program) ≤ tokens →
+    HasTokens program tokens →
     count_of is_counted (compiled build program) ≤
     plain_assignments program + (32 * (other_size program tokens + 1)
     + 2 * loops_on_themselves (flat_tables program build.settings))
