@@ -59,7 +59,7 @@ use Rattle.message_runs.proofs.OwnerLemmas.{limited_bounds, ranges}
 use Rattle.message_runs.proofs.WorkLemmas.{others_among, others_below}
 
 -- ---- regions
-met_steps : (lows highs : List ℤ) (dims : List Dim) → All HasStep dims
+pub met_steps : (lows highs : List ℤ) (dims : List Dim) → All HasStep dims
     → All HasStep (each_met lows highs dims)
 met_steps [] highs dims steps = steps
 met_steps (l ∷ lows) [] dims steps = steps
@@ -77,7 +77,7 @@ met_steps (l ∷ lows) (h ∷ highs) (d ∷ dims) steps =
 not_zero : (n : ℕ) → (suc n == 0) ≡ false
 not_zero n = ne_eqb (suc n) 0 (λ same. cc)
 
-zero_below : (n : ℕ) → nat_lt 0 (suc n) ≡ true
+pub zero_below : (n : ℕ) → nat_lt 0 (suc n) ≡ true
 zero_below n = grind (arith, nat_tests)
 
 -- ---- texts of arrays that have the same values
@@ -147,7 +147,7 @@ module _ (words : ℕ → List ℤ) where
       by false (inl same) rest = inl same
       by false (inr later) rest = inr (rest later)
 
-  abbrev kept_of : List ℕ → List (ℕ × List ℤ) → List (ℕ × List ℤ)
+  abbrev pub kept_of : List ℕ → List (ℕ × List ℤ) → List (ℕ × List ℤ)
   kept_of [] kept = kept
   kept_of (q ∷ from) kept = kept_of from (kept_with q (words q) kept)
 

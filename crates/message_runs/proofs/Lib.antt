@@ -17,3 +17,6 @@ pub mod GatherRows
 pub mod FloodRows
 pub mod EdgeRows
 pub mod PartRows
+pub mod ScanLines
+pub mod ScanBefore
+pub mod ScanRows

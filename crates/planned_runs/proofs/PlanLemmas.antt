@@ -1,4 +1,4 @@
--- The plan of a flat program shows what the flat program shows, where scans and remaps agree.
+-- The plan of a flat program shows what the flat program shows, where remaps agree.
 --
 --   plans_keep
 use Rattle.std.proofs.Common.{◌≡◌, refl, sym, ◌∙◌, ap, subst, arith, ℕ, zero, suc, ◌+◌, true}
@@ -41,6 +41,7 @@ use Rattle.message_runs.proofs.FoldRows.{fold_agrees}
 use Rattle.message_runs.proofs.GatherRows.{gather_agrees}
 use Rattle.message_runs.proofs.PartRows.{part_agrees}
 use Rattle.message_runs.proofs.PrintRows.{number_agrees, text_agrees, truth_agrees}
+use Rattle.message_runs.proofs.ScanRows.{scan_agrees}
 use Rattle.plan_passes.proofs.AwaitLemmas.{plan_awaits}
 use Rattle.planned_runs.specs.Left.{LeftRows, LeftRowsAgree}
 use Rattle.planned_runs.proofs.NumberLemmas.{runs_kept}
@@ -145,7 +146,7 @@ module _ (left_agree : LeftRowsAgree) (tables : Tables) (grid : List ℕ) (links
           edges = edge_agrees code layout links n;
           floods = flood_agrees code layout links n;
           parts = part_agrees code layout links n;
-          scans = rest.scans;
+          scans = scan_agrees code layout links n;
           gathers = gather_agrees code layout links n;
           remaps = rest.remaps;
           folds = fold_agrees code links n;
