@@ -30,7 +30,8 @@ use Rattle.row_orders.proofs.StarLemmas.{processor_count}
 use Rattle.row_orders.proofs.TreeLemmas.{are_trees}
 use Rattle.row_runs.specs.Run.{Does, Ends, Goes, Stops, Wrong}
 use Rattle.zpl_nums.specs.declared.ends.End.TheVariants.{More}
-use Rattle.plan_meaning.specs.Abreast.{Abreast, Share, every, is_quiet}
+use Rattle.plan_meaning.proofs.ThereLemmas.{there_is}
+use Rattle.plan_meaning.specs.Abreast.{Abreast, Share, every, is_quiet, of_processors}
 use Rattle.plan_meaning.specs.Act.{found, is_vote_of}
 use Rattle.plan_meaning.specs.Loops.{Shared, lacks, looped, part_shared, point_of, share_behind, shared, tree_looped, wants}
 use Rattle.plan_orders.specs.Brings.{AllWait, AreOpen, ComesToWait, GoesWell, HasOrder, IsFollowed, IsLimited, LeadsTo, in_front, loops_among, most_loops, row_most, standing_at}
@@ -171,8 +172,23 @@ module _ (code : Tables) (links : Option ℕ) (n at slot number : ℕ) (members 
   abbrev on : ℕ → Local
   on p = on_of code p at n (all.shares p) (most p) (one p) (result p) (comes p)
 
+  -- what a processor comes to, and what all have behind the row
+  abbrev come : ℕ → Local
+  come p = standing_at (at + 1) (share_behind code (suc n) (all.shares p) (result p))
+
+  abbrev behind : Abreast
+  behind = of_processors code all (record all {
+    shares = λ p. share_behind code (suc n) (all.shares p) (result p);
+  })
+
   abbrev out : ℕ → Local
-  out p = standing_at (at + 1) (share_behind code (suc n) (all.shares p) (result p))
+  out p = standing_at (at + 1) (behind.shares p)
+
+  out_is : (p : ℕ) → p < count → come p ≡ out p
+  out_is p below =
+      ap (standing_at (at + 1)) (sym (there_is code all (record all {
+        shares = λ p. share_behind code (suc n) (all.shares p) (result p);
+      }) p (inside p below)))
 
   loop_few : IsLimited code all → (p : ℕ) → p < processors code → (region : Option Region)
       → slice_get (all.shares p).slots slot ≡ region
@@ -226,10 +242,12 @@ module _ (code : Tables) (links : Option ℕ) (n at slot number : ℕ) (members 
         facts : (p : ℕ) → p < count
             → (1 ≤ turns p) × Steps code p (turns p) (one p) (out p) × (turns p ≤ most p)
         facts p below =
-            out_facts code p at n (all.shares p) (most p) (one p) (result p) (comes p)
+            subst (λ other. (1 ≤ turns p) × Steps code p (turns p) (one p) other
+            × (turns p ≤ most p)) (out_is p below)
+            (out_facts code p at n (all.shares p) (most p) (one p) (result p) (comes p)
             (is_held p below)
             (not_false (wants code (suc n) (result p))
-            (every_one code (λ q. not (wants code (suc n) (result q))) done p (inside p below)))
+            (every_one code (λ q. not (wants code (suc n) (result q))) done p (inside p below))))
 
     -- some want more
     module _ (capable : IsCapacity links) (vote : Instr) (kin : ℕ → Kin)
@@ -254,6 +272,7 @@ module _ (code : Tables) (links : Option ℕ) (n at slot number : ℕ) (members 
               → Steps code p (many_where b (turns p)) (one p) (mid_where b (one p) (out p))
           by true e = refl
           by false e =
+              subst (Steps code p (turns p) (one p)) (out_is p below)
               (out_facts code p at n (all.shares p) (most p) (one p) (result p) (comes p)
               (is_held p below)
               e).1
@@ -384,12 +403,6 @@ module _ (code : Tables) (links : Option ℕ) (capable : IsCapacity links) (n at
           results : ℕ → Shared
           results = shared code (suc n) (units_of nest) slot all
 
-          behind : Abreast
-          behind = record all {
-            shares = λ p. share_behind code (suc n) (all.shares p)
-                (shared code (suc n) (units_of nest) slot all p);
-          }
-
           vote_waits : (vote : Option Instr) → slice_get code.code (at + 1) ≡ vote
               → is_vote_of number vote ≡ true
               → every code (λ p. not (lacks code (suc n)
@@ -428,10 +441,10 @@ module _ (code : Tables) (links : Option ℕ) (capable : IsCapacity links) (n at
               → every code (λ p. not (lacks code (suc n)
               (shared code (suc n) (units_of nest) slot all p))) ≡ true
               → GoesWell code links n at all
-              (Does (if b then Goes [] (record all {
+              (Does (if b then Goes [] (of_processors code all (record all {
                 shares = λ p. share_behind code (suc n) (all.shares p)
                     (shared code (suc n) (units_of nest) slot all p);
-              }) else (if is_vote_of number next && is_quiet all then Stops (Ends More)
+              })) else (if is_vote_of number next && is_quiet all then Stops (Ends More)
               else Stops Wrong)))
           by_wanted true e held = (
             loop_goes code links n at slot number members nest here group_here spells all open_now
@@ -447,10 +460,10 @@ module _ (code : Tables) (links : Option ℕ) (capable : IsCapacity links) (n at
               → GoesWell code links n at all
               (Does (if b then (if every code (λ p. not (wants code (suc n)
               (shared code (suc n) (units_of nest) slot all p)))
-              then Goes [] (record all {
+              then Goes [] (of_processors code all (record all {
                 shares = λ p. share_behind code (suc n) (all.shares p)
                     (shared code (suc n) (units_of nest) slot all p);
-              }) else (if is_vote_of number next && is_quiet all then Stops (Ends More)
+              })) else (if is_vote_of number next && is_quiet all then Stops (Ends More)
               else Stops Wrong)) else Stops Wrong))
           by_held false e = tt
           by_held true e =
