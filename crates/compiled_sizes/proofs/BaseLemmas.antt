@@ -52,7 +52,7 @@ abbrev row_length : Row → ℕ
 row_length one = sum_by (λ words. length words) (row_words one)
 
 -- the same lists by their numbers
-found : {X : Type 0} (lists : List (List X)) (k : ℕ) →
+pub found : {X : Type 0} (lists : List (List X)) (k : ℕ) →
     rows_or_none (slice_get lists k) ≡ slice_index_or lists k []
 found [] k = refl
 found (one ∷ lists) zero = refl

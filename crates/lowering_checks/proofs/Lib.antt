@@ -12,3 +12,5 @@ pub mod BodyLemmas
 pub mod CallLemmas
 pub mod WholeLemmas
 pub mod TableLemmas
+pub mod EachLemmas
+pub mod PreparedLemmas

@@ -12,6 +12,7 @@ ghost use Rattle.flat_form.specs.Row.{Row, all_inlined};
 ghost use Rattle.pass_parts.specs.Checks.{ChecksWhatFollows};
 ghost use Rattle.zpl_lowering.specs.Program.{lowered_program};
 ghost use Rattle.zpl_lowering.specs.Tables.{rows_of};
+ghost use Rattle.lowering_checks.specs.Prepared.{ArePrepared};
 ghost use Rattle.lowering_checks.specs.Walked.{AreChecked};
 
 use meaning_ranks::ranks_agree;
@@ -37,4 +38,11 @@ pub fn loops_are_checked()
 pub fn checks_say_what_follows()
     ensures { (tables : Code) (rows : List Row) → all_inlined tables ≡ rows →
         AreChecked None rows → ChecksWhatFollows tables }
+{}
+
+/// In the rows of a program, whatever it is, at least as many check places, make places for
+/// temporaries or fill slots as are loops that put an array.
+pub fn loops_are_prepared()
+    ensures { (program : Program) (settings : List Setting) →
+        ArePrepared (rows_of (lowered_program program settings)) }
 {}

@@ -6,4 +6,4 @@
 
 mod laws;
 
-pub use laws::{checks_say_what_follows, loops_are_checked};
+pub use laws::{checks_say_what_follows, loops_are_checked, loops_are_prepared};

@@ -12,6 +12,7 @@ use Rattle.zpl_compile.specs.Compile.{compiled}
 use Rattle.compiled_sizes.specs.Lowered.{IsLowered}
 use Rattle.compiled_sizes.proofs.BaseLemmas.{members_once, none_unflat, shifts_once}
 use Rattle.compiled_sizes.proofs.PassLemmas.{IsEnded, all_compiled}
+use Rattle.compiled_sizes.proofs.PreparedLemmas.{normal_twice}
 use Rattle.compiled_sizes.proofs.laws.compiled_code_is_small.Goals as goal
 
 ended : (build : Build) (program : Program) → IsLowered build program →
@@ -49,6 +50,7 @@ pub returns : goal.returns
 returns c = record {
   factor = λ build program is. (ended build program is).sized;
   small = small;
+  normal = λ build program is. normal_twice program build.settings is.inline is.flat;
   counted = few;
   votes = λ build program is. (ended build program is).few_votes;
 }
