@@ -1,20 +1,26 @@
 -- What holds of all code of a program, part by part: of pieces of code one behind the other, of
 -- rows without loops, and of the loops that operators, statements and copies have, each with the
 -- rows that it stands among. Whatever the program is: no faults are ruled out.
-use Rattle.std.proofs.Common.{◌≡◌, ℕ, zero, suc, ◌+◌, Bool, true, false, ℤ, pos, List, [], ◌∷◌, ◌++◌, map, length, refl, ap, subst}
-use Rattle.std.specs.Prelude.{Option, Some, None, slice_get}
+use Rattle.std.proofs.Common.{◌≡◌, ℕ, zero, suc, ◌+◌, Bool, true, false, ℤ, pos, List, [], ◌∷◌, ◌++◌, map, length, refl, sym, ap, ◌∙◌, subst}
+use Rattle.std.specs.Prelude.{Option, Some, None, cond, find, slice_get}
+use Rattle.std.specs.Str.{bytes_eq}
 use Rattle.zpl_nums.specs.declared.operators.Op.{Op}
 use Rattle.zpl_nums.specs.declared.folds.Fold.{Fold}
 use Rattle.zpl_nums.specs.declared.folds.Fold.TheVariants as fold
 use Rattle.zpl_nums.specs.declared.ends.TrapKind.TheVariants as trap
 use Rattle.zpl_nums.specs.declared.ends.Border.{Border as BorderKind}
 use Rattle.zpl_region.specs.declared.regions.Region.{Region}
-use Rattle.zpl_tree.specs.Syntax.{Name, Expr, Number, Truth, Coord, Named, Shifted, Around, Remap, Call, Paren, Neg, Not, Abs, Pair, Reduce, Scan, Flood, Exprs, Prefix, Stmt, Prefixed, Stmts, NoStmt, ThenStmt, Form, Assign, Invoke, Block, If, While, Repeat, For, Border, Write, Return, Arm, Tested, Arms, NoArm, ThenArm, Otherwise, NoElse, Else, ForHead, Item, Str, Value, Bracket, NoBracket, Bracketed, VarDef, Program}
+use Rattle.zpl_tree.specs.Syntax as tree
+use Rattle.zpl_tree.specs.Syntax.{Name, Expr, Number, Truth, Coord, Named, Shifted, Around, Remap, Call, Paren, Neg, Not, Abs, Pair, Reduce, Scan, Flood, Exprs, Prefix, Stmt, Prefixed, Stmts, NoStmt, ThenStmt, Form, Assign, Invoke, Block, If, While, Repeat, For, Border, Write, Return, Arm, Tested, Arms, NoArm, ThenArm, Otherwise, NoElse, Else, ForHead, Item, Str, Value, Bracket, NoBracket, Bracketed, VarDef, Base, Decl, Config, Regions, Directions, Vars, Defined, Program}
 use Rattle.zpl_names.specs.Kinds.{Rank}
+use Rattle.zpl_names.specs.Scope as names
 use Rattle.zpl_names.specs.Scope.{kind_of}
-use Rattle.zpl_names.specs.Declared.{Routine, routine_named}
+use Rattle.zpl_names.specs.Ranks.{first_rank, is_above_zero, rank_of}
+use Rattle.zpl_names.specs.Shapes.{prefix_rank, unknown_shapes}
+use Rattle.zpl_names.specs.Declared.{Routine, routine_named, routine_of, routines_behind, routines_of, scope_of, with_decl, with_procedure}
 use Rattle.zpl_names.specs.Expansion.{FormalName, formal_names}
-use Rattle.zpl_names.specs.Sites.{Role, Test, Printed, Assigned, Result, is_shattered}
+use Rattle.zpl_names.specs.Sites as sites
+use Rattle.zpl_names.specs.Sites.{Role, Test, Printed, Assigned, Result, Limit, Reach, Site, AtStmt, arm_sites, arms_rank, arms_sites, body_sites, decl_sites, each_sites, form_sites, head_sites, in_body, inside, is_shattered, otherwise_sites, outermost_sites, prefixes_sites, routine_sites, step_sites, stmt_sites, stmts_sites, test_rank, text_sites, under_prefixes, whole_sites}
 use Rattle.zpl_names.specs.Types.{type_of}
 use Rattle.zpl_binding.specs.Declarations.{known_of}
 use Rattle.zpl_binding.specs.Outcome.{Computed}
@@ -35,6 +41,7 @@ use Rattle.row_runs.specs.Structured.{Piece}
 use Rattle.flat_form.specs.Row as row
 use Rattle.flat_form.specs.Row.{Row, Words}
 use Rattle.zpl_lowering.specs.Check.{Check}
+use Rattle.zpl_lowering.specs.Bracket.{Opened}
 use Rattle.zpl_lowering.specs.Where.{Stored, Numbers, Slotted, slotted_at, SlotEdge, Where, Next, rank_in, rank_for, reach_of, line_of}
 use Rattle.zpl_lowering.specs.Slate as slate
 use Rattle.zpl_lowering.specs.Slate.{Slate, Slates, NoSlate, ThenSlate, Placed, Settled, settled_each}
@@ -43,6 +50,7 @@ use Rattle.zpl_lowering.specs.Hoist.{Hoisted, Free, behind as hoisted_behind, st
 use Rattle.zpl_lowering.specs.Lowered.{Lowered, rows_alone, behind, Phased, phased, phased_with, first_left, free_at, check_of}
 use Rattle.zpl_lowering.specs.Statement.{Given, Valued, Copied, Referring, Calling, Lowering, placed_in, test_of, set_row, lowered_scalar, lowered_array, lowered_to, value_rows, value_exprs, given_to, with_values, lowered_invoke, target_of, lowered_assign, lowered_borders, is_border, prefix_opened, current_for, under_prefix, of_opened, is_last, lowered_under, counter_from, enters, is_done, step_row, counted, head_exprs, lowered_for, scalar_of, Shown, shown_at, shown_of, Prints, items_of, lowered_write, printed_exprs, is_truth, source_shift, each_border, shattered, choose_code, ends_arms, lowered, lowered_all, lowered_form, lowered_arms, lowered_arm, lowered_otherwise}
 use Rattle.zpl_lowering.specs.Program.{Framed, with_scalar, with_array, Entry, zero_row, clear_row, copy_rows, made_copy, givens_code, names_code, locals_code, where_in, body_code, reads_round, in_call, routine_code, call_code, region_rows, globals_made, first_next, entry_calling, entry_code, lowered_program}
+use Rattle.zpl_meaning.proofs.DepthLemmas.{Each, each_left, each_right}
 use Rattle.lowering_checks.proofs.SlateLemmas.{AllQuiet, quiet_both, each_quiet, all_conforming_quiet, needs_quiet, opened_quiet}
 use Rattle.lowering_checks.proofs.HoistLemmas.{borders_quiet}
 use Rattle.lowering_checks.proofs.AssignLemmas.{set_quiet, values_quiet, edges_quiet, print_quiet, prints_quiet}
@@ -246,18 +254,56 @@ module _ (P : Piece Row Check → Type 0) (goes : GoesAlong P) where
       (all_conforming_quiet line all.slate) (needs_quiet line refs))))
       (all_each w.numbers line (free_at next 0) all.slate)
 
--- ---- and what is asked of statements: that it holds of assignments of arrays and of shattered ones
-pub record GoesOn (P : Piece Row Check → Type 0) : Type 0 where
-  pub goes : GoesAlong P
-  pub array : (w : Where) (line : ℕ) (next : Next) (over : Slotted) (value : Placed)
-      (target : Option Stored) → P (lowered_array w line next over value target).code
-  pub shatters : (w : Where) (line : ℕ) (next : Next) (form : Form) →
-      P (shattered w line next form).code
+-- ---- places of the text, and where they are lowered
+-- The names in reach and the prefix are the same, and the place is in no shattered statement.
+pub record IsSeen (reach : Reach) (w : Where) : Type 0 where
+  pub scope : reach.scope ≡ w.scope
+  pub prefix : reach.prefix ≡ w.prefix
+  pub bare : is_above_zero reach.shattered ≡ false
 
-module _ (P : Piece Row Check → Type 0) (holds : GoesOn P) where
-  abbrev along : GoesAlong P
-  along = holds.goes
+seen_under : (reach : Reach) (w : Where) (prefix : Prefix) (opened : Opened) → IsSeen reach w →
+    IsSeen (sites.under_prefix reach prefix) (under_prefix w prefix opened)
+seen_under reach w prefix opened seen = record {
+  scope = seen.scope;
+  prefix = ap (λ scope. prefix_rank scope reach.prefix prefix) seen.scope
+      ∙ ap (λ rank. prefix_rank w.scope rank prefix) seen.prefix;
+  bare = seen.bare;
+}
 
+no_rank : (one other : Rank) → is_above_zero one ≡ false → is_above_zero other ≡ false →
+    is_above_zero (first_rank one other) ≡ false
+no_rank None other first second = first
+no_rank (Some zero) other first second = second
+no_rank (Some (suc rank)) other first second = first
+
+seen_inside : (reach : Reach) (w : Where) (rank : Rank) → IsSeen reach w →
+    is_above_zero rank ≡ false → IsSeen (inside reach rank) w
+seen_inside reach w rank seen none = record {
+  scope = seen.scope;
+  prefix = seen.prefix;
+  bare = no_rank reach.shattered rank seen.bare none;
+}
+
+test_seen : (reach : Reach) (w : Where) (test : Expr) → IsSeen reach w →
+    test_rank reach test ≡ test_rank (reach_of w) test
+test_seen reach w test seen =
+    ap (λ scope. rank_of scope reach.prefix reach.prefix test) seen.scope
+    ∙ ap (λ rank. rank_of w.scope rank rank test) seen.prefix
+
+arms_seen : (reach : Reach) (w : Where) (arms : Arms) → IsSeen reach w →
+    arms_rank reach arms ≡ arms_rank (reach_of w) arms
+arms_seen reach w NoArm seen = refl
+arms_seen reach w (ThenArm (Tested at test body) rest) seen =
+    ap (λ rank. first_rank rank (arms_rank reach rest)) (test_seen reach w test seen)
+    ∙ ap (first_rank (test_rank (reach_of w) test)) (arms_seen reach w rest seen)
+
+-- ---- what is asked of statements: that it holds of assignments of arrays
+abbrev pub OfArrays : (Piece Row Check → Type 0) → Type 0
+OfArrays P =
+    (w : Where) (line : ℕ) (next : Next) (over : Slotted) (value : Placed)
+    (target : Option Stored) → P (lowered_array w line next over value target).code
+
+module _ (P : Piece Row Check → Type 0) (along : GoesAlong P) (arrays : OfArrays P) where
   quiet_each : (rows : List Row) → AllQuiet rows → OfRows P rows
   quiet_each rows quiet = along.quiet rows quiet
 
@@ -289,7 +335,7 @@ module _ (P : Piece Row Check → Type 0) (holds : GoesOn P) where
   to_each w role line next value (Some (Scalar target)) =
       scalar_each w line next (placed_in w role value) (slice_get w.numbers.scalars target)
   to_each w role line next value (Some (ArrayAt target home)) =
-      holds.array w line next (slotted_at w.currents (rank_for w role)) (placed_in w role value)
+      arrays w line next (slotted_at w.currents (rank_for w role)) (placed_in w role value)
       (slice_get w.numbers.arrays target)
 
   -- ---- borders and prints
@@ -373,12 +419,13 @@ module _ (P : Piece Row Check → Type 0) (holds : GoesOn P) where
   -- ---- prefixes
 
   under_each : (borders : Bool) (rest : Lowering → Next → Lowered) (prefixes : List Prefix)
-      (w : Where) (call : Calling → Next → Lowered) (next : Next) →
-      ((inner : Where) (after : Next) →
+      (w : Where) (call : Calling → Next → Lowered) (next : Next) (reach : Reach) →
+      IsSeen reach w →
+      ((inner : Where) (after : Next) → IsSeen (under_prefixes reach prefixes) inner →
       P (rest (record { place = inner; call = call }) after).code) →
       P (lowered_under borders (record { place = w; call = call }) next prefixes rest).code
-  under_each borders rest [] w call next inside = inside w next
-  under_each borders rest (prefix ∷ prefixes) w call next inside =
+  under_each borders rest [] w call next reach seen inside = inside w next seen
+  under_each borders rest (prefix ∷ prefixes) w call next reach seen inside =
       let last : Bool = is_last borders prefixes in
       let opened = prefix_opened last w next.slots (line_of w prefix.at) (current_for w prefix)
       prefix.region in
@@ -388,7 +435,8 @@ module _ (P : Piece Row Check → Type 0) (holds : GoesOn P) where
       (lowered_under borders (record { place = inner; call = call }) after prefixes rest).code
       (quiet_each opened.rows
       (opened_quiet last w next.slots (line_of w prefix.at) (current_for w prefix) prefix.region))
-      (under_each borders rest prefixes inner call after inside)
+      (under_each borders rest prefixes inner call after (sites.under_prefix reach prefix)
+      (seen_under reach w prefix opened seen) inside)
 
   -- ---- statements, where this is so of what they call
 
@@ -465,100 +513,266 @@ module _ (P : Piece Row Check → Type 0) (holds : GoesOn P) where
         to_each w (Assigned name None) line next (Flood at source operand)
         (thing_of w.environment name.text)
 
-    choose_each : (b : Bool) (one other : Lowered) → P one.code → P other.code →
-        P (choose_code b one other).code
-    choose_each true one other first second = first
-    choose_each false one other first second = second
+-- ---- the places of procedures are among those of the text
+module _ (program : Program) (Q : Site → Type 0) where
+  abbrev SitesHold : Routine → Type 0
+  SitesHold routine = Each Q (routine_sites program unknown_shapes routine)
+
+  abbrev AllHold : List Routine → Type 0
+  AllHold [] = Unit {0}
+  AllHold (routine ∷ routines) = SitesHold routine × AllHold routines
+
+  all_hold : (decls : List Decl) (earlier : List names.Entry) →
+      Each Q (each_sites with_decl (decl_sites program) earlier decls) →
+      AllHold (routines_behind earlier decls)
+  all_hold [] earlier all = tt
+  all_hold (Defined procedure ∷ decls) earlier all =
+      let sites = decl_sites program earlier (Defined procedure) in
+      let rest = each_sites with_decl (decl_sites program) (with_decl earlier (Defined procedure))
+      decls in (
+        each_right Q (head_sites earlier procedure)
+            (routine_sites program unknown_shapes (routine_of earlier procedure))
+            (each_left Q sites rest all),
+        all_hold decls (with_procedure earlier procedure) (each_right Q sites rest all),
+      )
+  all_hold (Config defines ∷ decls) earlier all =
+      all_hold decls _ (each_right Q (decl_sites program earlier (Config defines)) _ all)
+  all_hold (tree.Constant defines ∷ decls) earlier all =
+      all_hold decls _ (each_right Q (decl_sites program earlier (tree.Constant defines)) _ all)
+  all_hold (Regions regions ∷ decls) earlier all =
+      all_hold decls _ (each_right Q (decl_sites program earlier (Regions regions)) _ all)
+  all_hold (Directions directions ∷ decls) earlier all =
+      all_hold decls _ (each_right Q (decl_sites program earlier (Directions directions)) _ all)
+  all_hold (Vars vars ∷ decls) earlier all =
+      all_hold decls _ (each_right Q (decl_sites program earlier (Vars vars)) _ all)
+
+  abbrev FoundHolds : Option Routine → Type 0
+  FoundHolds None = Unit {0}
+  FoundHolds (Some routine) = SitesHold routine
+
+  found_holds : (is_it : Routine → Bool) (routines : List Routine) → AllHold routines →
+      FoundHolds (find is_it routines)
+  found_holds is_it [] all = tt
+  found_holds is_it (routine ∷ routines) all =
+      by (is_it routine) refl (found_holds is_it routines all.1)
+    where
+      by : (b : Bool) → is_it routine ≡ b → FoundHolds (find is_it routines) →
+          FoundHolds (find is_it (routine ∷ routines))
+      by true e rest =
+          subst (λ b. FoundHolds (cond b (Some routine) (find is_it routines))) (sym e) all.0
+      by false e rest =
+          subst (λ b. FoundHolds (cond b (Some routine) (find is_it routines))) (sym e) rest
+
+-- ---- and of shattered statements, each where it stands in the text
+pub record GoesFrom (P : Piece Row Check → Type 0) (Q : Site → Type 0) : Type 0 where
+  pub goes : GoesAlong P
+  pub array : OfArrays P
+  pub shatters : (w : Where) (line : ℕ) (next : Next) (form : Form) (reach : Reach) (at : ℕ)
+      (prefixes : List Prefix) → IsSeen reach w → is_shattered reach form ≡ true →
+      Q (AtStmt reach at prefixes form) → P (shattered w line next form).code
+
+module _ (P : Piece Row Check → Type 0) (Q : Site → Type 0) (holds : GoesFrom P Q) where
+  abbrev along : GoesAlong P
+  along = holds.goes
+
+  none_each : P (piece.Rows [])
+  none_each = along.quiet [] tt
+
+  module _ (call : Calling → Next → Lowered)
+      (calls : (calling : Calling) (next : Next) → P (call calling next).code) where
+    abbrev at_place : Where → Lowering
+    at_place w = record { place = w; call = call }
+
+    choose_each : (b : Bool) (one other : Lowered) → (b ≡ true → P one.code) →
+        (b ≡ false → P other.code) → P (choose_code b one other).code
+    choose_each true one other first second = first refl
+    choose_each false one other first second = second refl
 
     mutual
-      pub stmt_each : (w : Where) (next : Next) (stmt : Stmt) → P (lowered (here w) next stmt).code
-      stmt_each w next (Prefixed at prefixes form) =
-          under_each (is_border form) (λ inner after. lowered_form inner after at form) prefixes w
-          call next (λ inner after. form_each inner after at form)
+      stmt_each : (w : Where) (next : Next) (stmt : Stmt) (reach : Reach) → IsSeen reach w →
+          Each Q (stmt_sites reach stmt) → P (lowered (at_place w) next stmt).code
+      stmt_each w next (Prefixed at prefixes form) reach seen all =
+          let within : Reach = under_prefixes reach prefixes in
+          let own = each_right Q (prefixes_sites reach prefixes)
+          (AtStmt within at prefixes form ∷ form_sites within form) all in
+          under_each P along holds.array (is_border form)
+          (λ inner after. lowered_form inner after at form) prefixes w call next reach seen
+          (λ inner after is. form_each inner after at form within prefixes is own.0 own.1)
 
-      stmts_each : (w : Where) (next : Next) (stmts : Stmts) →
-          P (lowered_all (here w) next stmts).code
-      stmts_each w next NoStmt = quiet_each [] tt
-      stmts_each w next (ThenStmt first rest) =
-          let one : Lowered = lowered (here w) next first in
-          along.then one.code (lowered_all (here w) (behind next one) rest).code
-          (stmt_each w next first) (stmts_each w (behind next one) rest)
+      stmts_each : (w : Where) (next : Next) (stmts : Stmts) (reach : Reach) → IsSeen reach w →
+          Each Q (stmts_sites reach stmts) → P (lowered_all (at_place w) next stmts).code
+      stmts_each w next NoStmt reach seen all = none_each
+      stmts_each w next (ThenStmt first rest) reach seen all =
+          let one : Lowered = lowered (at_place w) next first in
+          along.then one.code (lowered_all (at_place w) (behind next one) rest).code
+          (stmt_each w next first reach seen
+          (each_left Q (stmt_sites reach first) (stmts_sites reach rest) all))
+          (stmts_each w (behind next one) rest reach seen
+          (each_right Q (stmt_sites reach first) (stmts_sites reach rest) all))
 
-      form_each : (w : Where) (next : Next) (at : ℕ) (one : Form) →
-          P (lowered_form (here w) next at one).code
-      form_each w next at (Assign name op value) =
-          assign_each w next name op value (line_of w at)
-      form_each w next at (Invoke name actuals) =
-          invoke_each w next name actuals 0 (line_of w at)
-      form_each w next at (Block body) = stmts_each w next body
-      form_each w next at (If arms otherwise) =
+      form_each : (w : Where) (next : Next) (at : ℕ) (one : Form) (reach : Reach)
+          (prefixes : List Prefix) → IsSeen reach w → Q (AtStmt reach at prefixes one) →
+          Each Q (form_sites reach one) → P (lowered_form (at_place w) next at one).code
+      form_each w next at (Assign name op value) reach prefixes seen own all =
+          assign_each P along holds.array call calls w next name op value (line_of w at)
+      form_each w next at (Invoke name actuals) reach prefixes seen own all =
+          invoke_each P along holds.array call calls w next name actuals 0 (line_of w at)
+      form_each w next at (Block body) reach prefixes seen own all =
+          stmts_each w next body (inside reach (Some 0)) (seen_inside reach w (Some 0) seen refl) all
+      form_each w next at (If arms otherwise) reach prefixes seen own all =
+          let rank : Rank = arms_rank reach arms in
+          let same : rank ≡ arms_rank (reach_of w) arms = arms_seen reach w arms seen in
+          let tests = arms_sites reach (inside reach rank) arms in
+          let others = otherwise_sites (inside reach rank) otherwise in
           choose_each (is_shattered (reach_of w) (If arms otherwise))
           (shattered w (line_of w at) next (If arms otherwise))
-          (lowered_arms (here w) next at arms otherwise
-          (λ after. lowered_otherwise (here w) after otherwise))
-          (holds.shatters w (line_of w at) next (If arms otherwise))
-          (arms_each w next at arms otherwise
-          (λ after. lowered_otherwise (here w) after otherwise)
-          (λ after. otherwise_each w after otherwise))
-      form_each w next at (While test body) =
+          (lowered_arms (at_place w) next at arms otherwise
+          (λ after. lowered_otherwise (at_place w) after otherwise))
+          (λ is. holds.shatters w (line_of w at) next (If arms otherwise) reach at prefixes seen
+          (ap is_above_zero same ∙ is) own)
+          (λ is.
+          let bare = seen_inside reach w rank seen (ap is_above_zero same ∙ is) in
+          arms_each w next at arms otherwise
+          (λ after. lowered_otherwise (at_place w) after otherwise) reach (inside reach rank) bare
+          (each_left Q tests others all)
+          (λ after. otherwise_each w after otherwise (inside reach rank) bare
+          (each_right Q tests others all)))
+      form_each w next at (While test body) reach prefixes seen own all =
+          let rank : Rank = test_rank reach test in
+          let same : rank ≡ test_rank (reach_of w) test = test_seen reach w test seen in
           let tested = test_of w next test at in
           let after : Next = behind next tested.before in
           choose_each (is_shattered (reach_of w) (While test body))
           (shattered w (line_of w at) next (While test body)) _
-          (holds.shatters w (line_of w at) next (While test body))
-          (along.while tested.before.code tested.check (lowered_all (here w) after body).code
-          (test_each w next test at) (stmts_each w after body))
-      form_each w next at (Repeat body until test) =
-          let inside : Lowered = lowered_all (here w) next body in
-          let after : Next = behind next inside in
+          (λ is. holds.shatters w (line_of w at) next (While test body) reach at prefixes seen
+          (ap is_above_zero same ∙ is) own)
+          (λ is.
+          along.while tested.before.code tested.check (lowered_all (at_place w) after body).code
+          (test_each P along holds.array w next test at)
+          (stmts_each w after body (inside reach rank)
+          (seen_inside reach w rank seen (ap is_above_zero same ∙ is))
+          (each_right Q (whole_sites reach Test test) (stmts_sites (inside reach rank) body) all)))
+      form_each w next at (Repeat body until test) reach prefixes seen own all =
+          let rank : Rank = test_rank reach test in
+          let same : rank ≡ test_rank (reach_of w) test = test_seen reach w test seen in
+          let turns : Lowered = lowered_all (at_place w) next body in
+          let after : Next = behind next turns in
           let tested = test_of w after test until in
           choose_each (is_shattered (reach_of w) (Repeat body until test))
           (shattered w (line_of w at) next (Repeat body until test)) _
-          (holds.shatters w (line_of w at) next (Repeat body until test))
-          (along.repeat inside.code tested.before.code tested.check (stmts_each w next body)
-          (test_each w after test until))
-      form_each w next at (For head body) =
-          for_each w (line_of w at) next head (λ after. lowered_all (here w) after body)
-          (λ after. stmts_each w after body)
-      form_each w next at (Border kind names) =
-          borders_each w kind w.edge (line_of w at) next names
-      form_each w next at (Write ends items) = write_each w (line_of w at) next ends items
-      form_each w next at (Return value) =
-          scalar_each w (line_of w at) next (placed_in w (Result None) value) (Some w.result)
+          (λ is. holds.shatters w (line_of w at) next (Repeat body until test) reach at prefixes
+          seen (ap is_above_zero same ∙ is) own)
+          (λ is.
+          along.repeat turns.code tested.before.code tested.check
+          (stmts_each w next body (inside reach rank)
+          (seen_inside reach w rank seen (ap is_above_zero same ∙ is))
+          (each_left Q (stmts_sites (inside reach rank) body) (whole_sites reach Test test) all))
+          (test_each P along holds.array w after test until))
+      form_each w next at (For head body) reach prefixes seen own all =
+          let within : Reach = inside reach (Some 0) in
+          let bounds = whole_sites reach Limit head.first ++ whole_sites reach Limit head.last
+          ++ step_sites reach head.step in
+          for_each P along holds.array w (line_of w at) next head
+          (λ after. lowered_all (at_place w) after body)
+          (λ after. stmts_each w after body within (seen_inside reach w (Some 0) seen refl)
+          (each_right Q bounds (stmts_sites within body) all))
+      form_each w next at (Border kind names) reach prefixes seen own all =
+          borders_each P along holds.array w kind w.edge (line_of w at) next names
+      form_each w next at (Write ends items) reach prefixes seen own all =
+          write_each P along holds.array w (line_of w at) next ends items
+      form_each w next at (Return value) reach prefixes seen own all =
+          scalar_each P along holds.array w (line_of w at) next (placed_in w (Result None) value)
+          (Some w.result)
 
       arms_each : (w : Where) (next : Next) (at : ℕ) (arms : Arms) (otherwise : Otherwise)
-          (last : Next → Lowered) → ((after : Next) → P (last after).code) →
-          P (lowered_arms (here w) next at arms otherwise last).code
-      arms_each w next at NoArm otherwise last ends = ends next
-      arms_each w next at (ThenArm first rest) otherwise last ends =
+          (last : Next → Lowered) (reach within : Reach) → IsSeen within w →
+          Each Q (arms_sites reach within arms) → ((after : Next) → P (last after).code) →
+          P (lowered_arms (at_place w) next at arms otherwise last).code
+      arms_each w next at NoArm otherwise last reach within seen all ends = ends next
+      arms_each w next at (ThenArm first rest) otherwise last reach within seen all ends =
+          let one = arm_sites reach within first in
+          let others = arms_sites reach within rest in
           arm_each w next at first (ends_arms rest otherwise)
-          (λ after. lowered_arms (here w) after (arms_at rest) rest otherwise last)
-          (λ after. arms_each w after (arms_at rest) rest otherwise last ends)
+          (λ after. lowered_arms (at_place w) after (arms_at rest) rest otherwise last) reach within
+          seen (each_left Q one others all)
+          (λ after. arms_each w after (arms_at rest) rest otherwise last reach within seen
+          (each_right Q one others all) ends)
 
       arm_each : (w : Where) (next : Next) (at : ℕ) (arm : Arm) (ending : Bool)
-          (last : Next → Lowered) → ((after : Next) → P (last after).code) →
-          P (lowered_arm (here w) next at arm ending last).code
-      arm_each w next at (Tested own test body) true last ends =
+          (last : Next → Lowered) (reach within : Reach) → IsSeen within w →
+          Each Q (arm_sites reach within arm) → ((after : Next) → P (last after).code) →
+          P (lowered_arm (at_place w) next at arm ending last).code
+      arm_each w next at (Tested own test body) true last reach within seen all ends =
           let tested = test_of w next test at in
           let after : Next = behind next tested.before in
-          let inside : Lowered = lowered_all (here w) after body in
-          along.then tested.before.code (piece.When tested.check inside.code)
-          (test_each w next test at)
-          (along.when tested.check inside.code (stmts_each w after body))
-      arm_each w next at (Tested own test body) false last ends =
+          let turn : Lowered = lowered_all (at_place w) after body in
+          along.then tested.before.code (piece.When tested.check turn.code)
+          (test_each P along holds.array w next test at)
+          (along.when tested.check turn.code (stmts_each w after body within seen
+          (each_right Q (whole_sites reach Test test) (stmts_sites within body) all)))
+      arm_each w next at (Tested own test body) false last reach within seen all ends =
           let tested = test_of w next test at in
           let after : Next = behind next tested.before in
-          let inside : Lowered = lowered_all (here w) after body in
-          let other : Lowered = last (behind after inside) in
-          along.then tested.before.code (piece.Choose tested.check inside.code other.code)
-          (test_each w next test at)
-          (along.choose tested.check inside.code other.code (stmts_each w after body)
-          (ends (behind after inside)))
+          let turn : Lowered = lowered_all (at_place w) after body in
+          let other : Lowered = last (behind after turn) in
+          along.then tested.before.code (piece.Choose tested.check turn.code other.code)
+          (test_each P along holds.array w next test at)
+          (along.choose tested.check turn.code other.code
+          (stmts_each w after body within seen
+          (each_right Q (whole_sites reach Test test) (stmts_sites within body) all))
+          (ends (behind after turn)))
 
-      otherwise_each : (w : Where) (next : Next) (otherwise : Otherwise) →
-          P (lowered_otherwise (here w) next otherwise).code
-      otherwise_each w next NoElse = quiet_each [] tt
-      otherwise_each w next (Else body) = stmts_each w next body
+      otherwise_each : (w : Where) (next : Next) (otherwise : Otherwise) (reach : Reach) →
+          IsSeen reach w → Each Q (otherwise_sites reach otherwise) →
+          P (lowered_otherwise (at_place w) next otherwise).code
+      otherwise_each w next NoElse reach seen all = none_each
+      otherwise_each w next (Else body) reach seen all = stmts_each w next body reach seen all
+
+    -- the statements of a body, of which the last may be its `return`
+    body_each : (w : Where) (next : Next) (body : Stmts) (reach : Reach) (result : Option Base) →
+        IsSeen reach w → Each Q (body_sites reach result body) →
+        P (lowered_all (at_place w) next body).code
+    body_each w next NoStmt reach result seen all = none_each
+    body_each w next (ThenStmt last NoStmt) reach result seen all =
+        let one : Lowered = lowered (at_place w) next last in
+        along.then one.code (piece.Rows [])
+        (stmt_each w next last (record reach { result = result })
+        (record { scope = seen.scope; prefix = seen.prefix; bare = seen.bare }) all) none_each
+    body_each w next (ThenStmt first (ThenStmt second rest)) reach result seen all =
+        let one : Lowered = lowered (at_place w) next first in
+        let others = body_sites reach result (ThenStmt second rest) in
+        along.then one.code (lowered_all (at_place w) (behind next one) (ThenStmt second rest)).code
+        (stmt_each w next first reach seen (each_left Q (stmt_sites reach first) others all))
+        (body_each w (behind next one) (ThenStmt second rest) reach result seen
+        (each_right Q (stmt_sites reach first) others all))
+
+    outermost_each : (w : Where) (next : Next) (stmt : Stmt) (reach : Reach)
+        (result : Option Base) → IsSeen reach w → Each Q (outermost_sites reach result stmt) →
+        P (lowered (at_place w) next stmt).code
+    outermost_each w next (Prefixed at prefixes (Block body)) reach result seen all =
+        let within : Reach = under_prefixes reach prefixes in
+        under_each P along holds.array false (λ inner after. lowered_form inner after at (Block body))
+        prefixes w call next reach seen
+        (λ inner after is. body_each inner after body within result is
+        (each_right Q (prefixes_sites reach prefixes) (body_sites within result body) all))
+    outermost_each w next (Prefixed at prefixes (Assign name op value)) reach result seen all =
+        stmt_each w next (Prefixed at prefixes (Assign name op value)) reach seen all
+    outermost_each w next (Prefixed at prefixes (Invoke name actuals)) reach result seen all =
+        stmt_each w next (Prefixed at prefixes (Invoke name actuals)) reach seen all
+    outermost_each w next (Prefixed at prefixes (If arms otherwise)) reach result seen all =
+        stmt_each w next (Prefixed at prefixes (If arms otherwise)) reach seen all
+    outermost_each w next (Prefixed at prefixes (While test body)) reach result seen all =
+        stmt_each w next (Prefixed at prefixes (While test body)) reach seen all
+    outermost_each w next (Prefixed at prefixes (Repeat body until test)) reach result seen all =
+        stmt_each w next (Prefixed at prefixes (Repeat body until test)) reach seen all
+    outermost_each w next (Prefixed at prefixes (For head body)) reach result seen all =
+        stmt_each w next (Prefixed at prefixes (For head body)) reach seen all
+    outermost_each w next (Prefixed at prefixes (Border kind names)) reach result seen all =
+        stmt_each w next (Prefixed at prefixes (Border kind names)) reach seen all
+    outermost_each w next (Prefixed at prefixes (Write ends items)) reach result seen all =
+        stmt_each w next (Prefixed at prefixes (Write ends items)) reach seen all
+    outermost_each w next (Prefixed at prefixes (Return value)) reach result seen all =
+        stmt_each w next (Prefixed at prefixes (Return value)) reach seen all
 
   -- ---- procedures
 
@@ -589,12 +803,12 @@ module _ (P : Piece Row Check → Type 0) (holds : GoesOn P) where
   names_each setup entry shape [] frame next rest each = each frame next
   names_each setup entry NoBracket (name ∷ names) frame next rest each =
       along.then (piece.Rows (zero_row entry next.scalars)) _
-      (quiet_each (zero_row entry next.scalars) (if_quiet entry.clears
+      (along.quiet (zero_row entry next.scalars) (if_quiet entry.clears
       (row.Set next.scalars (words_of (Constant (pos 0))) entry.line ∷ []) (tt, tt)))
       (names_each setup entry NoBracket names _ _ rest each)
   names_each setup entry (Bracketed inner) (name ∷ names) frame next rest each =
       along.then (piece.Rows (clear_row entry next.arrays)) _
-      (quiet_each (clear_row entry next.arrays) (if_quiet entry.clears
+      (along.quiet (clear_row entry next.arrays) (if_quiet entry.clears
       (row.Plain (instr.Clear next.arrays) ∷ []) (tt, tt)))
       (names_each setup entry (Bracketed inner) names _ _ rest each)
 
@@ -610,53 +824,83 @@ module _ (P : Piece Row Check → Type 0) (holds : GoesOn P) where
 
   -- ---- calls, and the program
 
-  routine_each : (setup : Setup) (clears : Bool) (call : Calling → Next → Lowered) →
-      ((calling : Calling) (next : Next) → P (call calling next).code) →
-      (found : Option Routine) (calling : Calling) (next : Next) →
-      P (routine_code setup clears call found calling next).code
-  routine_each setup clears call calls None calling next = quiet_each [] tt
-  routine_each setup clears call calls (Some routine) calling next =
-      let entry : Entry = record { clears = clears; line = calling.line } in
-      givens_each calling.line (formal_names routine.procedure.params) calling.actuals
-      (record { names = []; numbers = calling.numbers })
-      (in_call (reads_round setup.program routine) next)
-      (λ frame after.
-      locals_code setup entry routine.procedure.locals frame after (λ frame last.
-      lowered (record { place = where_in setup routine calling frame; call = call }) last
-      routine.procedure.body))
-      (λ frame after. locals_each setup entry routine.procedure.locals frame after
-      (λ frame last.
-      lowered (record { place = where_in setup routine calling frame; call = call }) last
-      routine.procedure.body)
-      (λ frame last. stmt_each call calls (where_in setup routine calling frame) last
-      routine.procedure.body))
+  module _ (setup : Setup) (sites : Each Q (text_sites setup.program)) where
+    found_each : (text : List ℕ) → FoundHolds setup.program Q (routine_named setup.program text)
+    found_each text =
+        found_holds setup.program Q (λ routine. bytes_eq routine.procedure.name.text text)
+        (routines_of setup.program) (all_hold setup.program Q setup.program.decls [] sites)
 
-  calls_each : (setup : Setup) (depth : ℕ) (calling : Calling) (next : Next) →
-      P (call_code setup depth calling next).code
-  calls_each setup zero calling next = quiet_each [] tt
-  calls_each setup (suc depth) calling next =
-      routine_each setup true (call_code setup depth) (calls_each setup depth)
-      (routine_named setup.program calling.name) calling next
+    routine_each : (clears : Bool) (call : Calling → Next → Lowered) →
+        ((calling : Calling) (next : Next) → P (call calling next).code) →
+        (found : Option Routine) → FoundHolds setup.program Q found →
+        (calling : Calling) (next : Next) →
+        P (routine_code setup clears call found calling next).code
+    routine_each clears call calls None held calling next = none_each
+    routine_each clears call calls (Some routine) held calling next =
+        let entry : Entry = record { clears = clears; line = calling.line } in
+        givens_each calling.line (formal_names routine.procedure.params) calling.actuals
+        (record { names = []; numbers = calling.numbers })
+        (in_call (reads_round setup.program routine) next)
+        (λ frame after.
+        locals_code setup entry routine.procedure.locals frame after (λ frame last.
+        lowered (record { place = where_in setup routine calling frame; call = call }) last
+        routine.procedure.body))
+        (λ frame after. locals_each setup entry routine.procedure.locals frame after
+        (λ frame last.
+        lowered (record { place = where_in setup routine calling frame; call = call }) last
+        routine.procedure.body)
+        (λ frame last. outermost_each call calls (where_in setup routine calling frame) last
+        routine.procedure.body (in_body (scope_of setup.program routine) unknown_shapes)
+        routine.procedure.result (record { scope = refl; prefix = refl; bare = refl }) held))
 
-  entry_each : (setup : Setup) (depth : ℕ) (calling : Calling) (next : Next) →
-      P (entry_code setup depth calling next).code
-  entry_each setup zero calling next = quiet_each [] tt
-  entry_each setup (suc depth) calling next =
-      routine_each setup false (call_code setup depth) (calls_each setup depth)
-      (routine_named setup.program calling.name) calling next
+    calls_each : (depth : ℕ) (calling : Calling) (next : Next) →
+        P (call_code setup depth calling next).code
+    calls_each zero calling next = none_each
+    calls_each (suc depth) calling next =
+        routine_each true (call_code setup depth) (calls_each depth)
+        (routine_named setup.program calling.name) (found_each calling.name) calling next
+
+    entry_each : (depth : ℕ) (calling : Calling) (next : Next) →
+        P (entry_code setup depth calling next).code
+    entry_each zero calling next = none_each
+    entry_each (suc depth) calling next =
+        routine_each false (call_code setup depth) (calls_each depth)
+        (routine_named setup.program calling.name) (found_each calling.name) calling next
 
   regions_quiet : (slot : ℕ) (all : List (Computed Region)) → AllQuiet (region_rows slot all)
   regions_quiet slot [] = tt
   regions_quiet slot (one ∷ rest) = (tt, regions_quiet (suc slot) rest)
 
-  pub program_each : (program : Program) (settings : List Setting) →
+  pub program_from : (program : Program) (settings : List Setting) → Each Q (text_sites program) →
       P (lowered_program program settings).code
-  program_each program settings =
+  program_from program settings sites =
       let known = known_of program settings in
       let borders = borders_of program in
       let frame : Frame = first_frame program known borders in
       let made : Lowered = globals_made known frame in
       let next : Next = behind (first_next program) made in
       along.then made.code _
-      (quiet_each (region_rows 0 known.regions) (regions_quiet 0 known.regions))
-      (entry_each (setup_of program known borders frame) _ (entry_calling program frame) next)
+      (along.quiet (region_rows 0 known.regions) (regions_quiet 0 known.regions))
+      (entry_each (setup_of program known borders frame) sites _ (entry_calling program frame) next)
+
+-- ---- where nothing is asked of places
+pub record GoesOn (P : Piece Row Check → Type 0) : Type 0 where
+  pub goes : GoesAlong P
+  pub array : OfArrays P
+  pub shatters : (w : Where) (line : ℕ) (next : Next) (form : Form) →
+      P (shattered w line next form).code
+
+any_sites : (sites : List Site) → Each (λ site. Unit {0}) sites
+any_sites [] = tt
+any_sites (site ∷ sites) = (tt, any_sites sites)
+
+pub program_each : (P : Piece Row Check → Type 0) → GoesOn P →
+    (program : Program) (settings : List Setting) → P (lowered_program program settings).code
+program_each P holds program settings =
+    program_from P (λ site. Unit {0})
+    (record {
+      goes = holds.goes;
+      array = holds.array;
+      shatters = λ w line next form reach at prefixes seen is own.
+          holds.shatters w line next form;
+    }) program settings (any_sites (text_sites program))
