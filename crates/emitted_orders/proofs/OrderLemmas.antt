@@ -7,7 +7,7 @@ use Rattle.row_runs.specs.Run.{Result}
 use Rattle.plan_meaning.specs.Act.{plan_run}
 use Rattle.node_emit.specs.Emit.{along_tree, emitted}
 use Rattle.plan_orders.specs.Brings.{row_most}
-use Rattle.plan_orders.specs.InStep.{ComesInStep, IsInStep, least_moves, run_most, stops_within}
+use Rattle.plan_orders.specs.InStep.{ComesInStep, IsInStep, least_moves, run_most, some_turns, stops_within}
 use Rattle.emitted_orders.specs.AsPlanned.{ComesAsPlanned}
 use Rattle.emitted_orders.proofs.AlikeLemmas.{emitted_runs, emitted_stops}
 
@@ -22,17 +22,14 @@ pub comes_as_planned : (tree : Bool) (grid : List ℕ) (plan : Tables) (links : 
     → plan.grid ≡ grid → ComesInStep (emitted tree grid plan) links
     → ComesAsPlanned (emitted tree grid plan) plan links
 comes_as_planned tree grid plan links same comes a n right =
-    subst (λ most. Comes (plan_run plan links a (suc n))
-    (least_moves (stops_within plan links a (suc n)) a (suc n)) most)
-    (same_most tree grid plan a (suc n))
-    (subst (λ stops. Comes (plan_run plan links a (suc n)) (least_moves stops a (suc n))
-    (run_most code a (suc n)))
-    (emitted_stops tree grid plan same links a (suc n))
-    (subst (λ result. Comes result (least_moves (stops_within code links a (suc n)) a (suc n))
-    (run_most code a (suc n)))
-    (emitted_runs tree grid plan same links a (suc n))
+    subst (λ most. Comes (plan_run plan links a n)
+    (least_moves (stops_within plan links a n) a n) most) (same_most tree grid plan a n)
+    (subst (λ stops. Comes (plan_run plan links a n) (least_moves stops a n) (run_most code a n))
+    (emitted_stops tree grid plan same links a n)
+    (subst (λ result. Comes result (least_moves (stops_within code links a n) a n)
+    (run_most code a n)) (emitted_runs tree grid plan same links a n)
     (comes a n (λ wrong. right (sym (ap (λ (r : Result). r.stop)
-    (emitted_runs tree grid plan same links (suc a) (suc n))) ∙ wrong)))))
+    (emitted_runs tree grid plan same links (suc a) (some_turns n))) ∙ wrong)))))
   where
     code : Tables
     code = emitted tree grid plan

@@ -11,6 +11,7 @@ pub mod LoopLemmas
 pub mod WaitLemmas
 pub mod LoopRowLemmas
 pub mod BeginLemmas
+pub mod MoreLemmas
 pub mod PlanLemmas
 pub mod StartLemmas
 pub mod ChainLemmas

@@ -39,7 +39,7 @@ use Rattle.node_form.specs.Fits.{Fits}
 use Rattle.grid_paths.proofs.RoundLemmas.{leads_nowhere, leads_through}
 use Rattle.plan_orders.proofs.TestLemmas.{all_at}
 use Rattle.plan_orders.specs.InStep.{IsInStep, least_moves}
-use Rattle.plan_orders.proofs.PlanLemmas.{AllMove, AllRest, Arrives, AtEnd, AtRow, AtWait, Onward}
+use Rattle.plan_orders.proofs.PlanLemmas.{AllMove, AllRest, Arrives, AtEnd, AtLoop, AtRow, AtWait, Onward}
 
 -- ---- what a grid has printed is what processor 0 has shown
 shown_first : (p : ℕ) (turn : Turn)
@@ -337,6 +337,39 @@ module _ (code : Tables) (links : Option ℕ) where
       less : {A B : Type 0} (many : ℕ) → A ⊎ ((n ≤ many) × B) → A ⊎ ((bound ≤ many) × B)
       less many (inl rests) = inl rests
       less many (inr (enough, moves)) = inr (omega (arith, enough, few), moves)
+  in_step n left bound most stops low result
+      (AtLoop {bytes = bytes} {stop = stop} there after_it wanting brings onward) =
+      let comes = brings.leads (start_world system) start_is in (
+        comes.order,
+        record {
+          turns = orders_below comes.order comes.only_moves;
+          only_moves = comes.only_moves;
+          printed =
+              printed_is code links comes.order ∙ (comes.shows 0 first_below ∙ brings.printed);
+          ends = λ other same last. absurd (last (wanting other same));
+          goes_on = λ more over.
+              goes_not_over comes.order (in_front there after_it) comes.arrives refl over;
+          reaches = record {
+            moved = λ p below. inr
+                (let moved = comes.moved p below in
+                let enough = brings.enough p below in
+                omega (arith, moved, enough, low));
+            not_stuck = not_stuck comes.order (in_front there after_it) comes.arrives onward;
+          };
+          one_moved = λ more. (
+            0,
+            subst (λ n. 0 < n) (processor_count code links) first_below,
+            (let moved = comes.moved 0 first_below in
+                let enough = brings.enough 0 first_below in
+                omega (arith, moved, enough, low)),
+          );
+          few = λ three last p below.
+              let inside = subst (λ k. p < k) (sym (processor_count code links)) below in
+              let moved = comes.moved p inside in
+              let less = brings.few three p inside in
+              omega (arith, moved, less);
+        },
+      )
   in_step n left bound most stops low result (AtRow {bytes = bytes} there after_it brings onward) =
       let comes = brings.leads (start_world system) start_is in (
         comes.order,

@@ -1,5 +1,5 @@
 -- Bounded runs of plans, and orders of turns that bring the code there.
-use Rattle.std.specs.Prelude.{◌≡◌, ◌≢◌, ℕ, suc, ◌+◌, ◌*◌, ◌<◌, ◌≤◌, Bool, true, false, List}
+use Rattle.std.specs.Prelude.{◌≡◌, ◌≢◌, ℕ, zero, suc, ◌+◌, ◌*◌, ◌<◌, ◌≤◌, Bool, true, false, List}
 use Rattle.std.specs.Prelude.{All, length, Option}
 use Rattle.zpl_nums.specs.declared.ends.End.{End}
 use Rattle.zpl_nums.specs.declared.ends.End.TheVariants.{More}
@@ -51,11 +51,16 @@ abbrev pub stops_within : Tables → Option ℕ → ℕ → ℕ → Bool
 stops_within code links a n =
     stops_itself (plan_act code links n) (plan_rows code) a 0 (start_abreast code)
 
+-- so many turns, and one at least
+abbrev pub some_turns : ℕ → ℕ
+some_turns zero = 1
+some_turns (suc n) = suc n
+
 -- There is such an order for each run of at most a jumps and tests, and n turns of each loop within a
--- group, but not none, where one more jump isn't wrong.
+-- group, where one more jump, and one turn at least, isn't wrong.
 abbrev pub ComesInStep : Tables → Option ℕ → Type 0
 ComesInStep code links =
-    (a n : ℕ) → (plan_run code links (suc a) (suc n)).stop ≢ Wrong
+    (a n : ℕ) → (plan_run code links (suc a) (some_turns n)).stop ≢ Wrong
     → (order : List ℕ)
-    × IsInStep code links (plan_run code links a (suc n))
-    (least_moves (stops_within code links a (suc n)) a (suc n)) (run_most code a (suc n)) order
+    × IsInStep code links (plan_run code links a n)
+    (least_moves (stops_within code links a n) a n) (run_most code a n) order

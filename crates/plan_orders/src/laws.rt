@@ -13,18 +13,18 @@ use grid_meaning::states_are_kept;
 /// For each row of code that fits, some order leads all processors from where they stand in front
 /// of it to where it leads, unless it is wrong there: with the bytes that are printed, at least one
 /// move of each and at most so many, and the words of open exchanges on the links. At a loop that
-/// wants a further turn it leads each to where it waits or has made as many moves as the loop may
-/// make turns.
+/// wants a further turn behind others it leads each to where it waits or its next move is at least
+/// the one with the number of turns that the loop may make.
 pub fn rows_have_orders()
     ensures { (code : Code) (links : Option ℕ) → IsCapacity links → Fits code
         → HaveOrders code links }
 {}
 
 /// For each bounded run of code that fits, some order brings all processors from their start to
-/// where it stops, unless it is wrong there or directly behind: what is printed is what the run
-/// prints; they have ended as it does, with all links empty, or each rests or has made at least as
-/// many moves as the run made jumps and tests, or as a loop that wants more was given turns; and
-/// none is stuck. Where the run wants no more, each has made at most so many moves for each row
+/// where it stops, unless the run with one jump more, and one turn at least, is wrong: what is
+/// printed is what the run prints; they have ended as it does, with all links empty, or each rests
+/// or has made at least as many moves as the run made jumps and tests, or as a loop that wants more
+/// was given turns; and none is stuck. Where the run wants no more, each has made at most so many moves for each row
 /// that the run may come to.
 pub fn plans_come_in_step()
     ensures { (code : Code) (links : Option ℕ) → IsCapacity links → Fits code
