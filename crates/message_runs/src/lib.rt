@@ -54,3 +54,10 @@ pub fn parts_agree()
         (operator : Operator) (from source : ℕ) →
         FitRowAgrees code links n (instr.Part array target operator from source) }
 {}
+
+/// A remap read agrees: each processor has a tuple's value itself, or its owner answers it.
+pub fn remaps_agree()
+    ensures { (code : Code) → HasLayout code → (links : Option ℕ) (n array slot from : ℕ)
+        (index : List (Option ℕ)) →
+        FitRowAgrees code links n (instr.Remap array slot from index) }
+{}
