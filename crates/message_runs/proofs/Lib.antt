@@ -13,6 +13,9 @@ pub mod SourceLemmas
 pub mod RemapLemmas
 pub mod RequestLemmas
 pub mod HomeLemmas
+pub mod RemapKeptLemmas
+pub mod RemapWorkLemmas
+pub mod RemapRows
 pub mod GatherRows
 pub mod FloodRows
 pub mod EdgeRows

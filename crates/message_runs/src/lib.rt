@@ -61,3 +61,10 @@ pub fn scans_agree()
         (operator : Operator) (along from : ℕ) (mask : Option ℕ) →
         FitRowAgrees code links n (instr.Scan array slot operator along from mask) }
 {}
+
+/// A remap read agrees: each processor has a tuple's value itself, or its owner answers it.
+pub fn remaps_agree()
+    ensures { (code : Code) → HasLayout code → (links : Option ℕ) (n array slot from : ℕ)
+        (index : List (Option ℕ)) →
+        FitRowAgrees code links n (instr.Remap array slot from index) }
+{}
