@@ -23,9 +23,9 @@ ended : (build : Build) (program : Program) → IsLowered build program
     (count_of is_counted (lowered_for build program) + 2 * loops_on_themselves (lowered_for build program))
 ended build program is =
     all_compiled build (lowered_for build program)
-    (members_once program build.settings is.inline is.flat)
-    (shifts_once program build.settings is.inline is.flat)
-    (none_unflat program build.settings is.inline is.flat)
+    (members_once program build.settings is.flat)
+    (shifts_once program build.settings is.flat)
+    (none_unflat program build.settings is.flat)
 
 pub tidy : (origin : Origin) → IsLoweredTidily origin
     → IsTidy origin (compiled origin.build origin.program)
