@@ -1,3 +1,4 @@
 pub mod FlatLemmas
 pub mod LetterLemmas
 pub mod TidyLemmas
+pub mod Examples
