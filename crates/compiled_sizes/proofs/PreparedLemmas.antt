@@ -4,7 +4,6 @@ use Rattle.std.proofs.Common.{◌≡◌, refl, ap, ◌∙◌, arith, ℕ, ◌+�
 use Rattle.std.proofs.Common.{List, [], ◌∷◌, map, sym, subst}
 use Rattle.std.specs.Prelude.{cond, count_by, flat_map, slice_get, slice_index_or}
 use Rattle.std.proofs.lemmas.List.Sums.{sum_by-cons}
-use Rattle.row_runs.specs.Straight.{Every}
 use Rattle.node_form.specs.declared.members.Member as number
 use Rattle.node_form.specs.declared.members.Member.TheVariants as member
 use Rattle.node_form.specs.declared.instructions.Instr.{Instr}
@@ -13,7 +12,6 @@ use Rattle.node_form.specs.declared.tables.Tables.{Tables}
 use Rattle.code_parts.specs.Counts.{code_size, count_of}
 use Rattle.code_parts.specs.Uses.{member_words, put_by, share, shifted_in}
 use Rattle.flat_form.specs.Flat.{IsFlat}
-use Rattle.flat_form.specs.Laws.{IsInline}
 use Rattle.flat_form.specs.Row.{Row, all_inlined, inlined, member_inlined}
 use Rattle.flat_passes.specs.Grouped.{grouped}
 use Rattle.temp_norm.specs.Normalised.{loops_on_itself, loops_on_themselves, normalised, reads_itself}
@@ -21,8 +19,7 @@ use Rattle.pass_sizes.specs.Sizes.{is_preparing}
 use Rattle.pass_sizes.proofs.FactorLemmas.{normal_factor}
 use Rattle.zpl_tree.specs.Syntax.{Program}
 use Rattle.zpl_binding.specs.Settings.{Setting}
-use Rattle.zpl_lowering.specs.Program.{lowered_program}
-use Rattle.zpl_lowering.specs.Tables.{flat_tables, rows_of}
+use Rattle.zpl_lowering.specs.Tables.{flat_tables}
 use Rattle.lowering_checks.specs.Prepared.{has_put, prepared_in, putting_in}
 use Rattle.lowering_checks.proofs.PreparedLemmas.{rows_prepared}
 use Rattle.compiled_sizes.proofs.BaseLemmas.{found, members_once, read, shifts_once}
@@ -106,13 +103,12 @@ module _ (tables : Tables) where
       )
 
 pub few_themselves : (program : Program) (settings : List Setting) →
-    Every IsInline (rows_of (lowered_program program settings)) →
     IsFlat (flat_tables program settings) →
     loops_on_themselves (flat_tables program settings)
     ≤ count_of is_preparing (flat_tables program settings)
-few_themselves program settings inline flat =
+few_themselves program settings flat =
     let flats = flat_tables program settings in
-    let same = read program settings inline flat in
+    let same = read program settings flat in
     omega (
       arith,
       code_puts flats flats.code,
@@ -123,10 +119,9 @@ few_themselves program settings inline flat =
     )
 
 pub normal_twice : (program : Program) (settings : List Setting) →
-    Every IsInline (rows_of (lowered_program program settings)) →
     IsFlat (flat_tables program settings) →
     code_size (normalised (flat_tables program settings))
     ≤ 2 * code_size (flat_tables program settings)
-normal_twice program settings inline flat =
-    normal_factor (flat_tables program settings) (members_once program settings inline flat)
-    (shifts_once program settings inline flat) (few_themselves program settings inline flat)
+normal_twice program settings flat =
+    normal_factor (flat_tables program settings) (members_once program settings flat)
+    (shifts_once program settings flat) (few_themselves program settings flat)

@@ -14,3 +14,5 @@ pub mod WholeLemmas
 pub mod TableLemmas
 pub mod EachLemmas
 pub mod PreparedLemmas
+pub mod InlineLemmas
+pub mod Examples

@@ -20,14 +20,11 @@ use zpl_meaning::{no_stand_in_is_met, what_is_computed_has_a_value};
 
 /// In the rows of a program of the grammar without faults, under settings that it accepts, the
 /// checks that alone stand between two loops over one slot are those of the second one's
-/// references; and each row has its expressions, its group and its text in its place.
+/// references.
 pub fn loops_are_checked()
-    ensures rows { (program : Program) (settings : List Setting) → IsProgram program →
+    ensures { (program : Program) (settings : List Setting) → IsProgram program →
         IsFaultless program → IsAcceptedWith program settings →
         AreChecked None (rows_of (lowered_program program settings)) }
-    ensures inline { (program : Program) (settings : List Setting) → IsProgram program →
-        IsFaultless program → IsAcceptedWith program settings →
-        Every IsInline (rows_of (lowered_program program settings)) }
 {
     ranks_agree();
     no_stand_in_is_met();
@@ -45,4 +42,10 @@ pub fn checks_say_what_follows()
 pub fn loops_are_prepared()
     ensures { (program : Program) (settings : List Setting) →
         ArePrepared (rows_of (lowered_program program settings)) }
+{}
+
+/// Each row of a program, whatever it is, has its expressions, its group and its text in its place.
+pub fn all_rows_are_inline()
+    ensures { (program : Program) (settings : List Setting) →
+        Every IsInline (rows_of (lowered_program program settings)) }
 {}

@@ -21,9 +21,9 @@ ended : (build : Build) (program : Program) → IsLowered build program →
     + 2 * loops_on_themselves (flat_tables program build.settings))
 ended build program is =
     all_compiled build (flat_tables program build.settings)
-    (members_once program build.settings is.inline is.flat)
-    (shifts_once program build.settings is.inline is.flat)
-    (none_unflat program build.settings is.inline is.flat)
+    (members_once program build.settings is.flat)
+    (shifts_once program build.settings is.flat)
+    (none_unflat program build.settings is.flat)
 
 small : (build : Build) (program : Program) → IsLowered build program →
     code_size (compiled build program) ≤ 512 * (source_size program + 1)
@@ -50,7 +50,7 @@ pub returns : goal.returns
 returns c = record {
   factor = λ build program is. (ended build program is).sized;
   small = small;
-  normal = λ build program is. normal_twice program build.settings is.inline is.flat;
+  normal = λ build program is. normal_twice program build.settings is.flat;
   counted = few;
   votes = λ build program is. (ended build program is).few_votes;
 }
