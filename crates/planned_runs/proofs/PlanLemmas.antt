@@ -203,5 +203,5 @@ module _ (tables : Tables) (grid : List ℕ) (links : Option ℕ)
         refl a 0 (start_abreast code) refl))
 
 pub plans_keep : PlansKeepRuns
-plans_keep agree tables grid links sharable is_grid roomy a n =
-    plan_keeps agree tables grid links sharable is_grid roomy n a
+plans_keep tables grid links sharable is_grid roomy a n =
+    plan_keeps tables grid links sharable is_grid roomy n a
