@@ -1,5 +1,5 @@
 -- What is asked of tables whose plan shows what they show is enough for the passes over plans.
-use Rattle.std.proofs.Common.{◌≡◌, refl, sym, arith, ℕ, ◌≤◌, true, true≢false, List, All}
+use Rattle.std.proofs.Common.{◌≡◌, refl, sym, arith, ℕ, true, true≢false, List, All}
 use Rattle.std.proofs.lemmas.Bool.Decides.{nat_tests}
 use Rattle.std.proofs.lemmas.List.Elements.{All-weaker}
 use Rattle.std.proofs.lemmas.List.Sums.{AllPass-from_list_all}
