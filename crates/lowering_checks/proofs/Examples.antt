@@ -38,20 +38,20 @@ abbrev pub example : Program
 example = record {
   name = name (codes "p") 8;
   decls = Regions (record {
-        name = name (codes "R") 18;
-        body = Dims (ThenDim (Span (Number 23 (pos 1)) (Number 26 (pos 9))) NoDim);
-        posts = NoPost;
-      } ∷ []) ∷ Vars (record {
-        names = name (codes "A") 34 ∷ name (codes "B") 37 ∷ [];
-        shape = Bracketed (over 42);
-        base = Integer;
-      } ∷ []) ∷ Defined (record {
-        name = name (codes "p") 63;
-        params = [];
-        result = None;
-        locals = [];
-        body = body;
-      }) ∷ [];
+    name = name (codes "R") 18;
+    body = Dims (ThenDim (Span (Number 23 (pos 1)) (Number 26 (pos 9))) NoDim);
+    posts = NoPost;
+  } ∷ []) ∷ Vars (record {
+    names = name (codes "A") 34 ∷ name (codes "B") 37 ∷ [];
+    shape = Bracketed (over 42);
+    base = Integer;
+  } ∷ []) ∷ Defined (record {
+    name = name (codes "p") 63;
+    params = [];
+    result = None;
+    locals = [];
+    body = body;
+  }) ∷ [];
   source = codes "program p; region R = [1..9]; var A, B : [R] integer; procedure p(); [R] begin if A > 0 then end; B := 1; end;";
 }
 

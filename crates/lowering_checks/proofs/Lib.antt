@@ -16,3 +16,4 @@ pub mod EachLemmas
 pub mod PreparedLemmas
 pub mod InlineLemmas
 pub mod Examples
+pub mod TotalLemmas

@@ -49,7 +49,7 @@ words_one known slot (word.Shifted array shift ∷ words) knows =
     (words_one known slot words knows.1)
 words_one known slot (one ∷ words) knows = words_one known slot words knows.1
 
-found : {X : Type 0} (lists : List (List X)) (k : ℕ) →
+pub found : {X : Type 0} (lists : List (List X)) (k : ℕ) →
     rows_or_none (slice_get lists k) ≡ slice_index_or lists k []
 found [] k = refl
 found (one ∷ lists) zero = refl
@@ -60,7 +60,7 @@ abbrev gathered : List Item → List Instr → List Item
 gathered known [] = known
 gathered known (one ∷ rows) = gathered (checked_by one ++ known) rows
 
-false_true : false ≡ true → ⊥
+pub false_true : false ≡ true → ⊥
 false_true is = cc
 
 module _ (tables : Tables) where

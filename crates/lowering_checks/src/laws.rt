@@ -13,6 +13,7 @@ ghost use Rattle.pass_parts.specs.Checks.{ChecksWhatFollows};
 ghost use Rattle.zpl_lowering.specs.Program.{lowered_program};
 ghost use Rattle.zpl_lowering.specs.Tables.{rows_of};
 ghost use Rattle.lowering_checks.specs.Prepared.{ArePrepared};
+ghost use Rattle.lowering_checks.specs.Totals.{AreApart, NoneAccumulates};
 ghost use Rattle.lowering_checks.specs.Walked.{AreChecked};
 
 use meaning_ranks::ranks_agree;
@@ -48,4 +49,13 @@ pub fn loops_are_prepared()
 pub fn all_rows_are_inline()
     ensures { (program : Program) (settings : List Setting) →
         Every IsInline (rows_of (lowered_program program settings)) }
+{}
+
+/// Where checks alone stand between two loops of a program, whatever it is, neither accumulates:
+/// along its rows, and so in tables with these rows.
+pub fn totals_stand_apart()
+    ensures rows { (program : Program) (settings : List Setting) →
+        AreApart None (rows_of (lowered_program program settings)) }
+    ensures tables { (tables : Code) (rows : List Row) → all_inlined tables ≡ rows →
+        AreApart None rows → NoneAccumulates tables }
 {}
