@@ -125,26 +125,26 @@ IsLeafForm IsCallable reach form =
 
 -- ---- procedures and programs
 
--- the body of a procedure, where these may be called
-abbrev pub IsShownRoutine : Program → (List ℕ → Type 0) → Routine → Type 0
-IsShownRoutine program IsCallable routine =
-    IsShownStmt (IsLeafForm IsCallable) (in_body (scope_of program routine) unknown_shapes)
-    routine.procedure.body
+module _ (IsLeaf : (List ℕ → Type 0) → Reach → Form → Type 0) (program : Program) where
+  -- the body of a procedure, where these may be called
+  abbrev pub IsShownRoutine : (List ℕ → Type 0) → Routine → Type 0
+  IsShownRoutine IsCallable routine =
+      IsShownStmt (IsLeaf IsCallable) (in_body (scope_of program routine) unknown_shapes)
+      routine.procedure.body
 
--- the name stands for such a procedure, down a chain of so many calls
-pub record IsRoutine (program : Program) (IsCallable : List ℕ → Type 0) (name : List ℕ)
-    : Type 0 where
-  pub routine : Routine
-  pub named : routine_named program name ≡ Some routine
-  pub shown : IsShownRoutine program IsCallable routine
+  -- the name stands for such a procedure, down a chain of so many calls
+  pub record IsRoutine (IsCallable : List ℕ → Type 0) (name : List ℕ) : Type 0 where
+    pub routine : Routine
+    pub named : routine_named program name ≡ Some routine
+    pub shown : IsShownRoutine IsCallable routine
 
-abbrev pub IsShownCall : Program → ℕ → List ℕ → Type 0
-IsShownCall program zero name = ⊥
-IsShownCall program (suc depth) name = IsRoutine program (IsShownCall program depth) name
+  abbrev pub IsShownCall : ℕ → List ℕ → Type 0
+  IsShownCall zero name = ⊥
+  IsShownCall (suc depth) name = IsRoutine (IsShownCall depth) name
 
 -- A program of these forms, under settings: all that its procedures do, from the entry procedure on,
 -- is of them. Configs and constants have values of 64 bits.
 pub record IsShownProgram (program : Program) (settings : List Setting) : Type 0 where
   pub values : (text : List ℕ)
       → IsInteger (value_or (pos 0) (outcome_of (pos 0) (known_of program settings).values text))
-  pub entry : IsShownCall program longest_chain program.name.text
+  pub entry : IsShownCall IsLeafForm program longest_chain program.name.text
