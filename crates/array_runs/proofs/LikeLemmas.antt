@@ -50,7 +50,7 @@ module _ (before after : Whole) where
   abbrev seen_after : List Stored → List Array
   seen_after arrays = map (λ (one : Stored). array_in after one.array) arrays
 
-  same_arrays : (from : ℕ) (arrays : List Stored) (to : ℕ) → Rises from (array_numbers arrays) to
+  pub same_arrays : (from : ℕ) (arrays : List Stored) (to : ℕ) → Rises from (array_numbers arrays) to
       → ((j : ℕ) → from ≤ j → array_in after j ≡ array_in before j)
       → seen_after arrays ≡ seen_before arrays
   same_arrays from [] to h other = refl

@@ -33,7 +33,7 @@ all_dims (one ∷ dims) steps within =
     (All-head IsDimWithinLimit one dims within))
     (all_dims dims (All-tail HasStep one dims steps) (All-tail IsDimWithinLimit one dims within))
 
-is_region : (region : Region) → 1 ≤ region.rank → region.rank ≤ 3 → Formed region
+pub is_region : (region : Region) → 1 ≤ region.rank → region.rank ≤ 3 → Formed region
     → is_within_limit region ≡ true → IsRegion region
 is_region region above below formed within =
     let steps : All HasStep region.dims = All-from_recursion HasStep region.dims formed.0 in

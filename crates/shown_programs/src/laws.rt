@@ -1,0 +1,1 @@
+//! The laws of whole programs in lowered code.
