@@ -144,7 +144,7 @@ module _ (program : Program) (settings : List Setting) (laws : Laws program)
         let calling = calling_at w name.text givens 0 line in
         let scalars = value_scalars sight w start formals actuals served.actuals_are in
         let rooms : HasRoom tables next (joined (code.Rows []) own (world.code calling more)) =
-        record { scalars = room.scalars; slots = room.slots; arrays = room.arrays } in
+        record { scalars = room.scalars; slots = room.slots; arrays = room.arrays; temps = room.temps } in
         let many = left_length sight w line next start exprs scalars in
         let handed : List ℤ → List Handed =
         λ values. handed_on p.environment store formals actuals values in

@@ -41,6 +41,8 @@ use Rattle.lowering_runs.proofs.StatementLemmas.{scalar_at, items_scalar, proper
 use Rattle.array_runs.specs.Floods.{IsArrayServed}
 use Rattle.prefix_runs.specs.Plain.{PlainLeaf, ArrayLeaf}
 use Rattle.prefix_runs.proofs.PlainLemmas.{array_leaves}
+use Rattle.print_runs.specs.Printed.{PrintLeaf}
+use Rattle.print_runs.proofs.WriteLemmas.{print_leaves}
 use Rattle.served_places.specs.Told.{IsSeenFrom, AreFree, IsPlainExpr, place_of}
 use Rattle.served_places.proofs.ToldLemmas.{array_served}
 use Rattle.served_places.proofs.CleanLemmas.{array_there}
@@ -48,7 +50,8 @@ use Rattle.lowering_fits.proofs.KeptLemmas.{AreGivenOf}
 use Rattle.lowering_fits.proofs.ReachLemmas.{givens_of}
 use Rattle.shown_programs.specs.Text.{IsPlainForm, IsCallForm, IsLeafForm}
 use Rattle.shown_programs.proofs.CallLemmas.{setup, IsKnownAt, IsEntered, IsCalledFrom, CallsGo, IsToldInvoke, CallLeaf, call_leaves}
-use Rattle.shown_programs.proofs.PlaceLemmas.{IsPlaced, placed_proper, placed_ranked, placed_inside}
+use Rattle.shown_programs.proofs.PlaceLemmas.{IsPlaced, placed_proper, placed_ranked, placed_inside, each_free}
+use Rattle.shown_programs.proofs.PrintedLemmas.{print_suits}
 use Rattle.shown_programs.proofs.RoutineLemmas.{AreLeaves}
 
 -- ---- values without operators over regions are no calls
@@ -136,14 +139,6 @@ array_thing (Some (ArrayAt target home)) h = record { target = target; home = ho
 array_thing (Some (Scalar place)) h = absurd h
 array_thing (Some (Fixed value)) h = absurd h
 array_thing None h = absurd h
-
--- ---- sites without a clash
-
-each_free : (program : Program) (text : List ℕ) (around : Shapes) (sites : List Site)
-    → Each (IsHere program text around) sites → AreFree sites
-each_free program text around [] h = tt
-each_free program text around (site ∷ sites) h =
-    (h.0.clean.under.floods, each_free program text around sites h.1)
 
 -- ---- actuals that are names
 
@@ -358,19 +353,31 @@ module _ (program : Program) (settings : List Setting) (laws : Laws program)
   abbrev pub Leaf : (List ℕ → Type 0) → ℕ → Form → Where → Place → Type 0
   Leaf IsCallable at form w place =
       PlainLeaf own Never at form w place
-      ⊎ CallLeaf program settings laws grammar clean IsCallable at form w place
+      ⊎ (PrintLeaf at form w place
+      ⊎ CallLeaf program settings laws grammar clean IsCallable at form w place)
 
   no_calls : (world : World) → CallsAgree world own Never
   no_calls world = record {
     by = λ spots w low next start name givens line setup_is stands before served. absurd served;
   }
 
+  -- one form more
+  or_goes : (world : World) (at : ℕ) (form : Form) (One Other : Where → Place → Type 0)
+      → Goes world One (λ c store. mean.exec_form c world.turns at form store)
+      (λ l next. low.lowered_form l next at form) 1
+      → Goes world Other (λ c store. mean.exec_form c world.turns at form store)
+      (λ l next. low.lowered_form l next at form) 1
+      → Goes world (λ w p. One w p ⊎ Other w p)
+      (λ c store. mean.exec_form c world.turns at form store)
+      (λ l next. low.lowered_form l next at form) 1
+  or_goes world at form One Other one other =
+      either_goes world One Other (λ c store. mean.exec_form c world.turns at form store)
+      (λ l next. low.lowered_form l next at form) 1 one other
+
   plain_leaves : (world : World) (at : ℕ) (form : Form) → FormGoes world (PlainLeaf own Never) at form
   plain_leaves world at form =
-      either_goes world (ScalarLeaf own Never at form) (ArrayLeaf at form)
-      (λ c store. mean.exec_form c world.turns at form store)
-      (λ l next. low.lowered_form l next at form) 1 (scalar_leaves world own Never (no_calls world) at form)
-      (array_leaves world at form)
+      or_goes world at form (ScalarLeaf own Never at form) (ArrayLeaf at form)
+      (scalar_leaves world own Never (no_calls world) at form) (array_leaves world at form)
 
   pub leaves_go : (tables : Tables) (n : ℕ)
       → ((place : Place) (stmt : Stmt) → IsVisited own place stmt → IsProperStmt place stmt)
@@ -381,14 +388,19 @@ module _ (program : Program) (settings : List Setting) (laws : Laws program)
         elim t [
           | inl plain ↦ inl (plain_suits proper ranked at prefixes spots w environment answer currents
               edge shapes form h plain)
-          | inr call ↦ inr (call_suits proper ranked at prefixes spots w environment answer currents
-              edge shapes IsCallable form h call)
+          | inr (inl print) ↦ inr (inl (print_suits program settings laws grammar clean proper ranked
+              at prefixes spots w environment answer currents edge shapes form h print))
+          | inr (inr call) ↦ inr (inr (call_suits proper ranked at prefixes spots w environment answer
+              currents edge shapes IsCallable form h call))
         ];
     go = λ depth IsCallable calls at form.
         let world = world_at tables n own depth in
-        either_goes world (PlainLeaf own Never at form)
+        or_goes world at form (PlainLeaf own Never at form)
+        (λ w place. PrintLeaf at form w place
+        ⊎ CallLeaf program settings laws grammar clean IsCallable at form w place)
+        (plain_leaves world at form)
+        (or_goes world at form (PrintLeaf at form)
         (CallLeaf program settings laws grammar clean IsCallable at form)
-        (λ c store. mean.exec_form c world.turns at form store)
-        (λ l next. low.lowered_form l next at form) 1 (plain_leaves world at form)
-        (call_leaves program settings laws grammar clean world IsCallable calls at form);
+        (print_leaves world at form)
+        (call_leaves program settings laws grammar clean world IsCallable calls at form));
   }

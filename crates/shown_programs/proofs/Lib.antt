@@ -5,6 +5,8 @@ pub mod CallLemmas
 pub mod PlaceLemmas
 pub mod PostLemmas
 pub mod RoutineLemmas
+pub mod PrintedLemmas
 pub mod LeafLemmas
 pub mod StartLemmas
 pub mod ProgramLemmas
+mod Examples

@@ -15,7 +15,7 @@ use Rattle.zpl_names.specs.Kinds.{Rank, Shape}
 use Rattle.zpl_names.specs.Scope.{Scope}
 use Rattle.zpl_names.specs.Ranks.{inner_rank, mask_rank}
 use Rattle.zpl_names.specs.Shapes.{Current, Absent, Unknown, Over as Shaped, Shapes, current_at, inner_shape, shape_within, prefix_rank, shapes_under}
-use Rattle.zpl_names.specs.Sites.{Reach, AtMask, AtRegion, Limit, Test as TestRole, region_sites, prefix_sites, prefixes_sites, under_prefixes, is_shattered}
+use Rattle.zpl_names.specs.Sites.{Reach, Site, AtMask, Limit, Test as TestRole, region_sites, prefix_sites, prefixes_sites, under_prefixes, is_shattered}
 use Rattle.zpl_names.specs.Sites.{under_prefix as reach_under}
 use Rattle.zpl_names.specs.Faults.{flood_clashes}
 use Rattle.zpl_names.specs.Accepted.{IsFaultless}
@@ -28,10 +28,10 @@ use Rattle.zpl_meaning.specs.Regions as mean
 use Rattle.zpl_meaning.specs.Visited as visits
 use Rattle.zpl_meaning.specs.Visited.{IsVisited, Holds, list_of, arms_parts, else_parts, parts_of}
 use Rattle.zpl_meaning.specs.Statement.{step_expr}
-use Rattle.zpl_meaning.proofs.DepthLemmas.{each_left, each_right}
+use Rattle.zpl_meaning.proofs.DepthLemmas.{Each, each_left, each_right}
 use Rattle.zpl_meaning.proofs.ProperLemmas.{IsClean, Clean, Fits as FitsPlace, reach_at}
 use Rattle.zpl_meaning.proofs.StatementLemmas.{fits_under}
-use Rattle.zpl_meaning.proofs.VisitLemmas.{Laws, clean_of, Inside}
+use Rattle.zpl_meaning.proofs.VisitLemmas.{Laws, IsHere, clean_of, Inside}
 use Rattle.meaning_ranks.specs.Ranked.{IsRankedForm, IsRankedUnder, IsRankedStmt}
 use Rattle.meaning_ranks.specs.Shaped.{IsShaped, AreFloods}
 use Rattle.meaning_ranks.proofs.CurrentLemmas.{AreTold, region_told, region_first}
@@ -45,7 +45,7 @@ use Rattle.lowering_runs.specs.Suits.{SuitsStmt, SuitAll, SuitsForm, SuitArms, S
 use Rattle.lowering_runs.proofs.StatementLemmas.{role_scalar, false_choice, contains_first, contains_later}
 use Rattle.prefix_runs.specs.Opens.{AreGivenPosts}
 use Rattle.prefix_runs.specs.Under.{opened_at, over_of, mean_under, IsUnder}
-use Rattle.served_places.specs.Told.{IsSlotTold, AreSlotsTold, IsSeenFrom, IsTold, place_of}
+use Rattle.served_places.specs.Told.{IsSlotTold, AreSlotsTold, IsSeenFrom, AreFree, place_of}
 use Rattle.served_places.specs.Given.{IsSound}
 use Rattle.served_places.proofs.GivenLemmas.{prefix_opens}
 use Rattle.served_places.proofs.PrefixLemmas.{under_told}
@@ -112,6 +112,14 @@ shape_of scope current n region = by (shape_within scope current region) refl
         → IsShapeOf scope current n region
     by None e h = absurd h
     by (Some shape) e h = record { shape = shape; is = e; many = h }
+
+-- ---- sites without a clash
+
+pub each_free : (program : Program) (text : List ℕ) (around : Shapes) (sites : List Site)
+    → Each (IsHere program text around) sites → AreFree sites
+each_free program text around [] h = tt
+each_free program text around (site ∷ sites) h =
+    (h.0.clean.under.floods, each_free program text around sites h.1)
 
 -- ---- what is told of a form behind its prefixes
 

@@ -47,6 +47,7 @@ use Rattle.lowering_runs.proofs.FitLemmas.{itself, keeps_all}
 use Rattle.lowering_runs.proofs.EntryLemmas.{spots_from, spots_numbered, spots_rise, spots_length, spots_names, spots_zero}
 use Rattle.lowering_runs.proofs.StartLemmas.{many_declared, globals_stored, IsBegun, shown_by}
 use Rattle.lowering_fits.specs.Declarations.{FitsProgram}
+use Rattle.lowering_fits.specs.Whole.{IsNumbered}
 use Rattle.lowering_fits.proofs.KeptLemmas.{AreGivenOf}
 use Rattle.lowering_fits.proofs.GlobalsLemmas.{globals_fit}
 use Rattle.lowering_fits.proofs.ProgramFitLemmas.{AllBoxes, decls_boxed, boxes_kept}
@@ -62,7 +63,8 @@ module _ (program : Program) (settings : List Setting) (laws : Laws program)
     (grammar : IsProgram program) (clean : IsFaultless program)
     (accepted : AreAccepted program settings laws grammar clean)
     (declared : FitsProgram program settings) (shown : IsShownProgram program settings)
-    (inline : Every IsInline (rows_of (low.lowered_program program settings))) where
+    (inline : Every IsInline (rows_of (low.lowered_program program settings)))
+    (laid : IsNumbered (low.first_next program) (low.lowered_program program settings)) where
   abbrev known : Known
   known = known_of program settings
 
@@ -126,11 +128,11 @@ module _ (program : Program) (settings : List Setting) (laws : Laws program)
         stored = arrays_rise 0 frame.store.arrays next.arrays (omega (arith, count));
       }
 
-  held : (now : Whole) → IsBegun program settings inline now
+  held : (now : Whole) → IsBegun program settings inline laid now
       → IsHeld tables known arrays no_slots now.slots
   held now begun =
       let stored = arrays_stored tables 0 frame.store.arrays boxes
-      (globals_stored program settings inline) in
+      (globals_stored program settings inline laid) in
       record {
         stored = stored;
         apart = apart_in tables 0 arrays (length frame.store.arrays) (omega arith)
@@ -141,7 +143,7 @@ module _ (program : Program) (settings : List Setting) (laws : Laws program)
         declared = begun.declared;
       }
 
-  like : (routine : Routine) (now : Whole) → IsBegun program settings inline now
+  like : (routine : Routine) (now : Whole) → IsBegun program settings inline laid now
       → IsLike tables spots (outside routine) next now frame.store now
   like routine now begun = record {
     seen =
@@ -149,7 +151,7 @@ module _ (program : Program) (settings : List Setting) (laws : Laws program)
         (spots_zero 0 frame.store.scalars now begun.zeros global.zeros)
         ∙ ap (λ (xs : List Array). record (seen_store spots arrays now) { arrays = xs })
         (arrays_seen tables now begun.stores 0 frame.store.arrays boxes global.blank
-        (globals_stored program settings inline));
+        (globals_stored program settings inline laid));
     sound = begun.sound;
     kept = keeps_all (numbered spots) next now;
     held = held now begun;
@@ -180,7 +182,7 @@ module _ (program : Program) (settings : List Setting) (laws : Laws program)
       (routine : Routine) × IsLike tables spots (outside routine) next now store whole
 
   entry_agrees : (n depth : ℕ) → IsShownCall IsLeafForm program depth program.name.text
-      → (now : Whole) → IsBegun program settings inline now
+      → (now : Whole) → IsBegun program settings inline laid now
       → HasRoom tables next (low.entry_code setup depth calling next)
       → Agrees (Ended now) n 0 (call_at setup n depth (entry_call program) frame.store)
       (does tables n (low.entry_code setup depth calling next).code now)
@@ -235,5 +237,5 @@ module _ (program : Program) (settings : List Setting) (laws : Laws program)
   pub program_shows : (n : ℕ)
       → Shows (λ a. flat_run tables a n) n (outcome_of program settings n)
   program_shows n =
-      shown_by program settings inline n Ended (λ now begun room.
+      shown_by program settings inline laid n Ended (λ now begun room.
       entry_agrees n longest_chain shown.entry now begun room)

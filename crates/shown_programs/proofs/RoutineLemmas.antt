@@ -458,7 +458,7 @@ module _ (program : Program) (settings : List Setting) (laws : Laws program)
             (record { scalars = before.scalars; slots = before.slots; arrays = before.arrays })
             like.sound like.kept fresh clear
             (subst (λ (x : Lowered). HasRoom tables inner x) code_is
-            (record { scalars = room.scalars; slots = room.slots; arrays = room.arrays })))
+            (record { scalars = room.scalars; slots = room.slots; arrays = room.arrays; temps = room.temps })))
             reached))
             reached
 

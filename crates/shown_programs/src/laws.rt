@@ -15,6 +15,7 @@ ghost use Rattle.lowering_runs.specs.Shown.{Shows};
 ghost use Rattle.shown_programs.specs.Text.{IsShownProgram};
 
 use lowered_flat::{declarations_fit, lowered_rows_are_inline};
+use lowering_fits::all_code_is_numbered;
 use meaning_ranks::ranks_agree;
 use meaning_runs::regions_have_been_computed;
 use zpl_meaning::{no_stand_in_is_met, what_is_computed_has_a_value};
@@ -45,6 +46,7 @@ pub fn array_programs_are_shown()
     regions_have_been_computed();
     declarations_fit();
     lowered_rows_are_inline();
+    all_code_is_numbered();
     ranks_are_at_most_three();
     declared_ranks_are_at_most_three();
     faultless_programs_have_faultless_sites();
