@@ -1,5 +1,6 @@
 -- What holds where a statement stands holds behind what comes before it.
-use Rattle.std.proofs.Common.{◌≡◌, ℕ, zero, suc, ◌+◌, ◌≤◌, ◌<◌, List, [], ◌∷◌, ◌++◌, length}
+use Rattle.std.proofs.Common.{◌≡◌, ℕ, zero, suc, ◌+◌, ◌≤◌, ◌<◌, Bool, List, [], ◌∷◌, ◌++◌}
+use Rattle.std.proofs.Common.{length}
 use Rattle.std.specs.Prelude.{slice_get, slice_index_or}
 use Rattle.std.proofs.Common.{Option, Some, None, refl, sym, ap, ◌∙◌, subst, arith}
 use Rattle.std.specs.Option.{option_map}
@@ -22,7 +23,7 @@ use Rattle.zpl_lowering.specs.Statement.{Lowering}
 use Rattle.lowering_runs.specs.Seen.{slot_in, Spot, Sight, numbered, seen_over, seen_currents, seen_edge, seen_place, seen_store}
 use Rattle.lowering_runs.specs.Run.{does}
 use Rattle.lowering_runs.specs.Agrees.{Agrees}
-use Rattle.lowering_runs.specs.Stands.{IsBefore, IsTaken, IsTakenEdge, AreTaken, array_numbers, SlotsAt, RowsAt, IsCurrentIf, AreDeclared, IsHeld, Stands, HasRoom, Keeps, IsLike}
+use Rattle.lowering_runs.specs.Stands.{IsBefore, IsTaken, IsTakenEdge, AreTaken, array_numbers, SlotsAt, RowsAt, TempsAt, IsCurrentIf, AreDeclared, IsHeld, Stands, HasRoom, Keeps, IsLike}
 use Rattle.lowering_runs.specs.Goes.{World, context, lowering, Goes}
 use Rattle.lowering_runs.proofs.NumberLemmas.{rises_on}
 use Rattle.lowering_runs.proofs.AgreeLemmas.{alike_agrees}
@@ -219,12 +220,24 @@ rows_rest rows k [] more h = subst (λ (i : ℕ). RowsAt rows i more) (omega ari
 rows_rest rows k (storage ∷ storages) more h =
     subst (λ (i : ℕ). RowsAt rows i more) (omega arith) (rows_rest rows (suc k) storages more h.1)
 
+temps_first : (rows : List ArrayRow) (k : ℕ) (temps more : List (List Bool))
+    → TempsAt rows k (temps ++ more) → TempsAt rows k temps
+temps_first rows k [] more h = tt
+temps_first rows k (flood ∷ temps) more h = (h.0, temps_first rows (suc k) temps more h.1)
+
+pub temps_rest : (rows : List ArrayRow) (k : ℕ) (temps more : List (List Bool))
+    → TempsAt rows k (temps ++ more) → TempsAt rows (k + length temps) more
+temps_rest rows k [] more h = subst (λ (i : ℕ). TempsAt rows i more) (omega arith) h
+temps_rest rows k (flood ∷ temps) more h =
+    subst (λ (i : ℕ). TempsAt rows i more) (omega arith) (temps_rest rows (suc k) temps more h.1)
+
 pub room_first : (tables : Tables) (next : Next) (piece : Piece Row Check) (one other : Lowered)
     → HasRoom tables next (joined piece one other) → HasRoom tables next one
 room_first tables next piece one other h = record {
   scalars = omega (arith, h.scalars);
   slots = slots_first tables.slots next.slots one.slots other.slots h.slots;
   arrays = rows_first tables.arrays next.arrays one.arrays other.arrays h.arrays;
+  temps = temps_first tables.arrays next.temps one.temps other.temps h.temps;
 }
 
 pub room_rest : (tables : Tables) (next : Next) (piece : Piece Row Check) (one other : Lowered)
@@ -233,6 +246,7 @@ room_rest tables next piece one other h = record {
   scalars = omega (arith, h.scalars);
   slots = slots_rest tables.slots next.slots one.slots other.slots h.slots;
   arrays = rows_rest tables.arrays next.arrays one.arrays other.arrays h.arrays;
+  temps = temps_rest tables.arrays next.temps one.temps other.temps h.temps;
 }
 
 pub room_here : (tables : Tables) (next : Next) (own : Lowered) → HasRoom tables next own

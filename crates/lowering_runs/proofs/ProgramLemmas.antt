@@ -29,6 +29,7 @@ use Rattle.zpl_lowering.specs.Lowered.{Lowered, behind}
 use Rattle.zpl_lowering.specs.Statement.{Calling}
 use Rattle.zpl_lowering.specs.Program as low
 use Rattle.zpl_lowering.specs.Tables.{rows_of, flat_tables}
+use Rattle.lowering_fits.specs.Whole.{IsNumbered}
 use Rattle.lowering_runs.specs.Seen.{scalar_in, Spot, seen_store, numbered}
 use Rattle.lowering_runs.specs.Run.{does}
 use Rattle.lowering_runs.specs.Agrees.{Agrees}
@@ -44,7 +45,8 @@ use Rattle.lowering_runs.proofs.StartLemmas.{many_declared, shown_by}
 
 module _ (program : Program) (settings : List Setting) (s : IsScalarProgram program settings)
     (proper : (place : Place) (stmt : Stmt) → IsVisited (first_setup program settings) place stmt
-    → IsProperStmt place stmt) where
+    → IsProperStmt place stmt)
+    (laid : IsNumbered (low.first_next program) (low.lowered_program program settings)) where
   abbrev known : Known
   known = known_of program settings
 
@@ -185,5 +187,5 @@ module _ (program : Program) (settings : List Setting) (s : IsScalarProgram prog
   pub program_shows : (n : ℕ)
       → Shows (λ a. flat_run tables a n) n (outcome_of program settings n)
   program_shows n =
-      shown_by program settings rows_are_inline n Ended (λ now begun room.
+      shown_by program settings rows_are_inline laid n Ended (λ now begun room.
       entry_agrees n longest_chain s.entry now begun.sound begun.zeros begun.declared room)

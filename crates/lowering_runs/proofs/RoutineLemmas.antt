@@ -245,7 +245,7 @@ module _ (tables : Tables) (n : ℕ) (setup : Setup)
           (all g.frame g.sight inner now g.framing
           (record { scalars = before.scalars; slots = before.slots; arrays = before.arrays }) like.sound like.kept fresh
           (subst (λ (x : Lowered). HasRoom tables inner x) code_is
-          (record { scalars = room.scalars; slots = room.slots; arrays = room.arrays })))
+          (record { scalars = room.scalars; slots = room.slots; arrays = room.arrays; temps = room.temps })))
           reached))
           reached
 

@@ -1,6 +1,6 @@
 -- The start of a run: the tables of a lowered program, and the state behind the rows of its declared
 -- regions. It knows no forms of statements.
-use Rattle.std.proofs.Common.{◌≡◌, ℕ, zero, suc, ◌+◌, ℤ, pos, List, [], ◌∷◌, ◌++◌}
+use Rattle.std.proofs.Common.{◌≡◌, ℕ, zero, suc, ◌+◌, Bool, ℤ, pos, List, [], ◌∷◌, ◌++◌}
 use Rattle.std.proofs.Common.{append_assoc, length-append}
 use Rattle.std.proofs.Common.{map, length, Some, refl, sym, ap, ◌∙◌, subst, arith}
 use Rattle.std.proofs.lemmas.List.Elements.{All-from_recursion}
@@ -42,11 +42,12 @@ use Rattle.zpl_lowering.specs.Statement.{Calling}
 use Rattle.zpl_lowering.specs.Program as low
 use Rattle.text_sharing.proofs.RowLemmas.{shared-inline}
 use Rattle.zpl_lowering.specs.Tables.{empty_tables, rows_of, flat_tables, unshared_tables, stored_row, stored_rows, temp_row}
+use Rattle.lowering_fits.specs.Whole.{IsNumbered}
 use Rattle.lowering_runs.specs.Seen.{scalar_in}
 use Rattle.lowering_runs.specs.Run.{does}
 use Rattle.lowering_runs.specs.Agrees.{Agrees}
 use Rattle.lowering_runs.specs.Shown.{Shows}
-use Rattle.lowering_runs.specs.Stands.{SlotsAt, RowsAt, HasRoom, AreDeclared, IsSound}
+use Rattle.lowering_runs.specs.Stands.{SlotsAt, RowsAt, TempsAt, HasRoom, AreDeclared, IsSound}
 use Rattle.lowering_runs.proofs.TopLemmas.{shows}
 use Rattle.lowering_runs.proofs.EntryLemmas.{start_zero, start_sound, regions_fixed}
 
@@ -164,7 +165,7 @@ stored_at shifts front (storage ∷ storages) back others = (
     there 0 front ∙ ap (λ (i : ℕ). Some (stored_row i shifts storage)) (omega arith),
   ),
   subst (λ (i : ℕ). RowsAt (stored_rows 0 shifts (front ++ ((storage ∷ storages) ++ back))
-  ++ others) i storages) (longer front)
+      ++ others) i storages) (longer front)
       (subst (λ (xs : List Region). RowsAt (stored_rows 0 shifts xs ++ others)
       (length (front ++ storage ∷ [])) storages) (behind_one front)
       (stored_at shifts (front ++ storage ∷ []) storages back others)),
@@ -185,6 +186,31 @@ stored_at shifts front (storage ∷ storages) back others = (
         → (xs ++ storage ∷ []) ++ (storages ++ back) ≡ xs ++ ((storage ∷ storages) ++ back)
     behind_one [] = refl
     behind_one (x ∷ xs) = ap (λ ys. x ∷ ys) (behind_one xs)
+
+temps_behind : (front : List ArrayRow) (temps : List (List Bool))
+    → TempsAt (front ++ map temp_row temps) (length front) temps
+temps_behind front [] = tt
+temps_behind front (flood ∷ temps) = (
+  there front,
+  subst (λ (k : ℕ). TempsAt (front ++ map temp_row (flood ∷ temps)) k temps) (longer front)
+      (subst (λ (xs : List ArrayRow). TempsAt xs (length (front ++ temp_row flood ∷ [])) temps)
+      (append_assoc front (temp_row flood ∷ []) (map temp_row temps))
+      (temps_behind (front ++ temp_row flood ∷ []) temps)),
+)
+  where
+    there : (xs : List ArrayRow)
+        → slice_get (xs ++ map temp_row (flood ∷ temps)) (length xs) ≡ Some (temp_row flood)
+    there [] = refl
+    there (x ∷ xs) = there xs
+
+    longer : (xs : List ArrayRow) → length (xs ++ temp_row flood ∷ []) ≡ suc (length xs)
+    longer [] = refl
+    longer (x ∷ xs) = ap suc (longer xs)
+
+stored_length : (k : ℕ) (shifts : List Shifted) (storages : List Region)
+    → length (stored_rows k shifts storages) ≡ length storages
+stored_length k shifts [] = refl
+stored_length k shifts (storage ∷ storages) = ap suc (stored_length (suc k) shifts storages)
 
 map_append : {A B : Type 0} (f : A → B) (xs ys : List A) → map f (xs ++ ys) ≡ map f xs ++ map f ys
 map_append f [] ys = refl
@@ -237,7 +263,8 @@ module _ (program : Program) (settings : List Setting) where
   first_arrays : length storages ≡ next.arrays
   first_arrays = omega arith
 
-  module _ (inline : Every IsInline (rows_of own)) where
+  module _ (inline : Every IsInline (rows_of own))
+      (laid : IsNumbered (low.first_next program) own) where
     rows_are : all_inlined tables
         ≡ map flat_row (flattened 0 own.code ++ Straight (row.Plain instr.End) ∷ [])
     rows_are =
@@ -276,6 +303,26 @@ module _ (program : Program) (settings : List Setting) where
         (stored_at own.shifts storages entry_own.arrays (own.copies ++ own.later)
         (map temp_row own.temps))))
 
+    -- temporaries come behind all other arrays
+    first_temps : length (stored_rows 0 own.shifts (own.arrays ++ (own.copies ++ own.later)))
+        ≡ next.temps
+    first_temps =
+        stored_length 0 own.shifts (own.arrays ++ (own.copies ++ own.later))
+        ∙ omega (
+          arith,
+          length-append own.arrays (own.copies ++ own.later),
+          length-append own.copies own.later,
+          ap (λ (xs : List Region). length xs) laid.no_copies,
+          laid.temps,
+        )
+
+    own_temps : TempsAt tables.arrays next.temps entry_own.temps
+    own_temps =
+        subst (λ (rows : List ArrayRow). TempsAt rows next.temps entry_own.temps) (sym arrays_are)
+        (subst (λ (k : ℕ). TempsAt array_rows k own.temps) first_temps
+        (temps_behind (stored_rows 0 own.shifts (own.arrays ++ (own.copies ++ own.later)))
+        own.temps))
+
     room : HasRoom tables next entry_own
     room = record {
       scalars = omega (arith, scalars_are);
@@ -283,6 +330,7 @@ module _ (program : Program) (settings : List Setting) where
           (subst (λ (k : ℕ). SlotsAt (declared_ranks ++ entry_own.slots) k entry_own.slots)
           first_slots (slots_behind declared_ranks entry_own.slots));
       arrays = own_stored;
+      temps = own_temps;
     }
 
     -- ---- the whole run

@@ -1,6 +1,6 @@
 -- What holds where a statement is lowered, what holds of a state there, and what the statement's
 -- code keeps of it.
-use Rattle.std.specs.Prelude.{◌≡◌, ◌≢◌, ℕ, suc, ◌+◌, ◌<◌, ◌≤◌, true, List, [], ◌∷◌, length, map, Option, Some, None, slice_get}
+use Rattle.std.specs.Prelude.{◌≡◌, ◌≢◌, ℕ, suc, ◌+◌, ◌<◌, ◌≤◌, Bool, true, List, [], ◌∷◌, length, map, Option, Some, None, slice_get}
 use Rattle.zpl_nums.specs.Integer.{IsInteger}
 use Rattle.zpl_binding.specs.Outcome.{Computed, value_or}
 use Rattle.zpl_binding.specs.Regions.{Known, no_region}
@@ -16,7 +16,7 @@ use Rattle.flat_form.specs.Right.{is_settled}
 use Rattle.zpl_lowering.specs.Where.{Stored, Slotted, SlotCurrents, SlotEdge, Where, Next, flood_of}
 use Rattle.zpl_lowering.specs.Hoist.{Shifted}
 use Rattle.zpl_lowering.specs.Lowered.{Lowered}
-use Rattle.zpl_lowering.specs.Tables.{stored_row}
+use Rattle.zpl_lowering.specs.Tables.{stored_row, temp_row}
 use Rattle.lowering_runs.specs.Seen.{scalar_in, slot_in, Spot, seen_store, seen_names, numbered}
 
 -- ---- numbers
@@ -97,11 +97,18 @@ RowsAt rows k (storage ∷ storages) =
     ((shifts : List Shifted) × (slice_get rows k ≡ Some (stored_row k shifts storage)))
     × RowsAt rows (suc k) storages
 
+-- temporaries have these flood dimensions, from a number on
+abbrev pub TempsAt : List ArrayRow → ℕ → List (List Bool) → Type 0
+TempsAt rows k [] = Unit {0}
+TempsAt rows k (flood ∷ temps) =
+    (slice_get rows k ≡ Some (temp_row flood)) × TempsAt rows (suc k) temps
+
 -- there is room in the tables for what code has of its own
 pub record HasRoom (tables : Tables) (next : Next) (own : Lowered) : Type 0 where
   pub scalars : next.scalars + own.scalars ≤ tables.scalars
   pub slots : SlotsAt tables.slots next.slots own.slots
   pub arrays : RowsAt tables.arrays next.arrays own.arrays
+  pub temps : TempsAt tables.arrays next.temps own.temps
 
 -- ---- arrays and current regions
 

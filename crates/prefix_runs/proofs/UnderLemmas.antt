@@ -549,7 +549,7 @@ module _ (world : World) (borders : Bool) (prefix : Prefix) (rest : List Prefix)
   fills_agree v course e (Fills {region = region} {after = after} found filled) told =
       behind_agrees region after found filled told e
       (room_rest tables next (code.Rows []) (of_opened opened) inner_made
-      (record { scalars = room.scalars; slots = room.slots; arrays = room.arrays }))
+      (record { scalars = room.scalars; slots = room.slots; arrays = room.arrays; temps = room.temps }))
 
   pub under_agrees : Agrees (IsLike tables sight.spots w next now) world.turns 1
       (mean.under (context world sight w now) (prefix ∷ rest) store (λ inner. run inner store))
@@ -558,7 +558,7 @@ module _ (world : World) (borders : Bool) (prefix : Prefix) (rest : List Prefix)
   under_agrees =
       fills_agree value (rows_do (step tables world.turns) (decide tables world.turns) opened.rows now) refl
       (comes.fills (room_first tables next (code.Rows []) (of_opened opened) inner_made
-      (record { scalars = room.scalars; slots = room.slots; arrays = room.arrays })).slots) comes.told
+      (record { scalars = room.scalars; slots = room.slots; arrays = room.arrays; temps = room.temps })).slots) comes.told
 
 -- ---- all prefixes
 
