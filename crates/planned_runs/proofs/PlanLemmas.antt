@@ -1,4 +1,4 @@
--- The plan of a flat program shows what the flat program shows, where scans and remaps agree.
+-- The plan of a flat program shows what the flat program shows, where scans agree.
 --
 --   plans_keep
 use Rattle.std.proofs.Common.{◌≡◌, refl, sym, ◌∙◌, ap, subst, arith, ℕ, zero, suc, ◌+◌, true}
@@ -41,6 +41,7 @@ use Rattle.message_runs.proofs.FoldRows.{fold_agrees}
 use Rattle.message_runs.proofs.GatherRows.{gather_agrees}
 use Rattle.message_runs.proofs.PartRows.{part_agrees}
 use Rattle.message_runs.proofs.PrintRows.{number_agrees, text_agrees, truth_agrees}
+use Rattle.message_runs.proofs.RemapRows.{remap_agrees}
 use Rattle.plan_passes.proofs.AwaitLemmas.{plan_awaits}
 use Rattle.planned_runs.specs.Left.{LeftRows, LeftRowsAgree}
 use Rattle.planned_runs.proofs.NumberLemmas.{runs_kept}
@@ -147,7 +148,7 @@ module _ (left_agree : LeftRowsAgree) (tables : Tables) (grid : List ℕ) (links
           parts = part_agrees code layout links n;
           scans = rest.scans;
           gathers = gather_agrees code layout links n;
-          remaps = rest.remaps;
+          remaps = remap_agrees code layout links n;
           folds = fold_agrees code links n;
           texts = text_agrees code links n;
           numbers = number_agrees code links n;
