@@ -1,6 +1,6 @@
 -- What node code comes to in step is what its plan shows.
 use Rattle.std.proofs.Common.{◌≡◌, refl, sym, ap, ◌∙◌, subst, ℕ, suc, ◌+◌, ◌*◌, Bool}
-use Rattle.std.proofs.Common.{true, false, List, Option}
+use Rattle.std.proofs.Common.{true, false, List, Option, Some}
 use Rattle.std.proofs.lemmas.List.{length-map}
 use Rattle.node_form.specs.declared.tables.Tables.{Tables}
 use Rattle.row_runs.specs.Run.{Result}
@@ -8,7 +8,8 @@ use Rattle.plan_meaning.specs.Act.{plan_run}
 use Rattle.node_emit.specs.Emit.{along_tree, emitted}
 use Rattle.plan_orders.specs.Brings.{row_most}
 use Rattle.plan_orders.specs.InStep.{ComesInStep, IsInStep, least_moves, run_most, some_turns, stops_within}
-use Rattle.emitted_orders.specs.AsPlanned.{ComesAsPlanned}
+use Rattle.plan_orders.proofs.RoomLemmas.{free_step}
+use Rattle.emitted_orders.specs.AsPlanned.{ComesAsPlanned, HoldsAsPlanned}
 use Rattle.emitted_orders.proofs.AlikeLemmas.{emitted_runs, emitted_stops}
 
 -- code is as long as its plan, and groups are the same
@@ -36,3 +37,11 @@ comes_as_planned tree grid plan links same comes a n right =
 
     Comes : Result → ℕ → ℕ → Type 0
     Comes result least most = (order : List ℕ) × IsInStep code links result least most order
+
+-- over links of any number of messages, none of which ever holds more than so many
+pub holds_as_planned : (code plan : Tables) (most : ℕ) → ComesAsPlanned code plan (Some most)
+    → HoldsAsPlanned code plan most
+holds_as_planned code plan most comes a n right =
+    let (order, step) = comes a n right in
+    let (stepped, holds) = free_step code most _ _ _ order step in
+    (order, stepped, holds)

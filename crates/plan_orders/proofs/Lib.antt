@@ -19,3 +19,4 @@ pub mod RemapLemmas
 pub mod RemapRowLemmas
 pub mod RowLemmas
 pub mod ReachLemmas
+pub mod RoomLemmas

@@ -6,7 +6,7 @@ use Rattle.zpl_region.specs.declared.regions.Region.{Region}
 use Rattle.grid_links.specs.Machine.{Goes as Moves}
 use Rattle.grid_links.specs.Run.{count_of}
 use Rattle.grid_paths.specs.Path.{Quiet}
-use Rattle.grid_paths.specs.Scene.{AwaitsMessage, Leads, MovesIn, RestsIn}
+use Rattle.grid_paths.specs.Scene.{Leads, MovesIn, WaitsIn}
 use Rattle.grid_paths.specs.Tree.{Halted, IsTree}
 use Rattle.grid_paths.proofs.RoundLemmas.{leads_agreed, leads_through}
 use Rattle.node_form.specs.Nest.{Nest, members_of}
@@ -381,11 +381,11 @@ module _ (code : Tables) (links : Option ℕ) (n at slot number : ℕ) (members 
                   }
 
               by : (p : ℕ) → p < count → (b : Bool) → away p ≡ b
-                  → RestsIn (system_over code links) halted.other p
+                  → WaitsIn (system_over code links) halted.other p
                   ⊎ ((before ≤ first p + halted.many p)
                   × MovesIn (system_over code links) halted.other p)
               by p below true stays = inr (enough p below stays, goes p below stays)
-              by p below false leaves = inl (AwaitsMessage (halted.waits p below leaves))
+              by p below false leaves = inl (halted.waits p below leaves)
 
 -- ---- the row
 module _ (code : Tables) (links : Option ℕ) (capable : IsCapacity links) (n at : ℕ)

@@ -11,7 +11,7 @@
 --   GoesWell            some order does what a row does in a plan
 --   HasOrder            so it does of each state of a plan in front of the row
 --   HaveOrders          so does one for each row of the code
-use Rattle.std.specs.Prelude.{◌≡◌, ◌≢◌, ℕ, suc, ◌+◌, ◌<◌, ◌≤◌, true, List, [], All, length}
+use Rattle.std.specs.Prelude.{◌≡◌, ◌≢◌, ◌⊎◌, ℕ, suc, ◌+◌, ◌<◌, ◌≤◌, true, List, [], All, length}
 use Rattle.std.specs.Prelude.{◌*◌, ◌^◌, ◌∷◌, fold, max, slice_get, Option, Some, ⊤}
 use Rattle.zpl_nums.specs.declared.ends.End.{End}
 use Rattle.zpl_nums.specs.declared.ends.End.TheVariants.{More}
@@ -19,8 +19,7 @@ use Rattle.zpl_region.specs.Region.{members}
 use Rattle.zpl_region.specs.declared.regions.Region.{Region}
 use Rattle.grid_links.specs.declared.messages.Message.{Message}
 use Rattle.grid_links.specs.Run.{count_of}
-use Rattle.grid_paths.specs.Laws.{HasCome}
-use Rattle.grid_paths.specs.Scene.{Scene, Leads, MovesIn}
+use Rattle.grid_paths.specs.Scene.{Scene, Leads, MovesIn, WaitsIn}
 use Rattle.node_form.specs.declared.instructions.Instr.{Instr}
 use Rattle.node_form.specs.declared.members.Member.{Member}
 use Rattle.node_form.specs.declared.members.Member.TheVariants as member
@@ -96,7 +95,8 @@ pub record AllEnd (code : Tables) (links : Option ℕ) (one : Scene Local Messag
       → q < count_of (system_over code links) → over.links p q ≡ []
   pub last : ending ≢ More
 
--- Each waits, or has made at least so many moves and makes one more; and so does one of them.
+-- Each awaits a message, or has made at least so many moves and makes one more; and so does one of
+-- them.
 pub record AllWait (code : Tables) (links : Option ℕ) (one : Scene Local Message) (least : ℕ)
     (bytes : List ℕ) : Type 0 where
   pub other : Scene Local Message
@@ -104,7 +104,9 @@ pub record AllWait (code : Tables) (links : Option ℕ) (one : Scene Local Messa
   pub shown : ℕ → List ℕ
   pub leads : Leads (system_over code links) one other many shown
   pub printed : shown 0 ≡ bytes
-  pub each : HasCome (system_over code links) other many least
+  pub each : (p : ℕ) → p < count_of (system_over code links)
+      → WaitsIn (system_over code links) other p
+      ⊎ ((least ≤ many p) × MovesIn (system_over code links) other p)
   pub longest : ℕ
   pub longest_below : longest < count_of (system_over code links)
   pub longest_moves : least ≤ many longest

@@ -1,12 +1,12 @@
 //! The laws of orders for plans: where nothing goes wrong, some order of turns leads all processors
 //! as the plan goes, over links of every capacity (`None`: of any number of messages). Each is the
 //! contract of a function that does nothing. The statements stand in `specs/`.
-ghost use Rattle.std.specs.Prelude.{Option, ℕ};
+ghost use Rattle.std.specs.Prelude.{◌≤◌, Option, Some, ℕ};
 ghost use Rattle.grid_meaning.specs.Grid.{IsCapacity};
 ghost use Rattle.node_form.specs.Fits.{Fits};
 ghost use Rattle.node_form.specs.declared.tables.Tables.{Tables as Code};
 ghost use Rattle.plan_orders.specs.Brings.{HaveOrders};
-ghost use Rattle.plan_orders.specs.InStep.{ComesInStep};
+ghost use Rattle.plan_orders.specs.InStep.{ComesInStep, HoldsFew};
 
 use grid_meaning::states_are_kept;
 
@@ -31,4 +31,13 @@ pub fn plans_come_in_step()
         → ComesInStep code links }
 {
     states_are_kept();
+}
+
+/// Where a plan isn't wrong over links of so many messages, from one on, such an order does the same
+/// over links of any number of messages, and no link ever holds more: no more than exchanges are
+/// open at once, or than one.
+pub fn links_hold_few()
+    ensures { (code : Code) (most : ℕ) → 1 ≤ most → Fits code → HoldsFew code most }
+{
+    plans_come_in_step();
 }
