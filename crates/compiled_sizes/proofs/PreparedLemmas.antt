@@ -1,8 +1,8 @@
 -- The tables of a program have as many rows that prepare for loops as loops that read with a shift
 -- what they put; so its code is at most twice as large where these go through temporaries.
-use Rattle.std.proofs.Common.{◌≡◌, refl, ap, ◌∙◌, arith, ℕ, ◌+◌, ◌*◌, ◌≤◌, Bool, true, false}
-use Rattle.std.proofs.Common.{List, [], ◌∷◌, map, sym, subst}
-use Rattle.std.specs.Prelude.{cond, count_by, flat_map, slice_get, slice_index_or}
+use Rattle.std.proofs.Common.{◌≡◌, refl, ap, arith, ℕ, ◌*◌, ◌≤◌, Bool, true, false}
+use Rattle.std.proofs.Common.{List, [], ◌∷◌, map}
+use Rattle.std.specs.Prelude.{cond, count_by, flat_map, slice_index_or}
 use Rattle.std.proofs.lemmas.List.Sums.{sum_by-cons}
 use Rattle.node_form.specs.declared.members.Member as number
 use Rattle.node_form.specs.declared.members.Member.TheVariants as member
@@ -12,7 +12,7 @@ use Rattle.node_form.specs.declared.tables.Tables.{Tables}
 use Rattle.code_parts.specs.Counts.{code_size, count_of}
 use Rattle.code_parts.specs.Uses.{member_words, put_by, share, shifted_in}
 use Rattle.flat_form.specs.Flat.{IsFlat}
-use Rattle.flat_form.specs.Row.{Row, all_inlined, inlined, member_inlined}
+use Rattle.flat_form.specs.Row.{inlined, member_inlined}
 use Rattle.flat_passes.specs.Grouped.{grouped}
 use Rattle.temp_norm.specs.Normalised.{loops_on_itself, loops_on_themselves, normalised, reads_itself}
 use Rattle.pass_sizes.specs.Sizes.{is_preparing}

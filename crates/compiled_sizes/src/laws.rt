@@ -14,10 +14,10 @@ ghost use Rattle.zpl_compile.specs.Compile.{compiled};
 ghost use Rattle.compiled_sizes.specs.Lowered.{IsLowered};
 
 /// The code of a program is at most nine times as large as its lowered tables, and so at most 512
-/// times as large as the program with its calls expanded. Where values go through temporaries, it is
-/// at most twice as large as the lowered tables. Of its rows, those that statements are
-/// made of are as many as in these tables, and two more for each loop that reads with a shift what
-/// it puts. It has no more votes than loops.
+/// times as large as the program with its calls expanded. Where values go through temporaries, it
+/// is at most twice as large as the lowered tables. Of its rows, those that statements are made of
+/// are as many as in these tables, and two more for each loop that reads with a shift what it puts.
+/// It has no more votes than loops.
 pub fn compiled_code_is_small()
     ensures factor { (build : Build) (program : Program) → IsLowered build program →
         code_size (compiled build program) ≤ 9 * code_size (flat_tables program build.settings) }

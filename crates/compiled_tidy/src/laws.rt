@@ -49,9 +49,9 @@ pub fn compiled_code_is_tidy()
 {}
 
 /// Of each text whose program is accepted the code is no larger than is allowed, has no more votes
-/// than loops, no check that always passes, and with `contract` no array that could be a cell; and
-/// it is tidy where the stored arrays are the program's, where few loops read with a shift what they
-/// put, and where, if loops are joined, they may stand where that puts them.
+/// than loops, and with `contract` no array that could be a cell; and it is tidy where the stored
+/// arrays are the program's, where few loops read with a shift what they put, and where, if loops
+/// are joined, they may stand where that puts them.
 pub fn accepted_code_is_tidy()
     ensures small { (text : List ℕ) (tokens : List Token) (program : Program) (build : Build) →
         IsAcceptedText text tokens program build →

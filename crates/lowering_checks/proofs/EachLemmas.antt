@@ -1,7 +1,7 @@
 -- What holds of all code of a program, part by part: of pieces of code one behind the other, of
 -- rows without loops, and of the loops that operators, statements and copies have, each with the
 -- rows that it stands among. Whatever the program is: no faults are ruled out.
-use Rattle.std.proofs.Common.{◌≡◌, ℕ, zero, suc, ◌+◌, Bool, true, false, ℤ, pos, List, [], ◌∷◌, ◌++◌, map, length, refl, sym, ap, ◌∙◌, subst}
+use Rattle.std.proofs.Common.{◌≡◌, ℕ, zero, suc, ◌+◌, Bool, true, false, ℤ, pos, List, [], ◌∷◌, ◌++◌, length, refl, sym, ap, ◌∙◌, subst}
 use Rattle.std.specs.Prelude.{Option, Some, None, cond, find, slice_get}
 use Rattle.std.specs.Str.{bytes_eq}
 use Rattle.zpl_nums.specs.declared.operators.Op.{Op}
@@ -49,11 +49,11 @@ use Rattle.zpl_lowering.specs.Reference.{Reference, all_referred, all_conforming
 use Rattle.zpl_lowering.specs.Hoist.{Hoisted, Free, behind as hoisted_behind, stored_element, fold_rows, kept_rows, scan_row, masked_scan, number_of, scanning, temps_from, three_of, rooms, index_puts, remap_code, remapping, border_vectors, border_rows, wrapping, mask_code, outside_code, trap_if, hoisted, all_hoisted}
 use Rattle.zpl_lowering.specs.Lowered.{Lowered, rows_alone, behind, Phased, phased, phased_with, first_left, free_at, check_of}
 use Rattle.zpl_lowering.specs.Statement.{Given, Valued, Copied, Referring, Calling, Lowering, placed_in, test_of, set_row, lowered_scalar, lowered_array, lowered_to, value_rows, value_exprs, given_to, with_values, lowered_invoke, target_of, lowered_assign, lowered_borders, is_border, prefix_opened, current_for, under_prefix, of_opened, is_last, lowered_under, counter_from, enters, is_done, step_row, counted, head_exprs, lowered_for, scalar_of, Shown, shown_at, shown_of, Prints, items_of, lowered_write, printed_exprs, is_truth, source_shift, each_border, shattered, choose_code, ends_arms, lowered, lowered_all, lowered_form, lowered_arms, lowered_arm, lowered_otherwise}
-use Rattle.zpl_lowering.specs.Program.{Framed, with_scalar, with_array, Entry, zero_row, clear_row, copy_rows, made_copy, givens_code, names_code, locals_code, where_in, body_code, reads_round, in_call, routine_code, call_code, region_rows, globals_made, first_next, entry_calling, entry_code, lowered_program}
+use Rattle.zpl_lowering.specs.Program.{Framed, with_scalar, with_array, Entry, zero_row, clear_row, made_copy, givens_code, names_code, locals_code, where_in, reads_round, in_call, routine_code, call_code, region_rows, globals_made, first_next, entry_calling, entry_code, lowered_program}
 use Rattle.zpl_meaning.proofs.DepthLemmas.{Each, each_left, each_right}
 use Rattle.lowering_checks.proofs.SlateLemmas.{AllQuiet, quiet_both, each_quiet, all_conforming_quiet, needs_quiet, opened_quiet}
 use Rattle.lowering_checks.proofs.HoistLemmas.{borders_quiet}
-use Rattle.lowering_checks.proofs.AssignLemmas.{set_quiet, values_quiet, edges_quiet, print_quiet, prints_quiet}
+use Rattle.lowering_checks.proofs.AssignLemmas.{set_quiet, values_quiet, edges_quiet, prints_quiet}
 use Rattle.lowering_checks.proofs.BodyLemmas.{if_quiet}
 
 -- of rows

@@ -1,6 +1,6 @@
 -- Each row of a program has its expressions, its group and its text in its place.
-use Rattle.std.proofs.Common.{◌≡◌, ℕ, ◌+◌, List, [], ◌∷◌, ◌++◌, map, sym, subst}
-use Rattle.std.specs.Prelude.{Option, Some, None, slice_get}
+use Rattle.std.proofs.Common.{ℕ, ◌+◌, List, [], ◌∷◌, ◌++◌, map, sym, subst}
+use Rattle.std.specs.Prelude.{Option, Some, None}
 use Rattle.zpl_tree.specs.Syntax.{Form, Program}
 use Rattle.zpl_names.specs.Sites.{tests_rank}
 use Rattle.zpl_binding.specs.Settings.{Setting}
@@ -25,7 +25,7 @@ use Rattle.zpl_lowering.specs.Tables.{rows_of}
 use Rattle.lowering_checks.specs.Walked.{laid}
 use Rattle.lowering_checks.proofs.WalkLemmas.{map_both, laid_rows, laid_then}
 use Rattle.lowering_checks.proofs.SlateLemmas.{AllQuiet, needs_quiet}
-use Rattle.lowering_checks.proofs.EachLemmas.{GoesAlong, GoesOn, phases_each, program_each}
+use Rattle.lowering_checks.proofs.EachLemmas.{GoesAlong, phases_each, program_each}
 
 abbrev AreInline : List Row → Type 0
 AreInline rows = Every IsInline rows

@@ -1,16 +1,12 @@
 -- The loops of a program that put arrays are prepared for.
-use Rattle.std.proofs.Common.{◌≡◌, ℕ, zero, suc, ◌+◌, ◌≤◌, Bool, true, false, List, [], ◌∷◌, ◌++◌, map, length, refl, sym, ap, ◌∙◌, subst, arith, length-append}
+use Rattle.std.proofs.Common.{◌≡◌, ℕ, suc, ◌+◌, ◌≤◌, Bool, true, false, List, [], ◌∷◌, ◌++◌, map, length, refl, sym, ap, ◌∙◌, subst, arith, length-append}
 use Rattle.std.specs.Prelude.{Option, Some, None, cond, slice_get}
-use Rattle.zpl_nums.specs.declared.operators.Op.{Op}
-use Rattle.zpl_nums.specs.declared.folds.Fold.{Fold}
-use Rattle.zpl_region.specs.declared.regions.Region.{Region}
-use Rattle.zpl_tree.specs.Syntax.{Name, Expr, Stmt, Prefixed, Stmts, NoStmt, ThenStmt, Form, Assign, Invoke, Block, If, While, Repeat, For, Border, Write, Return, Arm, Tested, Arms, NoArm, ThenArm, Otherwise, NoElse, Else, Program}
+use Rattle.zpl_tree.specs.Syntax.{Stmt, Prefixed, Stmts, NoStmt, ThenStmt, Form, Assign, Invoke, Block, If, While, Repeat, For, Border, Write, Return, Arm, Tested, Arms, NoArm, ThenArm, Otherwise, NoElse, Else, Program}
 use Rattle.zpl_names.specs.Kinds.{Rank}
 use Rattle.zpl_names.specs.Sites.{tests_rank}
 use Rattle.zpl_binding.specs.Settings.{Setting}
 use Rattle.zpl_meaning.specs.Store.{Thing, Scalar, ArrayAt, Fixed, thing_of}
 use Rattle.zpl_meaning.specs.Points.{assigned_expr}
-use Rattle.node_form.specs.declared.instructions.Instr.{Instr}
 use Rattle.node_form.specs.declared.instructions.Instr.TheVariants as instr
 use Rattle.node_form.specs.Expression.{Expression, Element, words_of}
 use Rattle.row_runs.specs.Code.{Jump, Unless}
@@ -19,9 +15,9 @@ use Rattle.row_runs.specs.Structured.{Piece, flattened, size}
 use Rattle.flat_form.specs.Row as row
 use Rattle.flat_form.specs.Row.{Row, Member, Words}
 use Rattle.zpl_lowering.specs.Check.{Check, flat_row}
-use Rattle.zpl_lowering.specs.Where.{Stored, Numbers, Slotted, slotted_at, Where, Next, reach_of}
+use Rattle.zpl_lowering.specs.Where.{Stored, Slotted, slotted_at, Where, Next, reach_of}
 use Rattle.zpl_lowering.specs.Slate.{Settled, Slates, Placed, settled_each}
-use Rattle.zpl_lowering.specs.Reference.{Reference, need_of, each_once, all_referred, all_conforming, needs, refer_to, over_reference}
+use Rattle.zpl_lowering.specs.Reference.{Reference, all_referred, all_conforming, needs, refer_to, over_reference}
 use Rattle.zpl_lowering.specs.Hoist.{fold_rows, kept_rows, temps_from, rooms, index_puts, mask_code, all_hoisted}
 use Rattle.zpl_lowering.specs.Lowered.{Phased, phased_with, first_left, free_at}
 use Rattle.zpl_lowering.specs.Statement.{lowered_array, put_row, Inside, both_inside, Elementwise, elementwise, put_member, put_thing, opening, otherwise_members, stmt_inside, stmts_inside, form_inside, arms_inside, arm_inside, otherwise_inside, masked_members, shattered}
@@ -31,7 +27,7 @@ use Rattle.lowering_checks.specs.Walked.{laid}
 use Rattle.lowering_checks.specs.Prepared.{has_put, putting_in, prepared_in, ArePrepared}
 use Rattle.lowering_checks.proofs.WalkLemmas.{map_both, laid_rows, laid_then}
 use Rattle.lowering_checks.proofs.SlateLemmas.{AllQuiet, quiet_both, each_quiet, all_conforming_quiet, needs_quiet}
-use Rattle.lowering_checks.proofs.EachLemmas.{GoesAlong, GoesOn, all_each, phases_each, program_each}
+use Rattle.lowering_checks.proofs.EachLemmas.{GoesAlong, all_each, phases_each, program_each}
 
 -- ---- rows one behind the other
 

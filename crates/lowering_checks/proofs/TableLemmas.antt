@@ -14,7 +14,6 @@ use Rattle.node_form.specs.Value.{unmoved}
 use Rattle.code_parts.specs.Uses.{rows_or_none, words_of, members_of, member_words, put_by, is_item}
 use Rattle.fuse_contract.specs.Fusing.{reference, references_in, references_of}
 use Rattle.pass_parts.specs.Checks.{ChecksWhatFollows, is_check, checked_by, checked_in, is_one_of}
-use Rattle.flat_form.specs.Row as row
 use Rattle.flat_form.specs.Row.{Row, Words, words_at, member_inlined, inlined, all_inlined}
 use Rattle.lowering_checks.specs.Walked.{IsKnown, KnowsWords, KnowsMember, KnowsMembers, Since, behind_rows, AreChecked}
 use Rattle.lowering_checks.proofs.WalkLemmas.{checked_rest, map_both}

@@ -1,5 +1,5 @@
 -- Where checks alone stand between two loops of a program, neither accumulates.
-use Rattle.std.proofs.Common.{◌≡◌, ℕ, zero, suc, ◌+◌, ◌||◌, Bool, true, false, List, [], ◌∷◌, ◌++◌, map, refl, sym, ap, ◌∙◌, subst, append_assoc}
+use Rattle.std.proofs.Common.{◌≡◌, ℕ, suc, ◌+◌, Bool, true, false, List, [], ◌∷◌, ◌++◌, map, refl, sym, subst, append_assoc}
 use Rattle.std.specs.Prelude.{Option, Some, None, slice_get, slice_index_or}
 use Rattle.std.specs.List.{AllByRecursion, list_any}
 use Rattle.zpl_tree.specs.Syntax.{Stmt, Prefixed, Stmts, NoStmt, ThenStmt, Form, Assign, Invoke, Block, If, While, Repeat, For, Border, Write, Return, Arm, Tested, Arms, NoArm, ThenArm, Otherwise, NoElse, Else, Program}
@@ -17,7 +17,6 @@ use Rattle.node_form.specs.Expression.{Expression, Element, words_of}
 use Rattle.row_runs.specs.Code.{Jump, Unless}
 use Rattle.row_runs.specs.Structured as piece
 use Rattle.row_runs.specs.Structured.{Piece, flattened, size}
-use Rattle.code_parts.specs.Stretch.{IsStretch}
 use Rattle.code_parts.specs.Uses.{members_of}
 use Rattle.flat_form.specs.Row as row
 use Rattle.flat_form.specs.Row.{Row, Member, Words, all_inlined, inlined, member_inlined}
@@ -37,7 +36,7 @@ use Rattle.lowering_checks.specs.Totals.{has_total, behind_plain, behind_one, be
 use Rattle.lowering_checks.proofs.WalkLemmas.{map_both, laid_rows, laid_then}
 use Rattle.lowering_checks.proofs.SlateLemmas.{AllQuiet, needs_quiet}
 use Rattle.lowering_checks.proofs.TableLemmas.{found, false_true}
-use Rattle.lowering_checks.proofs.EachLemmas.{GoesAlong, GoesOn, phases_each, program_each}
+use Rattle.lowering_checks.proofs.EachLemmas.{GoesAlong, phases_each, program_each}
 
 -- ---- rows one behind the other
 

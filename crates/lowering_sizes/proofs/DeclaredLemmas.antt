@@ -5,18 +5,15 @@ use Rattle.std.proofs.lemmas.List.Sums.{sum_by-cons}
 use Rattle.std.specs.Str.{bytes_eq}
 use Rattle.zpl_region.specs.declared.regions.Region.{Region}
 use Rattle.zpl_arrays.specs.Array.{Array}
-use Rattle.zpl_tokens.specs.declared.keywords.Key.TheVariants as key
 use Rattle.zpl_tokens.specs.declared.symbols.Sym.TheVariants as sym
 use Rattle.zpl_tree.specs.Word.{Word, word_text}
-use Rattle.zpl_tree.specs.Word as word
-use Rattle.zpl_tree.specs.Syntax.{Name, Bracket, NoBracket, Bracketed, Define, RegionDef, VarDef, Procedure, Decl, Config, Constant, Regions, Directions, Vars, Defined, Program}
-use Rattle.zpl_tree.specs.Spelling.{symbol, keyword, name_words, in_square, inner_words, bracket_words, posts_words, each_after, names_words, stmt_words, type_words, region_words, var_words, locals_words, heading_words, procedure_words, decl_words, before_end, program_words}
+use Rattle.zpl_tree.specs.Syntax.{Name, Bracket, NoBracket, Bracketed, Define, RegionDef, VarDef, Decl, Config, Constant, Regions, Directions, Vars, Defined, Program}
+use Rattle.zpl_tree.specs.Spelling.{symbol, name_words, bracket_words, each_after, names_words, type_words, var_words}
 use Rattle.zpl_names.specs.Scope.{Entry, kind_of, is_procedure}
 use Rattle.zpl_names.specs.Shapes.{unknown_shapes}
-use Rattle.zpl_names.specs.Declared.{with_decl, with_procedure, Routine, routine_of, routines_behind, routines_of, routine_named}
+use Rattle.zpl_names.specs.Declared.{with_decl, with_procedure, Routine, routine_of, routines_behind}
 use Rattle.zpl_names.specs.Sites.{Site, AtWhole, AtExpr, AtCall, AtNamed, AtDir, AtRegion, AtMask, AtStmt, AtBase, AtPosts, AtProcedure, routine_sites, each_sites, decl_sites, head_sites, text_sites}
 use Rattle.zpl_names.specs.Faults.{at_if, unknown_names}
-use Rattle.zpl_names.specs.Expansion.{body_tokens}
 use Rattle.zpl_names.specs.Accepted.{UnknownName, in_text, IsFaultless}
 use Rattle.zpl_binding.specs.Outcome.{Computed, value_or, outcome_of}
 use Rattle.zpl_binding.specs.Regions.{Known}
@@ -27,10 +24,9 @@ use Rattle.zpl_meaning.specs.Store.{Fixed}
 use Rattle.zpl_meaning.specs.Variables.{Frame, with_thing, zero_array, storage_box, with_name, with_names, with_variables, with_values, with_declared, with_declarations, empty_frame}
 use Rattle.zpl_meaning.specs.Program.{first_frame}
 use Rattle.zpl_lowering.specs.Program.{arrays_from, global_numbers}
-use Rattle.lowering_sizes.specs.Sizes.{HoldsItsWords}
 use Rattle.lowering_sizes.proofs.Slates.{AreNarrow}
 use Rattle.lowering_sizes.proofs.Known.{HasThree, storage_three}
-use Rattle.lowering_sizes.proofs.ProgramLemmas.{local_names, IsProcedure, AreProcedures, of_found, CallsAreThere}
+use Rattle.lowering_sizes.proofs.ProgramLemmas.{local_names, IsProcedure, AreProcedures, CallsAreThere}
 
 -- ---- calls are of procedures
 

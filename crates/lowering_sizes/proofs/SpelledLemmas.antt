@@ -1,6 +1,6 @@
 -- Whatever words a program is written as, they have a byte and a word for each region and each
 -- variable that is declared, the words of each body, and the strings of the words that are printed.
-use Rattle.std.proofs.Common.{◌≡◌, inl, inr, ℕ, suc, ◌+◌, ◌≤◌, Bool, true, false, List, [], ◌∷◌, ◌++◌, length, Option, Some, None, refl, sym, ap, ◌∙◌, subst, arith, length-append}
+use Rattle.std.proofs.Common.{◌≡◌, inl, inr, ℕ, suc, ◌+◌, ◌≤◌, Bool, true, false, List, [], ◌∷◌, ◌++◌, length, Some, refl, sym, ap, ◌∙◌, subst, arith, length-append}
 use Rattle.std.specs.Prelude.{flat_map, sum_by, find, cond}
 use Rattle.std.proofs.lemmas.List.Sums.{sum_by-cons}
 use Rattle.std.specs.Str.{bytes_eq}
@@ -10,7 +10,7 @@ use Rattle.zpl_text.specs.declared.tokens.Token.{Token}
 use Rattle.zpl_tree.specs.Word.{Word, word_text}
 use Rattle.zpl_tree.specs.Word as word
 use Rattle.zpl_tree.specs.Syntax.{Posts, NoPost, ThenPost, RegionDef, VarDef, Procedure, Decl, Config, Constant, Regions, Directions, Vars, Defined, Program}
-use Rattle.zpl_tree.specs.Spelling.{symbol, keyword, name_words, in_square, inner_words, posts_words, stmt_words, region_words, var_words, locals_words, heading_words, procedure_words, decl_words, before_end, program_words}
+use Rattle.zpl_tree.specs.Spelling.{symbol, keyword, name_words, in_square, inner_words, posts_words, stmt_words, region_words, var_words, locals_words, heading_words, decl_words, program_words}
 use Rattle.zpl_tree.specs.Grammar.{Spells, SpellsEach, SpellsRegion, SpellsMoreLocals, SpellsLocals, SpellsProcedure, SpellsDecl, HasNoPost, bare_words}
 use Rattle.zpl_grammar.specs.Texts.{IsTreeOf}
 use Rattle.zpl_grammar.specs.Written.{AreWords}
@@ -20,7 +20,7 @@ use Rattle.zpl_names.specs.Expansion.{body_tokens}
 use Rattle.lowering_sizes.specs.Sizes.{HoldsItsWords, HasTokens}
 use Rattle.lowering_sizes.specs.Texts.{string_of}
 use Rattle.lowering_sizes.proofs.ProgramLemmas.{local_names, of_found}
-use Rattle.lowering_sizes.proofs.DeclaredLemmas.{bytes, bytes_both, bytes_sum, var_bytes, vars_bytes, var_length, vars_length, local_count, region_counts, var_counts}
+use Rattle.lowering_sizes.proofs.DeclaredLemmas.{bytes, bytes_both, bytes_sum, var_bytes, vars_bytes, var_length, local_count, region_counts, var_counts}
 
 -- ---- bytes
 

@@ -63,8 +63,8 @@ pub fn exchanges_get_fewer()
 /// most twice as many words with a shift as before. There are no more temporaries than loops that
 /// read what they put, nor than arrays, and for each of these loops at most one `room` and one loop
 /// more. So the code is at most twice as large, where no two loops run one group, where loops read
-/// with a shift no more words than the expressions have, and where at least as many rows prepare for
-/// loops as loops read what they put.
+/// with a shift no more words than the expressions have, and where at least as many rows prepare
+/// for loops as loops read what they put.
 pub fn temporaries_are_few()
     ensures once { (code : Tables) → RunsOnce (normalised code) }
     ensures shifts { (code : Tables) → loop_shifts (normalised code) ≤ 2 * loop_shifts code }
