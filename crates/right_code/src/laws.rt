@@ -1,0 +1,83 @@
+//! The laws.
+ghost use Rattle.zpl_tree.specs.Syntax.{Program};
+ghost use Rattle.zpl_names.specs.Expansion.{shattered_loops};
+ghost use Rattle.zpl_meaning.specs.Program.{mean_of, outcome_of, steps_of};
+ghost use Rattle.zpl_lowering.specs.Tables.{flat_tables};
+ghost use Rattle.lock_steps.specs.Meant.{IsMeant};
+ghost use Rattle.shown_programs.specs.Text.{IsShownProgram};
+ghost use Rattle.zpl_claims.specs.Bound.{EndsInBound};
+ghost use Rattle.zpl_claims.specs.Build.{Build, OverAllLinks};
+ghost use Rattle.zpl_claims.specs.Good.{IsGood};
+ghost use Rattle.zpl_claims.specs.LockStep.{HasLockSteps};
+ghost use Rattle.zpl_compile.specs.Compile.{compiled};
+ghost use Rattle.right_code.specs.Accepted.{IsAccepted, KeepsStatic};
+
+use arranged_runs::plan_passes_keep_runs;
+use compiled_runs::compiled_plans_keep_runs;
+use lock_steps::emitted_code_comes_in_step;
+use lowered_flat::{declarations_fit, lowered_programs_are_flat, lowered_tables_are_typed};
+use lowering_fits::lowered_programs_fit;
+use lowering_loops::groups_turn_as_statements_do;
+use pass_fits::flat_programs_stay_flat;
+use pass_promises::groups_gain_no_loops;
+use planned_runs::plans_keep_runs;
+use sharable_tables::settled_tables_are_sharable;
+use shown_programs::array_programs_are_shown;
+
+/// Of an accepted program whose lowered program shows what it means, for each bound on the turns of
+/// loops, the code for a build is right over all links that it is for: some order of turns brings
+/// it in step to what is meant, for every bound; after every order it has printed a front of that,
+/// and no run is stuck; and it comes to its end in time where the meaning ends.
+pub fn code_of_meant_programs_is_right()
+    ensures in_step { (program : Program) (build : Build) → IsAccepted program build →
+        KeepsStatic (flat_tables program build.settings) →
+        IsMeant (flat_tables program build.settings) (outcome_of program build.settings) →
+        OverAllLinks build (λ links.
+        HasLockSteps (compiled build program) links (mean_of program build.settings)) }
+    ensures good { (program : Program) (build : Build) → IsAccepted program build →
+        KeepsStatic (flat_tables program build.settings) →
+        IsMeant (flat_tables program build.settings) (outcome_of program build.settings) →
+        OverAllLinks build (λ links.
+        IsGood (compiled build program) links (mean_of program build.settings)) }
+    ensures in_time { (program : Program) (build : Build) → IsAccepted program build →
+        KeepsStatic (flat_tables program build.settings) →
+        IsMeant (flat_tables program build.settings) (outcome_of program build.settings) →
+        OverAllLinks build (λ links.
+        EndsInBound (compiled build program) links (mean_of program build.settings)
+        (steps_of program build.settings) (shattered_loops program)) }
+{
+    plan_passes_keep_runs();
+    compiled_plans_keep_runs();
+    declarations_fit();
+    emitted_code_comes_in_step();
+    flat_programs_stay_flat();
+    groups_gain_no_loops();
+    groups_turn_as_statements_do();
+    lowered_programs_are_flat();
+    lowered_programs_fit();
+    lowered_tables_are_typed();
+    plans_keep_runs();
+    settled_tables_are_sharable();
+}
+
+/// So is that of a program whose statements are of the forms of which it is proved that their code
+/// goes as they do: of scalars and arrays, without operators over regions, under prefixes, and with
+/// calls.
+pub fn code_of_shown_programs_is_right()
+    ensures in_step { (program : Program) (build : Build) → IsAccepted program build →
+        KeepsStatic (flat_tables program build.settings) →
+        IsShownProgram program build.settings → OverAllLinks build (λ links.
+        HasLockSteps (compiled build program) links (mean_of program build.settings)) }
+    ensures good { (program : Program) (build : Build) → IsAccepted program build →
+        KeepsStatic (flat_tables program build.settings) →
+        IsShownProgram program build.settings → OverAllLinks build (λ links.
+        IsGood (compiled build program) links (mean_of program build.settings)) }
+    ensures in_time { (program : Program) (build : Build) → IsAccepted program build →
+        KeepsStatic (flat_tables program build.settings) →
+        IsShownProgram program build.settings → OverAllLinks build (λ links.
+        EndsInBound (compiled build program) links (mean_of program build.settings)
+        (steps_of program build.settings) (shattered_loops program)) }
+{
+    code_of_meant_programs_is_right();
+    array_programs_are_shown();
+}
