@@ -1,7 +1,7 @@
 -- The code of a border statement goes as the statement does: its rows for the region once, and then
 -- those of each array.
-use Rattle.std.proofs.Common.{◌≡◌, ◌≢◌, refl, sym, ◌∙◌, ap, subst, arith, ℕ, zero, suc, ◌+◌, ◌<◌, ◌≤◌}
-use Rattle.std.proofs.Common.{Bool, true, false, ◌&&◌, All, List, [], ◌∷◌, ◌++◌, length, map, ℤ}
+use Rattle.std.proofs.Common.{◌≡◌, ◌≢◌, refl, sym, ◌∙◌, ap, subst, arith, ℕ, zero, suc, ◌+◌, ◌<◌}
+use Rattle.std.proofs.Common.{Bool, true, false, ◌&&◌, List, [], ◌∷◌, ◌++◌, length, map, ℤ}
 use Rattle.std.proofs.Common.{Option, Some, None}
 use Rattle.std.specs.Prelude.{IsSome, slice_get, slice_index_or}
 use Rattle.std.specs.Option.{option_map}
@@ -11,7 +11,7 @@ use Rattle.zpl_nums.specs.declared.ends.End.TheVariants.{Trap}
 use Rattle.zpl_nums.specs.declared.ends.TrapKind.TheVariants.{OutsideStorage, RegionMismatch}
 use Rattle.zpl_region.specs.declared.dims.Dim.{Dim}
 use Rattle.zpl_region.specs.declared.regions.Region.{Region}
-use Rattle.zpl_region.specs.Dim.{HasStep, dim_inside_of, dim_outside_of}
+use Rattle.zpl_region.specs.Dim.{dim_inside_of, dim_outside_of}
 use Rattle.zpl_region.specs.Region.{IsRegion, IsWithinLimit, components, each, inside_of, outside_of}
 use Rattle.zpl_region.specs.Tests.{is_within_limit}
 use Rattle.zpl_region.proofs.HullLemmas.{has_steps}
@@ -32,13 +32,11 @@ use Rattle.zpl_meaning.specs.Outcome as out
 use Rattle.zpl_meaning.specs.Outcome.{Outcome}
 use Rattle.zpl_meaning.specs.Statement as mean_statement
 use Rattle.zpl_meaning.specs.Statement.{border_array, border_thing, borders, more_borders, written}
-use Rattle.node_form.specs.declared.arrays.ArrayRow.{ArrayRow}
 use Rattle.node_form.specs.declared.instructions.Instr.TheVariants as instr
 use Rattle.node_form.specs.declared.instructions.RegionForm.TheVariants as form
 use Rattle.node_form.specs.declared.tables.Tables.{Tables}
 use Rattle.node_form.specs.Control as control
 use Rattle.node_form.specs.Control.{checked}
-use Rattle.node_form.specs.Fits.{storage_of}
 use Rattle.node_form.specs.Value.{unmoved}
 use Rattle.row_runs.specs.Run.{Ends, Goes as Steps, Step, Stops}
 use Rattle.row_runs.specs.Structured as code
@@ -46,11 +44,10 @@ use Rattle.row_runs.specs.Structured.{Course, by_step, rows_do}
 use Rattle.flat_form.specs.Act.{controlled}
 use Rattle.flat_form.specs.Row as row
 use Rattle.flat_form.specs.Row.{Row}
-use Rattle.flat_form.specs.Right.{is_settled}
 use Rattle.flat_form.specs.Whole.{Whole, registers_of}
 use Rattle.zpl_lowering.specs.Where as low_where
 use Rattle.zpl_lowering.specs.Where.{Stored, Slotted, SlotCurrents, SlotEdge, Where, Next, line_of, slotted_at, slotted_or}
-use Rattle.zpl_lowering.specs.Reference.{Reference, at_place, need_of}
+use Rattle.zpl_lowering.specs.Reference.{Reference, at_place}
 use Rattle.zpl_lowering.specs.Statement as low
 use Rattle.zpl_lowering.specs.Statement.{each_border, lowered_borders, source_shift}
 use Rattle.lowering_runs.specs.Run.{decide, does, step, straight}

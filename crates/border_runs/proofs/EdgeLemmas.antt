@@ -1,15 +1,12 @@
 -- The row that sets a border does what the border statement writes.
-use Rattle.std.proofs.Common.{◌≡◌, refl, sym, ◌∙◌, ap, subst, Bool, true, ◌&&◌, All, List, [], ◌∷◌}
-use Rattle.std.proofs.Common.{length, map, ℕ, ℤ, Option, Some}
+use Rattle.std.proofs.Common.{◌≡◌, sym, ◌∙◌, ap, subst, true, ◌&&◌, All, List, [], ◌∷◌}
+use Rattle.std.proofs.Common.{length, map, ℕ, ℤ, Some}
 use Rattle.std.specs.Prelude.{if◌then◌else◌, option_and_then, slice_get, slice_set}
 use Rattle.std.specs.Option.{option_map}
-use Rattle.std.specs.List.{list_all}
 use Rattle.zpl_nums.specs.declared.ends.Border.{Border}
-use Rattle.zpl_region.specs.declared.dims.Dim.{Dim}
 use Rattle.zpl_region.specs.declared.regions.Region.{Region}
 use Rattle.zpl_region.specs.Dim.{HasStep}
 use Rattle.zpl_region.specs.Region.{IsMember, members, outside_of}
-use Rattle.zpl_region.proofs.ListLemmas.{Among}
 use Rattle.zpl_region.proofs.LawLemmas.{members_iff}
 use Rattle.zpl_region.proofs.ListLemmas.{Contains-from_among}
 use Rattle.zpl_arrays.specs.Array.{Array, element, has_place, updated}
@@ -18,13 +15,12 @@ use Rattle.zpl_arrays.specs.Reference.{lies_in}
 use Rattle.zpl_arrays.proofs.ReferenceLemmas.{lies_in_places}
 use Rattle.zpl_meaning.specs.Fields.{everywhere}
 use Rattle.zpl_meaning.specs.Statement.{written}
-use Rattle.node_form.specs.declared.arrays.ArrayRow.{ArrayRow}
 use Rattle.node_form.specs.declared.instructions.Instr.TheVariants as instr
 use Rattle.node_form.specs.declared.tables.Tables.{Tables}
 use Rattle.node_form.specs.Value.{unmoved}
-use Rattle.row_runs.specs.Run.{Step, Goes}
+use Rattle.row_runs.specs.Run.{Goes}
 use Rattle.row_runs.specs.Straight.{Every}
-use Rattle.grid_meaning.specs.Place.{held_with, moved_by, where_held, with_value, with_values}
+use Rattle.grid_meaning.specs.Place.{held_with, moved_by, where_held, with_values}
 use Rattle.flat_form.specs.Row as row
 use Rattle.flat_form.specs.Moves.{edged, found, moved_in, provided, reads_in, with_stores}
 use Rattle.flat_form.specs.Right as right

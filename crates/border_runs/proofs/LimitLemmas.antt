@@ -1,5 +1,5 @@
 -- The sources of a border that conforms are within the limit, since they lie in its region.
-use Rattle.std.proofs.Common.{◌≡◌, refl, sym, ◌∙◌, ap, subst, arith, ℕ, zero, suc, ◌+◌, ◌*◌, ◌≤◌, Bool}
+use Rattle.std.proofs.Common.{◌≡◌, refl, sym, ◌∙◌, ap, subst, arith, ℕ, zero, suc, ◌*◌, ◌≤◌, Bool}
 use Rattle.std.proofs.Common.{true, false, ◌&&◌, All, List, [], ◌∷◌, length, map, ℤ, pos, negsuc}
 use Rattle.std.proofs.Common.{neg_ℤ, ◌+ℤ◌, ◌-ℤ◌, ◌≤ℤ◌, ◌<ℤ◌, cond}
 use Rattle.std.specs.Prelude.{◌||◌, filter, if◌then◌else◌, int_lt, nat_le, unsigned_abs}
@@ -8,14 +8,14 @@ use Rattle.std.specs.Ordering.{int_eq}
 use Rattle.std.proofs.lemmas.Bool.{and_parts}
 use Rattle.std.proofs.lemmas.Bool.Decides.{Decides-int_eq}
 use Rattle.std.proofs.lemmas.Int.{ints, clamps}
-use Rattle.std.proofs.lemmas.List.Elements.{All-cons, All-head, All-nil, All-tail}
+use Rattle.std.proofs.lemmas.List.Elements.{All-cons, All-head, All-tail}
 use Rattle.zpl_nums.specs.declared.ends.Border.{Border}
 use Rattle.zpl_nums.specs.declared.ends.Border.TheVariants.{Wrap, Reflect}
 use Rattle.zpl_region.specs.declared.dims.Dim.{Dim}
 use Rattle.zpl_region.specs.declared.dims.Dim.TheVariants.{Range, Flood}
 use Rattle.zpl_region.specs.declared.regions.Region.{Region}
 use Rattle.zpl_region.specs.Dim.{HasStep, IsDimWithinLimit, coordinates, dim_inside_of, dim_met, extent, lies_within}
-use Rattle.zpl_region.specs.Region.{IsRegion, IsWithinLimit, components, each, inside_of, members, tuples}
+use Rattle.zpl_region.specs.Region.{IsRegion, IsWithinLimit, components, each, inside_of}
 use Rattle.zpl_region.specs.Tests.{is_within_limit}
 use Rattle.zpl_region.proofs.DimLemmas.{coordinates-met, pos-extent, pos-unsigned_abs}
 use Rattle.zpl_region.proofs.EndLemmas.{length-coordinates, length-tuple_count}
