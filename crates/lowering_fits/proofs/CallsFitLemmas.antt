@@ -397,7 +397,7 @@ module _ (program : Program) (settings : List Setting) (laws : Laws program)
       (given_to w scalar formals actuals) =
       subst (λ (fs : List Formal). AreGivenOf w.numbers fs (given_to w scalar formals actuals))
       (ap formals_in is.proper.called)
-      (givens_of w is.result is.currents is.edge is.reach.names
+      (givens_of w place refl (λ actual h. h) (λ actual h. h) is.reach.names
       (scalars_are_few tables w.environment w.numbers is.reach.variables) scalar formals actuals
       taken_all is.ranked) in
       let body = body_code setup entry (call_code setup depth) routine calling after in

@@ -93,6 +93,11 @@ taken_floods (flood ∷ shape) (one ∷ dims) are =
     ap (λ b. b ∷ map is_flood (take (length shape) dims)) (same_flood one ∙ are.0)
     ∙ ap (λ bs. flood ∷ bs) (taken_floods shape dims are.1)
 
+flood_told : (shape : Shape) (region : Region) → region.rank ≡ length shape
+    → AreFloods shape region.dims → flood_of region ≡ shape
+flood_told shape region rank floods =
+    ap (λ (k : ℕ). map is_flood (take k region.dims)) rank ∙ taken_floods shape region.dims floods
+
 -- ---- arrays
 
 kept_at : (arrays : List Stored) (place : ℕ) (stored : Stored) → AllKept arrays
@@ -104,13 +109,13 @@ kept_at (one ∷ arrays) (suc place) stored are e = kept_at arrays place stored 
 
 stored_told : (shape : Option Shape) (stored : Stored) → IsStoredAs shape stored
     → IsStorage stored.storage → IsStoredOf shape (Some stored)
-stored_told None stored as is = let no : ⊥ = none as.rank in absurd no
+stored_told None stored like is = let no : ⊥ = none like.rank in absurd no
   where
     none : option_map length (let n : Option Shape = None in n) ≡ Some stored.storage.rank → ⊥
     none e = cc
-stored_told (Some shape) stored as is =
-    let rank : length shape ≡ stored.storage.rank = some as.rank in
-    floods_are 3 shape stored.storage.dims is.three (as.floods shape refl)
+stored_told (Some shape) stored like is =
+    let rank : length shape ≡ stored.storage.rank = some like.rank in
+    floods_are 3 shape stored.storage.dims is.three (like.floods shape refl)
     (subst (λ (k : ℕ). drop k stored.storage.dims ≡ replicate (3 - k) padding) (sym rank) is.padded)
   where
     some : {a b : ℕ} → Some a ≡ Some b → a ≡ b
@@ -163,7 +168,7 @@ shift_is rank (d ∷ v) h = (h.1, components_same rank (d ∷ v) h.0)
 
 -- ---- what was computed before the run
 
-given_is : {A : Type 0} (outcome : Outcome A) → mean.IsGiven A outcome → IsGiven outcome
+pub given_is : {A : Type 0} (outcome : Outcome A) → mean.IsGiven A outcome → IsGiven outcome
 given_is outcome h = subst (λ o. IsGiven o) (sym h.given) tt
 
 rank_found : (all : List (Computed Region)) (one : Computed Region) → Among all one
@@ -172,6 +177,9 @@ rank_found [] one m are = absurd m
 rank_found (first ∷ all) one (inl same) are =
     subst (λ (x : Computed Region). IsRank (region_rank x)) same are.0
 rank_found (first ∷ all) one (inr m) are = rank_found all one m are.1
+
+same_region : (a b : Region) → Gives a ≡ Gives b → a ≡ b
+same_region a b e = cc
 
 module _ (program : Program) (settings : List Setting) (laws : Laws program)
     (grammar : IsProgram program) (clean : IsFaultless program)
@@ -209,13 +217,14 @@ module _ (program : Program) (settings : List Setting) (laws : Laws program)
       let fits : Fits (Some shape) (Gives given.value) =
       subst (λ (s : Option Shape). Fits s (Gives given.value)) e
       (subst (Fits (region_shape (kind_of (scope_of program routine) name))) given.given
-      (reach_fits program settings clean routine sound name)) in (
-        declared_given known name found.0 given.value found.1 outcome
-            (is_region given.value rank.0 rank.1
-            (box.0.steps, box.0.padded) box.1)
-            box.0.three,
-        ap (λ (k : ℕ). map is_flood (take k given.value.dims)) fits.rank
-            ∙ taken_floods shape given.value.dims fits.floods,
+      (reach_fits program settings clean routine sound name)) in
+      let it : IsGivenRegion known name =
+      declared_given known name found.0 given.value found.1 outcome
+      (is_region given.value rank.0 rank.1 (box.0.steps, box.0.padded) box.1) box.0.three in (
+        it,
+        subst (λ (r : Region). flood_of r ≡ shape)
+            (same_region given.value it.region (sym given.given ∙ it.named))
+            (flood_told shape given.value fits.rank fits.floods),
       )
 
   -- Declared regions and directions, for the names in reach of each procedure.

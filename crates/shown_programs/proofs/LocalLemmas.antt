@@ -283,7 +283,7 @@ module _ (tables : Tables) (n : ℕ) (setup : Setup) (entry : Entry) (base : Lis
       (subst (λ (m : ℕ). AreFreshArrays tables entry.clears m after) (omega arith)
       (c.arrays next.arrays clear))
       (room_rest tables next (code.Rows []) first (rest inner more)
-      (record { scalars = room.scalars; slots = room.slots; arrays = room.arrays }))
+      (record { scalars = room.scalars; slots = room.slots; arrays = room.arrays; temps = room.temps }))
       (subst (λ (x : Frame). IsReached x) frame reached)))
   local_goes (Bracketed bracket) name IsFramed IsReached run rest s each framed spots next now f own
       before sound kept fresh clear room reached =
@@ -338,7 +338,7 @@ module _ (tables : Tables) (n : ℕ) (setup : Setup) (entry : Entry) (base : Lis
       (subst (λ (m : ℕ). AreFresh entry.clears m after) (omega arith) (c.fresh next.scalars fresh))
       (c.arrays more.arrays (omega arith))
       (room_rest tables next (code.Rows []) first (rest inner more)
-      (record { scalars = room.scalars; slots = room.slots; arrays = room.arrays }))
+      (record { scalars = room.scalars; slots = room.slots; arrays = room.arrays; temps = room.temps }))
       (subst (λ (x : Frame). IsReached x) frame reached)))
 
   names_go : (shape : Bracket) (names : List Name) (IsFramed : Framed → Next → Type 0)

@@ -2,10 +2,11 @@
 -- text alone.
 use Rattle.std.specs.Prelude.{◌≡◌, ◌⊎◌, ℕ, zero, suc, true, false, pos, List, [], ◌∷◌, Some}
 use Rattle.zpl_nums.specs.Integer.{IsInteger}
-use Rattle.zpl_tree.specs.Syntax.{Inner, Rexpr, Dims, Prefix, Stmt, Prefixed, Stmts, NoStmt, ThenStmt, Form, Assign, Invoke, Block, If, While, Repeat, For, Border, Write, Return, Arm, Tested, Arms, NoArm, ThenArm, Otherwise, NoElse, Else, Program}
+use Rattle.zpl_tree.specs.Syntax.{Inner, Rexpr, Dims, Expr, Item, Str, Value, Prefix, Stmt, Prefixed, Stmts, NoStmt, ThenStmt, Form, Assign, Invoke, Block, If, While, Repeat, For, Border, Write, Return, Arm, Tested, Arms, NoArm, ThenArm, Otherwise, NoElse, Else, Program}
+use Rattle.zpl_names.specs.Ranks.{is_above_zero}
 use Rattle.zpl_names.specs.Scope.{kind_of, is_array}
 use Rattle.zpl_names.specs.Shapes.{prefix_rank, unknown_shapes}
-use Rattle.zpl_names.specs.Sites.{Reach, in_body, Assigned, whole_rank, handed, is_shattered}
+use Rattle.zpl_names.specs.Sites.{Reach, in_body, Assigned, Printed, whole_rank, handed, is_shattered}
 use Rattle.zpl_names.specs.Declared.{Routine, routine_named, scope_of}
 use Rattle.zpl_names.specs.Reached.{longest_chain}
 use Rattle.zpl_binding.specs.Outcome.{value_or, outcome_of}
@@ -117,34 +118,59 @@ IsCallForm IsCallable reach (For head body) = ⊥
 IsCallForm IsCallable reach (Border kind names) = ⊥
 IsCallForm IsCallable reach (Return value) = ⊥
 
+-- a scalar is printed, or an array without operators over regions
+abbrev pub IsPrintedText : Reach → Expr → Type 0
+IsPrintedText reach expr =
+    ((whole_rank reach Printed expr ≡ Some 0) × IsScalarExpr expr)
+    ⊎ ((is_above_zero (whole_rank reach Printed expr) ≡ true) × IsPlainExpr expr)
+
+abbrev pub ArePrintedTexts : Reach → List Item → Type 0
+ArePrintedTexts reach [] = Unit {0}
+ArePrintedTexts reach (Str bytes ∷ items) = ArePrintedTexts reach items
+ArePrintedTexts reach (Value expr ∷ items) =
+    IsPrintedText reach expr × ArePrintedTexts reach items
+
+abbrev pub IsPrintForm : Reach → Form → Type 0
+IsPrintForm reach (Write line items) = ArePrintedTexts reach items
+IsPrintForm reach (Assign name op value) = ⊥
+IsPrintForm reach (Invoke name actuals) = ⊥
+IsPrintForm reach (Block body) = ⊥
+IsPrintForm reach (If arms otherwise) = ⊥
+IsPrintForm reach (While test body) = ⊥
+IsPrintForm reach (Repeat body until test) = ⊥
+IsPrintForm reach (For head body) = ⊥
+IsPrintForm reach (Border kind names) = ⊥
+IsPrintForm reach (Return value) = ⊥
+
 -- A form that is proved: further ones are further lines.
 abbrev pub IsLeafForm : (List ℕ → Type 0) → Reach → Form → Type 0
 IsLeafForm IsCallable reach form =
     IsPlainForm reach form
-    ⊎ IsCallForm IsCallable reach form
+    ⊎ (IsPrintForm reach form
+    ⊎ IsCallForm IsCallable reach form)
 
 -- ---- procedures and programs
 
--- the body of a procedure, where these may be called
-abbrev pub IsShownRoutine : Program → (List ℕ → Type 0) → Routine → Type 0
-IsShownRoutine program IsCallable routine =
-    IsShownStmt (IsLeafForm IsCallable) (in_body (scope_of program routine) unknown_shapes)
-    routine.procedure.body
+module _ (IsLeaf : (List ℕ → Type 0) → Reach → Form → Type 0) (program : Program) where
+  -- the body of a procedure, where these may be called
+  abbrev pub IsShownRoutine : (List ℕ → Type 0) → Routine → Type 0
+  IsShownRoutine IsCallable routine =
+      IsShownStmt (IsLeaf IsCallable) (in_body (scope_of program routine) unknown_shapes)
+      routine.procedure.body
 
--- the name stands for such a procedure, down a chain of so many calls
-pub record IsRoutine (program : Program) (IsCallable : List ℕ → Type 0) (name : List ℕ)
-    : Type 0 where
-  pub routine : Routine
-  pub named : routine_named program name ≡ Some routine
-  pub shown : IsShownRoutine program IsCallable routine
+  -- the name stands for such a procedure, down a chain of so many calls
+  pub record IsRoutine (IsCallable : List ℕ → Type 0) (name : List ℕ) : Type 0 where
+    pub routine : Routine
+    pub named : routine_named program name ≡ Some routine
+    pub shown : IsShownRoutine IsCallable routine
 
-abbrev pub IsShownCall : Program → ℕ → List ℕ → Type 0
-IsShownCall program zero name = ⊥
-IsShownCall program (suc depth) name = IsRoutine program (IsShownCall program depth) name
+  abbrev pub IsShownCall : ℕ → List ℕ → Type 0
+  IsShownCall zero name = ⊥
+  IsShownCall (suc depth) name = IsRoutine (IsShownCall depth) name
 
 -- A program of these forms, under settings: all that its procedures do, from the entry procedure on,
 -- is of them. Configs and constants have values of 64 bits.
 pub record IsShownProgram (program : Program) (settings : List Setting) : Type 0 where
   pub values : (text : List ℕ)
       → IsInteger (value_or (pos 0) (outcome_of (pos 0) (known_of program settings).values text))
-  pub entry : IsShownCall program longest_chain program.name.text
+  pub entry : IsShownCall IsLeafForm program longest_chain program.name.text

@@ -5,3 +5,5 @@
 #![tactic(auto)]
 
 mod laws;
+
+pub use laws::{array_programs_are_shown, what_is_named_is_given};
