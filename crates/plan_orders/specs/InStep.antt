@@ -80,3 +80,10 @@ HoldsFew code most =
     × IsInStep code None (plan_run code (Some most) a n)
     (least_moves (stops_within code (Some most) a n) a n) (run_most code a n) order
     × HoldsAtMost (system_over code None) order most
+
+-- Over links of any number of messages the plan shows the same, and stops so.
+abbrev pub ShowsFreely : Tables → ℕ → Type 0
+ShowsFreely code most =
+    (a n : ℕ) → (plan_run code (Some most) a n).stop ≢ Wrong
+    → (plan_run code None a n ≡ plan_run code (Some most) a n)
+    × (stops_within code None a n ≡ stops_within code (Some most) a n)
