@@ -61,8 +61,8 @@ abbrev pub some_turns : ℕ → ℕ
 some_turns zero = 1
 some_turns (suc n) = suc n
 
--- There is such an order for each run of at most a jumps and tests, and n turns of each loop within a
--- group, where one more jump, and one turn at least, isn't wrong.
+-- There is such an order for each run of at most a jumps and tests, and n turns of each loop within
+-- a group, where one more jump, and one turn at least, isn't wrong.
 abbrev pub ComesInStep : Tables → Option ℕ → Type 0
 ComesInStep code links =
     (a n : ℕ) → (plan_run code links (suc a) (some_turns n)).stop ≢ Wrong

@@ -33,9 +33,9 @@ pub fn plans_come_in_step()
     states_are_kept();
 }
 
-/// Where a plan isn't wrong over links of so many messages, from one on, such an order does the same
-/// over links of any number of messages, and no link ever holds more: no more than exchanges are
-/// open at once, or than one. The plan shows the same over links of any number.
+/// Where a plan isn't wrong over links of so many messages, from one on, such an order does the
+/// same over links of any number of messages, and no link ever holds more: no more than exchanges
+/// are open at once, or than one. The plan shows the same over links of any number.
 pub fn links_hold_few()
     ensures holds { (code : Code) (most : ℕ) → 1 ≤ most → Fits code → HoldsFew code most }
     ensures same { (code : Code) (most : ℕ) → ShowsFreely code most }
