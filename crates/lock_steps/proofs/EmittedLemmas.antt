@@ -1,5 +1,5 @@
 -- Node code comes along as its plan.
-use Rattle.std.proofs.Common.{◌≡◌, ℕ, ◌≤◌, Bool, true, false, List, Option, All, length, arith}
+use Rattle.std.proofs.Common.{ℕ, ◌≤◌, Bool, true, false, List, Option, All, length, arith}
 use Rattle.std.proofs.lemmas.List.{length-map}
 use Rattle.node_form.specs.declared.tables.Tables.{Tables}
 use Rattle.grid_meaning.specs.State.{HasThree}

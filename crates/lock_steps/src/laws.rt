@@ -47,10 +47,10 @@ pub fn emitted_code_comes_in_order()
     node_code_comes_as_planned();
 }
 
-/// Where a flat program shows what is meant, and a plan that fits shows what the flat program shows,
-/// the plan's node code has an order in step for every bound on the turns of loops, none among them.
-/// So it is right after every order; and it comes to its end in time, where no group of the plan has
-/// more loops than are told.
+/// Where a flat program shows what is meant, and a plan that fits shows what the flat program
+/// shows, the plan's node code has an order in step for every bound on the turns of loops, none
+/// among them. So it is right after every order; and it comes to its end in time, where no group of
+/// the plan has more loops than are told.
 pub fn emitted_code_comes_in_step()
     ensures in_step { (tree : Bool) (grid : List ℕ) (flat plan : Code) (links : Option ℕ)
         (outcomes : ℕ → Outcome) →

@@ -20,3 +20,4 @@ pub mod RemapRowLemmas
 pub mod RowLemmas
 pub mod ReachLemmas
 pub mod RoomLemmas
+pub mod LinkLemmas

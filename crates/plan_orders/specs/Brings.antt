@@ -113,8 +113,8 @@ pub record AllWait (code : Tables) (links : Option ℕ) (one : Scene Local Messa
   pub longest_goes : MovesIn (system_over code links) other longest
 
 -- ---- a row of a plan
--- With so many turns of each loop. Where a loop that may make none wants one, all stay in front of it:
--- what they do next is what they do with one turn.
+-- With so many turns of each loop. Where a loop that may make none wants one, all stay in front of
+-- it: what they do next is what they do with one turn.
 pub data Stopped (code : Tables) (links : Option ℕ) (n : ℕ) (one : Scene Local Message)
     (Premise : Type 0) (most : ℕ) : End → Type 0 where
   ComesToEnd : {ending : End} → AllEnd code links one ending 1 Premise most []

@@ -61,8 +61,8 @@ abbrev pub some_turns : ℕ → ℕ
 some_turns zero = 1
 some_turns (suc n) = suc n
 
--- There is such an order for each run of at most a jumps and tests, and n turns of each loop within a
--- group, where one more jump, and one turn at least, isn't wrong.
+-- There is such an order for each run of at most a jumps and tests, and n turns of each loop within
+-- a group, where one more jump, and one turn at least, isn't wrong.
 abbrev pub ComesInStep : Tables → Option ℕ → Type 0
 ComesInStep code links =
     (a n : ℕ) → (plan_run code links (suc a) (some_turns n)).stop ≢ Wrong
@@ -80,3 +80,10 @@ HoldsFew code most =
     × IsInStep code None (plan_run code (Some most) a n)
     (least_moves (stops_within code (Some most) a n) a n) (run_most code a n) order
     × HoldsAtMost (system_over code None) order most
+
+-- Over links of any number of messages the plan shows the same, and stops so.
+abbrev pub ShowsFreely : Tables → ℕ → Type 0
+ShowsFreely code most =
+    (a n : ℕ) → (plan_run code (Some most) a n).stop ≢ Wrong
+    → (plan_run code None a n ≡ plan_run code (Some most) a n)
+    × (stops_within code None a n ≡ stops_within code (Some most) a n)

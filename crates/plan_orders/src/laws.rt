@@ -6,7 +6,7 @@ ghost use Rattle.grid_meaning.specs.Grid.{IsCapacity};
 ghost use Rattle.node_form.specs.Fits.{Fits};
 ghost use Rattle.node_form.specs.declared.tables.Tables.{Tables as Code};
 ghost use Rattle.plan_orders.specs.Brings.{HaveOrders};
-ghost use Rattle.plan_orders.specs.InStep.{ComesInStep, HoldsFew};
+ghost use Rattle.plan_orders.specs.InStep.{ComesInStep, HoldsFew, ShowsFreely};
 
 use grid_meaning::states_are_kept;
 
@@ -24,8 +24,8 @@ pub fn rows_have_orders()
 /// where it stops, unless the run with one jump more, and one turn at least, is wrong: what is
 /// printed is what the run prints; they have ended as it does, with all links empty, or each rests
 /// or has made at least as many moves as the run made jumps and tests, or as a loop that wants more
-/// was given turns; and none is stuck. Where the run wants no more, each has made at most so many moves for each row
-/// that the run may come to.
+/// was given turns; and none is stuck. Where the run wants no more, each has made at most so many
+/// moves for each row that the run may come to.
 pub fn plans_come_in_step()
     ensures { (code : Code) (links : Option ℕ) → IsCapacity links → Fits code
         → ComesInStep code links }
@@ -33,11 +33,12 @@ pub fn plans_come_in_step()
     states_are_kept();
 }
 
-/// Where a plan isn't wrong over links of so many messages, from one on, such an order does the same
-/// over links of any number of messages, and no link ever holds more: no more than exchanges are
-/// open at once, or than one.
+/// Where a plan isn't wrong over links of so many messages, from one on, such an order does the
+/// same over links of any number of messages, and no link ever holds more: no more than exchanges
+/// are open at once, or than one. The plan shows the same over links of any number.
 pub fn links_hold_few()
-    ensures { (code : Code) (most : ℕ) → 1 ≤ most → Fits code → HoldsFew code most }
+    ensures holds { (code : Code) (most : ℕ) → 1 ≤ most → Fits code → HoldsFew code most }
+    ensures same { (code : Code) (most : ℕ) → ShowsFreely code most }
 {
     plans_come_in_step();
 }
