@@ -18,9 +18,7 @@ use lock_steps::emitted_code_comes_in_step;
 use lowered_flat::{declarations_fit, lowered_programs_are_flat, lowered_tables_are_typed};
 use lowering_fits::lowered_programs_fit;
 use lowering_loops::groups_turn_as_statements_do;
-use pass_fits::flat_programs_stay_flat;
 use pass_promises::groups_gain_no_loops;
-use planned_runs::plans_keep_runs;
 use sharable_tables::settled_tables_are_sharable;
 use shown_programs::array_programs_are_shown;
 
@@ -50,13 +48,11 @@ pub fn code_of_meant_programs_is_right()
     compiled_plans_keep_runs();
     declarations_fit();
     emitted_code_comes_in_step();
-    flat_programs_stay_flat();
     groups_gain_no_loops();
     groups_turn_as_statements_do();
     lowered_programs_are_flat();
     lowered_programs_fit();
     lowered_tables_are_typed();
-    plans_keep_runs();
     settled_tables_are_sharable();
 }
 
