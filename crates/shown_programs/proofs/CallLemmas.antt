@@ -1,6 +1,6 @@
 -- Calls of procedures under current regions: what is known where one is made is handed on to what is
 -- called.
-use Rattle.std.proofs.Common.{◌≡◌, ℕ, ◌+◌, ◌≤◌, ℤ, List, [], map, length, sym, ap, ◌∙◌, subst, arith}
+use Rattle.std.proofs.Common.{◌≡◌, ℕ, ◌+◌, ℤ, List, [], map, length, sym, ap, ◌∙◌, subst, arith}
 use Rattle.std.specs.Prelude.{Some}
 use Rattle.zpl_tree.specs.Syntax.{Name, Exprs, Stmt, Form, Assign, Invoke, Block, If, While, Repeat, For, Border, Write, Return, Program}
 use Rattle.zpl_tree.specs.Grammar.{IsProgram}

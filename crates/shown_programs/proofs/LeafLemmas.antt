@@ -1,24 +1,23 @@
 -- The forms that are proved suit their places, and go as their code does.
-use Rattle.std.proofs.Common.{◌≡◌, ◌⊎◌, inl, inr, ℕ, true, ℤ, List, [], ◌∷◌, ◌++◌, length, Option, Some, None}
+use Rattle.std.proofs.Common.{◌≡◌, ◌⊎◌, inl, inr, ℕ, true, List, Option, Some, None}
 use Rattle.std.proofs.Common.{refl, sym, ap, ◌∙◌, subst}
 use Rattle.std.specs.Option.{option_map}
 use Rattle.zpl_nums.specs.declared.operators.Op.{Op}
 use Rattle.zpl_region.specs.declared.regions.Region.{Region}
-use Rattle.zpl_tree.specs.Syntax.{Name, Base, Expr, Number, Truth, Coord, Named, Shifted, Around, Remap, Call, Paren, Neg, Not, Abs, Pair, Reduce, Scan, Flood, Exprs, Prefix, Stmt, Form, Assign, Invoke, Block, If, While, Repeat, For, Border, Write, Return, Program}
+use Rattle.zpl_tree.specs.Syntax.{Name, Expr, Number, Truth, Coord, Named, Shifted, Around, Remap, Call, Paren, Neg, Not, Abs, Pair, Reduce, Scan, Flood, Exprs, Prefix, Stmt, Form, Assign, Invoke, Block, If, While, Repeat, For, Border, Write, Return, Program}
 use Rattle.zpl_tree.specs.Grammar.{IsProgram}
 use Rattle.zpl_names.specs.Kinds as kind
 use Rattle.zpl_names.specs.Kinds.{Kind, Rank, Formal, Signature}
 use Rattle.zpl_names.specs.Scope.{kind_of, is_array}
 use Rattle.zpl_names.specs.Shapes.{Shapes}
 use Rattle.zpl_names.specs.Declared.{Routine, IsProcedureOf, routine_named}
-use Rattle.zpl_names.specs.Sites.{Reach, Site, Assigned, AtStmt, expr_sites, form_sites, value_sites, whole_rank, whole_sites}
+use Rattle.zpl_names.specs.Sites.{Reach, Site, Assigned, expr_sites, value_sites, whole_rank, whole_sites}
 use Rattle.zpl_names.specs.Accepted.{IsFaultless}
-use Rattle.zpl_names.specs.Faults.{flood_clashes}
 use Rattle.zpl_binding.specs.Settings.{Setting}
-use Rattle.zpl_meaning.specs.Store.{Thing, Scalar, ArrayAt, Fixed, Environment, Store, thing_of}
+use Rattle.zpl_meaning.specs.Store.{Thing, Scalar, ArrayAt, Fixed, Environment, thing_of}
 use Rattle.zpl_meaning.specs.Context.{Currents, Edge, Setup, Place, reach_of}
 use Rattle.zpl_meaning.specs.Points.{assigned_expr}
-use Rattle.zpl_meaning.specs.Calls.{formals_in, actual_thing, value_exprs}
+use Rattle.zpl_meaning.specs.Calls.{formals_in, actual_thing}
 use Rattle.zpl_meaning.specs.Proper.{IsArray, IsVariable, IsPlainAssign, IsProperAssign, IsProperStmt, AreProperActuals}
 use Rattle.zpl_meaning.specs.Statement as mean
 use Rattle.zpl_meaning.specs.Visited.{IsVisited, AsStatement, Calls, body_place, handed_at}
@@ -35,7 +34,7 @@ use Rattle.zpl_lowering.specs.Statement.{given_to}
 use Rattle.lowering_runs.specs.Seen.{Spot, seen_thing}
 use Rattle.lowering_runs.specs.Goes.{World, Goes}
 use Rattle.lowering_runs.specs.Called.{CallsAgree, world_at}
-use Rattle.lowering_runs.specs.Leaves.{IsScalarAssigned, AreScalarItems, ScalarLeaf}
+use Rattle.lowering_runs.specs.Leaves.{ScalarLeaf}
 use Rattle.lowering_runs.proofs.SuitLemmas.{either_goes, FormGoes}
 use Rattle.lowering_runs.proofs.StatementLemmas.{scalar_at, items_scalar, proper_plain, actuals_served, scalar_leaves}
 use Rattle.array_runs.specs.Floods.{IsArrayServed}
@@ -43,13 +42,13 @@ use Rattle.prefix_runs.specs.Plain.{PlainLeaf, ArrayLeaf}
 use Rattle.prefix_runs.proofs.PlainLemmas.{array_leaves}
 use Rattle.print_runs.specs.Printed.{PrintLeaf}
 use Rattle.print_runs.proofs.WriteLemmas.{print_leaves}
-use Rattle.served_places.specs.Told.{IsSeenFrom, AreFree, IsPlainExpr, place_of}
+use Rattle.served_places.specs.Told.{IsSeenFrom, IsPlainExpr, place_of}
 use Rattle.served_places.proofs.ToldLemmas.{array_served}
 use Rattle.served_places.proofs.CleanLemmas.{array_there}
 use Rattle.lowering_fits.proofs.KeptLemmas.{AreGivenOf}
 use Rattle.lowering_fits.proofs.ReachLemmas.{givens_of}
 use Rattle.shown_programs.specs.Text.{IsPlainForm, IsCallForm, IsLeafForm}
-use Rattle.shown_programs.proofs.CallLemmas.{setup, IsKnownAt, IsEntered, IsCalledFrom, CallsGo, IsToldInvoke, CallLeaf, call_leaves}
+use Rattle.shown_programs.proofs.CallLemmas.{setup, IsToldInvoke, CallLeaf, call_leaves}
 use Rattle.shown_programs.proofs.PlaceLemmas.{IsPlaced, placed_proper, placed_ranked, placed_inside, each_free}
 use Rattle.shown_programs.proofs.PrintedLemmas.{print_suits}
 use Rattle.shown_programs.proofs.RoutineLemmas.{AreLeaves}

@@ -1,37 +1,36 @@
 -- The code of a procedure goes as a call of it does, down any chain of calls, where forms that have no
 -- statements in them do.
-use Rattle.std.proofs.Common.{◌≡◌, ℕ, zero, suc, ◌+◌, ◌≤◌, ◌<◌, Bool, true, pos, List, [], ◌∷◌, ◌++◌}
+use Rattle.std.proofs.Common.{◌≡◌, ℕ, zero, suc, ◌+◌, ◌≤◌, ◌<◌, Bool, true, List, [], ◌∷◌, ◌++◌}
 use Rattle.std.proofs.Common.{length, map, Option, Some, None, refl, sym, ap, ◌∙◌, subst, arith}
 use Rattle.std.proofs.Common.{append-nil, length-append}
-use Rattle.std.specs.Prelude.{slice_get, IsSome, flat_map, Contains}
+use Rattle.std.specs.Prelude.{IsSome, flat_map}
 use Rattle.std.specs.Option.{option_map}
-use Rattle.zpl_region.specs.declared.regions.Region.{Region}
 use Rattle.zpl_tree.specs.Syntax.{Name, Prefix, Bracket, NoBracket, Bracketed, Stmt, Form, Param, VarDef, Program}
 use Rattle.zpl_tree.specs.Grammar.{IsProgram}
-use Rattle.zpl_names.specs.Kinds.{Signature, Formal}
+use Rattle.zpl_names.specs.Kinds.{Signature}
 use Rattle.zpl_names.specs.Scope.{Entry}
 use Rattle.zpl_names.specs.Shapes.{Shapes, unknown_shapes, variable_kind}
 use Rattle.zpl_names.specs.Sites.{Reach, in_body}
-use Rattle.zpl_names.specs.Declared.{Routine, IsProcedureOf, head_scope, entry_for, own_entries, routine_named, routines_of, scope_of}
+use Rattle.zpl_names.specs.Declared.{Routine, IsProcedureOf, head_scope, entry_for, own_entries, routines_of, scope_of}
 use Rattle.zpl_names.specs.Expansion.{FormalName, formal_names}
 use Rattle.zpl_names.specs.Accepted.{IsFaultless}
 use Rattle.zpl_names.proofs.ListLemmas.{Among}
 use Rattle.zpl_binding.specs.Settings.{Setting}
-use Rattle.zpl_meaning.specs.Store.{Thing, Names, Environment, Store, thing_of, cut_back}
-use Rattle.zpl_meaning.specs.Context.{Over, Currents, Edge, Setup, Place, reach_of}
+use Rattle.zpl_meaning.specs.Store.{Thing, Names, Environment, Store, cut_back}
+use Rattle.zpl_meaning.specs.Context.{Currents, Edge, Setup, Place, reach_of}
 use Rattle.zpl_meaning.specs.Outcome.{Outcome}
 use Rattle.zpl_meaning.specs.Variables.{Frame, with_variables}
-use Rattle.zpl_meaning.specs.Calls.{Called, Handed, entered, place_in, with_formals}
+use Rattle.zpl_meaning.specs.Calls.{Called, entered, place_in}
 use Rattle.zpl_meaning.specs.Program.{returned, run_routine, call_at}
 use Rattle.zpl_meaning.specs.Proper.{IsProperStmt}
 use Rattle.zpl_meaning.specs.Statement as mean
 use Rattle.zpl_meaning.specs.Visited.{IsVisited}
 use Rattle.zpl_meaning.proofs.VisitLemmas.{Laws}
 use Rattle.meaning_ranks.specs.Ranked.{IsRankedStmt}
-use Rattle.meaning_ranks.proofs.PlaceLemmas.{IsAt, found_routine}
+use Rattle.meaning_ranks.proofs.PlaceLemmas.{found_routine}
 use Rattle.node_form.specs.declared.tables.Tables.{Tables}
 use Rattle.flat_form.specs.Whole.{Whole}
-use Rattle.zpl_lowering.specs.Where.{Where, Next, Stored, Numbers, SlotCurrents, Slotted}
+use Rattle.zpl_lowering.specs.Where.{Where, Next, Stored, Slotted}
 use Rattle.zpl_lowering.specs.Lowered.{Lowered}
 use Rattle.zpl_lowering.specs.Statement.{Given, Valued, Copied, Referring, Calling, lowered}
 use Rattle.zpl_lowering.specs.Program as low
@@ -40,8 +39,8 @@ use Rattle.lowering_runs.specs.Seen.{Spot, Sight, seen_place, seen_store, seen_n
 use Rattle.lowering_runs.specs.Run.{does}
 use Rattle.lowering_runs.specs.Agrees.{Agrees}
 use Rattle.lowering_runs.specs.Stands.{Misses, IsBefore, array_numbers, AreKnown, AreDeclared, Stands, HasRoom, IsSound, Keeps, IsLike, IsHeld}
-use Rattle.lowering_runs.specs.Frames.{seen_frame, seen_given, AreGiven}
-use Rattle.lowering_runs.specs.Goes.{World, Goes}
+use Rattle.lowering_runs.specs.Frames.{seen_frame, AreGiven}
+use Rattle.lowering_runs.specs.Goes.{World}
 use Rattle.lowering_runs.specs.Called.{calling_at, called_at, world_at}
 use Rattle.lowering_runs.proofs.AgreeLemmas.{stored_agrees}
 use Rattle.lowering_runs.proofs.FitLemmas.{all_taken_on, currents_kept, keeps_all, held_on}
@@ -49,10 +48,8 @@ use Rattle.lowering_runs.proofs.FrameLemmas.{map_append, numbered_append, names_
 use Rattle.lowering_runs.proofs.NumberLemmas.{rises_on}
 use Rattle.lowering_runs.proofs.SuitLemmas.{FormGoes}
 use Rattle.lowering_runs.proofs.ValueLemmas.{thing_seen}
-use Rattle.prefix_runs.specs.Under.{IsUnder}
 use Rattle.prefix_runs.proofs.PlainLemmas.{suited_agrees}
-use Rattle.lowering_runs.specs.Suits.{SuitsStmt}
-use Rattle.served_places.specs.Told.{IsSeenFrom, IsTold, place_of}
+use Rattle.served_places.specs.Told.{IsSeenFrom, place_of}
 use Rattle.served_places.specs.Given.{KnowsGiven}
 use Rattle.array_runs.specs.Reads.{IsShift}
 use Rattle.zpl_names.specs.Ranks.{dir_rank}
@@ -61,7 +58,7 @@ use Rattle.zpl_meaning.specs.Regions.{vector_in}
 use Rattle.lowering_fits.specs.Storages.{IsStorage, AllKept}
 use Rattle.lowering_fits.specs.Declarations.{FitAllDeclared}
 use Rattle.lowering_fits.specs.Whole.{FitsVars, AllVars, given_frames, local_frame, name_frames, local_frames}
-use Rattle.lowering_fits.proofs.KeptLemmas.{Grows, grows_none, HasKept, AreKept, AreGivenOf, Nothing, formals_kept, locals_kept}
+use Rattle.lowering_fits.proofs.KeptLemmas.{grows_none, HasKept, AreGivenOf, Nothing, formals_kept, locals_kept}
 use Rattle.lowering_fits.proofs.ReachLemmas.{names_fit, scalars_few}
 use Rattle.lowering_fits.proofs.CallsFitLemmas.{globals_grow}
 use Rattle.lowering_fits.proofs.ProgramFitLemmas.{vars_fit}
@@ -69,7 +66,7 @@ use Rattle.shown_programs.specs.Text.{IsShownStmt, IsRoutine, IsShownCall}
 use Rattle.shown_programs.proofs.FrameLemmas.{Framing, apart_in, arrays_more, cut_seen, longer_spots, givens_framed}
 use Rattle.shown_programs.proofs.LocalLemmas.{AreFresh, AreFreshArrays, GoesOn, locals_go}
 use Rattle.shown_programs.proofs.KnownLemmas.{arrays_told, mask_grown}
-use Rattle.shown_programs.proofs.CallLemmas.{setup, IsKnownAt, IsEntered, IsCalledFrom, CallsGo}
+use Rattle.shown_programs.proofs.CallLemmas.{setup, IsKnownAt, IsEntered, CallsGo}
 use Rattle.shown_programs.proofs.PlaceLemmas.{IsPlaced, IsGivenStmt, stmt_suits}
 
 -- ---- storages that are kept
