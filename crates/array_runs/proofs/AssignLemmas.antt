@@ -70,7 +70,7 @@ each_read f (one ∷ words) h =
     ∙ ap (λ b. b && list_all f (flat_map word_reads words)) h.0
     ∙ each_read f words h.1
 
-all_read : (f : Read → Bool) (exprs : List Words)
+pub all_read : (f : Read → Bool) (exprs : List Words)
     → Every (λ (words : Words). Every (λ one. list_all f (word_reads one) ≡ true) words) exprs
     → list_all f (flat_map (λ expr. flat_map word_reads expr) exprs) ≡ true
 all_read f [] h = refl

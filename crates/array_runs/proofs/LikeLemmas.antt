@@ -18,11 +18,11 @@ use Rattle.array_runs.proofs.StoredLemmas.{index_of_found}
 
 -- ---- lists
 
-abbrev index_if : {X : Type 0} → X → Option X → X
+abbrev pub index_if : {X : Type 0} → X → Option X → X
 index_if d None = d
 index_if d (Some x) = x
 
-index_is : {X : Type 0} (xs : List X) (k : ℕ) (d : X)
+pub index_is : {X : Type 0} (xs : List X) (k : ℕ) (d : X)
     → slice_index_or xs k d ≡ index_if d (slice_get xs k)
 index_is [] zero d = refl
 index_is [] (suc k) d = refl
