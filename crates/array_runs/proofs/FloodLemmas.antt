@@ -85,7 +85,7 @@ flood_rank slots rank slotted c =
 
 -- ---- dimension by dimension
 
-each_matches : (storage dims : List Dim) → map is_flood storage ≡ map is_flood dims
+pub each_matches : (storage dims : List Dim) → map is_flood storage ≡ map is_flood dims
     → EachMatches storage dims
 each_matches [] [] e = tt
 each_matches [] (one ∷ dims) e = tt
@@ -136,7 +136,7 @@ module _ (w : Where) (slots : List Region) (rank : ℕ) (slotted : Slotted)
   element shift (Some (ArrayAt place home)) h = readable shift (slice_get w.numbers.arrays place) h
   element shift None h = tt
 
-  elementwise : (expr : Expr) → IsElementwiseAs w slotted expr → IsElementwise w c.region expr
+  pub elementwise : (expr : Expr) → IsElementwiseAs w slotted expr → IsElementwise w c.region expr
   elementwise (Number at value) h = tt
   elementwise (Truth at value) h = tt
   elementwise (Coord at k) h = h

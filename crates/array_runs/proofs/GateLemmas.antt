@@ -99,7 +99,7 @@ once_every P (one ∷ rest) h = (
 
 module _ (tables : Tables) (n : ℕ) (whole : Whole)
     (settled : (k : ℕ) → is_settled whole k ≡ true) (line : ℕ) where
-  abbrev gated : Bool → Step Whole
+  abbrev pub gated : Bool → Step Whole
   gated true = Goes [] whole
   gated false = Stops (Ends (Trap OutsideStorage line))
 
@@ -133,7 +133,7 @@ module _ (tables : Tables) (n : ℕ) (whole : Whole)
   two_gates true b course = refl
   two_gates false b course = refl
 
-  each_gate : (refs : List Reference) (rest : List Row) → Every (IsThere tables whole) refs
+  pub each_gate : (refs : List Reference) (rest : List Row) → Every (IsThere tables whole) refs
       → rows_do (step tables n) (decide tables n) (map (need_of line) refs ++ rest) whole
       ≡ gate (list_all (holds tables whole) refs) line whole
       (rows_do (step tables n) (decide tables n) rest whole)

@@ -29,7 +29,7 @@ index_is [] (suc k) d = refl
 index_is (x ∷ xs) zero d = refl
 index_is (x ∷ xs) (suc k) d = index_is xs k d
 
-zip_new : (rows : List ArrayRow) (stores : List Array) (k : ℕ) (row : ArrayRow) (new : Array)
+pub zip_new : (rows : List ArrayRow) (stores : List Array) (k : ℕ) (row : ArrayRow) (new : Array)
     → slice_get rows k ≡ Some row → IsStoreOf row new → AllZip IsStoreOf rows stores
     → AllZip IsStoreOf rows (slice_set stores k new)
 zip_new [] [] k row new e h all = tt
@@ -50,7 +50,7 @@ module _ (before after : Whole) where
   abbrev seen_after : List Stored → List Array
   seen_after arrays = map (λ (one : Stored). array_in after one.array) arrays
 
-  same_arrays : (from : ℕ) (arrays : List Stored) (to : ℕ) → Rises from (array_numbers arrays) to
+  pub same_arrays : (from : ℕ) (arrays : List Stored) (to : ℕ) → Rises from (array_numbers arrays) to
       → ((j : ℕ) → from ≤ j → array_in after j ≡ array_in before j)
       → seen_after arrays ≡ seen_before arrays
   same_arrays from [] to h other = refl

@@ -68,7 +68,7 @@ pub record IsIn (now : Whole) (k : ℕ) (row : ArrayRow) : Type 0 where
   pub found : slice_get now.stores k ≡ Some store
   pub of : IsStoreOf row store
 
-zip_at : (rows : List ArrayRow) (stores : List Array) (k : ℕ) (row : ArrayRow)
+pub zip_at : (rows : List ArrayRow) (stores : List Array) (k : ℕ) (row : ArrayRow)
     → AllZip IsStoreOf rows stores → slice_get rows k ≡ Some row
     → (store : Array) × (slice_get stores k ≡ Some store) × IsStoreOf row store
 zip_at [] [] zero row h e = cc

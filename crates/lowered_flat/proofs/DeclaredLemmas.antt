@@ -55,6 +55,9 @@ floods_ranges (flood ∷ shape) (dim.Range lo hi step align ∷ dims) are none =
 floods_ranges (flood ∷ shape) (dim.Flood ∷ dims) are none =
     absurd (true≢false (are.0 ∙ (no_either flood (list_any (λ flood. flood) shape) none).0))
 
+same_one : (a b : Shape) → Some a ≡ Some b → a ≡ b
+same_one a b e = cc
+
 -- ---- one array
 
 -- what is asked of a home box and a storage
@@ -66,14 +69,17 @@ AreParts shape home storage =
 stored_as : (shape : Option Shape) (region storage : Region) → Fits shape (Gives region) →
     IsArrayRank (option_map length shape) → storage.rank ≡ region.rank →
     (AllRanges (take region.rank region.dims) → AllRanges (take storage.rank storage.dims)) →
+    ((one : Shape) → AreFloods one region.dims → AreFloods one storage.dims) →
     IsStoredAs shape (record { array = 0; storage = storage })
     × (option_map length shape ≡ Some region.rank)
-stored_as None region storage fits is same ranges = absurd is
-stored_as (Some shape) region storage fits is same ranges = (
+stored_as None region storage fits is same ranges floods = absurd is
+stored_as (Some shape) region storage fits is same ranges floods = (
   record {
     rank = ap Some (sym fits.rank ∙ sym same);
     ranges = λ none. ranges (subst (λ n. AllRanges (take n region.dims)) (sym fits.rank)
         (floods_ranges shape region.dims fits.floods none));
+    floods = λ one e. subst (λ s. AreFloods s storage.dims) (same_one shape one e)
+        (floods shape fits.floods);
   },
   ap Some (sym fits.rank),
 )
@@ -178,7 +184,7 @@ module _ (program : Program) (settings : List Setting) (clean : IsFaultless prog
       let kept : IsStorage storage =
       storage_is limits known borders inner (known_good program settings) storage given.given
       (subst IsRank (sym like.0) rank) in
-      let stored = stored_as shape region storage fits ranked like.0 like.1 in
+      let stored = stored_as shape region storage fits ranked like.0 like.1 like.2 in
       let parts : AreParts shape (hull region) storage = (
         stored.0,
         home_fits inner region storage one.given given.given rank kept,

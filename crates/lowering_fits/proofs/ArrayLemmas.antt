@@ -5,6 +5,7 @@ use Rattle.std.specs.List.{AllByRecursion}
 use Rattle.std.specs.Option.{IsSomeAnd}
 use Rattle.std.specs.Int.{int_max}
 use Rattle.std.proofs.lemmas.Int.{ints, clamps}
+use Rattle.std.proofs.lemmas.List.{length-map}
 use Rattle.std.proofs.lemmas.List.Elements.{All-append, All-cons, All-nil, All-head, All-tail, All-from_recursion}
 use Rattle.zpl_region.specs.declared.dims.Dim.{Dim}
 use Rattle.zpl_region.specs.declared.dims.Dim.TheVariants as dim
@@ -14,7 +15,7 @@ use Rattle.zpl_region.specs.Region.{padding, IsWithinLimit}
 use Rattle.node_form.specs.declared.arrays.ArrayDim.{ArrayDim}
 use Rattle.node_form.specs.declared.arrays.ArrayRow.{ArrayRow}
 use Rattle.node_form.specs.declared.tables.Tables.{Tables}
-use Rattle.node_form.specs.Fits.{IsRank, storage_dim, IsWidth, HasFringe, IsUnused, IsUnusedOrStar, IsRange, FitsArray}
+use Rattle.node_form.specs.Fits.{IsRank, storage_dim, storage_of, IsWidth, HasFringe, IsUnused, IsUnusedOrStar, IsRange, FitsArray}
 use Rattle.node_form.specs.Grid.{IsGrid}
 use Rattle.flat_form.specs.Flat.{IsFlat}
 use Rattle.zpl_lowering.specs.Hoist.{Shifted}
@@ -174,14 +175,31 @@ stored_ranges (suc rank) (dim.Range lo hi step align ∷ dims) (fringe ∷ fring
     (tt, stored_ranges rank dims fringes ranges)
 stored_ranges (suc rank) (dim.Flood ∷ dims) (fringe ∷ fringes) ranges = absurd ranges
 
+row_dims : (k : ℕ) (shifts : List Shifted) (storage : Region) → IsStorage storage →
+    map storage_dim (stored_row k shifts storage).dims ≡ storage.dims
+row_dims k shifts storage is =
+    let fringes : List Fringe = fringes_of k shifts in
+    dims_same storage.rank storage.dims fringes (is.three ∙ sym (fringes_count k shifts))
+    is.boxed (pads (3 - storage.rank) storage.rank storage.dims is.padded)
+
+-- the row of a storage has it
+pub row_storage : (k : ℕ) (shifts : List Shifted) (storage : Region) → IsStorage storage →
+    storage_of (stored_row k shifts storage) ≡ storage
+row_storage k shifts storage is =
+    ap (λ (all : List Dim). record { rank = storage.rank; dims = all }) (row_dims k shifts storage is)
+
+pub row_three : (k : ℕ) (shifts : List Shifted) (storage : Region) → IsStorage storage →
+    length (stored_row k shifts storage).dims ≡ 3
+row_three k shifts storage is =
+    sym (length-map (stored_row k shifts storage).dims storage_dim)
+    ∙ ap length (row_dims k shifts storage is) ∙ is.three
+
 row_fits : (k : ℕ) (shifts : List Shifted) (storage : Region) → AllShifts shifts →
     IsStorage storage → FitsArray (stored_row k shifts storage)
 row_fits k shifts storage small is =
     let fringes : List Fringe = fringes_of k shifts in
     let dims : List ArrayDim = stored_dims storage.rank storage.dims fringes in
-    let same : map storage_dim dims ≡ storage.dims =
-    dims_same storage.rank storage.dims fringes (is.three ∙ sym (fringes_count k shifts))
-    is.boxed (pads (3 - storage.rank) storage.rank storage.dims is.padded) in
+    let same : map storage_dim dims ≡ storage.dims = row_dims k shifts storage is in
     record {
       rank = is.is_rank;
       padded = All-from_recursion IsUnused (drop storage.rank dims)

@@ -53,7 +53,7 @@ use Rattle.lowering_fits.proofs.MadeProgramLemmas.{givens_below, givens_fine}
 use Rattle.lowering_fits.proofs.MadeCallLemmas.{IsCallee, callee_of, IsCallFrom, callee_visited, body_more, all_calls}
 use Rattle.lowering_fits.proofs.NumberedLemmas.{any_vars}
 use Rattle.lowering_fits.proofs.KeptLemmas.{Grows, grows_none, some_grows, kept_grows, AreKept, Nothing, HasKept, AreGivenOf, formals_kept, locals_kept}
-use Rattle.lowering_fits.proofs.ReachLemmas.{names_fit, scalars_fit, givens_of}
+use Rattle.lowering_fits.proofs.ReachLemmas.{names_fit, scalars_are_few, scalars_fit, givens_of}
 
 -- ---- current regions, where numbers grow
 
@@ -83,7 +83,7 @@ currents_grow tables few more grows currents slots are = record {
   three = current_grows tables few more grows 3 currents.three slots.three are.three;
 }
 
-globals_grow : (program : Program) (few more : Numbers) → Grows few more → (globals : Names) →
+pub globals_grow : (program : Program) (few more : Numbers) → Grows few more → (globals : Names) →
     AreGlobals program few globals → AreGlobals program more globals
 globals_grow program few more grows globals are text thing is =
     let found = are text thing is in
@@ -397,8 +397,9 @@ module _ (program : Program) (settings : List Setting) (laws : Laws program)
       (given_to w scalar formals actuals) =
       subst (λ (fs : List Formal). AreGivenOf w.numbers fs (given_to w scalar formals actuals))
       (ap formals_in is.proper.called)
-      (givens_of tables w is.result is.currents is.edge is.reach scalar formals actuals taken_all
-      is.ranked) in
+      (givens_of w place refl (λ actual h. h) (λ actual h. h) is.reach.names
+      (scalars_are_few tables w.environment w.numbers is.reach.variables) scalar formals actuals
+      taken_all is.ranked) in
       let body = body_code setup entry (call_code setup depth) routine calling after in
       let made = body_more program settings grammar clean right (λ storage. Unit {0})
       (λ routine environment numbers. Unit {0})

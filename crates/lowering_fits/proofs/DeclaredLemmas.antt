@@ -4,7 +4,7 @@ use Rattle.std.specs.Prelude.{option_map, Option, Some, None}
 use Rattle.std.specs.List.{AllByRecursion}
 use Rattle.std.specs.Str.{bytes_eq}
 use Rattle.zpl_region.specs.declared.regions.Region.{Region}
-use Rattle.zpl_tree.specs.Syntax.{Program}
+use Rattle.zpl_tree.specs.Syntax.{Name, Program}
 use Rattle.zpl_tree.specs.Grammar.{IsDecl}
 use Rattle.zpl_names.specs.Kinds as kind
 use Rattle.zpl_names.specs.Kinds.{Kind, Shape}
@@ -45,6 +45,27 @@ shaped_rank rank (Some shape) (Gives region) fits is =
     let same : length shape ≡ rank = cc in fits.rank ∙ same
 shaped_rank rank (Some shape) (Fails fault) fits is = tt
 
+pub own_kinds : (program : Program) → AllByRecursion IsDecl program.decls → (routine : Routine) →
+    Among (routines_of program) routine → (text : List ℕ) →
+    IsVariableKind (kind_in routine.own text)
+own_kinds program grammar routine among text =
+    let sound : IsSound routine = routine_sound program.decls [] routine tt grammar among in
+    own_kind (kind_in routine.own text)
+    (subst (λ entries. IsOwn (kind_in entries text)) (sym sound.own)
+    (own_in (own_entries sound.earlier routine.procedure) text
+    (all_own sound.earlier routine.procedure)))
+
+pub ranks_of : (program : Program) (settings : List Setting) →
+    AllByRecursion IsDecl program.decls → IsFaultless program → (routine : Routine) →
+    Among (routines_of program) routine → (name : Name) (rank : ℕ) →
+    option_map length (region_shape (kind_of (scope_of program routine) name)) ≡ Some rank →
+    HasRankOf rank (region_named (known_of program settings) name)
+ranks_of program settings grammar clean routine among name rank is =
+    let sound : IsSound routine = routine_sound program.decls [] routine tt grammar among in
+    shaped_rank rank (region_shape (kind_of (scope_of program routine) name))
+    (region_named (known_of program settings) name)
+    (reach_fits program settings clean routine sound name) is
+
 pub among_fit : (program : Program) (settings : List Setting) →
     AllByRecursion IsDecl program.decls → IsFaultless program →
     ((text : List ℕ) (default : Region) →
@@ -53,16 +74,8 @@ pub among_fit : (program : Program) (settings : List Setting) →
     SlotsAt tables 0 (map region_rank (known_of program settings).regions) →
     FitsKnown tables (known_of program settings) (scope_of program routine)
 among_fit program settings grammar clean given tables routine among slots =
-    let sound : IsSound routine = routine_sound program.decls [] routine tt grammar among in
-    known_fits tables program settings routine
-    (λ name. own_kind (kind_in routine.own name)
-    (subst (λ entries. IsOwn (kind_in entries name)) (sym sound.own)
-    (own_in (own_entries sound.earlier routine.procedure) name
-    (all_own sound.earlier routine.procedure))))
-    (λ name. given name no_region)
-    (λ name rank is. shaped_rank rank (region_shape (kind_of (scope_of program routine) name))
-    (region_named (known_of program settings) name)
-    (reach_fits program settings clean routine sound name) is) slots
+    known_fits tables program settings routine (own_kinds program grammar routine among)
+    (λ name. given name no_region) (ranks_of program settings grammar clean routine among) slots
 
 pub declared_fit : (program : Program) (settings : List Setting) →
     AllByRecursion IsDecl program.decls → IsFaultless program →

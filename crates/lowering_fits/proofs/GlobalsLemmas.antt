@@ -42,7 +42,8 @@ arrays_front k (x ∷ xs) ys (suc place) stored is = arrays_front (suc k) xs ys 
 arrays_end : (k : ℕ) (xs : List Array) (array : Array) (shape : Option Shape) →
     IsStoredAs shape (record { array = 0; storage = array.storage }) →
     IsSomeAnd (slice_get (arrays_from k (xs ++ array ∷ [])) (length xs)) (IsStoredAs shape)
-arrays_end k [] array shape is = record { rank = is.rank; ranges = is.ranges }
+arrays_end k [] array shape is =
+    record { rank = is.rank; ranges = is.ranges; floods = is.floods }
 arrays_end k (x ∷ xs) array shape is = arrays_end (suc k) xs array shape is
 
 -- ---- names that stand among entries

@@ -269,7 +269,7 @@ given_kept few line (ScalarFormal true base) (Copied stored home) frame name nex
 given_kept few line (ArrayFormal false base shape) (Copied stored home) frame name next xs is has =
     array_kept few xs frame name base shape home
     (record { array = next.arrays; storage = stored.storage })
-    (record { rank = is.0.rank; ranges = is.0.ranges }) is.1 is.2 has
+    (record { rank = is.0.rank; ranges = is.0.ranges; floods = is.0.floods }) is.1 is.2 has
 given_kept few line (ArrayFormal false base shape) (Valued scalar) frame name next xs is has =
     absurd is
 given_kept few line (ArrayFormal false base shape) (Referring thing) frame name next xs is has =
@@ -364,7 +364,8 @@ names_kept few setup entry scope (Bracketed region) base right (name ∷ names) 
     (record {
       array = next.arrays;
       storage = storage_box setup.known setup.borders region;
-    }) (record { rank = right.0.rank; ranges = right.0.ranges }) right.1 right.2 has))
+    }) (record { rank = right.0.rank; ranges = right.0.ranges; floods = right.0.floods }) right.1
+    right.2 has))
 
 pub locals_kept : (few : Numbers) (setup : Setup) (entry : CallEntry) (scope : Scope)
     (vars : List VarDef) → FitAllDeclared setup scope vars → (frame : Framed) (next : Next)

@@ -145,13 +145,22 @@ parts_fit (suc rank) (suc n) (part ∷ parts) same small =
     both_small true b e = (refl, e)
     both_small false b e = let no : ⊥ = cc in absurd no
 
+-- a vector of the rank, with three components
+abbrev pub IsThreeBy : ℕ → List ℤ → Type 0
+IsThreeBy rank v = VectorBy rank v × (length v ≡ 3)
+
 abbrev pub IsOut : Rank → Outcome (List ℤ) → Type 0
 IsOut None outcome = Unit {0}
-IsOut (Some rank) outcome = VectorBy rank (value_or (three_components []) outcome)
+IsOut (Some rank) outcome = IsThreeBy rank (value_or (three_components []) outcome)
+
+components_count : (n : ℕ) (parts : List ℤ) → length (components_of n parts) ≡ n
+components_count zero parts = refl
+components_count (suc n) [] = ap suc (components_count n [])
+components_count (suc n) (part ∷ parts) = ap suc (components_count n parts)
 
 none_out : (rank : Rank) → IsOut rank (Gives (three_components []))
 none_out None = tt
-none_out (Some rank) = zeros_fit rank 3
+none_out (Some rank) = (zeros_fit rank 3, refl)
 
 abbrev HasCount : ℕ → Outcome (List ℤ) → Type 0
 HasCount n (Gives parts) = length parts ≡ n
@@ -184,16 +193,16 @@ vector_out values parts =
   where
     limits : (rank : ℕ) (all : List ℤ) (b : Bool) → list_all is_component all ≡ b →
         length all ≡ rank →
-        VectorBy rank
+        IsThreeBy rank
         (value_or (three_components [])
         (if b then Gives (three_components all) else Fails DirectionLimit))
-    limits rank all true e same = parts_fit rank 3 all same e
-    limits rank all false e same = zeros_fit rank 3
+    limits rank all true e same = (parts_fit rank 3 all same e, components_count 3 all)
+    limits rank all false e same = (zeros_fit rank 3, refl)
 
     given : (rank : ℕ) (outcome : Outcome (List ℤ)) → HasCount rank outcome →
-        VectorBy rank (value_or (three_components []) (and_then outcome limited_vector))
+        IsThreeBy rank (value_or (three_components []) (and_then outcome limited_vector))
     given rank (Gives all) has = limits rank all (list_all is_component all) refl has
-    given rank (Fails fault) has = zeros_fit rank 3
+    given rank (Fails fault) has = (zeros_fit rank 3, refl)
 
     ranked : (rank : Rank) → at_most_three (exprs_count parts) ≡ rank →
         IsOut rank (vector_of values parts)

@@ -103,7 +103,7 @@ abbrev pub AllBoxes : List Array → Type 0
 AllBoxes [] = Unit {0}
 AllBoxes (array ∷ arrays) = IsStorage array.storage × AllBoxes arrays
 
-boxes_kept : (k : ℕ) (arrays : List Array) → AllBoxes arrays → AllKept (arrays_from k arrays)
+pub boxes_kept : (k : ℕ) (arrays : List Array) → AllBoxes arrays → AllKept (arrays_from k arrays)
 boxes_kept k [] are = tt
 boxes_kept k (array ∷ arrays) are = (are.0, boxes_kept (suc k) arrays are.1)
 
@@ -159,7 +159,7 @@ module _ (setup : Setup) where
       fits.1 (decl_boxed decl frame xs fits.0 are)
 
 -- local variables
-vars_fit : (setup : Setup) (scope : Scope) (vars : List VarDef) → FitAllDeclared setup scope vars →
+pub vars_fit : (setup : Setup) (scope : Scope) (vars : List VarDef) → FitAllDeclared setup scope vars →
     AllVars setup vars
 vars_fit setup scope [] fits = tt
 vars_fit setup scope (var ∷ vars) fits =

@@ -7,11 +7,11 @@ use Rattle.zpl_region.specs.declared.regions.Region.{Region}
 use Rattle.zpl_tree.specs.Syntax.{Base, Name, Expr, Number, Truth, Coord, Named, Shifted, Around, Remap, Call, Paren, Neg, Not, Abs, Pair, Reduce, Scan, Flood, Exprs, NoExpr, ThenExpr, Program}
 use Rattle.zpl_names.specs.Kinds as kind
 use Rattle.zpl_names.specs.Kinds.{Kind, Shape, Formal, ScalarFormal, ArrayFormal}
-use Rattle.zpl_names.specs.Scope.{kind_in, kind_of}
+use Rattle.zpl_names.specs.Scope.{Scope, kind_in, kind_of}
 use Rattle.zpl_names.specs.Ranks.{array_shape}
 use Rattle.zpl_names.specs.Declared.{Routine, globals_of, scope_of}
-use Rattle.zpl_meaning.specs.Store.{Thing, Scalar, ArrayAt, Fixed, Names, thing_of}
-use Rattle.zpl_meaning.specs.Context.{Currents, Edge}
+use Rattle.zpl_meaning.specs.Store.{Thing, Scalar, ArrayAt, Fixed, Names, Environment, thing_of}
+use Rattle.zpl_meaning.specs.Context.{Place}
 use Rattle.zpl_meaning.specs.Calls.{actual_thing}
 use Rattle.zpl_meaning.specs.Proper.{IsArray, IsVariable, AreProperActuals}
 use Rattle.meaning_ranks.specs.Ranked.{IsShapedActual, AreShapedActuals}
@@ -19,7 +19,7 @@ use Rattle.node_form.specs.declared.tables.Tables.{Tables}
 use Rattle.zpl_lowering.specs.Where.{Stored, Numbers, Where}
 use Rattle.zpl_lowering.specs.Statement.{Given, Copied, Referring, referring, copying, given_to}
 use Rattle.lowering_fits.specs.Slates.{AllBelow}
-use Rattle.lowering_fits.specs.Reach.{place_at, IsStoredAs, FitsName, FitNames, FitScalars, IsKept, named_thing, AreGlobals, IsReach}
+use Rattle.lowering_fits.specs.Reach.{IsStoredAs, FitsName, FitNames, FitScalars, IsKept, named_thing, AreGlobals}
 use Rattle.lowering_fits.proofs.KeptLemmas.{AreKept, IsBoth, kept_found, AreGivenOf}
 
 -- ---- names of lists, one behind the other
@@ -68,6 +68,23 @@ record IsNamedAs (program : Program) (routine : Routine) (numbers : Numbers) (na
 some_same : (a b : Thing) → Some a ≡ Some b → a ≡ b
 some_same a b same = cc
 
+-- names of scalars are among those that have numbers
+abbrev pub FewScalars : Environment → Numbers → Type 0
+FewScalars environment numbers =
+    (text : List ℕ) (place : ℕ) → thing_of environment text ≡ Some (Scalar place) →
+    place < length numbers.scalars
+
+pub scalars_are_few : (tables : Tables) (environment : Environment) (numbers : Numbers) →
+    FitScalars tables environment numbers → FewScalars environment numbers
+scalars_are_few tables environment numbers variables text place is =
+    by numbers.scalars place (variables text place is)
+  where
+    by : (xs : List ℕ) (place : ℕ) → IsSomeAnd (slice_get xs place) (λ n. n < tables.scalars) →
+        place < length xs
+    by [] place is = absurd is
+    by (x ∷ xs) zero is = omega arith
+    by (x ∷ xs) (suc place) is = let later = by xs place is in omega (arith, later)
+
 module _ (program : Program) (routine : Routine) (numbers : Numbers) (names globals : Names)
     (own : AreKept numbers routine.own names) (others : AreGlobals program numbers globals) where
   named_as : (name : Name) (thing : Thing) →
@@ -110,6 +127,11 @@ module _ (program : Program) (routine : Routine) (numbers : Numbers) (names glob
   scalar_there most (x ∷ xs) (suc place) below less =
       scalar_there most xs place below.1 (omega (arith, less))
 
+  pub scalars_few : FewScalars (record { names = names ++ globals }) numbers
+  scalars_few text place is =
+      let found = named_as (record { text = text; at = 0 }) (Scalar place) is in
+      scalar_kept_as numbers found.one place found.kept
+
   pub scalars_fit : (tables : Tables) → AllBelow tables.scalars numbers.scalars →
       FitScalars tables (record { names = names ++ globals }) numbers
   scalars_fit tables below text place is =
@@ -119,18 +141,14 @@ module _ (program : Program) (routine : Routine) (numbers : Numbers) (names glob
 
 -- ---- what a call hands on
 
-module _ (tables : Tables) (w : Where) (result : ℕ) (currents : Currents) (edge : Option Edge)
-    (reach : IsReach tables w currents) where
-  scalar_below : (text : List ℕ) (place : ℕ) → thing_of w.environment text ≡ Some (Scalar place) →
-      place < length w.numbers.scalars
-  scalar_below text place is = by w.numbers.scalars place (reach.variables text place is)
-    where
-      by : (xs : List ℕ) (place : ℕ) → IsSomeAnd (slice_get xs place) (λ n. n < tables.scalars) →
-          place < length xs
-      by [] place is = absurd is
-      by (x ∷ xs) zero is = omega arith
-      by (x ∷ xs) (suc place) is = let later = by xs place is in omega (arith, later)
-
+-- by names of a place that has the same in reach
+module _ (w : Where) (place : Place) (scoped : w.scope ≡ place.scope)
+    (variables : (actual : Expr) → IsVariable (actual_thing place.environment actual) →
+    IsVariable (actual_thing w.environment actual))
+    (arrays : (actual : Expr) → IsArray (actual_thing place.environment actual) →
+    IsArray (actual_thing w.environment actual))
+    (names : FitNames w.scope w.environment w.numbers)
+    (scalar_below : FewScalars w.environment w.numbers) where
   scalar_actual : (actual : Expr) (rest : List Given) →
       IsVariable (actual_thing w.environment actual) → (Holds : List Given → Type 0) →
       ((place : ℕ) → place < length w.numbers.scalars → Holds (Referring (Scalar place) ∷ rest)) →
@@ -163,27 +181,28 @@ module _ (tables : Tables) (w : Where) (result : ℕ) (currents : Currents) (edg
 
   array_actual : (base : Base) (by_ref : Bool) (shape : Option Shape) (actual : Expr) →
       IsArray (actual_thing w.environment actual) →
-      IsShapedActual (place_at w result currents edge) (ArrayFormal by_ref base shape) actual →
-      (place : ℕ) × (home : Region)
-      × (actual_thing w.environment actual ≡ Some (ArrayAt place home))
-      × FitsName w.numbers shape place home
+      IsShapedActual place (ArrayFormal by_ref base shape) actual →
+      (at : ℕ) × (home : Region)
+      × (actual_thing w.environment actual ≡ Some (ArrayAt at home))
+      × FitsName w.numbers shape at home
   array_actual base by_ref shape (Number at value) is shaped = absurd is
   array_actual base by_ref shape (Truth at value) is shaped = absurd is
   array_actual base by_ref shape (Coord at k) is shaped = absurd is
   array_actual base by_ref shape (Named at name) is shaped =
       by (thing_of w.environment name.text) is
-      (λ place home there. subst (λ s. FitsName w.numbers s place home) shaped.1
-      (reach.names name place home there))
+      (λ at home there. subst (λ s. FitsName w.numbers s at home)
+      (ap (λ (s : Scope). array_shape (kind_of s name)) scoped ∙ shaped.1)
+      (names name at home there))
     where
       by : (thing : Option Thing) → IsArray thing →
-          ((place : ℕ) (home : Region) → thing ≡ Some (ArrayAt place home) →
-          FitsName w.numbers shape place home) →
-          (place : ℕ) × (home : Region) × (thing ≡ Some (ArrayAt place home))
-          × FitsName w.numbers shape place home
+          ((at : ℕ) (home : Region) → thing ≡ Some (ArrayAt at home) →
+          FitsName w.numbers shape at home) →
+          (at : ℕ) × (home : Region) × (thing ≡ Some (ArrayAt at home))
+          × FitsName w.numbers shape at home
       by None is fits = absurd is
       by (Some (Scalar place)) is fits = absurd is
       by (Some (Fixed value)) is fits = absurd is
-      by (Some (ArrayAt place home)) is fits = (place, home, refl, fits place home refl)
+      by (Some (ArrayAt at home)) is fits = (at, home, refl, fits at home refl)
   array_actual base by_ref shape (Shifted at name shift) is shaped = absurd is
   array_actual base by_ref shape (Around at name shift) is shaped = absurd is
   array_actual base by_ref shape (Remap at name indices) is shaped = absurd is
@@ -217,8 +236,7 @@ module _ (tables : Tables) (w : Where) (result : ℕ) (currents : Currents) (edg
           copied stored is = search (rules, is)
 
   pub givens_of : (scalar : ℕ) (formals : List Formal) (actuals : Exprs) →
-      AreProperActuals (place_at w result currents edge) formals actuals →
-      AreShapedActuals (place_at w result currents edge) formals actuals →
+      AreProperActuals place formals actuals → AreShapedActuals place formals actuals →
       AreGivenOf w.numbers formals (given_to w scalar formals actuals)
   givens_of scalar [] NoExpr are shaped = tt
   givens_of scalar [] (ThenExpr first rest) are shaped = absurd are
@@ -227,16 +245,16 @@ module _ (tables : Tables) (w : Where) (result : ℕ) (currents : Currents) (edg
       (tt, givens_of (suc scalar) formals rest are.1 shaped.1)
   givens_of scalar (ScalarFormal true base ∷ formals) (ThenExpr first rest) are shaped =
       let others = givens_of scalar formals rest are.1 shaped.1 in
-      scalar_actual first (given_to w scalar formals rest) are.0
+      scalar_actual first (given_to w scalar formals rest) (variables first are.0)
       (AreGivenOf w.numbers (ScalarFormal true base ∷ formals)) (λ place below. (below, others))
   givens_of scalar (ArrayFormal true base shape ∷ formals) (ThenExpr first rest) are shaped =
       let others = givens_of scalar formals rest are.1 shaped.1 in
-      let found = array_actual base true shape first are.0 shaped.0 in
+      let found = array_actual base true shape first (arrays first are.0) shaped.0 in
       subst (λ (thing : Option Thing). AreGivenOf w.numbers (ArrayFormal true base shape ∷ formals)
       (referring thing ++ given_to w scalar formals rest)) (sym found.2) (found.3, others)
   givens_of scalar (ArrayFormal false base shape ∷ formals) (ThenExpr first rest) are shaped =
       let others = givens_of scalar formals rest are.1 shaped.1 in
-      let found = array_actual base false shape first are.0 shaped.0 in
+      let found = array_actual base false shape first (arrays first are.0) shaped.0 in
       subst (λ (thing : Option Thing). AreGivenOf w.numbers (ArrayFormal false base shape ∷ formals)
       (copying w.numbers thing ++ given_to w scalar formals rest)) (sym found.2)
       (copy_of found.0 found.1 shape found.3 (given_to w scalar formals rest)

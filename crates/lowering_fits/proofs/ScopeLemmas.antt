@@ -23,8 +23,8 @@ use Rattle.zpl_lowering.specs.Bracket.{region_slot}
 use Rattle.lowering_fits.specs.Slates.{SlotsAt}
 use Rattle.lowering_fits.specs.Reach.{IsGivenBox, FitsKnown}
 use Rattle.lowering_fits.specs.Lowerings.{region_rank}
-use Rattle.lowering_fits.proofs.VectorLemmas.{VectorBy, vector_by}
-use Rattle.lowering_fits.proofs.KnownLemmas.{AreOf, IsOut, vector_out, IsDirected, directed_stays, globals_directed}
+use Rattle.lowering_fits.proofs.VectorLemmas.{vector_by}
+use Rattle.lowering_fits.proofs.KnownLemmas.{AreOf, IsThreeBy, IsOut, vector_out, IsDirected, directed_stays, globals_directed}
 use Rattle.lowering_fits.proofs.RegionLemmas.{known_good, given_box, has_slot, IsEntered, entered_stays, globals_entered}
 
 -- a procedure's own names are variables
@@ -42,7 +42,7 @@ IsVariableKind (Some (kind.Procedure signature)) = ⊥
 
 directed_vector : (rank : ℕ) (one : Option Kind) (found : Option (Computed (List ℤ))) →
     AreOf IsDirected directed_stays one found → direction_rank one ≡ Some rank →
-    VectorBy rank (value_or (three_components []) (outcome_or (three_components []) found))
+    IsThreeBy rank (value_or (three_components []) (outcome_or (three_components []) found))
 directed_vector rank None found are is = let no : ⊥ = cc in absurd no
 directed_vector rank (Some (kind.Direction other)) None are is = absurd are
 directed_vector rank (Some (kind.Direction other)) (Some found) are is =
@@ -107,24 +107,26 @@ module _ (tables : Tables) (program : Program) (settings : List Setting) (routin
     IsGiven Region (outcome_of no_region (known_of program settings).regions text))
     (ranked : (name : Name) (rank : ℕ) →
     option_map length (region_shape (kind_of (scope_of program routine) name)) ≡ Some rank →
-    HasRankOf rank (region_named (known_of program settings) name))
-    (slots : SlotsAt tables 0 (map region_rank (known_of program settings).regions)) where
-  dirs_fit : (rank : ℕ) (dir : Dir) → dir_rank (scope_of program routine) dir ≡ Some rank →
-      IsVector rank (vector_in (known_of program settings) dir)
-  dirs_fit rank (NamedDir name) is =
+    HasRankOf rank (region_named (known_of program settings) name)) where
+  pub dirs_by : (rank : ℕ) (dir : Dir) → dir_rank (scope_of program routine) dir ≡ Some rank →
+      IsThreeBy rank (vector_in (known_of program settings) dir)
+  dirs_by rank (NamedDir name) is =
       let known : Known = known_of program settings in
-      vector_by rank (vector_in known (NamedDir name))
-      (directed_vector rank (kind_in (globals_of program) name.text)
+      directed_vector rank (kind_in (globals_of program) name.text)
       (find (λ one. bytes_eq one.name name.text) known.directions)
       (globals_directed program settings name.text)
       (global_direction rank (kind_in routine.own name.text)
-      (kind_in (globals_of program) name.text) (own name.text) is))
-  dirs_fit rank (Vector parts) is =
+      (kind_in (globals_of program) name.text) (own name.text) is)
+  dirs_by rank (Vector parts) is =
       let known : Known = known_of program settings in
-      vector_by rank (vector_in known (Vector parts))
-      (subst (λ r. IsOut r (vector_of known.values parts)) is (vector_out known.values parts))
+      subst (λ r. IsOut r (vector_of known.values parts)) is (vector_out known.values parts)
 
-  box_of : (rank : ℕ) (name : Name) →
+  dirs_fit : (rank : ℕ) (dir : Dir) → dir_rank (scope_of program routine) dir ≡ Some rank →
+      IsVector rank (vector_in (known_of program settings) dir)
+  dirs_fit rank dir is =
+      vector_by rank (vector_in (known_of program settings) dir) (dirs_by rank dir is).0
+
+  pub box_of : (rank : ℕ) (name : Name) →
       option_map length (region_shape (kind_of (scope_of program routine) name)) ≡ Some rank →
       IsGivenBox rank (region_named (known_of program settings) name)
   box_of rank name is =
@@ -145,19 +147,28 @@ module _ (tables : Tables) (program : Program) (settings : List Setting) (routin
       by (Gives region) is = is.0.same
       by (Fails fault) is = absurd is
 
-  slot_of : (rank : ℕ) (name : Name) →
+  pub found_of : (rank : ℕ) (name : Name) →
       option_map length (region_shape (kind_of (scope_of program routine) name)) ≡ Some rank →
-      HasSlot tables rank (region_slot (known_of program settings) name)
-  slot_of rank name is =
-      let known : Known = known_of program settings in
-      let there = entered_region rank (kind_in (globals_of program) name.text)
-      (find (λ one. bytes_eq one.name name.text) known.regions)
+      (it : Computed Region)
+      × (find (λ one. bytes_eq one.name name.text) (known_of program settings).regions ≡ Some it)
+  found_of rank name is =
+      entered_region rank (kind_in (globals_of program) name.text)
+      (find (λ one. bytes_eq one.name name.text) (known_of program settings).regions)
       (globals_entered program settings name.text)
       (global_region rank (kind_in routine.own name.text)
-      (kind_in (globals_of program) name.text) (own name.text) is) in
+      (kind_in (globals_of program) name.text) (own name.text) is)
+
+  slot_of : SlotsAt tables 0 (map region_rank (known_of program settings).regions) →
+      (rank : ℕ) (name : Name) →
+      option_map length (region_shape (kind_of (scope_of program routine) name)) ≡ Some rank →
+      HasSlot tables rank (region_slot (known_of program settings) name)
+  slot_of slots rank name is =
+      let known : Known = known_of program settings in
+      let there = found_of rank name is in
       subst (λ r. HasSlot tables r (region_slot known name))
       (rank_of_found rank name there.0 there.1 (box_of rank name is))
       (has_slot tables known name there.0 slots there.1)
 
-  pub known_fits : FitsKnown tables (known_of program settings) (scope_of program routine)
-  known_fits = record { dirs = dirs_fit; slots = slot_of; boxes = box_of }
+  pub known_fits : SlotsAt tables 0 (map region_rank (known_of program settings).regions) →
+      FitsKnown tables (known_of program settings) (scope_of program routine)
+  known_fits slots = record { dirs = dirs_fit; slots = slot_of slots; boxes = box_of }

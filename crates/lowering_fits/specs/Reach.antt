@@ -20,6 +20,7 @@ use Rattle.zpl_binding.specs.Regions.{Known, region_named}
 use Rattle.zpl_meaning.specs.Store.{Thing, Scalar, ArrayAt, Fixed, Names, Environment, thing_of}
 use Rattle.zpl_meaning.specs.Regions.{vector_in}
 use Rattle.zpl_meaning.specs.Context.{Over, Currents, Edge, Place}
+use Rattle.meaning_ranks.specs.Shaped.{AreFloods}
 use Rattle.node_form.specs.declared.tables.Tables.{Tables}
 use Rattle.node_form.specs.Fits.{IsVector, HasSlot, FitsRegion}
 use Rattle.zpl_lowering.specs.Where.{Stored, Numbers, Slotted, SlotCurrents, slotted_or, Where}
@@ -83,11 +84,12 @@ place_at w result currents edge = record {
 
 -- ---- names of arrays
 
--- the storage has the rank that the text says, and no flood dimension where the text has none
+-- the storage has the rank and the flood dimensions that the text says
 pub record IsStoredAs (shape : Option Shape) (stored : Stored) : Type 0 where
   pub rank : option_map length shape ≡ Some stored.storage.rank
   pub ranges : has_flood shape ≡ false →
       AllRanges (take stored.storage.rank stored.storage.dims)
+  pub floods : (one : Shape) → shape ≡ Some one → AreFloods one stored.storage.dims
 
 -- its array has a number, and its home box may stand in a row
 pub record FitsName (numbers : Numbers) (shape : Option Shape) (place : ℕ) (home : Region) : Type 0

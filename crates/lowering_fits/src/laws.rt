@@ -5,6 +5,7 @@ ghost use Rattle.row_runs.specs.Straight.{Every};
 ghost use Rattle.zpl_tree.specs.Grammar.{IsBody, IsProgram};
 ghost use Rattle.zpl_tree.specs.Syntax.{Inner, Program, Stmt};
 ghost use Rattle.zpl_names.specs.Accepted.{IsFaultless};
+ghost use Rattle.zpl_names.specs.Kinds.{Shape};
 ghost use Rattle.zpl_names.specs.Declared.{Routine, routine_named, scope_of};
 ghost use Rattle.zpl_names.specs.Reached.{IsReached};
 ghost use Rattle.zpl_names.specs.Shapes.{Shapes};
@@ -239,7 +240,8 @@ pub fn storages_are_boxes()
         (region storage : Region) → inner_of (known_of program settings) inner ≡ Gives region →
         storage_of (known_of program settings) (borders_of program) inner ≡ Gives storage →
         (storage.rank ≡ region.rank)
-        × (AllRanges (take region.rank region.dims) → AllRanges (take storage.rank storage.dims)) }
+        × (AllRanges (take region.rank region.dims) → AllRanges (take storage.rank storage.dims))
+        × ((shape : Shape) → AreFloods shape region.dims → AreFloods shape storage.dims) }
     ensures declared { (program : Program) (settings : List Setting) (inner : Inner)
         (storage : Region) →
         storage_of (known_of program settings) (borders_of program) inner ≡ Gives storage →

@@ -274,6 +274,7 @@ module _ (tables : Tables) (n : ℕ) (setup : Setup) (entry : Entry) (base : Lis
       (record {
         scalars = omega (arith, before.scalars);
         slots = omega (arith, before.slots);
+        arrays = omega (arith, before.arrays);
       })
       c.sound
       (record {
@@ -283,7 +284,7 @@ module _ (tables : Tables) (n : ℕ) (setup : Setup) (entry : Entry) (base : Lis
       })
       (fresh_after entry.clears k more.scalars now (omega arith) fresh)
       (room_rest tables next (code.Rows []) first (rest inner more)
-      (record { scalars = room.scalars; slots = room.slots }))
+      (record { scalars = room.scalars; slots = room.slots; arrays = room.arrays; temps = room.temps }))
       (subst (λ (x : Frame). IsReached x) frame reached)))
 
   names_go : (shape : Bracket) (names : List Name) (IsReached : Frame → Type 0)

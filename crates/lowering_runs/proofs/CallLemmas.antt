@@ -82,7 +82,7 @@ module _ (sight : Sight) (w : Where) (start : Whole) where
   abbrev place : Place
   place = seen_place sight w start
 
-  value_scalars : (formals : List Formal) (actuals : Exprs) → AreServedActuals place formals actuals
+  pub value_scalars : (formals : List Formal) (actuals : Exprs) → AreServedActuals place formals actuals
       → AreScalarsAt place (low.value_exprs w formals actuals)
   value_scalars [] actuals h = tt
   value_scalars (formal ∷ formals) NoExpr h = tt
@@ -94,7 +94,7 @@ module _ (sight : Sight) (w : Where) (start : Whole) where
       value_scalars formals rest h.1
   value_scalars (ArrayFormal false base shape ∷ formals) (ThenExpr actual rest) h = absurd h
 
-  value_meant : (formals : List Formal) (actuals : Exprs)
+  pub value_meant : (formals : List Formal) (actuals : Exprs)
       → meant (low.value_exprs w formals actuals) ≡ mean_calls.value_exprs place formals actuals
   value_meant [] actuals = refl
   value_meant (formal ∷ formals) NoExpr = refl
@@ -127,7 +127,7 @@ module _ (sight : Sight) (w : Where) (start : Whole) where
           none_some : IsSome (let n : Option Thing = None in n) → ⊥
           none_some h = cc
 
-  handed_is : (formals : List Formal) (actuals : Exprs) (k : ℕ) (values : List ℤ) (store : Store)
+  pub handed_is : (formals : List Formal) (actuals : Exprs) (k : ℕ) (values : List ℤ) (store : Store)
       (after : Whole) → AreServedActuals place formals actuals
       → length values ≡ length (low.value_exprs w formals actuals) → Hold after k values
       → handed_on place.environment store formals actuals values
@@ -171,7 +171,7 @@ module _ (sight : Sight) (w : Where) (start : Whole) where
         (λ text q. known_thing (length (numbered sight.spots)) (length w.numbers.arrays)
         w.environment.names text found stands.known q) e
 
-    given_is : (formals : List Formal) (actuals : Exprs) (k to : ℕ)
+    pub given_is : (formals : List Formal) (actuals : Exprs) (k to : ℕ)
         → AreServedActuals place formals actuals
         → k + length (low.value_exprs w formals actuals) ≤ to
         → AreGiven (length (numbered sight.spots)) (length w.numbers.arrays) k
@@ -188,7 +188,7 @@ module _ (sight : Sight) (w : Where) (start : Whole) where
         (known_actual actual) (given_is formals rest k to h.1 le)
     given_is (ArrayFormal false base shape ∷ formals) (ThenExpr actual rest) k to h le = absurd h
 
-given_earlier : (scalars arrays from later : ℕ) (givens : List Given) (to : ℕ) → from ≤ later
+pub given_earlier : (scalars arrays from later : ℕ) (givens : List Given) (to : ℕ) → from ≤ later
     → AreGiven scalars arrays later givens to → AreGiven scalars arrays from givens to
 given_earlier scalars arrays from later [] to le h = omega (arith, le, h)
 given_earlier scalars arrays from later (low.Valued k ∷ givens) to le h = (omega (arith, le, h.0), h.1)
@@ -219,7 +219,7 @@ module _ (world : World) (setup : Setup) (IsCallable : List ℕ → Type 0)
       let calling = calling_at w name.text givens 0 line in
       let scalars = value_scalars sight w start formals actuals served.actuals_are in
       let rooms : HasRoom tables next (joined (code.Rows []) own (world.code calling more)) =
-      record { scalars = room.scalars; slots = room.slots } in
+      record { scalars = room.scalars; slots = room.slots; arrays = room.arrays; temps = room.temps } in
       let many = left_length sight w line next start exprs scalars in
       let handed : List ℤ → List Handed =
       λ values. handed_on p.environment store formals actuals values in
@@ -243,7 +243,7 @@ module _ (world : World) (setup : Setup) (IsCallable : List ℕ → Type 0)
       subst (λ (hs : List Handed). Agrees Like n 0 (world.call (called hs) store)
       (does tables n (world.code calling more).code after)) (sym same)
       (calls.by sight.spots w next more start name.text givens line served.setup_is stands
-      (record { scalars = omega arith; slots = omega arith }) served.callable
+      (record { scalars = omega arith; slots = omega arith; arrays = omega arith }) served.callable
       (given_earlier (length (numbered sight.spots)) (length w.numbers.arrays) next.scalars first
       givens more.scalars (omega arith)
       (given_is sight w start next stands formals actuals first more.scalars served.actuals_are

@@ -110,7 +110,7 @@ module _ (world : World) where
         (λ l next. low.lowered_all l next body) 0 goes sight w next more start
         (before_behind next t.before) stands served.1
         (room_rest world.tables next (code.Then t.before.code inside.code) t.before inside
-        (record { scalars = room.scalars; slots = room.slots })) store v k)))
+        (record { scalars = room.scalars; slots = room.slots; arrays = room.arrays; temps = room.temps })) store v k)))
         (λ v k. weaker_agrees (Like sight w next start) world.turns world.turns 1 2 _ _ (omega arith)
         (omega arith) (jumping_agrees (Like sight w next start) world.turns 0 _ _
         (goes_agrees (Like sight w next start) world.turns store v k)))
@@ -133,7 +133,7 @@ module _ (world : World) where
         (joined (code.Then inside.code other.code) inside other) =
         room_rest world.tables next (code.Then t.before.code inside.code) t.before
         (joined (code.Then inside.code other.code) inside other)
-        (record { scalars = room.scalars; slots = room.slots }) in
+        (record { scalars = room.scalars; slots = room.slots; arrays = room.arrays; temps = room.temps }) in
         let leave : Whole → Course Whole = λ state. code.jumping (code.goes_on state) in
         tested_agrees (Like sight w next start) (Like sight w next start) world.turns
         (mean.test_of (seen_place sight w start) test at)
@@ -159,6 +159,7 @@ module _ (world : World) where
         (record {
           scalars = omega arith;
           slots = omega arith;
+          arrays = omega arith;
         }) stands served.2
         (room_rest world.tables more (code.Then inside.code other.code) inside other rooms)
         store v k)))

@@ -215,6 +215,7 @@ module _ (tables : Tables) (n : ℕ) where
         ≡ code.goes_on after
     pub sound : IsSound tables after
     pub scalars : after.scalars ≡ whole.scalars
+    pub stores : after.stores ≡ whole.stores
     pub many : length after.slots ≡ length whole.slots
     pub below : (k : ℕ) → k < slot → slice_get after.slots k ≡ slice_get whole.slots k
     pub declared : AreDeclared slot regions after.slots
@@ -227,6 +228,7 @@ module _ (tables : Tables) (n : ℕ) where
     course = refl;
     sound = sound;
     scalars = refl;
+    stores = refl;
     many = refl;
     below = λ k l. refl;
     declared = tt;
@@ -245,6 +247,7 @@ module _ (tables : Tables) (n : ℕ) where
             ∙ r.course;
         sound = r.sound;
         scalars = r.scalars;
+        stores = r.stores;
         many = r.many ∙ same;
         below = λ k l. r.below k (omega (arith, l))
             ∙ get_other whole.slots slot k region (λ e. absurd (omega (arith, l, e)));

@@ -1,5 +1,6 @@
 -- What holds where a statement stands holds behind what comes before it.
-use Rattle.std.proofs.Common.{◌≡◌, ℕ, zero, suc, ◌+◌, ◌≤◌, ◌<◌, List, [], ◌∷◌, ◌++◌, length}
+use Rattle.std.proofs.Common.{◌≡◌, ℕ, zero, suc, ◌+◌, ◌≤◌, ◌<◌, Bool, List, [], ◌∷◌, ◌++◌}
+use Rattle.std.proofs.Common.{length}
 use Rattle.std.specs.Prelude.{slice_get, slice_index_or}
 use Rattle.std.proofs.Common.{Option, Some, None, refl, sym, ap, ◌∙◌, subst, arith}
 use Rattle.std.specs.Option.{option_map}
@@ -10,6 +11,7 @@ use Rattle.zpl_meaning.specs.Store.{Store}
 use Rattle.zpl_meaning.specs.Context.{Over, Currents, Edge, Place}
 use Rattle.zpl_meaning.specs.Outcome.{Outcome}
 use Rattle.zpl_meaning.specs.Statement.{Context}
+use Rattle.node_form.specs.declared.arrays.ArrayRow.{ArrayRow}
 use Rattle.node_form.specs.declared.tables.Tables.{Tables}
 use Rattle.flat_form.specs.Whole.{Whole}
 use Rattle.zpl_lowering.specs.Where.{Stored, Slotted, SlotCurrents, SlotEdge, Where, Next}
@@ -21,7 +23,7 @@ use Rattle.zpl_lowering.specs.Statement.{Lowering}
 use Rattle.lowering_runs.specs.Seen.{slot_in, Spot, Sight, numbered, seen_over, seen_currents, seen_edge, seen_place, seen_store}
 use Rattle.lowering_runs.specs.Run.{does}
 use Rattle.lowering_runs.specs.Agrees.{Agrees}
-use Rattle.lowering_runs.specs.Stands.{IsBefore, IsTaken, IsTakenEdge, AreTaken, SlotsAt, IsCurrentIf, AreDeclared, IsHeld, Stands, HasRoom, Keeps, IsLike}
+use Rattle.lowering_runs.specs.Stands.{IsBefore, IsTaken, IsTakenEdge, AreTaken, array_numbers, SlotsAt, RowsAt, TempsAt, IsCurrentIf, AreDeclared, IsHeld, Stands, HasRoom, Keeps, IsLike}
 use Rattle.lowering_runs.specs.Goes.{World, context, lowering, Goes}
 use Rattle.lowering_runs.proofs.NumberLemmas.{rises_on}
 use Rattle.lowering_runs.proofs.AgreeLemmas.{alike_agrees}
@@ -29,10 +31,11 @@ use Rattle.lowering_runs.proofs.AgreeLemmas.{alike_agrees}
 -- ---- numbers that are free
 
 pub itself : (next : Next) → IsBefore next next
-itself next = record { scalars = omega arith; slots = omega arith }
+itself next = record { scalars = omega arith; slots = omega arith; arrays = omega arith }
 
 pub before_behind : (next : Next) (own : Lowered) → IsBefore next (behind next own)
-before_behind next own = record { scalars = omega arith; slots = omega arith }
+before_behind next own =
+    record { scalars = omega arith; slots = omega arith; arrays = omega arith }
 
 -- ---- regions in slots that are kept
 
@@ -157,6 +160,7 @@ stands_on spots w next more b h = record {
   taken = all_taken_on w.currents next.slots more.slots b.slots h.taken;
   edge = edge_on w.edge next.slots more.slots b.slots h.edge;
   declared = omega (arith, h.declared, b.slots);
+  stored = rises_on 0 (array_numbers w.numbers.arrays) next.arrays more.arrays b.arrays h.stored;
 }
 
 -- ---- what is kept
@@ -205,11 +209,35 @@ slots_rest slots k [] more h = subst (λ (i : ℕ). SlotsAt slots i more) (omega
 slots_rest slots k (rank ∷ ranks) more h =
     subst (λ (i : ℕ). SlotsAt slots i more) (omega arith) (slots_rest slots (suc k) ranks more h.1)
 
+pub rows_first : (rows : List ArrayRow) (k : ℕ) (storages more : List Region)
+    → RowsAt rows k (storages ++ more) → RowsAt rows k storages
+rows_first rows k [] more h = tt
+rows_first rows k (storage ∷ storages) more h = (h.0, rows_first rows (suc k) storages more h.1)
+
+pub rows_rest : (rows : List ArrayRow) (k : ℕ) (storages more : List Region)
+    → RowsAt rows k (storages ++ more) → RowsAt rows (k + length storages) more
+rows_rest rows k [] more h = subst (λ (i : ℕ). RowsAt rows i more) (omega arith) h
+rows_rest rows k (storage ∷ storages) more h =
+    subst (λ (i : ℕ). RowsAt rows i more) (omega arith) (rows_rest rows (suc k) storages more h.1)
+
+temps_first : (rows : List ArrayRow) (k : ℕ) (temps more : List (List Bool))
+    → TempsAt rows k (temps ++ more) → TempsAt rows k temps
+temps_first rows k [] more h = tt
+temps_first rows k (flood ∷ temps) more h = (h.0, temps_first rows (suc k) temps more h.1)
+
+pub temps_rest : (rows : List ArrayRow) (k : ℕ) (temps more : List (List Bool))
+    → TempsAt rows k (temps ++ more) → TempsAt rows (k + length temps) more
+temps_rest rows k [] more h = subst (λ (i : ℕ). TempsAt rows i more) (omega arith) h
+temps_rest rows k (flood ∷ temps) more h =
+    subst (λ (i : ℕ). TempsAt rows i more) (omega arith) (temps_rest rows (suc k) temps more h.1)
+
 pub room_first : (tables : Tables) (next : Next) (piece : Piece Row Check) (one other : Lowered)
     → HasRoom tables next (joined piece one other) → HasRoom tables next one
 room_first tables next piece one other h = record {
   scalars = omega (arith, h.scalars);
   slots = slots_first tables.slots next.slots one.slots other.slots h.slots;
+  arrays = rows_first tables.arrays next.arrays one.arrays other.arrays h.arrays;
+  temps = temps_first tables.arrays next.temps one.temps other.temps h.temps;
 }
 
 pub room_rest : (tables : Tables) (next : Next) (piece : Piece Row Check) (one other : Lowered)
@@ -217,6 +245,8 @@ pub room_rest : (tables : Tables) (next : Next) (piece : Piece Row Check) (one o
 room_rest tables next piece one other h = record {
   scalars = omega (arith, h.scalars);
   slots = slots_rest tables.slots next.slots one.slots other.slots h.slots;
+  arrays = rows_rest tables.arrays next.arrays one.arrays other.arrays h.arrays;
+  temps = temps_rest tables.arrays next.temps one.temps other.temps h.temps;
 }
 
 pub room_here : (tables : Tables) (next : Next) (own : Lowered) → HasRoom tables next own

@@ -181,7 +181,7 @@ module _ (world : World) (at : ℕ) (head : ForHead) (body : Stmts)
       fits = omega (arith, room.scalars, left_length sight w line next start exprs scalars)
 
       before : IsBefore next inner
-      before = record { scalars = omega arith; slots = omega arith }
+      before = record { scalars = omega arith; slots = omega arith; arrays = omega arith }
 
       taken : c + 3 ≤ inner.scalars
       taken = omega (arith, left_length sight w line next start exprs scalars)
@@ -193,9 +193,9 @@ module _ (world : World) (at : ℕ) (head : ForHead) (body : Stmts)
           let set_ = rows_alone (low.set_row line (Variable c) variable) in
           let rest = followed after set_ (λ more. low.lowered_all (lowering world w) more body) in
           let rows = room_rest world.tables next (code.Then first.code rest.code) first rest
-          (record { scalars = room.scalars; slots = room.slots }) in
+          (record { scalars = room.scalars; slots = room.slots; arrays = room.arrays; temps = room.temps }) in
           room_rest world.tables after (code.Then set_.code inside.code) set_ inside
-          (record { scalars = rows.scalars; slots = rows.slots })
+          (record { scalars = rows.scalars; slots = rows.slots; arrays = rows.arrays; temps = rows.temps })
 
       abbrev turn : ℕ → Whole → Course Whole
       turn k now =
@@ -309,7 +309,7 @@ module _ (world : World) (at : ℕ) (head : ForHead) (body : Stmts)
           (room_first world.tables next (code.Rows [])
           (low.with_values line c (phased w line next exprs))
           (coded (low.scalar_of w.numbers (thing_of w.environment head.name.text)))
-          (record { scalars = room.scalars; slots = room.slots })) store now like
+          (record { scalars = room.scalars; slots = room.slots; arrays = room.arrays; temps = room.temps })) store now like
           (λ values. mean_statement.for_from world.turns thing (start_of head.down values) run store)
           (does world.tables world.turns
           (coded (low.scalar_of w.numbers (thing_of w.environment head.name.text))).code)

@@ -71,7 +71,7 @@ text_of scope (Value expr ∷ items) [] = []
 text_of scope (Value expr ∷ items) (value ∷ values) =
     value_text (type_of scope expr) value ++ text_of scope items values
 
-abbrev line_end : Bool → List ℕ
+abbrev pub line_end : Bool → List ℕ
 line_end line = if line then 10 ∷ [] else []
 
 module _ (place : Place) (store : Store) where
@@ -246,18 +246,18 @@ rows_append tables n (first ∷ one) other now =
     by (does_row.Stops stop) h = refl
 
 -- a course that only prints
-abbrev printing : List ℕ → Whole → Course Whole
+abbrev pub printing : List ℕ → Whole → Course Whole
 printing bytes whole = record { close = GoesOn; state = whole; bytes = bytes; jumps = 0 }
 
 module _ (tables : Tables) (n : ℕ) (now : Whole) (sound : IsSound tables now) where
-  end_prints : (line : Bool) → rows_do (step tables n) (decide tables n) (low.newline line) now
+  pub end_prints : (line : Bool) → rows_do (step tables n) (decide tables n) (low.newline line) now
       ≡ printing (line_end line) now
   end_prints true =
       ap (λ (s : Step Whole). by_step now s (λ w. code.goes_on w))
       (print_step tables n now sound.settled (10 ∷ []))
   end_prints false = refl
 
-  typed_step : (type : Option Base) (k : ℕ) (value : ℤ) → k < tables.scalars
+  pub typed_step : (type : Option Base) (k : ℕ) (value : ℤ) → k < tables.scalars
       → scalar_in now k ≡ value
       → step tables n (low.scalar_print (low.is_truth type) (words_of (Variable k))) now
       ≡ does_row.Goes (value_text type value) now
@@ -308,7 +308,7 @@ module _ (tables : Tables) (n : ℕ) (now : Whole) (sound : IsSound tables now) 
 
 -- ---- the statement
 
-meant_items : (sight : Sight) (w : Where) (start : Whole) (items : List Item)
+pub meant_items : (sight : Sight) (w : Where) (start : Whole) (items : List Item)
     → meant (low.printed_exprs w items)
     ≡ mean_text.printed_exprs (seen_place sight w start) items
 meant_items sight w start [] = refl

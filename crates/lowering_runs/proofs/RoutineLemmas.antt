@@ -23,7 +23,7 @@ use Rattle.zpl_lowering.specs.Program.{Framed, Entry}
 use Rattle.lowering_runs.specs.Seen.{Spot, At, Answer, Sight, seen_place, seen_store, seen_names, seen_thing, numbered, slot_in}
 use Rattle.lowering_runs.specs.Run.{does}
 use Rattle.lowering_runs.specs.Agrees.{Agrees}
-use Rattle.lowering_runs.specs.Stands.{Misses, IsBefore, AreKnown, Stands, HasRoom, IsLike, IsHeld}
+use Rattle.lowering_runs.specs.Stands.{Rises, Misses, IsBefore, array_numbers, AreKnown, Stands, HasRoom, IsLike, IsHeld}
 use Rattle.lowering_runs.specs.Frames.{seen_frame, AreGiven, IsFresh}
 use Rattle.lowering_runs.specs.Goes.{World}
 use Rattle.lowering_runs.specs.Called.{calling_at, called_at, CallsAgree}
@@ -31,6 +31,7 @@ use Rattle.lowering_runs.specs.ScalarText.{IsScalarRoutine, IsScalarCall}
 use Rattle.lowering_runs.proofs.AgreeLemmas.{stored_agrees}
 use Rattle.lowering_runs.proofs.FitLemmas.{all_taken_on, currents_kept, keeps_all, held_on}
 use Rattle.lowering_runs.proofs.FrameLemmas.{map_append, numbered_append, names_below, known_both, known_more, misses_more, cut_seen}
+use Rattle.lowering_runs.proofs.NumberLemmas.{rises_on}
 use Rattle.lowering_runs.proofs.BodyLemmas.{GoesOn, givens_framed, locals_go}
 use Rattle.lowering_runs.proofs.StatementLemmas.{stmt_agrees}
 
@@ -147,6 +148,10 @@ module _ (tables : Tables) (n : ℕ) (setup : Setup)
               subst (λ (s : Setup).
                   length s.known.regions ≤ low_next.slots) setup_is stands.declared,
             );
+            stored = subst (λ (xs : List Stored). Rises 0 (array_numbers xs) next.arrays)
+                (sym f.arrays_are)
+                (rises_on 0 (array_numbers arrays) low_next.arrays next.arrays before.arrays
+                stands.stored);
           })
           (record {
             setup_is = refl;
@@ -238,9 +243,9 @@ module _ (tables : Tables) (n : ℕ) (setup : Setup)
           → Agrees Like n 0 (run (with_variables setup.known setup.borders x locals))
           (does tables n (framed_code inner).code now)) (sym g.frame_is)
           (all g.frame g.sight inner now g.framing
-          (record { scalars = before.scalars; slots = before.slots }) like.sound like.kept fresh
+          (record { scalars = before.scalars; slots = before.slots; arrays = before.arrays }) like.sound like.kept fresh
           (subst (λ (x : Lowered). HasRoom tables inner x) code_is
-          (record { scalars = room.scalars; slots = room.slots })))
+          (record { scalars = room.scalars; slots = room.slots; arrays = room.arrays; temps = room.temps })))
           reached))
           reached
 

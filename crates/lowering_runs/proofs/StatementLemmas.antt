@@ -73,16 +73,16 @@ proper_scalar place (Reduce at operator over operand) s h = absurd s
 proper_scalar place (Scan at operator along operand) s h = absurd s
 proper_scalar place (Flood at source operand) s h = absurd s
 
-scalar_at : (place : Place) (role : Role) (expr : Expr) → IsScalarExpr expr
+pub scalar_at : (place : Place) (role : Role) (expr : Expr) → IsScalarExpr expr
     → rank_in place role expr ≡ Some 0 → IsProperWhole place role expr → IsScalarAt place expr
 scalar_at place role expr s r h =
     (s, proper_scalar place expr s (subst (λ (rank : Rank). IsProper place rank expr) r h))
 
-role_scalar : (place : Place) (role : Role) (expr : Expr) → IsScalarExpr expr
+pub role_scalar : (place : Place) (role : Role) (expr : Expr) → IsScalarExpr expr
     → IsProperScalar place role expr → IsScalarAt place expr
 role_scalar place role expr s h = scalar_at place role expr s h.0 h.1
 
-items_scalar : (place : Place) (items : List Item) → AreScalarTexts (reach_of place) items
+pub items_scalar : (place : Place) (items : List Item) → AreScalarTexts (reach_of place) items
     → AreProperItems place items → AreScalarItems place items
 items_scalar place [] s h = tt
 items_scalar place (Str bytes ∷ items) s h = items_scalar place items s h
@@ -97,7 +97,7 @@ array_some : (thing : Option Thing) → IsArray thing → IsSome thing
 array_some (Some thing) h = refl
 array_some None h = absurd h
 
-actuals_served : (place : Place) (formals : List Formal) (actuals : Exprs)
+pub actuals_served : (place : Place) (formals : List Formal) (actuals : Exprs)
     → AreScalarActuals formals actuals → AreProperActuals place formals actuals
     → AreServedActuals place formals actuals
 actuals_served place [] actuals s h = tt
@@ -162,7 +162,7 @@ lowered_plain l next name None (Scan at operator along operand) line h = refl
 lowered_plain l next name None (Flood at source operand) line h = refl
 lowered_plain l next name None (Call at it actuals) line h = absurd h
 
-proper_plain : (place : Place) (name : Name) (op : Option Op) (value : Expr)
+pub proper_plain : (place : Place) (name : Name) (op : Option Op) (value : Expr)
     → IsScalarExpr (assigned_expr name op value) → IsProperAssign place name op value
     → IsPlainAssign place name op value
 proper_plain place name (Some op) value h p = p
@@ -286,14 +286,14 @@ module _ (world : World) (setup : Setup) (IsCallable : List ℕ → Type 0)
 
 -- ---- the statements in a statement
 
-contains_first : (first : Stmt) (rest : List Stmt) → Contains (first ∷ rest) first
+pub contains_first : (first : Stmt) (rest : List Stmt) → Contains (first ∷ rest) first
 contains_first first rest = (0, omega arith, refl)
 
-contains_later : (first : Stmt) (rest : List Stmt) (stmt : Stmt) → Contains rest stmt
+pub contains_later : (first : Stmt) (rest : List Stmt) (stmt : Stmt) → Contains rest stmt
     → Contains (first ∷ rest) stmt
 contains_later first rest stmt c = (suc c.0, omega (arith, c.1), c.2)
 
-false_choice : (b : Bool) (place : Place) (form : Form) → b ≡ false → IsProperTested b place form
+pub false_choice : (b : Bool) (place : Place) (form : Form) → b ≡ false → IsProperTested b place form
     → IsProperTested false place form
 false_choice b place form e h = subst (λ (c : Bool). IsProperTested c place form) e h
 

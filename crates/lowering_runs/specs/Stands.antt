@@ -1,6 +1,6 @@
 -- What holds where a statement is lowered, what holds of a state there, and what the statement's
 -- code keeps of it.
-use Rattle.std.specs.Prelude.{◌≡◌, ◌≢◌, ℕ, suc, ◌+◌, ◌<◌, ◌≤◌, true, List, [], ◌∷◌, length, map, Option, Some, None, slice_get}
+use Rattle.std.specs.Prelude.{◌≡◌, ◌≢◌, ℕ, suc, ◌+◌, ◌<◌, ◌≤◌, Bool, true, List, [], ◌∷◌, length, map, Option, Some, None, slice_get}
 use Rattle.zpl_nums.specs.Integer.{IsInteger}
 use Rattle.zpl_binding.specs.Outcome.{Computed, value_or}
 use Rattle.zpl_binding.specs.Regions.{Known, no_region}
@@ -14,7 +14,9 @@ use Rattle.flat_form.specs.Whole.{Whole}
 use Rattle.flat_form.specs.States.{IsWhole}
 use Rattle.flat_form.specs.Right.{is_settled}
 use Rattle.zpl_lowering.specs.Where.{Stored, Slotted, SlotCurrents, SlotEdge, Where, Next, flood_of}
+use Rattle.zpl_lowering.specs.Hoist.{Shifted}
 use Rattle.zpl_lowering.specs.Lowered.{Lowered}
+use Rattle.zpl_lowering.specs.Tables.{stored_row, temp_row}
 use Rattle.lowering_runs.specs.Seen.{scalar_in, slot_in, Spot, seen_store, seen_names, numbered}
 
 -- ---- numbers
@@ -32,6 +34,7 @@ Misses (number ∷ numbers) k = (number ≢ k) × Misses numbers k
 pub record IsBefore (next after : Next) : Type 0 where
   pub scalars : next.scalars ≤ after.scalars
   pub slots : next.slots ≤ after.slots
+  pub arrays : next.arrays ≤ after.arrays
 
 -- ---- names
 
@@ -63,8 +66,12 @@ pub record AreTaken (currents : SlotCurrents) (slots : ℕ) : Type 0 where
 
 -- ---- where a statement is lowered
 
+-- the numbers of arrays
+abbrev pub array_numbers : List Stored → List ℕ
+array_numbers arrays = map (λ stored. stored.array) arrays
+
 -- The scalars that the place knows are those of the store that code has; they rise, below those that
--- are free, and so do slots.
+-- are free, and so do arrays and slots.
 pub record Stands (spots : List Spot) (w : Where) (next : Next) : Type 0 where
   pub numbers : numbered spots ≡ w.numbers.scalars
   pub rises : Rises 0 (numbered spots) next.scalars
@@ -76,16 +83,32 @@ pub record Stands (spots : List Spot) (w : Where) (next : Next) : Type 0 where
   pub edge : IsTakenEdge w.edge next.slots
   -- declared regions have the first slots
   pub declared : length w.setup.known.regions ≤ next.slots
+  pub stored : Rises 0 (array_numbers w.numbers.arrays) next.arrays
 
 -- slots have these ranks, from a number on
 abbrev pub SlotsAt : List ℕ → ℕ → List ℕ → Type 0
 SlotsAt slots k [] = Unit {0}
 SlotsAt slots k (rank ∷ ranks) = (slice_get slots k ≡ Some rank) × SlotsAt slots (suc k) ranks
 
+-- stored arrays have these storages, from a number on, with some fringes
+abbrev pub RowsAt : List ArrayRow → ℕ → List Region → Type 0
+RowsAt rows k [] = Unit {0}
+RowsAt rows k (storage ∷ storages) =
+    ((shifts : List Shifted) × (slice_get rows k ≡ Some (stored_row k shifts storage)))
+    × RowsAt rows (suc k) storages
+
+-- temporaries have these flood dimensions, from a number on
+abbrev pub TempsAt : List ArrayRow → ℕ → List (List Bool) → Type 0
+TempsAt rows k [] = Unit {0}
+TempsAt rows k (flood ∷ temps) =
+    (slice_get rows k ≡ Some (temp_row flood)) × TempsAt rows (suc k) temps
+
 -- there is room in the tables for what code has of its own
 pub record HasRoom (tables : Tables) (next : Next) (own : Lowered) : Type 0 where
   pub scalars : next.scalars + own.scalars ≤ tables.scalars
   pub slots : SlotsAt tables.slots next.slots own.slots
+  pub arrays : RowsAt tables.arrays next.arrays own.arrays
+  pub temps : TempsAt tables.arrays next.temps own.temps
 
 -- ---- arrays and current regions
 
@@ -100,9 +123,6 @@ pub record IsStored (tables : Tables) (stored : Stored) : Type 0 where
 abbrev pub AreStored : Tables → List Stored → Type 0
 AreStored tables [] = Unit {0}
 AreStored tables (stored ∷ arrays) = IsStored tables stored × AreStored tables arrays
-
-abbrev pub array_numbers : List Stored → List ℕ
-array_numbers arrays = map (λ stored. stored.array) arrays
 
 -- The slot has a region of this rank, with flood dimensions where that is known before the run.
 pub record IsCurrent (slots : List Region) (rank : ℕ) (slotted : Slotted) : Type 0 where

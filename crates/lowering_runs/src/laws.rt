@@ -22,6 +22,7 @@ ghost use Rattle.lowering_runs.specs.ScalarText.{IsScalarCall, IsScalarProgram};
 ghost use Rattle.lowering_runs.specs.Served.{IsServed};
 ghost use Rattle.lowering_runs.specs.Shown.{Shows};
 
+use lowering_fits::all_code_is_numbered;
 use zpl_meaning::no_stand_in_is_met;
 
 /// Names of procedures that may be called. No program calls this: laws are said of it.
@@ -44,6 +45,7 @@ pub fn scalar_programs_are_shown()
         (flat_run (flat_tables program settings) a n).stop ≢ Wrong }
 {
     no_stand_in_is_met();
+    all_code_is_numbered();
 }
 
 /// The code of a statement of scalars goes as the statement does, wherever it stands, if that of

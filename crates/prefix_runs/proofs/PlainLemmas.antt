@@ -37,7 +37,7 @@ module _ (world : World) where
   no_array at form never sight w next start stands served room store now like =
       absurd (never w (seen_place sight w start) served)
 
-  array_leaves : (at : ℕ) (form : Form) → FormGoes world ArrayLeaf at form
+  pub array_leaves : (at : ℕ) (form : Form) → FormGoes world ArrayLeaf at form
   array_leaves at (Assign name op value) =
       goes_more world (IsArrayServed name op value)
       (λ c store. mean.exec_form c world.turns at (Assign name op value) store)

@@ -33,7 +33,7 @@ all_dims (one ∷ dims) steps within =
     (All-head IsDimWithinLimit one dims within))
     (all_dims dims (All-tail HasStep one dims steps) (All-tail IsDimWithinLimit one dims within))
 
-is_region : (region : Region) → 1 ≤ region.rank → region.rank ≤ 3 → Formed region
+pub is_region : (region : Region) → 1 ≤ region.rank → region.rank ≤ 3 → Formed region
     → is_within_limit region ≡ true → IsRegion region
 is_region region above below formed within =
     let steps : All HasStep region.dims = All-from_recursion HasStep region.dims formed.0 in
@@ -94,7 +94,7 @@ over_opened flood dims are steps above below within = record {
 
 -- ---- forms
 
-abbrev Keeps : (ℤ → Dim → Dim) → Type 0
+abbrev pub Keeps : (ℤ → Dim → Dim) → Type 0
 Keeps change = (d : ℤ) (dim : Dim) → is_flood (change d dim) ≡ is_flood dim
 
 chosen_range : (a b : Bool) (one two three : Dim) → is_flood one ≡ false → is_flood two ≡ false
@@ -103,12 +103,12 @@ chosen_range true b one two three h k j = h
 chosen_range false true one two three h k j = k
 chosen_range false false one two three h k j = j
 
-outside_keeps : Keeps dim_outside_of
+pub outside_keeps : Keeps dim_outside_of
 outside_keeps d Flood = refl
 outside_keeps d (Range lo hi step align) =
     chosen_range (int_lt (pos 0) d) (int_lt d (pos 0)) _ _ _ refl refl refl
 
-inside_keeps : Keeps dim_inside_of
+pub inside_keeps : Keeps dim_inside_of
 inside_keeps d Flood = refl
 inside_keeps d (Range lo hi step align) =
     chosen_range (int_lt (pos 0) d) (int_lt d (pos 0)) _ _ _ refl refl refl
@@ -122,7 +122,7 @@ moved_keeps : Keeps dim_moved
 moved_keeps d Flood = refl
 moved_keeps d (Range lo hi step align) = refl
 
-each_length : (change : ℤ → Dim → Dim) (v : List ℤ) (dims : List Dim)
+pub each_length : (change : ℤ → Dim → Dim) (v : List ℤ) (dims : List Dim)
     → length (each change v dims) ≡ length dims
 each_length change [] dims = refl
 each_length change (d ∷ v) [] = refl

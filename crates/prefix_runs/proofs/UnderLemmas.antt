@@ -462,6 +462,7 @@ module _ (world : World) (borders : Bool) (prefix : Prefix) (rest : List Prefix)
           edge = edge_on w.setup.known
               (edge_taken w after slotted current next.slots prefix.region edge);
           declared = s.declared;
+          stored = s.stored;
         }
       where
         edge_on : (known : Known) → IsTakenEdge (low.edge_of known slotted prefix.region) next.slots
@@ -548,7 +549,7 @@ module _ (world : World) (borders : Bool) (prefix : Prefix) (rest : List Prefix)
   fills_agree v course e (Fills {region = region} {after = after} found filled) told =
       behind_agrees region after found filled told e
       (room_rest tables next (code.Rows []) (of_opened opened) inner_made
-      (record { scalars = room.scalars; slots = room.slots }))
+      (record { scalars = room.scalars; slots = room.slots; arrays = room.arrays; temps = room.temps }))
 
   pub under_agrees : Agrees (IsLike tables sight.spots w next now) world.turns 1
       (mean.under (context world sight w now) (prefix ∷ rest) store (λ inner. run inner store))
@@ -557,7 +558,7 @@ module _ (world : World) (borders : Bool) (prefix : Prefix) (rest : List Prefix)
   under_agrees =
       fills_agree value (rows_do (step tables world.turns) (decide tables world.turns) opened.rows now) refl
       (comes.fills (room_first tables next (code.Rows []) (of_opened opened) inner_made
-      (record { scalars = room.scalars; slots = room.slots })).slots) comes.told
+      (record { scalars = room.scalars; slots = room.slots; arrays = room.arrays; temps = room.temps })).slots) comes.told
 
 -- ---- all prefixes
 

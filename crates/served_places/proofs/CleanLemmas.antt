@@ -23,7 +23,7 @@ use Rattle.served_places.proofs.PrefixLemmas.{under_told}
 
 -- ---- what is seen behind a prefix
 
-one_with : (currents : Currents) (slots : SlotCurrents) (rank : Rank) (over : Over)
+pub one_with : (currents : Currents) (slots : SlotCurrents) (rank : Rank) (over : Over)
     (slotted : Slotted) → (IsSome currents.one → IsSome slots.one)
     → IsSome (with_over currents rank over).one → IsSome (with_slotted slots rank slotted).one
 one_with currents slots (Some (suc zero)) over slotted f h = refl
@@ -33,7 +33,7 @@ one_with currents slots (Some zero) over slotted f h = f h
 one_with currents slots (Some (suc (suc (suc (suc k))))) over slotted f h = f h
 one_with currents slots None over slotted f h = f h
 
-two_with : (currents : Currents) (slots : SlotCurrents) (rank : Rank) (over : Over)
+pub two_with : (currents : Currents) (slots : SlotCurrents) (rank : Rank) (over : Over)
     (slotted : Slotted) → (IsSome currents.two → IsSome slots.two)
     → IsSome (with_over currents rank over).two → IsSome (with_slotted slots rank slotted).two
 two_with currents slots (Some (suc zero)) over slotted f h = f h
@@ -43,7 +43,7 @@ two_with currents slots (Some zero) over slotted f h = f h
 two_with currents slots (Some (suc (suc (suc (suc k))))) over slotted f h = f h
 two_with currents slots None over slotted f h = f h
 
-three_with : (currents : Currents) (slots : SlotCurrents) (rank : Rank) (over : Over)
+pub three_with : (currents : Currents) (slots : SlotCurrents) (rank : Rank) (over : Over)
     (slotted : Slotted) → (IsSome currents.three → IsSome slots.three)
     → IsSome (with_over currents rank over).three
     → IsSome (with_slotted slots rank slotted).three
@@ -54,7 +54,7 @@ three_with currents slots (Some zero) over slotted f h = f h
 three_with currents slots (Some (suc (suc (suc (suc k))))) over slotted f h = f h
 three_with currents slots None over slotted f h = f h
 
-array_there : (spots : List Spot) (thing : Option Thing) (target : ℕ) (home : Region)
+pub array_there : (spots : List Spot) (thing : Option Thing) (target : ℕ) (home : Region)
     → option_map (seen_thing spots) thing ≡ Some (ArrayAt target home)
     → thing ≡ Some (ArrayAt target home)
 array_there spots (Some (ArrayAt p other)) target home e = e

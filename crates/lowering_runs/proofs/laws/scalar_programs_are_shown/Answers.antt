@@ -8,9 +8,9 @@ pub returns : goal.returns
 returns c = record {
   shown = λ program settings grammar clean scalar n.
       program_shows program settings scalar (c.no_stand_in_is_met.ensures program settings grammar clean)
-      n;
+      (c.all_code_is_numbered.ensures program settings grammar clean) n;
   right = λ program settings grammar clean scalar.
       never_wrong (flat_tables program settings) (outcome_of program settings) (λ n.
       program_shows program settings scalar (c.no_stand_in_is_met.ensures program settings grammar clean)
-      n);
+      (c.all_code_is_numbered.ensures program settings grammar clean) n);
 }

@@ -1,0 +1,371 @@
+-- Parameters and local variables, arrays among them: the frame that a procedure has is what is seen
+-- of the state, and its arrays stand in the tables at numbers of their own.
+use Rattle.std.proofs.Common.{◌≡◌, ℕ, zero, suc, ◌+◌, ◌≤◌, ◌<◌, ℤ, List, []}
+use Rattle.std.proofs.Common.{◌∷◌, ◌++◌, map, length, take, Some, refl, sym, ap, ◌∙◌, subst}
+use Rattle.std.proofs.Common.{arith, append_assoc, append-nil, length-append}
+use Rattle.std.proofs.lemmas.List.{length-map}
+use Rattle.std.specs.Prelude.{slice_get}
+use Rattle.zpl_region.specs.declared.regions.Region.{Region}
+use Rattle.zpl_arrays.specs.Array.{Array}
+use Rattle.zpl_tree.specs.Syntax.{Name}
+use Rattle.zpl_names.specs.Expansion.{FormalName}
+use Rattle.zpl_meaning.specs.Store.{Thing, Scalar, ArrayAt, Fixed, Names, Store, cut_back}
+use Rattle.zpl_meaning.specs.Variables.{Frame, with_array_named, with_new_array}
+use Rattle.zpl_meaning.specs.Calls.{with_handed, with_formals}
+use Rattle.node_form.specs.declared.tables.Tables.{Tables}
+use Rattle.flat_form.specs.Whole.{Whole}
+use Rattle.zpl_lowering.specs.Where.{Stored, Next}
+use Rattle.zpl_lowering.specs.Lowered.{Lowered}
+use Rattle.zpl_lowering.specs.Statement.{Given, Valued, Copied, Referring}
+use Rattle.zpl_lowering.specs.Program as low
+use Rattle.zpl_lowering.specs.Program.{Framed}
+use Rattle.lowering_runs.specs.Seen.{scalar_in, array_in, Spot, At, Answer, seen_spot, seen_store, numbered, seen_thing, seen_names}
+use Rattle.lowering_runs.specs.Stands.{Rises, IsKnown, AreKnown, array_numbers, IsStored, AreStored}
+use Rattle.lowering_runs.specs.Frames.{seen_frame, seen_given, AreGiven}
+use Rattle.lowering_runs.specs.Frames as low_frames
+use Rattle.lowering_runs.proofs.NumberLemmas.{rises_on, rises_with}
+use Rattle.lowering_runs.proofs.FrameLemmas.{map_append, thing_below, known_both, thing_more, scalar_frame}
+use Rattle.lowering_runs.proofs.FrameLemmas as lowers
+use Rattle.lowering_fits.specs.Whole.{given_frame, given_frames}
+
+-- ---- numbers of arrays
+
+pub numbers_append : (xs ys : List Stored)
+    → array_numbers (xs ++ ys) ≡ array_numbers xs ++ array_numbers ys
+numbers_append xs ys = map_append (λ (one : Stored). one.array) xs ys
+
+pub stored_append : (tables : Tables) (xs : List Stored) (one : Stored) → AreStored tables xs
+    → IsStored tables one → AreStored tables (xs ++ one ∷ [])
+stored_append tables [] one h k = (k, tt)
+stored_append tables (x ∷ xs) one h k = (h.0, stored_append tables xs one h.1 k)
+
+-- what a name stands for is there among more arrays
+array_more : (scalars arrays more : ℕ) (thing : Thing) → arrays ≤ more
+    → IsKnown scalars arrays thing → IsKnown scalars more thing
+array_more scalars arrays more (Scalar p) le h = h
+array_more scalars arrays more (ArrayAt p home) le h = omega (arith, le, h)
+array_more scalars arrays more (Fixed value) le h = h
+
+pub arrays_more : (scalars arrays more : ℕ) (names : Names) → arrays ≤ more
+    → AreKnown scalars arrays names → AreKnown scalars more names
+arrays_more scalars arrays more [] le h = tt
+arrays_more scalars arrays more (entry ∷ names) le h =
+    (array_more scalars arrays more entry.1 le h.0, arrays_more scalars arrays more names le h.1)
+
+inside : {X : Type 0} (xs : List X) (k : ℕ) (x : X) → slice_get xs k ≡ Some x → k < length xs
+inside [] k x e = cc
+inside (y ∷ xs) zero x e = omega arith
+inside (y ∷ xs) (suc k) x e = let l = inside xs k x e in omega (arith, l)
+
+-- stored arrays are among those of the tables
+pub apart_in : (tables : Tables) (from : ℕ) (arrays : List Stored) (to : ℕ)
+    → from ≤ length tables.arrays → Rises from (array_numbers arrays) to → AreStored tables arrays
+    → Rises from (array_numbers arrays) (length tables.arrays)
+apart_in tables from [] to le h s = le
+apart_in tables from (one ∷ arrays) to le h s =
+    let l = inside tables.arrays one.array s.0.row s.0.found in
+    (h.0, apart_in tables (suc one.array) arrays to (omega (arith, l)) h.1 s.1)
+
+-- ---- the store without what has come behind
+
+cut_map : {A B : Type 0} (f g : A → B) (xs ys : List A)
+    → take (length (map f xs)) (map g (xs ++ ys)) ≡ map g xs
+cut_map f g [] ys = refl
+cut_map f g (x ∷ xs) ys = ap (λ zs. g x ∷ zs) (cut_map f g xs ys)
+
+pub cut_seen : (base more : List Spot) (arrays own : List Stored) (start after : Whole)
+    → cut_back (seen_store base arrays start) (seen_store (base ++ more) (arrays ++ own) after)
+    ≡ seen_store base arrays after
+cut_seen base more arrays own start after =
+    ap (λ (xs : List ℤ). record (cut_back (seen_store base arrays start)
+    (seen_store (base ++ more) (arrays ++ own) after)) { scalars = xs })
+    (cut_map (seen_spot start) (seen_spot after) base more)
+    ∙ ap (λ (xs : List Array). record (seen_store base arrays after) { arrays = xs })
+    (cut_map (λ (s : Stored). array_in start s.array) (λ s. array_in after s.array) arrays own)
+
+-- ---- frames
+
+-- Of a frame over the store of the caller: its own scalars and arrays have numbers that were free
+-- there, and rise, below others; and the tables have its arrays.
+pub record Framing (tables : Tables) (base : List Spot) (bottom : ℕ) (arrays : List Stored)
+    (framed : Framed) (spots : List Spot) (next : Next) : Type 0 where
+  pub frame : low_frames.Framing base bottom framed.numbers.arrays framed spots next.scalars
+  pub own : List Stored
+  pub arrays_are : framed.numbers.arrays ≡ arrays ++ own
+  pub apart : Rises 0 (array_numbers framed.numbers.arrays) next.arrays
+  pub stored : AreStored tables framed.numbers.arrays
+
+-- a frame with an array more
+pub array_frame : (spots : List Spot) (framed : Framed) (name : Name) (home : Region)
+    (stored : Stored) (array : Array) (now after : Whole)
+    → map (seen_spot after) spots ≡ map (seen_spot now) spots
+    → array_in after stored.array ≡ array
+    → map (λ (s : Stored). array_in after s.array) framed.numbers.arrays
+    ≡ map (λ (s : Stored). array_in now s.array) framed.numbers.arrays
+    → with_array_named (seen_frame spots framed now) name home array
+    ≡ seen_frame spots (low.with_array framed name home stored) after
+array_frame spots framed name home stored array now after same here others =
+    ap (λ (names : Names). record {
+      names = names;
+      store = with_new_array (seen_store spots framed.numbers.arrays now) array;
+    })
+    names_are
+    ∙ ap (λ (xs : List Array). record {
+      names = seen_names spots (low.with_array framed name home stored).names;
+      store = record (seen_store spots framed.numbers.arrays now) { arrays = xs };
+    }) arrays_are
+    ∙ ap (λ (xs : List ℤ). record {
+      names = seen_names spots (low.with_array framed name home stored).names;
+      store = record (seen_store spots (framed.numbers.arrays ++ stored ∷ []) after) { scalars = xs };
+    })
+    (sym same)
+  where
+    count : length (map (λ (s : Stored). array_in now s.array) framed.numbers.arrays)
+        ≡ length framed.numbers.arrays
+    count = length-map framed.numbers.arrays (λ (s : Stored). array_in now s.array)
+
+    names_are : seen_names spots framed.names
+        ++ (
+          name.text,
+          ArrayAt (length (map (λ (s : Stored). array_in now s.array) framed.numbers.arrays)) home,
+        ) ∷ []
+        ≡ seen_names spots (low.with_array framed name home stored).names
+    names_are =
+        ap (λ (p : ℕ). seen_names spots framed.names ++ (name.text, ArrayAt p home) ∷ []) count
+        ∙ sym (map_append (λ (e : List ℕ × Thing). (e.0, seen_thing spots e.1)) framed.names
+        ((name.text, ArrayAt (length framed.numbers.arrays) home) ∷ []))
+
+    arrays_are : map (λ (s : Stored). array_in now s.array) framed.numbers.arrays ++ array ∷ []
+        ≡ map (λ (s : Stored). array_in after s.array) (framed.numbers.arrays ++ stored ∷ [])
+    arrays_are =
+        ap (λ (xs : List Array). xs ++ array ∷ []) (sym others)
+        ∙ ap (λ (a : Array). map (λ (s : Stored). array_in after s.array) framed.numbers.arrays ++ a ∷ [])
+        (sym here)
+        ∙ sym (map_append (λ (s : Stored). array_in after s.array) framed.numbers.arrays (stored ∷ []))
+
+module _ (tables : Tables) (base : List Spot) (bottom : ℕ) (arrays : List Stored) where
+  abbrev Fits : Framed → List Spot → Next → Type 0
+  Fits = Framing tables base bottom arrays
+
+  -- a scalar more
+  pub framing_scalar : (framed : Framed) (spots : List Spot) (next more : Next) (k : ℕ)
+      (name : Name) → next.scalars ≤ k → bottom ≤ k → suc k ≤ more.scalars
+      → next.arrays ≤ more.arrays → Fits framed spots next
+      → Fits (low.with_scalar framed name k) (spots ++ At k ∷ []) more
+  framing_scalar framed spots next more k name le low le_more arrays_le h =
+      let f = lowers.framing_with base bottom framed.numbers.arrays framed spots next.scalars k name
+      le low h.frame in
+      record {
+        frame = record {
+          more = f.more;
+          is = f.is;
+          above = f.above;
+          numbers = f.numbers;
+          arrays_are = f.arrays_are;
+          rises = rises_on 0 (numbered (spots ++ At k ∷ [])) (suc k) more.scalars le_more f.rises;
+          known = f.known;
+        };
+        own = h.own;
+        arrays_are = h.arrays_are;
+        apart = rises_on 0 (array_numbers framed.numbers.arrays) next.arrays more.arrays arrays_le
+            h.apart;
+        stored = h.stored;
+      }
+
+  -- an array more
+  pub framing_array : (framed : Framed) (spots : List Spot) (next more : Next) (name : Name)
+      (home : Region) (stored : Stored) → next.arrays ≤ stored.array
+      → suc stored.array ≤ more.arrays → next.scalars ≤ more.scalars → IsStored tables stored
+      → Fits framed spots next → Fits (low.with_array framed name home stored) spots more
+  framing_array framed spots next more name home stored le le_more scalars_le is h =
+      let xs = framed.numbers.arrays in
+      let count = length-append xs (stored ∷ []) in
+      record {
+        frame = record {
+          more = h.frame.more;
+          is = h.frame.is;
+          above = h.frame.above;
+          numbers = h.frame.numbers;
+          arrays_are = refl;
+          rises = rises_on 0 (numbered spots) next.scalars more.scalars scalars_le h.frame.rises;
+          known = known_both (length (numbered spots)) (length (xs ++ stored ∷ [])) framed.names _
+              (arrays_more (length (numbered spots)) (length xs) (length (xs ++ stored ∷ []))
+              framed.names (omega (arith, count)) h.frame.known)
+              (omega (arith, count), tt);
+        };
+        own = h.own ++ stored ∷ [];
+        arrays_are = ap (λ (ys : List Stored). ys ++ stored ∷ []) h.arrays_are
+            ∙ append_assoc arrays h.own (stored ∷ []);
+        apart = subst (λ (ks : List ℕ). Rises 0 ks more.arrays)
+            (sym (numbers_append xs (stored ∷ [])))
+            (rises_with 0 (array_numbers xs) stored.array more.arrays (omega (arith, le_more))
+            (rises_on 0 (array_numbers xs) next.arrays stored.array le h.apart));
+        stored = stored_append tables xs stored h.stored is;
+      }
+
+  -- the same, among others
+  pub framing_on : (framed : Framed) (spots : List Spot) (next more : Next)
+      → next.scalars ≤ more.scalars → next.arrays ≤ more.arrays → Fits framed spots next
+      → Fits framed spots more
+  framing_on framed spots next more le arrays_le h = record {
+    frame = record {
+      more = h.frame.more;
+      is = h.frame.is;
+      above = h.frame.above;
+      numbers = h.frame.numbers;
+      arrays_are = h.frame.arrays_are;
+      rises = rises_on 0 (numbered spots) next.scalars more.scalars le h.frame.rises;
+      known = h.frame.known;
+    };
+    own = h.own;
+    arrays_are = h.arrays_are;
+    apart = rises_on 0 (array_numbers framed.numbers.arrays) next.arrays more.arrays arrays_le h.apart;
+    stored = h.stored;
+  }
+
+-- ---- parameters that take values, and references
+
+-- a name of something that there is
+thing_frame : (base more : List Spot) (framed : Framed) (spots : List Spot) (arrays : ℕ)
+    (name : Name) (thing : Thing) (now : Whole) → spots ≡ base ++ more
+    → IsKnown (length (numbered base)) arrays thing
+    → with_handed (seen_frame spots framed now) name (seen_given base now (Referring thing))
+    ≡ seen_frame spots (record framed { names = framed.names ++ (name.text, thing) ∷ [] }) now
+thing_frame base more framed spots arrays name thing now is known =
+    ap (λ (t : Thing). record {
+      names = seen_names spots framed.names ++ (name.text, t) ∷ [];
+      store = seen_store spots framed.numbers.arrays now;
+    })
+    (sym (ap (λ (xs : List Spot). seen_thing xs thing) is ∙ thing_below base more arrays thing known))
+    ∙ ap (λ (ns : Names). record {
+      names = ns;
+      store = seen_store spots framed.numbers.arrays now;
+    })
+    (sym (map_append (λ (e : List ℕ × Thing). (e.0, seen_thing spots e.1)) framed.names
+    ((name.text, thing) ∷ [])))
+
+le_append : (xs ys : List Spot) → length (numbered xs) ≤ length (numbered (xs ++ ys))
+le_append [] ys = omega arith
+le_append (At k ∷ xs) ys = let l = le_append xs ys in omega (arith, l)
+le_append (Answer value ∷ xs) ys = le_append xs ys
+
+pub longer_spots : (base more spots : List Spot) → spots ≡ base ++ more
+    → length (numbered base) ≤ length (numbered spots)
+longer_spots base more spots is =
+    subst (λ (xs : List Spot). length (numbered base) ≤ length (numbered xs)) (sym is)
+    (le_append base more)
+
+-- a frame behind parameters: none of them has code
+pub record AreFramed (tables : Tables) (base : List Spot) (bottom : ℕ) (arrays : List Stored)
+    (formals : List FormalName) (givens : List Given) (framed : Framed) (spots : List Spot)
+    (line : ℕ) (next : Next) (now : Whole) (after : Next) : Type 0 where
+  pub sight : List Spot
+  pub code_is : (rest : Framed → Next → Lowered)
+      → low.givens_code line formals givens framed next rest
+      ≡ rest (given_frames line formals givens framed next).frame next
+  pub next_is : (given_frames line formals givens framed next).next ≡ next
+  pub frame_is : with_formals (seen_frame spots framed now) formals (map (seen_given base now) givens)
+      ≡ seen_frame sight (given_frames line formals givens framed next).frame now
+  pub framing : Framing tables base bottom arrays (given_frames line formals givens framed next).frame
+      sight after
+
+given_le : (scalars arrays from : ℕ) (givens : List Given) (to : ℕ)
+    → AreGiven scalars arrays from givens to → from ≤ to
+given_le scalars arrays from [] to h = h
+given_le scalars arrays from (Valued k ∷ givens) to h =
+    let l = given_le scalars arrays (suc k) givens to h.1 in omega (arith, l, h.0)
+given_le scalars arrays from (Referring thing ∷ givens) to h =
+    given_le scalars arrays from givens to h.1
+given_le scalars arrays from (Copied stored home ∷ givens) to h = absurd h
+
+abbrev with_bound : Next → ℕ → Next
+with_bound next k = record next { scalars = k }
+
+pub givens_framed : (tables : Tables) (base : List Spot) (bottom : ℕ) (arrays : List Stored)
+    (formals : List FormalName) (givens : List Given) (framed : Framed) (spots : List Spot)
+    (line : ℕ) (next : Next) (now : Whole) (from : ℕ) (after : Next) → bottom ≤ from
+    → AreGiven (length (numbered base)) (length arrays) from givens after.scalars
+    → Framing tables base bottom arrays framed spots (with_bound after from)
+    → AreFramed tables base bottom arrays formals givens framed spots line next now after
+givens_framed tables base bottom arrays [] givens framed spots line next now from after le g h =
+    record {
+      sight = spots;
+      code_is = λ rest. refl;
+      next_is = refl;
+      frame_is = refl;
+      framing = framing_on tables base bottom arrays framed spots (with_bound after from) after
+          (given_le (length (numbered base)) (length arrays) from givens after.scalars g) (omega arith)
+          h;
+    }
+givens_framed tables base bottom arrays (formal ∷ formals) [] framed spots line next now from after
+    le g h = record {
+      sight = spots;
+      code_is = λ rest. refl;
+      next_is = refl;
+      frame_is = refl;
+      framing = framing_on tables base bottom arrays framed spots (with_bound after from) after g
+          (omega arith) h;
+    }
+givens_framed tables base bottom arrays (formal ∷ formals) (Valued k ∷ givens) framed spots line next
+    now from after le g h =
+    let inner = low.with_scalar framed formal.name k in
+    let here = spots ++ At k ∷ [] in
+    let r = givens_framed tables base bottom arrays formals givens inner here line next now (suc k)
+    after (omega (arith, le, g.0)) g.1
+    (framing_scalar tables base bottom arrays framed spots (with_bound after from)
+    (with_bound after (suc k)) k formal.name g.0 (omega (arith, le, g.0)) (omega arith) (omega arith)
+    h) in
+    record {
+      sight = r.sight;
+      code_is = r.code_is;
+      next_is = r.next_is;
+      frame_is =
+          ap (λ (f : Frame). with_formals f formals (map (seen_given base now) givens))
+          (scalar_frame spots framed (length framed.numbers.arrays) k formal.name (scalar_in now k) now
+          now h.frame.known h.frame.numbers refl refl refl)
+          ∙ r.frame_is;
+      framing = r.framing;
+    }
+givens_framed tables base bottom arrays (formal ∷ formals) (Referring thing ∷ givens) framed spots
+    line next now from after le g h =
+    let inner : Framed =
+    record framed { names = framed.names ++ (formal.name.text, thing) ∷ [] } in
+    let count : length framed.numbers.arrays ≡ length arrays + length h.own =
+    ap length h.arrays_are ∙ length-append arrays h.own in
+    let longer = longer_spots base h.frame.more spots h.frame.is in
+    let known : IsKnown (length (numbered spots)) (length framed.numbers.arrays) thing =
+    thing_more (length (numbered base)) (length (numbered spots)) (length framed.numbers.arrays) thing
+    longer
+    (array_more (length (numbered base)) (length arrays) (length framed.numbers.arrays) thing
+    (omega (arith, count)) g.0) in
+    let r = givens_framed tables base bottom arrays formals givens inner spots line next now from after
+    le g.1
+    (record {
+      frame = record {
+        more = h.frame.more;
+        is = h.frame.is;
+        above = h.frame.above;
+        numbers = h.frame.numbers;
+        arrays_are = refl;
+        rises = h.frame.rises;
+        known = known_both (length (numbered spots)) (length framed.numbers.arrays) framed.names _
+            h.frame.known (known, tt);
+      };
+      own = h.own;
+      arrays_are = h.arrays_are;
+      apart = h.apart;
+      stored = h.stored;
+    }) in
+    record {
+      sight = r.sight;
+      code_is = r.code_is;
+      next_is = r.next_is;
+      frame_is =
+          ap (λ (f : Frame). with_formals f formals (map (seen_given base now) givens))
+          (thing_frame base h.frame.more framed spots (length arrays) formal.name thing now h.frame.is
+          g.0)
+          ∙ r.frame_is;
+      framing = r.framing;
+    }
+givens_framed tables base bottom arrays (formal ∷ formals) (Copied stored home ∷ givens) framed spots
+    line next now from after le g h = absurd g

@@ -1,0 +1,10 @@
+pub mod FrameLemmas
+pub mod LocalLemmas
+pub mod KnownLemmas
+pub mod CallLemmas
+pub mod PlaceLemmas
+pub mod PostLemmas
+pub mod RoutineLemmas
+pub mod LeafLemmas
+pub mod StartLemmas
+pub mod ProgramLemmas

@@ -1,0 +1,558 @@
+-- Statements of whole programs suit the places where they are run: by what the text says of prefixes,
+-- and by what is known of forms that have no statements in them.
+use Rattle.std.proofs.Common.{◌≡◌, ◌⊎◌, inl, inr, ℕ, zero, suc, Bool, true, false, List, [], ◌∷◌, ◌++◌}
+use Rattle.std.proofs.Common.{map, length, Option, Some, None, option_to_list, refl, sym, ap, ◌∙◌, subst}
+use Rattle.std.proofs.Common.{pos}
+use Rattle.std.specs.Prelude.{Contains, IsSome}
+use Rattle.std.specs.List.{AllByRecursion}
+use Rattle.std.proofs.lemmas.List.Elements.{Contains-append_left, Contains-append_right}
+use Rattle.zpl_region.specs.declared.dims.Dim.{Dim}
+use Rattle.zpl_region.specs.declared.dims.Dim.TheVariants as dim
+use Rattle.zpl_region.specs.declared.regions.Region.{Region}
+use Rattle.zpl_tree.specs.Syntax.{Base, Inner, Rexpr, Dims, Posts, NoPost, ThenPost, Mask as MaskText, Prefix, Stmt, Prefixed, Stmts, NoStmt, ThenStmt, Form, Assign, Invoke, Block, If, While, Repeat, For, Border, Write, Return, Tested, Arms, NoArm, ThenArm, Otherwise, NoElse, Else, Program}
+use Rattle.zpl_tree.specs.Grammar.{IsPrefix, IsProgram}
+use Rattle.zpl_names.specs.Kinds.{Rank, Shape}
+use Rattle.zpl_names.specs.Scope.{Scope}
+use Rattle.zpl_names.specs.Ranks.{inner_rank, mask_rank}
+use Rattle.zpl_names.specs.Shapes.{Current, Absent, Unknown, Over as Shaped, Shapes, current_at, inner_shape, shape_within, prefix_rank, shapes_under}
+use Rattle.zpl_names.specs.Sites.{Reach, AtMask, AtRegion, Limit, Test as TestRole, region_sites, prefix_sites, prefixes_sites, under_prefixes, is_shattered}
+use Rattle.zpl_names.specs.Sites.{under_prefix as reach_under}
+use Rattle.zpl_names.specs.Faults.{flood_clashes}
+use Rattle.zpl_names.specs.Accepted.{IsFaultless}
+use Rattle.zpl_binding.specs.Regions.{Known}
+use Rattle.zpl_binding.specs.Settings.{Setting}
+use Rattle.zpl_meaning.specs.Store.{Environment, Store}
+use Rattle.zpl_meaning.specs.Context.{Over, Currents, Edge, Setup, Place, reach_of}
+use Rattle.zpl_meaning.specs.Proper.{IsArrayRank, IsProperPrefix, IsProperForm, IsProperUnder, IsProperStmt, IsProperTested, AreProperTests}
+use Rattle.zpl_meaning.specs.Regions as mean
+use Rattle.zpl_meaning.specs.Visited as visits
+use Rattle.zpl_meaning.specs.Visited.{IsVisited, Holds, list_of, arms_parts, else_parts, parts_of}
+use Rattle.zpl_meaning.specs.Statement.{step_expr}
+use Rattle.zpl_meaning.proofs.DepthLemmas.{each_left, each_right}
+use Rattle.zpl_meaning.proofs.ProperLemmas.{IsClean, Clean, Fits as FitsPlace, reach_at}
+use Rattle.zpl_meaning.proofs.StatementLemmas.{fits_under}
+use Rattle.zpl_meaning.proofs.VisitLemmas.{Laws, clean_of, Inside}
+use Rattle.meaning_ranks.specs.Ranked.{IsRankedForm, IsRankedUnder, IsRankedStmt}
+use Rattle.meaning_ranks.specs.Shaped.{IsShaped, AreFloods}
+use Rattle.meaning_ranks.proofs.CurrentLemmas.{AreTold, region_told, region_first}
+use Rattle.meaning_ranks.proofs.CurrentLemmas as currents
+use Rattle.meaning_ranks.proofs.PlaceLemmas.{IsAt, behind, inside_at, part_at}
+use Rattle.zpl_lowering.specs.Where.{Slotted, SlotCurrents, Where}
+use Rattle.zpl_lowering.specs.Statement as low
+use Rattle.lowering_runs.specs.Seen.{Spot}
+use Rattle.lowering_runs.specs.Scalars.{IsScalarAt}
+use Rattle.lowering_runs.specs.Suits.{SuitsStmt, SuitAll, SuitsForm, SuitArms, SuitsElse}
+use Rattle.lowering_runs.proofs.StatementLemmas.{role_scalar, false_choice, contains_first, contains_later}
+use Rattle.prefix_runs.specs.Opens.{AreGivenPosts}
+use Rattle.prefix_runs.specs.Under.{opened_at, over_of, mean_under, IsUnder}
+use Rattle.served_places.specs.Told.{IsSlotTold, AreSlotsTold, IsSeenFrom, IsTold, place_of}
+use Rattle.served_places.specs.Given.{IsSound}
+use Rattle.served_places.proofs.GivenLemmas.{prefix_opens}
+use Rattle.served_places.proofs.PrefixLemmas.{under_told}
+use Rattle.served_places.proofs.CleanLemmas.{one_with, two_with, three_with}
+use Rattle.shown_programs.specs.Text.{HasSmallInner, HaveSmallPrefixes, behind_prefixes, IsShownStmt, AreShown, IsShownForm, AreShownArms, IsShownElse}
+use Rattle.shown_programs.proofs.CallLemmas.{setup, IsKnownAt}
+
+-- ---- regions of the shapes that slots have
+
+abbrev shape_dims : Shape → List Dim
+shape_dims [] = []
+shape_dims (true ∷ shape) = dim.Flood ∷ shape_dims shape
+shape_dims (false ∷ shape) = dim.Range (pos 0) (pos 0) (pos 1) (pos 0) ∷ shape_dims shape
+
+shape_floods : (shape : Shape) → AreFloods shape (shape_dims shape)
+shape_floods [] = tt
+shape_floods (true ∷ shape) = (refl, shape_floods shape)
+shape_floods (false ∷ shape) = (refl, shape_floods shape)
+
+abbrev some_over : Current → Option Over
+some_over Absent = None
+some_over Unknown = None
+some_over (Shaped shape masked) =
+    Some (record {
+      region = record { rank = length shape; dims = shape_dims shape };
+      mask = None;
+    })
+
+over_told : (rank : ℕ) (current : Current) (o : Option Slotted) → IsSlotTold rank current o
+    → currents.IsTold rank current (some_over current)
+over_told rank Absent o h = refl
+over_told rank Unknown o h = h
+over_told rank (Shaped shape masked) None h = absurd h
+over_told rank (Shaped shape masked) (Some slotted) h =
+    (h.0, λ e. refl, record { rank = refl; floods = shape_floods shape })
+
+abbrev currents_of : Shapes → Currents
+currents_of shapes =
+    record {
+      one = some_over shapes.one;
+      two = some_over shapes.two;
+      three = some_over shapes.three;
+    }
+
+are_told : (shapes : Shapes) (slots : SlotCurrents) → AreSlotsTold shapes slots
+    → AreTold shapes (currents_of shapes)
+are_told shapes slots h = record {
+  one = over_told 1 shapes.one slots.one h.one;
+  two = over_told 2 shapes.two slots.two h.two;
+  three = over_told 3 shapes.three slots.three h.three;
+}
+
+-- the shape of a bracket
+record IsShapeOf (scope : Scope) (current : Current) (n : ℕ) (region : Inner) : Type 0 where
+  shape : Shape
+  is : shape_within scope current region ≡ Some shape
+  many : length shape ≡ n
+
+shape_of : (scope : Scope) (current : Current) (n : ℕ) (region : Inner)
+    → currents.HasLength n (shape_within scope current region) → IsShapeOf scope current n region
+shape_of scope current n region = by (shape_within scope current region) refl
+  where
+    by : (o : Option Shape) → shape_within scope current region ≡ o → currents.HasLength n o
+        → IsShapeOf scope current n region
+    by None e h = absurd h
+    by (Some shape) e h = record { shape = shape; is = e; many = h }
+
+-- ---- what is told of a form behind its prefixes
+
+proper_behind : (prefixes : List Prefix) (form : Form) (place inner : Place)
+    → IsProperUnder place prefixes form → visits.IsUnder prefixes place inner
+    → IsProperForm inner form
+proper_behind [] form place inner h visits.Itself = h
+proper_behind (prefix ∷ rest) form place inner h (visits.Behind over deeper) =
+    proper_behind rest form (mean.under_prefix place prefix over) inner (h.1 over) deeper
+
+ranked_behind : (prefixes : List Prefix) (form : Form) (place inner : Place)
+    → IsRankedUnder place prefixes form → visits.IsUnder prefixes place inner
+    → IsRankedForm inner form
+ranked_behind [] form place inner h visits.Itself = h
+ranked_behind (prefix ∷ rest) form place inner h (visits.Behind over deeper) =
+    ranked_behind rest form (mean.under_prefix place prefix over) inner (h.1 over) deeper
+
+reach_behind : (prefixes : List Prefix) (place inner : Place) → visits.IsUnder prefixes place inner
+    → behind_prefixes (reach_of place) prefixes ≡ reach_of inner
+reach_behind [] place inner visits.Itself = refl
+reach_behind (prefix ∷ rest) place inner (visits.Behind over deeper) =
+    reach_behind rest (mean.under_prefix place prefix over) inner deeper
+
+-- vectors that stand in brackets have no fault
+abbrev pub AreGivenInner : Known → Inner → Type 0
+AreGivenInner known (Rexpr pre base post) = AreGivenPosts known post
+AreGivenInner known (Dims dims) = Unit {0}
+
+abbrev pub AreGivenPrefixes : Known → List Prefix → Type 0
+AreGivenPrefixes known [] = Unit {0}
+AreGivenPrefixes known (prefix ∷ rest) =
+    AreGivenInner known prefix.region × AreGivenPrefixes known rest
+
+abbrev mutual
+  pub IsGivenStmt : Known → Stmt → Type 0
+  IsGivenStmt known (Prefixed at prefixes form) =
+      AreGivenPrefixes known prefixes × IsGivenForm known form
+
+  pub AreGivenStmts : Known → Stmts → Type 0
+  AreGivenStmts known NoStmt = Unit {0}
+  AreGivenStmts known (ThenStmt first rest) = IsGivenStmt known first × AreGivenStmts known rest
+
+  pub IsGivenForm : Known → Form → Type 0
+  IsGivenForm known (Block body) = AreGivenStmts known body
+  IsGivenForm known (If arms otherwise) = AreGivenArms known arms × IsGivenElse known otherwise
+  IsGivenForm known (While test body) = AreGivenStmts known body
+  IsGivenForm known (Repeat body until test) = AreGivenStmts known body
+  IsGivenForm known (For head body) = AreGivenStmts known body
+  IsGivenForm known (Assign name op value) = Unit {0}
+  IsGivenForm known (Invoke name actuals) = Unit {0}
+  IsGivenForm known (Border kind names) = Unit {0}
+  IsGivenForm known (Write line items) = Unit {0}
+  IsGivenForm known (Return value) = Unit {0}
+
+  pub AreGivenArms : Known → Arms → Type 0
+  AreGivenArms known NoArm = Unit {0}
+  AreGivenArms known (ThenArm (Tested at test body) rest) =
+      AreGivenStmts known body × AreGivenArms known rest
+
+  pub IsGivenElse : Known → Otherwise → Type 0
+  IsGivenElse known NoElse = Unit {0}
+  IsGivenElse known (Else body) = AreGivenStmts known body
+
+sound_inner : (known : Known) (region : Inner) → AreGivenInner known region → HasSmallInner region
+    → IsSound known region
+sound_inner known (Rexpr pre base post) h s = h
+sound_inner known (Dims dims) h s = s
+
+module _ (program : Program) (settings : List Setting) (laws : Laws program)
+    (grammar : IsProgram program) (clean : IsFaultless program) where
+  abbrev At : Place → Shapes → Stmt → Type 0
+  At place shapes stmt = IsAt program settings laws grammar clean place shapes stmt
+
+  abbrev Here : Where → Shapes → Type 0
+  Here w shapes = IsKnownAt program settings laws grammar clean w shapes
+
+  abbrev own_setup : Setup
+  own_setup = setup program settings laws grammar clean
+
+  -- Where a form is run, behind its prefixes.
+  pub record IsPlaced (at : ℕ) (prefixes : List Prefix) (form : Form) (spots : List Spot)
+      (w : Where) (environment : Environment) (answer : ℕ) (currents : Currents)
+      (edge : Option Edge) (shapes : Shapes) : Type 0 where
+    pub start : Place
+    pub outer : Shapes
+    pub here : At start outer (Prefixed at prefixes form)
+    pub visited : IsVisited own_setup start (Prefixed at prefixes form)
+    pub under : visits.IsUnder prefixes start (place_of w environment answer currents edge)
+    pub shapes_are : (behind program settings laws grammar clean start
+        (place_of w environment answer currents edge) outer at prefixes form here under).under
+        ≡ shapes
+    pub known : Here w shapes
+    pub seen : IsSeenFrom spots w environment currents
+
+  module _ (proper : (place : Place) (stmt : Stmt) → IsVisited own_setup place stmt
+      → IsProperStmt place stmt)
+      (ranked : (place : Place) (stmt : Stmt) → IsVisited own_setup place stmt
+      → IsRankedStmt place stmt) where
+    module _ (at : ℕ) (prefixes : List Prefix) (form : Form) (spots : List Spot) (w : Where)
+        (environment : Environment) (answer : ℕ) (currents : Currents) (edge : Option Edge)
+        (shapes : Shapes)
+        (h : IsPlaced at prefixes form spots w environment answer currents edge shapes) where
+      abbrev inner : Place
+      inner = place_of w environment answer currents edge
+
+      pub placed_proper : IsProperForm inner form
+      placed_proper =
+          proper_behind prefixes form h.start inner
+          (proper h.start (Prefixed at prefixes form) h.visited) h.under
+
+      pub placed_ranked : IsRankedForm inner form
+      placed_ranked =
+          ranked_behind prefixes form h.start inner
+          (ranked h.start (Prefixed at prefixes form) h.visited) h.under
+
+      pub placed_inside : Inside program h.here.text h.here.around
+          (reach_at inner shapes h.here.shattered h.here.result) at prefixes form
+      placed_inside =
+          subst (λ (s : Shapes). Inside program h.here.text h.here.around
+          (reach_at inner s h.here.shattered h.here.result) at prefixes form) h.shapes_are
+          (inside_at program settings laws grammar clean h.start inner h.outer at prefixes form h.here
+          h.under)
+
+      -- a statement in it
+      pub placed_part : (part : Stmt) → Contains (parts_of form) part
+          → At inner shapes part × IsVisited own_setup inner part
+      placed_part part member = (
+        subst (λ (s : Shapes). At inner s part) h.shapes_are
+            (part_at program settings laws grammar clean h.start inner h.outer at prefixes form part
+            h.here h.under member),
+        Holds h.start inner at prefixes form part h.visited h.under member,
+      )
+
+    -- ---- prefixes
+
+    module _ (environment : Environment) (answer : ℕ) (spots : List Spot) (shattered : Rank)
+        (result : Option Base) (form : Form) (IsServed : Where → Place → Type 0) where
+      abbrev Reached : List Prefix → Place → Shapes → Type 0
+      Reached prefixes place shapes =
+          (w : Where) (currents : Currents) (edge : Option Edge) (deeper : Shapes)
+          → visits.IsUnder prefixes place (place_of w environment answer currents edge)
+          → (under_prefixes (reach_at place shapes shattered result) prefixes).shapes ≡ deeper
+          → Here w deeper → IsSeenFrom spots w environment currents
+          → IsServed w (place_of w environment answer currents edge)
+
+      under_suits : (borders : Bool) (prefixes : List Prefix) (w : Where) (currents : Currents)
+          (edge : Option Edge) (shapes : Shapes)
+          → Clean (prefixes_sites (reach_at (place_of w environment answer currents edge) shapes
+          shattered result) prefixes)
+          → AllByRecursion IsPrefix prefixes
+          → FitsPlace (place_of w environment answer currents edge) shapes
+          → IsProperUnder (place_of w environment answer currents edge) prefixes form
+          → IsRankedUnder (place_of w environment answer currents edge) prefixes form
+          → HaveSmallPrefixes prefixes → AreGivenPrefixes w.setup.known prefixes → Here w shapes
+          → IsSeenFrom spots w environment currents
+          → Reached prefixes (place_of w environment answer currents edge) shapes
+          → IsUnder borders prefixes IsServed w (place_of w environment answer currents edge)
+      under_suits borders [] w currents edge shapes sites tree fits p r small given known seen f =
+          f w currents edge shapes visits.Itself refl known seen
+      under_suits borders (prefix ∷ rest) w currents edge shapes sites tree fits p r small given known
+          seen f =
+          let place = place_of w environment answer currents edge in
+          let reach = reach_at place shapes shattered result in
+          let hint = mask_rank place.scope prefix.mask in
+          let own = each_left IsClean (prefix_sites reach prefix)
+          (prefixes_sites (reach_under reach prefix) rest) sites in
+          let region = each_left IsClean (region_sites reach hint prefix.region)
+          (map (AtMask reach prefix) (option_to_list prefix.mask)) own in
+          let masks = each_right IsClean (region_sites reach hint prefix.region)
+          (map (AtMask reach prefix) (option_to_list prefix.mask)) own in
+          let opens = prefix_opens place known.given prefix p.0 r.0
+          (sound_inner w.setup.known prefix.region given.0 small.0) in
+          let shape = shape_of w.scope (current_at shapes opens.rank) opens.rank prefix.region
+          (region_told prefix.region (record place { currents = currents_of shapes }) shapes shattered
+          result hint opens.rank (are_told shapes w.currents known.told.slots) opens.ranked
+          opens.is_rank (region_first reach hint prefix.region region)) in
+          let rank = prefix_rank w.scope w.prefix prefix in (
+            opens,
+            λ slot line store found meant told.
+                let opened = opened_at (low.is_last borders rest) w slot line prefix in
+                let inner = low.under_prefix w prefix opened in
+                let over = over_of place prefix found in
+                let there = mean_under place prefix found in
+                let deeper = shapes_under w.scope shapes rank prefix in
+                under_suits borders rest inner there.currents there.edge deeper
+                (each_right IsClean (prefix_sites reach prefix)
+                (prefixes_sites (reach_under reach prefix) rest) sites)
+                tree.1 (fits_under laws.ranks place shapes shattered result prefix over fits own tree.0)
+                (p.1 over) (r.1 over) small.1 given.1
+                (record {
+                  owned = known.owned;
+                  names = known.names;
+                  scalars = known.scalars;
+                  globals = known.globals;
+                  kept = known.kept;
+                  told = under_told w environment answer currents edge shapes known.told known.given
+                      shattered result prefix opens r.0.1 shape.shape
+                      (subst (λ (k : Rank). inner_shape w.scope shapes k prefix.region
+                      ≡ Some shape.shape) (sym opens.ranked) shape.is)
+                      (ap (λ (k : ℕ). Some k) shape.many ∙ sym opens.ranked)
+                      (mask_free prefix.mask masks) (low.is_last borders rest) slot line;
+                  given = known.given;
+                })
+                (record {
+                  names = seen.names;
+                  one = one_with currents w.currents rank over _ seen.one;
+                  two = two_with currents w.currents rank over _ seen.two;
+                  three = three_with currents w.currents rank over _ seen.three;
+                })
+                (λ w' currents' edge' deeper' under is known' seen'.
+                f w' currents' edge' deeper' (visits.Behind over under) is known' seen'),
+          )
+        where
+          mask_free : (mask : Option MaskText)
+              → Clean (map (AtMask (reach_at (place_of w environment answer currents edge) shapes
+              shattered result) prefix) (option_to_list mask))
+              → (one : MaskText) → mask ≡ Some one
+              → flood_clashes (AtMask (reach_at (place_of w environment answer currents edge) shapes
+              shattered result) prefix one) ≡ []
+          mask_free None h one e = cc
+          mask_free (Some found) h one e =
+              let same : found ≡ one = cc in
+              subst (λ (m : MaskText). flood_clashes (AtMask (reach_at
+              (place_of w environment answer currents edge) shapes shattered result) prefix m) ≡ [])
+              same h.0.under.floods
+
+    -- ---- statements
+
+    module _ (Leaf : ℕ → Form → Where → Place → Type 0) (Text : Reach → Form → Type 0)
+        (leaf_suits : (at : ℕ) (prefixes : List Prefix) (form : Form) (spots : List Spot)
+        (w : Where) (environment : Environment) (answer : ℕ) (currents : Currents)
+        (edge : Option Edge) (shapes : Shapes)
+        → IsPlaced at prefixes form spots w environment answer currents edge shapes
+        → Text (reach_of (place_of w environment answer currents edge)) form
+        → Leaf at form w (place_of w environment answer currents edge)) where
+      abbrev Parts : List Stmt → Place → Shapes → Type 0
+      Parts stmts place shapes =
+          (part : Stmt) → Contains stmts part → At place shapes part × IsVisited own_setup place part
+
+      mutual
+        pub stmt_suits : (stmt : Stmt) (spots : List Spot) (w : Where) (environment : Environment)
+            (answer : ℕ) (currents : Currents) (edge : Option Edge) (shapes : Shapes)
+            → At (place_of w environment answer currents edge) shapes stmt
+            → IsVisited own_setup (place_of w environment answer currents edge) stmt
+            → Here w shapes → IsSeenFrom spots w environment currents
+            → IsShownStmt Text (reach_of (place_of w environment answer currents edge)) stmt
+            → IsGivenStmt own_setup.known stmt
+            → SuitsStmt IsUnder Leaf stmt w (place_of w environment answer currents edge)
+        stmt_suits (Prefixed at prefixes form) spots w environment answer currents edge shapes here
+            visited known seen text given =
+            let place = place_of w environment answer currents edge in
+            let stmt = Prefixed at prefixes form in
+            under_suits environment answer spots here.shattered here.result form
+            (λ inner there. SuitsForm IsUnder Leaf at form inner there) (low.is_border form) prefixes w
+            currents edge shapes (clean_of program here.text here.around _ here.sites.0) here.tree.0
+            here.fits (proper place stmt visited) (ranked place stmt visited) text.0
+            (subst (λ (s : Setup). AreGivenPrefixes s.known prefixes) (sym known.owned) given.0) known
+            seen
+            (λ w' currents' edge' deeper under is known' seen'.
+            let inner = place_of w' environment answer currents' edge' in
+            form_suits form at prefixes spots w' environment answer currents' edge' deeper
+            (record {
+              start = place;
+              outer = shapes;
+              here = here;
+              visited = visited;
+              under = under;
+              shapes_are =
+                  sym (ap (λ (r : Reach). r.shapes)
+                  (behind program settings laws grammar clean place inner shapes at prefixes form here
+                  under).same)
+                  ∙ is;
+              known = known';
+              seen = seen';
+            })
+            (subst (λ (r : Reach). IsShownForm Text r form) (reach_behind prefixes place inner under)
+            text.1) given.1)
+
+        form_suits : (form : Form) (at : ℕ) (prefixes : List Prefix) (spots : List Spot) (w : Where)
+            (environment : Environment) (answer : ℕ) (currents : Currents) (edge : Option Edge)
+            (shapes : Shapes)
+            → IsPlaced at prefixes form spots w environment answer currents edge shapes
+            → IsShownForm Text (reach_of (place_of w environment answer currents edge)) form
+            → IsGivenForm own_setup.known form
+            → SuitsForm IsUnder Leaf at form w (place_of w environment answer currents edge)
+        form_suits (Assign name op value) at prefixes spots w environment answer currents edge shapes h
+            text given =
+            leaf_suits at prefixes (Assign name op value) spots w environment answer currents edge shapes
+            h text
+        form_suits (Invoke name actuals) at prefixes spots w environment answer currents edge shapes h
+            text given =
+            leaf_suits at prefixes (Invoke name actuals) spots w environment answer currents edge shapes
+            h text
+        form_suits (Block body) at prefixes spots w environment answer currents edge shapes h text
+            given =
+            all_suit body spots w environment answer currents edge shapes
+            (placed_part at prefixes (Block body) spots w environment answer currents edge shapes h)
+            h.known h.seen text given
+        form_suits (If arms otherwise) at prefixes spots w environment answer currents edge shapes h
+            (inl text) given =
+            inl (leaf_suits at prefixes (If arms otherwise) spots w environment answer currents edge
+            shapes h text)
+        form_suits (If arms otherwise) at prefixes spots w environment answer currents edge shapes h
+            (inr text) given =
+            let place = place_of w environment answer currents edge in
+            let form = If arms otherwise in
+            let parts = placed_part at prefixes form spots w environment answer currents edge shapes h in
+            let tests = false_choice (is_shattered (reach_of place) form) place form text.0
+            (placed_proper at prefixes form spots w environment answer currents edge shapes h) in
+            inr (
+              text.0,
+              (
+                arms_suit arms spots w environment answer currents edge shapes
+                    (λ part c. parts part
+                    (Contains-append_left (arms_parts arms) (else_parts otherwise) part c))
+                    tests h.known h.seen text.1.0 given.0,
+                else_suits otherwise spots w environment answer currents edge shapes
+                    (λ part c. parts part
+                    (Contains-append_right (arms_parts arms) (else_parts otherwise) part c))
+                    h.known h.seen text.1.1 given.1,
+              ),
+            )
+        form_suits (While test body) at prefixes spots w environment answer currents edge shapes h
+            (inl text) given =
+            inl (leaf_suits at prefixes (While test body) spots w environment answer currents edge shapes
+            h text)
+        form_suits (While test body) at prefixes spots w environment answer currents edge shapes h
+            (inr text) given =
+            let place = place_of w environment answer currents edge in
+            let form = While test body in
+            let p = false_choice (is_shattered (reach_of place) form) place form text.0
+            (placed_proper at prefixes form spots w environment answer currents edge shapes h) in
+            inr (
+              text.0,
+              (
+                role_scalar place TestRole test text.1.0 p,
+                all_suit body spots w environment answer currents edge shapes
+                    (placed_part at prefixes form spots w environment answer currents edge shapes h)
+                    h.known h.seen text.1.1 given,
+              ),
+            )
+        form_suits (Repeat body until test) at prefixes spots w environment answer currents edge shapes
+            h (inl text) given =
+            inl (leaf_suits at prefixes (Repeat body until test) spots w environment answer currents edge
+            shapes h text)
+        form_suits (Repeat body until test) at prefixes spots w environment answer currents edge shapes
+            h (inr text) given =
+            let place = place_of w environment answer currents edge in
+            let form = Repeat body until test in
+            let p = false_choice (is_shattered (reach_of place) form) place form text.0
+            (placed_proper at prefixes form spots w environment answer currents edge shapes h) in
+            inr (
+              text.0,
+              (
+                role_scalar place TestRole test text.1.0 p,
+                all_suit body spots w environment answer currents edge shapes
+                    (placed_part at prefixes form spots w environment answer currents edge shapes h)
+                    h.known h.seen text.1.1 given,
+              ),
+            )
+        form_suits (For head body) at prefixes spots w environment answer currents edge shapes h text
+            given =
+            let place = place_of w environment answer currents edge in
+            let form = For head body in
+            let f = placed_proper at prefixes form spots w environment answer currents edge shapes h in (
+              (
+                role_scalar place Limit head.first text.0.0 f.1,
+                role_scalar place Limit head.last text.0.1 f.2,
+                role_scalar place Limit (step_expr head.step) text.0.2 f.3,
+                f.0,
+              ),
+              all_suit body spots w environment answer currents edge shapes
+                  (placed_part at prefixes form spots w environment answer currents edge shapes h)
+                  h.known h.seen text.1 given,
+            )
+        form_suits (Border kind names) at prefixes spots w environment answer currents edge shapes h text
+            given =
+            leaf_suits at prefixes (Border kind names) spots w environment answer currents edge shapes h
+            text
+        form_suits (Write ends items) at prefixes spots w environment answer currents edge shapes h text
+            given =
+            leaf_suits at prefixes (Write ends items) spots w environment answer currents edge shapes h
+            text
+        form_suits (Return value) at prefixes spots w environment answer currents edge shapes h text
+            given =
+            leaf_suits at prefixes (Return value) spots w environment answer currents edge shapes h text
+
+        all_suit : (stmts : Stmts) (spots : List Spot) (w : Where) (environment : Environment)
+            (answer : ℕ) (currents : Currents) (edge : Option Edge) (shapes : Shapes)
+            → Parts (list_of stmts) (place_of w environment answer currents edge) shapes
+            → Here w shapes → IsSeenFrom spots w environment currents
+            → AreShown Text (reach_of (place_of w environment answer currents edge)) stmts
+            → AreGivenStmts own_setup.known stmts
+            → SuitAll IsUnder Leaf stmts w (place_of w environment answer currents edge)
+        all_suit NoStmt spots w environment answer currents edge shapes parts known seen text given = tt
+        all_suit (ThenStmt first rest) spots w environment answer currents edge shapes parts known seen
+            text given =
+            let one = parts first (contains_first first (list_of rest)) in (
+              stmt_suits first spots w environment answer currents edge shapes one.0 one.1 known seen
+                  text.0 given.0,
+              all_suit rest spots w environment answer currents edge shapes
+                  (λ part c. parts part (contains_later first (list_of rest) part c)) known seen text.1
+                  given.1,
+            )
+
+        arms_suit : (arms : Arms) (spots : List Spot) (w : Where) (environment : Environment)
+            (answer : ℕ) (currents : Currents) (edge : Option Edge) (shapes : Shapes)
+            → Parts (arms_parts arms) (place_of w environment answer currents edge) shapes
+            → AreProperTests (place_of w environment answer currents edge) arms
+            → Here w shapes → IsSeenFrom spots w environment currents
+            → AreShownArms Text (reach_of (place_of w environment answer currents edge)) arms
+            → AreGivenArms own_setup.known arms
+            → SuitArms IsUnder Leaf arms w (place_of w environment answer currents edge)
+        arms_suit NoArm spots w environment answer currents edge shapes parts tests known seen text
+            given = tt
+        arms_suit (ThenArm (Tested own test body) rest) spots w environment answer currents edge shapes
+            parts tests known seen text given =
+            let place = place_of w environment answer currents edge in (
+              (
+                role_scalar place TestRole test text.0.0 tests.0,
+                all_suit body spots w environment answer currents edge shapes
+                    (λ part c. parts part
+                    (Contains-append_left (list_of body) (arms_parts rest) part c)) known seen
+                    text.0.1 given.0,
+              ),
+              arms_suit rest spots w environment answer currents edge shapes
+                  (λ part c. parts part
+                  (Contains-append_right (list_of body) (arms_parts rest) part c)) tests.1 known seen
+                  text.1 given.1,
+            )
+
+        else_suits : (otherwise : Otherwise) (spots : List Spot) (w : Where)
+            (environment : Environment) (answer : ℕ) (currents : Currents) (edge : Option Edge)
+            (shapes : Shapes)
+            → Parts (else_parts otherwise) (place_of w environment answer currents edge) shapes
+            → Here w shapes → IsSeenFrom spots w environment currents
+            → IsShownElse Text (reach_of (place_of w environment answer currents edge)) otherwise
+            → IsGivenElse own_setup.known otherwise
+            → SuitsElse IsUnder Leaf otherwise w (place_of w environment answer currents edge)
+        else_suits NoElse spots w environment answer currents edge shapes parts known seen text given =
+            tt
+        else_suits (Else body) spots w environment answer currents edge shapes parts known seen text
+            given =
+            all_suit body spots w environment answer currents edge shapes parts known seen text given

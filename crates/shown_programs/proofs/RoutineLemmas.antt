@@ -1,0 +1,490 @@
+-- The code of a procedure goes as a call of it does, down any chain of calls, where forms that have no
+-- statements in them do.
+use Rattle.std.proofs.Common.{◌≡◌, ℕ, zero, suc, ◌+◌, ◌≤◌, ◌<◌, Bool, true, pos, List, [], ◌∷◌, ◌++◌}
+use Rattle.std.proofs.Common.{length, map, Option, Some, None, refl, sym, ap, ◌∙◌, subst, arith}
+use Rattle.std.proofs.Common.{append-nil, length-append}
+use Rattle.std.specs.Prelude.{slice_get, IsSome, flat_map, Contains}
+use Rattle.std.specs.Option.{option_map}
+use Rattle.zpl_region.specs.declared.regions.Region.{Region}
+use Rattle.zpl_tree.specs.Syntax.{Name, Prefix, Bracket, NoBracket, Bracketed, Stmt, Form, Param, VarDef, Program}
+use Rattle.zpl_tree.specs.Grammar.{IsProgram}
+use Rattle.zpl_names.specs.Kinds.{Signature, Formal}
+use Rattle.zpl_names.specs.Scope.{Entry}
+use Rattle.zpl_names.specs.Shapes.{Shapes, unknown_shapes, variable_kind}
+use Rattle.zpl_names.specs.Sites.{Reach, in_body}
+use Rattle.zpl_names.specs.Declared.{Routine, IsProcedureOf, head_scope, entry_for, own_entries, routine_named, routines_of, scope_of}
+use Rattle.zpl_names.specs.Expansion.{FormalName, formal_names}
+use Rattle.zpl_names.specs.Accepted.{IsFaultless}
+use Rattle.zpl_names.proofs.ListLemmas.{Among}
+use Rattle.zpl_binding.specs.Settings.{Setting}
+use Rattle.zpl_meaning.specs.Store.{Thing, Names, Environment, Store, thing_of, cut_back}
+use Rattle.zpl_meaning.specs.Context.{Over, Currents, Edge, Setup, Place, reach_of}
+use Rattle.zpl_meaning.specs.Outcome.{Outcome}
+use Rattle.zpl_meaning.specs.Variables.{Frame, with_variables}
+use Rattle.zpl_meaning.specs.Calls.{Called, Handed, entered, place_in, with_formals}
+use Rattle.zpl_meaning.specs.Program.{returned, run_routine, call_at}
+use Rattle.zpl_meaning.specs.Proper.{IsProperStmt}
+use Rattle.zpl_meaning.specs.Statement as mean
+use Rattle.zpl_meaning.specs.Visited.{IsVisited}
+use Rattle.zpl_meaning.proofs.VisitLemmas.{Laws}
+use Rattle.meaning_ranks.specs.Ranked.{IsRankedStmt}
+use Rattle.meaning_ranks.proofs.PlaceLemmas.{IsAt, found_routine}
+use Rattle.node_form.specs.declared.tables.Tables.{Tables}
+use Rattle.flat_form.specs.Whole.{Whole}
+use Rattle.zpl_lowering.specs.Where.{Where, Next, Stored, Numbers, SlotCurrents, Slotted}
+use Rattle.zpl_lowering.specs.Lowered.{Lowered}
+use Rattle.zpl_lowering.specs.Statement.{Given, Valued, Copied, Referring, Calling, lowered}
+use Rattle.zpl_lowering.specs.Program as low
+use Rattle.zpl_lowering.specs.Program.{Framed, Entry as CallEntry}
+use Rattle.lowering_runs.specs.Seen.{Spot, Sight, seen_place, seen_store, seen_names, seen_thing, seen_over, seen_currents, numbered, slot_in}
+use Rattle.lowering_runs.specs.Run.{does}
+use Rattle.lowering_runs.specs.Agrees.{Agrees}
+use Rattle.lowering_runs.specs.Stands.{Misses, IsBefore, array_numbers, AreKnown, AreDeclared, Stands, HasRoom, IsSound, Keeps, IsLike, IsHeld}
+use Rattle.lowering_runs.specs.Frames.{seen_frame, seen_given, AreGiven}
+use Rattle.lowering_runs.specs.Goes.{World, Goes}
+use Rattle.lowering_runs.specs.Called.{calling_at, called_at, world_at}
+use Rattle.lowering_runs.proofs.AgreeLemmas.{stored_agrees}
+use Rattle.lowering_runs.proofs.FitLemmas.{all_taken_on, currents_kept, keeps_all, held_on}
+use Rattle.lowering_runs.proofs.FrameLemmas.{map_append, numbered_append, names_below, known_both, known_more, misses_more}
+use Rattle.lowering_runs.proofs.NumberLemmas.{rises_on}
+use Rattle.lowering_runs.proofs.SuitLemmas.{FormGoes}
+use Rattle.lowering_runs.proofs.ValueLemmas.{thing_seen}
+use Rattle.prefix_runs.specs.Under.{IsUnder}
+use Rattle.prefix_runs.proofs.PlainLemmas.{suited_agrees}
+use Rattle.lowering_runs.specs.Suits.{SuitsStmt}
+use Rattle.served_places.specs.Told.{IsSeenFrom, IsTold, place_of}
+use Rattle.served_places.specs.Given.{KnowsGiven}
+use Rattle.array_runs.specs.Reads.{IsShift}
+use Rattle.zpl_names.specs.Ranks.{dir_rank}
+use Rattle.zpl_tree.specs.Syntax.{Dir}
+use Rattle.zpl_meaning.specs.Regions.{vector_in}
+use Rattle.lowering_fits.specs.Storages.{IsStorage, AllKept}
+use Rattle.lowering_fits.specs.Declarations.{FitAllDeclared}
+use Rattle.lowering_fits.specs.Whole.{FitsVars, AllVars, given_frames, local_frame, name_frames, local_frames}
+use Rattle.lowering_fits.proofs.KeptLemmas.{Grows, grows_none, HasKept, AreKept, AreGivenOf, Nothing, formals_kept, locals_kept}
+use Rattle.lowering_fits.proofs.ReachLemmas.{names_fit, scalars_few}
+use Rattle.lowering_fits.proofs.CallsFitLemmas.{globals_grow}
+use Rattle.lowering_fits.proofs.ProgramFitLemmas.{vars_fit}
+use Rattle.shown_programs.specs.Text.{IsShownStmt, IsRoutine, IsShownCall}
+use Rattle.shown_programs.proofs.FrameLemmas.{Framing, apart_in, arrays_more, cut_seen, longer_spots, givens_framed}
+use Rattle.shown_programs.proofs.LocalLemmas.{AreFresh, AreFreshArrays, GoesOn, locals_go}
+use Rattle.shown_programs.proofs.KnownLemmas.{arrays_told, mask_grown}
+use Rattle.shown_programs.proofs.CallLemmas.{setup, IsKnownAt, IsEntered, IsCalledFrom, CallsGo}
+use Rattle.shown_programs.proofs.PlaceLemmas.{IsPlaced, IsGivenStmt, stmt_suits}
+
+-- ---- storages that are kept
+
+kept_append : (xs : List Stored) (one : Stored) → AllKept xs → IsStorage one.storage
+    → AllKept (xs ++ one ∷ [])
+kept_append [] one h k = (k, tt)
+kept_append (x ∷ xs) one h k = (h.0, kept_append xs one h.1 k)
+
+module _ (own : Setup) (entry : CallEntry) where
+  names_kept : (shape : Bracket) (names : List Name) (frame : Framed) (next : Next) → FitsVars own shape
+      → AllKept frame.numbers.arrays
+      → AllKept (name_frames own entry shape names frame next).frame.numbers.arrays
+  names_kept shape [] frame next fits are = are
+  names_kept NoBracket (name ∷ names) frame next fits are =
+      let one = local_frame own entry NoBracket name frame next in
+      names_kept NoBracket names one.frame one.next fits are
+  names_kept (Bracketed inner) (name ∷ names) frame next fits are =
+      let one = local_frame own entry (Bracketed inner) name frame next in
+      names_kept (Bracketed inner) names one.frame one.next fits
+      (kept_append frame.numbers.arrays _ are fits)
+
+  vars_kept : (vars : List VarDef) (frame : Framed) (next : Next) → AllVars own vars
+      → AllKept frame.numbers.arrays
+      → AllKept (local_frames own entry vars frame next).frame.numbers.arrays
+  vars_kept [] frame next fits are = are
+  vars_kept (var ∷ vars) frame next fits are =
+      let one = name_frames own entry var.shape var.names frame next in
+      vars_kept vars one.frame one.next fits.1
+      (names_kept var.shape var.names frame next fits.0 are)
+
+-- what parameters take, where no array is copied, adds no array
+given_kept : (line : ℕ) (formals : List FormalName) (givens : List Given) (frame : Framed)
+    (next : Next) (scalars arrays from to : ℕ) → AreGiven scalars arrays from givens to
+    → AllKept frame.numbers.arrays
+    → AllKept (given_frames line formals givens frame next).frame.numbers.arrays
+given_kept line [] givens frame next scalars arrays from to g are = are
+given_kept line (formal ∷ formals) [] frame next scalars arrays from to g are = are
+given_kept line (formal ∷ formals) (Valued k ∷ givens) frame next scalars arrays from to g are =
+    given_kept line formals givens (low.with_scalar frame formal.name k) next scalars arrays (suc k) to
+    g.1 are
+given_kept line (formal ∷ formals) (Referring thing ∷ givens) frame next scalars arrays from to g are =
+    given_kept line formals givens
+    (record frame { names = frame.names ++ (formal.name.text, thing) ∷ [] }) next scalars arrays from to
+    g.1 are
+given_kept line (formal ∷ formals) (Copied stored home ∷ givens) frame next scalars arrays from to g
+    are = absurd g
+
+-- ---- what is seen where a body begins
+
+some_of : (whole : Whole) (o : Option Slotted) → IsSome (option_map (seen_over whole) o) → IsSome o
+some_of whole None h = h
+some_of whole (Some slotted) h = refl
+
+begins_seen : (spots : List Spot) (w : Where) (mid : Whole) (answer : ℕ)
+    → IsSeenFrom spots w (seen_place (record { spots = spots; answer = answer }) w mid).environment
+    (seen_currents mid w.currents)
+begins_seen spots w mid answer = record {
+  names = thing_seen spots w.environment.names;
+  one = some_of mid w.currents.one;
+  two = some_of mid w.currents.two;
+  three = some_of mid w.currents.three;
+}
+
+module _ (program : Program) (settings : List Setting) (laws : Laws program)
+    (grammar : IsProgram program) (clean : IsFaultless program) where
+  abbrev own : Setup
+  own = setup program settings laws grammar clean
+
+  -- what accepted settings tell
+  pub record AreAccepted : Type 0 where
+    pub proper : (place : Place) (stmt : Stmt) → IsVisited own place stmt → IsProperStmt place stmt
+    pub ranked : (place : Place) (stmt : Stmt) → IsVisited own place stmt → IsRankedStmt place stmt
+    pub given : (routine : Routine) → Among (routines_of program) routine
+        → KnowsGiven own.known (scope_of program routine)
+    pub vectors : (routine : Routine) → Among (routines_of program) routine → (rank : ℕ) (dir : Dir)
+        → dir_rank (scope_of program routine) dir ≡ Some rank → IsShift rank (vector_in own.known dir)
+    pub declared : (routine : Routine) → Among (routines_of program) routine
+        → (earlier : List Entry) → routine.own ≡ own_entries earlier routine.procedure
+        → FitAllDeclared own (head_scope earlier routine.procedure) routine.procedure.locals
+    pub posts : (routine : Routine) → Among (routines_of program) routine
+        → IsGivenStmt own.known routine.procedure.body
+
+  -- Forms that have no statements in them: what is asked of them by the text, what is asked of them
+  -- where they are run, and that their code goes as they do, where what is called does.
+  pub record AreLeaves (tables : Tables) (n : ℕ)
+      (Leaf : (List ℕ → Type 0) → ℕ → Form → Where → Place → Type 0)
+      (Text : (List ℕ → Type 0) → Reach → Form → Type 0) : Type 1 where
+    pub suits : (IsCallable : List ℕ → Type 0) (at : ℕ) (prefixes : List Prefix) (form : Form)
+        (spots : List Spot) (w : Where) (environment : Environment) (answer : ℕ)
+        (currents : Currents) (edge : Option Edge) (shapes : Shapes)
+        → IsPlaced program settings laws grammar clean at prefixes form spots w environment answer
+        currents edge shapes
+        → Text IsCallable (reach_of (place_of w environment answer currents edge)) form
+        → Leaf IsCallable at form w (place_of w environment answer currents edge)
+    pub go : (depth : ℕ) (IsCallable : List ℕ → Type 0)
+        → CallsGo program settings laws grammar clean (world_at tables n own depth) IsCallable
+        → (at : ℕ) (form : Form) → FormGoes (world_at tables n own depth) (Leaf IsCallable) at form
+
+  module _ (tables : Tables) (n : ℕ) (accepted : AreAccepted)
+      (Leaf : (List ℕ → Type 0) → ℕ → Form → Where → Place → Type 0)
+      (Text : (List ℕ → Type 0) → Reach → Form → Type 0) (leaves : AreLeaves tables n Leaf Text)
+    where
+      abbrev world : ℕ → World
+      world depth = world_at tables n own depth
+
+      module _ (depth : ℕ) (IsCallable : List ℕ → Type 0)
+          (calls : CallsGo program settings laws grammar clean (world depth) IsCallable)
+          (routine : Routine) (among : Among (routines_of program) routine)
+          (shown : IsShownStmt (Text IsCallable) (in_body (scope_of program routine) unknown_shapes)
+          routine.procedure.body)
+          (clears : Bool) (spots : List Spot) (w : Where) (low_next : Next) (start : Whole)
+          (name : List ℕ) (givens : List Given) (line : ℕ) (shapes : Shapes)
+          (inside : IsKnownAt program settings laws grammar clean w shapes)
+          (signature : Signature) (of : IsProcedureOf signature routine)
+          (givens_are : AreGivenOf w.numbers signature.formals givens)
+          (stands : Stands spots w low_next) (now : Whole)
+          (many : length now.slots ≡ length tables.slots)
+          (same : (k : ℕ) → k < low_next.slots → slot_in now k ≡ slot_in start k)
+          (held : IsHeld tables w.setup.known w.numbers.arrays w.currents now.slots) where
+        abbrev Like : Store → Whole → Type 0
+        Like = IsLike tables spots w low_next start
+
+        abbrev arrays : List Stored
+        arrays = w.numbers.arrays
+
+        abbrev calling : Calling
+        calling = calling_at w name givens 0 line
+
+        abbrev called : Called
+        called = called_at spots w start now name givens 0
+
+        abbrev entry : CallEntry
+        entry = record { clears = clears; line = line }
+
+        abbrev begun : Store
+        begun = seen_store spots arrays now
+
+        abbrev run : Frame → Outcome
+        run frame =
+            returned begun
+            (mean.exec (record { place = place_in own routine called frame; call = call_at own n depth })
+            n routine.procedure.body frame.store)
+
+        abbrev rest : Framed → Next → Lowered
+        rest framed last =
+            lowered (record {
+              place = low.where_in own routine calling framed;
+              call = low.call_code own depth;
+            }) last routine.procedure.body
+
+        abbrev IsReached : Frame → Type 0
+        IsReached frame =
+            IsEntered program settings laws grammar clean shapes (place_in own routine called frame)
+            routine.procedure.body
+
+        -- what the names of a frame have in the tables
+        pub record IsFramed (framed : Framed) (next : Next) : Type 0 where
+          pub has : HasKept w.numbers routine.own framed
+          pub kept : AllKept framed.numbers.arrays
+
+        known_inside : (framed : Framed) (next : Next) → IsFramed framed next
+            → IsKnownAt program settings laws grammar clean (low.where_in own routine calling framed)
+            shapes
+        known_inside framed next f =
+            let w' = low.where_in own routine calling framed in
+            let globals = globals_grow program w.numbers framed.numbers f.has.grows own.globals
+            inside.globals in
+            let names = names_fit program routine framed.numbers framed.names own.globals f.has.kept
+            globals in
+            record {
+              owned = refl;
+              names = names;
+              scalars = scalars_few program routine framed.numbers framed.names own.globals f.has.kept
+                  globals;
+              globals = globals;
+              kept = f.kept;
+              told = record {
+                slots = inside.told.slots;
+                one = mask_grown w w' f.has.grows w.currents.one inside.told.one;
+                two = mask_grown w w' f.has.grows w.currents.two inside.told.two;
+                three = mask_grown w w' f.has.grows w.currents.three inside.told.three;
+                arrays = arrays_told w' names f.kept;
+                vectors = accepted.vectors routine among;
+              };
+              given = accepted.given routine among;
+            }
+
+        body_goes : GoesOn tables n own entry spots low_next arrays start Like 0 IsFramed IsReached run
+            rest
+        body_goes framed here next mid f framed_is before sound kept fresh clear room reached =
+            let inner = low.where_in own routine calling framed in
+            let sight : Sight = record { spots = here; answer = 0 } in
+            let globals = own.globals in
+            let xs = framed.numbers.arrays in
+            let count : length xs ≡ length arrays + length f.own =
+            ap length f.arrays_are ∙ length-append arrays f.own in
+            let known : AreKnown (length (numbered spots)) (length arrays) globals =
+            subst (λ (s : Setup). AreKnown (length (numbered spots)) (length arrays) s.globals)
+            inside.owned stands.globals in
+            let unmoved : seen_names spots globals ≡ globals =
+            subst (λ (s : Setup). seen_names spots s.globals ≡ s.globals) inside.owned stands.unmoved in
+            let still : seen_names here globals ≡ globals =
+            ap (λ (ys : List Spot). seen_names ys globals) f.frame.is
+            ∙ names_below spots f.frame.more (length arrays) globals known ∙ unmoved in
+            let longer = longer_spots spots f.frame.more here f.frame.is in
+            let more_known : AreKnown (length (numbered here)) (length xs) globals =
+            known_more (length (numbered spots)) (length (numbered here)) (length xs) globals longer
+            (arrays_more (length (numbered spots)) (length arrays) (length xs) globals
+            (omega (arith, count)) known) in
+            let place_is : seen_place sight inner mid
+            ≡ place_in own routine called (seen_frame here framed mid) =
+            ap (λ (ns : Names). record (seen_place sight inner mid) { environment = record { names = ns } })
+            (map_append (λ (e : List ℕ × Thing). (e.0, seen_thing here e.1)) framed.names globals
+            ∙ ap (λ (gs : Names). seen_names here framed.names ++ gs) still)
+            ∙ ap (λ (c : Currents). record (place_in own routine called (seen_frame here framed mid)) {
+              currents = c;
+            })
+            (currents_kept start mid low_next.slots kept.slots w.currents stands.taken) in
+            let entered_is : IsEntered program settings laws grammar clean shapes
+            (seen_place sight inner mid) routine.procedure.body =
+            subst (λ (p : Place). IsEntered program settings laws grammar clean shapes p
+            routine.procedure.body) (sym place_is) reached in
+            let agrees : Agrees (IsLike tables here inner next mid) n 0
+            (mean.exec (record { place = seen_place sight inner mid; call = call_at own n depth }) n
+            routine.procedure.body (seen_store here xs mid))
+            (does tables n (rest framed next).code mid) =
+            suited_agrees (world depth) (Leaf IsCallable) (leaves.go depth IsCallable calls)
+            routine.procedure.body sight inner next mid
+            (record {
+              numbers = f.frame.numbers;
+              rises = f.frame.rises;
+              known = known_both (length (numbered here)) (length xs) framed.names globals f.frame.known
+                  more_known;
+              globals = more_known;
+              unmoved = still;
+              taken = all_taken_on w.currents low_next.slots next.slots before.slots stands.taken;
+              edge = tt;
+              declared = omega (
+                arith,
+                before.slots,
+                subst (λ (s : Setup). length s.known.regions ≤ low_next.slots) inside.owned
+                    stands.declared,
+              );
+              stored = f.apart;
+            })
+            (stmt_suits program settings laws grammar clean accepted.proper accepted.ranked
+            (Leaf IsCallable) (Text IsCallable) (leaves.suits IsCallable) routine.procedure.body here
+            inner (seen_place sight inner mid).environment 0 (seen_currents mid inner.currents) None
+            shapes entered_is.here entered_is.visited (known_inside framed next framed_is)
+            (begins_seen here inner mid 0) shown (accepted.posts routine among))
+            room (seen_store here xs mid) mid
+            (record {
+              seen = refl;
+              sound = sound;
+              kept = keeps_all (numbered here) next mid;
+              held = held_inside framed here next mid f sound kept;
+            }) in
+            subst (λ (p : Place). Agrees Like n 0
+            (returned begun (mean.exec (record { place = p; call = call_at own n depth }) n
+            routine.procedure.body (seen_store here xs mid)))
+            (does tables n (rest framed next).code mid)) place_is
+            (stored_agrees (IsLike tables here inner next mid) Like n 0 _ _ (cut_back begun)
+            (λ s v l. record {
+              seen = ap (cut_back begun) l.seen
+                  ∙ ap (λ (ys : List Stored). cut_back begun (seen_store here ys v)) f.arrays_are
+                  ∙ ap (λ (ys : List Spot). cut_back begun (seen_store ys (arrays ++ f.own) v)) f.frame.is
+                  ∙ cut_seen spots f.frame.more arrays f.own now v;
+              sound = l.sound;
+              kept = record {
+                hidden = λ k lt m.
+                    l.kept.hidden k (omega (arith, lt, before.scalars))
+                    (subst (λ (ys : List Spot). Misses (numbered ys) k) (sym f.frame.is)
+                    (subst (λ (ks : List ℕ). Misses ks k) (sym (numbered_append spots f.frame.more))
+                    (misses_more (numbered spots) (numbered f.frame.more) low_next.scalars k lt
+                    f.frame.above m)))
+                    ∙ kept.hidden k lt m;
+                slots = λ k lt. l.kept.slots k (omega (arith, lt, before.slots)) ∙ kept.slots k lt;
+              };
+              held = record {
+                stored = held.stored;
+                apart = held.apart;
+                one = l.held.one;
+                two = l.held.two;
+                three = l.held.three;
+                declared = subst (λ (s : Setup). AreDeclared 0 s.known.regions v.slots)
+                    (sym inside.owned) l.held.declared;
+              };
+            }) agrees)
+          where
+            held_inside : (framed : Framed) (here : List Spot) (next : Next) (mid : Whole)
+                → Framing tables spots low_next.scalars arrays framed here next → IsSound tables mid
+                → Keeps (numbered spots) low_next start mid
+                → IsHeld tables own.known framed.numbers.arrays w.currents mid.slots
+            held_inside framed here next mid f sound kept =
+                let h = held_on tables w.setup.known arrays w.currents low_next.slots now mid
+                (sound.filled.slots ∙ sym many) (λ k lt. kept.slots k lt ∙ sym (same k lt))
+                stands.taken stands.declared held in
+                record {
+                  stored = f.stored;
+                  apart = apart_in tables 0 framed.numbers.arrays next.arrays (omega arith) f.apart
+                      f.stored;
+                  one = h.one;
+                  two = h.two;
+                  three = h.three;
+                  declared = subst (λ (s : Setup). AreDeclared 0 s.known.regions mid.slots) inside.owned
+                      h.declared;
+                }
+
+        pub routine_agrees : (next : Next) → IsBefore low_next next
+            → AreGiven (length (numbered spots)) (length arrays) low_next.scalars givens next.scalars
+            → AreFresh clears next.scalars now → AreFreshArrays tables clears next.arrays now
+            → HasRoom tables next
+            (low.routine_code own clears (low.call_code own depth) (Some routine) calling next)
+            → (store : Store) → Like store now
+            → IsReached (entered own routine called.actuals store)
+            → Agrees Like n 0
+            (run_routine own n (call_at own n depth) (Some routine) called store)
+            (does tables n
+            (low.routine_code own clears (low.call_code own depth) (Some routine) calling next).code now)
+        routine_agrees next before given fresh clear room store like reached =
+            let params = routine.procedure.params in
+            let formals = formal_names params in
+            let locals = routine.procedure.locals in
+            let empty : Framed = record { names = []; numbers = w.numbers } in
+            let inner = low.in_call (low.reads_round own.program routine) next in
+            let code = low.routine_code own clears (low.call_code own depth) (Some routine) calling
+            next in
+            let scope = head_scope of.earlier routine.procedure in
+            let first = given_frames line formals givens empty inner in
+            let fits = vars_fit own scope locals (accepted.declared routine among of.earlier of.own) in
+            let g = givens_framed tables spots low_next.scalars arrays formals givens empty spots line
+            inner now low_next.scalars inner (omega arith) given
+            (record {
+              frame = record {
+                more = [];
+                is = sym (append-nil spots);
+                above = tt;
+                numbers = stands.numbers;
+                arrays_are = refl;
+                rises = stands.rises;
+                known = tt;
+              };
+              own = [];
+              arrays_are = sym (append-nil arrays);
+              apart = rises_on 0 (array_numbers arrays) low_next.arrays inner.arrays before.arrays
+                  stands.stored;
+              stored = held.stored;
+            }) in
+            let framed_code : Next → Lowered =
+            λ next. low.locals_code own entry locals first.frame next rest in
+            let code_is : low.body_code own entry (low.call_code own depth) routine calling inner
+            ≡ framed_code inner =
+            g.code_is (λ frame after. low.locals_code own entry locals frame after rest) in
+            let has : HasKept w.numbers routine.own
+            (local_frames own entry locals first.frame inner).frame =
+            subst (λ (xs : List Entry). HasKept w.numbers xs
+            (local_frames own entry locals first.frame inner).frame) (sym of.own)
+            (locals_kept w.numbers own entry scope locals
+            (accepted.declared routine among of.earlier of.own) first.frame inner
+            (flat_map (λ (param : Param). map
+            (entry_for (variable_kind scope param.shape param.base)) param.names) params)
+            (formals_kept w.numbers line params scope empty inner [] givens
+            (subst (λ (s : Signature). AreGivenOf w.numbers s.formals givens) of.signed givens_are)
+            (record { grows = grows_none w.numbers; kept = Nothing }))) in
+            let framed_is : IsFramed (local_frames own entry locals first.frame inner).frame
+            (local_frames own entry locals first.frame inner).next =
+            record {
+              has = has;
+              kept = vars_kept own entry locals first.frame inner fits
+                  (given_kept line formals givens empty inner (length (numbered spots)) (length arrays)
+                  low_next.scalars next.scalars given inside.kept);
+            } in
+            let all = locals_go tables n own entry spots low_next arrays start Like 0 locals IsFramed
+            IsReached run rest fits body_goes in
+            subst (λ (s : Store). IsReached (entered own routine called.actuals s)
+            → Agrees Like n 0 (run_routine own n (call_at own n depth) (Some routine) called s)
+            (does tables n code.code now)) (sym like.seen)
+            (λ reached.
+            subst (λ (x : Lowered). Agrees Like n 0 (run (entered own routine called.actuals begun))
+            (does tables n x.code now)) (sym code_is)
+            (subst (λ (x : Frame). IsReached (with_variables own.known own.borders x locals)
+            → Agrees Like n 0 (run (with_variables own.known own.borders x locals))
+            (does tables n (framed_code inner).code now)) (sym g.frame_is)
+            (all first.frame g.sight inner now g.framing framed_is
+            (record { scalars = before.scalars; slots = before.slots; arrays = before.arrays })
+            like.sound like.kept fresh clear
+            (subst (λ (x : Lowered). HasRoom tables inner x) code_is
+            (record { scalars = room.scalars; slots = room.slots; arrays = room.arrays })))
+            reached))
+            reached
+
+      -- ---- down the chain of calls
+
+      pub calls_go : (depth : ℕ)
+          → CallsGo program settings laws grammar clean (world depth) (IsShownCall Text program depth)
+      calls_go zero = record {
+        by = λ spots w bottom next start name givens line stands before given room store now like from.
+            absurd from.callable;
+      }
+      calls_go (suc depth) = record {
+        by = λ spots w bottom next start name givens line stands before given room store now like from.
+            let calling = calling_at w name givens 0 line in
+            let called = called_at spots w start now name givens 0 in
+            let it : IsRoutine Text program (IsShownCall Text program depth) name = from.callable in
+            subst (λ (r : Option Routine).
+            HasRoom tables next (low.routine_code own true (low.call_code own depth) r calling next)
+            → Agrees (IsLike tables spots w bottom start) n 0
+            (run_routine own n (call_at own n depth) r called store)
+            (does tables n (low.routine_code own true (low.call_code own depth) r calling next).code now))
+            (sym it.named)
+            (λ room. routine_agrees depth (IsShownCall Text program depth) (calls_go depth) it.routine
+            (found_routine program settings laws grammar clean name it.routine it.named) it.shown true
+            spots w bottom start name givens line from.shapes from.known from.signature
+            (from.of it.routine it.named) from.givens_are stands now like.sound.filled.slots
+            like.kept.slots like.held next before given tt tt room store like
+            (from.entered it.routine store it.named)) room;
+      }

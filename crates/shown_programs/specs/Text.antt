@@ -1,0 +1,150 @@
+-- Programs all of whose statements are of forms for which it is proved that code goes as they do. Of
+-- text alone.
+use Rattle.std.specs.Prelude.{◌≡◌, ◌⊎◌, ℕ, zero, suc, true, false, pos, List, [], ◌∷◌, Some}
+use Rattle.zpl_nums.specs.Integer.{IsInteger}
+use Rattle.zpl_tree.specs.Syntax.{Inner, Rexpr, Dims, Prefix, Stmt, Prefixed, Stmts, NoStmt, ThenStmt, Form, Assign, Invoke, Block, If, While, Repeat, For, Border, Write, Return, Arm, Tested, Arms, NoArm, ThenArm, Otherwise, NoElse, Else, Program}
+use Rattle.zpl_names.specs.Scope.{kind_of, is_array}
+use Rattle.zpl_names.specs.Shapes.{prefix_rank, unknown_shapes}
+use Rattle.zpl_names.specs.Sites.{Reach, in_body, Assigned, whole_rank, handed, is_shattered}
+use Rattle.zpl_names.specs.Declared.{Routine, routine_named, scope_of}
+use Rattle.zpl_names.specs.Reached.{longest_chain}
+use Rattle.zpl_binding.specs.Outcome.{value_or, outcome_of}
+use Rattle.zpl_binding.specs.Settings.{Setting}
+use Rattle.zpl_binding.specs.Declarations.{known_of}
+use Rattle.zpl_meaning.specs.Points.{assigned_expr}
+use Rattle.zpl_meaning.specs.Calls.{formals_in}
+use Rattle.zpl_meaning.specs.Statement.{step_expr}
+use Rattle.lowering_runs.specs.Scalars.{IsScalarExpr}
+use Rattle.lowering_runs.specs.ScalarText.{AreScalarActuals, AreScalarTexts}
+use Rattle.served_places.specs.Told.{IsPlainExpr}
+use Rattle.served_places.specs.Given.{HaveSmallDims}
+
+-- ---- prefixes
+
+-- the numbers of bounds are of 64 bits
+abbrev pub HasSmallInner : Inner → Type 0
+HasSmallInner (Rexpr pre base post) = Unit {0}
+HasSmallInner (Dims dims) = HaveSmallDims dims
+
+abbrev pub HaveSmallPrefixes : List Prefix → Type 0
+HaveSmallPrefixes [] = Unit {0}
+HaveSmallPrefixes (prefix ∷ rest) = HasSmallInner prefix.region × HaveSmallPrefixes rest
+
+abbrev pub behind_prefix : Reach → Prefix → Reach
+behind_prefix reach prefix =
+    record reach { prefix = prefix_rank reach.scope reach.prefix prefix }
+
+abbrev pub behind_prefixes : Reach → List Prefix → Reach
+behind_prefixes reach [] = reach
+behind_prefixes reach (prefix ∷ rest) = behind_prefixes (behind_prefix reach prefix) rest
+
+-- ---- statements, for any forms that have no statements in them, or are shattered
+
+module _ (IsLeaf : Reach → Form → Type 0) where
+  abbrev mutual
+    pub IsShownStmt : Reach → Stmt → Type 0
+    IsShownStmt reach (Prefixed at prefixes form) =
+        HaveSmallPrefixes prefixes × IsShownForm (behind_prefixes reach prefixes) form
+
+    pub AreShown : Reach → Stmts → Type 0
+    AreShown reach NoStmt = Unit {0}
+    AreShown reach (ThenStmt first rest) = IsShownStmt reach first × AreShown reach rest
+
+    pub IsShownForm : Reach → Form → Type 0
+    IsShownForm reach (Assign name op value) = IsLeaf reach (Assign name op value)
+    IsShownForm reach (Invoke name actuals) = IsLeaf reach (Invoke name actuals)
+    IsShownForm reach (Block body) = AreShown reach body
+    IsShownForm reach (If arms otherwise) =
+        IsLeaf reach (If arms otherwise)
+        ⊎ ((is_shattered reach (If arms otherwise) ≡ false)
+        × (AreShownArms reach arms × IsShownElse reach otherwise))
+    IsShownForm reach (While test body) =
+        IsLeaf reach (While test body)
+        ⊎ ((is_shattered reach (While test body) ≡ false)
+        × (IsScalarExpr test × AreShown reach body))
+    IsShownForm reach (Repeat body until test) =
+        IsLeaf reach (Repeat body until test)
+        ⊎ ((is_shattered reach (Repeat body until test) ≡ false)
+        × (IsScalarExpr test × AreShown reach body))
+    IsShownForm reach (For head body) =
+        (IsScalarExpr head.first × IsScalarExpr head.last × IsScalarExpr (step_expr head.step))
+        × AreShown reach body
+    IsShownForm reach (Border kind names) = IsLeaf reach (Border kind names)
+    IsShownForm reach (Write line items) = IsLeaf reach (Write line items)
+    IsShownForm reach (Return value) = IsLeaf reach (Return value)
+
+    pub AreShownArms : Reach → Arms → Type 0
+    AreShownArms reach NoArm = Unit {0}
+    AreShownArms reach (ThenArm first rest) = IsShownArm reach first × AreShownArms reach rest
+
+    pub IsShownArm : Reach → Arm → Type 0
+    IsShownArm reach (Tested at test body) = IsScalarExpr test × AreShown reach body
+
+    pub IsShownElse : Reach → Otherwise → Type 0
+    IsShownElse reach NoElse = Unit {0}
+    IsShownElse reach (Else body) = AreShown reach body
+
+-- ---- the forms that are proved
+
+-- a scalar is assigned, or an array without operators over regions; texts and scalars are printed
+abbrev pub IsPlainForm : Reach → Form → Type 0
+IsPlainForm reach (Assign name op value) =
+    ((handed reach (Assigned name op) ≡ Some 0)
+    × (whole_rank reach (Assigned name op) (assigned_expr name op value) ≡ Some 0)
+    × IsScalarExpr (assigned_expr name op value))
+    ⊎ ((is_array (kind_of reach.scope name) ≡ true) × IsPlainExpr value)
+IsPlainForm reach (Write line items) = AreScalarTexts reach items
+IsPlainForm reach (Invoke name actuals) = ⊥
+IsPlainForm reach (Block body) = ⊥
+IsPlainForm reach (If arms otherwise) = ⊥
+IsPlainForm reach (While test body) = ⊥
+IsPlainForm reach (Repeat body until test) = ⊥
+IsPlainForm reach (For head body) = ⊥
+IsPlainForm reach (Border kind names) = ⊥
+IsPlainForm reach (Return value) = ⊥
+
+-- a procedure is called that may be, with values of scalars and with references
+abbrev pub IsCallForm : (List ℕ → Type 0) → Reach → Form → Type 0
+IsCallForm IsCallable reach (Invoke name actuals) =
+    AreScalarActuals (formals_in (kind_of reach.scope name)) actuals × IsCallable name.text
+IsCallForm IsCallable reach (Assign name op value) = ⊥
+IsCallForm IsCallable reach (Write line items) = ⊥
+IsCallForm IsCallable reach (Block body) = ⊥
+IsCallForm IsCallable reach (If arms otherwise) = ⊥
+IsCallForm IsCallable reach (While test body) = ⊥
+IsCallForm IsCallable reach (Repeat body until test) = ⊥
+IsCallForm IsCallable reach (For head body) = ⊥
+IsCallForm IsCallable reach (Border kind names) = ⊥
+IsCallForm IsCallable reach (Return value) = ⊥
+
+-- A form that is proved: further ones are further lines.
+abbrev pub IsLeafForm : (List ℕ → Type 0) → Reach → Form → Type 0
+IsLeafForm IsCallable reach form =
+    IsPlainForm reach form
+    ⊎ IsCallForm IsCallable reach form
+
+-- ---- procedures and programs
+
+module _ (IsLeaf : (List ℕ → Type 0) → Reach → Form → Type 0) (program : Program) where
+  -- the body of a procedure, where these may be called
+  abbrev pub IsShownRoutine : (List ℕ → Type 0) → Routine → Type 0
+  IsShownRoutine IsCallable routine =
+      IsShownStmt (IsLeaf IsCallable) (in_body (scope_of program routine) unknown_shapes)
+      routine.procedure.body
+
+  -- the name stands for such a procedure, down a chain of so many calls
+  pub record IsRoutine (IsCallable : List ℕ → Type 0) (name : List ℕ) : Type 0 where
+    pub routine : Routine
+    pub named : routine_named program name ≡ Some routine
+    pub shown : IsShownRoutine IsCallable routine
+
+  abbrev pub IsShownCall : ℕ → List ℕ → Type 0
+  IsShownCall zero name = ⊥
+  IsShownCall (suc depth) name = IsRoutine (IsShownCall depth) name
+
+-- A program of these forms, under settings: all that its procedures do, from the entry procedure on,
+-- is of them. Configs and constants have values of 64 bits.
+pub record IsShownProgram (program : Program) (settings : List Setting) : Type 0 where
+  pub values : (text : List ℕ)
+      → IsInteger (value_or (pos 0) (outcome_of (pos 0) (known_of program settings).values text))
+  pub entry : IsShownCall IsLeafForm program longest_chain program.name.text

@@ -1,0 +1,53 @@
+//! The laws of whole programs in lowered code.
+//!
+//! Each law is the contract of a function that does nothing: a call brings the law into a proof.
+ghost use Rattle.std.specs.Prelude.{◌≢◌, ℕ, List};
+ghost use Rattle.zpl_tree.specs.Grammar.{IsProgram};
+ghost use Rattle.zpl_tree.specs.Syntax.{Program};
+ghost use Rattle.zpl_names.specs.Accepted.{IsFaultless};
+ghost use Rattle.zpl_binding.specs.Bound.{IsAcceptedWith};
+ghost use Rattle.zpl_binding.specs.Settings.{Setting};
+ghost use Rattle.zpl_meaning.specs.Program.{outcome_of};
+ghost use Rattle.row_runs.specs.Run.{Wrong};
+ghost use Rattle.flat_form.specs.Act.{flat_run};
+ghost use Rattle.zpl_lowering.specs.Tables.{flat_tables};
+ghost use Rattle.lowering_runs.specs.Shown.{Shows};
+ghost use Rattle.shown_programs.specs.Text.{IsShownProgram};
+
+use lowered_flat::{declarations_fit, lowered_rows_are_inline};
+use meaning_ranks::ranks_agree;
+use meaning_runs::regions_have_been_computed;
+use zpl_meaning::{no_stand_in_is_met, what_is_computed_has_a_value};
+use zpl_names::{
+    declared_ranks_are_at_most_three, faultless_programs_have_faultless_sites,
+    faultless_programs_leave_nothing_open, procedures_are_there, ranks_are_at_most_three,
+};
+
+/// The flat program of a program of scalars and arrays, under prefixes and with calls, shows what
+/// the program means: with some bound on its jumps, where each loop that is entered may make n
+/// turns, it prints the same bytes and ends in the same way as the meaning does with n turns. The
+/// bound is few times the steps, or more turns are wanted and it is at least n.
+pub fn array_programs_are_shown()
+    ensures shown { (program : Program) (settings : List Setting) → IsProgram program →
+        IsFaultless program → IsAcceptedWith program settings →
+        IsShownProgram program settings → (n : ℕ) →
+        Shows (λ a. flat_run (flat_tables program settings) a n) n
+        (outcome_of program settings n) }
+    // It never comes to a row that may not stand there.
+    ensures right { (program : Program) (settings : List Setting) → IsProgram program →
+        IsFaultless program → IsAcceptedWith program settings →
+        IsShownProgram program settings → (a n : ℕ) →
+        (flat_run (flat_tables program settings) a n).stop ≢ Wrong }
+{
+    no_stand_in_is_met();
+    ranks_agree();
+    what_is_computed_has_a_value();
+    regions_have_been_computed();
+    declarations_fit();
+    lowered_rows_are_inline();
+    ranks_are_at_most_three();
+    declared_ranks_are_at_most_three();
+    faultless_programs_have_faultless_sites();
+    faultless_programs_leave_nothing_open();
+    procedures_are_there();
+}
