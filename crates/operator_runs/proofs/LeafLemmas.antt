@@ -15,6 +15,7 @@ use Rattle.prefix_runs.specs.Under.{IsUnder}
 use Rattle.prefix_runs.proofs.PlainLemmas.{plain_leaves, suited_agrees}
 use Rattle.operator_runs.specs.Served.{IsScalarOperated, IsArrayOperated, OperatedLeaf, FoldLeaf}
 use Rattle.operator_runs.proofs.FormLemmas.{scalar_goes, array_goes}
+use Rattle.operator_runs.proofs.PrintLemmas.{prints_go}
 
 module _ (world : World) where
   no_leaf : (at : ℕ) (form : Form) → ((w : Where) (p : Place) → OperatedLeaf at form w p → ⊥)
@@ -38,7 +39,10 @@ module _ (world : World) where
   operated_leaves at (Repeat body until test) = no_leaf at (Repeat body until test) (λ w p h. h)
   operated_leaves at (For head body) = no_leaf at (For head body) (λ w p h. h)
   operated_leaves at (Border kind names) = no_leaf at (Border kind names) (λ w p h. h)
-  operated_leaves at (Write ends items) = no_leaf at (Write ends items) (λ w p h. h)
+  operated_leaves at (Write ends items) =
+      goes_more world (OperatedLeaf at (Write ends items))
+      (λ c store. mean.exec_form c world.turns at (Write ends items) store)
+      (λ l next. low.lowered_form l next at (Write ends items)) (prints_go world at ends items)
   operated_leaves at (Return value) = no_leaf at (Return value) (λ w p h. h)
 
   pub folds_agree : (setup : Setup) (IsCallable : List ℕ → Type 0)

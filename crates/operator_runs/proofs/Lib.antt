@@ -13,3 +13,4 @@ pub mod PutLemmas
 pub mod ArrayLemmas
 pub mod FormLemmas
 pub mod LeafLemmas
+pub mod PrintLemmas

@@ -53,7 +53,7 @@ use Rattle.operator_runs.proofs.SpareLemmas.{spares_all}
 
 -- ---- a value
 
-same_value : (one : mean.Computed ℤ) (other : flat.Computed ℤ)
+pub same_value : (one : mean.Computed ℤ) (other : flat.Computed ℤ)
     → ((v : ℤ) → one ≡ mean.Gives v → IsInteger v) → IsSame one other → IsSameValue one other
 same_value one other f (BothGive {value = v}) = BothGive_ (f v refl)
 same_value one other f BothDivide = BothDivide_

@@ -1,9 +1,9 @@
 -- What is asked of statements whose expressions have operators over regions, at their places.
-use Rattle.std.specs.Prelude.{◌≡◌, ◌⊎◌, ℕ, List, Option, Some, None, slice_get}
+use Rattle.std.specs.Prelude.{◌≡◌, ◌⊎◌, ℕ, List, [], ◌∷◌, Option, Some, None, slice_get}
 use Rattle.zpl_nums.specs.declared.operators.Op.{Op}
 use Rattle.zpl_region.specs.declared.regions.Region.{Region}
-use Rattle.zpl_tree.specs.Syntax.{Name, Expr, Form, Assign, Invoke, Block, If, While, Repeat, For, Border, Write, Return}
-use Rattle.zpl_names.specs.Sites.{Assigned, handed}
+use Rattle.zpl_tree.specs.Syntax.{Name, Expr, Item, Str, Value, Form, Assign, Invoke, Block, If, While, Repeat, For, Border, Write, Return}
+use Rattle.zpl_names.specs.Sites.{Assigned, Printed, handed}
 use Rattle.zpl_meaning.specs.Store.{ArrayAt, thing_of}
 use Rattle.zpl_meaning.specs.Context.{Place, Setup, reach_of, rank_in}
 use Rattle.zpl_meaning.specs.Points.{assigned_expr}
@@ -40,7 +40,15 @@ pub record IsArrayOperated (name : Name) (op : Option Op) (value : Expr) (w : Wh
       (assigned_expr name op value))
       ⊎ IsOperated w place None (assigned_expr name op value)
 
--- a scalar or an array is assigned
+-- texts and scalars are printed
+abbrev pub ArePrintedScalars : List Item → Where → Place → Type 0
+ArePrintedScalars [] w place = Unit {0}
+ArePrintedScalars (Str bytes ∷ items) w place = ArePrintedScalars items w place
+ArePrintedScalars (Value expr ∷ items) w place =
+    (rank_in place Printed expr ≡ Some 0) × IsOperated w place None expr
+    × ArePrintedScalars items w place
+
+-- a scalar or an array is assigned, or scalars are printed
 abbrev pub OperatedLeaf : ℕ → Form → Where → Place → Type 0
 OperatedLeaf at (Assign name op value) w place =
     IsScalarOperated name op value w place ⊎ IsArrayOperated name op value w place
@@ -51,7 +59,7 @@ OperatedLeaf at (While test body) w place = ⊥
 OperatedLeaf at (Repeat body until test) w place = ⊥
 OperatedLeaf at (For head body) w place = ⊥
 OperatedLeaf at (Border kind names) w place = ⊥
-OperatedLeaf at (Write ends items) w place = ⊥
+OperatedLeaf at (Write ends items) w place = ArePrintedScalars items w place
 OperatedLeaf at (Return value) w place = ⊥
 
 -- these, or any statement of scalars and arrays without operators over regions
