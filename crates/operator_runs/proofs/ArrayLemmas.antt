@@ -1,5 +1,5 @@
 -- Assignments of arrays, whose values have operators over regions.
-use Rattle.std.proofs.Common.{◌≡◌, refl, sym, ◌∙◌, ap, subst, arith, ℕ, ◌+◌, ◌≤◌, true, ◌&&◌, List, [], ◌∷◌, Option, Some, None, ◌⊎◌, inl, inr}
+use Rattle.std.proofs.Common.{◌≡◌, refl, sym, ◌∙◌, ap, subst, arith, ℕ, ◌≤◌, true, ◌&&◌, List, [], ◌∷◌, Option, Some, None, ◌⊎◌, inl, inr}
 use Rattle.std.specs.Prelude.{slice_get}
 use Rattle.std.specs.List.{list_all}
 use Rattle.zpl_region.specs.declared.regions.Region.{Region}
@@ -35,7 +35,7 @@ use Rattle.zpl_lowering.specs.Statement.{lowered_array, placed_in, put_row}
 use Rattle.lowering_runs.specs.Seen.{Spot, Sight, seen_currents, seen_place, seen_store}
 use Rattle.lowering_runs.specs.Run.{does, decide, step}
 use Rattle.lowering_runs.specs.Agrees.{Agrees, Trapping}
-use Rattle.lowering_runs.specs.Stands.{IsLike, Stands}
+use Rattle.lowering_runs.specs.Stands.{HasRoom, IsLike, Stands}
 use Rattle.array_runs.specs.Floods.{IsReadableMaskAs, IsWritableAs}
 use Rattle.array_runs.specs.Reads.{EachMatches}
 use Rattle.array_runs.specs.Gates.{holds}
@@ -206,8 +206,8 @@ module _ (tables : Tables) (n : ℕ) (sight : Sight) (w : Where) (next : Next) (
       code.then_do (does tables n phases.lowered.code now) (rows_do (step tables n) (decide tables n)
       (put_row w line over (first_left phases.left) o))
 
-  module _ (space : (phased_with w line next own (over_reference w.numbers over) exprs).lowered.scalars
-      + next.scalars ≤ tables.scalars) where
+  module _ (space : HasRoom tables next
+      (phased_with w line next own (over_reference w.numbers over) exprs).lowered) where
     at_over : (stored : Stored) (found : slice_get w.numbers.arrays target ≡ Some stored)
         → EachMatches stored.storage.dims region.dims
         → Agrees Like n 0

@@ -1,5 +1,6 @@
 -- Assignments whose values have operators over regions go alike, as statements.
-use Rattle.std.proofs.Common.{◌≡◌, refl, sym, ◌∙◌, ap, subst, arith, ℕ, ◌+◌, ◌≤◌, ◌<◌, List, length, Option, Some, None, ◌⊎◌, inl, inr}
+use Rattle.operator_runs.proofs.PhaseLemmas.{room_phases}
+use Rattle.std.proofs.Common.{◌≡◌, refl, sym, ◌∙◌, ap, subst, arith, ℕ, ◌≤◌, ◌<◌, List, length, Option, Some, None, ◌⊎◌, inl, inr}
 use Rattle.std.specs.Option.{option_map}
 use Rattle.std.specs.Prelude.{slice_get, slice_index_or}
 use Rattle.zpl_nums.specs.declared.operators.Op.{Op}
@@ -21,7 +22,7 @@ use Rattle.lowering_runs.specs.Seen.{Sight, numbered, place_of, seen_place, seen
 use Rattle.lowering_runs.specs.Run.{does}
 use Rattle.lowering_runs.specs.Agrees.{Agrees}
 use Rattle.lowering_runs.specs.Goes.{World, Goes, context, lowering}
-use Rattle.lowering_runs.specs.Stands.{IsLike, Stands}
+use Rattle.lowering_runs.specs.Stands.{HasRoom, IsLike, Stands}
 use Rattle.lowering_runs.proofs.FitLemmas.{anew_goes}
 use Rattle.lowering_runs.proofs.NumberLemmas.{get_some, number_below}
 use Rattle.lowering_runs.proofs.ValueLemmas.{known_thing, thing_seen}
@@ -107,15 +108,14 @@ module _ (world : World) (at : ℕ) (name : Name) (op : Option Op) (value : Expr
     abbrev ThingAgrees : Option Thing → Type 0
     ThingAgrees thing =
         (let own = low.lowered_to w (Assigned name op) line next expr thing in
-        next.scalars + own.scalars ≤ world.tables.scalars
+        HasRoom world.tables next own
         → Agrees (IsLike world.tables sight.spots w next now) world.turns 0
         (mean.assign_to place (Assigned name op) (option_map (seen_thing sight.spots) thing) expr line
         store) (does world.tables world.turns own.code now))
 
     of_form : (under : Option Slotted) → IsOperated w place under expr
         → ThingAgrees (thing_of w.environment name.text)
-        → next.scalars + (made (lowering world w) next).scalars ≤ world.tables.scalars
-        → Agrees (IsLike world.tables sight.spots w next now) world.turns 0
+        → HasRoom world.tables next (made (lowering world w) next) → Agrees (IsLike world.tables sight.spots w next now) world.turns 0
         (run (context world sight w now) store)
         (does world.tables world.turns (made (lowering world w) next).code now)
     of_form under operated h space =
@@ -129,7 +129,7 @@ module _ (world : World) (at : ℕ) (name : Name) (op : Option Op) (value : Expr
         (option_map (seen_thing sight.spots) (thing_of w.environment name.text)) expr line store)
         (does world.tables world.turns x.code now))
         (sym (lowered_plain w place under (lowering world w) next name op value line operated))
-        (h (subst (λ (x : Lowered). next.scalars + x.scalars ≤ world.tables.scalars)
+        (h (subst (λ (x : Lowered). HasRoom world.tables next x)
         (lowered_plain w place under (lowering world w) next name op value line operated) space)))
 
     scalar_thing : IsOperated w place None expr → (thing : Option Thing)
@@ -147,19 +147,19 @@ module _ (world : World) (at : ℕ) (name : Name) (op : Option Op) (value : Expr
         (number_below 0 (numbered sight.spots) next.scalars q k stands.rises found).1 in
         let number : slice_get w.numbers.scalars q ≡ Some k =
         ap (λ (ks : List ℕ). slice_get ks q) (sym stands.numbers) ∙ found in
-        at_number k number (omega (arith, lt, space)) found space
+        at_number k number (omega (arith, lt, space.scalars)) found space
       where
         at_number : (k : ℕ) → slice_get w.numbers.scalars q ≡ Some k → k < world.tables.scalars
             → slice_get (numbered sight.spots) q ≡ Some k → ThingAgrees (Some (Scalar q))
         at_number k number lt found space =
             subst (λ (o : Option ℕ).
             (let own = low.lowered_scalar w line next (low.placed_in w (Assigned name op) expr) o in
-            next.scalars + own.scalars ≤ world.tables.scalars
+            HasRoom world.tables next own
             → Agrees (IsLike world.tables sight.spots w next now) world.turns 0
             (mean.assign_scalar place (Assigned name op) (place_of sight.spots q) expr line store)
             (does world.tables world.turns own.code now))) (sym number)
             (assigned world.tables world.turns sight w next now stands
-            (let le : next.scalars ≤ world.tables.scalars = omega (arith, space) in le)
+            (let le : next.scalars ≤ world.tables.scalars = omega (arith, space.scalars) in le)
             (Assigned name op) line q k expr operated found lt like) space
     scalar_thing operated (Some (ArrayAt q home)) e t space = absurd t
     scalar_thing operated (Some (Fixed number)) e t space = absurd t
@@ -172,7 +172,7 @@ module _ (world : World) (at : ℕ) (name : Name) (op : Option Op) (value : Expr
       of_form sight w next now stands like None served.operated
       (scalar_thing sight w next now stands like served.operated (thing_of w.environment name.text)
       refl (subst (λ (t : Option Thing). IsTarget (seen_place sight w now).currents (Some 0) t)
-      (thing_seen sight.spots w.environment.names name.text) served.target)) room.scalars)
+      (thing_seen sight.spots w.environment.names name.text) served.target)) room)
 
   module _ (sight : Sight) (w : Where) (next : Next) (now : Whole) (stands : Stands sight.spots w next)
       (like : IsLike world.tables sight.spots w next now
@@ -183,11 +183,11 @@ module _ (world : World) (at : ℕ) (name : Name) (op : Option Op) (value : Expr
     array_thing space =
         array_agrees world.tables world.turns sight w next now (Assigned name op) (line_of w at)
         served.target (assigned_expr name op value) stands
-        (let le : next.scalars ≤ world.tables.scalars = omega (arith, space) in le) like served.current
-        served.writable served.masked served.operated (omega (arith, space))
+        (let le : next.scalars ≤ world.tables.scalars = omega (arith, space.scalars) in le) like served.current
+        served.writable served.masked served.operated
+        (room_phases world.tables next _ _ space)
 
-    array_here : next.scalars + (made (lowering world w) next).scalars ≤ world.tables.scalars
-        → Agrees (IsLike world.tables sight.spots w next now) world.turns 0
+    array_here : HasRoom world.tables next (made (lowering world w) next) → Agrees (IsLike world.tables sight.spots w next now) world.turns 0
         (run (context world sight w now) (seen_store sight.spots w.numbers.arrays now))
         (does world.tables world.turns (made (lowering world w) next).code now)
     array_here space = by _ _ served.operated
@@ -210,4 +210,4 @@ module _ (world : World) (at : ℕ) (name : Name) (op : Option Op) (value : Expr
   array_goes =
       anew_goes world (IsArrayOperated name op value) run made 0
       (λ sight w next now stands served room like.
-      array_here sight w next now stands like served room.scalars)
+      array_here sight w next now stands like served room)

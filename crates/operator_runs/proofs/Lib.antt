@@ -14,3 +14,4 @@ pub mod ArrayLemmas
 pub mod FormLemmas
 pub mod LeafLemmas
 pub mod PrintLemmas
+pub mod TempLemmas

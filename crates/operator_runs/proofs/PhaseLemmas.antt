@@ -1,5 +1,7 @@
 -- The phases of a statement: its checks and the rows of its operators, and the fields that they
 -- come to.
+use Rattle.zpl_lowering.specs.Lowered.{Lowered, both}
+use Rattle.lowering_runs.proofs.FitLemmas.{room_first}
 use Rattle.std.proofs.Common.{◌≡◌, refl, sym, ◌∙◌, ap, subst, arith, ℕ, ◌+◌, ◌≤◌, Bool, true, false, ◌&&◌}
 use Rattle.std.proofs.Common.{List, [], ◌++◌, map, Option, append-nil}
 use Rattle.std.specs.List.{list_all}
@@ -27,7 +29,7 @@ use Rattle.zpl_lowering.specs.Hoist.{Free, Hoisted, all_hoisted, behind}
 use Rattle.zpl_lowering.specs.Lowered.{free_at, phases_of}
 use Rattle.lowering_runs.specs.Run.{decide, does, step}
 use Rattle.lowering_runs.specs.Seen.{Spot, Sight, seen_place, seen_store}
-use Rattle.lowering_runs.specs.Stands.{IsHeld, IsSound, Stands}
+use Rattle.lowering_runs.specs.Stands.{HasRoom, IsHeld, IsSound, Stands, TempsAt}
 use Rattle.array_runs.specs.Gates.{holds, gate}
 use Rattle.array_runs.proofs.GateLemmas.{needs_gate}
 use Rattle.array_runs.proofs.PartLemmas.{both_true}
@@ -38,6 +40,12 @@ use Rattle.operator_runs.proofs.MeantLemmas.{AreReferred, all_conformed, are_ref
 use Rattle.operator_runs.proofs.HoistLemmas.{all_hoist, scalars_here}
 use Rattle.operator_runs.proofs.NarrowLemmas.{IsNarrowField, all_narrow}
 use Rattle.operator_runs.proofs.SettleLemmas.{AreOperated, AreSettled, are_settled, placed_of}
+
+-- room for a statement is room for its phases
+pub room_phases : (tables : Tables) (next : Next) (one other : Lowered)
+    → HasRoom tables next (both one other) → HasRoom tables next one
+room_phases tables next one other h =
+    room_first tables next (code.Then one.code other.code) one other h
 
 module _ (tables : Tables) (n : ℕ) (sight : Sight) (w : Where) (line : ℕ) (next : Next) (now : Whole)
     (stands : Stands sight.spots w next) (room : next.scalars ≤ tables.scalars)
@@ -121,7 +129,7 @@ module _ (tables : Tables) (n : ℕ) (sight : Sight) (w : Where) (line : ℕ) (n
       ≡ guard RegionMismatch (conform settled.terms) line now (gate goes line now (code.goes_on now))
   checks_do =
       all_conformed tables spots w line held.stored now sound n site settled.slates settled.terms
-      settled.are (needs line refs)
+      settled.are there (needs line refs)
       ∙ ap (guard RegionMismatch (conform settled.terms) line now)
       (ap (λ rs. rows rs now) (sym (append-nil (needs line refs)))
       ∙ needs_gate tables n now sound.settled line refs [] gates.there
@@ -132,26 +140,27 @@ module _ (tables : Tables) (n : ℕ) (sight : Sight) (w : Where) (line : ℕ) (n
   abbrev others : Whole → Course Whole
   others = does tables n hoisted_all.code
 
-  by : (conforms holding : Bool) → goes ≡ holding
+  by : (conforms holding : Bool) → conform settled.terms ≡ conforms → goes ≡ holding
       → next.scalars + 0 + hoisted_all.scalars ≤ tables.scalars
+      → TempsAt tables.arrays next.temps hoisted_all.temps
       → Hoist (tests_of_all settled.slates) hoisted_all.left
       (provided conforms RegionMismatch (λ _. provided holding OutsideStorage (λ _.
       fields_of store settled.terms)))
       (code.then_do (guard RegionMismatch conforms line now (gate holding line now
       (code.goes_on now))) others)
-  by true true e space =
+  by true true f e space temps =
       all_hoist tables n spots w line next stands room held.stored now.slots store site settled.slates
       settled.terms settled.are there now
-      (record { sound = sound; slots_are = refl; seen_is = refl }) (slates_held e) free
-      (omega arith) space
-  by true false e space = OneStumbles (omega arith)
-  by false holding e space = OneStumbles (omega arith)
+      (record { sound = sound; slots_are = refl; seen_is = refl }) (slates_held e) f free
+      (omega arith) space temps
+  by true false f e space temps = OneStumbles (omega arith)
+  by false holding f e space temps = OneStumbles (omega arith)
 
   abbrev Phases : ℕ → Settled Slates → Type 0
   Phases most it =
       let phases = phases_of line own (all_referred w.numbers it.slate ++ last) it
       (all_hoisted w.numbers line free it.slate) in
-      phases.lowered.scalars + next.scalars ≤ tables.scalars
+      HasRoom tables next phases.lowered
       → HoistAll tables spots w.numbers.arrays site free
       (behind free (all_hoisted w.numbers line free it.slate)) line most now
       phases.left (fields_in place store (own_is && last_is)
@@ -169,7 +178,7 @@ module _ (tables : Tables) (n : ℕ) (sight : Sight) (w : Where) (line : ℕ) (n
       (subst (λ (c : Course Whole). Hoist (tests_of_all settled.slates) hoisted_all.left
       (provided (conform settled.terms) RegionMismatch (λ _. provided goes OutsideStorage (λ _.
       fields_of store settled.terms))) (code.then_do c others)) (sym checks_do)
-      (by (conform settled.terms) goes refl (omega (arith, space))))
+      (by (conform settled.terms) goes refl refl (omega (arith, space.scalars)) space.temps))
 
   pub phases_hoist : Phases (tests_of_all settled.slates) (settled_each w line next exprs)
   phases_hoist =

@@ -1,10 +1,11 @@
 -- Prints of scalars, whose values have operators over regions.
-use Rattle.std.proofs.Common.{◌≡◌, ◌≢◌, refl, sym, ◌∙◌, ap, subst, arith, ℕ, suc, ◌+◌, ◌≤◌, ◌<◌, Bool, true, List, [], ◌∷◌, ◌++◌, length, map, ℤ, pos, Option, Some, None, append_assoc}
+use Rattle.operator_runs.proofs.PhaseLemmas.{room_phases}
+use Rattle.std.proofs.Common.{◌≡◌, refl, sym, ◌∙◌, ap, subst, arith, ℕ, suc, ◌+◌, ◌≤◌, ◌<◌, Bool, true, List, [], ◌∷◌, ◌++◌, length, map, ℤ, Option, Some, None, append_assoc}
 use Rattle.zpl_nums.specs.declared.ends.End.TheVariants.{Trap}
 use Rattle.zpl_nums.specs.declared.ends.TrapKind.{TrapKind}
 use Rattle.zpl_nums.specs.Integer.{IsInteger}
 use Rattle.zpl_text.specs.Escapes.{unescaped}
-use Rattle.zpl_tree.specs.Syntax.{Base, Expr, Item, Str, Value, Write}
+use Rattle.zpl_tree.specs.Syntax.{Base, Item, Str, Value, Write}
 use Rattle.zpl_names.specs.Kinds.{Rank}
 use Rattle.zpl_names.specs.Sites.{Printed}
 use Rattle.zpl_names.specs.Types.{type_of}
@@ -25,7 +26,6 @@ use Rattle.node_form.specs.Expression.{Expression, Variable, words_of}
 use Rattle.node_form.specs.Value as flat
 use Rattle.node_form.specs.Value.{scalar_operands, tree_value, value_of}
 use Rattle.node_form.proofs.ValueLemmas.{value_of-words_of}
-use Rattle.row_runs.specs.Run as run
 use Rattle.row_runs.specs.Run.{Ends, Step}
 use Rattle.row_runs.specs.Straight.{Every}
 use Rattle.row_runs.specs.Structured as code
@@ -33,26 +33,25 @@ use Rattle.row_runs.specs.Structured.{Course, by_step, rows_do}
 use Rattle.flat_form.specs.Row as row
 use Rattle.flat_form.specs.Row.{Row}
 use Rattle.flat_form.specs.Whole.{Whole}
-use Rattle.zpl_lowering.specs.Where.{Slotted, Where, Next, line_of, slotted_at}
+use Rattle.zpl_lowering.specs.Where.{Where, Next, line_of, slotted_at}
 use Rattle.zpl_lowering.specs.Slate as settle
 use Rattle.zpl_lowering.specs.Slate.{Placed, settled, settled_each}
 use Rattle.zpl_lowering.specs.Hoist.{Free, all_hoisted, behind, hoisted}
 use Rattle.zpl_lowering.specs.Lowered.{free_at, phased}
 use Rattle.zpl_lowering.specs.Statement as low
 use Rattle.zpl_lowering.specs.Statement.{Prints, is_truth, shown_at}
-use Rattle.lowering_runs.specs.Seen.{Spot, Sight, numbered, scalar_in, seen_place, seen_store}
+use Rattle.lowering_runs.specs.Seen.{Sight, numbered, scalar_in, seen_place, seen_store}
 use Rattle.lowering_runs.specs.Run.{decide, does, step}
 use Rattle.lowering_runs.specs.Agrees.{Agrees, Going, Trapping}
-use Rattle.lowering_runs.specs.Goes.{World, Goes, context, lowering}
+use Rattle.lowering_runs.specs.Goes.{World, Goes}
 use Rattle.lowering_runs.specs.Scalars.{IsSameValue, BothGive, BothDivide}
-use Rattle.lowering_runs.specs.Stands.{IsLike, Rises, Stands}
+use Rattle.lowering_runs.specs.Stands.{HasRoom, IsLike, Rises, Stands}
 use Rattle.lowering_runs.proofs.FitLemmas.{anew_goes}
 use Rattle.lowering_runs.proofs.NumberLemmas.{get_set_other, get_set_same, rises_on}
-use Rattle.lowering_runs.proofs.PrintLemmas.{end_prints, line_end, meant_items, printing, rows_append, typed_step}
+use Rattle.lowering_runs.proofs.PrintLemmas.{end_prints, line_end, printing, rows_append, typed_step}
 use Rattle.lowering_runs.proofs.RowLemmas.{print_step, set_step, set_to}
 use Rattle.operator_runs.specs.Meant.{Alone}
 use Rattle.operator_runs.specs.Hoists.{HasValues, HaveValues, HoistAll, AllReach, OneStumbles, Spares}
-use Rattle.operator_runs.specs.Operated.{IsOperated}
 use Rattle.operator_runs.specs.Served.{ArePrintedScalars}
 use Rattle.operator_runs.proofs.JoinLemmas.{with_total}
 use Rattle.operator_runs.proofs.LikeLemmas.{like_spared}
@@ -60,8 +59,8 @@ use Rattle.operator_runs.proofs.MeantLemmas.{none_referred}
 use Rattle.operator_runs.proofs.NarrowLemmas.{IsNarrowField}
 use Rattle.operator_runs.proofs.PhaseLemmas.{phases_few, alone_fields}
 use Rattle.operator_runs.proofs.ScalarLemmas.{same_value}
-use Rattle.operator_runs.proofs.SettleLemmas.{AreOperated, Reads, ReadsNone, placed_of}
-use Rattle.operator_runs.proofs.SpareLemmas.{IsFreer, spares_all, spares_then, spares_total}
+use Rattle.operator_runs.proofs.SettleLemmas.{AreOperated, ReadsNone, placed_of}
+use Rattle.operator_runs.proofs.SpareLemmas.{spares_all, spares_then, spares_total}
 
 abbrev cat : List ℕ → List ℕ → mean.Computed (List ℕ)
 cat first rest = mean.Gives (first ++ rest)
@@ -303,7 +302,7 @@ module _ (tables : Tables) (n : ℕ) (sight : Sight) (w : Where) (line : ℕ) (n
       (spares_all tables sight.spots w.numbers.arrays free after s.sound))))
 
   pub write_agrees : (let own = low.lowered_write w line next ends items in
-      next.scalars + own.scalars ≤ tables.scalars
+      HasRoom tables next own
       → Agrees Like n 0 (outcome (print_text here store ends items)) (does tables n own.code now))
   write_agrees space =
       let none = none_referred tables sight.spots w line like.held.stored now like.sound in
@@ -314,11 +313,12 @@ module _ (tables : Tables) (n : ℕ) (sight : Sight) (w : Where) (line : ℕ) (n
       (came (behind (free_at next 0) (all_hoisted w.numbers line (free_at next 0)
       (settled_each w line next exprs).slate)) (omega arith) phases.left
       (next.scalars + phases.lowered.scalars) (next.temps + length phases.lowered.temps)
-      (omega arith) (left_length w line exprs next (free_at next 0)) (omega (arith, space)) _ _
+      (omega arith) (left_length w line exprs next (free_at next 0)) (omega (arith, space.scalars)) _ _
       (alone_fields tables n sight w line next now stands room like.sound like.held Alone None tt exprs
       operated [] true none [] true none refl)
       (phases_few tables n sight w line next now stands room like.sound like.held Alone None tt exprs
-      operated [] true none [] true none (omega (arith, space))))
+      operated [] true none [] true none
+      (room_phases tables next phases.lowered _ space)))
 
 pub prints_go : (world : World) (at : ℕ) (ends : Bool) (items : List Item)
     → Goes world (ArePrintedScalars items)
@@ -331,4 +331,4 @@ prints_go world at ends items =
     (λ sight w next now stands served room like.
     write_agrees world.tables world.turns sight w (line_of w at) next now stands
     (let le : next.scalars ≤ world.tables.scalars = omega (arith, room.scalars) in le) like ends items
-    served room.scalars)
+    served room)

@@ -1,5 +1,6 @@
 -- Tests and assignments of scalars, whose expressions have operators over regions.
-use Rattle.std.proofs.Common.{◌≡◌, refl, sym, subst, arith, ℕ, ◌+◌, ◌≤◌, ◌<◌, true, List, [], ◌∷◌, ℤ, Some, None}
+use Rattle.operator_runs.proofs.PhaseLemmas.{room_phases}
+use Rattle.std.proofs.Common.{◌≡◌, refl, sym, subst, arith, ℕ, ◌≤◌, ◌<◌, true, List, [], ◌∷◌, ℤ, Some, None}
 use Rattle.std.specs.Prelude.{slice_get}
 use Rattle.zpl_nums.specs.Integer.{IsInteger}
 use Rattle.zpl_tree.specs.Syntax.{Expr}
@@ -36,7 +37,7 @@ use Rattle.lowering_runs.specs.Run.{decide, does, step}
 use Rattle.lowering_runs.specs.Agrees.{Agrees, Trapping}
 use Rattle.lowering_runs.specs.Heads.{Heads, Comes, Stumbles}
 use Rattle.lowering_runs.specs.Scalars.{IsSameValue, BothGive as BothGive_, BothDivide as BothDivide_}
-use Rattle.lowering_runs.specs.Stands.{IsLike, Stands}
+use Rattle.lowering_runs.specs.Stands.{HasRoom, IsLike, Stands}
 use Rattle.lowering_runs.proofs.AgreeLemmas.{goes_agrees}
 use Rattle.lowering_runs.proofs.RowLemmas.{set_step, check_says, like_variable}
 use Rattle.lowering_runs.proofs.ScalarLemmas.{set_agrees}
@@ -122,7 +123,7 @@ module _ (tables : Tables) (n : ℕ) (sight : Sight) (w : Where) (next : Next) (
 
   pub comes : (role : Role) (line : ℕ) (expr : Expr) → IsOperated w place None expr → Like store now
       → (let phases = phased w line next (low.placed_in w role expr ∷ []) in
-      phases.lowered.scalars + next.scalars ≤ tables.scalars
+      HasRoom tables next phases.lowered
       → Came line 0 (first_left phases.left) (phase.scalar_in place store role expr)
       (does tables n phases.lowered.code now))
   comes role line expr operated like space =
@@ -138,7 +139,7 @@ module _ (tables : Tables) (n : ℕ) (sight : Sight) (w : Where) (next : Next) (
 
   pub test_comes : (at : ℕ) (expr : Expr) → IsOperated w place None expr → Like store now
       → (let test = low.test_of w next expr at in
-      test.before.scalars + next.scalars ≤ tables.scalars
+      HasRoom tables next test.before
       → Heads (Like store) ((mean_statement.test_of place expr at).value store) (line_of w at) 0
       (decide tables n test.check) (does tables n test.before.code now))
   test_comes at expr operated like space =
@@ -161,12 +162,13 @@ module _ (tables : Tables) (n : ℕ) (sight : Sight) (w : Where) (next : Next) (
   pub assigned : (role : Role) (line p k : ℕ) (expr : Expr) → IsOperated w place None expr
       → slice_get (numbered spots) p ≡ Some k → k < tables.scalars → Like store now
       → (let made = low.lowered_scalar w line next (low.placed_in w role expr) (Some k) in
-      next.scalars + made.scalars ≤ tables.scalars
+      HasRoom tables next made
       → Agrees Like n 0
       (mean_statement.assign_scalar place role (place_of spots p) expr line store)
       (does tables n made.code now))
   assigned role line p k expr operated e lt like space =
-      by _ _ (comes role line expr operated like (omega (arith, space)))
+      by _ _ (comes role line expr operated like
+      (room_phases tables next (phased w line next (low.placed_in w role expr ∷ [])).lowered _ space))
     where
       by : (value : mean.Computed ℤ) (course : Course Whole)
           → Came line 0 (first_left (phased w line next (low.placed_in w role expr ∷ [])).left) value

@@ -40,10 +40,12 @@ use Rattle.array_runs.specs.Floods.{IsElementAs, three_floods, slot_floods}
 use Rattle.array_runs.proofs.StoredLemmas.{index_of_found}
 use Rattle.array_runs.proofs.CodedLemmas.{CurrentOf, current_of}
 use Rattle.array_runs.proofs.FloodLemmas.{current_floods, readable, mask_readable}
+use Rattle.zpl_nums.specs.declared.folds.Fold.{Fold}
+use Rattle.operator_runs.proofs.MeantLemmas.{current_in}
 use Rattle.operator_runs.specs.Meant.{Site, Under, InSlot, IsMeant, IsNarrow, Wraps}
 use Rattle.operator_runs.specs.Meant.{ConstantMeant, VariableMeant, CoordinateMeant, ElementMeant}
-use Rattle.operator_runs.specs.Meant.{UnaryMeant, BinaryMeant, FoldedMeant, AreMeant, NoneMeant, MoreMeant}
-use Rattle.operator_runs.specs.Operated.{HaveNoFlood, IsCoordinateIn, IsNameIn, IsNarrowExpr, IsOperated}
+use Rattle.operator_runs.specs.Meant.{UnaryMeant, BinaryMeant, FoldedMeant, ScannedMeant, AreMeant, NoneMeant, MoreMeant}
+use Rattle.operator_runs.specs.Operated.{HaveNoFlood, IsCoordinateIn, IsNameIn, IsNarrowExpr, IsOperated, IsScannedIn}
 
 -- ---- flood dimensions
 
@@ -208,6 +210,30 @@ module _ (tables : Tables) (sight : Sight) (w : Where) (line : ℕ) (next : Next
     narrow = λ n. h.narrow (g n);
   }
 
+  scan_settled : (at : ℕ) (operator : Fold) (along : Option ℤ) (operand : Expr) (rank : Rank)
+      (site : Site) (under : Option Slotted) → Reads w now rank site under
+      → IsScannedIn w under along → IsSettled rank site operand
+      → IsSettled rank site (Scan at operator along operand)
+  scan_settled at operator along operand rank _ _ ReadsNone h s = absurd h
+  scan_settled at operator along operand rank _ _ (ReadsUnder {over = over} {region = region} f) h s =
+      let c = current_in now.slots over region f.in_slot in
+      record {
+        one = slate.Scanned operator along over s.one;
+        meant = term.Scanned operator along (record { region = region; mask = over.mask }) s.meant;
+        slated = λ free.
+            ap (slate.mapped (slate.Scanned operator along (slotted_at w.currents rank)))
+            (s.slated free)
+            ∙ ap (λ (o : Slotted). slate.alone (slate.Scanned operator along o s.one)) f.slotted_is;
+        termed =
+            ap (λ x. computed_then x (λ one. mean.Gives (term.Scanned operator along
+            (over_at (seen_currents now w.currents) rank) one))) s.termed
+            ∙ ap (λ (o : Over). mean.Gives (term.Scanned operator along o s.meant)) f.over_is;
+        is = ScannedMeant (mask_readable w now.slots region.rank over c over.mask h.0) h.1 h.2
+            (none_flood region.dims (slot_floods over)
+            (current_floods now.slots region.rank over c) (three_none 3 over.flood h.3)) s.is;
+        narrow = λ n. absurd n;
+      }
+
   pub is_settled : (expr : Expr) (rank : Rank) (site : Site) (under : Option Slotted)
       → Reads w now rank site under → IsOperated w place under expr → IsSettled rank site expr
   is_settled (Number at value) rank site under r h = record {
@@ -327,7 +353,9 @@ module _ (tables : Tables) (sight : Sight) (w : Where) (line : ℕ) (next : Next
   is_settled (Around at name shift) rank site under r h = absurd h
   is_settled (Remap at name indices) rank site under r h = absurd h
   is_settled (Call at name actuals) rank site under r h = absurd h
-  is_settled (Scan at operator along operand) rank site under r h = absurd h
+  is_settled (Scan at operator along operand) rank site under r h =
+      scan_settled at operator along operand rank site under r h.0
+      (is_settled operand rank site under r h.1)
   is_settled (Flood at source operand) rank site under r h = absurd h
 
   -- ---- the expressions of a statement

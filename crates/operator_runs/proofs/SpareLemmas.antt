@@ -1,5 +1,6 @@
 -- States that spare what was there before rows of operators.
-use Rattle.std.proofs.Common.{◌≡◌, refl, ◌∙◌, ap, arith, ℕ, ◌≤◌, ◌<◌}
+use Rattle.std.proofs.Common.{Some}
+use Rattle.std.proofs.Common.{false, ◌≡◌, refl, ◌∙◌, ap, arith, ℕ, ◌≤◌, ◌<◌}
 use Rattle.std.proofs.Common.{List, ℤ}
 use Rattle.std.specs.Prelude.{slice_get, slice_set}
 use Rattle.std.specs.List.{list_all}
@@ -16,6 +17,14 @@ use Rattle.lowering_runs.specs.Stands.{Rises, IsSound}
 use Rattle.lowering_runs.proofs.NumberLemmas.{same_spots, get_other, get_set_other}
 use Rattle.lowering_runs.proofs.RowLemmas.{set_sound}
 use Rattle.array_runs.specs.Gates.{lies, holds}
+use Rattle.zpl_arrays.specs.Array.{Array}
+use Rattle.node_form.specs.declared.arrays.ArrayRow.{ArrayRow}
+use Rattle.flat_form.specs.States.{IsStoreOf}
+use Rattle.normal_runs.proofs.PlaceLemmas.{set_apart}
+use Rattle.lowering_runs.specs.Stands.{AreStored}
+use Rattle.array_puts.specs.Put.{with_array_in}
+use Rattle.array_runs.proofs.LikeLemmas.{zip_new}
+use Rattle.print_runs.proofs.TempLemmas.{arrays_same}
 use Rattle.operator_runs.specs.Hoists.{Spares}
 use Rattle.operator_runs.proofs.JoinLemmas.{with_total}
 use Rattle.operator_runs.proofs.FoldLemmas.{with_fold, fold_sound}
@@ -88,3 +97,26 @@ module _ (tables : Tables) (spots : List Spot) (arrays : List Stored) where
       scalars = other;
       stores = λ j b. refl;
     }
+
+  -- a temporary that is free has another value
+  pub spares_temp : (free : Free) (whole : Whole) → IsSound tables whole → AreStored tables arrays
+      → (k : ℕ) → free.temps ≤ k → (row : ArrayRow) → slice_get tables.arrays k ≡ Some row
+      → row.stored ≡ false → (new : Array) → IsStoreOf row new
+      → Spared free whole (with_array_in whole k new)
+  spares_temp free whole sound all k from row in_tables kept new of = record {
+    sound = record {
+      filled = record {
+        scalars = sound.filled.scalars;
+        awaited = sound.filled.awaited;
+        slots = sound.filled.slots;
+        stores = zip_new tables.arrays whole.stores k row new in_tables of sound.filled.stores;
+      };
+      settled = sound.settled;
+      integers = sound.integers;
+    };
+    seen = ap (λ (xs : List Array). record (seen_store spots arrays whole) { arrays = xs })
+        (arrays_same tables whole k row new in_tables kept arrays all);
+    slots = refl;
+    scalars = λ j b. refl;
+    stores = λ j b. set_apart whole.stores k j new (λ q. absurd (omega (arith, b, q, from)));
+  }

@@ -1,5 +1,5 @@
 -- A slate and the term that it stands for, where the regions of its operators are in slots.
-use Rattle.std.specs.Prelude.{◌≡◌, ◌⊎◌, ℕ, ◌-◌, ◌<◌, true, ℤ, List, length, Some, slice_get}
+use Rattle.std.specs.Prelude.{◌≡◌, ◌⊎◌, ℕ, ◌-◌, ◌<◌, true, ℤ, List, length, Some, slice_get, ◌≤◌, false, unsigned_abs, Option, None}
 use Rattle.zpl_nums.specs.declared.operators.Op.{Op}
 use Rattle.zpl_nums.specs.declared.operators.UnaryOp.{UnaryOp}
 use Rattle.zpl_nums.specs.declared.folds.Fold.{Fold}
@@ -7,6 +7,7 @@ use Rattle.zpl_nums.specs.declared.folds.Fold.TheVariants.{Sum, Prod, Max, Min, 
 use Rattle.zpl_nums.specs.Integer.{IsInteger}
 use Rattle.zpl_region.specs.declared.regions.Region.{Region}
 use Rattle.zpl_region.specs.Region.{IsRegion}
+use Rattle.zpl_meaning.specs.Context.{Mask}
 use Rattle.zpl_meaning.specs.Term as term
 use Rattle.zpl_meaning.specs.Term.{Term, Terms, NoTerm, ThenTerm}
 use Rattle.flat_form.specs.Right.{no_flood}
@@ -53,6 +54,16 @@ IsNarrow (slate.Scanned operator along over operand) = ⊥
 IsNarrow (slate.Flooded over source operand) = ⊥
 IsNarrow (slate.Remapped over place indices) = ⊥
 
+-- code has the mask of a scan as it stands
+abbrev pub IsPlainMask : Option Mask → Type 0
+IsPlainMask None = Unit {0}
+IsPlainMask (Some mask) = mask.without ≡ false
+
+-- a scan goes over all tuples, or along a dimension, counted from 1
+abbrev pub IsAlong : Option ℤ → Type 0
+IsAlong None = Unit {0}
+IsAlong (Some k) = 1 ≤ unsigned_abs k
+
 -- Each slot has the region that the term names, and what is read has its flood dimensions.
 pub data IsMeant (w : Where) (spots : List Spot) (slots : List Region) : Site → Slate → Term → Type 0 where
   ConstantMeant : {site : Site} {value : ℤ} → IsInteger value
@@ -78,6 +89,21 @@ pub data IsMeant (w : Where) (spots : List Spot) (slots : List Region) : Site �
       → IsMeant w spots slots (Under over region) one operand
       → IsMeant w spots slots site (slate.Folded operator over one)
       (term.Folded operator (record { region = region; mask = over.mask }) operand)
+  PartFoldedMeant : {operator : Fold} {over source : Slotted} {region tuples : Region} {one : Slate}
+      {operand : Term} → InSlot slots source tuples → IsReadableMask w region over.mask
+      → no_flood tuples ≡ true → IsMeant w spots slots (Under source tuples) one operand
+      → IsMeant w spots slots (Under over region) (slate.PartFolded operator over source one)
+      (term.PartFolded operator (record { region = region; mask = over.mask }) tuples operand)
+  ScannedMeant : {operator : Fold} {along : Option ℤ} {over : Slotted} {region : Region} {one : Slate}
+      {operand : Term} → IsReadableMask w region over.mask → IsPlainMask over.mask → IsAlong along
+      → no_flood region ≡ true → IsMeant w spots slots (Under over region) one operand
+      → IsMeant w spots slots (Under over region) (slate.Scanned operator along over one)
+      (term.Scanned operator along (record { region = region; mask = over.mask }) operand)
+  FloodedMeant : {over source : Slotted} {region tuples : Region} {one : Slate} {operand : Term}
+      → InSlot slots source tuples → IsReadableMask w region over.mask
+      → IsMeant w spots slots (Under source tuples) one operand
+      → IsMeant w spots slots (Under over region) (slate.Flooded over source one)
+      (term.Flooded (record { region = region; mask = over.mask }) tuples operand)
 
 -- each of several at the same site
 pub data AreMeant (w : Where) (spots : List Spot) (slots : List Region) (site : Site)

@@ -12,7 +12,7 @@ use Rattle.zpl_meaning.specs.Regions.{vector_in}
 use Rattle.zpl_meaning.specs.Scalars.{IsScalarName}
 use Rattle.zpl_lowering.specs.Where.{Slotted, Where, slotted_at}
 use Rattle.array_runs.specs.Floods.{IsElementAs, IsReadableMaskAs}
-use Rattle.operator_runs.specs.Meant.{Wraps}
+use Rattle.operator_runs.specs.Meant.{IsAlong, IsPlainMask, Wraps}
 
 -- no dimension is a flood dimension
 abbrev pub HaveNoFlood : List Bool → Type 0
@@ -56,7 +56,14 @@ pub record IsFoldedUnder (w : Where) (place : Place) (rank : Rank) : Type 0 wher
   pub masked : IsReadableMaskAs w (slotted_at w.currents rank) (slotted_at w.currents rank).mask
   pub plain : HaveNoFlood (slotted_at w.currents rank).flood
 
--- Numbers, names, reads with a shift, coordinates, operators, and full folds of such expressions.
+-- A scan goes over the region under which it stands, which has no flood dimension; its mask is one
+-- that keeps the tuples at which it is true, if there is one.
+abbrev pub IsScannedIn : Where → Option Slotted → Option ℤ → Type 0
+IsScannedIn w None along = ⊥
+IsScannedIn w (Some over) along =
+    IsReadableMaskAs w over over.mask × IsPlainMask over.mask × IsAlong along × HaveNoFlood over.flood
+
+-- Numbers, names, reads with a shift, coordinates, operators, full folds, and scans of such expressions.
 abbrev pub IsOperated : Where → Place → Option Slotted → Expr → Type 0
 IsOperated w place under (Number at value) = IsInteger value
 IsOperated w place under (Truth at value) = Unit {0}
@@ -80,5 +87,6 @@ IsOperated w place under (Reduce at operator (Bracketed source) operand) = ⊥
 IsOperated w place under (Around at name shift) = ⊥
 IsOperated w place under (Remap at name indices) = ⊥
 IsOperated w place under (Call at name actuals) = ⊥
-IsOperated w place under (Scan at operator along operand) = ⊥
+IsOperated w place under (Scan at operator along operand) =
+    IsScannedIn w under along × IsOperated w place under operand
 IsOperated w place under (Flood at source operand) = ⊥
