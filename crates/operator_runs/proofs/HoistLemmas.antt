@@ -1050,7 +1050,7 @@ module _ (tables : Tables) (n : ℕ) (spots : List Spot) (w : Where) (line : ℕ
         → list_all (holds tables state) (over_reference w.numbers over) ≡ true
         → (reads_mask tables state region None ≡ true)
         × (kept_by (option_and_then (λ mask. slice_get state.stores mask) None) ≡ kept_in)
-    none_reads e state there held =
+    none_reads e state _ held =
         (refl, fun_ext (λ t. sym (ap (λ m. is_kept store m t) e)))
 
     some_reads : (place : ℕ)

@@ -13,7 +13,7 @@ use Rattle.lowering_runs.proofs.SuitLemmas.{goes_more, either_goes, FormGoes}
 use Rattle.prefix_runs.specs.Plain.{PlainLeaf}
 use Rattle.prefix_runs.specs.Under.{IsUnder}
 use Rattle.prefix_runs.proofs.PlainLemmas.{plain_leaves, suited_agrees}
-use Rattle.operator_runs.specs.Served.{IsScalarOperated, IsArrayOperated, OperatedLeaf, FoldLeaf}
+use Rattle.operator_runs.specs.Served.{IsScalarOperated, IsArrayOperated, OperatedLeaf, AnyLeaf}
 use Rattle.operator_runs.proofs.FormLemmas.{scalar_goes, array_goes}
 use Rattle.operator_runs.proofs.PrintLemmas.{prints_go}
 
@@ -45,12 +45,12 @@ module _ (world : World) where
       (λ l next. low.lowered_form l next at (Write ends items)) (prints_go world at ends items)
   operated_leaves at (Return value) = no_leaf at (Return value) (λ w p h. h)
 
-  pub folds_agree : (setup : Setup) (IsCallable : List ℕ → Type 0)
+  pub statements_agree : (setup : Setup) (IsCallable : List ℕ → Type 0)
       → CallsAgree world setup IsCallable → (stmt : Stmt)
-      → Goes world (SuitsStmt IsUnder (FoldLeaf setup IsCallable) stmt)
+      → Goes world (SuitsStmt IsUnder (AnyLeaf setup IsCallable) stmt)
       (λ c store. mean.exec c world.turns stmt store) (λ l next. low.lowered l next stmt) 0
-  folds_agree setup IsCallable calls stmt =
-      suited_agrees world (FoldLeaf setup IsCallable)
+  statements_agree setup IsCallable calls stmt =
+      suited_agrees world (AnyLeaf setup IsCallable)
       (λ at form. either_goes world (PlainLeaf setup IsCallable at form) (OperatedLeaf at form)
       (λ c store. mean.exec_form c world.turns at form store)
       (λ l next. low.lowered_form l next at form) 1

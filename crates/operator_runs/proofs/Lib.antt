@@ -15,3 +15,5 @@ pub mod FormLemmas
 pub mod LeafLemmas
 pub mod PrintLemmas
 pub mod TempLemmas
+pub mod TestLemmas
+mod Examples

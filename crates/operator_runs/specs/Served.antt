@@ -63,6 +63,6 @@ OperatedLeaf at (Write ends items) w place = ArePrintedScalars items w place
 OperatedLeaf at (Return value) w place = ⊥
 
 -- these, or any statement of scalars and arrays without operators over regions
-abbrev pub FoldLeaf : Setup → (List ℕ → Type 0) → ℕ → Form → Where → Place → Type 0
-FoldLeaf setup IsCallable at form w place =
+abbrev pub AnyLeaf : Setup → (List ℕ → Type 0) → ℕ → Form → Where → Place → Type 0
+AnyLeaf setup IsCallable at form w place =
     PlainLeaf setup IsCallable at form w place ⊎ OperatedLeaf at form w place

@@ -7,5 +7,6 @@
 mod laws;
 
 pub use laws::{
-    folds_into_arrays_go_alike, folds_into_scalars_go_alike, statements_with_folds_go_alike,
+    arrays_by_operators_go_alike, prints_by_operators_go_alike, scalars_by_operators_go_alike,
+    statements_by_operators_go_alike, tests_by_operators_go_alike,
 };

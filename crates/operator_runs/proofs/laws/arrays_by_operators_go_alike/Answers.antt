@@ -1,5 +1,5 @@
 use Rattle.operator_runs.proofs.FormLemmas.{array_goes}
-use Rattle.operator_runs.proofs.laws.folds_into_arrays_go_alike.Goals as goal
+use Rattle.operator_runs.proofs.laws.arrays_by_operators_go_alike.Goals as goal
 
 pub returns : goal.returns
 returns c = array_goes
