@@ -31,8 +31,8 @@ pub trait Callables {
 
 /// The code of an assignment of a scalar goes as the assignment does, where its value has operators
 /// over regions: each is computed by rows of its own, inner before outer and left before right,
-/// behind the references of all of them; it comes to the same value, or to the same trap at the same
-/// line.
+/// behind the references of all of them. It comes to the same value, or to the same trap at the
+/// same line.
 pub fn scalars_by_operators_go_alike()
     ensures { (world : World) (at : ℕ) (name : Name) (op : Option Operator) (value : Expr) →
         Goes world (IsScalarOperated name op value)
