@@ -45,8 +45,7 @@ use Rattle.scan_plan.proofs.OwnedLemmas.{owned_region}
 use Rattle.message_runs.proofs.GatherRows.{kept_of, zero_below}
 use Rattle.message_runs.proofs.OwnerLemmas.{limited_bounds}
 use Rattle.message_runs.proofs.PartRows.{map_parts, numbers_same, one_first, without_units}
-use Rattle.message_runs.proofs.ScanLines.{before_along, earlier_is, head_is, heads_told, line_told, past_rank, start_told}
-use Rattle.message_runs.proofs.ScanLines.{is_among}
+use Rattle.message_runs.proofs.ScanLines.{before_along, earlier_is, head_is, heads_told, is_among, line_told, past_rank, start_told}
 use Rattle.message_runs.proofs.WorkLemmas.{words_all}
 
 -- ---- the totals of lines that count
@@ -318,10 +317,13 @@ module _ (code : Tables) (sound : AreBlocks (laid_out (arrangement_of code))) (r
   -- ---- what stands before a line of the part of one
   module _ (plain : no_flood region ≡ true) (p : ℕ) (p_below : p < processors code) (h : List ℤ)
       (head : Among (members (heads k (part p))) h) (f : Fold) (from : ℕ) (mask : Option ℕ) where
+    abbrev made_of : List Dim → Region
+    made_of dims = record { rank = region.rank; dims = dims }
+
     owned_same : (q : ℕ) → owned_part blocks q p region ≡ part q
     owned_same q =
         let ns = cuts blocks.grid region.rank in
-        ap (λ (dims : List Dim). (let r : Region = record { rank = region.rank; dims = dims } in r))
+        ap made_of
         (each_same (axes_at blocks region.rank) ns (blocks_at ns q) (blocks_at ns p) region.dims
         (blocks_length ns p ∙ sym (blocks_length ns q)) plain)
 
@@ -413,13 +415,9 @@ module _ (code : Tables) (sound : AreBlocks (laid_out (arrangement_of code))) (r
           let is = head_is k (part q) g (dim_low q below) (part_steps q below) among in
           ap (λ b. b && row.is_before_line code p f along from mask along (row.line_dim region along)
           (row.line_start code p region (row.line_dim region along)) h g)
-          (owned_here q g below (member_among q below g is))
+          (owned_here q g below (is_among (part q) g (part_steps q below) is))
           ∙ stands_alike q g below is))
           ∙ ap of_part (sym (owned_same q))
-        where
-          member_among : (q : ℕ) (below : q < processors code) (g : List ℤ) → IsMember (part q) g
-              → Among (members (part q)) g
-          member_among q below g is = is_among (part q) g (part_steps q below) is
 
       none_picked : (q : ℕ) → nat_lt 0 (many q) ≡ false → folded f (pick q (words q)) ≡ unit_of f
       none_picked q e = by (row.line_heads code q region (row.line_dim region along)) e
