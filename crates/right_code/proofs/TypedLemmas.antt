@@ -30,12 +30,12 @@ word_three one is = tt
 pub is_typed : (tables : Tables) → AreTyped tables → IsTyped tables
 is_typed tables are = record {
   arrays = are.arrays;
-  rows = λ k one inside. row_dims one (are.code k one inside);
+  rows = λ k one inside. row_dims _ (are.code k one inside);
 }
 
 pub has_threes : (tables : Tables) → AreTyped tables → HasThrees tables
 has_threes tables are = record {
-  rows = λ k one inside. row_three one (are.code k one inside);
+  rows = λ k one inside. row_three _ (are.code k one inside);
   arrays = are.arrays;
-  words = λ k words inside j one within. word_three one (are.exprs k words inside j one within);
+  words = λ k words inside j one within. word_three _ (are.exprs k words inside j one within);
 }
