@@ -1,5 +1,5 @@
 -- The rows of parameters and local variables fit, and so do the numbers behind them.
-use Rattle.std.proofs.Common.{ℕ, ◌<◌, Bool, true, false, List, [], ◌∷◌, ◌++◌, refl, arith}
+use Rattle.std.proofs.Common.{ℕ, ◌<◌, Bool, true, false, List, [], ◌∷◌, ◌++◌, refl, arith, inr}
 use Rattle.std.specs.Prelude.{pos, None}
 use Rattle.std.proofs.lemmas.Int.{ints}
 use Rattle.std.proofs.lemmas.List.Elements.{All-from_recursion}
@@ -99,7 +99,7 @@ module _ (base : Tables) where
           (
             put_loop base rank next.slots next.arrays (expr.Element from.array) None line is.is_rank
                 laid.slots_at.0 (array_of base rank next.arrays from.storage laid.arrays_at.0 refl)
-                (is.is_rank, array_of base rank from.array from.storage has refl) tt,
+                (is.is_rank, array_of base rank from.array from.storage has refl) tt (inr (inr tt)),
             tt,
           ),
         );

@@ -11,7 +11,7 @@ use Rattle.zpl_names.specs.Scope.{kind_in, kind_of}
 use Rattle.zpl_names.specs.Ranks.{dir_rank, direction_rank, region_shape}
 use Rattle.zpl_names.specs.Declared.{Routine, globals_of, scope_of}
 use Rattle.zpl_binding.specs.Outcome.{Outcome, Gives, Fails, value_or, Computed, outcome_or, outcome_of}
-use Rattle.zpl_binding.specs.Vectors.{three_components, vector_of, dir_of}
+use Rattle.zpl_binding.specs.Vectors.{three_components, vector_of}
 use Rattle.zpl_binding.specs.Regions.{Known, no_region, region_named}
 use Rattle.zpl_binding.specs.Settings.{Setting}
 use Rattle.zpl_binding.specs.Declarations.{known_of}

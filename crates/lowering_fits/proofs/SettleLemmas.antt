@@ -26,7 +26,7 @@ use Rattle.zpl_meaning.specs.Context.{Over, Currents, with_over, Edge}
 use Rattle.zpl_meaning.specs.Proper.{HasCurrent, IsArrayRank, IsProperRegion, IsProperInner, IsRead, IsArrayRead, IsProper, AreProper}
 use Rattle.meaning_ranks.specs.Ranked.{IsRegionOf, IsInnerOf, HasDimension, GoesAlong, IsNameOf, IsOfRank as IsRankedAt, AreOfRank as AreRankedAt}
 use Rattle.node_form.specs.declared.tables.Tables.{Tables}
-use Rattle.node_form.specs.Fits.{IsRank, IsVector}
+use Rattle.node_form.specs.Fits.{IsRank}
 use Rattle.zpl_lowering.specs.Where.{Stored, Numbers, Slotted, SlotCurrents, slotted_or, slotted_at, with_slotted, Where, Next}
 use Rattle.zpl_lowering.specs.Slate as slate
 use Rattle.zpl_lowering.specs.Slate.{Slate, Slates, NoSlate, ThenSlate, Settled, alone, behind, both, named_slate, shifted_slate, remap_slate, border_slots, around_slate, source_of, under_source, source_rank, opened_source, of_opened, settled, settled_all}
@@ -36,6 +36,7 @@ use Rattle.lowering_fits.specs.Inline.{FitRows}
 use Rattle.lowering_fits.specs.Slates.{SlotsAt, StoragesAt, IsOfRank, IsRemapOf, FitsOver, slates_count, FitsSlate, FitsSlates, FitsShift, FitsVector, IsWhole}
 use Rattle.lowering_fits.specs.Lowerings.{AllRanks}
 use Rattle.lowering_fits.specs.Reach.{FitsCurrent, FitCurrents, place_at, IsStoredAs, HasFlatRemaps, HaveFlatRemaps, IsReach}
+use Rattle.lowering_fits.proofs.FringeLemmas.{copy_level}
 use Rattle.lowering_fits.proofs.TreeLemmas.{slots_first, slots_rest, storages_first, storages_rest, array_of, stored_of}
 use Rattle.lowering_fits.proofs.VectorLemmas.{VectorBy, by_vector, vector_by}
 use Rattle.lowering_fits.proofs.SlateLemmas.{rows_both}
@@ -339,6 +340,10 @@ module _ (base : Tables) (w : Where) (currents : Currents) (reach : IsReach base
             has = array_of base number next.copies (copy_storage home shift) laid.copies_at.0
                 copied;
             is_stored = stored_of base next.copies (copy_storage home shift) laid.copies_at.0;
+            storage = copy_storage home shift;
+            stands = laid.copies_at.0;
+            ranked = copied;
+            level = copy_level home shift;
             slots = subst (λ n. SlotsAt base next.slots (replicate (border_slots moves) n)) same
                 laid.slots_at;
           },

@@ -1,6 +1,7 @@
 -- Expressions whose parts fit are words that fit; and what is laid out in tables, by its numbers.
-use Rattle.std.proofs.Common.{◌≡◌, ℕ, zero, suc, ◌+◌, ◌<◌, Bool, true, ℤ, List, [], ◌∷◌, ◌++◌, length, drop, refl, ap, ◌∙◌, subst, arith}
+use Rattle.std.proofs.Common.{◌≡◌, ℕ, zero, suc, ◌+◌, ◌<◌, Bool, true, false, ◌&&◌, ℤ, List, [], ◌∷◌, ◌++◌, length, drop, refl, ap, ◌∙◌, subst, arith}
 use Rattle.std.specs.Prelude.{pos, Option, Some, None, slice_get, All}
+use Rattle.std.specs.List.{list_all}
 use Rattle.std.specs.Option.{IsSomeAnd}
 use Rattle.std.proofs.lemmas.Int.{ints}
 use Rattle.std.proofs.lemmas.List.Elements.{All-append, All-cons, All-nil, All-head, All-tail, All-from_recursion}
@@ -20,6 +21,7 @@ use Rattle.zpl_lowering.specs.Where.{Stored}
 use Rattle.zpl_lowering.specs.Words.{variable_code}
 use Rattle.zpl_lowering.specs.Reference.{shift_in, vector_over}
 use Rattle.zpl_lowering.specs.Hoist.{Shifted}
+use Rattle.flat_form.specs.Static.{word_has_fringe}
 use Rattle.stored_shifts.specs.Stored.{IsStoredRead}
 use Rattle.typed_tables.specs.Typed.{IsTypedWord}
 use Rattle.lowering_fits.specs.Inline.{FitsWords, FitsScalar}
@@ -125,6 +127,41 @@ module _ (base : Tables) where
       behind_typed (words_of operand) (word.Abs ∷ []) (tree_typed rank operand fits)
       (one_typed word.Abs tt)
 
+  -- and its fringes
+  abbrev AllWithin : List ExprOp → Type 0
+  AllWithin words = list_all (word_has_fringe base) words ≡ true
+
+  both_within : (front back : List ExprOp) → AllWithin front → AllWithin back →
+      AllWithin (front ++ back)
+  both_within [] back first rest = rest
+  both_within (one ∷ front) back first rest =
+      by (word_has_fringe base one) first (λ others. both_within front back others rest)
+    where
+      by : (b : Bool) → (b && list_all (word_has_fringe base) front) ≡ true →
+          (AllWithin front → AllWithin (front ++ back)) →
+          (b && list_all (word_has_fringe base) (front ++ back)) ≡ true
+      by true holds later = later holds
+      by false holds later = let no : ⊥ = cc in absurd no
+
+  tree_within : (rank : ℕ) (tree : Expression) → FitsTree base rank tree →
+      AllWithin (words_of tree)
+  tree_within rank (expr.Constant value) fits = refl
+  tree_within rank (expr.Variable scalar) fits = refl
+  tree_within rank (expr.Element array) fits = refl
+  tree_within rank (expr.Neighbour array shift) fits = ap (λ b. b && true) fits.4
+  tree_within rank (expr.CellValue cell) fits = absurd fits
+  tree_within rank (expr.Coordinate dimension) fits = refl
+  tree_within rank (expr.Operation op left right) fits =
+      both_within (words_of left) (words_of right ++ word.Pair op ∷ [])
+      (tree_within rank left fits.0)
+      (both_within (words_of right) (word.Pair op ∷ []) (tree_within rank right fits.1) refl)
+  tree_within rank (expr.Negation operand) fits =
+      both_within (words_of operand) (word.Neg ∷ []) (tree_within rank operand fits) refl
+  tree_within rank (expr.Denial operand) fits =
+      both_within (words_of operand) (word.Not ∷ []) (tree_within rank operand fits) refl
+  tree_within rank (expr.Absolute operand) fits =
+      both_within (words_of operand) (word.Abs ∷ []) (tree_within rank operand fits) refl
+
   pub tree_fits : (rank : ℕ) (tree : Expression) → FitsTree base rank tree →
       FitsWords base rank (words_of tree)
   tree_fits rank tree fits = record {
@@ -132,6 +169,7 @@ module _ (base : Tables) where
     fit = tree_all rank tree fits;
     stored = tree_stored rank tree fits;
     typed = tree_typed rank tree fits;
+    within = tree_within rank tree fits;
   }
 
   -- a scalar has every rank

@@ -18,7 +18,7 @@ use Rattle.meaning_ranks.specs.Ranked.{AreArraysOf, AreRankedItems}
 use Rattle.node_form.specs.Expression as expr
 use Rattle.node_form.specs.Expression.{Expression, words_of}
 use Rattle.node_form.specs.declared.tables.Tables.{Tables}
-use Rattle.node_form.specs.Fits.{IsRank, IsVector, HasSlot, HasArray, IsStored}
+use Rattle.node_form.specs.Fits.{IsRank, HasSlot, HasArray, IsStored}
 use Rattle.row_runs.specs.Structured as piece
 use Rattle.flat_form.specs.Row as row
 use Rattle.flat_form.specs.Row.{Row, Words}
