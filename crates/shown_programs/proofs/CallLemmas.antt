@@ -47,6 +47,7 @@ use Rattle.lowering_fits.specs.Reach.{FitNames, AreGlobals}
 use Rattle.lowering_fits.specs.Storages.{AllKept}
 use Rattle.lowering_fits.proofs.KeptLemmas.{AreGivenOf}
 use Rattle.lowering_fits.proofs.ReachLemmas.{FewScalars}
+use Rattle.shown_programs.proofs.BoundedLemmas.{IsBoundedAt}
 
 module _ (program : Program) (settings : List Setting) (laws : Laws program)
     (grammar : IsProgram program) (clean : IsFaultless program) where
@@ -68,6 +69,7 @@ module _ (program : Program) (settings : List Setting) (laws : Laws program)
   pub record IsEntered (shapes : Shapes) (place : Place) (body : Stmt) : Type 0 where
     pub here : IsAt program settings laws grammar clean place shapes body
     pub visited : IsVisited setup place body
+    pub bounded : IsBoundedAt place
 
   -- a call, by what its parameters take
   pub record IsCalledFrom (IsCallable : List ℕ → Type 0) (w : Where) (givens : List Given)

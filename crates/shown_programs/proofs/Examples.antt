@@ -1,19 +1,20 @@
--- A program with arrays, a prefix, and a call that hands an array on.
+-- A program with arrays, prefixes, a border statement, and a call that hands an array on.
 use Rattle.std.proofs.Common.{◌≡◌, inl, inr, ℕ, true, false, List, [], ◌∷◌, Some, None, pos, codes, refl}
 use Rattle.std.proofs.Common.{arith}
+use Rattle.zpl_nums.specs.declared.ends.Border.TheVariants.{Wrap}
 use Rattle.zpl_nums.specs.declared.operators.Op.TheVariants as op
 use Rattle.zpl_nums.specs.Integer.{IsInteger}
 use Rattle.zpl_nums.proofs.IntegerLemmas.{IsInteger-truth}
-use Rattle.zpl_tree.specs.Syntax.{Name, Number, Named, Pair, Value, Prefixed, NoStmt, ThenStmt, Assign, Block, Invoke, Write, NoExpr, ThenExpr, NoBracket, Bracketed, Rexpr, Dims, NamedRegion, NoPost, Span, NoDim, ThenDim, Integer, Vars, Regions, Defined, Program}
+use Rattle.zpl_tree.specs.Syntax.{Name, Number, Named, Pair, Value, Prefixed, NoStmt, ThenStmt, Assign, Block, Invoke, Write, NoExpr, ThenExpr, NoBracket, Bracketed, Rexpr, Dims, NamedRegion, NoPost, Span, NoDim, ThenDim, Integer, Vars, Regions, Directions, Defined, Border, Program}
 use Rattle.zpl_names.specs.Reached.{longest_chain}
 use Rattle.shown_programs.specs.Text.{IsShownProgram}
 
 abbrev name : List ℕ → ℕ → Name
 name text at = record { text = text; at = at }
 
--- region R = [1..2]; var A : [R] integer;
+-- region R = [1..2]; direction d = [1]; var A : [R] integer;
 -- procedure p(var X : [R] integer); var B : [R] integer; [R] begin B := 1; X := X + B; end;
--- procedure t(); [R] begin p(A); writeln(A); end;
+-- procedure t(); [R] begin p(A); [d of R] wrap A; writeln(A); end;
 abbrev example : Program
 example = record {
   name = name (codes "t") 8;
@@ -22,6 +23,10 @@ example = record {
     body = Dims (ThenDim (Span (Number 25 (pos 1)) (Number 28 (pos 2))) NoDim);
     posts = NoPost;
   } ∷ [])
+      ∷ Directions (record {
+        name = name (codes "d") 40;
+        parts = ThenExpr (Number 45 (pos 1)) NoExpr;
+      } ∷ [])
       ∷ Vars (record {
         names = name (codes "A") 37 ∷ [];
         shape = Bracketed (Rexpr [] (NamedRegion (name (codes "R") 42)) NoPost);
@@ -67,8 +72,15 @@ example = record {
             (Block
             (ThenStmt (Prefixed 170 [] (Invoke (name (codes "p") 170)
             (ThenExpr (Named 172 (name (codes "A") 172)) NoExpr)))
+            (ThenStmt (Prefixed 185
+            (record {
+              at = 176;
+              region = Rexpr (record { dir = name (codes "d") 177; outside = true } ∷ [])
+                  (NamedRegion (name (codes "R") 182)) NoPost;
+              mask = None;
+            } ∷ []) (Border Wrap (name (codes "A") 190 ∷ [])))
             (ThenStmt (Prefixed 176 [] (Write true (Value (Named 184 (name (codes "A") 184)) ∷ [])))
-            NoStmt)));
+            NoStmt))));
       })
       ∷ [];
   source = [];
@@ -86,7 +98,7 @@ is_shown = record {
       (
         (
           tt,
-          inr (inr (
+          inr (inr (inr (
             tt,
             record {
               routine = _;
@@ -99,9 +111,9 @@ is_shown = record {
                 ),
               );
             },
-          )),
+          ))),
         ),
-        ((tt, inr (inl (inr (refl, tt), tt))), tt),
+        (((tt, tt), inr (inr (inl tt))), ((tt, inr (inl (inr (refl, tt), tt))), tt)),
       ),
     );
   };

@@ -43,6 +43,8 @@ use Rattle.prefix_runs.specs.Plain.{PlainLeaf, ArrayLeaf}
 use Rattle.prefix_runs.proofs.PlainLemmas.{array_leaves}
 use Rattle.print_runs.specs.Printed.{PrintLeaf}
 use Rattle.print_runs.proofs.WriteLemmas.{print_leaves}
+use Rattle.border_runs.specs.Bordered.{BorderLeaf}
+use Rattle.border_runs.proofs.BorderLemmas.{border_leaves}
 use Rattle.served_places.specs.Told.{IsSeenFrom, AreFree, IsPlainExpr, place_of}
 use Rattle.served_places.proofs.ToldLemmas.{array_served}
 use Rattle.served_places.proofs.CleanLemmas.{array_there}
@@ -52,6 +54,7 @@ use Rattle.shown_programs.specs.Text.{IsPlainForm, IsCallForm, IsLeafForm}
 use Rattle.shown_programs.proofs.CallLemmas.{setup, IsKnownAt, IsEntered, IsCalledFrom, CallsGo, IsToldInvoke, CallLeaf, call_leaves}
 use Rattle.shown_programs.proofs.PlaceLemmas.{IsPlaced, placed_proper, placed_ranked, placed_inside, each_free}
 use Rattle.shown_programs.proofs.PrintedLemmas.{print_suits}
+use Rattle.shown_programs.proofs.BorderLemmas.{border_suits}
 use Rattle.shown_programs.proofs.RoutineLemmas.{AreLeaves}
 
 -- ---- values without operators over regions are no calls
@@ -328,6 +331,7 @@ module _ (program : Program) (settings : List Setting) (laws : Laws program)
                   form name actuals values before store 0 routine h.here h.under AsStatement c many is);
               visited = Calls h.start place at prefixes form name actuals values before store 0 routine
                   h.visited h.under AsStatement many is;
+              bounded = record { currents = h.bounded.currents; edge = tt };
             };
           };
         }
@@ -354,7 +358,8 @@ module _ (program : Program) (settings : List Setting) (laws : Laws program)
   Leaf IsCallable at form w place =
       PlainLeaf own Never at form w place
       ⊎ (PrintLeaf at form w place
-      ⊎ CallLeaf program settings laws grammar clean IsCallable at form w place)
+      ⊎ (BorderLeaf at form w place
+      ⊎ CallLeaf program settings laws grammar clean IsCallable at form w place))
 
   no_calls : (world : World) → CallsAgree world own Never
   no_calls world = record {
@@ -390,17 +395,24 @@ module _ (program : Program) (settings : List Setting) (laws : Laws program)
               edge shapes form h plain)
           | inr (inl print) ↦ inr (inl (print_suits program settings laws grammar clean proper ranked
               at prefixes spots w environment answer currents edge shapes form h print))
-          | inr (inr call) ↦ inr (inr (call_suits proper ranked at prefixes spots w environment answer
-              currents edge shapes IsCallable form h call))
+          | inr (inr (inl border)) ↦ inr (inr (inl (border_suits program settings laws grammar clean
+              proper ranked at prefixes spots w environment answer currents edge shapes form h border)))
+          | inr (inr (inr call)) ↦ inr (inr (inr (call_suits proper ranked at prefixes spots w
+              environment answer currents edge shapes IsCallable form h call)))
         ];
     go = λ depth IsCallable calls at form.
         let world = world_at tables n own depth in
         or_goes world at form (PlainLeaf own Never at form)
         (λ w place. PrintLeaf at form w place
-        ⊎ CallLeaf program settings laws grammar clean IsCallable at form w place)
+        ⊎ (BorderLeaf at form w place
+        ⊎ CallLeaf program settings laws grammar clean IsCallable at form w place))
         (plain_leaves world at form)
         (or_goes world at form (PrintLeaf at form)
-        (CallLeaf program settings laws grammar clean IsCallable at form)
+        (λ w place. BorderLeaf at form w place
+        ⊎ CallLeaf program settings laws grammar clean IsCallable at form w place)
         (print_leaves world at form)
-        (call_leaves program settings laws grammar clean world IsCallable calls at form));
+        (or_goes world at form (BorderLeaf at form)
+        (CallLeaf program settings laws grammar clean IsCallable at form)
+        (border_leaves world at form)
+        (call_leaves program settings laws grammar clean world IsCallable calls at form)));
   }

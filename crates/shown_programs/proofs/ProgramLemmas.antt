@@ -230,6 +230,7 @@ module _ (program : Program) (settings : List Setting) (laws : Laws program)
       (record {
         here = entry_at program settings laws grammar clean routine frame.store it.named;
         visited = Begins routine frame.store it.named;
+        bounded = record { currents = record { one = tt; two = tt; three = tt }; edge = tt };
       }))) room
 
   -- ---- the whole run

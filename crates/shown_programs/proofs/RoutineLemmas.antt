@@ -320,7 +320,7 @@ module _ (program : Program) (settings : List Setting) (laws : Laws program)
             (Leaf IsCallable) (Text IsCallable) (leaves.suits IsCallable) routine.procedure.body here
             inner (seen_place sight inner mid).environment 0 (seen_currents mid inner.currents) None
             shapes entered_is.here entered_is.visited (known_inside framed next framed_is)
-            (begins_seen here inner mid 0) shown (accepted.posts routine among))
+            (begins_seen here inner mid 0) entered_is.bounded shown (accepted.posts routine among))
             room (seen_store here xs mid) mid
             (record {
               seen = refl;

@@ -142,12 +142,25 @@ IsPrintForm reach (For head body) = ⊥
 IsPrintForm reach (Border kind names) = ⊥
 IsPrintForm reach (Return value) = ⊥
 
+abbrev pub IsBorderForm : Reach → Form → Type 0
+IsBorderForm reach (Border kind names) = Unit {0}
+IsBorderForm reach (Assign name op value) = ⊥
+IsBorderForm reach (Invoke name actuals) = ⊥
+IsBorderForm reach (Block body) = ⊥
+IsBorderForm reach (If arms otherwise) = ⊥
+IsBorderForm reach (While test body) = ⊥
+IsBorderForm reach (Repeat body until test) = ⊥
+IsBorderForm reach (For head body) = ⊥
+IsBorderForm reach (Write line items) = ⊥
+IsBorderForm reach (Return value) = ⊥
+
 -- A form that is proved: further ones are further lines.
 abbrev pub IsLeafForm : (List ℕ → Type 0) → Reach → Form → Type 0
 IsLeafForm IsCallable reach form =
     IsPlainForm reach form
     ⊎ (IsPrintForm reach form
-    ⊎ IsCallForm IsCallable reach form)
+    ⊎ (IsBorderForm reach form
+    ⊎ IsCallForm IsCallable reach form))
 
 -- ---- procedures and programs
 
