@@ -1,17 +1,18 @@
 -- The forms that are proved suit their places, and go as their code does.
-use Rattle.std.proofs.Common.{◌≡◌, ◌⊎◌, inl, inr, ℕ, true, ℤ, List, [], ◌∷◌, ◌++◌, length, Option, Some, None}
+use Rattle.std.proofs.Common.{◌≡◌, ◌⊎◌, inl, inr, ℕ, true, false, ℤ, List, [], ◌∷◌, ◌++◌, length, Option, Some, None}
 use Rattle.std.proofs.Common.{refl, sym, ap, ◌∙◌, subst}
 use Rattle.std.specs.Option.{option_map}
+use Rattle.std.specs.Prelude.{IsSome}
 use Rattle.zpl_nums.specs.declared.operators.Op.{Op}
 use Rattle.zpl_region.specs.declared.regions.Region.{Region}
-use Rattle.zpl_tree.specs.Syntax.{Name, Base, Expr, Number, Truth, Coord, Named, Shifted, Around, Remap, Call, Paren, Neg, Not, Abs, Pair, Reduce, Scan, Flood, Exprs, Prefix, Stmt, Form, Assign, Invoke, Block, If, While, Repeat, For, Border, Write, Return, Program}
+use Rattle.zpl_tree.specs.Syntax.{Name, Base, Expr, Number, Truth, Coord, Named, Shifted, Around, Remap, Call, Paren, Neg, Not, Abs, Pair, Reduce, Scan, Flood, Exprs, NoExpr, ThenExpr, Prefix, Stmt, Form, Assign, Invoke, Block, If, While, Repeat, For, Border, Write, Return, Program}
 use Rattle.zpl_tree.specs.Grammar.{IsProgram}
 use Rattle.zpl_names.specs.Kinds as kind
-use Rattle.zpl_names.specs.Kinds.{Kind, Rank, Formal, Signature}
+use Rattle.zpl_names.specs.Kinds.{Kind, Rank, Formal, ScalarFormal, ArrayFormal, Signature}
 use Rattle.zpl_names.specs.Scope.{kind_of, is_array}
 use Rattle.zpl_names.specs.Shapes.{Shapes}
 use Rattle.zpl_names.specs.Declared.{Routine, IsProcedureOf, routine_named}
-use Rattle.zpl_names.specs.Sites.{Reach, Site, Assigned, AtStmt, expr_sites, form_sites, value_sites, whole_rank, whole_sites}
+use Rattle.zpl_names.specs.Sites.{Reach, Site, Actual, Assigned, AtStmt, expr_sites, form_sites, value_sites, whole_rank, whole_sites}
 use Rattle.zpl_names.specs.Accepted.{IsFaultless}
 use Rattle.zpl_names.specs.Faults.{flood_clashes}
 use Rattle.zpl_binding.specs.Settings.{Setting}
@@ -37,10 +38,12 @@ use Rattle.lowering_runs.specs.Goes.{World, Goes}
 use Rattle.lowering_runs.specs.Called.{CallsAgree, world_at}
 use Rattle.lowering_runs.specs.Leaves.{IsScalarAssigned, AreScalarItems, ScalarLeaf}
 use Rattle.lowering_runs.proofs.SuitLemmas.{either_goes, FormGoes}
-use Rattle.lowering_runs.proofs.StatementLemmas.{scalar_at, items_scalar, proper_plain, actuals_served, scalar_leaves}
+use Rattle.lowering_runs.proofs.StatementLemmas.{scalar_at, items_scalar, proper_plain, role_scalar, scalar_leaves}
 use Rattle.array_runs.specs.Floods.{IsArrayServed}
 use Rattle.prefix_runs.specs.Plain.{PlainLeaf, ArrayLeaf}
 use Rattle.prefix_runs.proofs.PlainLemmas.{array_leaves}
+use Rattle.call_runs.specs.Taken.{AreCallActuals, IsInvoked}
+use Rattle.call_runs.specs.Taken as taken
 use Rattle.print_runs.specs.Printed.{PrintLeaf}
 use Rattle.print_runs.proofs.WriteLemmas.{print_leaves}
 use Rattle.border_runs.specs.Bordered.{BorderLeaf}
@@ -50,8 +53,8 @@ use Rattle.served_places.proofs.ToldLemmas.{array_served}
 use Rattle.served_places.proofs.CleanLemmas.{array_there}
 use Rattle.lowering_fits.proofs.KeptLemmas.{AreGivenOf}
 use Rattle.lowering_fits.proofs.ReachLemmas.{givens_of}
-use Rattle.shown_programs.specs.Text.{IsPlainForm, IsCallForm, IsLeafForm}
-use Rattle.shown_programs.proofs.CallLemmas.{setup, IsKnownAt, IsEntered, IsCalledFrom, CallsGo, IsToldInvoke, CallLeaf, call_leaves}
+use Rattle.shown_programs.specs.Text.{AreCallTexts, IsPlainForm, IsCallForm, IsLeafForm}
+use Rattle.shown_programs.proofs.CallLemmas.{setup, IsCalledBy, CallLeaf, call_leaves}
 use Rattle.shown_programs.proofs.PlaceLemmas.{IsPlaced, placed_proper, placed_ranked, placed_inside, each_free}
 use Rattle.shown_programs.proofs.PrintedLemmas.{print_suits}
 use Rattle.shown_programs.proofs.BorderLemmas.{border_suits}
@@ -189,6 +192,42 @@ module _ (spots : List Spot) (w : Where) (environment : Environment) (currents :
   array_from actual h =
       array_of (actual_thing w.environment actual) (subst IsArray (actual_from actual) h)
 
+-- ---- what parameters take
+
+variable_some : (thing : Option Thing) → IsVariable thing → IsSome thing
+variable_some (Some thing) h = refl
+variable_some None h = absurd h
+
+array_some : (thing : Option Thing) → IsArray thing → IsSome thing
+array_some (Some thing) h = refl
+array_some None h = absurd h
+
+array_is : (thing : Option Thing) → IsArray thing → taken.IsArrayThing thing
+array_is (Some (ArrayAt place home)) h = tt
+array_is (Some (Scalar place)) h = h
+array_is (Some (Fixed value)) h = h
+array_is None h = h
+
+call_actuals : (place : Place) (formals : List Formal) (actuals : Exprs)
+    → AreCallTexts formals actuals → AreProperActuals place formals actuals
+    → AreCallActuals place formals actuals
+call_actuals place [] actuals t h = tt
+call_actuals place (formal ∷ formals) NoExpr t h = tt
+call_actuals place (ScalarFormal false base ∷ formals) (ThenExpr actual rest) t h =
+    (role_scalar place Actual actual t.0 h.0, call_actuals place formals rest t.1 h.1)
+call_actuals place (ScalarFormal true base ∷ formals) (ThenExpr actual rest) t h = (
+  variable_some (actual_thing place.environment actual) h.0,
+  call_actuals place formals rest t h.1,
+)
+call_actuals place (ArrayFormal true base shape ∷ formals) (ThenExpr actual rest) t h = (
+  array_some (actual_thing place.environment actual) h.0,
+  call_actuals place formals rest t h.1,
+)
+call_actuals place (ArrayFormal false base shape ∷ formals) (ThenExpr actual rest) t h = (
+  array_is (actual_thing place.environment actual) h.0,
+  call_actuals place formals rest t h.1,
+)
+
 same_routine : {a b : Routine} → Some a ≡ Some b → a ≡ b
 same_routine e = cc
 
@@ -287,7 +326,7 @@ module _ (program : Program) (settings : List Setting) (laws : Laws program)
     invoke_suits : (IsCallable : List ℕ → Type 0) (name : Name) (actuals : Exprs)
         → Placed at prefixes (Invoke name actuals) spots w environment answer currents edge shapes
         → IsCallForm IsCallable (reach_of place) (Invoke name actuals)
-        → IsToldInvoke program settings laws grammar clean IsCallable name actuals w place
+        → IsInvoked (IsCalledBy program settings laws grammar clean IsCallable) name actuals w place
     invoke_suits IsCallable name actuals h t =
         let form = Invoke name actuals in
         let c = placed_proper program settings laws grammar clean proper ranked at prefixes form spots w
@@ -304,7 +343,7 @@ module _ (program : Program) (settings : List Setting) (laws : Laws program)
         let named : routine_named program name.text ≡ Some callee.0 =
         subst (λ (s : Setup). routine_named s.program name.text ≡ Some callee.0) h.known.owned callee.1 in
         record {
-          actuals_are = actuals_served place formals actuals t.0 taken;
+          actuals_are = call_actuals place formals actuals t.0 taken;
           from = λ scalar values before many. record {
             shapes = shapes;
             known = h.known;
@@ -414,5 +453,5 @@ module _ (program : Program) (settings : List Setting) (laws : Laws program)
         (or_goes world at form (BorderLeaf at form)
         (CallLeaf program settings laws grammar clean IsCallable at form)
         (border_leaves world at form)
-        (call_leaves program settings laws grammar clean world IsCallable calls at form)));
+        (call_leaves program settings laws grammar clean IsCallable world calls at form)));
   }

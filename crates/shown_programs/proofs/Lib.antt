@@ -1,6 +1,7 @@
 pub mod FrameLemmas
 pub mod LocalLemmas
 pub mod KnownLemmas
+pub mod GivenLemmas
 pub mod BoundedLemmas
 pub mod CallLemmas
 pub mod PlaceLemmas

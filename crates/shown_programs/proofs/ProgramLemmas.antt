@@ -224,7 +224,7 @@ module _ (program : Program) (settings : List Setting) (laws : Laws program)
       routine among it.shown false spots w next now program.name.text [] 0 no_shapes
       (known_there routine among) (signature_of sound.earlier routine.procedure) of givens
       (stands routine) now begun.sound.filled.slots (λ k lt. refl) begins.held next (itself next)
-      (omega arith) (λ k le. begun.zeros k)
+      (omega arith) tt (λ k le. begun.zeros k)
       (λ k row le e kept. ap (λ (xs : List Array). slice_get xs k) begun.stores
       ∙ start_array tables k row e kept) room frame.store begins
       (record {

@@ -32,7 +32,7 @@ use Rattle.meaning_ranks.proofs.PlaceLemmas.{IsAt, found_routine}
 use Rattle.node_form.specs.declared.tables.Tables.{Tables}
 use Rattle.flat_form.specs.Whole.{Whole}
 use Rattle.zpl_lowering.specs.Where.{Where, Next, Stored, Numbers, SlotCurrents, Slotted}
-use Rattle.zpl_lowering.specs.Lowered.{Lowered}
+use Rattle.zpl_lowering.specs.Lowered.{Lowered, behind}
 use Rattle.zpl_lowering.specs.Statement.{Given, Valued, Copied, Referring, Calling, lowered}
 use Rattle.zpl_lowering.specs.Program as low
 use Rattle.zpl_lowering.specs.Program.{Framed, Entry as CallEntry}
@@ -40,7 +40,9 @@ use Rattle.lowering_runs.specs.Seen.{Spot, Sight, seen_place, seen_store, seen_n
 use Rattle.lowering_runs.specs.Run.{does}
 use Rattle.lowering_runs.specs.Agrees.{Agrees}
 use Rattle.lowering_runs.specs.Stands.{Misses, IsBefore, array_numbers, AreKnown, AreDeclared, Stands, HasRoom, IsSound, Keeps, IsLike, IsHeld}
-use Rattle.lowering_runs.specs.Frames.{seen_frame, seen_given, AreGiven}
+use Rattle.lowering_runs.specs.Frames.{seen_frame}
+use Rattle.call_runs.specs.Copied.{copy_at}
+use Rattle.call_runs.specs.Taken.{AllGiven, CallsGo}
 use Rattle.lowering_runs.specs.Goes.{World, Goes}
 use Rattle.lowering_runs.specs.Called.{calling_at, called_at, world_at}
 use Rattle.lowering_runs.proofs.AgreeLemmas.{stored_agrees}
@@ -66,10 +68,11 @@ use Rattle.lowering_fits.proofs.ReachLemmas.{names_fit, scalars_few}
 use Rattle.lowering_fits.proofs.CallsFitLemmas.{globals_grow}
 use Rattle.lowering_fits.proofs.ProgramFitLemmas.{vars_fit}
 use Rattle.shown_programs.specs.Text.{IsShownStmt, IsRoutine, IsShownCall}
-use Rattle.shown_programs.proofs.FrameLemmas.{Framing, apart_in, arrays_more, cut_seen, longer_spots, givens_framed}
+use Rattle.shown_programs.proofs.FrameLemmas.{Framing, apart_in, arrays_more, cut_seen, longer_spots}
+use Rattle.shown_programs.proofs.GivenLemmas.{MayTake, givens_go}
 use Rattle.shown_programs.proofs.LocalLemmas.{AreFresh, AreFreshArrays, GoesOn, locals_go}
-use Rattle.shown_programs.proofs.KnownLemmas.{arrays_told, mask_grown}
-use Rattle.shown_programs.proofs.CallLemmas.{setup, IsKnownAt, IsEntered, IsCalledFrom, CallsGo}
+use Rattle.shown_programs.proofs.KnownLemmas.{arrays_told, kept_at, mask_grown}
+use Rattle.shown_programs.proofs.CallLemmas.{setup, IsKnownAt, IsEntered, IsCalledFrom}
 use Rattle.shown_programs.proofs.PlaceLemmas.{IsPlaced, IsGivenStmt, stmt_suits}
 
 -- ---- storages that are kept
@@ -101,22 +104,26 @@ module _ (own : Setup) (entry : CallEntry) where
       vars_kept vars one.frame one.next fits.1
       (names_kept var.shape var.names frame next fits.0 are)
 
--- what parameters take, where no array is copied, adds no array
+-- what parameters take: copies have the storages of what they are made of
 given_kept : (line : ℕ) (formals : List FormalName) (givens : List Given) (frame : Framed)
-    (next : Next) (scalars arrays from to : ℕ) → AreGiven scalars arrays from givens to
-    → AllKept frame.numbers.arrays
+    (next : Next) (scalars : ℕ) (arrays : List Stored) (from to : ℕ)
+    → AllGiven scalars arrays from givens to → AllKept arrays → AllKept frame.numbers.arrays
     → AllKept (given_frames line formals givens frame next).frame.numbers.arrays
-given_kept line [] givens frame next scalars arrays from to g are = are
-given_kept line (formal ∷ formals) [] frame next scalars arrays from to g are = are
-given_kept line (formal ∷ formals) (Valued k ∷ givens) frame next scalars arrays from to g are =
+given_kept line [] givens frame next scalars arrays from to g all are = are
+given_kept line (formal ∷ formals) [] frame next scalars arrays from to g all are = are
+given_kept line (formal ∷ formals) (Valued k ∷ givens) frame next scalars arrays from to g all are =
     given_kept line formals givens (low.with_scalar frame formal.name k) next scalars arrays (suc k) to
-    g.1 are
-given_kept line (formal ∷ formals) (Referring thing ∷ givens) frame next scalars arrays from to g are =
+    g.1 all are
+given_kept line (formal ∷ formals) (Referring thing ∷ givens) frame next scalars arrays from to g all
+    are =
     given_kept line formals givens
     (record frame { names = frame.names ++ (formal.name.text, thing) ∷ [] }) next scalars arrays from to
-    g.1 are
+    g.1 all are
 given_kept line (formal ∷ formals) (Copied stored home ∷ givens) frame next scalars arrays from to g
-    are = absurd g
+    all are =
+    given_kept line formals givens (low.with_array frame formal.name home (copy_at next stored))
+    (behind next (low.made_copy line next stored)) scalars arrays from to g.1 all
+    (kept_append frame.numbers.arrays _ are (kept_at arrays g.0.0 stored all g.0.1))
 
 -- ---- what is seen where a body begins
 
@@ -166,7 +173,7 @@ module _ (program : Program) (settings : List Setting) (laws : Laws program)
         → Text IsCallable (reach_of (place_of w environment answer currents edge)) form
         → Leaf IsCallable at form w (place_of w environment answer currents edge)
     pub go : (depth : ℕ) (IsCallable : List ℕ → Type 0)
-        → CallsGo program settings laws grammar clean (world_at tables n own depth) IsCallable
+        → CallsGo (IsCalledFrom program settings laws grammar clean IsCallable) (world_at tables n own depth)
         → (at : ℕ) (form : Form) → FormGoes (world_at tables n own depth) (Leaf IsCallable) at form
 
   module _ (tables : Tables) (n : ℕ) (accepted : AreAccepted)
@@ -177,7 +184,7 @@ module _ (program : Program) (settings : List Setting) (laws : Laws program)
       world depth = world_at tables n own depth
 
       module _ (depth : ℕ) (IsCallable : List ℕ → Type 0)
-          (calls : CallsGo program settings laws grammar clean (world depth) IsCallable)
+          (calls : CallsGo (IsCalledFrom program settings laws grammar clean IsCallable) (world depth))
           (routine : Routine) (among : Among (routines_of program) routine)
           (shown : IsShownStmt (Text IsCallable) (in_body (scope_of program routine) unknown_shapes)
           routine.procedure.body)
@@ -380,8 +387,9 @@ module _ (program : Program) (settings : List Setting) (laws : Laws program)
                 }
 
         pub routine_agrees : (next : Next) → IsBefore low_next next
-            → AreGiven (length (numbered spots)) (length arrays) low_next.scalars givens next.scalars
-            → AreFresh clears next.scalars now → AreFreshArrays tables clears next.arrays now
+            → AllGiven (length (numbered spots)) arrays low_next.scalars givens next.scalars
+            → MayTake clears givens → AreFresh clears next.scalars now
+            → AreFreshArrays tables clears next.arrays now
             → HasRoom tables next
             (low.routine_code own clears (low.call_code own depth) (Some routine) calling next)
             → (store : Store) → Like store now
@@ -390,7 +398,7 @@ module _ (program : Program) (settings : List Setting) (laws : Laws program)
             (run_routine own n (call_at own n depth) (Some routine) called store)
             (does tables n
             (low.routine_code own clears (low.call_code own depth) (Some routine) calling next).code now)
-        routine_agrees next before given fresh clear room store like reached =
+        routine_agrees next before given may fresh clear room store like reached =
             let params = routine.procedure.params in
             let formals = formal_names params in
             let locals = routine.procedure.locals in
@@ -401,8 +409,38 @@ module _ (program : Program) (settings : List Setting) (laws : Laws program)
             let scope = head_scope of.earlier routine.procedure in
             let first = given_frames line formals givens empty inner in
             let fits = vars_fit own scope locals (accepted.declared routine among of.earlier of.own) in
-            let g = givens_framed tables spots low_next.scalars arrays formals givens empty spots line
-            inner now low_next.scalars inner (omega arith) given
+            let has : HasKept w.numbers routine.own
+            (local_frames own entry locals first.frame first.next).frame =
+            subst (λ (xs : List Entry). HasKept w.numbers xs
+            (local_frames own entry locals first.frame first.next).frame) (sym of.own)
+            (locals_kept w.numbers own entry scope locals
+            (accepted.declared routine among of.earlier of.own) first.frame first.next
+            (flat_map (λ (param : Param). map
+            (entry_for (variable_kind scope param.shape param.base)) param.names) params)
+            (formals_kept w.numbers line params scope empty inner [] givens
+            (subst (λ (s : Signature). AreGivenOf w.numbers s.formals givens) of.signed givens_are)
+            (record { grows = grows_none w.numbers; kept = Nothing }))) in
+            let framed_is : IsFramed (local_frames own entry locals first.frame first.next).frame
+            (local_frames own entry locals first.frame first.next).next =
+            record {
+              has = has;
+              kept = vars_kept own entry locals first.frame first.next fits
+                  (given_kept line formals givens empty inner (length (numbered spots)) arrays
+                  low_next.scalars next.scalars given inside.kept inside.kept);
+            } in
+            let all = locals_go tables n own entry spots low_next arrays start Like 0 locals IsFramed
+            IsReached run rest fits body_goes in
+            subst (λ (s : Store). IsReached (entered own routine called.actuals s)
+            → Agrees Like n 0 (run_routine own n (call_at own n depth) (Some routine) called s)
+            (does tables n code.code now)) (sym like.seen)
+            (givens_go tables n own entry spots low_next arrays start Like 0
+            stands.stored inside.kept held.stored
+            (λ framed next. IsFramed (local_frames own entry locals framed next).frame
+            (local_frames own entry locals framed next).next)
+            (λ frame. IsReached (with_variables own.known own.borders frame locals))
+            (λ frame. run (with_variables own.known own.borders frame locals))
+            (λ framed next. low.locals_code own entry locals framed next rest) all formals givens empty
+            spots inner now low_next.scalars (omega arith) given
             (record {
               frame = record {
                 more = [];
@@ -418,54 +456,18 @@ module _ (program : Program) (settings : List Setting) (laws : Laws program)
               apart = rises_on 0 (array_numbers arrays) low_next.arrays inner.arrays before.arrays
                   stands.stored;
               stored = held.stored;
-            }) in
-            let framed_code : Next → Lowered =
-            λ next. low.locals_code own entry locals first.frame next rest in
-            let code_is : low.body_code own entry (low.call_code own depth) routine calling inner
-            ≡ framed_code inner =
-            g.code_is (λ frame after. low.locals_code own entry locals frame after rest) in
-            let has : HasKept w.numbers routine.own
-            (local_frames own entry locals first.frame inner).frame =
-            subst (λ (xs : List Entry). HasKept w.numbers xs
-            (local_frames own entry locals first.frame inner).frame) (sym of.own)
-            (locals_kept w.numbers own entry scope locals
-            (accepted.declared routine among of.earlier of.own) first.frame inner
-            (flat_map (λ (param : Param). map
-            (entry_for (variable_kind scope param.shape param.base)) param.names) params)
-            (formals_kept w.numbers line params scope empty inner [] givens
-            (subst (λ (s : Signature). AreGivenOf w.numbers s.formals givens) of.signed givens_are)
-            (record { grows = grows_none w.numbers; kept = Nothing }))) in
-            let framed_is : IsFramed (local_frames own entry locals first.frame inner).frame
-            (local_frames own entry locals first.frame inner).next =
-            record {
-              has = has;
-              kept = vars_kept own entry locals first.frame inner fits
-                  (given_kept line formals givens empty inner (length (numbered spots)) (length arrays)
-                  low_next.scalars next.scalars given inside.kept);
-            } in
-            let all = locals_go tables n own entry spots low_next arrays start Like 0 locals IsFramed
-            IsReached run rest fits body_goes in
-            subst (λ (s : Store). IsReached (entered own routine called.actuals s)
-            → Agrees Like n 0 (run_routine own n (call_at own n depth) (Some routine) called s)
-            (does tables n code.code now)) (sym like.seen)
-            (λ reached.
-            subst (λ (x : Lowered). Agrees Like n 0 (run (entered own routine called.actuals begun))
-            (does tables n x.code now)) (sym code_is)
-            (subst (λ (x : Frame). IsReached (with_variables own.known own.borders x locals)
-            → Agrees Like n 0 (run (with_variables own.known own.borders x locals))
-            (does tables n (framed_code inner).code now)) (sym g.frame_is)
-            (all first.frame g.sight inner now g.framing framed_is
+            })
+            framed_is
             (record { scalars = before.scalars; slots = before.slots; arrays = before.arrays })
-            like.sound like.kept fresh clear
-            (subst (λ (x : Lowered). HasRoom tables inner x) code_is
-            (record { scalars = room.scalars; slots = room.slots; arrays = room.arrays; temps = room.temps })))
-            reached))
+            like.sound like.kept may fresh clear
+            (record { scalars = room.scalars; slots = room.slots; arrays = room.arrays; temps = room.temps }))
             reached
 
       -- ---- down the chain of calls
 
       pub calls_go : (depth : ℕ)
-          → CallsGo program settings laws grammar clean (world depth) (IsShownCall Text program depth)
+          → CallsGo (IsCalledFrom program settings laws grammar clean (IsShownCall Text program depth))
+          (world depth)
       calls_go zero = record {
         by = λ spots w bottom next start name givens line stands before given room store now like from.
             absurd from.callable;
@@ -485,6 +487,6 @@ module _ (program : Program) (settings : List Setting) (laws : Laws program)
             (found_routine program settings laws grammar clean name it.routine it.named) it.shown true
             spots w bottom start name givens line from.shapes from.known from.signature
             (from.of it.routine it.named) from.givens_are stands now like.sound.filled.slots
-            like.kept.slots like.held next before given tt tt room store like
+            like.kept.slots like.held next before given tt tt tt room store like
             (from.entered it.routine store it.named)) room;
       }

@@ -2,7 +2,8 @@
 -- text alone.
 use Rattle.std.specs.Prelude.{◌≡◌, ◌⊎◌, ℕ, zero, suc, true, false, pos, List, [], ◌∷◌, Some}
 use Rattle.zpl_nums.specs.Integer.{IsInteger}
-use Rattle.zpl_tree.specs.Syntax.{Inner, Rexpr, Dims, Expr, Item, Str, Value, Prefix, Stmt, Prefixed, Stmts, NoStmt, ThenStmt, Form, Assign, Invoke, Block, If, While, Repeat, For, Border, Write, Return, Arm, Tested, Arms, NoArm, ThenArm, Otherwise, NoElse, Else, Program}
+use Rattle.zpl_tree.specs.Syntax.{Inner, Rexpr, Dims, Expr, Exprs, NoExpr, ThenExpr, Item, Str, Value, Prefix, Stmt, Prefixed, Stmts, NoStmt, ThenStmt, Form, Assign, Invoke, Block, If, While, Repeat, For, Border, Write, Return, Arm, Tested, Arms, NoArm, ThenArm, Otherwise, NoElse, Else, Program}
+use Rattle.zpl_names.specs.Kinds.{Formal, ScalarFormal, ArrayFormal}
 use Rattle.zpl_names.specs.Ranks.{is_above_zero}
 use Rattle.zpl_names.specs.Scope.{kind_of, is_array}
 use Rattle.zpl_names.specs.Shapes.{prefix_rank, unknown_shapes}
@@ -16,7 +17,7 @@ use Rattle.zpl_meaning.specs.Points.{assigned_expr}
 use Rattle.zpl_meaning.specs.Calls.{formals_in}
 use Rattle.zpl_meaning.specs.Statement.{step_expr}
 use Rattle.lowering_runs.specs.Scalars.{IsScalarExpr}
-use Rattle.lowering_runs.specs.ScalarText.{AreScalarActuals, AreScalarTexts}
+use Rattle.lowering_runs.specs.ScalarText.{AreScalarTexts}
 use Rattle.served_places.specs.Told.{IsPlainExpr}
 use Rattle.served_places.specs.Given.{HaveSmallDims}
 
@@ -104,10 +105,21 @@ IsPlainForm reach (For head body) = ⊥
 IsPlainForm reach (Border kind names) = ⊥
 IsPlainForm reach (Return value) = ⊥
 
--- a procedure is called that may be, with values of scalars and with references
+-- what parameters take: a value of a scalar has no operators over regions
+abbrev pub AreCallTexts : List Formal → Exprs → Type 0
+AreCallTexts [] actuals = Unit {0}
+AreCallTexts (formal ∷ formals) NoExpr = Unit {0}
+AreCallTexts (ScalarFormal false base ∷ formals) (ThenExpr actual rest) =
+    IsScalarExpr actual × AreCallTexts formals rest
+AreCallTexts (ScalarFormal true base ∷ formals) (ThenExpr actual rest) =
+    AreCallTexts formals rest
+AreCallTexts (ArrayFormal by_ref base shape ∷ formals) (ThenExpr actual rest) =
+    AreCallTexts formals rest
+
+-- a procedure is called that may be, with values of scalars, references, and copies of arrays
 abbrev pub IsCallForm : (List ℕ → Type 0) → Reach → Form → Type 0
 IsCallForm IsCallable reach (Invoke name actuals) =
-    AreScalarActuals (formals_in (kind_of reach.scope name)) actuals × IsCallable name.text
+    AreCallTexts (formals_in (kind_of reach.scope name)) actuals × IsCallable name.text
 IsCallForm IsCallable reach (Assign name op value) = ⊥
 IsCallForm IsCallable reach (Write line items) = ⊥
 IsCallForm IsCallable reach (Block body) = ⊥
