@@ -1,32 +1,29 @@
 -- Parameters and local variables, arrays among them: the frame that a procedure has is what is seen
 -- of the state, and its arrays stand in the tables at numbers of their own.
-use Rattle.std.proofs.Common.{◌≡◌, ℕ, zero, suc, ◌+◌, ◌≤◌, ◌<◌, ℤ, List, []}
+use Rattle.std.proofs.Common.{◌≡◌, ℕ, zero, suc, ◌≤◌, ◌<◌, ℤ, List, []}
 use Rattle.std.proofs.Common.{◌∷◌, ◌++◌, map, length, take, Some, refl, sym, ap, ◌∙◌, subst}
-use Rattle.std.proofs.Common.{arith, append_assoc, append-nil, length-append}
+use Rattle.std.proofs.Common.{arith, append_assoc, length-append}
 use Rattle.std.proofs.lemmas.List.{length-map}
 use Rattle.std.specs.Prelude.{slice_get}
 use Rattle.zpl_region.specs.declared.regions.Region.{Region}
 use Rattle.zpl_arrays.specs.Array.{Array}
 use Rattle.zpl_tree.specs.Syntax.{Name}
-use Rattle.zpl_names.specs.Expansion.{FormalName}
-use Rattle.zpl_meaning.specs.Store.{Thing, Scalar, ArrayAt, Fixed, Names, Store, cut_back}
-use Rattle.zpl_meaning.specs.Variables.{Frame, with_array_named, with_new_array}
-use Rattle.zpl_meaning.specs.Calls.{with_handed, with_formals}
+use Rattle.zpl_meaning.specs.Store.{Thing, Scalar, ArrayAt, Fixed, Names, cut_back}
+use Rattle.zpl_meaning.specs.Variables.{with_array_named, with_new_array}
+use Rattle.zpl_meaning.specs.Calls.{with_handed}
 use Rattle.node_form.specs.declared.tables.Tables.{Tables}
 use Rattle.flat_form.specs.Whole.{Whole}
 use Rattle.zpl_lowering.specs.Where.{Stored, Next}
-use Rattle.zpl_lowering.specs.Lowered.{Lowered}
-use Rattle.zpl_lowering.specs.Statement.{Given, Valued, Copied, Referring}
+use Rattle.zpl_lowering.specs.Statement.{Referring}
 use Rattle.zpl_lowering.specs.Program as low
 use Rattle.zpl_lowering.specs.Program.{Framed}
-use Rattle.lowering_runs.specs.Seen.{scalar_in, array_in, Spot, At, Answer, seen_spot, seen_store, numbered, seen_thing, seen_names}
+use Rattle.lowering_runs.specs.Seen.{array_in, Spot, At, Answer, seen_spot, seen_store, numbered, seen_thing, seen_names}
 use Rattle.lowering_runs.specs.Stands.{Rises, IsKnown, AreKnown, array_numbers, IsStored, AreStored}
 use Rattle.lowering_runs.specs.Frames.{seen_frame, seen_given, AreGiven}
 use Rattle.lowering_runs.specs.Frames as low_frames
 use Rattle.lowering_runs.proofs.NumberLemmas.{rises_on, rises_with}
 use Rattle.lowering_runs.proofs.FrameLemmas.{map_append, thing_below, known_both, thing_more, scalar_frame}
 use Rattle.lowering_runs.proofs.FrameLemmas as lowers
-use Rattle.lowering_fits.specs.Whole.{given_frame, given_frames}
 
 -- ---- numbers of arrays
 

@@ -3,11 +3,9 @@
 use Rattle.std.proofs.Common.{◌≡◌, ℕ, zero, suc, ◌+◌, ◌≤◌, ◌<◌, Bool, true, false, List, [], ◌∷◌}
 use Rattle.std.proofs.Common.{◌++◌, length, map, pos, Some, refl, sym, ap, ◌∙◌, subst, arith, length-append}
 use Rattle.std.specs.Prelude.{slice_get, slice_index_or}
-use Rattle.zpl_region.specs.declared.regions.Region.{Region}
 use Rattle.zpl_arrays.specs.Array.{Array}
-use Rattle.zpl_binding.specs.Regions.{no_region}
 use Rattle.zpl_names.specs.Expansion.{FormalName}
-use Rattle.zpl_meaning.specs.Store.{Thing, Store}
+use Rattle.zpl_meaning.specs.Store.{Store}
 use Rattle.zpl_meaning.specs.Context.{Setup}
 use Rattle.zpl_meaning.specs.Outcome.{Outcome}
 use Rattle.zpl_meaning.specs.Variables.{Frame, with_array_named}
@@ -35,7 +33,7 @@ use Rattle.lowering_fits.specs.Storages.{IsStorage, AllKept}
 use Rattle.lowering_fits.specs.Whole.{given_frames}
 use Rattle.lowering_fits.proofs.ArrayLemmas.{row_storage, row_three}
 use Rattle.call_runs.specs.Copied.{copy_at}
-use Rattle.call_runs.specs.Taken.{IsAmong, AllGiven}
+use Rattle.call_runs.specs.Taken.{AllGiven}
 use Rattle.call_runs.proofs.CopyLemmas.{copied}
 use Rattle.shown_programs.proofs.FrameLemmas.{Framing, array_frame, array_more, framing_array, framing_on, framing_scalar, inside, longer_spots, thing_frame}
 use Rattle.shown_programs.proofs.KnownLemmas.{kept_at}

@@ -6,6 +6,7 @@ pub mod BoundedLemmas
 pub mod CallLemmas
 pub mod PlaceLemmas
 pub mod PostLemmas
+pub mod AnswerLemmas
 pub mod RoutineLemmas
 pub mod PrintedLemmas
 pub mod BorderLemmas

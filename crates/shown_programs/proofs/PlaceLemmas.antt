@@ -1,19 +1,18 @@
 -- Statements of whole programs suit the places where they are run: by what the text says of prefixes,
 -- and by what is known of forms that have no statements in them.
-use Rattle.std.proofs.Common.{◌≡◌, ◌⊎◌, inl, inr, ℕ, zero, suc, Bool, true, false, List, [], ◌∷◌, ◌++◌}
+use Rattle.std.proofs.Common.{◌≡◌, inl, inr, ℕ, Bool, true, false, List, [], ◌∷◌}
 use Rattle.std.proofs.Common.{map, length, Option, Some, None, option_to_list, refl, sym, ap, ◌∙◌, subst}
 use Rattle.std.proofs.Common.{pos}
-use Rattle.std.specs.Prelude.{Contains, IsSome}
+use Rattle.std.specs.Prelude.{Contains}
 use Rattle.std.specs.List.{AllByRecursion}
 use Rattle.std.proofs.lemmas.List.Elements.{Contains-append_left, Contains-append_right}
 use Rattle.zpl_region.specs.declared.dims.Dim.{Dim}
 use Rattle.zpl_region.specs.declared.dims.Dim.TheVariants as dim
-use Rattle.zpl_region.specs.declared.regions.Region.{Region}
-use Rattle.zpl_tree.specs.Syntax.{Base, Inner, Rexpr, Dims, Posts, NoPost, ThenPost, Mask as MaskText, Prefix, Stmt, Prefixed, Stmts, NoStmt, ThenStmt, Form, Assign, Invoke, Block, If, While, Repeat, For, Border, Write, Return, Tested, Arms, NoArm, ThenArm, Otherwise, NoElse, Else, Program}
+use Rattle.zpl_tree.specs.Syntax.{Base, Inner, Rexpr, Dims, Mask as MaskText, Prefix, Stmt, Prefixed, Stmts, NoStmt, ThenStmt, Form, Assign, Invoke, Block, If, While, Repeat, For, Border, Write, Return, Tested, Arms, NoArm, ThenArm, Otherwise, NoElse, Else, Program}
 use Rattle.zpl_tree.specs.Grammar.{IsPrefix, IsProgram}
 use Rattle.zpl_names.specs.Kinds.{Rank, Shape}
 use Rattle.zpl_names.specs.Scope.{Scope}
-use Rattle.zpl_names.specs.Ranks.{inner_rank, mask_rank}
+use Rattle.zpl_names.specs.Ranks.{mask_rank}
 use Rattle.zpl_names.specs.Shapes.{Current, Absent, Unknown, Over as Shaped, Shapes, current_at, inner_shape, shape_within, prefix_rank, shapes_under}
 use Rattle.zpl_names.specs.Sites.{Reach, Site, AtMask, Limit, Test as TestRole, region_sites, prefix_sites, prefixes_sites, under_prefixes, is_shattered}
 use Rattle.zpl_names.specs.Sites.{under_prefix as reach_under}
@@ -22,9 +21,9 @@ use Rattle.zpl_names.specs.Accepted.{IsFaultless}
 use Rattle.zpl_binding.specs.Regions.{Known}
 use Rattle.zpl_binding.proofs.LimitLemmas.{HasLimited}
 use Rattle.zpl_binding.specs.Settings.{Setting}
-use Rattle.zpl_meaning.specs.Store.{Environment, Store}
+use Rattle.zpl_meaning.specs.Store.{Environment}
 use Rattle.zpl_meaning.specs.Context.{Over, Currents, Edge, Setup, Place, reach_of}
-use Rattle.zpl_meaning.specs.Proper.{IsArrayRank, IsProperPrefix, IsProperForm, IsProperUnder, IsProperStmt, IsProperTested, AreProperTests}
+use Rattle.zpl_meaning.specs.Proper.{IsProperForm, IsProperUnder, IsProperStmt, AreProperTests}
 use Rattle.zpl_meaning.specs.Regions as mean
 use Rattle.zpl_meaning.specs.Visited as visits
 use Rattle.zpl_meaning.specs.Visited.{IsVisited, Holds, list_of, arms_parts, else_parts, parts_of}
@@ -34,14 +33,13 @@ use Rattle.zpl_meaning.proofs.ProperLemmas.{IsClean, Clean, Fits as FitsPlace, r
 use Rattle.zpl_meaning.proofs.StatementLemmas.{fits_under}
 use Rattle.zpl_meaning.proofs.VisitLemmas.{Laws, IsHere, clean_of, Inside}
 use Rattle.meaning_ranks.specs.Ranked.{IsRankedForm, IsRankedUnder, IsRankedStmt}
-use Rattle.meaning_ranks.specs.Shaped.{IsShaped, AreFloods}
+use Rattle.meaning_ranks.specs.Shaped.{AreFloods}
 use Rattle.meaning_ranks.proofs.CurrentLemmas.{AreTold, region_told, region_first}
 use Rattle.meaning_ranks.proofs.CurrentLemmas as currents
 use Rattle.meaning_ranks.proofs.PlaceLemmas.{IsAt, behind, inside_at, part_at}
 use Rattle.zpl_lowering.specs.Where.{Slotted, SlotCurrents, Where}
 use Rattle.zpl_lowering.specs.Statement as low
 use Rattle.lowering_runs.specs.Seen.{Spot}
-use Rattle.lowering_runs.specs.Scalars.{IsScalarAt}
 use Rattle.lowering_runs.specs.Suits.{SuitsStmt, SuitAll, SuitsForm, SuitArms, SuitsElse}
 use Rattle.lowering_runs.proofs.StatementLemmas.{role_scalar, false_choice, contains_first, contains_later}
 use Rattle.prefix_runs.specs.Opens.{AreGivenPosts}
