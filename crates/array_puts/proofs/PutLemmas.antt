@@ -36,7 +36,7 @@ use Rattle.array_puts.proofs.WriteLemmas.{every_among, puts_store, value_put, al
 -- ---- one tuple
 
 -- what is put at a tuple: nothing where it is masked out
-data IsPut : Bool → mean.Computed ℤ → flat.Computed (Option ℤ) → Type 0 where
+pub data IsPut : Bool → mean.Computed ℤ → flat.Computed (Option ℤ) → Type 0 where
   IsOut : {value : mean.Computed ℤ} → IsPut false value (flat.Gives None)
   IsGiven : {value : ℤ} → IsPut true (mean.Gives value) (flat.Gives (Some value))
   IsDivided : IsPut true (mean.Traps DivideByZero) flat.Divides
@@ -51,7 +51,7 @@ put_in : (is : Bool) (one : mean.Computed ℤ) (other : flat.Computed ℤ)
 put_in true one other same = put_same one other (same refl)
 put_in false one other same = IsOut
 
-one_put : (whole : Whole) (cells : List ℤ) (expr : Words) (mask : Option Words) (t : List ℤ)
+pub one_put : (whole : Whole) (cells : List ℤ) (expr : Words) (mask : Option Words) (t : List ℤ)
     (is : Bool) (value : mean.Computed ℤ)
     → IsMask (operands_at whole t (start_point cells)) mask is
     → (is ≡ true → IsSame value (value_in whole cells expr t))
@@ -67,19 +67,19 @@ one_put whole cells expr (Some mask) t is value (v, e, i) same =
 
 -- ---- all tuples
 
-abbrev choice : Bool → mean.Computed ℤ → mean.Computed ℤ
+abbrev pub choice : Bool → mean.Computed ℤ → mean.Computed ℤ
 choice true value = value
 choice false value = mean.Gives (pos 0)
 
-chosen : (b : Bool) (field : Field) (t : List ℤ) → value_if b field t ≡ choice b (field t)
+pub chosen : (b : Bool) (field : Field) (t : List ℤ) → value_if b field t ≡ choice b (field t)
 chosen true field t = refl
 chosen false field t = refl
 
-abbrev number_in : mean.Computed ℤ → ℤ
+abbrev pub number_in : mean.Computed ℤ → ℤ
 number_in (mean.Gives value) = value
 number_in (mean.Traps kind) = pos 0
 
-data Sums (values : List ℤ) (os : List (Option ℤ)) : mean.Computed (List ℤ) → Sum → Type 0 where
+pub data Sums (values : List ℤ) (os : List (Option ℤ)) : mean.Computed (List ℤ) → Sum → Type 0 where
   AllSummed : Sums values os (mean.Gives values) (AllGive os)
   OneDivides : Sums values os (mean.Traps DivideByZero) SomeDivides
 
@@ -97,13 +97,13 @@ one_more b value put values os rest sum IsDivided AllSummed = OneDivides
 one_more b value put values os rest sum IsDivided OneDivides = OneDivides
 
 module _ (is_in : List ℤ → Bool) (field : Field) (put : List ℤ → flat.Computed (Option ℤ)) where
-  abbrev value_at : List ℤ → ℤ
+  abbrev pub value_at : List ℤ → ℤ
   value_at t = number_in (choice (is_in t) (field t))
 
-  abbrev new : List ℤ → Option ℤ
+  abbrev pub new : List ℤ → Option ℤ
   new t = value_put (is_in t) (value_at t)
 
-  sums : (ts : List (List ℤ)) → Every (λ t. IsPut (is_in t) (field t) (put t)) ts
+  pub sums : (ts : List (List ℤ)) → Every (λ t. IsPut (is_in t) (field t) (put t)) ts
       → Sums (map value_at ts) (map new ts) (values_at is_in field ts) (summed put ts)
   sums [] h = AllSummed
   sums (t ∷ ts) h =

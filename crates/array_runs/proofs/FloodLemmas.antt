@@ -119,7 +119,7 @@ each_covers (dim.Range lo hi step align ∷ storage) (dim.Range from to every ba
 
 module _ (w : Where) (slots : List Region) (rank : ℕ) (slotted : Slotted)
     (c : IsCurrent slots rank slotted) where
-  readable : (shift : List ℤ) (o : Option Stored) → IsReadableAs slotted shift o
+  pub readable : (shift : List ℤ) (o : Option Stored) → IsReadableAs slotted shift o
       → IsReadable c.region shift o
   readable shift None h = absurd h
   readable shift (Some stored) h = (
@@ -155,12 +155,12 @@ module _ (w : Where) (slots : List Region) (rank : ℕ) (slotted : Slotted)
   elementwise (Scan at operator along operand) h = absurd h
   elementwise (Flood at source operand) h = absurd h
 
-  mask_readable : (mask : Option Mask) → IsReadableMaskAs w slotted mask
+  pub mask_readable : (mask : Option Mask) → IsReadableMaskAs w slotted mask
       → IsReadableMask w c.region mask
   mask_readable None h = tt
   mask_readable (Some mask) h = readable [] (slice_get w.numbers.arrays mask.array) h
 
-  writable : (o : Option Stored) → IsWritableAs slotted o → IsWritable c.region o
+  pub writable : (o : Option Stored) → IsWritableAs slotted o → IsWritable c.region o
   writable None h = absurd h
   writable (Some stored) h =
       each_matches stored.storage.dims c.region.dims

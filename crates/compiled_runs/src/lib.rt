@@ -13,7 +13,7 @@ ghost use Rattle.node_form.specs.Grid.{IsGrid};
 ghost use Rattle.grid_meaning.specs.State.{HasThree};
 ghost use Rattle.flat_form.specs.Flat.{IsFlat};
 ghost use Rattle.fused_runs.specs.Typed.{IsTyped};
-ghost use Rattle.needs_runs.specs.Sharable.{IsSharable, PlansKeepRuns};
+ghost use Rattle.needs_runs.specs.Sharable.{IsSharable};
 ghost use Rattle.arranged_runs.specs.Plannable.{IsPlannable};
 ghost use Rattle.lock_steps.specs.Meant.{IsPlanOf};
 ghost use Rattle.zpl_claims.specs.Build.{Build, OverAllLinks};
@@ -22,23 +22,24 @@ ghost use Rattle.zpl_compile.specs.Compile.{compiled, emitted_for, plan_of, sett
 
 use arranged_runs::plan_passes_keep_runs;
 use emitted_orders::node_code_runs_as_its_plan;
+use planned_runs::plans_keep_runs;
 use settled_runs::flat_passes_keep_runs;
 
-/// Where plans of flat programs show what these show, the plan behind all passes that a build
-/// asks for shows what the flat program shows in front of them, and so does its node code: over all
-/// links that the build's code is for, and for every bound on jumps and on the turns of loops in
-/// groups, unless the flat program comes to a row that may not stand there. Of its tables is asked
-/// that they are a flat program's and have no cells yet, and what their type gives; and of the
-/// settled ones all that plans ask. So it is for the code that a program is compiled to.
+/// The plan behind all passes that a build asks for shows what the flat program shows in front of
+/// them, and so does its node code: over all links that the build's code is for, and for every bound
+/// on jumps and on the turns of loops in groups, unless the flat program comes to a row that may not
+/// stand there. Of its tables is asked that they are a flat program's and have no cells yet, and
+/// what their type gives; and of the settled ones all that plans ask. So it is for the code that a
+/// program is compiled to.
 pub fn compiled_plans_keep_runs()
-    ensures plan { PlansKeepRuns → (build : Build) (flat : Code) → IsGrid build.grid →
+    ensures plan { (build : Build) (flat : Code) → IsGrid build.grid →
         IsFlat flat → IsTyped flat → flat.cells ≡ 0 → IsSharable (settled build flat) →
         OverAllLinks build (λ links. IsPlanOf flat (plan_of build (settled build flat)) links) }
-    ensures code { PlansKeepRuns → (build : Build) (flat : Code) → IsGrid build.grid →
+    ensures code { (build : Build) (flat : Code) → IsGrid build.grid →
         IsFlat flat → IsTyped flat → flat.cells ≡ 0 → IsSharable (settled build flat) →
         OverAllLinks build (λ links.
         IsPlanOf flat (emitted_for build (plan_of build (settled build flat))) links) }
-    ensures program { PlansKeepRuns → (build : Build) (program : Program) → IsGrid build.grid →
+    ensures program { (build : Build) (program : Program) → IsGrid build.grid →
         IsFlat (flat_tables program build.settings) →
         IsTyped (flat_tables program build.settings) →
         (flat_tables program build.settings).cells ≡ 0 →
@@ -49,6 +50,7 @@ pub fn compiled_plans_keep_runs()
     flat_passes_keep_runs();
     plan_passes_keep_runs();
     node_code_runs_as_its_plan();
+    plans_keep_runs();
 }
 
 /// The code of flat tables whose plan may be arranged fits, for every build; rows of three have

@@ -53,13 +53,18 @@ module _ (world : World) where
   array_leaves at (Write ends items) = no_array at (Write ends items) (λ w p h. h)
   array_leaves at (Return value) = no_array at (Return value) (λ w p h. h)
 
+  pub plain_leaves : (setup : Setup) (IsCallable : List ℕ → Type 0)
+      → CallsAgree world setup IsCallable → (at : ℕ) (form : Form)
+      → FormGoes world (PlainLeaf setup IsCallable) at form
+  plain_leaves setup IsCallable calls at form =
+      either_goes world (ScalarLeaf setup IsCallable at form) (ArrayLeaf at form)
+      (λ c store. mean.exec_form c world.turns at form store)
+      (λ l next. low.lowered_form l next at form) 1
+      (scalar_leaves world setup IsCallable calls at form) (array_leaves at form)
+
   pub plain_agrees : (setup : Setup) (IsCallable : List ℕ → Type 0)
       → CallsAgree world setup IsCallable → (stmt : Stmt)
       → Goes world (SuitsStmt IsUnder (PlainLeaf setup IsCallable) stmt)
       (λ c store. mean.exec c world.turns stmt store) (λ l next. low.lowered l next stmt) 0
   plain_agrees setup IsCallable calls stmt =
-      suited_agrees world (PlainLeaf setup IsCallable)
-      (λ at form. either_goes world (ScalarLeaf setup IsCallable at form) (ArrayLeaf at form)
-      (λ c store. mean.exec_form c world.turns at form store)
-      (λ l next. low.lowered_form l next at form) 1
-      (scalar_leaves world setup IsCallable calls at form) (array_leaves at form)) stmt
+      suited_agrees world (PlainLeaf setup IsCallable) (plain_leaves setup IsCallable calls) stmt

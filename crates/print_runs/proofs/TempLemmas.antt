@@ -122,7 +122,7 @@ module _ (tables : Tables) (now : Whole) (k : ℕ) (row : ArrayRow) (new : Array
       false_true : false ≡ true → ⊥
       false_true e = cc
 
-  arrays_same : (arrays : List Stored) → AreStored tables arrays
+  pub arrays_same : (arrays : List Stored) → AreStored tables arrays
       → map (λ (one : Stored). array_in after one.array) arrays
       ≡ map (λ (one : Stored). array_in now one.array) arrays
   arrays_same [] h = refl

@@ -5,10 +5,7 @@ use Rattle.zpl_names.specs.Expansion.{shattered_loops}
 use Rattle.node_form.specs.declared.tables.Tables.{Tables}
 use Rattle.node_form.specs.Fits.{Fits}
 use Rattle.grid_meaning.specs.State.{HasThree}
-use Rattle.flat_form.specs.Flat.{IsFlat}
 use Rattle.zpl_lowering.specs.Tables.{flat_tables}
-use Rattle.needs_runs.specs.Sharable.{IsSharable}
-use Rattle.arranged_runs.specs.Plannable.{IsPlannable}
 use Rattle.plan_orders.specs.Brings.{most_loops}
 use Rattle.lock_steps.specs.Meant.{IsPlanOf}
 use Rattle.zpl_claims.specs.Build.{Build, OverAllLinks}
@@ -29,14 +26,3 @@ pub record HasPlan (build : Build) (program : Program) : Type 0 where
   pub three : All (HasThree (plan_for build program)) (plan_for build program).code
   pub shows : OverAllLinks build (IsPlanOf (flat_of build program) (plan_for build program))
   pub loops : most_loops (plan_for build program) ≤ shattered_loops program
-
-pub plannable : (code : Tables) → IsFlat code → IsSharable code → IsPlannable code
-plannable code flat sharable = record {
-  flat = flat;
-  stored = sharable.stored;
-  threes = record {
-    arrays = sharable.three_arrays;
-    rows = sharable.three_rows;
-    words = sharable.three_words;
-  };
-}

@@ -1,7 +1,10 @@
 //! The laws.
+ghost use Rattle.std.specs.Prelude.{ℕ, List, length};
+ghost use Rattle.zpl_text.specs.declared.tokens.Token.{Token};
 ghost use Rattle.zpl_tree.specs.Syntax.{Program};
 ghost use Rattle.zpl_names.specs.Expansion.{shattered_loops};
 ghost use Rattle.zpl_meaning.specs.Program.{mean_of, outcome_of, steps_of};
+ghost use Rattle.node_form.specs.Grid.{IsGrid};
 ghost use Rattle.zpl_lowering.specs.Tables.{flat_tables};
 ghost use Rattle.lock_steps.specs.Meant.{IsMeant};
 ghost use Rattle.shown_programs.specs.Text.{IsShownProgram};
@@ -9,18 +12,23 @@ ghost use Rattle.zpl_claims.specs.Bound.{EndsInBound};
 ghost use Rattle.zpl_claims.specs.Build.{Build, OverAllLinks};
 ghost use Rattle.zpl_claims.specs.Good.{IsGood};
 ghost use Rattle.zpl_claims.specs.LockStep.{HasLockSteps};
+ghost use Rattle.zpl_claims.specs.Compiled.{IsCompiled};
+ghost use Rattle.zpl_claims.specs.Origin.{origin_of};
 ghost use Rattle.zpl_compile.specs.Compile.{compiled};
+ghost use Rattle.compiled_tidy.specs.Accepted.{IsAcceptedText};
+ghost use Rattle.compiled_tidy.specs.Lowered.{IsLaidTidily};
 ghost use Rattle.right_code.specs.Accepted.{IsAccepted, KeepsStatic};
 
 use arranged_runs::plan_passes_keep_runs;
 use compiled_runs::compiled_plans_keep_runs;
+use compiled_tidy::accepted_code_is_tidy;
 use lock_steps::emitted_code_comes_in_step;
-use lowered_flat::{declarations_fit, lowered_programs_are_flat, lowered_tables_are_typed};
+use lowered_flat::{
+    declarations_fit, lowered_programs_are_flat, lowered_tables_are_typed, parsed_names_stand_apart,
+};
 use lowering_fits::lowered_programs_fit;
 use lowering_loops::groups_turn_as_statements_do;
-use pass_fits::flat_programs_stay_flat;
 use pass_promises::groups_gain_no_loops;
-use planned_runs::plans_keep_runs;
 use sharable_tables::settled_tables_are_sharable;
 use shown_programs::array_programs_are_shown;
 
@@ -50,13 +58,11 @@ pub fn code_of_meant_programs_is_right()
     compiled_plans_keep_runs();
     declarations_fit();
     emitted_code_comes_in_step();
-    flat_programs_stay_flat();
     groups_gain_no_loops();
     groups_turn_as_statements_do();
     lowered_programs_are_flat();
     lowered_programs_fit();
     lowered_tables_are_typed();
-    plans_keep_runs();
     settled_tables_are_sharable();
 }
 
@@ -80,4 +86,18 @@ pub fn code_of_shown_programs_is_right()
 {
     code_of_meant_programs_is_right();
     array_programs_are_shown();
+}
+
+/// So all that is claimed of code (`IsCompiled`) holds of the code of a text whose program is such a
+/// one, where it is tidy as `IsLaidTidily` asks for.
+pub fn code_of_shown_texts_is_compiled()
+    ensures { (text : List ℕ) (tokens : List Token) (program : Program) (build : Build) →
+        IsAcceptedText text tokens program build → IsGrid build.grid →
+        KeepsStatic (flat_tables program build.settings) → IsShownProgram program build.settings →
+        IsLaidTidily (origin_of build program (length tokens)) →
+        IsCompiled (origin_of build program (length tokens)) (compiled build program) }
+{
+    accepted_code_is_tidy();
+    code_of_shown_programs_is_right();
+    parsed_names_stand_apart();
 }

@@ -1,6 +1,6 @@
 -- Prints of accepted programs are prints that go as their code does.
-use Rattle.std.proofs.Common.{◌≡◌, ◌⊎◌, inl, inr, ℕ, zero, suc, Bool, true, false, ◌||◌, List, [], ◌∷◌, ◌++◌}
-use Rattle.std.proofs.Common.{Option, Some, None, refl, sym, ap, ◌∙◌, subst, true≢false}
+use Rattle.std.proofs.Common.{◌≡◌, inl, inr, ℕ, zero, suc, Bool, true, false, ◌||◌, List, [], ◌∷◌}
+use Rattle.std.proofs.Common.{Option, Some, None, refl, sym, subst}
 use Rattle.std.specs.List.{flat_map, list_any}
 use Rattle.zpl_tree.specs.Syntax.{Expr, Item, Str, Value, Prefix, Stmt, Form, Assign, Invoke, Block, If, While, Repeat, For, Border, Write, Return, Program}
 use Rattle.zpl_tree.specs.Grammar.{IsProgram}
@@ -20,11 +20,11 @@ use Rattle.zpl_meaning.proofs.DepthLemmas.{Each, each_left, each_right}
 use Rattle.zpl_meaning.proofs.ProperLemmas.{reach_at}
 use Rattle.zpl_meaning.proofs.VisitLemmas.{Laws, IsHere, Inside, InStmt}
 use Rattle.meaning_ranks.specs.Ranked.{IsOfRank, IsRanked, AreRankedItems, IsRankedStmt}
-use Rattle.zpl_lowering.specs.Where.{Where, slotted_at}
+use Rattle.zpl_lowering.specs.Where.{Where}
 use Rattle.lowering_runs.specs.Seen.{Spot}
 use Rattle.lowering_runs.proofs.StatementLemmas.{scalar_at}
 use Rattle.print_runs.specs.Printed.{IsPrintedAs, ArePrinted, PrintLeaf}
-use Rattle.served_places.specs.Told.{AreFree, IsPlainExpr, place_of}
+use Rattle.served_places.specs.Told.{AreFree, place_of}
 use Rattle.served_places.proofs.ToldLemmas.{has_slot, elementwise}
 use Rattle.shown_programs.specs.Text.{IsPrintedText, ArePrintedTexts, IsPrintForm}
 use Rattle.shown_programs.proofs.CallLemmas.{setup}

@@ -6,26 +6,26 @@ use Rattle.compiled_runs.proofs.ShownLemmas.{code_shows, plan_shows}
 use Rattle.compiled_runs.proofs.compiled_plans_keep_runs.Goals as goal
 
 pub returns-clause-plan : goal.returns-clause-plan
-returns-clause-plan c keep build flat is whole typed none sharable links built a n =
+returns-clause-plan c build flat is whole typed none sharable links built a n =
     let low : Tables = settled build flat in
-    plan_shows keep build flat is sharable links built a n
+    plan_shows c.plans_keep_runs.ensures build flat is sharable links built a n
     (c.flat_passes_keep_runs.ensures build flat whole typed none a n)
     (c.plan_passes_keep_runs.ensures.runs build low is (plannable low sharable) links built a n)
 
 pub returns-clause-code : goal.returns-clause-code
-returns-clause-code c keep build flat is whole typed none sharable links built a n =
+returns-clause-code c build flat is whole typed none sharable links built a n =
     let low : Tables = settled build flat in
-    code_shows keep build flat is sharable links built a n
+    code_shows c.plans_keep_runs.ensures build flat is sharable links built a n
     (c.node_code_runs_as_its_plan.ensures.runs build.options.tree build.grid (plan_of build low)
     (c.plan_passes_keep_runs.ensures.grid build low) links a n)
     (c.flat_passes_keep_runs.ensures build flat whole typed none a n)
     (c.plan_passes_keep_runs.ensures.runs build low is (plannable low sharable) links built a n)
 
 pub returns-clause-program : goal.returns-clause-program
-returns-clause-program c keep build program is whole typed none sharable links built a n =
+returns-clause-program c build program is whole typed none sharable links built a n =
     let flat : Tables = flat_tables program build.settings in
     let low : Tables = settled build flat in
-    code_shows keep build flat is sharable links built a n
+    code_shows c.plans_keep_runs.ensures build flat is sharable links built a n
     (c.node_code_runs_as_its_plan.ensures.runs build.options.tree build.grid (plan_of build low)
     (c.plan_passes_keep_runs.ensures.grid build low) links a n)
     (c.flat_passes_keep_runs.ensures build flat whole typed none a n)

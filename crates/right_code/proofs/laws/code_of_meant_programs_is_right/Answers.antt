@@ -14,7 +14,8 @@ use Rattle.right_code.specs.Accepted.{IsAccepted, KeepsStatic}
 use Rattle.right_code.proofs.TypedLemmas.{has_threes, is_typed}
 use Rattle.right_code.proofs.SettledLemmas.{settled_stays}
 use Rattle.right_code.proofs.LoopLemmas.{most_within, plan_groups}
-use Rattle.right_code.proofs.PlanLemmas.{HasPlan, flat_of, plan_for, plannable, settled_of}
+use Rattle.compiled_runs.proofs.SharableLemmas.{plannable}
+use Rattle.right_code.proofs.PlanLemmas.{HasPlan, flat_of, plan_for, settled_of}
 use Rattle.right_code.proofs.laws.code_of_meant_programs_is_right.Goals as goal
 
 pub returns : goal.returns
@@ -45,15 +46,7 @@ returns c =
     } in
     let sharable : IsSharable (settled_of build program) =
     c.settled_tables_are_sharable.ensures build flat owes in
-    let settled_flat : IsFlat (settled_of build program) =
-    settled_stays IsFlat
-    (record {
-      normalised = c.flat_programs_stay_flat.ensures.normalised;
-      checked = c.flat_programs_stay_flat.ensures.checked;
-      fused = c.flat_programs_stay_flat.ensures.fused;
-      contracted = c.flat_programs_stay_flat.ensures.contracted;
-    }) build flat is_flat in
-    let plans = plannable (settled_of build program) settled_flat sharable in
+    let plans = plannable (settled_of build program) sharable in
     let loops : HasLoopsUpTo (shattered_loops program) (settled_of build program) =
     settled_stays (HasLoopsUpTo (shattered_loops program))
     (record {
@@ -68,7 +61,7 @@ returns c =
           plans;
       three = c.plan_passes_keep_runs.ensures.three build (settled_of build program) accepted.grid
           plans;
-      shows = c.compiled_plans_keep_runs.ensures.plan c.plans_keep_runs.ensures build flat
+      shows = c.compiled_plans_keep_runs.ensures.plan build flat
           accepted.grid is_flat (is_typed flat typed) cells sharable;
       loops = most_within (shattered_loops program) (plan_for build program)
           (subst (All (λ group. loops_in group ≤ shattered_loops program))

@@ -1,0 +1,57 @@
+-- Statements of scalars and arrays, whose values may have operators over regions.
+use Rattle.std.proofs.Common.{ℕ, List}
+use Rattle.zpl_tree.specs.Syntax.{Stmt, Form, Assign, Invoke, Block, If, While, Repeat, For, Border, Write, Return}
+use Rattle.zpl_meaning.specs.Context.{Setup, Place}
+use Rattle.zpl_meaning.specs.Statement as mean
+use Rattle.zpl_lowering.specs.Where.{Where}
+use Rattle.zpl_lowering.specs.Statement as low
+use Rattle.lowering_runs.specs.Seen.{seen_place}
+use Rattle.lowering_runs.specs.Goes.{World, Goes}
+use Rattle.lowering_runs.specs.Called.{CallsAgree}
+use Rattle.lowering_runs.specs.Suits.{SuitsStmt}
+use Rattle.lowering_runs.proofs.SuitLemmas.{goes_more, either_goes, FormGoes}
+use Rattle.prefix_runs.specs.Plain.{PlainLeaf}
+use Rattle.prefix_runs.specs.Under.{IsUnder}
+use Rattle.prefix_runs.proofs.PlainLemmas.{plain_leaves, suited_agrees}
+use Rattle.operator_runs.specs.Served.{IsScalarOperated, IsArrayOperated, OperatedLeaf, AnyLeaf}
+use Rattle.operator_runs.proofs.FormLemmas.{scalar_goes, array_goes}
+use Rattle.operator_runs.proofs.PrintLemmas.{prints_go}
+
+module _ (world : World) where
+  no_leaf : (at : ℕ) (form : Form) → ((w : Where) (p : Place) → OperatedLeaf at form w p → ⊥)
+      → FormGoes world OperatedLeaf at form
+  no_leaf at form never sight w next start stands served room store now like =
+      absurd (never w (seen_place sight w start) served)
+
+  pub operated_leaves : (at : ℕ) (form : Form) → FormGoes world OperatedLeaf at form
+  operated_leaves at (Assign name op value) =
+      goes_more world (OperatedLeaf at (Assign name op value))
+      (λ c store. mean.exec_form c world.turns at (Assign name op value) store)
+      (λ l next. low.lowered_form l next at (Assign name op value))
+      (either_goes world (IsScalarOperated name op value) (IsArrayOperated name op value)
+      (λ c store. mean.exec_form c world.turns at (Assign name op value) store)
+      (λ l next. low.lowered_form l next at (Assign name op value)) 0
+      (scalar_goes world at name op value) (array_goes world at name op value))
+  operated_leaves at (Invoke name actuals) = no_leaf at (Invoke name actuals) (λ w p h. h)
+  operated_leaves at (Block body) = no_leaf at (Block body) (λ w p h. h)
+  operated_leaves at (If arms otherwise) = no_leaf at (If arms otherwise) (λ w p h. h)
+  operated_leaves at (While test body) = no_leaf at (While test body) (λ w p h. h)
+  operated_leaves at (Repeat body until test) = no_leaf at (Repeat body until test) (λ w p h. h)
+  operated_leaves at (For head body) = no_leaf at (For head body) (λ w p h. h)
+  operated_leaves at (Border kind names) = no_leaf at (Border kind names) (λ w p h. h)
+  operated_leaves at (Write ends items) =
+      goes_more world (OperatedLeaf at (Write ends items))
+      (λ c store. mean.exec_form c world.turns at (Write ends items) store)
+      (λ l next. low.lowered_form l next at (Write ends items)) (prints_go world at ends items)
+  operated_leaves at (Return value) = no_leaf at (Return value) (λ w p h. h)
+
+  pub statements_agree : (setup : Setup) (IsCallable : List ℕ → Type 0)
+      → CallsAgree world setup IsCallable → (stmt : Stmt)
+      → Goes world (SuitsStmt IsUnder (AnyLeaf setup IsCallable) stmt)
+      (λ c store. mean.exec c world.turns stmt store) (λ l next. low.lowered l next stmt) 0
+  statements_agree setup IsCallable calls stmt =
+      suited_agrees world (AnyLeaf setup IsCallable)
+      (λ at form. either_goes world (PlainLeaf setup IsCallable at form) (OperatedLeaf at form)
+      (λ c store. mean.exec_form c world.turns at form store)
+      (λ l next. low.lowered_form l next at form) 1
+      (plain_leaves world setup IsCallable calls at form) (operated_leaves at form)) stmt

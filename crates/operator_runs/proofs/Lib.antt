@@ -1,0 +1,19 @@
+pub mod JoinLemmas
+pub mod FoldLemmas
+pub mod SpareLemmas
+pub mod StandLemmas
+pub mod MeantLemmas
+pub mod NarrowLemmas
+pub mod HoistLemmas
+pub mod SettleLemmas
+pub mod PhaseLemmas
+pub mod LikeLemmas
+pub mod ScalarLemmas
+pub mod PutLemmas
+pub mod ArrayLemmas
+pub mod FormLemmas
+pub mod LeafLemmas
+pub mod PrintLemmas
+pub mod TempLemmas
+pub mod TestLemmas
+mod Examples

@@ -1,0 +1,5 @@
+pub mod Meant
+pub mod Hoists
+pub mod Guards
+pub mod Operated
+pub mod Served

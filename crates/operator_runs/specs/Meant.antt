@@ -1,0 +1,119 @@
+-- A slate and the term that it stands for, where the regions of its operators are in slots.
+use Rattle.std.specs.Prelude.{◌≡◌, ◌⊎◌, ℕ, ◌-◌, ◌<◌, true, ℤ, List, length, Some, slice_get, ◌≤◌, false, unsigned_abs, Option, None}
+use Rattle.zpl_nums.specs.declared.operators.Op.{Op}
+use Rattle.zpl_nums.specs.declared.operators.UnaryOp.{UnaryOp}
+use Rattle.zpl_nums.specs.declared.folds.Fold.{Fold}
+use Rattle.zpl_nums.specs.declared.folds.Fold.TheVariants.{Sum, Prod, Max, Min, All, Any}
+use Rattle.zpl_nums.specs.Integer.{IsInteger}
+use Rattle.zpl_region.specs.declared.regions.Region.{Region}
+use Rattle.zpl_region.specs.Region.{IsRegion}
+use Rattle.zpl_meaning.specs.Context.{Mask}
+use Rattle.zpl_meaning.specs.Term as term
+use Rattle.zpl_meaning.specs.Term.{Term, Terms, NoTerm, ThenTerm}
+use Rattle.flat_form.specs.Right.{no_flood}
+use Rattle.zpl_lowering.specs.Where.{Slotted, Where, flood_of}
+use Rattle.zpl_lowering.specs.Slate as slate
+use Rattle.zpl_lowering.specs.Slate.{Slate, Slates, NoSlate, ThenSlate}
+use Rattle.lowering_runs.specs.Seen.{Spot, place_of}
+use Rattle.array_runs.specs.Elementwise.{IsReadable, IsReadableMask}
+
+-- Where an expression stands: by itself, where it has one value; or under the region of a slot,
+-- where it has one at each tuple.
+pub data Site : Type 0 where
+  Alone : Site
+  Under : (over : Slotted) (region : Region) → Site
+
+-- a slot has a region, with the flood dimensions that are known before the run
+pub record InSlot (slots : List Region) (over : Slotted) (region : Region) : Type 0 where
+  pub found : slice_get slots over.slot ≡ Some region
+  pub is : IsRegion region
+  pub three : length region.dims ≡ 3
+  pub flood : flood_of region ≡ over.flood
+
+-- the fold's value is an integer of 64 bits, whatever integers it joins
+abbrev pub Wraps : Fold → Type 0
+Wraps Sum = Unit {0}
+Wraps Prod = Unit {0}
+Wraps Max = ⊥
+Wraps Min = ⊥
+Wraps All = Unit {0}
+Wraps Any = Unit {0}
+
+-- Its values are integers of 64 bits, since it reads neither arrays nor coordinates.
+abbrev pub IsNarrow : Slate → Type 0
+IsNarrow (slate.Constant value) = Unit {0}
+IsNarrow (slate.Variable place) = Unit {0}
+IsNarrow (slate.Coordinate k) = ⊥
+IsNarrow (slate.Element slot place shift) = ⊥
+IsNarrow (slate.Wrapped slot place home shift copy first) = ⊥
+IsNarrow (slate.Unary operator operand) = IsNarrow operand
+IsNarrow (slate.Binary operator left right) = IsNarrow left × IsNarrow right
+IsNarrow (slate.Folded operator over operand) = Unit {0}
+IsNarrow (slate.PartFolded operator over source operand) = ⊥
+IsNarrow (slate.Scanned operator along over operand) = ⊥
+IsNarrow (slate.Flooded over source operand) = ⊥
+IsNarrow (slate.Remapped over place indices) = ⊥
+
+-- code has the mask of a scan as it stands
+abbrev pub IsPlainMask : Option Mask → Type 0
+IsPlainMask None = Unit {0}
+IsPlainMask (Some mask) = mask.without ≡ false
+
+-- a scan goes over all tuples, or along a dimension, counted from 1
+abbrev pub IsAlong : Option ℤ → Type 0
+IsAlong None = Unit {0}
+IsAlong (Some k) = 1 ≤ unsigned_abs k
+
+-- Each slot has the region that the term names, and what is read has its flood dimensions.
+pub data IsMeant (w : Where) (spots : List Spot) (slots : List Region) : Site → Slate → Term → Type 0 where
+  ConstantMeant : {site : Site} {value : ℤ} → IsInteger value
+      → IsMeant w spots slots site (slate.Constant value) (term.Constant value)
+  VariableMeant : {site : Site} {place : ℕ}
+      → IsMeant w spots slots site (slate.Variable place) (term.Variable (place_of spots place))
+  CoordinateMeant : {over : Slotted} {region : Region} {k : ℕ} → k - 1 < 3
+      → IsMeant w spots slots (Under over region) (slate.Coordinate k) (term.Coordinate k)
+  ElementMeant : {over : Slotted} {region : Region} {place : ℕ} {shift : List ℤ}
+      → IsReadable region shift (slice_get w.numbers.arrays place)
+      → IsMeant w spots slots (Under over region) (slate.Element over.slot place shift)
+      (term.Element region place shift)
+  UnaryMeant : {site : Site} {operator : UnaryOp} {one : Slate} {operand : Term}
+      → IsMeant w spots slots site one operand
+      → IsMeant w spots slots site (slate.Unary operator one) (term.Unary operator operand)
+  BinaryMeant : {site : Site} {operator : Op} {one other : Slate} {left right : Term}
+      → IsMeant w spots slots site one left → IsMeant w spots slots site other right
+      → IsMeant w spots slots site (slate.Binary operator one other)
+      (term.Binary operator left right)
+  FoldedMeant : {site : Site} {operator : Fold} {over : Slotted} {region : Region} {one : Slate}
+      {operand : Term} → InSlot slots over region → IsReadableMask w region over.mask
+      → no_flood region ≡ true → Wraps operator ⊎ IsNarrow one
+      → IsMeant w spots slots (Under over region) one operand
+      → IsMeant w spots slots site (slate.Folded operator over one)
+      (term.Folded operator (record { region = region; mask = over.mask }) operand)
+  PartFoldedMeant : {operator : Fold} {over source : Slotted} {region tuples : Region} {one : Slate}
+      {operand : Term} → InSlot slots source tuples → IsReadableMask w region over.mask
+      → no_flood tuples ≡ true → IsMeant w spots slots (Under source tuples) one operand
+      → IsMeant w spots slots (Under over region) (slate.PartFolded operator over source one)
+      (term.PartFolded operator (record { region = region; mask = over.mask }) tuples operand)
+  ScannedMeant : {operator : Fold} {along : Option ℤ} {over : Slotted} {region : Region} {one : Slate}
+      {operand : Term} → IsReadableMask w region over.mask → IsPlainMask over.mask → IsAlong along
+      → no_flood region ≡ true → IsMeant w spots slots (Under over region) one operand
+      → IsMeant w spots slots (Under over region) (slate.Scanned operator along over one)
+      (term.Scanned operator along (record { region = region; mask = over.mask }) operand)
+  FloodedMeant : {over source : Slotted} {region tuples : Region} {one : Slate} {operand : Term}
+      → InSlot slots source tuples → IsReadableMask w region over.mask
+      → IsMeant w spots slots (Under source tuples) one operand
+      → IsMeant w spots slots (Under over region) (slate.Flooded over source one)
+      (term.Flooded (record { region = region; mask = over.mask }) tuples operand)
+
+-- each of several at the same site
+pub data AreMeant (w : Where) (spots : List Spot) (slots : List Region) (site : Site)
+    : Slates → Terms → Type 0 where
+  NoneMeant : AreMeant w spots slots site NoSlate NoTerm
+  MoreMeant : {one : Slate} {rest : Slates} {first : Term} {terms : Terms}
+      → IsMeant w spots slots site one first → AreMeant w spots slots site rest terms
+      → AreMeant w spots slots site (ThenSlate one rest) (ThenTerm first terms)
+
+-- the site's region is in its slot
+abbrev pub IsSite : List Region → Site → Type 0
+IsSite slots Alone = Unit {0}
+IsSite slots (Under over region) = InSlot slots over region
