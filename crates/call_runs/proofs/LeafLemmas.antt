@@ -17,22 +17,22 @@ use Rattle.call_runs.specs.Taken.{CallsGo, IsInvoked}
 use Rattle.call_runs.proofs.AnswerLemmas.{answer_goes}
 use Rattle.call_runs.proofs.InvokeLemmas.{invoke_goes}
 
-module _ (IsCalled : Where → List Given → Called → Type 0) (world : World)
-    (calls : CallsGo IsCalled world) (answers : CallsAnswer IsCalled world) where
+module _ (IsCalled IsAsked : Where → List Given → Called → Type 0) (world : World)
+    (calls : CallsGo IsCalled world) (answers : CallsAnswer IsAsked world) where
   no_call : (at : ℕ) (form : Form)
-      → ((w : Where) (p : Place) → CallLeaf IsCalled at form w p → ⊥)
-      → FormGoes world (CallLeaf IsCalled) at form
+      → ((w : Where) (p : Place) → CallLeaf IsCalled IsAsked at form w p → ⊥)
+      → FormGoes world (CallLeaf IsCalled IsAsked) at form
   no_call at form never sight w next start stands served room store now like =
       absurd (never w (seen_place sight w start) served)
 
   assigned : (at : ℕ) (name : Name) (op : Option Op) (value : Expr)
-      → FormGoes world (CallLeaf IsCalled) at (Assign name op value)
+      → FormGoes world (CallLeaf IsCalled IsAsked) at (Assign name op value)
   assigned at name None (Call offset callee actuals) =
-      goes_more world (IsAnswered IsCalled name callee actuals)
+      goes_more world (IsAnswered IsAsked name callee actuals)
       (λ c store. mean.exec_form c world.turns at (Assign name None (Call offset callee actuals))
       store)
       (λ l next. low.lowered_form l next at (Assign name None (Call offset callee actuals)))
-      (answer_goes IsCalled world answers at offset name callee actuals)
+      (answer_goes IsAsked world answers at offset name callee actuals)
   assigned at name (Some op) value = no_call at (Assign name (Some op) value) (λ w p h. h)
   assigned at name None (Number o value) = no_call at (Assign name None (Number o value)) (λ w p h. h)
   assigned at name None (Truth o value) = no_call at (Assign name None (Truth o value)) (λ w p h. h)
@@ -57,7 +57,7 @@ module _ (IsCalled : Where → List Given → Called → Type 0) (world : World)
   assigned at name None (Flood o source operand) =
       no_call at (Assign name None (Flood o source operand)) (λ w p h. h)
 
-  pub call_leaves : (at : ℕ) (form : Form) → FormGoes world (CallLeaf IsCalled) at form
+  pub call_leaves : (at : ℕ) (form : Form) → FormGoes world (CallLeaf IsCalled IsAsked) at form
   call_leaves at (Invoke name actuals) =
       goes_more world (IsInvoked IsCalled name actuals)
       (λ c store. mean.exec_form c world.turns at (Invoke name actuals) store)

@@ -9,9 +9,10 @@ use Rattle.zpl_lowering.specs.Statement.{Given}
 use Rattle.call_runs.specs.Answered.{IsAnswered}
 use Rattle.call_runs.specs.Taken.{IsInvoked}
 
-module _ (IsCalled : Where → List Given → Called → Type 0) where
+-- What is said of calls as statements, and of those whose answers are assigned.
+module _ (IsCalled IsAsked : Where → List Given → Called → Type 0) where
   abbrev pub IsAnsweredBy : Name → Option Op → Expr → Where → Place → Type 0
-  IsAnsweredBy name None (Call at callee actuals) w p = IsAnswered IsCalled name callee actuals w p
+  IsAnsweredBy name None (Call at callee actuals) w p = IsAnswered IsAsked name callee actuals w p
   IsAnsweredBy name None (Number at value) w p = ⊥
   IsAnsweredBy name None (Truth at value) w p = ⊥
   IsAnsweredBy name None (Coord at k) w p = ⊥

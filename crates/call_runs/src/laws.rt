@@ -48,12 +48,12 @@ pub fn answers_go_alike<C: Calling>()
         (λ l next. lowered_form l next at (Assign name None (Call offset callee actuals))) 0 }
 {}
 
-/// So do all forms that are such calls, with a jump to spare, as the recursion over statements takes
-/// them.
-pub fn call_leaves_go_alike<C: Calling>()
-    ensures { (world : World) → CallsGo C.IsCalled world → CallsAnswer C.IsCalled world →
+/// So do all forms that are such calls, with a jump to spare, as the recursion over statements
+/// takes them; of calls that answer something else may be said.
+pub fn call_leaves_go_alike<C: Calling, A: Calling>()
+    ensures { (world : World) → CallsGo C.IsCalled world → CallsAnswer A.IsCalled world →
         (at : ℕ) (form : Form) →
-        Goes world (CallLeaf C.IsCalled at form)
+        Goes world (CallLeaf C.IsCalled A.IsCalled at form)
         (λ c store. exec_form c world.turns at form store)
         (λ l next. lowered_form l next at form) 1 }
 {}

@@ -95,7 +95,7 @@ flood_told shape region rank floods =
 
 -- ---- arrays
 
-kept_at : (arrays : List Stored) (place : ℕ) (stored : Stored) → AllKept arrays
+pub kept_at : (arrays : List Stored) (place : ℕ) (stored : Stored) → AllKept arrays
     → slice_get arrays place ≡ Some stored → IsStorage stored.storage
 kept_at [] place stored are e = cc
 kept_at (one ∷ arrays) zero stored are e =

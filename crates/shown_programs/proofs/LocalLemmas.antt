@@ -196,7 +196,7 @@ module _ (tables : Tables) (n : ℕ) where
       }
 
 -- arrays below a number are as they were
-below_same : (now after : Whole) (k : ℕ) (arrays : List Stored) (from : ℕ)
+pub below_same : (now after : Whole) (k : ℕ) (arrays : List Stored) (from : ℕ)
     → Rises from (array_numbers arrays) k
     → ((j : ℕ) → j < k → array_in after j ≡ array_in now j)
     → map (λ (x : Stored). array_in after x.array) arrays

@@ -19,6 +19,7 @@ use Rattle.zpl_names.specs.Sites.{under_prefix as reach_under}
 use Rattle.zpl_names.specs.Faults.{flood_clashes}
 use Rattle.zpl_names.specs.Accepted.{IsFaultless}
 use Rattle.zpl_binding.specs.Regions.{Known}
+use Rattle.zpl_binding.proofs.LimitLemmas.{HasLimited}
 use Rattle.zpl_binding.specs.Settings.{Setting}
 use Rattle.zpl_meaning.specs.Store.{Environment}
 use Rattle.zpl_meaning.specs.Context.{Over, Currents, Edge, Setup, Place, reach_of}
@@ -49,6 +50,7 @@ use Rattle.served_places.proofs.GivenLemmas.{prefix_opens}
 use Rattle.served_places.proofs.PrefixLemmas.{under_told}
 use Rattle.served_places.proofs.CleanLemmas.{one_with, two_with, three_with}
 use Rattle.shown_programs.specs.Text.{HasSmallInner, HaveSmallPrefixes, behind_prefixes, IsShownStmt, AreShown, IsShownForm, AreShownArms, IsShownElse}
+use Rattle.shown_programs.proofs.BoundedLemmas.{IsBoundedAt, bounded_under, known_limited}
 use Rattle.shown_programs.proofs.CallLemmas.{setup, IsKnownAt}
 
 -- ---- regions of the shapes that slots have
@@ -211,6 +213,7 @@ module _ (program : Program) (settings : List Setting) (laws : Laws program)
         ≡ shapes
     pub known : Here w shapes
     pub seen : IsSeenFrom spots w environment currents
+    pub bounded : IsBoundedAt (place_of w environment answer currents edge)
 
   module _ (proper : (place : Place) (stmt : Stmt) → IsVisited own_setup place stmt
       → IsProperStmt place stmt)
@@ -261,6 +264,7 @@ module _ (program : Program) (settings : List Setting) (laws : Laws program)
           → visits.IsUnder prefixes place (place_of w environment answer currents edge)
           → (under_prefixes (reach_at place shapes shattered result) prefixes).shapes ≡ deeper
           → Here w deeper → IsSeenFrom spots w environment currents
+          → IsBoundedAt (place_of w environment answer currents edge)
           → IsServed w (place_of w environment answer currents edge)
 
       under_suits : (borders : Bool) (prefixes : List Prefix) (w : Where) (currents : Currents)
@@ -273,12 +277,14 @@ module _ (program : Program) (settings : List Setting) (laws : Laws program)
           → IsRankedUnder (place_of w environment answer currents edge) prefixes form
           → HaveSmallPrefixes prefixes → AreGivenPrefixes w.setup.known prefixes → Here w shapes
           → IsSeenFrom spots w environment currents
+          → IsBoundedAt (place_of w environment answer currents edge)
           → Reached prefixes (place_of w environment answer currents edge) shapes
           → IsUnder borders prefixes IsServed w (place_of w environment answer currents edge)
-      under_suits borders [] w currents edge shapes sites tree fits p r small given known seen f =
-          f w currents edge shapes visits.Itself refl known seen
+      under_suits borders [] w currents edge shapes sites tree fits p r small given known seen bounded
+          f =
+          f w currents edge shapes visits.Itself refl known seen bounded
       under_suits borders (prefix ∷ rest) w currents edge shapes sites tree fits p r small given known
-          seen f =
+          seen bounded f =
           let place = place_of w environment answer currents edge in
           let reach = reach_at place shapes shattered result in
           let hint = mask_rank place.scope prefix.mask in
@@ -327,8 +333,11 @@ module _ (program : Program) (settings : List Setting) (laws : Laws program)
                   two = two_with currents w.currents rank over _ seen.two;
                   three = three_with currents w.currents rank over _ seen.three;
                 })
-                (λ w' currents' edge' deeper' under is known' seen'.
-                f w' currents' edge' deeper' (visits.Behind over under) is known' seen'),
+                (bounded_under place prefix found store opened.flood
+                (subst (λ (s : Setup). HasLimited s.known) (sym known.owned)
+                (known_limited program settings)) bounded opens meant told)
+                (λ w' currents' edge' deeper' under is known' seen' bounded'.
+                f w' currents' edge' deeper' (visits.Behind over under) is known' seen' bounded'),
           )
         where
           mask_free : (mask : Option MaskText)
@@ -363,11 +372,12 @@ module _ (program : Program) (settings : List Setting) (laws : Laws program)
             → At (place_of w environment answer currents edge) shapes stmt
             → IsVisited own_setup (place_of w environment answer currents edge) stmt
             → Here w shapes → IsSeenFrom spots w environment currents
+            → IsBoundedAt (place_of w environment answer currents edge)
             → IsShownStmt Text (reach_of (place_of w environment answer currents edge)) stmt
             → IsGivenStmt own_setup.known stmt
             → SuitsStmt IsUnder Leaf stmt w (place_of w environment answer currents edge)
         stmt_suits (Prefixed at prefixes form) spots w environment answer currents edge shapes here
-            visited known seen text given =
+            visited known seen bounded text given =
             let place = place_of w environment answer currents edge in
             let stmt = Prefixed at prefixes form in
             under_suits environment answer spots here.shattered here.result form
@@ -375,8 +385,8 @@ module _ (program : Program) (settings : List Setting) (laws : Laws program)
             currents edge shapes (clean_of program here.text here.around _ here.sites.0) here.tree.0
             here.fits (proper place stmt visited) (ranked place stmt visited) text.0
             (subst (λ (s : Setup). AreGivenPrefixes s.known prefixes) (sym known.owned) given.0) known
-            seen
-            (λ w' currents' edge' deeper under is known' seen'.
+            seen bounded
+            (λ w' currents' edge' deeper under is known' seen' bounded'.
             let inner = place_of w' environment answer currents' edge' in
             form_suits form at prefixes spots w' environment answer currents' edge' deeper
             (record {
@@ -392,6 +402,7 @@ module _ (program : Program) (settings : List Setting) (laws : Laws program)
                   ∙ is;
               known = known';
               seen = seen';
+              bounded = bounded';
             })
             (subst (λ (r : Reach). IsShownForm Text r form) (reach_behind prefixes place inner under)
             text.1) given.1)
@@ -415,7 +426,7 @@ module _ (program : Program) (settings : List Setting) (laws : Laws program)
             given =
             all_suit body spots w environment answer currents edge shapes
             (placed_part at prefixes (Block body) spots w environment answer currents edge shapes h)
-            h.known h.seen text given
+            h.known h.seen h.bounded text given
         form_suits (If arms otherwise) at prefixes spots w environment answer currents edge shapes h
             (inl text) given =
             inl (leaf_suits at prefixes (If arms otherwise) spots w environment answer currents edge
@@ -433,11 +444,11 @@ module _ (program : Program) (settings : List Setting) (laws : Laws program)
                 arms_suit arms spots w environment answer currents edge shapes
                     (λ part c. parts part
                     (Contains-append_left (arms_parts arms) (else_parts otherwise) part c))
-                    tests h.known h.seen text.1.0 given.0,
+                    tests h.known h.seen h.bounded text.1.0 given.0,
                 else_suits otherwise spots w environment answer currents edge shapes
                     (λ part c. parts part
                     (Contains-append_right (arms_parts arms) (else_parts otherwise) part c))
-                    h.known h.seen text.1.1 given.1,
+                    h.known h.seen h.bounded text.1.1 given.1,
               ),
             )
         form_suits (While test body) at prefixes spots w environment answer currents edge shapes h
@@ -456,7 +467,7 @@ module _ (program : Program) (settings : List Setting) (laws : Laws program)
                 role_scalar place TestRole test text.1.0 p,
                 all_suit body spots w environment answer currents edge shapes
                     (placed_part at prefixes form spots w environment answer currents edge shapes h)
-                    h.known h.seen text.1.1 given,
+                    h.known h.seen h.bounded text.1.1 given,
               ),
             )
         form_suits (Repeat body until test) at prefixes spots w environment answer currents edge shapes
@@ -475,7 +486,7 @@ module _ (program : Program) (settings : List Setting) (laws : Laws program)
                 role_scalar place TestRole test text.1.0 p,
                 all_suit body spots w environment answer currents edge shapes
                     (placed_part at prefixes form spots w environment answer currents edge shapes h)
-                    h.known h.seen text.1.1 given,
+                    h.known h.seen h.bounded text.1.1 given,
               ),
             )
         form_suits (For head body) at prefixes spots w environment answer currents edge shapes h text
@@ -491,7 +502,7 @@ module _ (program : Program) (settings : List Setting) (laws : Laws program)
               ),
               all_suit body spots w environment answer currents edge shapes
                   (placed_part at prefixes form spots w environment answer currents edge shapes h)
-                  h.known h.seen text.1 given,
+                  h.known h.seen h.bounded text.1 given,
             )
         form_suits (Border kind names) at prefixes spots w environment answer currents edge shapes h text
             given =
@@ -509,18 +520,20 @@ module _ (program : Program) (settings : List Setting) (laws : Laws program)
             (answer : ℕ) (currents : Currents) (edge : Option Edge) (shapes : Shapes)
             → Parts (list_of stmts) (place_of w environment answer currents edge) shapes
             → Here w shapes → IsSeenFrom spots w environment currents
+            → IsBoundedAt (place_of w environment answer currents edge)
             → AreShown Text (reach_of (place_of w environment answer currents edge)) stmts
             → AreGivenStmts own_setup.known stmts
             → SuitAll IsUnder Leaf stmts w (place_of w environment answer currents edge)
-        all_suit NoStmt spots w environment answer currents edge shapes parts known seen text given = tt
+        all_suit NoStmt spots w environment answer currents edge shapes parts known seen bounded text given =
+            tt
         all_suit (ThenStmt first rest) spots w environment answer currents edge shapes parts known seen
-            text given =
+            bounded text given =
             let one = parts first (contains_first first (list_of rest)) in (
               stmt_suits first spots w environment answer currents edge shapes one.0 one.1 known seen
-                  text.0 given.0,
+                  bounded text.0 given.0,
               all_suit rest spots w environment answer currents edge shapes
-                  (λ part c. parts part (contains_later first (list_of rest) part c)) known seen text.1
-                  given.1,
+                  (λ part c. parts part (contains_later first (list_of rest) part c)) known seen bounded
+                  text.1 given.1,
             )
 
         arms_suit : (arms : Arms) (spots : List Spot) (w : Where) (environment : Environment)
@@ -528,25 +541,26 @@ module _ (program : Program) (settings : List Setting) (laws : Laws program)
             → Parts (arms_parts arms) (place_of w environment answer currents edge) shapes
             → AreProperTests (place_of w environment answer currents edge) arms
             → Here w shapes → IsSeenFrom spots w environment currents
+            → IsBoundedAt (place_of w environment answer currents edge)
             → AreShownArms Text (reach_of (place_of w environment answer currents edge)) arms
             → AreGivenArms own_setup.known arms
             → SuitArms IsUnder Leaf arms w (place_of w environment answer currents edge)
-        arms_suit NoArm spots w environment answer currents edge shapes parts tests known seen text
-            given = tt
+        arms_suit NoArm spots w environment answer currents edge shapes parts tests known seen bounded
+            text given = tt
         arms_suit (ThenArm (Tested own test body) rest) spots w environment answer currents edge shapes
-            parts tests known seen text given =
+            parts tests known seen bounded text given =
             let place = place_of w environment answer currents edge in (
               (
                 role_scalar place TestRole test text.0.0 tests.0,
                 all_suit body spots w environment answer currents edge shapes
                     (λ part c. parts part
                     (Contains-append_left (list_of body) (arms_parts rest) part c)) known seen
-                    text.0.1 given.0,
+                    bounded text.0.1 given.0,
               ),
               arms_suit rest spots w environment answer currents edge shapes
                   (λ part c. parts part
                   (Contains-append_right (list_of body) (arms_parts rest) part c)) tests.1 known seen
-                  text.1 given.1,
+                  bounded text.1 given.1,
             )
 
         else_suits : (otherwise : Otherwise) (spots : List Spot) (w : Where)
@@ -554,11 +568,13 @@ module _ (program : Program) (settings : List Setting) (laws : Laws program)
             (shapes : Shapes)
             → Parts (else_parts otherwise) (place_of w environment answer currents edge) shapes
             → Here w shapes → IsSeenFrom spots w environment currents
+            → IsBoundedAt (place_of w environment answer currents edge)
             → IsShownElse Text (reach_of (place_of w environment answer currents edge)) otherwise
             → IsGivenElse own_setup.known otherwise
             → SuitsElse IsUnder Leaf otherwise w (place_of w environment answer currents edge)
-        else_suits NoElse spots w environment answer currents edge shapes parts known seen text given =
-            tt
-        else_suits (Else body) spots w environment answer currents edge shapes parts known seen text
-            given =
-            all_suit body spots w environment answer currents edge shapes parts known seen text given
+        else_suits NoElse spots w environment answer currents edge shapes parts known seen bounded text
+            given = tt
+        else_suits (Else body) spots w environment answer currents edge shapes parts known seen bounded
+            text given =
+            all_suit body spots w environment answer currents edge shapes parts known seen bounded text
+            given

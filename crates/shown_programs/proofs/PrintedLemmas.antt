@@ -30,7 +30,7 @@ use Rattle.shown_programs.specs.Text.{IsPrintedText, ArePrintedTexts, IsPrintFor
 use Rattle.shown_programs.proofs.CallLemmas.{setup}
 use Rattle.shown_programs.proofs.PlaceLemmas.{IsPlaced, placed_proper, placed_ranked, placed_inside, each_free}
 
-neither : (a b : Bool) → a || b ≡ false → (a ≡ false) × (b ≡ false)
+pub neither : (a b : Bool) → a || b ≡ false → (a ≡ false) × (b ≡ false)
 neither true b e = let no : ⊥ = cc in absurd no
 neither false b e = (refl, e)
 

@@ -52,7 +52,7 @@ use Rattle.lowering_fits.proofs.MadeWholeLemmas.{entry_is_bare}
 use Rattle.shown_programs.specs.Text.{IsRoutine, IsShownCall, IsShownProgram, IsLeafForm}
 use Rattle.shown_programs.proofs.FrameLemmas.{apart_in}
 use Rattle.shown_programs.proofs.CallLemmas.{IsKnownAt}
-use Rattle.shown_programs.proofs.RoutineLemmas.{AreAccepted, routine_agrees, calls_go}
+use Rattle.shown_programs.proofs.RoutineLemmas.{AreAccepted, body_goes, routine_agrees, calls_go}
 use Rattle.shown_programs.proofs.LeafLemmas.{Leaf, leaves_go}
 use Rattle.shown_programs.proofs.StartLemmas.{IsGlobal, first_global, arrays_length, arrays_rise, arrays_stored, arrays_seen, start_array}
 
@@ -178,15 +178,15 @@ module _ (program : Program) (settings : List Setting) (laws : Laws program)
   Ended now store whole =
       (routine : Routine) × IsLike tables spots (outside routine) next now store whole
 
-  entry_agrees : (n depth : ℕ) → IsShownCall IsLeafForm program depth program.name.text
+  entry_agrees : (n depth : ℕ) → IsShownCall IsLeafForm program depth false program.name.text
       → (now : Whole) → IsBegun program settings inline laid now
       → HasRoom tables next (low.entry_code setup depth calling next)
       → Agrees (Ended now) n 0 (call_at setup n depth (entry_call program) frame.store)
       (does tables n (low.entry_code setup depth calling next).code now)
   entry_agrees n zero h now begun room = absurd h
   entry_agrees n (suc depth) h now begun room =
-      let it : IsRoutine IsLeafForm program (IsShownCall IsLeafForm program depth) program.name.text =
-      h in
+      let it : IsRoutine IsLeafForm program (IsShownCall IsLeafForm program depth) false
+      program.name.text = h in
       let routine = it.routine in
       let w = outside routine in
       let among = found_routine program settings laws grammar clean program.name.text routine it.named
@@ -218,15 +218,26 @@ module _ (program : Program) (settings : List Setting) (laws : Laws program)
       (IsShownCall IsLeafForm program depth)
       (calls_go program settings laws grammar clean tables n accepted
       (Leaf program settings laws grammar clean) IsLeafForm leaves depth)
-      routine among it.shown false spots w next now program.name.text [] 0 no_shapes
+      routine among false spots w next now program.name.text [] 0 0 0 no_shapes
       (known_there routine among) (signature_of sound.earlier routine.procedure) of givens
-      (stands routine) now begun.sound.filled.slots (λ k lt. refl) begins.held next (itself next)
-      (omega arith) (λ k le. begun.zeros k)
+      (stands routine) now begun.sound.filled.slots (λ k lt. refl) begins.held
+      (IsLike tables spots w next now)
+      (body_goes program settings laws grammar clean tables n accepted
+      (Leaf program settings laws grammar clean) IsLeafForm leaves depth
+      (IsShownCall IsLeafForm program depth)
+      (calls_go program settings laws grammar clean tables n accepted
+      (Leaf program settings laws grammar clean) IsLeafForm leaves depth)
+      routine among false spots w next now program.name.text [] 0 0 0 no_shapes
+      (known_there routine among) (signature_of sound.earlier routine.procedure) of givens
+      (stands routine) now begun.sound.filled.slots (λ k lt. refl) begins.held it.shown)
+      next (itself next)
+      (omega arith) tt (λ k le. begun.zeros k)
       (λ k row le e kept. ap (λ (xs : List Array). slice_get xs k) begun.stores
       ∙ start_array tables k row e kept) room frame.store begins
       (record {
         here = entry_at program settings laws grammar clean routine frame.store it.named;
         visited = Begins routine frame.store it.named;
+        bounded = record { currents = record { one = tt; two = tt; three = tt }; edge = tt };
       }))) room
 
   -- ---- the whole run
