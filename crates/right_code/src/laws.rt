@@ -17,17 +17,15 @@ ghost use Rattle.zpl_claims.specs.Origin.{origin_of};
 ghost use Rattle.zpl_compile.specs.Compile.{compiled};
 ghost use Rattle.compiled_tidy.specs.Accepted.{IsAcceptedText};
 ghost use Rattle.compiled_tidy.specs.Lowered.{IsLaidTidily};
-ghost use Rattle.right_code.specs.Accepted.{IsAccepted, KeepsStatic};
+ghost use Rattle.right_code.specs.Accepted.{IsAccepted};
 
 use arranged_runs::plan_passes_keep_runs;
 use compiled_runs::compiled_plans_keep_runs;
 use compiled_tidy::accepted_code_is_tidy;
 use lock_steps::emitted_code_comes_in_step;
-use lowered_flat::{
-    declarations_fit, lowered_programs_are_flat, lowered_tables_are_typed, parsed_names_stand_apart,
-};
-use lowering_fits::lowered_programs_fit;
+use lowered_flat::{lowered_programs_are_flat, lowered_tables_are_typed, parsed_names_stand_apart};
 use lowering_loops::groups_turn_as_statements_do;
+use owed_tables::lowered_tables_owe_nothing_more;
 use pass_promises::groups_gain_no_loops;
 use sharable_tables::settled_tables_are_sharable;
 use shown_programs::array_programs_are_shown;
@@ -38,17 +36,14 @@ use shown_programs::array_programs_are_shown;
 /// and no run is stuck; and it comes to its end in time where the meaning ends.
 pub fn code_of_meant_programs_is_right()
     ensures in_step { (program : Program) (build : Build) → IsAccepted program build →
-        KeepsStatic (flat_tables program build.settings) →
         IsMeant (flat_tables program build.settings) (outcome_of program build.settings) →
         OverAllLinks build (λ links.
         HasLockSteps (compiled build program) links (mean_of program build.settings)) }
     ensures good { (program : Program) (build : Build) → IsAccepted program build →
-        KeepsStatic (flat_tables program build.settings) →
         IsMeant (flat_tables program build.settings) (outcome_of program build.settings) →
         OverAllLinks build (λ links.
         IsGood (compiled build program) links (mean_of program build.settings)) }
     ensures in_time { (program : Program) (build : Build) → IsAccepted program build →
-        KeepsStatic (flat_tables program build.settings) →
         IsMeant (flat_tables program build.settings) (outcome_of program build.settings) →
         OverAllLinks build (λ links.
         EndsInBound (compiled build program) links (mean_of program build.settings)
@@ -56,13 +51,12 @@ pub fn code_of_meant_programs_is_right()
 {
     plan_passes_keep_runs();
     compiled_plans_keep_runs();
-    declarations_fit();
     emitted_code_comes_in_step();
     groups_gain_no_loops();
     groups_turn_as_statements_do();
     lowered_programs_are_flat();
-    lowered_programs_fit();
     lowered_tables_are_typed();
+    lowered_tables_owe_nothing_more();
     settled_tables_are_sharable();
 }
 
@@ -71,15 +65,12 @@ pub fn code_of_meant_programs_is_right()
 /// calls.
 pub fn code_of_shown_programs_is_right()
     ensures in_step { (program : Program) (build : Build) → IsAccepted program build →
-        KeepsStatic (flat_tables program build.settings) →
         IsShownProgram program build.settings → OverAllLinks build (λ links.
         HasLockSteps (compiled build program) links (mean_of program build.settings)) }
     ensures good { (program : Program) (build : Build) → IsAccepted program build →
-        KeepsStatic (flat_tables program build.settings) →
         IsShownProgram program build.settings → OverAllLinks build (λ links.
         IsGood (compiled build program) links (mean_of program build.settings)) }
     ensures in_time { (program : Program) (build : Build) → IsAccepted program build →
-        KeepsStatic (flat_tables program build.settings) →
         IsShownProgram program build.settings → OverAllLinks build (λ links.
         EndsInBound (compiled build program) links (mean_of program build.settings)
         (steps_of program build.settings) (shattered_loops program)) }
@@ -92,8 +83,7 @@ pub fn code_of_shown_programs_is_right()
 /// one, where it is tidy as `IsLaidTidily` asks for.
 pub fn code_of_shown_texts_is_compiled()
     ensures { (text : List ℕ) (tokens : List Token) (program : Program) (build : Build) →
-        IsAcceptedText text tokens program build → IsGrid build.grid →
-        KeepsStatic (flat_tables program build.settings) → IsShownProgram program build.settings →
+        IsAcceptedText text tokens program build → IsGrid build.grid → IsShownProgram program build.settings →
         IsLaidTidily (origin_of build program (length tokens)) →
         IsCompiled (origin_of build program (length tokens)) (compiled build program) }
 {

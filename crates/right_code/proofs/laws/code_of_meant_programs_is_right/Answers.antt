@@ -7,11 +7,9 @@ use Rattle.node_form.specs.declared.tables.Tables.{Tables}
 use Rattle.flat_form.specs.Flat.{IsFlat}
 use Rattle.needs_runs.specs.Sharable.{IsSharable}
 use Rattle.pass_promises.specs.Promises.{HasLoopsUpTo, loops_in}
-use Rattle.sharable_tables.specs.Owed.{OwesPlan}
 use Rattle.zpl_claims.specs.Build.{Build}
-use Rattle.zpl_lowering.specs.Program.{lowered_program}
-use Rattle.right_code.specs.Accepted.{IsAccepted, KeepsStatic}
-use Rattle.right_code.proofs.TypedLemmas.{has_threes, is_typed}
+use Rattle.right_code.specs.Accepted.{IsAccepted}
+use Rattle.right_code.proofs.TypedLemmas.{is_typed}
 use Rattle.right_code.proofs.SettledLemmas.{settled_stays}
 use Rattle.right_code.proofs.LoopLemmas.{most_within, plan_groups}
 use Rattle.compiled_runs.proofs.SharableLemmas.{plannable}
@@ -21,8 +19,8 @@ use Rattle.right_code.proofs.laws.code_of_meant_programs_is_right.Goals as goal
 pub returns : goal.returns
 returns c =
     let has : (program : Program) (build : Build) → IsAccepted program build →
-    KeepsStatic (flat_of build program) → HasPlan build program =
-    λ program build accepted static.
+    HasPlan build program =
+    λ program build accepted.
     let flat : Tables = flat_of build program in
     let is_flat : IsFlat flat =
     c.lowered_programs_are_flat.ensures.flat program build.settings accepted.grammar
@@ -31,21 +29,10 @@ returns c =
     c.lowered_tables_are_typed.ensures.typed program build.settings accepted.grammar
     accepted.faultless accepted.apart accepted.settings in
     let cells = c.lowered_tables_are_typed.ensures.cells program build.settings in
-    let owes : OwesPlan flat =
-    record {
-      flat = is_flat;
-      without_cells = cells;
-      threes = has_threes flat typed;
-      stored = c.lowered_programs_fit.ensures.stored program build.settings accepted.grammar
-          accepted.faultless accepted.settings
-          (c.declarations_fit.ensures program build.settings accepted.grammar accepted.faultless
-          accepted.settings) _;
-      fringes = static.fringes;
-      units = static.units;
-      alone = static.alone;
-    } in
     let sharable : IsSharable (settled_of build program) =
-    c.settled_tables_are_sharable.ensures build flat owes in
+    c.settled_tables_are_sharable.ensures build flat
+    (c.lowered_tables_owe_nothing_more.ensures program build.settings accepted.grammar
+    accepted.faultless accepted.apart accepted.settings) in
     let plans = plannable (settled_of build program) sharable in
     let loops : HasLoopsUpTo (shattered_loops program) (settled_of build program) =
     settled_stays (HasLoopsUpTo (shattered_loops program))
@@ -68,20 +55,20 @@ returns c =
           (sym (plan_groups build (settled_of build program))) loops);
     } in
     record {
-      in_step = λ program build accepted static meant links built.
-          let plan = has program build accepted static in
+      in_step = λ program build accepted meant links built.
+          let plan = has program build accepted in
           c.emitted_code_comes_in_step.ensures.in_step build.options.tree build.grid
           (flat_of build program) (plan_for build program) links
           (outcome_of program build.settings) plan.grid built.0 plan.fits plan.three meant
           (plan.shows links built);
-      good = λ program build accepted static meant links built.
-          let plan = has program build accepted static in
+      good = λ program build accepted meant links built.
+          let plan = has program build accepted in
           c.emitted_code_comes_in_step.ensures.good build.options.tree build.grid
           (flat_of build program) (plan_for build program) links
           (outcome_of program build.settings) plan.grid built.0 plan.fits plan.three meant
           (plan.shows links built);
-      in_time = λ program build accepted static meant links built.
-          let plan = has program build accepted static in
+      in_time = λ program build accepted meant links built.
+          let plan = has program build accepted in
           c.emitted_code_comes_in_step.ensures.in_time build.options.tree build.grid
           (flat_of build program) (plan_for build program) links
           (outcome_of program build.settings) (shattered_loops program) plan.grid built.0

@@ -4,7 +4,7 @@ use Rattle.right_code.specs.Accepted.{IsAccepted}
 use Rattle.right_code.proofs.laws.code_of_shown_texts_is_compiled.Goals as goal
 
 pub returns : goal.returns
-returns c = λ text tokens program build accepted grid static shown laid.
+returns c = λ text tokens program build accepted grid shown laid.
     let is : IsAccepted program build =
     record {
       grammar = grammar_of text tokens program accepted.tree;
@@ -15,8 +15,8 @@ returns c = λ text tokens program build accepted grid static shown laid.
       grid = grid;
     } in
     record {
-      good = c.code_of_shown_programs_is_right.ensures.good program build is static shown;
-      in_step = c.code_of_shown_programs_is_right.ensures.in_step program build is static shown;
-      in_time = c.code_of_shown_programs_is_right.ensures.in_time program build is static shown;
+      good = c.code_of_shown_programs_is_right.ensures.good program build is shown;
+      in_step = c.code_of_shown_programs_is_right.ensures.in_step program build is shown;
+      in_time = c.code_of_shown_programs_is_right.ensures.in_time program build is shown;
       tidy = c.accepted_code_is_tidy.ensures.tidy text tokens program build accepted laid;
     }
