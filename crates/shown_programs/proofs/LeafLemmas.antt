@@ -15,7 +15,7 @@ use Rattle.zpl_names.specs.Declared.{Routine, IsProcedureOf, routine_named}
 use Rattle.zpl_names.specs.Sites.{Reach, Site, Actual, Assigned, expr_sites, value_sites, whole_rank, whole_sites}
 use Rattle.zpl_names.specs.Accepted.{IsFaultless}
 use Rattle.zpl_binding.specs.Settings.{Setting}
-use Rattle.zpl_meaning.specs.Store.{Thing, Scalar, ArrayAt, Fixed, Environment, thing_of}
+use Rattle.zpl_meaning.specs.Store.{Thing, Scalar, ArrayAt, Fixed, Environment, Store, thing_of}
 use Rattle.zpl_meaning.specs.Context.{Currents, Edge, Setup, Place, reach_of}
 use Rattle.zpl_meaning.specs.Points.{assigned_expr}
 use Rattle.zpl_meaning.specs.Calls.{formals_in, actual_thing, handed_on, value_exprs}

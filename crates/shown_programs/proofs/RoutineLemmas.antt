@@ -53,6 +53,7 @@ use Rattle.lowering_runs.proofs.FrameLemmas.{map_append, numbered_append, names_
 use Rattle.lowering_runs.proofs.NumberLemmas.{rises_on}
 use Rattle.lowering_runs.proofs.SuitLemmas.{FormGoes}
 use Rattle.lowering_runs.proofs.ValueLemmas.{thing_seen}
+use Rattle.prefix_runs.specs.Under.{IsUnder}
 use Rattle.prefix_runs.proofs.PlainLemmas.{suited_agrees}
 use Rattle.lowering_runs.specs.Suits.{SuitsStmt}
 use Rattle.served_places.specs.Told.{IsSeenFrom, place_of}
