@@ -16,7 +16,7 @@ use Rattle.flat_form.specs.Row as row
 use Rattle.flat_form.specs.Row.{Member, Words}
 use Rattle.zpl_lowering.specs.Where.{Stored, slotted_at, Where, Next, reach_of}
 use Rattle.zpl_lowering.specs.Hoist.{mask_code}
-use Rattle.zpl_lowering.specs.Statement.{Inside, both_inside, Elementwise, elementwise, put_member, put_thing, opening, otherwise_members, stmt_inside, stmts_inside, form_inside, arms_inside, arm_inside, otherwise_inside, masked_members, shattered}
+use Rattle.zpl_lowering.specs.Statement.{Inside, both_inside, Elementwise, elementwise, put_member, put_thing, opening, otherwise_members, stmt_inside, stmts_inside, form_inside, arms_inside, arm_inside, otherwise_inside, masked_members}
 use Rattle.zpl_lowering.specs.Program.{lowered_program}
 use Rattle.zpl_lowering.specs.Tables.{rows_of}
 use Rattle.lowering_loops.proofs.HaveLemmas.{group_of, program_has}

@@ -1,6 +1,6 @@
 -- A group of lowered code that has loops is that of a shattered statement, and one unit: the
 -- statement's own member, or the test of the mask that it stands under.
-use Rattle.std.proofs.Common.{◌≡◌, ℕ, suc, ◌+◌, ◌≤◌, true, List, [], ◌∷◌, ◌++◌, append_assoc, refl, ap, ◌∙◌, arith}
+use Rattle.std.proofs.Common.{◌≡◌, ℕ, suc, true, List, [], ◌∷◌, ◌++◌, append_assoc, refl, ap, ◌∙◌, arith}
 use Rattle.std.specs.Prelude.{Option, Some, None, slice_get}
 use Rattle.zpl_tree.specs.Syntax.{Stmt, Prefixed, Stmts, NoStmt, ThenStmt, Form, Assign, Invoke, Block, If, While, Repeat, For, Border, Write, Return, Arm, Tested, Arms, NoArm, ThenArm, Otherwise, NoElse, Else, Program}
 use Rattle.zpl_names.specs.Kinds.{Rank}
@@ -16,7 +16,7 @@ use Rattle.zpl_lowering.specs.Hoist.{mask_code}
 use Rattle.zpl_lowering.specs.Statement.{Elementwise, elementwise, put_member, put_thing, otherwise_members, stmt_inside, stmts_inside, form_inside, arms_inside, arm_inside, otherwise_inside, masked_members, Inside}
 use Rattle.zpl_lowering.specs.Program.{lowered_program}
 use Rattle.zpl_lowering.specs.Tables.{rows_of}
-use Rattle.lowering_loops.specs.Turns.{turns_in, RowsHave, depth_past, ended, units_in, LoopsInOneUnit}
+use Rattle.lowering_loops.specs.Turns.{RowsHave, depth_past, ended, units_in, LoopsInOneUnit}
 use Rattle.lowering_loops.proofs.HaveLemmas.{group_of, program_has}
 
 -- ---- members that close what they open

@@ -1,12 +1,11 @@
 -- A group of lowered tables that reads with a shift what it puts has one member.
-use Rattle.std.proofs.Common.{◌≡◌, ◌⊎◌, inl, inr, ℕ, ◌+◌, Bool, true, false, List, [], ◌∷◌, ◌++◌, length, refl, sym, ap, ◌∙◌, subst, append_assoc}
-use Rattle.std.specs.Prelude.{All, Option, Some, None, flat_map}
+use Rattle.std.proofs.Common.{◌≡◌, inl, inr, ℕ, ◌+◌, true, false, List, [], ◌∷◌, ◌++◌, length, refl, sym, ap, ◌∙◌, subst, append_assoc}
+use Rattle.std.specs.Prelude.{All, Some, None, flat_map}
 use Rattle.std.specs.List.{AllByRecursion}
 use Rattle.std.proofs.lemmas.Grind.{flat_map-append}
 use Rattle.std.proofs.lemmas.List.Elements.{All-append, All-cons, All-nil}
 use Rattle.std.proofs.lemmas.List.{length-append}
 use Rattle.node_form.specs.declared.members.Member as number
-use Rattle.node_form.specs.declared.members.Member.TheVariants as member
 use Rattle.node_form.specs.declared.tables.Tables.{Tables}
 use Rattle.node_form.specs.Fits.{IsTemporary}
 use Rattle.code_parts.specs.Uses as uses
@@ -19,7 +18,7 @@ use Rattle.temp_norm.specs.Normalised.{PutsAlone, ReadThemselvesAlone, reads_its
 use Rattle.temp_norm.specs.Normalised.PutsAlone.{puts_alone}
 use Rattle.zpl_lowering.specs.Lowered.{Lowered}
 use Rattle.zpl_lowering.specs.Tables.{empty_tables, rows_of, tables_of}
-use Rattle.lowering_fits.specs.Inline.{AllStill, FitRows, FitsRow, PutsKept, PutsOne, ReadsApart}
+use Rattle.lowering_fits.specs.Inline.{FitRows, FitsRow, PutsKept, PutsOne, ReadsApart}
 use Rattle.lowering_fits.specs.Lowerings.{FitsLowered}
 use Rattle.lowering_fits.proofs.PieceLemmas.{all_rows_fit}
 use Rattle.lowering_fits.proofs.ReadLemmas.{exprs_are, arrays_are}
@@ -191,4 +190,5 @@ whole_alone grid lowered stored fits =
     let base : Tables = empty_tables grid lowered in
     let rows : List Row = rows_of lowered in
     rows_alone (with_rows base rows) stored base (arrays_are base rows) (length rows) base rows
-    (exprs_are base rows) (all_rows_fit grid lowered fits.code_fits) (All-nil _)
+    (exprs_are base rows) (all_rows_fit grid lowered fits.code_fits)
+    (All-nil (IsAlone (with_rows base rows)))
