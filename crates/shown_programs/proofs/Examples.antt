@@ -1,10 +1,10 @@
--- A program with arrays, a prefix, and a call that hands an array on.
+-- A program with arrays, a prefix, a call that hands an array on, and a shattered loop.
 use Rattle.std.proofs.Common.{◌≡◌, inl, inr, ℕ, true, false, List, [], ◌∷◌, Some, None, pos, codes, refl}
 use Rattle.std.proofs.Common.{arith}
 use Rattle.zpl_nums.specs.declared.operators.Op.TheVariants as op
 use Rattle.zpl_nums.specs.Integer.{IsInteger}
 use Rattle.zpl_nums.proofs.IntegerLemmas.{IsInteger-truth}
-use Rattle.zpl_tree.specs.Syntax.{Name, Number, Named, Pair, Value, Prefixed, NoStmt, ThenStmt, Assign, Block, Invoke, Write, NoExpr, ThenExpr, NoBracket, Bracketed, Rexpr, Dims, NamedRegion, NoPost, Span, NoDim, ThenDim, Integer, Vars, Regions, Defined, Program}
+use Rattle.zpl_tree.specs.Syntax.{Name, Number, Named, Pair, Value, Prefixed, NoStmt, ThenStmt, Assign, Block, Invoke, While, Write, NoExpr, ThenExpr, NoBracket, Bracketed, Rexpr, Dims, NamedRegion, NoPost, Span, NoDim, ThenDim, Integer, Vars, Regions, Defined, Program}
 use Rattle.zpl_names.specs.Reached.{longest_chain}
 use Rattle.shown_programs.specs.Text.{IsShownProgram}
 
@@ -13,7 +13,7 @@ name text at = record { text = text; at = at }
 
 -- region R = [1..2]; var A : [R] integer;
 -- procedure p(var X : [R] integer); var B : [R] integer; [R] begin B := 1; X := X + B; end;
--- procedure t(); [R] begin p(A); writeln(A); end;
+-- procedure t(); [R] begin p(A); while A < 3 do A := A + 1; end; writeln(A); end;
 abbrev example : Program
 example = record {
   name = name (codes "t") 8;
@@ -67,8 +67,12 @@ example = record {
             (Block
             (ThenStmt (Prefixed 170 [] (Invoke (name (codes "p") 170)
             (ThenExpr (Named 172 (name (codes "A") 172)) NoExpr)))
-            (ThenStmt (Prefixed 176 [] (Write true (Value (Named 184 (name (codes "A") 184)) ∷ [])))
-            NoStmt)));
+            (ThenStmt (Prefixed 176 [] (While
+            (Pair 184 op.Lt (Named 182 (name (codes "A") 182)) (Number 186 (pos 3)))
+            (ThenStmt (Prefixed 191 [] (Assign (name (codes "A") 191) None
+            (Pair 198 op.Add (Named 196 (name (codes "A") 196)) (Number 200 (pos 1))))) NoStmt)))
+            (ThenStmt (Prefixed 208 [] (Write true (Value (Named 216 (name (codes "A") 216)) ∷ [])))
+            NoStmt))));
       })
       ∷ [];
   source = [];
@@ -86,7 +90,7 @@ is_shown = record {
       (
         (
           tt,
-          inr (inr (
+          inr (inr (inr (
             tt,
             record {
               routine = _;
@@ -99,9 +103,12 @@ is_shown = record {
                 ),
               );
             },
-          )),
+          ))),
         ),
-        ((tt, inr (inl (inr (refl, tt), tt))), tt),
+        (
+          (tt, inl (inr (inr (inl refl)))),
+          ((tt, inr (inl (inr (refl, tt), tt))), tt),
+        ),
       ),
     );
   };

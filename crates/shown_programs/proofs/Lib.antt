@@ -6,6 +6,7 @@ pub mod PlaceLemmas
 pub mod PostLemmas
 pub mod RoutineLemmas
 pub mod PrintedLemmas
+pub mod ShatteredLemmas
 pub mod LeafLemmas
 pub mod StartLemmas
 pub mod ProgramLemmas

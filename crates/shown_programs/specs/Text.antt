@@ -142,12 +142,17 @@ IsPrintForm reach (For head body) = ⊥
 IsPrintForm reach (Border kind names) = ⊥
 IsPrintForm reach (Return value) = ⊥
 
+-- an `if`, a `while` or a `repeat` whose tests are arrays
+abbrev pub IsShatteredForm : Reach → Form → Type 0
+IsShatteredForm reach form = is_shattered reach form ≡ true
+
 -- A form that is proved: further ones are further lines.
 abbrev pub IsLeafForm : (List ℕ → Type 0) → Reach → Form → Type 0
 IsLeafForm IsCallable reach form =
     IsPlainForm reach form
     ⊎ (IsPrintForm reach form
-    ⊎ IsCallForm IsCallable reach form)
+    ⊎ (IsShatteredForm reach form
+    ⊎ IsCallForm IsCallable reach form))
 
 -- ---- procedures and programs
 
