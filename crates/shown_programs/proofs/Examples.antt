@@ -97,7 +97,7 @@ is_shown = record {
       (
         (
           tt,
-          inr (inr (inr (
+          inr (inr (inr (inr (
             tt,
             record {
               routine = _;
@@ -110,7 +110,7 @@ is_shown = record {
                 ),
               );
             },
-          ))),
+          )))),
         ),
         (((tt, tt), inr (inr (inl tt))), ((tt, inr (inl (inr (refl, tt), tt))), tt)),
       ),
@@ -195,14 +195,14 @@ asks_is_shown = record {
       (
         (
           tt,
-          inr (inr (inr (
+          inr (inr (inr (inr (
             (tt, tt),
             record {
               routine = _;
               named = refl;
               shown = (((tt, tt), inl (inr (refl, (tt, tt)))), (tt, IsInteger-truth true));
             },
-          ))),
+          )))),
         ),
         ((tt, inl (refl, tt, tt)), tt),
       ),

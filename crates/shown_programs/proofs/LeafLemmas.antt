@@ -12,7 +12,7 @@ use Rattle.zpl_names.specs.Kinds.{Kind, Rank, Formal, ScalarFormal, ArrayFormal,
 use Rattle.zpl_names.specs.Scope.{kind_of, is_array}
 use Rattle.zpl_names.specs.Shapes.{Shapes}
 use Rattle.zpl_names.specs.Declared.{Routine, IsProcedureOf, routine_named}
-use Rattle.zpl_names.specs.Sites.{Reach, Site, Actual, Assigned, expr_sites, value_sites, whole_rank, whole_sites}
+use Rattle.zpl_names.specs.Sites.{Reach, Site, Actual, Assigned, AtStmt, expr_sites, form_sites, value_sites, whole_rank, whole_sites}
 use Rattle.zpl_names.specs.Accepted.{IsFaultless}
 use Rattle.zpl_binding.specs.Settings.{Setting}
 use Rattle.zpl_meaning.specs.Store.{Thing, Scalar, ArrayAt, Fixed, Environment, Store, thing_of}
@@ -48,7 +48,9 @@ use Rattle.print_runs.specs.Printed.{PrintLeaf}
 use Rattle.print_runs.proofs.WriteLemmas.{print_leaves}
 use Rattle.border_runs.specs.Bordered.{BorderLeaf}
 use Rattle.border_runs.proofs.BorderLemmas.{border_leaves}
-use Rattle.served_places.specs.Told.{IsSeenFrom, IsPlainExpr, place_of}
+use Rattle.point_runs.specs.Shattered.{SplitLeaf}
+use Rattle.point_runs.proofs.SplitLemmas.{split_leaves}
+use Rattle.served_places.specs.Told.{IsSeenFrom, AreFree, IsPlainExpr, place_of}
 use Rattle.served_places.proofs.ToldLemmas.{array_served}
 use Rattle.served_places.proofs.CleanLemmas.{array_there}
 use Rattle.lowering_fits.proofs.KeptLemmas.{AreGivenOf}
@@ -58,29 +60,10 @@ use Rattle.shown_programs.proofs.CallLemmas.{setup, IsCalledFrom, IsCalledBy, Ca
 use Rattle.shown_programs.proofs.PlaceLemmas.{IsPlaced, placed_proper, placed_ranked, placed_inside, each_free}
 use Rattle.shown_programs.proofs.PrintedLemmas.{print_suits}
 use Rattle.shown_programs.proofs.BorderLemmas.{border_suits}
+use Rattle.shown_programs.proofs.ShatteredLemmas.{plain_sites, shattered_suits}
 use Rattle.shown_programs.proofs.RoutineLemmas.{AreLeaves}
 
 -- ---- values without operators over regions are no calls
-
-plain_sites : (reach : Reach) (name : Name) (op : Option Op) (value : Expr) → IsPlainExpr value
-    → value_sites reach name op value ≡ whole_sites reach (Assigned name op) value
-plain_sites reach name (Some op) value h = refl
-plain_sites reach name None (Number at number) h = refl
-plain_sites reach name None (Truth at truth) h = refl
-plain_sites reach name None (Coord at k) h = refl
-plain_sites reach name None (Named at it) h = refl
-plain_sites reach name None (Shifted at it shift) h = refl
-plain_sites reach name None (Around at it shift) h = refl
-plain_sites reach name None (Remap at it indices) h = refl
-plain_sites reach name None (Paren at inside) h = refl
-plain_sites reach name None (Neg at operand) h = refl
-plain_sites reach name None (Not at operand) h = refl
-plain_sites reach name None (Abs at operand) h = refl
-plain_sites reach name None (Pair at o left right) h = refl
-plain_sites reach name None (Reduce at operator over operand) h = refl
-plain_sites reach name None (Scan at operator along operand) h = refl
-plain_sites reach name None (Flood at source operand) h = refl
-plain_sites reach name None (Call at it actuals) h = absurd h
 
 plain_assign : (place : Place) (name : Name) (op : Option Op) (value : Expr) → IsPlainExpr value
     → IsProperAssign place name op value → IsPlainAssign place name op value
@@ -461,7 +444,8 @@ module _ (program : Program) (settings : List Setting) (laws : Laws program)
       PlainLeaf own Never at form w place
       ⊎ (PrintLeaf at form w place
       ⊎ (BorderLeaf at form w place
-      ⊎ CallLeaf program settings laws grammar clean IsCallable at form w place))
+      ⊎ (SplitLeaf at form w place
+      ⊎ CallLeaf program settings laws grammar clean IsCallable at form w place)))
 
   no_calls : (world : World) → CallsAgree world own Never
   no_calls world = record {
@@ -499,22 +483,31 @@ module _ (program : Program) (settings : List Setting) (laws : Laws program)
               at prefixes spots w environment answer currents edge shapes form h print))
           | inr (inr (inl border)) ↦ inr (inr (inl (border_suits program settings laws grammar clean
               proper ranked at prefixes spots w environment answer currents edge shapes form h border)))
-          | inr (inr (inr call)) ↦ inr (inr (inr (call_suits proper ranked at prefixes spots w
-              environment answer currents edge shapes IsCallable form h call)))
+          | inr (inr (inr (inl split))) ↦ inr (inr (inr (inl (shattered_suits program settings laws
+              grammar clean proper ranked at prefixes spots w environment answer currents edge shapes
+              form h split))))
+          | inr (inr (inr (inr call))) ↦ inr (inr (inr (inr (call_suits proper ranked at prefixes spots
+              w environment answer currents edge shapes IsCallable form h call))))
         ];
     go = λ depth IsCallable calls at form.
         let world = world_at tables n own depth in
         or_goes world at form (PlainLeaf own Never at form)
         (λ w place. PrintLeaf at form w place
         ⊎ (BorderLeaf at form w place
-        ⊎ CallLeaf program settings laws grammar clean IsCallable at form w place))
+        ⊎ (SplitLeaf at form w place
+        ⊎ CallLeaf program settings laws grammar clean IsCallable at form w place)))
         (plain_leaves world at form)
         (or_goes world at form (PrintLeaf at form)
         (λ w place. BorderLeaf at form w place
-        ⊎ CallLeaf program settings laws grammar clean IsCallable at form w place)
+        ⊎ (SplitLeaf at form w place
+        ⊎ CallLeaf program settings laws grammar clean IsCallable at form w place))
         (print_leaves world at form)
         (or_goes world at form (BorderLeaf at form)
-        (CallLeaf program settings laws grammar clean IsCallable at form)
+        (λ w place. SplitLeaf at form w place
+        ⊎ CallLeaf program settings laws grammar clean IsCallable at form w place)
         (border_leaves world at form)
-        (call_leaves program settings laws grammar clean IsCallable world calls at form)));
+        (or_goes world at form (SplitLeaf at form)
+        (CallLeaf program settings laws grammar clean IsCallable at form)
+        (split_leaves world at form)
+        (call_leaves program settings laws grammar clean IsCallable world calls at form))));
   }

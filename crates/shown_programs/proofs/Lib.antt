@@ -10,6 +10,7 @@ pub mod AnswerLemmas
 pub mod RoutineLemmas
 pub mod PrintedLemmas
 pub mod BorderLemmas
+pub mod ShatteredLemmas
 pub mod LeafLemmas
 pub mod StartLemmas
 pub mod ProgramLemmas

@@ -229,13 +229,18 @@ IsBorderForm reach (For head body) = ⊥
 IsBorderForm reach (Write line items) = ⊥
 IsBorderForm reach (Return value) = ⊥
 
+-- an `if`, a `while` or a `repeat` whose tests are arrays
+abbrev pub IsShatteredForm : Reach → Form → Type 0
+IsShatteredForm reach form = is_shattered reach form ≡ true
+
 -- A form that is proved: further ones are further lines.
 abbrev pub IsLeafForm : (Bool → List ℕ → Type 0) → Reach → Form → Type 0
 IsLeafForm IsCallable reach form =
     IsPlainForm reach form
     ⊎ (IsPrintForm reach form
     ⊎ (IsBorderForm reach form
-    ⊎ IsCallForm IsCallable reach form))
+    ⊎ (IsShatteredForm reach form
+    ⊎ IsCallForm IsCallable reach form)))
 
 -- ---- procedures and programs
 
