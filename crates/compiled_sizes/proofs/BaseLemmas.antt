@@ -5,7 +5,6 @@ use Rattle.std.proofs.Common.{List, [], ◌∷◌, length, map, length-append, S
 use Rattle.std.specs.Prelude.{All, cond, count_by, flat_map, slice_get, slice_index_or, sum_by}
 use Rattle.std.proofs.lemmas.List.{length-map}
 use Rattle.std.proofs.lemmas.List.Sums.{sum_by-append, sum_by-cons, sum_by-le-sum_by}
-use Rattle.row_runs.specs.Straight.{Every}
 use Rattle.node_form.specs.declared.words.ExprOp.{ExprOp}
 use Rattle.node_form.specs.declared.words.ExprOp.TheVariants as word
 use Rattle.node_form.specs.declared.members.Member as number
@@ -19,7 +18,6 @@ use Rattle.node_form.specs.Grid.{IsGrid}
 use Rattle.code_parts.specs.Counts.{count_of}
 use Rattle.code_parts.specs.Uses.{exprs_of, rows_or_none, shifted_in}
 use Rattle.flat_form.specs.Flat.{IsFlat, IsFlatRow}
-use Rattle.flat_form.specs.Laws.{IsInline}
 use Rattle.flat_form.specs.Row as row
 use Rattle.flat_form.specs.Row.{Member, Row, Words, all_coded, all_inlined, group_coded, inlined}
 use Rattle.flat_form.specs.Row.{mask_words, member_coded, member_inlined, member_words, row_groups}
@@ -30,6 +28,7 @@ use Rattle.pass_sizes.specs.Sizes.{expr_shifts, group_shifts, is_unflat, loop_sh
 use Rattle.pass_sizes.specs.Sizes.{run_by}
 use Rattle.pass_sizes.proofs.SumLemmas.{flat_sum, map_sum, same_sum}
 use Rattle.text_sharing.proofs.RowLemmas.{shared-inline}
+use Rattle.lowering_checks.proofs.InlineLemmas.{rows_inline}
 use Rattle.zpl_tree.specs.Syntax.{Program}
 use Rattle.zpl_binding.specs.Settings.{Setting}
 use Rattle.zpl_lowering.specs.Lowered.{Lowered}
@@ -52,7 +51,7 @@ abbrev row_length : Row → ℕ
 row_length one = sum_by (λ words. length words) (row_words one)
 
 -- the same lists by their numbers
-found : {X : Type 0} (lists : List (List X)) (k : ℕ) →
+pub found : {X : Type 0} (lists : List (List X)) (k : ℕ) →
     rows_or_none (slice_get lists k) ≡ slice_index_or lists k []
 found [] k = refl
 found (one ∷ lists) zero = refl
@@ -181,7 +180,6 @@ row_few one = omega arith
 
 -- ---- the tables of a program
 module _ (program : Program) (settings : List Setting)
-    (inline : Every IsInline (rows_of (lowered_program program settings)))
     (flat : IsFlat (flat_tables program settings)) where
   abbrev lowered : Lowered
   lowered = lowered_program program settings
@@ -226,7 +224,7 @@ module _ (program : Program) (settings : List Setting)
   }
 
   pub read : all_inlined flats ≡ rows
-  read = shared-inline old ∙ read_again first rows first_fits inline
+  read = shared-inline old ∙ read_again first rows first_fits (rows_inline program settings)
 
   pub members_once : loop_members flats ≤ sum_by (λ group. length group) flats.groups
   members_once =

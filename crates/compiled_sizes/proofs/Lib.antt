@@ -2,3 +2,4 @@ pub mod BaseLemmas
 pub mod PassLemmas
 pub mod LayoutLemmas
 pub mod CheckLemmas
+pub mod PreparedLemmas

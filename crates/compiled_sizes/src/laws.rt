@@ -1,29 +1,33 @@
 //! The laws of compiled code.
-ghost use Rattle.std.specs.Prelude.{◌≡◌, ℕ, ◌+◌, ◌*◌, ◌≤◌, length, true};
+ghost use Rattle.std.specs.Prelude.{◌≡◌, ℕ, ◌+◌, ◌*◌, ◌≤◌, true};
 ghost use Rattle.zpl_tree.specs.Syntax.{Program};
-ghost use Rattle.zpl_tree.specs.Spelling.{program_words};
 ghost use Rattle.zpl_names.specs.Expansion.{other_size, plain_assignments, source_size};
 ghost use Rattle.grid_meaning.specs.Stored.{arrangement_of};
 ghost use Rattle.code_parts.specs.Counts.{GoesByTrees, code_size, count_of, is_counted, is_loop};
 ghost use Rattle.code_parts.specs.Counts.{is_vote};
 ghost use Rattle.code_parts.specs.Needs.{IsUndecided};
-ghost use Rattle.temp_norm.specs.Normalised.{loops_on_themselves};
+ghost use Rattle.temp_norm.specs.Normalised.{loops_on_themselves, normalised};
 ghost use Rattle.zpl_lowering.specs.Tables.{flat_tables};
+ghost use Rattle.lowering_sizes.specs.Sizes.{HasTokens};
 ghost use Rattle.zpl_claims.specs.Build.{Build};
 ghost use Rattle.zpl_compile.specs.Compile.{compiled};
 ghost use Rattle.compiled_sizes.specs.Lowered.{IsLowered};
 
 /// The code of a program is at most nine times as large as its lowered tables, and so at most 512
-/// times as large as the program with its calls expanded. Of its rows, those that statements are
-/// made of are as many as in these tables, and two more for each loop that reads with a shift what
-/// it puts. It has no more votes than loops.
+/// times as large as the program with its calls expanded. Where values go through temporaries, it
+/// is at most twice as large as the lowered tables. Of its rows, those that statements are made of
+/// are as many as in these tables, and two more for each loop that reads with a shift what it puts.
+/// It has no more votes than loops.
 pub fn compiled_code_is_small()
     ensures factor { (build : Build) (program : Program) → IsLowered build program →
         code_size (compiled build program) ≤ 9 * code_size (flat_tables program build.settings) }
     ensures small { (build : Build) (program : Program) → IsLowered build program →
         code_size (compiled build program) ≤ 512 * (source_size program + 1) }
+    ensures normal { (build : Build) (program : Program) → IsLowered build program →
+        code_size (normalised (flat_tables program build.settings)) ≤
+        2 * code_size (flat_tables program build.settings) }
     ensures counted { (build : Build) (program : Program) (tokens : ℕ) → IsLowered build program →
-        length (program_words program) ≤ tokens → count_of is_counted (compiled build program) ≤
+        HasTokens program tokens → count_of is_counted (compiled build program) ≤
         plain_assignments program + (32 * (other_size program tokens + 1)
         + 2 * loops_on_themselves (flat_tables program build.settings)) }
     ensures votes { (build : Build) (program : Program) → IsLowered build program →

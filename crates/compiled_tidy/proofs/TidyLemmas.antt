@@ -1,7 +1,8 @@
 -- Compiled code is tidy.
-use Rattle.std.proofs.Common.{ap, ◌∙◌, arith, ◌+◌, ◌*◌}
+use Rattle.std.proofs.Common.{ap, ◌∙◌, arith, ◌+◌, ◌*◌, ◌≤◌}
 use Rattle.zpl_tree.specs.Syntax.{Program}
-use Rattle.code_parts.specs.Counts.{code_size, count_of, is_counted}
+use Rattle.zpl_names.specs.Expansion.{source_size}
+use Rattle.code_parts.specs.Counts.{code_size, count_of, is_counted, is_loop, is_vote}
 use Rattle.temp_norm.specs.Normalised.{loops_on_themselves}
 use Rattle.lowering_sizes.proofs.CountedProgram.{count_law}
 use Rattle.lowering_sizes.proofs.TextLemmas.{size_law}
@@ -23,9 +24,22 @@ ended : (build : Build) (program : Program) → IsLowered build program
     (count_of is_counted (lowered_for build program) + 2 * loops_on_themselves (lowered_for build program))
 ended build program is =
     all_compiled build (lowered_for build program)
-    (members_once program build.settings is.inline is.flat)
-    (shifts_once program build.settings is.inline is.flat)
-    (none_unflat program build.settings is.inline is.flat)
+    (members_once program build.settings is.flat)
+    (shifts_once program build.settings is.flat)
+    (none_unflat program build.settings is.flat)
+
+pub small_code : (build : Build) (program : Program) → IsLowered build program
+    → code_size (compiled build program) ≤ 512 * (source_size program + 1)
+small_code build program is =
+    omega (
+      arith,
+      (ended build program is).sized,
+      size_law program build.settings is.faultless is.holds,
+    )
+
+pub few_votes : (build : Build) (program : Program) → IsLowered build program
+    → count_of is_vote (compiled build program) ≤ count_of is_loop (compiled build program)
+few_votes build program is = (ended build program is).few_votes
 
 pub tidy : (origin : Origin) → IsLoweredTidily origin
     → IsTidy origin (compiled origin.build origin.program)
@@ -36,25 +50,20 @@ tidy origin is =
     record {
       laid_out =
           laid_out build program
-          ∙ ap (λ boxes. record { grid = build.grid; boxes = boxes }) is.boxes;
-      small =
-          omega (
-            arith,
-            (ended build program lowered).sized,
-            size_law program build.settings lowered.faultless lowered.holds,
-          );
+          ∙ ap (λ boxes. record { grid = build.grid; boxes = boxes }) is.laid.boxes;
+      small = small_code build program lowered;
       few =
           omega (
             arith,
             (ended build program lowered).few_rows,
             count_law program build.settings origin.tokens lowered.faultless is.tokens,
-            is.themselves,
+            is.laid.themselves,
           );
-      votes = (ended build program lowered).few_votes;
+      votes = few_votes build program lowered;
       undecided = still_undecided build program;
       fused = λ asked.
           all_fused build (lowered_for build program)
-          (can_be_fused (lowered_for build program) lowered.flat is.checks is.stands) asked;
+          (can_be_fused (lowered_for build program) lowered.flat is.checks (is.laid.stands asked)) asked;
       contracted = λ asked.
           all_contracted build (lowered_for build program)
           (first_fits (lowered_for build program) lowered.flat build.options.fuse) asked;

@@ -1,11 +1,11 @@
 -- What tidy code asks of the tables that a program is lowered to.
-use Rattle.std.specs.Prelude.{◌≡◌, ◌+◌, ◌*◌, ◌≤◌, length}
+use Rattle.std.specs.Prelude.{◌≡◌, true, ◌+◌, ◌*◌, ◌≤◌}
 use Rattle.zpl_tree.specs.Syntax.{Program}
-use Rattle.zpl_tree.specs.Spelling.{program_words}
 use Rattle.zpl_names.specs.Expansion.{other_size}
 use Rattle.node_form.specs.declared.tables.Tables.{Tables}
 use Rattle.grid_meaning.specs.Stored.{arrangement_of}
 use Rattle.zpl_lowering.specs.Tables.{flat_tables}
+use Rattle.lowering_sizes.specs.Sizes.{HasTokens}
 use Rattle.temp_norm.specs.Normalised.{loops_on_themselves}
 use Rattle.pass_parts.specs.Checks.{ChecksWhatFollows, StandsWithWhatFollows}
 use Rattle.zpl_claims.specs.Build.{Build}
@@ -16,15 +16,21 @@ use Rattle.compiled_sizes.specs.Lowered.{IsLowered}
 abbrev pub lowered_for : Build → Program → Tables
 lowered_for build program = flat_tables program build.settings
 
--- The program is lowered to a flat program, with at most so many tokens. Its stored arrays are the
--- program's. Few of its loops read with a shift what they put. And wherever checks alone stand
--- between two loops over one slot, the references of the second one are among theirs, and it may
--- stand wherever the first one does.
-pub record IsLoweredTidily (origin : Origin) : Type 0 where
-  pub lowered : IsLowered origin.build origin.program
-  pub tokens : length (program_words origin.program) ≤ origin.tokens
+-- What is asked of the lowered tables besides: the stored arrays are the program's; few of their
+-- loops read with a shift what they put; and, where loops are joined, a loop with checks alone
+-- between it and one before it over the same slot may stand wherever that one does.
+pub record IsLaidTidily (origin : Origin) : Type 0 where
   pub boxes : (arrangement_of (lowered_for origin.build origin.program)).boxes ≡ origin.boxes
   pub themselves : loops_on_themselves (lowered_for origin.build origin.program) ≤
       16 * (other_size origin.program origin.tokens + 1)
+  pub stands : origin.build.options.fuse ≡ true →
+      StandsWithWhatFollows (lowered_for origin.build origin.program)
+
+-- The program is lowered to a flat program, and is written as at most so many tokens. Wherever
+-- checks alone stand between two loops over one slot, the references of the second one are among
+-- theirs.
+pub record IsLoweredTidily (origin : Origin) : Type 0 where
+  pub lowered : IsLowered origin.build origin.program
+  pub tokens : HasTokens origin.program origin.tokens
   pub checks : ChecksWhatFollows (lowered_for origin.build origin.program)
-  pub stands : StandsWithWhatFollows (lowered_for origin.build origin.program)
+  pub laid : IsLaidTidily origin

@@ -6,4 +6,4 @@
 
 mod laws;
 
-pub use laws::{compiled_code_is_tidy, letters_are_kept};
+pub use laws::{accepted_code_is_tidy, compiled_code_is_tidy, letters_are_kept};

@@ -4,7 +4,7 @@
 //! call brings the law into a proof.
 #![tactic(auto)]
 
-ghost use Rattle.std.specs.Prelude.{◌≡◌, ℕ, Bool, List, Option, All};
+ghost use Rattle.std.specs.Prelude.{◌≡◌, ◌≤◌, ℕ, Bool, List, Option, All};
 ghost use Rattle.node_form.specs.declared.tables.Tables.{Tables as Code};
 ghost use Rattle.node_form.specs.Fits.{Fits};
 ghost use Rattle.grid_meaning.specs.Grid.{IsCapacity};
@@ -12,7 +12,7 @@ ghost use Rattle.grid_meaning.specs.State.{HasThree};
 ghost use Rattle.plan_meaning.specs.Act.{plan_run};
 ghost use Rattle.node_emit.specs.Emit.{emitted};
 ghost use Rattle.plan_orders.specs.Brings.{HaveOrders};
-ghost use Rattle.emitted_orders.specs.AsPlanned.{ComesAsPlanned};
+ghost use Rattle.emitted_orders.specs.AsPlanned.{ComesAsPlanned, HoldsAsPlanned};
 
 use plan_orders::laws::{plans_come_in_step, rows_have_orders};
 
@@ -32,8 +32,10 @@ pub fn node_code_runs_as_its_plan()
 {}
 
 /// For each bounded run of a plan that fits, some order brings its node code from the start to
-/// where the run stops, over links of every capacity, unless the plan is wrong there or directly
-/// behind. So does one for each row of the code.
+/// where the run stops, over links of every capacity, unless the run with one jump more, and one
+/// turn at least, is wrong. So does one for each row of the code. Where the plan isn't wrong over
+/// links of so many messages, the order does the same over links of any number, and no link ever
+/// holds more.
 pub fn node_code_comes_as_planned()
     ensures orders { (tree : Bool) (grid : List ℕ) (plan : Code) (links : Option ℕ) →
         plan.grid ≡ grid → IsCapacity links → Fits plan →
@@ -41,6 +43,9 @@ pub fn node_code_comes_as_planned()
     ensures rows { (tree : Bool) (grid : List ℕ) (plan : Code) (links : Option ℕ) →
         plan.grid ≡ grid → IsCapacity links → Fits plan →
         HaveOrders (emitted tree grid plan) links }
+    ensures holds { (tree : Bool) (grid : List ℕ) (plan : Code) (most : ℕ) →
+        plan.grid ≡ grid → 1 ≤ most → Fits plan →
+        HoldsAsPlanned (emitted tree grid plan) plan most }
 {
     plans_come_in_step();
     rows_have_orders();

@@ -20,7 +20,7 @@ use Rattle.lowering_runs.specs.Shown.{Few, IsBound, Many, Shattered, shown}
 use Rattle.plan_meaning.specs.Abreast.{start_abreast}
 use Rattle.plan_meaning.specs.Act.{plan_act, plan_rows, plan_run}
 use Rattle.plan_orders.specs.Brings.{most_loops}
-use Rattle.plan_orders.specs.InStep.{IsInStep, least_moves, run_most, stops_within}
+use Rattle.plan_orders.specs.InStep.{IsInStep, least_moves, run_most, some_turns, stops_within}
 use Rattle.lock_steps.specs.Meant.{ComesInOrder, IsMeant, IsPlanOf, meanings, steps_in}
 
 -- ---- what is kept of what isn't wrong is the same
@@ -68,14 +68,18 @@ module _ (flat plan code : Tables) (links : Option ℕ) (outcomes : ℕ → Outc
       IsInStep code links (plan_run plan links a n)
       (least_moves (stops_within plan links a n) a n) (run_most plan a n) order
 
-  plan_same : (a : ℕ) → flat_run flat a n ≡ plan_run plan links a n
-  plan_same a = kept_same (flat_run flat a n) (plan_run plan links a n) (meant.right a n) (of a n)
+  plan_alike : (a turns : ℕ) → flat_run flat a turns ≡ plan_run plan links a turns
+  plan_alike a turns =
+      kept_same (flat_run flat a turns) (plan_run plan links a turns) (meant.right a turns)
+      (of a turns)
 
-  plan_right : (a : ℕ) → (plan_run plan links a n).stop ≢ Wrong
-  plan_right a wrong = meant.right a n (ap (λ r. r.stop) (plan_same a) ∙ wrong)
+  plan_same : (a : ℕ) → flat_run flat a n ≡ plan_run plan links a n
+  plan_same a = plan_alike a n
 
   found : (a : ℕ) → (order : List ℕ) × Found a order
-  found a = orders.orders a n (plan_right (suc a))
+  found a =
+      orders.orders a n (λ wrong. meant.right (suc a) (some_turns n)
+      (ap (λ r. r.stop) (plan_alike (suc a) (some_turns n)) ∙ wrong))
 
   -- a bound on jumps for which the run shows the outcome: at least n, where more is wanted
   record Chosen : Type 0 where

@@ -5,7 +5,7 @@
 --                        there
 --   IsPlanOf             a plan shows what the flat program shows, over links
 --   ComesInOrder         each bounded run of the plan has an order of the code
-use Rattle.std.specs.Prelude.{◌≢◌, ℕ, suc, ◌≤◌, List, Option, All, length}
+use Rattle.std.specs.Prelude.{◌≢◌, ℕ, ◌≤◌, Option, All, length}
 use Rattle.zpl_meaning.specs.Outcome.{Outcome}
 use Rattle.zpl_meaning.specs.Program.{Meaning}
 use Rattle.node_form.specs.declared.tables.Tables.{Tables}
@@ -15,7 +15,7 @@ use Rattle.row_runs.specs.Segments.{Keeps}
 use Rattle.flat_form.specs.Act.{flat_run}
 use Rattle.lowering_runs.specs.Shown.{Shows}
 use Rattle.plan_meaning.specs.Act.{plan_run}
-use Rattle.plan_orders.specs.InStep.{IsInStep, least_moves, run_most, stops_within}
+use Rattle.emitted_orders.specs.AsPlanned.{ComesAsPlanned}
 
 -- ---- outcomes
 abbrev pub meanings : (ℕ → Outcome) → ℕ → Meaning
@@ -33,12 +33,8 @@ pub record IsMeant (flat : Tables) (outcomes : ℕ → Outcome) : Type 0 where
 abbrev pub IsPlanOf : Tables → Tables → Option ℕ → Type 0
 IsPlanOf flat plan links = (a n : ℕ) → Keeps (flat_run flat a n) (plan_run plan links a n)
 
--- Where one more jump isn't wrong. The code has as many rows as the plan, and three elements where
--- arrays of three have them.
+-- The code has as many rows as the plan, and three elements where arrays of three have them.
 pub record ComesInOrder (plan code : Tables) (links : Option ℕ) : Type 0 where
-  pub orders : (a n : ℕ) → (plan_run plan links (suc a) n).stop ≢ Wrong
-      → (order : List ℕ)
-      × IsInStep code links (plan_run plan links a n)
-      (least_moves (stops_within plan links a n) a n) (run_most plan a n) order
+  pub orders : ComesAsPlanned code plan links
   pub long : length plan.code ≤ length code.code
   pub three : All (HasThree code) code.code

@@ -6,4 +6,4 @@
 
 mod laws;
 
-pub use laws::flat_runs_come_in_step;
+pub use laws::{emitted_code_comes_in_order, emitted_code_comes_in_step, flat_runs_come_in_step};

@@ -51,7 +51,8 @@ use Rattle.plan_meaning.specs.Abreast.{Abreast}
 use Rattle.needs_runs.specs.Agree.{HasLayout}
 use Rattle.needs_runs.specs.Holds.{Holds}
 use Rattle.needs_runs.specs.Planned.{LoopAgrees, planned_does}
-use Rattle.needs_runs.specs.Sharable.{HasThreeIn, IsSharable, is_stored, reads_stored}
+use Rattle.stored_shifts.specs.Stored.{IsStoredRead}
+use Rattle.needs_runs.specs.Sharable.{HasThreeIn, IsSharable}
 use Rattle.needs_runs.proofs.NeedRows.{AreBrought, HasBrought, IsNeeded, needs_brought}
 use Rattle.needs_runs.proofs.SlotLemmas.{zip_there}
 use Rattle.loop_runs.proofs.GroupLemmas.{all_at, all_member, among_get, read_far}
@@ -209,10 +210,10 @@ module _ (code : Tables) (layout : HasLayout code) (sharable : IsSharable code) 
           let same_rank : found.row.rank ≡ rank =
           subst (λ o. IsSomeAnd o (λ row. row.rank ≡ rank)) found.there read.ranked in
           let told : found.row.stored ≡ true =
-          ap is_stored (sym found.there)
-          ∙ all_at (reads_stored code) words (word.Shifted a shift)
-          (all_member (λ words. list_all (reads_stored code) words ≡ true) code.exprs words
-          sharable.stored in_exprs) inside in record {
+          subst (λ o. IsSomeAnd o (λ row. row.stored ≡ true)) found.there
+          (all_member (IsStoredRead code) words (word.Shifted a shift)
+          (all_member (All (IsStoredRead code)) code.exprs words sharable.stored in_exprs)
+          inside) in record {
             row = found.row;
             there = found.there;
             told = told;

@@ -29,7 +29,8 @@ use Rattle.flat_form.specs.Whole.{Whole}
 use Rattle.plan_form.specs.Units.{PlanRow, unit_rows}
 use Rattle.comm_needs.specs.Needs.{is_voted_on, vote_if}
 use Rattle.plan_meaning.specs.Abreast.{Abreast, Share, every, is_quiet, locals_of, standing}
-use Rattle.plan_meaning.specs.Abreast.{are_none, go_where}
+use Rattle.plan_meaning.specs.Abreast.{are_none, go_where, of_processors}
+use Rattle.plan_meaning.proofs.ThereLemmas.{there_is}
 use Rattle.plan_meaning.specs.Act.{ends_where, found, is_vote_of, loop_does, voted, voted_as}
 use Rattle.plan_meaning.specs.Loops.{Shared, Through, all_shared, lacks}
 use Rattle.plan_meaning.specs.Loops.{looped, share_behind, shared, tree_looped, wants}
@@ -206,8 +207,11 @@ module _ (code : Tables) (links : Option ℕ) (slot group n : ℕ) (whole : Whol
   abbrev next_vote : Bool
   next_vote = is_vote_of group (vote_behind code group)
 
+  abbrev come : Abreast
+  come = record all { shares = λ p. share_behind code n (all.shares p) (Shares p) }
+
   abbrev all_behind : Abreast
-  all_behind = record all { shares = λ p. share_behind code n (all.shares p) (Shares p) }
+  all_behind = of_processors code all come
 
   loop_is : loop_does code links n slot group (vote_behind code group) all
       ≡ all_shared code n Shares next_vote all
@@ -303,7 +307,8 @@ module _ (code : Tables) (links : Option ℕ) (slot group n : ℕ) (whole : Whol
       flag_behind : (p : ℕ) (below : p < processors code)
           → (all_behind.shares p).flag ≡ (goes_through p below never).flag
       flag_behind p below =
-          ap (λ s. (share_behind code n (all.shares p) s).flag) (goes_through p below never).is
+          ap (λ (share : Share). share.flag) (there_is code all come p below)
+          ∙ ap (λ s. (share_behind code n (all.shares p) s).flag) (goes_through p below never).is
 
       quiet_behind : is_quiet all_behind ≡ true
       quiet_behind = quiet
@@ -446,11 +451,12 @@ module _ (code : Tables) (links : Option ℕ) (slot group n : ℕ) (whole : Whol
             → all_behind.shares p
             ≡ record (share_behind code n (all.shares p) (Shares p)) { flag = None }
         with_none p below =
-            ap (λ s. share_behind code n (all.shares p) s) (goes_through p below never).is
+            there_is code all come p below
+            ∙ (ap (λ s. share_behind code n (all.shares p) s) (goes_through p below never).is
             ∙ (ap (λ f. share_behind code n (all.shares p) (Through (goes_through p below never).to f))
             (none_here p below)
             ∙ sym (ap (λ s. record (share_behind code n (all.shares p) s) { flag = None })
-            (goes_through p below never).is))
+            (goes_through p below never).is)))
 
         abbrev cleared : Abreast
         cleared = record all_behind { shares = λ p. record (all_behind.shares p) { flag = None } }
@@ -473,7 +479,8 @@ module _ (code : Tables) (links : Option ℕ) (slot group n : ℕ) (whole : Whol
                 (subst (λ step. Tied (Holds code) (FlatFlow (Goes [] next))
                 (flow_behind [] (flow_of step (λ next. OnTo [] next)))) (sym vote_goes)
                 (TiedOn (behind_holds code slot group n whole all g next news ends cleared g.holds.flights
-                is_whole (λ p below. behind_one p below (cleared.shares p) refl))))
+                is_whole (λ p below. behind_one p below (cleared.shares p)
+                (ap (λ (share : Share). record share { flag = None }) (there_is code all come p below))))))
             by false =
                 subst (λ step. Tied (Holds code) (FlatFlow (Goes [] next))
                 (flow_of step (λ next. through (planned_does code links n) (VoteRows false) next)))

@@ -26,8 +26,8 @@ use Rattle.zpl_meaning.specs.Visited.{first_setup}
 use Rattle.meaning_ranks.specs.Shaped.{AreFloods}
 use Rattle.meaning_ranks.proofs.ShapeLemmas.{Fits}
 use Rattle.meaning_ranks.proofs.RegionLemmas.{globals_fit, inner_fits, names_once}
-use Rattle.node_form.specs.Fits.{FitsRegion, IsRank}
-use Rattle.lowering_fits.specs.Slates.{AllRanges}
+use Rattle.node_form.specs.Fits.{IsRank}
+use Rattle.lowering_fits.specs.Slates.{AllRanges, FitsBox}
 use Rattle.lowering_fits.specs.Reach.{IsStoredAs}
 use Rattle.lowering_fits.specs.Storages.{IsStorage}
 use Rattle.lowering_fits.specs.Declarations.{FitsDeclared}
@@ -64,7 +64,7 @@ same_one a b e = cc
 abbrev pub AreParts : Option Shape → Region → Region → Type 0
 AreParts shape home storage =
     IsStoredAs shape (record { array = 0; storage = storage })
-    × FitsRegion home × (option_map length shape ≡ Some home.rank) × IsStorage storage
+    × FitsBox home × (option_map length shape ≡ Some home.rank) × IsStorage storage
 
 stored_as : (shape : Option Shape) (region storage : Region) → Fits shape (Gives region) →
     IsArrayRank (option_map length shape) → storage.rank ≡ region.rank →
@@ -138,11 +138,11 @@ module _ (program : Program) (settings : List Setting) (clean : IsFaultless prog
 
   home_fits : (inner : Inner) (region storage : Region) → inner_of known inner ≡ Gives region →
       storage_of known borders inner ≡ Gives storage → IsRank region.rank → IsStorage storage →
-      FitsRegion (hull region)
+      FitsBox (hull region)
   home_fits inner region storage is given rank kept =
       by (subst IsGoodRegion is (inner_good known inner (known_good program settings)))
     where
-      by : IsGoodRegion (Gives region) → FitsRegion (hull region)
+      by : IsGoodRegion (Gives region) → FitsBox (hull region)
       by good =
           storage_region (hull region)
           (hull_kept inner region is rank
@@ -150,14 +150,14 @@ module _ (program : Program) (settings : List Setting) (clean : IsFaultless prog
 
   -- the home box of an array that fits is a box within the limit
   pub home_kept : (inner : Inner) → IsGiven Region (home_of known inner) →
-      FitsRegion (home_box known inner) →
+      FitsBox (home_box known inner) →
       (home_of known inner ≡ Gives (home_box known inner)) × IsStorage (home_box known inner)
   home_kept inner home fits =
       let one = region_given inner home in
-      let there = subst FitsRegion one.home fits in (
+      let there = subst FitsBox one.home fits in (
         home.given ∙ ap Gives (sym (ap (value_or no_region) home.given)),
         subst IsStorage (sym one.home)
-            (hull_kept inner one.region one.given there.rank there.limit),
+            (hull_kept inner one.region one.given there.0.rank there.0.limit),
       )
 
   pub declared_fits : (scope : Scope) (inner : Inner) (name : Name) →

@@ -23,7 +23,7 @@ use Rattle.zpl_meaning.specs.Program.{first_frame}
 use Rattle.zpl_meaning.specs.Store.{Thing, Scalar, ArrayAt, Fixed, Names}
 use Rattle.zpl_meaning.specs.Variables.{Frame, empty_frame, home_box, with_declarations, with_declared, with_name, with_names, with_values, with_variables}
 use Rattle.zpl_meaning.specs.Visited.{first_setup}
-use Rattle.node_form.specs.Fits.{FitsRegion}
+use Rattle.lowering_fits.specs.Slates.{FitsBox}
 use Rattle.lowering_fits.specs.Declarations.{FitsDeclared, FitAllDeclared, FitGlobals, FitsDecl, FitDecls}
 use Rattle.lowering_fits.specs.Reach.{named_thing}
 use Rattle.lowering_fits.proofs.BracketLemmas.{LimitsAreTold}
@@ -52,7 +52,7 @@ module _ (program : Program) (settings : List Setting) (clean : IsFaultless prog
 
   one_home : (name : Name) (inner : Inner) →
       Among (arrays_of program) (record { name = name; region = inner }) →
-      FitsRegion (home_box known inner) → IsHomeAt program known name.at (home_box known inner)
+      FitsBox (home_box known inner) → IsHomeAt program known name.at (home_box known inner)
   one_home name inner there fits =
       let array : Shaped = record { name = name; region = inner } in
       let kept = home_kept program settings clean limits storages homes inner

@@ -10,6 +10,7 @@ pub mod GlobalLemmas
 pub mod GivenLemmas
 pub mod StorageLemmas
 pub mod WholeLemmas
+pub mod TypedLemmas
 pub mod GridLemmas
 pub mod ReadLemmas
 pub mod ApartLemmas

@@ -1,5 +1,5 @@
 //! The laws of programs that are lowered to flat ones.
-ghost use Rattle.std.specs.Prelude.{◌++◌, ℕ, List};
+ghost use Rattle.std.specs.Prelude.{◌≡◌, ◌++◌, ℕ, List};
 ghost use Rattle.row_runs.specs.Straight.{Every};
 ghost use Rattle.zpl_text.specs.declared.tokens.Token.{Token};
 ghost use Rattle.zpl_text.specs.Tokens.{IsTokens};
@@ -12,13 +12,14 @@ ghost use Rattle.zpl_binding.specs.Settings.{Setting};
 ghost use Rattle.node_form.specs.Grid.{IsGrid};
 ghost use Rattle.flat_form.specs.Flat.{IsFlat};
 ghost use Rattle.flat_form.specs.Laws.{IsInline};
+ghost use Rattle.typed_tables.specs.Typed.{AreTyped};
 ghost use Rattle.zpl_lowering.specs.Program.{lowered_program};
 ghost use Rattle.zpl_lowering.specs.Tables.{flat_tables, rows_of, tables_of, unshared_tables};
 ghost use Rattle.lowering_fits.specs.Declarations.{FitsProgram};
 ghost use Rattle.lowering_fits.specs.Storages.{AllStorages};
 ghost use Rattle.lowered_flat.specs.Apart.{NamesStandApart};
 
-use lowering_fits::lowered_programs_fit;
+use lowering_fits::{lowered_programs_fit, numbered_code_makes_a_flat_program};
 use meaning_ranks::ranks_agree;
 use text_sharing::shared_tables_fit;
 use zpl_meaning::{no_stand_in_is_met, what_is_computed_has_a_value};
@@ -98,4 +99,19 @@ pub fn lowered_rows_are_inline()
 {
     declarations_fit();
     lowered_programs_fit();
+}
+
+/// The tables of such a program are as a program's types give them: of three dimensions. They have
+/// no cells, whatever the program.
+pub fn lowered_tables_are_typed()
+    ensures typed { (program : Program) (settings : List Setting) → IsProgram program →
+        IsFaultless program → NamesStandApart program → IsAcceptedWith program settings →
+        AreTyped (flat_tables program settings) }
+    ensures cells { (program : Program) (settings : List Setting) →
+        (flat_tables program settings).cells ≡ 0 }
+{
+    declarations_fit();
+    storages_fit();
+    lowered_programs_fit();
+    numbered_code_makes_a_flat_program();
 }

@@ -7,6 +7,6 @@
 mod laws;
 
 pub use laws::{
-    declarations_fit, lowered_programs_are_flat, lowered_rows_are_inline, parsed_names_stand_apart,
-    storages_fit,
+    declarations_fit, lowered_programs_are_flat, lowered_rows_are_inline, lowered_tables_are_typed,
+    parsed_names_stand_apart, storages_fit,
 };

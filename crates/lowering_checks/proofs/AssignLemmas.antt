@@ -36,11 +36,11 @@ use Rattle.lowering_checks.proofs.PhaseLemmas.{phases_check, array_checks}
 pub quiet_rows : (rows : List Row) → AllQuiet rows → HasChecks (piece.Rows rows)
 quiet_rows rows quiet = rows_check rows (λ last. quiet_checked last rows quiet)
 
-set_quiet : (line : ℕ) (tree : Expression) (target : Option ℕ) → AllQuiet (set_row line tree target)
+pub set_quiet : (line : ℕ) (tree : Expression) (target : Option ℕ) → AllQuiet (set_row line tree target)
 set_quiet line tree None = tt
 set_quiet line tree (Some scalar) = (tt, tt)
 
-values_quiet : (line scalar : ℕ) (left : List Expression) → AllQuiet (value_rows line scalar left)
+pub values_quiet : (line scalar : ℕ) (left : List Expression) → AllQuiet (value_rows line scalar left)
 values_quiet line scalar [] = tt
 values_quiet line scalar (one ∷ left) = (tt, values_quiet line (suc scalar) left)
 
@@ -141,15 +141,15 @@ thing_quiet w kind edge border source line (Some (Fixed value)) = tt
 thing_quiet w kind edge border source line (Some (ArrayAt place home)) =
     rows_quiet kind edge border source line (slice_get w.numbers.arrays place)
 
-each_quiet : (w : Where) (kind : BorderKind) (edge : SlotEdge) (border source line : ℕ)
+pub edges_quiet : (w : Where) (kind : BorderKind) (edge : SlotEdge) (border source line : ℕ)
     (names : List Name) → AllQuiet (each_border w kind edge border source line names)
-each_quiet w kind edge border source line [] = tt
-each_quiet w kind edge border source line (name ∷ names) =
+edges_quiet w kind edge border source line [] = tt
+edges_quiet w kind edge border source line (name ∷ names) =
     quiet_both
     (border_thing w.numbers kind edge border source line (thing_of w.environment name.text))
     (each_border w kind edge border source line names)
     (thing_quiet w kind edge border source line (thing_of w.environment name.text))
-    (each_quiet w kind edge border source line names)
+    (edges_quiet w kind edge border source line names)
 
 pub borders_check : (w : Where) (kind : BorderKind) (edge : Option SlotEdge) (line : ℕ) (next : Next)
     (names : List Name) → HasChecks (lowered_borders w kind edge line next names).code
@@ -160,7 +160,7 @@ borders_check w kind (Some edge) line next names =
     ∷ row.Plain
     (instr.Formed form.Inside next.slots edge.slot (source_shift kind edge.shift) line)
     ∷ each_border w kind edge over.slot next.slots line names)
-    (tt, (tt, each_quiet w kind edge over.slot next.slots line names))
+    (tt, (tt, edges_quiet w kind edge over.slot next.slots line names))
 
 -- ---- prints
 
@@ -189,7 +189,7 @@ values_are w line ends (Value expr ∷ items) scalar temp (first ∷ left) last 
     (values_are w line ends items (scalar + shown.scalars) (temp + length shown.temps) left
     (behind_rows last shown.values))
 
-print_quiet : (line : ℕ) (truth : Bool) (scalar temp : ℕ) (over : Slotted) (rank : Rank)
+pub print_quiet : (line : ℕ) (truth : Bool) (scalar temp : ℕ) (over : Slotted) (rank : Rank)
     (expr : Expression) → IsQuiet (shown_at line truth scalar temp over rank expr).print
 print_quiet line true scalar temp over None expr = tt
 print_quiet line false scalar temp over None expr = tt
@@ -201,7 +201,7 @@ newline_quiet : (ends : Bool) → AllQuiet (newline ends)
 newline_quiet true = (tt, tt)
 newline_quiet false = tt
 
-prints_quiet : (w : Where) (line : ℕ) (ends : Bool) (items : List Item) (scalar temp : ℕ)
+pub prints_quiet : (w : Where) (line : ℕ) (ends : Bool) (items : List Item) (scalar temp : ℕ)
     (left : List Expression) → AllQuiet (items_of w line scalar temp ends items left).prints
 prints_quiet w line ends [] scalar temp left = newline_quiet ends
 prints_quiet w line ends (Str bytes ∷ items) scalar temp left =

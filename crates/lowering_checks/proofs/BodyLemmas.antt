@@ -41,7 +41,7 @@ givens_check line (formal ∷ formals) (Copied from home ∷ actuals) frame next
     (givens_check line formals actuals one.frame one.next rest
     (λ more. checks (omega (arith, more))))
 
-if_quiet : (b : Bool) (rows : List Row) → AllQuiet rows → AllQuiet (rows_if b rows)
+pub if_quiet : (b : Bool) (rows : List Row) → AllQuiet rows → AllQuiet (rows_if b rows)
 if_quiet true rows quiet = quiet
 if_quiet false rows quiet = tt
 

@@ -470,7 +470,7 @@ remap_checks numbers line scalar temp over array storage indices =
     (rows_check traps (λ last. (tt, tt))))
     (rows_check reads (λ last. (tt, (tt, tt)))))
 
-borders_quiet : (line copy home next : ℕ) (shifts : List (List ℤ)) →
+pub borders_quiet : (line copy home next : ℕ) (shifts : List (List ℤ)) →
     AllQuiet (border_rows line copy home next shifts)
 borders_quiet line copy home next [] = tt
 borders_quiet line copy home next (shift ∷ rest) =

@@ -12,3 +12,8 @@ pub mod BodyLemmas
 pub mod CallLemmas
 pub mod WholeLemmas
 pub mod TableLemmas
+pub mod EachLemmas
+pub mod PreparedLemmas
+pub mod InlineLemmas
+pub mod Examples
+pub mod TotalLemmas

@@ -14,29 +14,10 @@ use Rattle.node_form.specs.Value.{unmoved}
 use Rattle.code_parts.specs.Uses.{rows_or_none, words_of, members_of, member_words, put_by, is_item}
 use Rattle.fuse_contract.specs.Fusing.{reference, references_in, references_of}
 use Rattle.pass_parts.specs.Checks.{ChecksWhatFollows, is_check, checked_by, checked_in, is_one_of}
-use Rattle.row_runs.specs.Straight.{Every}
-use Rattle.flat_form.specs.Laws.{IsInline}
-use Rattle.flat_form.specs.Row as row
 use Rattle.flat_form.specs.Row.{Row, Words, words_at, member_inlined, inlined, all_inlined}
 use Rattle.lowering_checks.specs.Walked.{IsKnown, KnowsWords, KnowsMember, KnowsMembers, Since, behind_rows, AreChecked}
 use Rattle.lowering_checks.proofs.WalkLemmas.{checked_rest, map_both}
 use Rattle.lowering_checks.proofs.KnownLemmas.{or_left, or_right, both_true, words_both, members_grow}
-
--- ---- rows have their parts in their places
-
-pub inline_rows : (last : Option Since) (rows : List Row) → AreChecked last rows →
-    Every IsInline rows
-inline_rows last [] are = tt
-inline_rows last (row.Set scalar expr line ∷ rows) are = (tt, inline_rows None rows are.1)
-inline_rows last (row.Dims slot parts line ∷ rows) are = (tt, inline_rows None rows are.1)
-inline_rows last (row.Loop slot group ∷ rows) are =
-    (tt, inline_rows (Some (record { slot = slot; known = [] })) rows are.1)
-inline_rows last (row.Print text ∷ rows) are = (tt, inline_rows None rows are.1)
-inline_rows last (row.Number expr ∷ rows) are = (tt, inline_rows None rows are.1)
-inline_rows last (row.Truth expr ∷ rows) are = (tt, inline_rows None rows are.1)
-inline_rows last (row.Unless expr goal line ∷ rows) are = (tt, inline_rows None rows are.1)
-inline_rows last (row.Plain one ∷ rows) are =
-    (are.0, inline_rows (behind_rows last (row.Plain one ∷ [])) rows are.1)
 
 -- ---- the references of a loop
 
@@ -67,7 +48,7 @@ words_one known slot (word.Shifted array shift ∷ words) knows =
     (words_one known slot words knows.1)
 words_one known slot (one ∷ words) knows = words_one known slot words knows.1
 
-found : {X : Type 0} (lists : List (List X)) (k : ℕ) →
+pub found : {X : Type 0} (lists : List (List X)) (k : ℕ) →
     rows_or_none (slice_get lists k) ≡ slice_index_or lists k []
 found [] k = refl
 found (one ∷ lists) zero = refl
@@ -78,7 +59,7 @@ abbrev gathered : List Item → List Instr → List Item
 gathered known [] = known
 gathered known (one ∷ rows) = gathered (checked_by one ++ known) rows
 
-false_true : false ≡ true → ⊥
+pub false_true : false ≡ true → ⊥
 false_true is = cc
 
 module _ (tables : Tables) where

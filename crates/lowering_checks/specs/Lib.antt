@@ -1,1 +1,3 @@
 pub mod Walked
+pub mod Prepared
+pub mod Totals

@@ -6,4 +6,7 @@
 
 mod laws;
 
-pub use laws::{checks_say_what_follows, loops_are_checked};
+pub use laws::{
+    all_rows_are_inline, checks_say_what_follows, loops_are_checked, loops_are_prepared,
+    totals_stand_apart,
+};

@@ -22,11 +22,12 @@ use Rattle.zpl_lowering.specs.Hoist.{Shifted}
 use Rattle.zpl_lowering.specs.Where.{Next}
 use Rattle.zpl_lowering.specs.Lowered.{Lowered}
 use Rattle.zpl_lowering.specs.Tables.{Fringe, no_fringe, wider, all_wider, widened, fringes_of, stored_dims, stored_row, stored_rows, temp_dims, temp_row, empty_tables, tables_of}
-use Rattle.lowering_fits.specs.Slates.{SlotsAt, TempsAt, AllRanges, IsRowOf, StoragesAt, AllTemps, AllShifts}
+use Rattle.lowering_fits.specs.Slates.{SlotsAt, TempsAt, AllRanges, AreDimsOf, IsRowOf, StoragesAt, AllTemps, AllShifts}
 use Rattle.lowering_fits.specs.Lowerings.{AllRanks, IsLaidOut, FitsLowered}
 use Rattle.lowering_fits.specs.Whole.{IsNumbered}
 use Rattle.lowering_fits.specs.Storages.{AllBoxed, IsStorage, AllStorages}
 use Rattle.lowering_fits.proofs.PieceLemmas.{code_makes_flat}
+use Rattle.lowering_fits.proofs.FringeLemmas.{whole_covered}
 use Rattle.lowering_fits.proofs.TreeLemmas.{storages_first, storages_rest}
 
 -- ---- fringes
@@ -97,7 +98,7 @@ fringes_fit k shifts small =
     ((no_width, no_width), ((no_width, no_width), ((no_width, no_width), tt)))
     (filtered (λ one. one.array == k) shifts small)
 
-fringes_count : (k : ℕ) (shifts : List Shifted) → length (fringes_of k shifts) ≡ 3
+pub fringes_count : (k : ℕ) (shifts : List Shifted) → length (fringes_of k shifts) ≡ 3
 fringes_count k shifts =
     widened_count (no_fringe ∷ no_fringe ∷ no_fringe ∷ [])
     (filter (λ one. one.array == k) shifts)
@@ -175,6 +176,16 @@ stored_ranges (suc rank) (dim.Range lo hi step align ∷ dims) (fringe ∷ fring
     (tt, stored_ranges rank dims fringes ranges)
 stored_ranges (suc rank) (dim.Flood ∷ dims) (fringe ∷ fringes) ranges = absurd ranges
 
+dims_of : (rank : ℕ) (dims : List Dim) (fringes : List Fringe) →
+    AreDimsOf rank dims (stored_dims rank dims fringes)
+dims_of rank [] fringes = tt
+dims_of rank (one ∷ dims) [] = tt
+dims_of zero (one ∷ dims) (fringe ∷ fringes) =
+    ((refl, refl, refl, refl), dims_of zero dims fringes)
+dims_of (suc rank) (dim.Range lo hi step align ∷ dims) (fringe ∷ fringes) =
+    (tt, dims_of rank dims fringes)
+dims_of (suc rank) (dim.Flood ∷ dims) (fringe ∷ fringes) = dims_of rank dims fringes
+
 row_dims : (k : ℕ) (shifts : List Shifted) (storage : Region) → IsStorage storage →
     map storage_dim (stored_row k shifts storage).dims ≡ storage.dims
 row_dims k shifts storage is =
@@ -219,6 +230,7 @@ row_of k shifts storage = record {
   ranges = λ ranges. All-from_recursion IsRange
       (stored_dims storage.rank storage.dims (fringes_of k shifts))
       (stored_ranges storage.rank storage.dims (fringes_of k shifts) ranges);
+  dims = dims_of storage.rank storage.dims (fringes_of k shifts);
 }
 
 rows_fit : (k : ℕ) (shifts : List Shifted) (storages : List Region) → AllShifts shifts →
@@ -355,6 +367,7 @@ whole_laid grid next lowered is =
           (subst (StoragesAt base (0 + length lowered.arrays)) none behind);
       temps_at = subst (λ n. TempsAt base n lowered.temps) counted
           (temps_stand base rows lowered.temps refl);
+      shifts_at = whole_covered base lowered.shifts all lowered.temps refl;
     }
 
 ranks_all : (slots : List ℕ) → AllRanks slots → All IsRank slots

@@ -28,14 +28,14 @@ use Rattle.meaning_ranks.specs.Ranked.{ArePresOf, ArePostsOf, IsInnerOf}
 use Rattle.node_form.specs.Expression.{words_of}
 use Rattle.node_form.specs.declared.tables.Tables.{Tables}
 use Rattle.node_form.specs.declared.instructions.Instr.TheVariants as instr
-use Rattle.node_form.specs.Fits.{IsRank, IsVector, HasSlot, FitsRegion}
+use Rattle.node_form.specs.Fits.{IsRank, HasSlot}
 use Rattle.flat_form.specs.Row as row
 use Rattle.flat_form.specs.Row.{Row, Part}
 use Rattle.zpl_lowering.specs.Where.{Slotted, Where, flood_of, is_flood}
 use Rattle.zpl_lowering.specs.Words.{thing_code, scalar_code}
 use Rattle.zpl_lowering.specs.Bracket.{Form, Opened, standing, filled, parts_of, dims_flood, three_parts, spanned, post_forms, pre_form, pre_forms, forms_of, formed as formed_rows, named_region, name_opened, computed, one_row, fixed_or, bracket, both, constant_of, constant_dim, constant_dims, within, constant_span, constant_name, constant_region}
 use Rattle.lowering_fits.specs.Inline.{FitsScalar, FitRows, AllDims, AllStars, StarsPast}
-use Rattle.lowering_fits.specs.Slates.{SlotsAt, FitNumbers, FitsTree}
+use Rattle.lowering_fits.specs.Slates.{SlotsAt, FitNumbers, FitsBox, FitsTree, FitsVector}
 use Rattle.lowering_fits.specs.Reach.{IsBox, IsGivenBox, FitsKnown, place_at}
 use Rattle.lowering_fits.proofs.TreeLemmas.{scalar_tree, variable_fits, below_at}
 use Rattle.lowering_fits.proofs.SlateLemmas.{rows_both}
@@ -133,6 +133,11 @@ three_fit base rank zero parts fit = tt
 three_fit base rank (suc n) [] fit = (tt, three_fit base rank n [] tt)
 three_fit base rank (suc n) (part ∷ parts) fit = (fit.0, three_fit base rank n parts fit.1)
 
+three_count : (n : ℕ) (parts : List Part) → length (three_parts n parts) ≡ n
+three_count zero parts = refl
+three_count (suc n) [] = ap suc (three_count n [])
+three_count (suc n) (part ∷ parts) = ap suc (three_count n parts)
+
 all_stars : (n : ℕ) → AllStars (three_parts n [])
 all_stars zero = tt
 all_stars (suc n) = (tt, all_stars n)
@@ -166,6 +171,7 @@ module _ (base : Tables) (w : Where) (numbers : FitNumbers base w.numbers) where
                 (dims_fit base w numbers currents result edge rank current dims has proper);
             stars = subst (λ r. StarsPast r (three_parts 3 parts))
                 (parts_count base w numbers current.slot dims) (three_stars 3 parts);
+            three = three_count 3 parts;
           },
           tt,
         );
@@ -177,7 +183,7 @@ module _ (base : Tables) (w : Where) (numbers : FitNumbers base w.numbers) where
 
 abbrev AllForms : ℕ → List Form → Type 0
 AllForms rank [] = Unit {0}
-AllForms rank (one ∷ rest) = IsVector rank one.shift × AllForms rank rest
+AllForms rank (one ∷ rest) = FitsVector rank one.shift × AllForms rank rest
 
 forms_both : (rank : ℕ) (xs ys : List Form) → AllForms rank xs → AllForms rank ys →
     AllForms rank (xs ++ ys)
@@ -236,7 +242,7 @@ formed_fits base rank next line (one ∷ rest) opened all fits at =
       slots = same_both rank opened.slots (length opened.flood ∷ []) fits.slots (fits.floods, tt);
       rows = rows_both base opened.rows
           (row.Plain (instr.Formed one.form next opened.slot one.shift line) ∷ []) fits.rows
-          ((record { rank = rank; fit = (at.0, fits.has, all.0) }, tt), tt);
+          ((record { rank = rank; fit = (at.0, fits.has, all.0.0) }, all.0.1), tt);
       has = at.0;
       floods = fits.floods;
     }) at.1
@@ -546,15 +552,17 @@ module _ (base : Tables) (w : Where) (known : FitsKnown base w.setup.known w.sco
 
 -- such a region may stand in a row
 pub box_region : LimitsAreTold → (rank : ℕ) (region : Region) → IsRank rank → IsBox rank region →
-    IsTrue (is_within_limit region) → FitsRegion region
+    IsTrue (is_within_limit region) → FitsBox region
 box_region limits rank region is box within =
-    let steps : All HasStep region.dims = All-from_recursion HasStep region.dims box.steps in
-    record {
-      rank = subst IsRank (sym box.same) is;
-      steps = steps;
-      padded = box.padded;
-      limit = (limits region steps).0 within;
-    }
+    let steps : All HasStep region.dims = All-from_recursion HasStep region.dims box.steps in (
+      record {
+        rank = subst IsRank (sym box.same) is;
+        steps = steps;
+        padded = box.padded;
+        limit = (limits region steps).0 within;
+      },
+      box.three,
+    )
 
 module _ (limits : LimitsAreTold) (base : Tables) (w : Where) (numbers : FitNumbers base w.numbers)
     (known : FitsKnown base w.setup.known w.scope) where
@@ -581,9 +589,9 @@ module _ (limits : LimitsAreTold) (base : Tables) (w : Where) (numbers : FitNumb
               (
                 record {
                   rank = rank;
-                  fit = (here, box_region limits rank region is on.0 on.1, on.0.same);
+                  fit = (here, (box_region limits rank region is on.0 on.1).0, on.0.same);
                 },
-                tt,
+                on.0.three,
               ),
               tt,
             );

@@ -336,6 +336,7 @@ module _ (program : Program) (settings : List Setting) (laws : Laws program)
     later_at = subst (λ n. StoragesAt tables (next.later + n) body.later) many
         (storages_rest tables next.later body.copies body.later laid.later_at);
     temps_at = laid.temps_at;
+    shifts_at = laid.shifts_at;
   }
 
   pub out_of_call_fits : (body : Lowered) → FitsLowered tables body →

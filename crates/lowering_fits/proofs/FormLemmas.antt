@@ -52,6 +52,7 @@ relaid base next code inside laid = record {
   copies_at = laid.copies_at;
   later_at = laid.later_at;
   temps_at = laid.temps_at;
+  shifts_at = laid.shifts_at;
 }
 
 recoded : (base : Tables) (code : Piece Row Check) (inside : Lowered) → FitsPiece base code →

@@ -1,5 +1,5 @@
 -- The rows of parameters and local variables fit, and so do the numbers behind them.
-use Rattle.std.proofs.Common.{ℕ, ◌<◌, Bool, true, false, List, [], ◌∷◌, ◌++◌, refl, arith}
+use Rattle.std.proofs.Common.{ℕ, ◌<◌, Bool, true, false, List, [], ◌∷◌, ◌++◌, refl, arith, inr}
 use Rattle.std.specs.Prelude.{pos, None}
 use Rattle.std.proofs.lemmas.Int.{ints}
 use Rattle.std.proofs.lemmas.List.Elements.{All-from_recursion}
@@ -14,14 +14,13 @@ use Rattle.zpl_meaning.specs.Context.{Setup}
 use Rattle.zpl_meaning.specs.Variables.{home_box, storage_box}
 use Rattle.node_form.specs.Expression as expr
 use Rattle.node_form.specs.declared.tables.Tables.{Tables}
-use Rattle.node_form.specs.Fits.{FitsRegion}
 use Rattle.row_runs.specs.Structured as piece
 use Rattle.zpl_lowering.specs.Where.{Stored, Numbers, Next}
 use Rattle.zpl_lowering.specs.Lowered.{Lowered, rows_alone, behind}
 use Rattle.zpl_lowering.specs.Statement.{Given, Valued, Copied, Referring}
 use Rattle.zpl_lowering.specs.Program.{Framed, with_scalar, with_array, Entry, zero_row, clear_row, made_copy, givens_code, names_code}
 use Rattle.lowering_fits.specs.Inline.{FitRows}
-use Rattle.lowering_fits.specs.Slates.{HasStorage, AllBelow, AllStored, FitNumbers}
+use Rattle.lowering_fits.specs.Slates.{HasStorage, AllBelow, AllStored, FitNumbers, FitsBox}
 use Rattle.lowering_fits.specs.Lowerings.{IsLaidOut, FitsLowered}
 use Rattle.lowering_fits.specs.Storages.{AllBoxed, IsStorage, AllKept}
 use Rattle.lowering_fits.specs.Whole.{FitsGivens, FitsVars, given_frames, name_frames}
@@ -37,13 +36,16 @@ boxed_steps (dim.Range lo hi step align ∷ dims) boxed =
     let one = boxed.0.0 in (omega (arith, ints), boxed_steps dims boxed.1)
 boxed_steps (dim.Flood ∷ dims) boxed = (tt, boxed_steps dims boxed.1)
 
-pub storage_region : (storage : Region) → IsStorage storage → FitsRegion storage
-storage_region storage is = record {
-  rank = is.is_rank;
-  steps = All-from_recursion HasStep storage.dims (boxed_steps storage.dims is.boxed);
-  padded = is.padded;
-  limit = is.limit;
-}
+pub storage_region : (storage : Region) → IsStorage storage → FitsBox storage
+storage_region storage is = (
+  record {
+    rank = is.is_rank;
+    steps = All-from_recursion HasStep storage.dims (boxed_steps storage.dims is.boxed);
+    padded = is.padded;
+    limit = is.limit;
+  },
+  is.three,
+)
 
 -- ---- lists that grow
 
@@ -90,14 +92,14 @@ module _ (base : Tables) where
           (
             record {
               rank = rank;
-              fit = (laid.slots_at.0, storage_region from.storage is, refl);
+              fit = (laid.slots_at.0, (storage_region from.storage is).0, refl);
             },
-            tt,
+            (storage_region from.storage is).1,
           ),
           (
             put_loop base rank next.slots next.arrays (expr.Element from.array) None line is.is_rank
                 laid.slots_at.0 (array_of base rank next.arrays from.storage laid.arrays_at.0 refl)
-                (is.is_rank, array_of base rank from.array from.storage has refl) tt,
+                (is.is_rank, array_of base rank from.array from.storage has refl) tt (inr (inr tt)),
             tt,
           ),
         );

@@ -19,7 +19,7 @@ use Rattle.zpl_names.proofs.NameLemmas.{kind_in-distinct}
 use Rattle.zpl_meaning.specs.Context.{Setup}
 use Rattle.zpl_meaning.specs.Store.{Thing, Scalar, ArrayAt, Fixed, Names}
 use Rattle.zpl_meaning.specs.Variables.{Frame, home_box, storage_box, zero_array, with_thing, with_scalar_named, with_array_named, with_name, with_names, with_variables, with_values, with_declared, with_declarations, empty_frame}
-use Rattle.node_form.specs.Fits.{FitsRegion}
+use Rattle.lowering_fits.specs.Slates.{FitsBox}
 use Rattle.zpl_lowering.specs.Where.{Stored, Numbers}
 use Rattle.zpl_lowering.specs.Program.{global_numbers, scalars_from, arrays_from}
 use Rattle.lowering_fits.specs.Reach.{IsStoredAs, IsKept, named_thing, AreGlobals}
@@ -124,7 +124,7 @@ scalar_entered xs name base value frame are =
 
 array_entered : (xs : List Entry) (name : Name) (base : Base) (shape : Option Shape)
     (home : Region) (array : Array) (frame : Frame) →
-    IsStoredAs shape (record { array = 0; storage = array.storage }) → FitsRegion home →
+    IsStoredAs shape (record { array = 0; storage = array.storage }) → FitsBox home →
     option_map length shape ≡ Some home.rank → Entered xs frame →
     Entered (xs ++ entry_for (kind.Array base shape) name ∷ [])
     (with_array_named frame name home array)

@@ -16,7 +16,7 @@ use Rattle.zpl_names.specs.Expansion.{FormalName, formal_names}
 use Rattle.zpl_meaning.specs.Context.{Setup}
 use Rattle.zpl_meaning.specs.Store.{Thing, Scalar, ArrayAt, Fixed, Names}
 use Rattle.zpl_meaning.specs.Variables.{home_box, storage_box}
-use Rattle.node_form.specs.Fits.{FitsRegion}
+use Rattle.lowering_fits.specs.Slates.{FitsBox}
 use Rattle.zpl_lowering.specs.Where.{Stored, Numbers, Next}
 use Rattle.zpl_lowering.specs.Statement.{Given, Valued, Copied, Referring}
 use Rattle.zpl_lowering.specs.Program.{Framed, with_scalar, with_array, Entry as CallEntry}
@@ -173,7 +173,7 @@ IsGivenOf numbers (ScalarFormal true base) (Referring thing) =
 IsGivenOf numbers (ScalarFormal true base) (Valued scalar) = ⊥
 IsGivenOf numbers (ScalarFormal true base) (Copied stored home) = ⊥
 IsGivenOf numbers (ArrayFormal false base shape) (Copied stored home) =
-    IsStoredAs shape stored × FitsRegion home × (option_map length shape ≡ Some home.rank)
+    IsStoredAs shape stored × FitsBox home × (option_map length shape ≡ Some home.rank)
 IsGivenOf numbers (ArrayFormal false base shape) (Valued scalar) = ⊥
 IsGivenOf numbers (ArrayFormal false base shape) (Referring thing) = ⊥
 IsGivenOf numbers (ArrayFormal true base shape) (Referring thing) =
@@ -222,7 +222,7 @@ scalar_kept few xs frame name base scalar has =
 
 array_kept : (few : Numbers) (xs : List Entry) (frame : Framed) (name : Name) (base : Base)
     (shape : Option Shape) (home : Region) (stored : Stored) → IsStoredAs shape stored →
-    FitsRegion home → option_map length shape ≡ Some home.rank → HasKept few xs frame →
+    FitsBox home → option_map length shape ≡ Some home.rank → HasKept few xs frame →
     HasKept few (xs ++ entry_for (kind.Array base shape) name ∷ [])
     (with_array frame name home stored)
 array_kept few xs frame name base shape home stored is box same has =

@@ -1,6 +1,10 @@
 pub mod TableLemmas
 pub mod PieceLemmas
+pub mod ExprLemmas
 pub mod ReadLemmas
+pub mod TypedLemmas
+pub mod WithinLemmas
+pub mod FringeLemmas
 pub mod TreeLemmas
 pub mod VectorLemmas
 pub mod SlateLemmas
@@ -8,6 +12,7 @@ pub mod BracketLemmas
 pub mod SettleLemmas
 pub mod PhaseLemmas
 pub mod StatementLemmas
+pub mod StillLemmas
 pub mod MemberLemmas
 pub mod WriteLemmas
 pub mod PrefixLemmas

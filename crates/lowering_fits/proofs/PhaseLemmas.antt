@@ -19,9 +19,10 @@ use Rattle.zpl_lowering.specs.Reference.{conforming, all_conforming, Reference, 
 use Rattle.zpl_lowering.specs.Hoist.{Hoisted, Free, behind as behind_hoisted, hoisted, all_hoisted}
 use Rattle.zpl_lowering.specs.Lowered.{Lowered, rows_alone, behind, joined, both, Phased, free_at, phased_with, then_rows}
 use Rattle.lowering_fits.specs.Inline.{FitRows, FitsPiece}
-use Rattle.lowering_fits.specs.Slates.{FitNumbers, IsOfRank, IsMaskOf, FitsOver, FitsSlate, FitsSlates, FitsTree, IsPlaced, FitsHoist}
+use Rattle.lowering_fits.specs.Slates.{FitNumbers, IsOfRank, IsMaskOf, FitsOver, FitsSlate, FitsSlates, FitsTree, AllCovered, IsPlaced, FitsHoist}
 use Rattle.lowering_fits.specs.Reach.{place_at, HasFlatRemaps, IsReach}
 use Rattle.lowering_fits.specs.Lowerings.{IsLaidOut, FitsLowered}
+use Rattle.lowering_fits.proofs.FringeLemmas.{covered_first, covered_rest}
 use Rattle.lowering_fits.proofs.TreeLemmas.{IsThere, stored_at, array_of, stored_of, slots_first, slots_rest, temps_first, temps_rest, storages_first, storages_rest, temps_both, shifts_both, over_fits, unmoved_fits}
 use Rattle.lowering_fits.proofs.VectorLemmas.{vector_by}
 use Rattle.lowering_fits.proofs.SlateLemmas.{rows_both, hoisted_fits, first_placed, rest_placed}
@@ -41,6 +42,7 @@ laid_front base next code first second laid =
       copies_at = storages_first base next.copies first.copies second.copies laid.copies_at;
       later_at = storages_first base next.later first.later second.later laid.later_at;
       temps_at = temps_first base next.temps first.temps second.temps laid.temps_at;
+      shifts_at = covered_first base first.shifts second.shifts laid.shifts_at;
     }
 
 pub laid_behind : (base : Tables) (next : Next) (code : Piece Row Check) (first second : Lowered) →
@@ -54,6 +56,7 @@ laid_behind base next code first second laid =
       copies_at = storages_rest base next.copies first.copies second.copies laid.copies_at;
       later_at = storages_rest base next.later first.later second.later laid.later_at;
       temps_at = temps_rest base next.temps first.temps second.temps laid.temps_at;
+      shifts_at = covered_rest base first.shifts second.shifts laid.shifts_at;
     }
 
 pub joined_fits : (base : Tables) (code : Piece Row Check) (first second : Lowered) →
@@ -210,7 +213,7 @@ mutual
   referred_fit base numbers rank (slate.Coordinate k) fits is = tt
   referred_fit base numbers rank (slate.Element slot place shift) fits is =
       refers_fit base rank slot shift (slice_get numbers.arrays place) is.1
-      (stored_at base numbers.arrays place fits.arrays) is.2 is.3
+      (stored_at base numbers.arrays place fits.arrays) is.2 is.3.0
   referred_fit base numbers rank (slate.Wrapped slot place home shift copy first) fits is = (
     record {
       rank = rank;
@@ -225,7 +228,7 @@ mutual
         has = is.1;
         there = is.4.has;
         is_stored = is.4.is_stored;
-        vector = is.3;
+        vector = is.3.0;
       },
       tt,
     ),
@@ -345,19 +348,22 @@ each_hoisted : (base : Tables) (numbers : Numbers) (line : ℕ) (free : Free)
     FitsEach base numbers placed all →
     IsPlaced base free (all_hoisted numbers line free all).scalars
     (all_hoisted numbers line free all).temps →
+    AllCovered base (all_hoisted numbers line free all).shifts →
     EachLeft base placed (all_hoisted numbers line free all)
-each_hoisted base numbers line free [] NoSlate fits is at =
+each_hoisted base numbers line free [] NoSlate fits is at covered =
     record { rows = record { code = tt; temps = tt; shifts = tt }; left = tt }
-each_hoisted base numbers line free [] (ThenSlate first rest) fits is at = absurd is
-each_hoisted base numbers line free (one ∷ placed) NoSlate fits is at = absurd is
-each_hoisted base numbers line free (one ∷ placed) (ThenSlate slate others) fits is at =
+each_hoisted base numbers line free [] (ThenSlate first rest) fits is at covered = absurd is
+each_hoisted base numbers line free (one ∷ placed) NoSlate fits is at covered = absurd is
+each_hoisted base numbers line free (one ∷ placed) (ThenSlate slate others) fits is at covered =
     let first : Hoisted Expression = hoisted numbers line free slate in
     let after : Free = behind_hoisted free first in
     let rest : Hoisted (List Expression) = all_hoisted numbers line after others in
     let here = hoisted_fits base numbers line free (rank_number one.rank) slate fits is.0
-    (first_placed base free first.scalars rest.scalars first.temps rest.temps at) in
+    (first_placed base free first.scalars rest.scalars first.temps rest.temps at)
+    (covered_first base first.shifts rest.shifts covered) in
     let there = each_hoisted base numbers line after placed others fits is.1
-    (rest_placed base free first.scalars rest.scalars first.temps rest.temps at) in
+    (rest_placed base free first.scalars rest.scalars first.temps rest.temps at)
+    (covered_rest base first.shifts rest.shifts covered) in
     record {
       rows = record {
         code = (here.rows.code, there.rows.code);
@@ -388,7 +394,7 @@ phases_fit limits base w result currents edge reach line next own last placed ow
     (record { slots_at = laid.slots_at; copies_at = laid.copies_at }) in
     let below = laid.below in
     let two = each_hoisted base w.numbers line free placed settled.slate reach.numbers one.fits
-    (record { below = omega arith; temps_at = laid.temps_at }) in
+    (record { below = omega arith; temps_at = laid.temps_at }) laid.shifts_at in
     let references : List Reference = all_referred w.numbers settled.slate ++ last in
     record {
       fits = record {

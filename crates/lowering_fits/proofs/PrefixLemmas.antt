@@ -15,13 +15,13 @@ use Rattle.zpl_meaning.specs.Proper.{HasCurrent, IsArray, IsArrayRank, IsProperI
 use Rattle.zpl_meaning.specs.Visited.{IsUnder, Itself, Behind}
 use Rattle.meaning_ranks.specs.Ranked.{IsInnerOf, IsMaskOf as IsRankedMask, IsRankedPrefix, IsRankedUnder, IsRankedForm}
 use Rattle.node_form.specs.declared.tables.Tables.{Tables}
-use Rattle.node_form.specs.Fits.{IsRank, IsVector, HasSlot}
+use Rattle.node_form.specs.Fits.{IsRank, HasSlot}
 use Rattle.row_runs.specs.Structured as piece
 use Rattle.zpl_lowering.specs.Where.{Stored, Slotted, slotted_at, SlotEdge, Where, Next, line_of}
 use Rattle.zpl_lowering.specs.Bracket.{Opened}
 use Rattle.zpl_lowering.specs.Lowered.{Lowered, behind}
 use Rattle.zpl_lowering.specs.Statement.{Lowering, Calling, prefix_opened, current_for, edge_of, under_prefix, of_opened, is_last, lowered_under}
-use Rattle.lowering_fits.specs.Slates.{SlotsAt, IsMaskOf, FitsOver}
+use Rattle.lowering_fits.specs.Slates.{SlotsAt, IsMaskOf, FitsOver, FitsVector}
 use Rattle.lowering_fits.specs.Reach.{place_at, IsStoredAs, FitsKnown, IsReach}
 use Rattle.lowering_fits.specs.Lowerings.{IsLaidOut, FitsLowered, FitsEdge}
 use Rattle.lowering_fits.proofs.BracketLemmas.{rank_number, LimitsAreTold, FitsOpened, bracket_fits, computed_fits}
@@ -58,7 +58,7 @@ mask_is base w currents reach result edge rank (Some mask) proper ranked =
 
 abbrev FitsOwn : Tables → ℕ → Option SlotEdge → Type 0
 FitsOwn tables rank None = Unit {0}
-FitsOwn tables rank (Some own) = HasSlot tables rank own.slot × IsVector rank own.shift
+FitsOwn tables rank (Some own) = HasSlot tables rank own.slot × FitsVector rank own.shift
 
 edge_is : (base : Tables) (known : Known) (scope : Scope) → FitsKnown base known scope →
     (currents : Currents) (w : Where) (result : ℕ) (edge : Option Edge) (hint prefix : Rank)

@@ -27,7 +27,7 @@ use Rattle.zpl_meaning.proofs.NamesLemmas.{IsSound, routine_sound}
 use Rattle.zpl_meaning.proofs.VisitLemmas.{Laws, find_among}
 use Rattle.meaning_ranks.proofs.RegionLemmas.{names_once}
 use Rattle.node_form.specs.declared.tables.Tables.{Tables}
-use Rattle.node_form.specs.Fits.{IsRank, FitsRegion}
+use Rattle.node_form.specs.Fits.{IsRank}
 use Rattle.row_runs.specs.Structured as piece
 use Rattle.zpl_lowering.specs.Where.{Next}
 use Rattle.zpl_lowering.specs.Lowered.{behind}
@@ -35,7 +35,7 @@ use Rattle.zpl_lowering.specs.Statement.{Calling}
 use Rattle.zpl_lowering.specs.Program.{Entry as CallEntry, body_code, reads_round, in_call, routine_code, call_code, region_rows, scalars_from, arrays_from, global_numbers, globals_made, first_next, entry_calling, entry_code, lowered_program}
 use Rattle.zpl_lowering.specs.Tables.{empty_tables}
 use Rattle.lowering_fits.specs.Inline.{FitRows}
-use Rattle.lowering_fits.specs.Slates.{SlotsAt, StoragesAt, AllBelow, AllStored, FitNumbers}
+use Rattle.lowering_fits.specs.Slates.{SlotsAt, StoragesAt, AllBelow, AllStored, FitNumbers, FitsBox}
 use Rattle.lowering_fits.specs.Storages.{IsStorage, AllKept}
 use Rattle.lowering_fits.specs.Declarations.{FitsDeclared, FitAllDeclared, FitGlobals, FitsDecl, FitDecls, FitsProgram}
 use Rattle.lowering_fits.specs.Lowerings.{AllRanks, IsLaidOut, FitsLowered, answering, region_rank}
@@ -60,11 +60,11 @@ use Rattle.lowering_fits.proofs.CallsFitLemmas.{body_stands, in_call_laid, out_o
 -- ---- declared regions
 
 region_fits : LimitsAreTold → (one : Computed Region) → IsGoodRegion one.outcome →
-    IsRank (region_rank one) → FitsRegion (value_or no_region one.outcome)
+    IsRank (region_rank one) → FitsBox (value_or no_region one.outcome)
 region_fits limits one good rank = by one.outcome good rank
   where
     by : (outcome : Outcome Region) → IsGoodRegion outcome →
-        IsRank (value_or no_region outcome).rank → FitsRegion (value_or no_region outcome)
+        IsRank (value_or no_region outcome).rank → FitsBox (value_or no_region outcome)
     by (Gives region) good rank = box_region limits region.rank region rank good.0 good.1
     by (Fails fault) good rank =
         box_region limits no_region.rank no_region rank no_region_good.0 no_region_good.1
@@ -77,9 +77,9 @@ regions_fit limits tables slot (one ∷ rest) good ranks slots = (
   (
     record {
       rank = region_rank one;
-      fit = (slots.0, region_fits limits one good.0 ranks.0, refl);
+      fit = (slots.0, (region_fits limits one good.0 ranks.0).0, refl);
     },
-    tt,
+    (region_fits limits one good.0 ranks.0).1,
   ),
   regions_fit limits tables (suc slot) rest good.1 ranks.1 slots.1,
 )

@@ -18,9 +18,9 @@ use Rattle.zpl_binding.specs.Declarations.{known_of}
 use Rattle.zpl_meaning.specs.Regions.{vector_in}
 use Rattle.zpl_meaning.specs.Given.{IsGiven}
 use Rattle.node_form.specs.declared.tables.Tables.{Tables}
-use Rattle.node_form.specs.Fits.{IsVector, HasSlot}
+use Rattle.node_form.specs.Fits.{HasSlot}
 use Rattle.zpl_lowering.specs.Bracket.{region_slot}
-use Rattle.lowering_fits.specs.Slates.{SlotsAt}
+use Rattle.lowering_fits.specs.Slates.{SlotsAt, FitsVector}
 use Rattle.lowering_fits.specs.Reach.{IsGivenBox, FitsKnown}
 use Rattle.lowering_fits.specs.Lowerings.{region_rank}
 use Rattle.lowering_fits.proofs.VectorLemmas.{vector_by}
@@ -122,9 +122,10 @@ module _ (tables : Tables) (program : Program) (settings : List Setting) (routin
       subst (λ r. IsOut r (vector_of known.values parts)) is (vector_out known.values parts)
 
   dirs_fit : (rank : ℕ) (dir : Dir) → dir_rank (scope_of program routine) dir ≡ Some rank →
-      IsVector rank (vector_in (known_of program settings) dir)
+      FitsVector rank (vector_in (known_of program settings) dir)
   dirs_fit rank dir is =
-      vector_by rank (vector_in (known_of program settings) dir) (dirs_by rank dir is).0
+      let by = dirs_by rank dir is in
+      (vector_by rank (vector_in (known_of program settings) dir) by.0, by.1)
 
   pub box_of : (rank : ℕ) (name : Name) →
       option_map length (region_shape (kind_of (scope_of program routine) name)) ≡ Some rank →

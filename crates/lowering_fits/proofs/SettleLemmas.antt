@@ -1,5 +1,6 @@
 -- Expressions that are proper and whose ranks agree become expressions with slots that fit.
 use Rattle.std.proofs.Common.{◌≡◌, ℕ, zero, suc, ◌≤◌, Bool, true, false, if◌then◌else◌, ℤ, List, [], ◌∷◌, ◌++◌, length, refl, sym, ap, ◌∙◌, subst, arith}
+use Rattle.std.proofs.lemmas.List.{length-map}
 use Rattle.std.specs.Prelude.{pos, Option, Some, None, IsSome, option_map, slice_get, replicate, int_rem, unsigned_abs}
 use Rattle.std.specs.Option.{IsSomeAnd}
 use Rattle.std.proofs.lemmas.Int.{ints}
@@ -25,16 +26,17 @@ use Rattle.zpl_meaning.specs.Context.{Over, Currents, with_over, Edge}
 use Rattle.zpl_meaning.specs.Proper.{HasCurrent, IsArrayRank, IsProperRegion, IsProperInner, IsRead, IsArrayRead, IsProper, AreProper}
 use Rattle.meaning_ranks.specs.Ranked.{IsRegionOf, IsInnerOf, HasDimension, GoesAlong, IsNameOf, IsOfRank as IsRankedAt, AreOfRank as AreRankedAt}
 use Rattle.node_form.specs.declared.tables.Tables.{Tables}
-use Rattle.node_form.specs.Fits.{IsRank, IsVector}
+use Rattle.node_form.specs.Fits.{IsRank}
 use Rattle.zpl_lowering.specs.Where.{Stored, Numbers, Slotted, SlotCurrents, slotted_or, slotted_at, with_slotted, Where, Next}
 use Rattle.zpl_lowering.specs.Slate as slate
 use Rattle.zpl_lowering.specs.Slate.{Slate, Slates, NoSlate, ThenSlate, Settled, alone, behind, both, named_slate, shifted_slate, remap_slate, border_slots, around_slate, source_of, under_source, source_rank, opened_source, of_opened, settled, settled_all}
 use Rattle.zpl_lowering.specs.Bracket.{Opened}
 use Rattle.zpl_lowering.specs.Hoist.{along_of}
 use Rattle.lowering_fits.specs.Inline.{FitRows}
-use Rattle.lowering_fits.specs.Slates.{SlotsAt, StoragesAt, IsOfRank, IsRemapOf, FitsOver, slates_count, FitsSlate, FitsSlates}
+use Rattle.lowering_fits.specs.Slates.{SlotsAt, StoragesAt, IsOfRank, IsRemapOf, FitsOver, slates_count, FitsSlate, FitsSlates, FitsShift, FitsVector, IsWhole}
 use Rattle.lowering_fits.specs.Lowerings.{AllRanks}
 use Rattle.lowering_fits.specs.Reach.{FitsCurrent, FitCurrents, place_at, IsStoredAs, HasFlatRemaps, HaveFlatRemaps, IsReach}
+use Rattle.lowering_fits.proofs.FringeLemmas.{copy_level}
 use Rattle.lowering_fits.proofs.TreeLemmas.{slots_first, slots_rest, storages_first, storages_rest, array_of, stored_of}
 use Rattle.lowering_fits.proofs.VectorLemmas.{VectorBy, by_vector, vector_by}
 use Rattle.lowering_fits.proofs.SlateLemmas.{rows_both}
@@ -196,15 +198,30 @@ rest_by (suc rank) (d ∷ v) (dim.Range lo hi step align ∷ dims) by =
     (small_rest d (extent lo hi) by.0, rest_by rank v dims by.1)
 rest_by (suc rank) (d ∷ v) (dim.Flood ∷ dims) by = (zero_small, rest_by rank v dims by.1)
 
-copy_vector : (rank : ℕ) (home : Region) (shift : List ℤ) → IsVector rank shift →
-    IsVector rank (copy_shift home shift)
-copy_vector rank home shift is = by (has_none home)
+rest_count : (v : List ℤ) (dims : List Dim) → length dims ≡ length v →
+    length (each_rest v dims) ≡ length v
+rest_count [] [] same = refl
+rest_count [] (one ∷ dims) same = refl
+rest_count (d ∷ v) [] same = same
+rest_count (d ∷ v) (dim.Range lo hi step align ∷ dims) same =
+    ap suc (rest_count v dims (omega (arith, same)))
+rest_count (d ∷ v) (dim.Flood ∷ dims) same = ap suc (rest_count v dims (omega (arith, same)))
+
+copy_vector : (rank : ℕ) (home : Region) (shift : List ℤ) → length home.dims ≡ 3 →
+    FitsVector rank shift → FitsVector rank (copy_shift home shift)
+copy_vector rank home shift three is = by (has_none home)
   where
-    by : (b : Bool) → IsVector rank (if b then zeros shift else each_rest shift home.dims)
-    by true = vector_by rank (zeros shift) (zeros_by rank shift)
-    by false =
-        vector_by rank (each_rest shift home.dims)
-        (rest_by rank shift home.dims (by_vector rank shift is))
+    by : (b : Bool) → FitsVector rank (if b then zeros shift else each_rest shift home.dims)
+    by true = (vector_by rank (zeros shift) (zeros_by rank shift), length-map shift _ ∙ is.1)
+    by false = (
+      vector_by rank (each_rest shift home.dims)
+          (rest_by rank shift home.dims (by_vector rank shift is.0)),
+      rest_count shift home.dims (three ∙ sym is.1) ∙ is.1,
+    )
+
+whole_of : (v : List ℤ) → length v ≡ 3 → IsWhole v
+whole_of [] three = tt
+whole_of (d ∷ v) three = three
 
 pub hull_rank : (one other : Region) → other.rank ≡ one.rank →
     (hull_with one other).rank ≡ one.rank
@@ -243,7 +260,7 @@ module _ (base : Tables) (w : Where) (currents : Currents) (reach : IsReach base
   element_slate : (rank : Rank) (name : Name) (place : ℕ) (home : Region) (shift : List ℤ) →
       thing_of w.environment name.text ≡ Some (ArrayAt place home) →
       array_rank (kind_of w.scope name) ≡ rank → HasCurrent currents rank →
-      IsVector (rank_number rank) shift →
+      FitsShift (rank_number rank) shift →
       FitsSlate base w.numbers (rank_number rank)
       (slate.Element (slotted_at w.currents rank).slot place shift)
   element_slate rank name place home shift e is has vector =
@@ -256,8 +273,8 @@ module _ (base : Tables) (w : Where) (currents : Currents) (reach : IsReach base
         vector,
       )
 
-  no_shift : (rank : ℕ) → IsVector rank []
-  no_shift rank = vector_by rank [] tt
+  no_shift : (rank : ℕ) → FitsShift rank []
+  no_shift rank = (vector_by rank [] tt, tt)
 
   named_fits : (rank : Rank) (name : Name) (thing : Option Thing) →
       thing_of w.environment name.text ≡ thing → IsRead currents rank thing →
@@ -273,17 +290,18 @@ module _ (base : Tables) (w : Where) (currents : Currents) (reach : IsReach base
 
   known_vector : (rank : Rank) (shift : Dir) → HasCurrent currents rank →
       dir_rank w.scope shift ≡ rank →
-      IsVector (rank_number rank) (vector_in w.setup.known shift)
+      FitsVector (rank_number rank) (vector_in w.setup.known shift)
   known_vector None shift has is = absurd has
   known_vector (Some rank) shift has is = reach.known.dirs rank shift is
 
   shifted_fits : (rank : Rank) (name : Name) (shift : List ℤ) (thing : Option Thing) →
       thing_of w.environment name.text ≡ thing → IsArrayRead currents rank thing →
-      array_rank (kind_of w.scope name) ≡ rank → IsVector (rank_number rank) shift →
+      array_rank (kind_of w.scope name) ≡ rank → FitsVector (rank_number rank) shift →
       FitsSlate base w.numbers (rank_number rank)
       (shifted_slate (slotted_at w.currents rank) shift thing)
   shifted_fits rank name shift (Some (ArrayAt place home)) e read is vector =
-      element_slate rank name place home shift e is read.1 vector
+      element_slate rank name place home shift e is read.1
+      (vector.0, whole_of shift vector.1)
   shifted_fits rank name shift (Some (Scalar place)) e read is vector = tt
   shifted_fits rank name shift (Some (Fixed value)) e read is vector = tt
   shifted_fits rank name shift None e read is vector = tt
@@ -291,7 +309,7 @@ module _ (base : Tables) (w : Where) (currents : Currents) (reach : IsReach base
   around_fits : (rank : Rank) (name : Name) (next : Next) (shift : List ℤ)
       (thing : Option Thing) → thing_of w.environment name.text ≡ thing →
       IsArrayRead currents rank thing → array_rank (kind_of w.scope name) ≡ rank →
-      IsVector (rank_number rank) shift →
+      FitsVector (rank_number rank) shift →
       IsLaid base next (around_slate next (slotted_at w.currents rank) shift thing) →
       SlateFits base w.numbers (rank_number rank)
       (around_slate next (slotted_at w.currents rank) shift thing)
@@ -315,13 +333,17 @@ module _ (base : Tables) (w : Where) (currents : Currents) (reach : IsReach base
           over.has,
           stored_rank rank (array_shape (kind_of w.scope name)) (slice_get w.numbers.arrays place)
               is found.has,
-          copy_vector number home shift vector,
+          copy_vector number home shift found.box.1 vector,
           record {
             box = found.box;
             same = same;
             has = array_of base number next.copies (copy_storage home shift) laid.copies_at.0
                 copied;
             is_stored = stored_of base next.copies (copy_storage home shift) laid.copies_at.0;
+            storage = copy_storage home shift;
+            stands = laid.copies_at.0;
+            ranked = copied;
+            level = copy_level home shift;
             slots = subst (λ n. SlotsAt base next.slots (replicate (border_slots moves) n)) same
                 laid.slots_at;
           },

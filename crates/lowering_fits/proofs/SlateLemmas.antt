@@ -1,7 +1,8 @@
 -- What comes of expressions with slots fits: the rows of their operators, and what is left.
-use Rattle.std.proofs.Common.{◌≡◌, ℕ, zero, suc, ◌+◌, ◌<◌, ◌≤◌, Bool, true, false, ℤ, List, [], ◌∷◌, ◌++◌, map, length, drop, take, refl, sym, ap, ◌∙◌, subst, arith}
+use Rattle.std.proofs.Common.{◌≡◌, inl, inr, ℕ, zero, suc, ◌+◌, ◌<◌, ◌≤◌, Bool, true, false, ℤ, List, [], ◌∷◌, ◌++◌, map, length, drop, take, refl, sym, ap, ◌∙◌, subst, arith}
+use Rattle.std.proofs.lemmas.List.{length-map}
 use Rattle.std.specs.Prelude.{pos, neg_ℤ, Option, Some, None, slice_get, All, replicate}
-use Rattle.std.specs.List.{AllByRecursion}
+use Rattle.std.specs.List.{AllByRecursion, list_all}
 use Rattle.std.specs.Option.{IfSome, IsSomeAnd, IsNone}
 use Rattle.std.proofs.lemmas.List.Elements.{All-from_recursion}
 use Rattle.zpl_nums.specs.declared.folds.Fold.{Fold}
@@ -21,7 +22,7 @@ use Rattle.node_form.specs.Expression as expr
 use Rattle.node_form.specs.Expression.{Expression, words_of}
 use Rattle.node_form.specs.Nest as nest
 use Rattle.node_form.specs.Nest.{IsNest}
-use Rattle.node_form.specs.Fits.{IsRank, IsVector, HasSlot, HasArray, IsStored, IsTemporary, FitsRemap, IsIndexArray}
+use Rattle.node_form.specs.Fits.{IsRank, IsVector, HasSlot, HasArray, IsTemporary, FitsRemap, IsIndexArray}
 use Rattle.row_runs.specs.Structured as piece
 use Rattle.row_runs.specs.Structured.{Piece}
 use Rattle.flat_form.specs.Row as row
@@ -32,10 +33,11 @@ use Rattle.zpl_lowering.specs.Reference.{is_unmoved, vector_over}
 use Rattle.zpl_lowering.specs.Slate as slate
 use Rattle.zpl_lowering.specs.Slate.{Slate, Slates, NoSlate, ThenSlate, border_slots}
 use Rattle.zpl_lowering.specs.Hoist.{Hoisted, Free, alone, behind, both, neighbour_if, element_code, shifted_if, shifts_of, stored_element, array_code, mask_word, mask_code, unary_code, fold_rows, folding, kept_rows, part_folding, flooding, along_of, scan_row, scan_with, scan_without, masked_scan, number_of, scanning, temps_from, some_of, three_of, rooms, index_puts, past_dims, any_of, outside_code, trap_if, remap_code, remapping, border_vectors, border_rows, wrapping, hoisted, all_hoisted}
-use Rattle.lowering_fits.specs.Inline.{long, FitsMask, FitsRow, FitRows, FitsPiece, AllInside}
-use Rattle.lowering_fits.specs.Slates.{SlotsAt, TempsAt, AllRanges, IsRowOf, HasStorage, FitNumbers, IsOfRank, IsRemapOf, IsMaskOf, FitsOver, slates_count, FitsCopy, FitsSlate, FitsSlates, FitsTree, FitTrees, AllTemps, AllShifts, IsPlaced, FitsHoist}
-use Rattle.lowering_fits.proofs.VectorLemmas.{by_vector, vector_by, opposite_by, VectorsBy, borders_by, double, border_count}
-use Rattle.lowering_fits.proofs.TreeLemmas.{tree_fits, scalar_tree, below_at, variable_fits, IsThere, stored_at, array_of, stored_of, temps_first, temps_rest, temps_both, shifts_both, over_fits}
+use Rattle.lowering_fits.specs.Inline.{long, FitsMask, FitsRow, FitRows, FitsPiece, AllInside, is_still, AllStill, PutsKept, ReadsApart}
+use Rattle.lowering_fits.specs.Slates.{SlotsAt, TempsAt, AllRanges, IsRowOf, HasStorage, FitNumbers, IsOfRank, IsRemapOf, IsMaskOf, FitsOver, slates_count, FitsCopy, FitsSlate, FitsSlates, FitsShift, FitsTree, FitTrees, FitsVector, AllTemps, AllShifts, AllCovered, IsLevel, IsPlaced, FitsHoist}
+use Rattle.lowering_fits.proofs.VectorLemmas.{by_vector, vector_by, opposite_by, VectorsBy, borders_by, AllCount, borders_alike, double, border_count}
+use Rattle.lowering_fits.proofs.FringeLemmas.{over_level, within_fringe, covered_first, covered_rest}
+use Rattle.lowering_fits.proofs.TreeLemmas.{tree_fits, scalar_tree, below_at, variable_fits, IsThere, stored_at, array_of, stored_of, temps_first, temps_rest, temps_both, shifts_both, over_fits, over_three}
 
 -- ---- groups of one and of two members
 
@@ -80,14 +82,15 @@ module _ (base : Tables) where
 
   pub put_loop : (rank slot array : ℕ) (tree : Expression) (mask : Option Words) (line : ℕ) →
       IsRank rank → HasSlot base rank slot → HasArray base rank array → FitsTree base rank tree →
-      FitsMask base rank mask →
+      FitsMask base rank mask → ReadsApart base (row.Put array (words_of tree) mask line ∷ []) →
       FitsRow base 0 (row.Loop slot (row.Put array (words_of tree) mask line ∷ []))
-  put_loop rank slot array tree mask line is has there fits masked = record {
+  put_loop rank slot array tree mask line is has there fits masked apart = record {
     rank = rank;
     is_rank = is;
     over = has;
     nest = put_nest array (words_of tree) mask line;
     fit = ((there, tree_fits base rank tree fits, masked), tt);
+    apart = apart;
   }
 
   pub acc_loop : (rank slot scalar : ℕ) (operator : Fold) (tree : Expression) (mask : Option Words)
@@ -100,6 +103,7 @@ module _ (base : Tables) where
     over = has;
     nest = acc_nest scalar operator (words_of tree) mask line;
     fit = ((below, tree_fits base rank tree fits, masked), tt);
+    apart = inl tt;
   }
 
   pub room_fits : (rank temp slot : ℕ) → HasSlot base rank slot → HasArray base rank temp →
@@ -117,7 +121,10 @@ module _ (base : Tables) where
       FitRows base 0 (kept_rows line temp slot tree mask)
   kept_fits rank line temp slot tree mask is has there temporary fits masked = (
     room_fits rank temp slot has there temporary,
-    (put_loop rank slot temp tree mask line is has there fits masked, tt),
+    (
+      put_loop rank slot temp tree mask line is has there fits masked (inl (temporary, tt)),
+      tt,
+    ),
   )
 
   -- ---- masks
@@ -148,6 +155,19 @@ module _ (base : Tables) where
       (mask_tree rank mask.without (array_code (slice_get numbers.arrays mask.array))
       (mask_at numbers rank mask fits is masked))
 
+  -- and it reads nothing with a shift
+  pub mask_still : (numbers : Numbers) (mask : Option Mask) →
+      AllStill (row.mask_words (mask_code numbers mask))
+  mask_still numbers None = tt
+  mask_still numbers (Some mask) = (by mask.without (slice_get numbers.arrays mask.array), tt)
+    where
+      by : (b : Bool) (stored : Option Stored) →
+          list_all is_still (words_of (mask_word b (array_code stored))) ≡ true
+      by true None = refl
+      by true (Some stored) = refl
+      by false None = refl
+      by false (Some stored) = refl
+
   -- the mask of a scan is an array
   mask_array : (numbers : Numbers) (rank : ℕ) (mask : Mask) → FitNumbers base numbers →
       IsMaskOf numbers rank (Some mask) →
@@ -163,13 +183,23 @@ module _ (base : Tables) where
 
   -- ---- elements
 
-  element_fits : (rank array : ℕ) (shift : List ℤ) → IsRank rank → HasArray base rank array →
-      IsVector rank shift → IsStored base array → FitsTree base rank (element_code array shift)
-  element_fits rank array shift is has vector stored = by (is_unmoved shift)
+  element_fits : (rank array : ℕ) (storage : Region) (shift : List ℤ) → IsRank rank →
+      HasStorage base storage array → storage.rank ≡ rank → FitsVector rank shift →
+      IsLevel storage.dims shift → AllCovered base (shifts_of array shift) →
+      FitsTree base rank (element_code array shift)
+  element_fits rank array storage shift is has same vector level covered =
+      by (is_unmoved shift) covered
     where
-      by : (b : Bool) → FitsTree base rank (neighbour_if b array shift)
-      by true = (is, has)
-      by false = (is, has, vector, stored)
+      by : (b : Bool) → AllCovered base (shifted_if b array shift) →
+          FitsTree base rank (neighbour_if b array shift)
+      by true covered = (is, array_of base rank array storage has same)
+      by false covered = (
+        is,
+        array_of base rank array storage has same,
+        vector,
+        stored_of base array storage has,
+        within_fringe base rank array storage shift has same vector.0 level covered.0,
+      )
 
   shifts_fit : (rank array : ℕ) (shift : List ℤ) → IsVector rank shift →
       AllShifts (shifts_of array shift)
@@ -197,20 +227,23 @@ module _ (base : Tables) where
       record { rows = record { code = tt; temps = tt; shifts = tt }; left = fits }
 
   stored_fits : (rank : ℕ) (stored : Option Stored) (shift : List ℤ) → IsRank rank →
-      IsThere base stored → IsOfRank rank stored → IsVector rank shift →
+      IsThere base stored → IsOfRank rank stored → FitsShift rank shift →
+      AllCovered base (stored_element stored shift).shifts →
       FitsLeft base rank (stored_element stored shift)
-  stored_fits rank None shift is there same vector = alone_fits rank (expr.Constant (pos 0)) tt
-  stored_fits rank (Some stored) shift is there same vector =
-      let over = over_fits rank stored.storage shift vector in
+  stored_fits rank None shift is there same vector covered =
+      alone_fits rank (expr.Constant (pos 0)) tt
+  stored_fits rank (Some stored) shift is there same vector covered =
+      let over = over_fits rank stored.storage shift vector.0 in
+      let three = over_three stored.storage shift vector.1 in
       record {
         rows = record {
           code = tt;
           temps = tt;
           shifts = shifts_fit base rank stored.array (vector_over stored.storage shift) over;
         };
-        left = element_fits base rank stored.array (vector_over stored.storage shift) is
-            (array_of base rank stored.array stored.storage there same) over
-            (stored_of base stored.array stored.storage there);
+        left = element_fits base rank stored.array stored.storage
+            (vector_over stored.storage shift) is there same (over, three)
+            (over_level stored.storage shift) covered;
       }
 
   -- the parts that two expressions have
@@ -398,6 +431,7 @@ module _ (base : Tables) where
                 (first, tree_fits base rank tree left, masks),
                 ((second, tree_fits base rank inverse (is.is_rank, masked), tt), tt),
               );
+              apart = inl (one, (two, tt));
             },
             scan_row_fits numbers rank (suc (suc from)) from operator along over
                 (Some (suc from)) is within third three first second,
@@ -528,6 +562,13 @@ module _ (base : Tables) where
     puts_fit rank line (suc temp) mask flood exprs same masked fit.1 at.1,
   )
 
+  puts_kept : (line temp : ℕ) (mask : Option Words) (flood : List Bool)
+      (exprs : List Expression) → TempsAt base temp (replicate (length exprs) flood) →
+      PutsKept base (index_puts line mask temp exprs)
+  puts_kept line temp mask flood [] at = tt
+  puts_kept line temp mask flood (one ∷ exprs) at =
+      (at.0.1, puts_kept line (suc temp) mask flood exprs at.1)
+
   trees_both : (rank : ℕ) (xs ys : List Expression) → FitTrees base rank xs →
       FitTrees base rank ys → FitTrees base rank (xs ++ ys)
   trees_both rank [] ys first rest = rest
@@ -656,6 +697,7 @@ module _ (base : Tables) where
                 over = is.has;
                 nest = puts_nest line temp mask exprs;
                 fit = puts_fit rank line temp mask over.flood exprs is.floods masks fit two.0;
+                apart = inl (puts_kept line temp mask over.flood exprs two.0);
               },
               (
                 set_fits base scalar (expr.Constant (pos 0)) line below tt,
@@ -733,51 +775,57 @@ module _ (base : Tables) where
 
   borders_fit : (rank line copy home next : ℕ) (vectors : List (List ℤ)) → IsRank rank →
       HasSlot base rank home → HasArray base rank copy → VectorsBy rank vectors →
-      SlotsAt base next (replicate (double vectors) rank) →
+      AllCount 3 vectors → SlotsAt base next (replicate (double vectors) rank) →
       FitRows base 0 (border_rows line copy home next vectors)
-  borders_fit rank line copy home next [] is has there by at = tt
-  borders_fit rank line copy home next (v ∷ vectors) is has there by at = (
-    (record { rank = rank; fit = (at.0, has, vector_by rank v by.0) }, tt),
+  borders_fit rank line copy home next [] is has there by three at = tt
+  borders_fit rank line copy home next (v ∷ vectors) is has there by three at = (
+    (record { rank = rank; fit = (at.0, has, vector_by rank v by.0) }, three.0),
     (
       (
         record {
           rank = rank;
           fit = (at.1.0, has, vector_by rank (map neg_ℤ v) (opposite_by rank v by.0));
         },
-        tt,
+        length-map v neg_ℤ ∙ three.0,
       ),
       (
-        (record { rank = rank; fit = (has, there, vector_by rank v by.0) }, tt),
-        borders_fit rank line copy home (suc (suc next)) vectors is has there by.1 at.1.1,
+        (record { rank = rank; fit = (has, there, vector_by rank v by.0) }, three.0),
+        borders_fit rank line copy home (suc (suc next)) vectors is has there by.1 three.1
+            at.1.1,
       ),
     ),
   )
 
   wrap_fit : (rank line : ℕ) (stored : Option Stored) (home : Region) (shift : List ℤ)
       (copy first : ℕ) → IsRank rank → IsThere base stored → IsOfRank rank stored →
-      IsVector rank shift → FitsCopy base rank copy first home shift →
+      FitsVector rank shift → FitsCopy base rank copy first home shift →
+      AllCovered base (wrapping line stored home shift copy first).shifts →
       FitsLeft base rank (wrapping line stored home shift copy first)
-  wrap_fit rank line None home shift copy first is there same vector fits =
+  wrap_fit rank line None home shift copy first is there same vector fits covered =
       alone_fits rank (expr.Constant (pos 0)) tt
-  wrap_fit rank line (Some stored) home shift copy first is there same vector fits =
+  wrap_fit rank line (Some stored) home shift copy first is there same vector fits covered =
       let slots : SlotsAt base first (replicate (suc (double (border_vectors shift))) rank) =
       subst (λ n. SlotsAt base first (replicate n rank)) (border_count shift) fits.slots in
       record {
         rows = record {
           code = (
-            (record { rank = rank; fit = (slots.0, fits.box, fits.same) }, tt),
+            (record { rank = rank; fit = (slots.0, fits.box.0, fits.same) }, fits.box.1),
             (
               put_loop base rank first copy (expr.Element stored.array) None line is slots.0
                   fits.has
-                  (is, array_of base rank stored.array stored.storage there same) tt,
+                  (is, array_of base rank stored.array stored.storage there same) tt
+                  (inr (inr tt)),
               borders_fit rank line copy first (suc first) (border_vectors shift) is slots.0
-                  fits.has (borders_by rank shift (by_vector rank shift vector)) slots.1,
+                  fits.has (borders_by rank shift (by_vector rank shift vector.0))
+                  (subst (λ n. AllCount n (border_vectors shift)) vector.1 (borders_alike shift))
+                  slots.1,
             ),
           );
           temps = tt;
-          shifts = shifts_fit base rank copy shift vector;
+          shifts = shifts_fit base rank copy shift vector.0;
         };
-        left = element_fits base rank copy shift is fits.has vector fits.is_stored;
+        left = element_fits base rank copy fits.storage shift is fits.stands fits.ranked vector
+            fits.level covered;
       }
 
   -- ---- all expressions
@@ -830,40 +878,71 @@ module _ (base : Tables) where
       first_placed free indices.scalars 1 indices.temps
       (replicate (length indices.left + 1) over.flood) placed
 
+  -- and their shifts
+  scan_covered : (numbers : Numbers) (line : ℕ) (free : Free) (operator : Fold)
+      (along : Option ℤ) (over : Slotted) (mask : Option Mask) (operand : Hoisted Expression) →
+      AllCovered base (scanning numbers line free operator along over mask operand).shifts →
+      AllCovered base operand.shifts
+  scan_covered numbers line free operator along over None operand covered = covered
+  scan_covered numbers line free operator along over (Some mask) operand covered =
+      by mask.without (number_of (slice_get numbers.arrays mask.array)) covered
+    where
+      by : (b : Bool) (mask : ℕ) →
+          AllCovered base (masked_scan numbers line free operator along over operand b mask).shifts →
+          AllCovered base operand.shifts
+      by false mask covered = covered
+      by true mask covered = covered
+
+  remap_covered : (numbers : Numbers) (line : ℕ) (free : Free) (over : Slotted)
+      (stored : Option Stored) (indices : Hoisted (List Expression)) →
+      AllCovered base (remapping numbers line free over stored indices).shifts →
+      AllCovered base indices.shifts
+  remap_covered numbers line free over None indices covered = covered
+  remap_covered numbers line free over (Some stored) indices covered = covered
+
 mutual
   pub hoisted_fits : (base : Tables) (numbers : Numbers) (line : ℕ) (free : Free) (rank : ℕ)
       (one : Slate) → FitNumbers base numbers → FitsSlate base numbers rank one →
       IsPlaced base free (hoisted numbers line free one).scalars
       (hoisted numbers line free one).temps →
+      AllCovered base (hoisted numbers line free one).shifts →
       FitsLeft base rank (hoisted numbers line free one)
-  hoisted_fits base numbers line free rank (slate.Constant value) fits is placed =
+  hoisted_fits base numbers line free rank (slate.Constant value) fits is placed
+      covered =
       alone_fits base rank (expr.Constant value) tt
-  hoisted_fits base numbers line free rank (slate.Variable place) fits is placed =
+  hoisted_fits base numbers line free rank (slate.Variable place) fits is placed
+      covered =
       alone_fits base rank (variable_code (slice_get numbers.scalars place))
       (variable_fits base rank (slice_get numbers.scalars place)
       (below_at base numbers.scalars place fits.scalars))
-  hoisted_fits base numbers line free rank (slate.Coordinate k) fits is placed =
+  hoisted_fits base numbers line free rank (slate.Coordinate k) fits is placed
+      covered =
       alone_fits base rank (expr.Coordinate k) is
-  hoisted_fits base numbers line free rank (slate.Element slot place shift) fits is placed =
+  hoisted_fits base numbers line free rank (slate.Element slot place shift) fits is placed
+      covered =
       stored_fits base rank (slice_get numbers.arrays place) shift is.0
-      (stored_at base numbers.arrays place fits.arrays) is.2 is.3
+      (stored_at base numbers.arrays place fits.arrays) is.2 is.3 covered
   hoisted_fits base numbers line free rank (slate.Wrapped slot place home shift copy first) fits is
-      placed =
+      placed covered =
       wrap_fit base rank line (slice_get numbers.arrays place) home shift copy first is.0
-      (stored_at base numbers.arrays place fits.arrays) is.2 is.3 is.4
-  hoisted_fits base numbers line free rank (slate.Unary operator operand) fits is placed =
-      let one = hoisted_fits base numbers line free rank operand fits is placed in
+      (stored_at base numbers.arrays place fits.arrays) is.2 is.3 is.4 covered
+  hoisted_fits base numbers line free rank (slate.Unary operator operand) fits is placed
+      covered =
+      let one = hoisted_fits base numbers line free rank operand fits is placed covered in
       record {
         rows = record { code = one.rows.code; temps = one.rows.temps; shifts = one.rows.shifts };
         left = unary_fits base rank operator (hoisted numbers line free operand).left one.left;
       }
-  hoisted_fits base numbers line free rank (slate.Binary operator left right) fits is placed =
+  hoisted_fits base numbers line free rank (slate.Binary operator left right) fits is placed
+      covered =
       let first : Hoisted Expression = hoisted numbers line free left in
       let rest : Hoisted Expression = hoisted numbers line (behind free first) right in
       let one = hoisted_fits base numbers line free rank left fits is.0
-      (first_placed base free first.scalars rest.scalars first.temps rest.temps placed) in
+      (first_placed base free first.scalars rest.scalars first.temps rest.temps placed)
+      (covered_first base first.shifts rest.shifts covered) in
       let other = hoisted_fits base numbers line (behind free first) rank right fits is.1
-      (rest_placed base free first.scalars rest.scalars first.temps rest.temps placed) in
+      (rest_placed base free first.scalars rest.scalars first.temps rest.temps placed)
+      (covered_rest base first.shifts rest.shifts covered) in
       record {
         rows = record {
           code = (one.rows.code, other.rows.code);
@@ -872,55 +951,65 @@ mutual
         };
         left = (one.left, other.left);
       }
-  hoisted_fits base numbers line free rank (slate.Folded operator over operand) fits is placed =
+  hoisted_fits base numbers line free rank (slate.Folded operator over operand) fits is placed
+      covered =
       let inner : Hoisted Expression = hoisted numbers line free operand in
       fold_fit base numbers rank line free operator over inner is.0 fits is.1.0
       (hoisted_fits base numbers line free is.0 operand fits is.1.1
-      (first_placed base free inner.scalars 1 inner.temps [] placed)) placed
+      (first_placed base free inner.scalars 1 inner.temps [] placed) covered) placed
   hoisted_fits base numbers line free rank (slate.PartFolded operator over source operand) fits is
-      placed =
+      placed covered =
       let inner : Hoisted Expression = hoisted numbers line free operand in
       part_fit base numbers rank line free operator over source inner is.0 is.1
       (hoisted_fits base numbers line free rank operand fits is.2
       (first_placed base free inner.scalars 0 inner.temps (source.flood ∷ over.flood ∷ [])
-      placed)) placed
+      placed) covered) placed
   hoisted_fits base numbers line free rank (slate.Scanned operator along over operand) fits is
-      placed =
+      placed covered =
       let inner : Hoisted Expression = hoisted numbers line free operand in
       scan_fit base numbers rank line free operator along over over.mask inner fits is.0
       is.0.masked is.1
       (hoisted_fits base numbers line free rank operand fits is.2
-      (scan_placed base numbers rank line free operator along over over.mask inner placed)) placed
-  hoisted_fits base numbers line free rank (slate.Flooded over source operand) fits is placed =
+      (scan_placed base numbers rank line free operator along over over.mask inner placed)
+      (scan_covered base numbers line free operator along over over.mask inner covered)) placed
+  hoisted_fits base numbers line free rank (slate.Flooded over source operand) fits is placed
+      covered =
       let inner : Hoisted Expression = hoisted numbers line free operand in
       flood_fit base numbers rank line free over source inner is.0 is.1
       (hoisted_fits base numbers line free rank operand fits is.2
       (first_placed base free inner.scalars 0 inner.temps (source.flood ∷ over.flood ∷ [])
-      placed)) placed
-  hoisted_fits base numbers line free rank (slate.Remapped over place indices) fits is placed =
+      placed) covered) placed
+  hoisted_fits base numbers line free rank (slate.Remapped over place indices) fits is placed
+      covered =
       let inner : Hoisted (List Expression) = all_hoisted numbers line free indices in
       remap_fit base numbers rank (slates_count indices) line free over
       (slice_get numbers.arrays place) inner fits is.0
       (stored_at base numbers.arrays place fits.arrays) is.1
       (all_hoisted_fit base numbers line free rank indices fits is.2
-      (remap_placed base numbers line free over (slice_get numbers.arrays place) inner placed))
+      (remap_placed base numbers line free over (slice_get numbers.arrays place) inner placed)
+      (remap_covered base numbers line free over (slice_get numbers.arrays place) inner covered))
       placed
 
   all_hoisted_fit : (base : Tables) (numbers : Numbers) (line : ℕ) (free : Free) (rank : ℕ)
       (all : Slates) → FitNumbers base numbers → FitsSlates base numbers rank all →
       IsPlaced base free (all_hoisted numbers line free all).scalars
       (all_hoisted numbers line free all).temps →
+      AllCovered base (all_hoisted numbers line free all).shifts →
       FitsLefts base rank (slates_count all) (all_hoisted numbers line free all)
-  all_hoisted_fit base numbers line free rank NoSlate fits is placed = record {
-    rows = record { code = tt; temps = tt; shifts = tt };
-    left = tt;
-    counted = refl;
-  }
-  all_hoisted_fit base numbers line free rank (ThenSlate one others) fits is placed =
+  all_hoisted_fit base numbers line free rank NoSlate fits is placed
+      covered = record {
+        rows = record { code = tt; temps = tt; shifts = tt };
+        left = tt;
+        counted = refl;
+      }
+  all_hoisted_fit base numbers line free rank (ThenSlate one others) fits is placed
+      covered =
       let first : Hoisted Expression = hoisted numbers line free one in
       let rest : Hoisted (List Expression) = all_hoisted numbers line (behind free first) others in
       both_lefts base rank (slates_count others) first rest
       (hoisted_fits base numbers line free rank one fits is.0
-      (first_placed base free first.scalars rest.scalars first.temps rest.temps placed))
+      (first_placed base free first.scalars rest.scalars first.temps rest.temps placed)
+      (covered_first base first.shifts rest.shifts covered))
       (all_hoisted_fit base numbers line (behind free first) rank others fits is.1
-      (rest_placed base free first.scalars rest.scalars first.temps rest.temps placed))
+      (rest_placed base free first.scalars rest.scalars first.temps rest.temps placed)
+      (covered_rest base first.shifts rest.shifts covered))

@@ -1,5 +1,5 @@
 -- The code of statements without others in them fits.
-use Rattle.std.proofs.Common.{◌≡◌, ℕ, suc, ◌+◌, ◌≤◌, List, [], ◌∷◌, length, sym, ap, ◌∙◌, subst, arith}
+use Rattle.std.proofs.Common.{◌≡◌, ℕ, suc, ◌+◌, ◌≤◌, List, [], ◌∷◌, length, sym, ap, ◌∙◌, subst, arith, inr}
 use Rattle.std.specs.Prelude.{◌⊎◌, Option, Some, None, option_map, slice_get}
 use Rattle.std.specs.Option.{IsSomeAnd}
 use Rattle.std.proofs.Common.{inl, inr}
@@ -29,7 +29,7 @@ use Rattle.lowering_fits.specs.Reach.{place_at, IsStoredAs, IsReach}
 use Rattle.lowering_fits.specs.Lowerings.{IsLaidOut, FitsLowered}
 use Rattle.lowering_fits.proofs.TreeLemmas.{scalar_tree, tree_of_rank, IsBelow, below_at, IsThere, stored_at, array_of}
 use Rattle.lowering_fits.proofs.VectorLemmas.{vector_by}
-use Rattle.lowering_fits.proofs.SlateLemmas.{set_fits, put_loop, mask_fits}
+use Rattle.lowering_fits.proofs.SlateLemmas.{set_fits, put_loop, mask_fits, mask_still}
 use Rattle.lowering_fits.proofs.BracketLemmas.{rank_number, LimitsAreTold}
 use Rattle.lowering_fits.proofs.SettleLemmas.{over_of}
 use Rattle.lowering_fits.proofs.PhaseLemmas.{laid_front, laid_behind, both_fit, rows_alone_fit, refers_fit, over_referred, AreSound, FitLefts, phases_fit, then_fits, then_laid}
@@ -92,7 +92,8 @@ module _ (limits : LimitsAreTold) (base : Tables) (w : Where) (result : ℕ) (cu
   put_row_fits line rank over tree (Some stored) is there same fits = (
     put_loop base rank over.slot stored.array tree (mask_code w.numbers over.mask) line
         is.is_rank is.has (array_of base rank stored.array stored.storage there same) fits
-        (mask_fits base w.numbers rank over.mask reach.numbers is.is_rank is.masked),
+        (mask_fits base w.numbers rank over.mask reach.numbers is.is_rank is.masked)
+        (inr (inr (mask_still base w.numbers over.mask))),
     tt,
   )
 

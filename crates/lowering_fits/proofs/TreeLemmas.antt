@@ -1,6 +1,7 @@
 -- Expressions whose parts fit are words that fit; and what is laid out in tables, by its numbers.
-use Rattle.std.proofs.Common.{◌≡◌, ℕ, zero, suc, ◌+◌, ◌<◌, Bool, true, ℤ, List, [], ◌∷◌, ◌++◌, length, drop, refl, ◌∙◌, subst, arith}
+use Rattle.std.proofs.Common.{◌≡◌, ℕ, zero, suc, ◌+◌, ◌<◌, Bool, true, false, ◌&&◌, ℤ, List, [], ◌∷◌, ◌++◌, length, drop, refl, ap, ◌∙◌, subst, arith}
 use Rattle.std.specs.Prelude.{pos, Option, Some, None, slice_get, All}
+use Rattle.std.specs.List.{list_all}
 use Rattle.std.specs.Option.{IsSomeAnd}
 use Rattle.std.proofs.lemmas.Int.{ints}
 use Rattle.std.proofs.lemmas.List.Elements.{All-append, All-cons, All-nil, All-head, All-tail, All-from_recursion}
@@ -20,9 +21,11 @@ use Rattle.zpl_lowering.specs.Where.{Stored}
 use Rattle.zpl_lowering.specs.Words.{variable_code}
 use Rattle.zpl_lowering.specs.Reference.{shift_in, vector_over}
 use Rattle.zpl_lowering.specs.Hoist.{Shifted}
+use Rattle.flat_form.specs.Static.{word_has_fringe}
 use Rattle.stored_shifts.specs.Stored.{IsStoredRead}
+use Rattle.typed_tables.specs.Typed.{IsTypedWord}
 use Rattle.lowering_fits.specs.Inline.{FitsWords, FitsScalar}
-use Rattle.lowering_fits.specs.Slates.{SlotsAt, TempsAt, IsRowOf, HasStorage, StoragesAt, AllBelow, AllStored, FitsTree, AllTemps, AllShifts}
+use Rattle.lowering_fits.specs.Slates.{SlotsAt, TempsAt, IsRowOf, HasStorage, StoragesAt, AllBelow, AllStored, FitsTree, IsWhole, AllTemps, AllShifts}
 
 -- ---- trees
 
@@ -36,7 +39,7 @@ module _ (base : Tables) where
   tree_all rank (expr.Element array) fits =
       All-cons (FitsWord base rank) (word.Here array) [] fits.1 (All-nil (FitsWord base rank))
   tree_all rank (expr.Neighbour array shift) fits =
-      All-cons (FitsWord base rank) (word.Shifted array shift) [] (fits.1, fits.2)
+      All-cons (FitsWord base rank) (word.Shifted array shift) [] (fits.1, fits.2.0)
       (All-nil (FitsWord base rank))
   tree_all rank (expr.CellValue cell) fits = absurd fits
   tree_all rank (expr.Coordinate dimension) fits =
@@ -92,12 +95,81 @@ module _ (base : Tables) where
       behind_stored (words_of operand) (word.Abs ∷ []) (tree_stored rank operand fits)
       (one_stored word.Abs tt)
 
+  -- its shifts
+  behind_typed : (front back : List ExprOp) → All IsTypedWord front → All IsTypedWord back →
+      All IsTypedWord (front ++ back)
+  behind_typed front back = All-append IsTypedWord front back
+
+  one_typed : (one : ExprOp) → IsTypedWord one → All IsTypedWord (one ∷ [])
+  one_typed one is = All-cons IsTypedWord one [] is (All-nil IsTypedWord)
+
+  tree_typed : (rank : ℕ) (tree : Expression) → FitsTree base rank tree →
+      All IsTypedWord (words_of tree)
+  tree_typed rank (expr.Constant value) fits = one_typed (word.Const value) tt
+  tree_typed rank (expr.Variable scalar) fits = one_typed (word.Scalar scalar) tt
+  tree_typed rank (expr.Element array) fits = one_typed (word.Here array) tt
+  tree_typed rank (expr.Neighbour array shift) fits =
+      one_typed (word.Shifted array shift) fits.2.1
+  tree_typed rank (expr.CellValue cell) fits = absurd fits
+  tree_typed rank (expr.Coordinate dimension) fits = one_typed (word.Coord dimension) tt
+  tree_typed rank (expr.Operation op left right) fits =
+      behind_typed (words_of left) (words_of right ++ word.Pair op ∷ [])
+      (tree_typed rank left fits.0)
+      (behind_typed (words_of right) (word.Pair op ∷ []) (tree_typed rank right fits.1)
+      (one_typed (word.Pair op) tt))
+  tree_typed rank (expr.Negation operand) fits =
+      behind_typed (words_of operand) (word.Neg ∷ []) (tree_typed rank operand fits)
+      (one_typed word.Neg tt)
+  tree_typed rank (expr.Denial operand) fits =
+      behind_typed (words_of operand) (word.Not ∷ []) (tree_typed rank operand fits)
+      (one_typed word.Not tt)
+  tree_typed rank (expr.Absolute operand) fits =
+      behind_typed (words_of operand) (word.Abs ∷ []) (tree_typed rank operand fits)
+      (one_typed word.Abs tt)
+
+  -- and its fringes
+  abbrev AllWithin : List ExprOp → Type 0
+  AllWithin words = list_all (word_has_fringe base) words ≡ true
+
+  both_within : (front back : List ExprOp) → AllWithin front → AllWithin back →
+      AllWithin (front ++ back)
+  both_within [] back first rest = rest
+  both_within (one ∷ front) back first rest =
+      by (word_has_fringe base one) first (λ others. both_within front back others rest)
+    where
+      by : (b : Bool) → (b && list_all (word_has_fringe base) front) ≡ true →
+          (AllWithin front → AllWithin (front ++ back)) →
+          (b && list_all (word_has_fringe base) (front ++ back)) ≡ true
+      by true holds later = later holds
+      by false holds later = let no : ⊥ = cc in absurd no
+
+  tree_within : (rank : ℕ) (tree : Expression) → FitsTree base rank tree →
+      AllWithin (words_of tree)
+  tree_within rank (expr.Constant value) fits = refl
+  tree_within rank (expr.Variable scalar) fits = refl
+  tree_within rank (expr.Element array) fits = refl
+  tree_within rank (expr.Neighbour array shift) fits = ap (λ b. b && true) fits.4
+  tree_within rank (expr.CellValue cell) fits = absurd fits
+  tree_within rank (expr.Coordinate dimension) fits = refl
+  tree_within rank (expr.Operation op left right) fits =
+      both_within (words_of left) (words_of right ++ word.Pair op ∷ [])
+      (tree_within rank left fits.0)
+      (both_within (words_of right) (word.Pair op ∷ []) (tree_within rank right fits.1) refl)
+  tree_within rank (expr.Negation operand) fits =
+      both_within (words_of operand) (word.Neg ∷ []) (tree_within rank operand fits) refl
+  tree_within rank (expr.Denial operand) fits =
+      both_within (words_of operand) (word.Not ∷ []) (tree_within rank operand fits) refl
+  tree_within rank (expr.Absolute operand) fits =
+      both_within (words_of operand) (word.Abs ∷ []) (tree_within rank operand fits) refl
+
   pub tree_fits : (rank : ℕ) (tree : Expression) → FitsTree base rank tree →
       FitsWords base rank (words_of tree)
   tree_fits rank tree fits = record {
     stack = record { tree = tree; spelled = refl };
     fit = tree_all rank tree fits;
     stored = tree_stored rank tree fits;
+    typed = tree_typed rank tree fits;
+    within = tree_within rank tree fits;
   }
 
   -- a scalar has every rank
@@ -300,3 +372,15 @@ pub over_fits : (rank : ℕ) (storage : Region) (shift : List ℤ) → IsVector 
 over_fits rank storage [] fits = unmoved_fits rank
 over_fits rank storage (d ∷ v) fits =
     (shift_small storage.dims (d ∷ v) fits.0, shift_none rank storage.dims (d ∷ v) fits.1)
+
+-- and it is whole
+in_count : (dims : List Dim) (v : List ℤ) → length (shift_in dims v) ≡ length v
+in_count dims [] = refl
+in_count [] (d ∷ v) = ap suc (in_count [] v)
+in_count (dim.Range lo hi step align ∷ dims) (d ∷ v) = ap suc (in_count dims v)
+in_count (dim.Flood ∷ dims) (d ∷ v) = ap suc (in_count dims v)
+
+pub over_three : (storage : Region) (shift : List ℤ) → IsWhole shift →
+    length (vector_over storage shift) ≡ 3
+over_three storage [] whole = refl
+over_three storage (d ∷ v) whole = in_count storage.dims (d ∷ v) ∙ whole

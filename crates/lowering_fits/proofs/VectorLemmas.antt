@@ -110,6 +110,37 @@ borders_by rank v by = rest (choices v) (choices_by rank v by)
     rest [] by = tt
     rest (v ∷ vs) by = by.1
 
+-- ---- with as many components as the read's
+
+abbrev pub AllCount : ℕ → List (List ℤ) → Type 0
+AllCount n [] = Unit {0}
+AllCount n (v ∷ vs) = (length v ≡ n) × AllCount n vs
+
+more_alike : (n : ℕ) (d : ℤ) (vs : List (List ℤ)) → AllCount n vs →
+    AllCount (suc n) (flat_map (kept_or_not d) vs)
+more_alike n d [] all = tt
+more_alike n d (v ∷ vs) all = split (more_alike n d vs all.1) (is_true d) refl
+  where
+    split : AllCount (suc n) (flat_map (kept_or_not d) vs) → (b : Bool) → is_true d ≡ b →
+        AllCount (suc n) (kept_or_not d v ++ flat_map (kept_or_not d) vs)
+    split rest true e =
+        subst (λ front. AllCount (suc n) (front ++ flat_map (kept_or_not d) vs))
+        (sym (kept_true d v e)) (ap suc all.0, (ap suc all.0, rest))
+    split rest false e =
+        subst (λ front. AllCount (suc n) (front ++ flat_map (kept_or_not d) vs))
+        (sym (kept_false d v e)) (ap suc all.0, rest)
+
+choices_alike : (v : List ℤ) → AllCount (length v) (choices v)
+choices_alike [] = (refl, tt)
+choices_alike (d ∷ v) = more_alike (length v) d (choices v) (choices_alike v)
+
+pub borders_alike : (v : List ℤ) → AllCount (length v) (border_vectors v)
+borders_alike v = rest (choices v) (choices_alike v)
+  where
+    rest : (vs : List (List ℤ)) → AllCount (length v) vs → AllCount (length v) (drop 1 vs)
+    rest [] all = tt
+    rest (v ∷ vs) all = all.1
+
 -- ---- as many as there are slots for
 
 abbrev pub double : {A : Type 0} → List A → ℕ

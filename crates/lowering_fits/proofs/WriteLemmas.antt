@@ -1,6 +1,7 @@
 -- The code of prints, borders and prefixes fits.
 use Rattle.std.proofs.Common.{◌≡◌, ℕ, zero, suc, ◌+◌, ◌<◌, ◌≤◌, Bool, true, false, ℤ, List, [], ◌∷◌, length, refl, sym, ap, ◌∙◌, subst, arith}
-use Rattle.std.specs.Prelude.{Option, Some, None, slice_get}
+use Rattle.std.proofs.lemmas.List.{length-map}
+use Rattle.std.specs.Prelude.{neg_ℤ, Option, Some, None, slice_get}
 use Rattle.std.specs.Option.{IsSomeAnd}
 use Rattle.zpl_nums.specs.declared.ends.Border.{Border as BorderKind}
 use Rattle.zpl_nums.specs.declared.ends.Border.TheVariants as border
@@ -17,7 +18,7 @@ use Rattle.meaning_ranks.specs.Ranked.{AreArraysOf, AreRankedItems}
 use Rattle.node_form.specs.Expression as expr
 use Rattle.node_form.specs.Expression.{Expression, words_of}
 use Rattle.node_form.specs.declared.tables.Tables.{Tables}
-use Rattle.node_form.specs.Fits.{IsRank, IsVector, HasSlot, HasArray, IsStored}
+use Rattle.node_form.specs.Fits.{IsRank, HasSlot, HasArray, IsStored}
 use Rattle.row_runs.specs.Structured as piece
 use Rattle.flat_form.specs.Row as row
 use Rattle.flat_form.specs.Row.{Row, Words}
@@ -25,7 +26,7 @@ use Rattle.zpl_lowering.specs.Where.{Stored, Slotted, slotted_at, SlotEdge, Wher
 use Rattle.zpl_lowering.specs.Lowered.{Lowered, behind, Phased, phased}
 use Rattle.zpl_lowering.specs.Statement.{border_rows, border_thing, each_border, source_shift, lowered_borders, printed_exprs, Shown, scalar_print, shown_at, shown_of, Prints, newline, items_of, of_prints, lowered_write, is_truth}
 use Rattle.lowering_fits.specs.Inline.{FitsScalar, FitRows}
-use Rattle.lowering_fits.specs.Slates.{TempsAt, FitsOver, FitsTree, AllTemps}
+use Rattle.lowering_fits.specs.Slates.{TempsAt, FitsOver, FitsTree, FitsVector, AllTemps}
 use Rattle.lowering_fits.specs.Reach.{place_at, IsStoredAs, IsReach}
 use Rattle.lowering_fits.specs.Lowerings.{IsLaidOut, FitsLowered, FitsEdge, AreSoundItems}
 use Rattle.lowering_fits.proofs.TreeLemmas.{scalar_tree, IsThere, stored_at, array_of, stored_of, temps_first, temps_rest, temps_both, unmoved_fits}
@@ -173,16 +174,18 @@ module _ (limits : LimitsAreTold) (base : Tables) (w : Where) (result : ℕ) (cu
       let opposite = opposite_by (suc rank) (d ∷ []) (by.0, tt) in
       (opposite.0, wrap_by rank v by.1)
 
-  source_fits : (kind : BorderKind) (rank : ℕ) (v : List ℤ) → IsVector rank v →
-      IsVector rank (source_shift kind v)
-  source_fits border.Wrap rank v is =
-      vector_by rank (source_shift border.Wrap v) (wrap_by rank v (by_vector rank v is))
+  source_fits : (kind : BorderKind) (rank : ℕ) (v : List ℤ) → FitsVector rank v →
+      FitsVector rank (source_shift kind v)
+  source_fits border.Wrap rank v is = (
+    vector_by rank (source_shift border.Wrap v) (wrap_by rank v (by_vector rank v is.0)),
+    length-map v neg_ℤ ∙ is.1,
+  )
   source_fits border.Reflect rank v is = is
 
   border_fits : (kind : BorderKind) (own : SlotEdge) (target source line rank : ℕ) (name : Name)
       (thing : Option Thing) → thing_of w.environment name.text ≡ thing →
       array_rank (kind_of w.scope name) ≡ Some rank → HasSlot base rank target →
-      HasSlot base rank source → HasSlot base rank own.slot → IsVector rank own.shift →
+      HasSlot base rank source → HasSlot base rank own.slot → FitsVector rank own.shift →
       FitRows base 0 (border_thing w.numbers kind own target source line thing)
   border_fits kind own target source line rank name (Some (Scalar place)) e is one two has vector =
       tt
@@ -215,14 +218,14 @@ module _ (limits : LimitsAreTold) (base : Tables) (w : Where) (result : ℕ) (cu
                 record { rank = rank; fit = (two, array, is_stored, unmoved_fits rank) },
                 tt,
               ),
-              ((record { rank = rank; fit = (has, array, vector) }, tt), tt),
+              ((record { rank = rank; fit = (has, array, vector.0) }, vector.1), tt),
             ),
           )
 
   each_fits : (kind : BorderKind) (own : SlotEdge) (target source line rank : ℕ)
       (names : List Name) → w.prefix ≡ Some rank →
       AreArraysOf (place_at w result currents edge) w.prefix names → HasSlot base rank target →
-      HasSlot base rank source → HasSlot base rank own.slot → IsVector rank own.shift →
+      HasSlot base rank source → HasSlot base rank own.slot → FitsVector rank own.shift →
       FitRows base 0 (each_border w kind own target source line names)
   each_fits kind own target source line rank [] is are one two has vector = tt
   each_fits kind own target source line rank (name ∷ names) is are one two has vector =
@@ -250,14 +253,14 @@ module _ (limits : LimitsAreTold) (base : Tables) (w : Where) (result : ℕ) (cu
       subst (λ n. HasSlot base n next.slots) is.floods laid.slots_at.0 in
       record {
         code_fits = (
-          (record { rank = rank; fit = (fits.1.2, fits.1.3) }, tt),
+          (record { rank = rank; fit = (fits.1.2, fits.1.3.0) }, tt),
           (
             (
               record {
                 rank = rank;
-                fit = (here, fits.1.2, source_fits kind rank own.shift fits.1.3);
+                fit = (here, fits.1.2, (source_fits kind rank own.shift fits.1.3).0);
               },
-              tt,
+              (source_fits kind rank own.shift fits.1.3).1,
             ),
             each_fits kind own over.slot next.slots line rank names fits.1.0 are is.has here
                 fits.1.2 fits.1.3,

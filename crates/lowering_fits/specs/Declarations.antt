@@ -8,7 +8,7 @@ use Rattle.zpl_binding.specs.Settings.{Setting}
 use Rattle.zpl_meaning.specs.Context.{Setup}
 use Rattle.zpl_meaning.specs.Variables.{home_box, storage_box}
 use Rattle.zpl_meaning.specs.Visited.{first_setup}
-use Rattle.node_form.specs.Fits.{FitsRegion}
+use Rattle.lowering_fits.specs.Slates.{FitsBox}
 use Rattle.lowering_fits.specs.Storages.{IsStorage}
 use Rattle.lowering_fits.specs.Reach.{IsStoredAs}
 
@@ -20,7 +20,7 @@ FitsDeclared setup scope (Bracketed inner) =
     let home = home_box setup.known inner in
     let storage = storage_box setup.known setup.borders inner in
     IsStoredAs shape (record { array = 0; storage = storage })
-    × FitsRegion home × (option_map length shape ≡ Some home.rank) × IsStorage storage
+    × FitsBox home × (option_map length shape ≡ Some home.rank) × IsStorage storage
 
 abbrev pub FitAllDeclared : Setup → Scope → List VarDef → Type 0
 FitAllDeclared setup scope [] = Unit {0}

@@ -1,26 +1,34 @@
 -- When rows that are seen inline fit: what their numbers name is asked of tables that have as many
 -- scalars, the same slots and the same arrays as those that the rows are laid out in.
-use Rattle.std.specs.Prelude.{◌≡◌, ℕ, zero, suc, ◌<◌, ◌≤◌, List, [], ◌∷◌, Option, Some, None, All, replicate}
+use Rattle.std.specs.Prelude.{◌≡◌, ℕ, zero, suc, ◌<◌, ◌≤◌, ◌⊎◌, Bool, true, false, List, [], ◌∷◌, Option, Some, None, All, flat_map, length, replicate}
+use Rattle.std.specs.List.{list_all}
 use Rattle.node_form.specs.declared.instructions.Instr.{Instr}
 use Rattle.node_form.specs.declared.instructions.Instr.TheVariants as instr
+use Rattle.node_form.specs.declared.words.ExprOp.{ExprOp}
+use Rattle.node_form.specs.declared.words.ExprOp.TheVariants as word
 use Rattle.node_form.specs.declared.tables.Tables.{Tables}
 use Rattle.node_form.specs.Expression.{IsExpression}
-use Rattle.node_form.specs.Fits.{IsRank, HasSlot, HasArray, FitsWord, IsScalarWord, FitsInstr}
+use Rattle.node_form.specs.Fits.{IsRank, HasSlot, HasArray, IsTemporary, FitsWord, IsScalarWord, FitsInstr}
 use Rattle.node_form.specs.Nest.{IsNest}
 use Rattle.stored_shifts.specs.Stored.{IsStoredRead}
+use Rattle.typed_tables.specs.Typed.{IsTypedWord}
 use Rattle.flat_form.specs.Row as row
-use Rattle.flat_form.specs.Row.{Words, Member, Part, Row, group_coded}
+use Rattle.flat_form.specs.Row.{Words, Member, Part, Row, group_coded, mask_words, member_words}
+use Rattle.flat_form.specs.Static.{word_has_fringe}
 use Rattle.row_runs.specs.Structured as piece
 use Rattle.row_runs.specs.Structured.{Piece}
 use Rattle.zpl_lowering.specs.Check.{Check}
 
 -- ---- expressions
 
--- the words are those of an expression, and fit at the rank; what they read with a shift is stored
+-- The words are those of an expression, and fit at the rank. What they read with a shift is stored,
+-- shifts have three components, and each is within its array's fringe.
 pub record FitsWords (tables : Tables) (rank : ℕ) (words : Words) : Type 0 where
   pub stack : IsExpression words
   pub fit : All (FitsWord tables rank) words
   pub stored : All (IsStoredRead tables) words
+  pub typed : All IsTypedWord words
+  pub within : list_all (word_has_fringe tables) words ≡ true
 
 -- and none of them needs an index
 pub record FitsScalar (tables : Tables) (words : Words) : Type 0 where
@@ -55,6 +63,34 @@ AllInside tables rank [] = Unit {0}
 AllInside tables rank (member ∷ members) =
     FitsInside tables rank member × AllInside tables rank members
 
+-- ---- groups that read what they put
+
+-- the word reads no array with a shift
+abbrev pub is_still : ExprOp → Bool
+is_still (word.Shifted array shift) = false
+is_still one = true
+
+abbrev pub AllStill : List Words → Type 0
+AllStill [] = Unit {0}
+AllStill (words ∷ rest) = (list_all is_still words ≡ true) × AllStill rest
+
+-- all arrays that are put are temporaries
+abbrev pub PutsKept : Tables → List Member → Type 0
+PutsKept tables [] = Unit {0}
+PutsKept tables (row.Put array expr mask line ∷ group) =
+    IsTemporary tables array × PutsKept tables group
+PutsKept tables (one ∷ group) = PutsKept tables group
+
+-- one array is put, and nothing else done, under a mask that reads nothing with a shift
+abbrev pub PutsOne : List Member → Type 0
+PutsOne (row.Put array expr mask line ∷ []) = AllStill (mask_words mask)
+PutsOne group = ⊥
+
+-- what the group puts it reads nowhere with a shift, unless it puts one array alone
+abbrev pub ReadsApart : Tables → List Member → Type 0
+ReadsApart tables group =
+    PutsKept tables group ⊎ (AllStill (flat_map member_words group) ⊎ PutsOne group)
+
 -- members that open and close as they must, run over a slot of their rank
 pub record FitsLoop (tables : Tables) (slot : ℕ) (group : List Member) : Type 0 where
   pub rank : ℕ
@@ -62,6 +98,7 @@ pub record FitsLoop (tables : Tables) (slot : ℕ) (group : List Member) : Type 
   pub over : HasSlot tables rank slot
   pub nest : (n : ℕ) → IsNest (group_coded n group)
   pub fit : AllInside tables rank group
+  pub apart : ReadsApart tables group
 
 -- ---- regions that rows make
 
@@ -88,11 +125,12 @@ StarsPast rank [] = Unit {0}
 StarsPast zero (part ∷ parts) = AllStars (part ∷ parts)
 StarsPast (suc rank) (part ∷ parts) = StarsPast rank parts
 
--- past the rank stands a star
+-- there are three; past the rank stands a star
 pub record FitsDims (tables : Tables) (slot : ℕ) (parts : List Part) : Type 0 where
   pub rank : ℕ
   pub over : HasSlot tables rank slot
   pub fit : AllDims tables rank parts
+  pub three : length parts ≡ 3
   pub stars : StarsPast rank parts
 
 -- ---- rows
@@ -101,8 +139,12 @@ pub record FitsDims (tables : Tables) (slot : ℕ) (parts : List Part) : Type 0 
 abbrev pub long : Tables → ℕ → Tables
 long tables count = record tables { code = replicate count instr.End }
 
--- a row of a flat program that names no expression, group or text
+-- a row of a flat program that names no expression, group or text; regions and vectors in it have
+-- three dimensions
 abbrev pub IsOwnRow : Instr → Type 0
+IsOwnRow (instr.Fix slot region) = length region.dims ≡ 3
+IsOwnRow (instr.Formed form slot from shift line) = length shift ≡ 3
+IsOwnRow (instr.Edge kind array slot shift) = length shift ≡ 3
 IsOwnRow (instr.Set scalar expr line) = ⊥
 IsOwnRow (instr.Dims slot parts line) = ⊥
 IsOwnRow (instr.Loop slot group) = ⊥

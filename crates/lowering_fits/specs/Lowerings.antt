@@ -9,18 +9,19 @@ use Rattle.zpl_meaning.specs.Context.{Currents}
 use Rattle.zpl_meaning.specs.Proper.{HasCurrent}
 use Rattle.zpl_meaning.specs.Statement.{step_expr}
 use Rattle.node_form.specs.declared.tables.Tables.{Tables}
-use Rattle.node_form.specs.Fits.{IsRank, IsVector, HasSlot}
+use Rattle.node_form.specs.Fits.{IsRank, HasSlot}
 use Rattle.zpl_lowering.specs.Where.{SlotEdge, Where, Next}
 use Rattle.zpl_lowering.specs.Lowered.{Lowered}
 use Rattle.lowering_fits.specs.Inline.{FitsPiece}
 use Rattle.lowering_fits.specs.Reach.{HasFlatRemaps, HaveFlatRemaps}
-use Rattle.lowering_fits.specs.Slates.{SlotsAt, TempsAt, StoragesAt, AllTemps, AllShifts}
+use Rattle.lowering_fits.specs.Slates.{SlotsAt, TempsAt, StoragesAt, AllTemps, AllShifts, AllCovered, FitsVector}
 
 abbrev pub AllRanks : List ℕ → Type 0
 AllRanks [] = Unit {0}
 AllRanks (rank ∷ ranks) = IsRank rank × AllRanks ranks
 
--- What the code has of its own is in the tables, from the numbers on that are free.
+-- What the code has of its own is in the tables, from the numbers on that are free; and its shifts
+-- are within the fringes.
 pub record IsLaidOut (tables : Tables) (next : Next) (lowered : Lowered) : Type 0 where
   pub below : next.scalars + lowered.scalars ≤ tables.scalars
   pub slots_at : SlotsAt tables next.slots lowered.slots
@@ -28,6 +29,7 @@ pub record IsLaidOut (tables : Tables) (next : Next) (lowered : Lowered) : Type 
   pub copies_at : StoragesAt tables next.copies lowered.copies
   pub later_at : StoragesAt tables next.later lowered.later
   pub temps_at : TempsAt tables next.temps lowered.temps
+  pub shifts_at : AllCovered tables lowered.shifts
 
 -- The code fits; slots and temporaries have ranks from 1 to 3, and shifts are small.
 pub record FitsLowered (tables : Tables) (lowered : Lowered) : Type 0 where
@@ -45,7 +47,7 @@ FitsEdge tables w currents None = Unit {0}
 FitsEdge tables w currents (Some edge) =
     (rank : ℕ)
     × ((w.prefix ≡ Some rank) × HasCurrent currents w.prefix × HasSlot tables rank edge.slot
-    × IsVector rank edge.shift)
+    × FitsVector rank edge.shift)
 
 -- ---- texts
 

@@ -22,10 +22,10 @@ use Rattle.zpl_meaning.specs.Regions.{vector_in}
 use Rattle.zpl_meaning.specs.Context.{Over, Currents, Edge, Place}
 use Rattle.meaning_ranks.specs.Shaped.{AreFloods}
 use Rattle.node_form.specs.declared.tables.Tables.{Tables}
-use Rattle.node_form.specs.Fits.{IsVector, HasSlot, FitsRegion}
+use Rattle.node_form.specs.Fits.{HasSlot}
 use Rattle.zpl_lowering.specs.Where.{Stored, Numbers, Slotted, SlotCurrents, slotted_or, Where}
 use Rattle.zpl_lowering.specs.Bracket.{region_slot}
-use Rattle.lowering_fits.specs.Slates.{AllRanges, FitsOver, FitNumbers}
+use Rattle.lowering_fits.specs.Slates.{AllRanges, FitsOver, FitNumbers, FitsBox, FitsVector}
 use Rattle.lowering_fits.specs.Storages.{AllKept}
 
 -- ---- regions
@@ -46,7 +46,7 @@ IsGivenBox rank (Fails fault) = ⊥
 
 pub record FitsKnown (tables : Tables) (known : Known) (scope : Scope) : Type 0 where
   pub dirs : (rank : ℕ) (dir : Dir) → dir_rank scope dir ≡ Some rank →
-      IsVector rank (vector_in known dir)
+      FitsVector rank (vector_in known dir)
   pub slots : (rank : ℕ) (name : Name) →
       option_map length (region_shape (kind_of scope name)) ≡ Some rank →
       HasSlot tables rank (region_slot known name)
@@ -95,7 +95,7 @@ pub record IsStoredAs (shape : Option Shape) (stored : Stored) : Type 0 where
 pub record FitsName (numbers : Numbers) (shape : Option Shape) (place : ℕ) (home : Region) : Type 0
   where
     pub has : IsSomeAnd (slice_get numbers.arrays place) (IsStoredAs shape)
-    pub box : FitsRegion home
+    pub box : FitsBox home
     pub same : option_map length shape ≡ Some home.rank
 
 abbrev pub FitNames : Scope → Environment → Numbers → Type 0

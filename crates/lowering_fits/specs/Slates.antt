@@ -1,16 +1,19 @@
 -- When expressions with slots fit: what they name is in the tables, and is of their rank.
-use Rattle.std.specs.Prelude.{◌≡◌, ℕ, suc, ◌+◌, ◌<◌, ◌≤◌, Bool, true, ℤ, List, [], ◌∷◌, length, take, replicate, Option, Some, None, slice_get, All}
+use Rattle.std.specs.Prelude.{◌≡◌, ℕ, zero, suc, ◌+◌, ◌<◌, ◌≤◌, Bool, true, ℤ, pos, neg_ℤ, ◌≤ℤ◌, List, [], ◌∷◌, length, take, replicate, Option, Some, None, slice_get, All}
 use Rattle.std.specs.Option.{IsSomeAnd}
 use Rattle.zpl_region.specs.declared.dims.Dim.{Dim}
 use Rattle.zpl_region.specs.declared.dims.Dim.TheVariants as dim
 use Rattle.zpl_region.specs.declared.regions.Region.{Region}
 use Rattle.zpl_region.specs.Dim.{IsUpTo}
 use Rattle.zpl_meaning.specs.Context.{Mask}
+use Rattle.node_form.specs.declared.arrays.ArrayDim.{ArrayDim}
+use Rattle.node_form.specs.declared.arrays.ArrayDim.TheVariants as array
 use Rattle.node_form.specs.declared.arrays.ArrayRow.{ArrayRow}
 use Rattle.node_form.specs.declared.tables.Tables.{Tables}
 use Rattle.node_form.specs.Expression as expr
 use Rattle.node_form.specs.Expression.{Expression}
-use Rattle.node_form.specs.Fits.{IsRank, IsVector, HasSlot, HasArray, IsStored, IsTemporary, IsRange, FitsRegion}
+use Rattle.node_form.specs.Fits.{IsRank, IsVector, HasSlot, HasArray, IsStored, IsTemporary, IsRange, IsUnused, FitsRegion}
+use Rattle.flat_form.specs.Static.{array_has_fringe}
 use Rattle.zpl_lowering.specs.Where.{Stored, Numbers, Slotted}
 use Rattle.zpl_lowering.specs.Slate as slate
 use Rattle.zpl_lowering.specs.Slate.{Slate, Slates, NoSlate, ThenSlate, border_slots}
@@ -36,11 +39,22 @@ AllRanges [] = Unit {0}
 AllRanges (dim.Range lo hi step align ∷ dims) = AllRanges dims
 AllRanges (dim.Flood ∷ dims) = ⊥
 
+-- dimensions of a storage, and those of its array: a range is one there, and past the rank no
+-- place is
+abbrev pub AreDimsOf : ℕ → List Dim → List ArrayDim → Type 0
+AreDimsOf rank dims [] = Unit {0}
+AreDimsOf rank [] (one ∷ rows) = ⊥
+AreDimsOf zero (dim ∷ dims) (one ∷ rows) = IsUnused one × AreDimsOf zero dims rows
+AreDimsOf (suc rank) (dim.Range lo hi step align ∷ dims) (one ∷ rows) =
+    IsRange one × AreDimsOf rank dims rows
+AreDimsOf (suc rank) (dim.Flood ∷ dims) (one ∷ rows) = AreDimsOf rank dims rows
+
 -- a stored array of the storage's rank, without a flood dimension where the storage has none
 pub record IsRowOf (storage : Region) (row : ArrayRow) : Type 0 where
   pub rank : row.rank ≡ storage.rank
   pub is_stored : row.stored ≡ true
   pub ranges : AllRanges (take storage.rank storage.dims) → All IsRange row.dims
+  pub dims : AreDimsOf storage.rank storage.dims row.dims
 
 abbrev pub HasStorage : Tables → Region → ℕ → Type 0
 HasStorage tables storage array = IsSomeAnd (slice_get tables.arrays array) (IsRowOf storage)
@@ -97,13 +111,40 @@ abbrev pub slates_count : Slates → ℕ
 slates_count NoSlate = 0
 slates_count (ThenSlate first rest) = suc (slates_count rest)
 
+-- a region that may stand in a row, of three dimensions
+abbrev pub FitsBox : Region → Type 0
+FitsBox region = FitsRegion region × (length region.dims ≡ 3)
+
+-- a vector of the rank, of three components
+abbrev pub FitsVector : ℕ → List ℤ → Type 0
+FitsVector rank vector = IsVector rank vector × (length vector ≡ 3)
+
+-- and so is a shift, which has none where nothing is moved
+abbrev pub IsWhole : List ℤ → Type 0
+IsWhole [] = Unit {0}
+IsWhole (d ∷ shift) = length (d ∷ shift) ≡ 3
+
+abbrev pub FitsShift : ℕ → List ℤ → Type 0
+FitsShift rank shift = IsVector rank shift × IsWhole shift
+
+-- a vector that moves nothing in flood dimensions
+abbrev pub IsLevel : List Dim → List ℤ → Type 0
+IsLevel dims [] = Unit {0}
+IsLevel [] (d ∷ shift) = Unit {0}
+IsLevel (dim.Range lo hi step align ∷ dims) (d ∷ shift) = IsLevel dims shift
+IsLevel (dim.Flood ∷ dims) (d ∷ shift) = (d ≡ pos 0) × IsLevel dims shift
+
 -- a copy that is read round a box: its slots, and its place in the tables
 pub record FitsCopy (tables : Tables) (rank copy first : ℕ) (home : Region) (shift : List ℤ) : Type
     0 where
-  pub box : FitsRegion home
+  pub box : FitsBox home
   pub same : home.rank ≡ rank
   pub has : HasArray tables rank copy
   pub is_stored : IsStored tables copy
+  pub storage : Region
+  pub stands : HasStorage tables storage copy
+  pub ranked : storage.rank ≡ rank
+  pub level : IsLevel storage.dims shift
   pub slots : SlotsAt tables first (replicate (border_slots shift) rank)
 
 abbrev mutual
@@ -113,10 +154,10 @@ abbrev mutual
   FitsSlate tables numbers rank (slate.Coordinate k) = (1 ≤ k) × (k ≤ rank)
   FitsSlate tables numbers rank (slate.Element slot place shift) =
       IsRank rank × HasSlot tables rank slot × IsOfRank rank (slice_get numbers.arrays place)
-      × IsVector rank shift
+      × FitsShift rank shift
   FitsSlate tables numbers rank (slate.Wrapped slot place home shift copy first) =
       IsRank rank × HasSlot tables rank slot × IsOfRank rank (slice_get numbers.arrays place)
-      × IsVector rank shift × FitsCopy tables rank copy first home shift
+      × FitsVector rank shift × FitsCopy tables rank copy first home shift
   FitsSlate tables numbers rank (slate.Unary operator operand) =
       FitsSlate tables numbers rank operand
   FitsSlate tables numbers rank (slate.Binary operator left right) =
@@ -151,7 +192,8 @@ FitsTree tables rank (expr.Constant value) = Unit {0}
 FitsTree tables rank (expr.Variable scalar) = scalar < tables.scalars
 FitsTree tables rank (expr.Element array) = IsRank rank × HasArray tables rank array
 FitsTree tables rank (expr.Neighbour array shift) =
-    IsRank rank × HasArray tables rank array × IsVector rank shift × IsStored tables array
+    IsRank rank × HasArray tables rank array × FitsVector rank shift × IsStored tables array
+    × (array_has_fringe (slice_get tables.arrays array) shift ≡ true)
 FitsTree tables rank (expr.CellValue cell) = ⊥
 FitsTree tables rank (expr.Coordinate dimension) = (1 ≤ dimension) × (dimension ≤ rank)
 FitsTree tables rank (expr.Operation op left right) =
@@ -173,6 +215,25 @@ AllTemps (flood ∷ temps) = IsRank (length flood) × AllTemps temps
 abbrev pub AllShifts : List Shifted → Type 0
 AllShifts [] = Unit {0}
 AllShifts (one ∷ rest) = All (IsUpTo 31) one.shift × AllShifts rest
+
+-- in each range of the rank the shift is within the fringe
+abbrev pub IsCovered : ℕ → List ArrayDim → List ℤ → Type 0
+IsCovered zero dims shift = Unit {0}
+IsCovered (suc rank) [] shift = Unit {0}
+IsCovered (suc rank) (one ∷ dims) [] = Unit {0}
+IsCovered (suc rank) (array.Range lo hi low high ∷ dims) (d ∷ shift) =
+    ((neg_ℤ low ≤ℤ d) × (d ≤ℤ high)) × IsCovered rank dims shift
+IsCovered (suc rank) (array.Star ∷ dims) (d ∷ shift) = IsCovered rank dims shift
+
+abbrev pub Covers : Option ArrayRow → List ℤ → Type 0
+Covers None shift = Unit {0}
+Covers (Some row) shift = row.stored ≡ true → IsCovered row.rank row.dims shift
+
+-- where the array is stored
+abbrev pub AllCovered : Tables → List Shifted → Type 0
+AllCovered tables [] = Unit {0}
+AllCovered tables (one ∷ rest) =
+    Covers (slice_get tables.arrays one.array) one.shift × AllCovered tables rest
 
 -- its scalars and temporaries are laid out at the numbers that were free
 pub record IsPlaced (tables : Tables) (free : Free) (scalars : ℕ) (temps : List (List Bool)) : Type

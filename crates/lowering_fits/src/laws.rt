@@ -26,7 +26,9 @@ ghost use Rattle.node_form.specs.declared.tables.Tables.{Tables as Code};
 ghost use Rattle.flat_form.specs.Flat.{IsFlat};
 ghost use Rattle.flat_form.specs.Laws.{IsInline};
 ghost use Rattle.flat_form.specs.Row.{Row, with_rows};
+ghost use Rattle.flat_form.specs.Static.{HasFringes};
 ghost use Rattle.stored_shifts.specs.Stored.{ShiftsAreStored};
+ghost use Rattle.typed_tables.specs.Typed.{AreTyped};
 ghost use Rattle.zpl_lowering.specs.Hoist.{Free, hoisted};
 ghost use Rattle.zpl_lowering.specs.Lowered.{Lowered};
 ghost use Rattle.zpl_lowering.specs.Program.{Entry, body_code, first_next, lowered_program};
@@ -39,7 +41,7 @@ ghost use Rattle.lowering_fits.specs.Inline.{FitRows, FitsPiece, IsGround};
 ghost use Rattle.lowering_fits.specs.Lowerings.{FitsLowered, IsLaidOut, IsSoundStmt, answering};
 ghost use Rattle.lowering_fits.specs.Lowerings.{region_rank};
 ghost use Rattle.lowering_fits.specs.Reach.{FitsKnown, IsBox, place_at};
-ghost use Rattle.lowering_fits.specs.Slates.{AllRanges, FitNumbers, FitsHoist, FitsSlate};
+ghost use Rattle.lowering_fits.specs.Slates.{AllCovered, AllRanges, FitNumbers, FitsHoist, FitsSlate};
 ghost use Rattle.lowering_fits.specs.Slates.{FitsTree, IsPlaced};
 ghost use Rattle.lowering_fits.specs.Slates.{SlotsAt};
 ghost use Rattle.lowering_fits.specs.Standing.{CallsFit, IsStanding};
@@ -68,17 +70,20 @@ pub fn rows_that_fit_make_flat_programs()
         FitsPiece (empty_tables grid lowered) lowered.code → IsFlat (tables_of grid lowered) }
 {}
 
-/// Where an expression with slots fits, the rows of its operators fit, and what is left of it is an
-/// expression of its rank.
+/// Where an expression with slots fits, and its shifts are within the fringes, the rows of its
+/// operators fit, and what is left of it is an expression of its rank.
 pub fn operators_fit()
     ensures rows { (tables : Code) (numbers : Numbers) (line : ℕ) (free : Free) (rank : ℕ)
         (one : Slate) → FitNumbers tables numbers → FitsSlate tables numbers rank one →
         IsPlaced tables free (hoisted numbers line free one).scalars
-        (hoisted numbers line free one).temps → FitsHoist tables (hoisted numbers line free one) }
+        (hoisted numbers line free one).temps →
+        AllCovered tables (hoisted numbers line free one).shifts →
+        FitsHoist tables (hoisted numbers line free one) }
     ensures left { (tables : Code) (numbers : Numbers) (line : ℕ) (free : Free) (rank : ℕ)
         (one : Slate) → FitNumbers tables numbers → FitsSlate tables numbers rank one →
         IsPlaced tables free (hoisted numbers line free one).scalars
         (hoisted numbers line free one).temps →
+        AllCovered tables (hoisted numbers line free one).shifts →
         FitsTree tables rank (hoisted numbers line free one).left }
 {}
 
@@ -155,8 +160,9 @@ pub fn bodies_fit()
 }
 
 /// Code that is numbered as it is laid out has what is its own in its tables; and if it fits them
-/// then, and its storages are boxes within the limit, they are a flat program's. What their
-/// expressions read with a shift is stored.
+/// then, and its storages are boxes within the limit, they are a flat program's, and are as a
+/// program's types give them. What their expressions read with a shift is stored, and is within the
+/// fringe of its array.
 pub fn numbered_code_makes_a_flat_program()
     ensures laid { (grid : List ℕ) (next : Next) (lowered : Lowered) → IsNumbered next lowered →
         IsLaidOut (empty_tables grid lowered) next lowered }
@@ -165,6 +171,11 @@ pub fn numbered_code_makes_a_flat_program()
         FitsLowered (empty_tables grid lowered) lowered → IsFlat (tables_of grid lowered) }
     ensures stored { (grid : List ℕ) (lowered : Lowered) →
         FitsLowered (empty_tables grid lowered) lowered → ShiftsAreStored (tables_of grid lowered) }
+    ensures typed { (grid : List ℕ) (lowered : Lowered) →
+        AllStorages (lowered.arrays ++ (lowered.copies ++ lowered.later)) →
+        FitsLowered (empty_tables grid lowered) lowered → AreTyped (tables_of grid lowered) }
+    ensures fringes { (grid : List ℕ) (lowered : Lowered) →
+        FitsLowered (empty_tables grid lowered) lowered → HasFringes (tables_of grid lowered) }
 {}
 
 /// All code of a program of the grammar without faults is numbered as it is laid out: the program

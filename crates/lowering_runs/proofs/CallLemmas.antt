@@ -38,7 +38,7 @@ use Rattle.lowering_runs.proofs.ValueLemmas.{thing_seen, known_thing}
 use Rattle.lowering_runs.proofs.ListLemmas.{Hold, AreScalarsAt, meant, meant_length}
 use Rattle.lowering_runs.proofs.HeadLemmas.{with_computed_value, valued_agrees, left_length}
 
-actual_seen : (spots : List Spot) (environment : Environment) (actual : Expr)
+pub actual_seen : (spots : List Spot) (environment : Environment) (actual : Expr)
     → actual_thing (record { names = seen_names spots environment.names }) actual
     ≡ option_map (seen_thing spots) (actual_thing environment actual)
 actual_seen spots environment (Named at name) = thing_seen spots environment.names name.text
@@ -58,7 +58,7 @@ actual_seen spots environment (Reduce at operator over operand) = refl
 actual_seen spots environment (Scan at operator along operand) = refl
 actual_seen spots environment (Flood at source operand) = refl
 
-actual_known : (scalars arrays : ℕ) (environment : Environment) (actual : Expr) (thing : Thing)
+pub actual_known : (scalars arrays : ℕ) (environment : Environment) (actual : Expr) (thing : Thing)
     → ((text : List ℕ) → thing_of environment text ≡ Some thing → IsKnown scalars arrays thing)
     → actual_thing environment actual ≡ Some thing → IsKnown scalars arrays thing
 actual_known scalars arrays environment (Named at name) thing h e = h name.text e
@@ -106,7 +106,7 @@ module _ (sight : Sight) (w : Where) (start : Whole) where
   value_meant (ArrayFormal false base shape ∷ formals) (ThenExpr actual rest) =
       value_meant formals rest
 
-  referred_is : (actual : Expr) (after : Whole) (rest : List Handed) (more : List Given)
+  pub referred_is : (actual : Expr) (after : Whole) (rest : List Handed) (more : List Given)
       → IsSome (actual_thing place.environment actual)
       → rest ≡ map (seen_given sight.spots after) more
       → mean_calls.referred (actual_thing place.environment actual) ∷ rest

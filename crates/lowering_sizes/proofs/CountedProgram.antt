@@ -6,7 +6,7 @@ use Rattle.std.proofs.lemmas.List.Concat.{length-flat_map}
 use Rattle.std.proofs.lemmas.List.Sums.{sum_by-cons, sum_by-append}
 use Rattle.zpl_region.specs.declared.regions.Region.{Region}
 use Rattle.zpl_tree.specs.Syntax.{Name, Exprs, Stmt, Prefixed, Stmts, NoStmt, ThenStmt, Assign, Invoke, Block, If, While, Repeat, For, Border, Write, Return, Base, Program}
-use Rattle.zpl_tree.specs.Spelling.{prefix_words, end_words, stmt_words, stmts_words, form_words, program_words}
+use Rattle.zpl_tree.specs.Spelling.{prefix_words, end_words, stmt_words, stmts_words, form_words}
 use Rattle.zpl_names.specs.Accepted.{IsFaultless}
 use Rattle.zpl_names.specs.Scope.{kind_of, is_procedure}
 use Rattle.zpl_names.specs.Shapes.{unknown_shapes}
@@ -27,13 +27,15 @@ use Rattle.zpl_lowering.specs.Lowered.{behind}
 use Rattle.zpl_lowering.specs.Statement.{Calling, Lowering, lowered, lowered_all, lowered_form}
 use Rattle.zpl_lowering.specs.Program.{Entry, where_in, reads_round, in_call, routine_code, call_code, region_rows, global_numbers, globals_made, first_next, entry_calling, entry_code, lowered_program, Framed}
 use Rattle.zpl_lowering.specs.Tables.{flat_tables, unshared_tables}
+use Rattle.lowering_sizes.specs.Sizes.{HasTokens}
 use Rattle.lowering_sizes.proofs.Costs.{cost, cost_both, no_text}
 use Rattle.lowering_sizes.proofs.Slates.{AreNarrow}
 use Rattle.text_sharing.proofs.RowLemmas.{shared-counted}
 use Rattle.lowering_sizes.proofs.Known.{HasThree, known_three}
 use Rattle.lowering_sizes.proofs.Statements.{GivensNarrow}
 use Rattle.lowering_sizes.proofs.ProgramLemmas.{AreProcedures, of_found, found_sum, found_all, CallsAreThere, own_cost, call_cost, most_of, both_sums, lowered_body, call_most, entered_most}
-use Rattle.lowering_sizes.proofs.DeclaredLemmas.{calls_there, local_count, var_counts, declared_words, known_regions, frame_holds, numbers_narrow}
+use Rattle.lowering_sizes.proofs.DeclaredLemmas.{calls_there, local_count, var_counts, known_regions, frame_holds, numbers_narrow}
+use Rattle.lowering_sizes.proofs.SpelledLemmas.{declared_words}
 use Rattle.lowering_sizes.proofs.SizeLemmas.{bare_parts, program_apart, none_of}
 use Rattle.lowering_sizes.proofs.Counting.{rows_count, code_count, counts_measure, tables_count}
 use Rattle.lowering_sizes.proofs.QuietSites.{Marks, left_of, right_of, left_both, right_both, Grows, prefixes_quiet}
@@ -518,7 +520,7 @@ sum_in program (instance ∷ rest) =
     )
 
 pub count_law : (program : Program) (settings : List Setting) (tokens : ℕ) →
-    IsFaultless program → length (program_words program) ≤ tokens →
+    IsFaultless program → HasTokens program tokens →
     count_of is_counted (flat_tables program settings)
     ≤ plain_assignments program + 32 * (other_size program tokens + 1)
 count_law program settings tokens faultless fit =
@@ -537,7 +539,7 @@ count_law program settings tokens faultless fit =
           (numbers_narrow frame (var_counts program.decls) held) longest_chain next,
       region_rows_count 0 known.regions,
       known_regions program settings,
-      declared_words program program.name.text,
+      declared_words program tokens program.name.text fit,
       sum_in program (instances_of program),
       length-flat_map (plain_in program) (instances_of program),
       program_apart program (own_cost no_text program) body_tokens (λ routine. 0)

@@ -5,18 +5,15 @@ use Rattle.std.proofs.lemmas.List.Sums.{sum_by-cons}
 use Rattle.std.specs.Str.{bytes_eq}
 use Rattle.zpl_region.specs.declared.regions.Region.{Region}
 use Rattle.zpl_arrays.specs.Array.{Array}
-use Rattle.zpl_tokens.specs.declared.keywords.Key.TheVariants as key
 use Rattle.zpl_tokens.specs.declared.symbols.Sym.TheVariants as sym
 use Rattle.zpl_tree.specs.Word.{Word, word_text}
-use Rattle.zpl_tree.specs.Word as word
-use Rattle.zpl_tree.specs.Syntax.{Name, Bracket, NoBracket, Bracketed, Define, RegionDef, VarDef, Procedure, Decl, Config, Constant, Regions, Directions, Vars, Defined, Program}
-use Rattle.zpl_tree.specs.Spelling.{symbol, keyword, name_words, in_square, inner_words, bracket_words, posts_words, each_after, names_words, stmt_words, type_words, region_words, var_words, locals_words, heading_words, procedure_words, decl_words, before_end, program_words}
+use Rattle.zpl_tree.specs.Syntax.{Name, Bracket, NoBracket, Bracketed, Define, RegionDef, VarDef, Decl, Config, Constant, Regions, Directions, Vars, Defined, Program}
+use Rattle.zpl_tree.specs.Spelling.{symbol, name_words, bracket_words, each_after, names_words, type_words, var_words}
 use Rattle.zpl_names.specs.Scope.{Entry, kind_of, is_procedure}
 use Rattle.zpl_names.specs.Shapes.{unknown_shapes}
-use Rattle.zpl_names.specs.Declared.{with_decl, with_procedure, Routine, routine_of, routines_behind, routines_of, routine_named}
+use Rattle.zpl_names.specs.Declared.{with_decl, with_procedure, Routine, routine_of, routines_behind}
 use Rattle.zpl_names.specs.Sites.{Site, AtWhole, AtExpr, AtCall, AtNamed, AtDir, AtRegion, AtMask, AtStmt, AtBase, AtPosts, AtProcedure, routine_sites, each_sites, decl_sites, head_sites, text_sites}
 use Rattle.zpl_names.specs.Faults.{at_if, unknown_names}
-use Rattle.zpl_names.specs.Expansion.{body_tokens}
 use Rattle.zpl_names.specs.Accepted.{UnknownName, in_text, IsFaultless}
 use Rattle.zpl_binding.specs.Outcome.{Computed, value_or, outcome_of}
 use Rattle.zpl_binding.specs.Regions.{Known}
@@ -27,10 +24,9 @@ use Rattle.zpl_meaning.specs.Store.{Fixed}
 use Rattle.zpl_meaning.specs.Variables.{Frame, with_thing, zero_array, storage_box, with_name, with_names, with_variables, with_values, with_declared, with_declarations, empty_frame}
 use Rattle.zpl_meaning.specs.Program.{first_frame}
 use Rattle.zpl_lowering.specs.Program.{arrays_from, global_numbers}
-use Rattle.lowering_sizes.specs.Sizes.{HoldsItsWords}
 use Rattle.lowering_sizes.proofs.Slates.{AreNarrow}
 use Rattle.lowering_sizes.proofs.Known.{HasThree, storage_three}
-use Rattle.lowering_sizes.proofs.ProgramLemmas.{local_names, IsProcedure, AreProcedures, of_found, CallsAreThere}
+use Rattle.lowering_sizes.proofs.ProgramLemmas.{local_names, IsProcedure, AreProcedures, CallsAreThere}
 
 -- ---- calls are of procedures
 
@@ -166,7 +162,7 @@ names_bytes (name ∷ names) =
       bytes_both (name_words name) (each_after (symbol sym.Comma) name_words names),
     )
 
-var_bytes : (var : VarDef) → length var.names ≤ bytes (var_words var)
+pub var_bytes : (var : VarDef) → length var.names ≤ bytes (var_words var)
 var_bytes var =
     omega (
       arith,
@@ -180,7 +176,7 @@ var_bytes var =
       bytes_both (names_words var.names) (symbol sym.Colon),
     )
 
-vars_bytes : (vars : List VarDef) → length (local_names vars) ≤ bytes (flat_map var_words vars)
+pub vars_bytes : (vars : List VarDef) → length (local_names vars) ≤ bytes (flat_map var_words vars)
 vars_bytes [] = omega arith
 vars_bytes (var ∷ vars) =
     omega (
@@ -189,39 +185,6 @@ vars_bytes (var ∷ vars) =
       vars_bytes vars,
       length-append var.names (local_names vars),
       bytes_both (var_words var) (flat_map var_words vars),
-    )
-
-region_bytes : (regions : List RegionDef) →
-    length regions ≤ bytes (flat_map region_words regions)
-region_bytes [] = omega arith
-region_bytes (region ∷ regions) =
-    omega (
-      arith,
-      region_bytes regions,
-      semicolon_byte,
-      bytes_both (name_words region.name ++ symbol sym.Equal ++ in_square (inner_words region.body)
-          ++ posts_words region.posts) (symbol sym.Semicolon),
-      bytes_both (region_words region) (flat_map region_words regions),
-    )
-
-locals_bytes : (vars : List VarDef) → length (local_names vars) ≤ bytes (locals_words vars)
-locals_bytes [] = omega arith
-locals_bytes (var ∷ vars) =
-    omega (
-      arith,
-      vars_bytes (var ∷ vars),
-      bytes_both (keyword key.Var) (flat_map var_words (var ∷ vars)),
-    )
-
-procedure_bytes : (procedure : Procedure) →
-    length (local_names procedure.locals) ≤ bytes (procedure_words procedure)
-procedure_bytes procedure =
-    omega (
-      arith,
-      locals_bytes procedure.locals,
-      bytes_both (heading_words procedure ++ locals_words procedure.locals)
-          (stmt_words procedure.body),
-      bytes_both (heading_words procedure) (locals_words procedure.locals),
     )
 
 -- ---- how many regions and global variables are declared
@@ -253,65 +216,6 @@ var_counts (decl ∷ decls) = var_count decl + var_counts decls
 abbrev pub local_count : Routine → ℕ
 local_count routine = length (local_names routine.procedure.locals)
 
-declared_bytes : (test : Routine → Bool) (earlier : List Entry) (decls : List Decl) →
-    of_found local_count (find test (routines_behind earlier decls))
-    + (region_counts decls + var_counts decls)
-    ≤ bytes (flat_map decl_words decls)
-declared_bytes test earlier [] = omega arith
-declared_bytes test earlier (Defined procedure ∷ decls) =
-    by (test (routine_of earlier procedure))
-    (declared_bytes test (with_procedure earlier procedure) decls)
-  where
-    by : (b : Bool) →
-        of_found local_count (find test (routines_behind (with_procedure earlier procedure) decls))
-        + (region_counts decls + var_counts decls) ≤ bytes (flat_map decl_words decls) →
-        of_found local_count (cond b (Some (routine_of earlier procedure))
-        (find test (routines_behind (with_procedure earlier procedure) decls)))
-        + (region_counts (Defined procedure ∷ decls) + var_counts (Defined procedure ∷ decls))
-        ≤ bytes (flat_map decl_words (Defined procedure ∷ decls))
-    by true few =
-        omega (
-          arith,
-          procedure_bytes procedure,
-          bytes_both (procedure_words procedure) (flat_map decl_words decls),
-        )
-    by false few =
-        omega (arith, bytes_both (procedure_words procedure) (flat_map decl_words decls))
-declared_bytes test earlier (Config defines ∷ decls) =
-    omega (
-      arith,
-      declared_bytes test (with_decl earlier (Config defines)) decls,
-      bytes_both (decl_words (Config defines)) (flat_map decl_words decls),
-    )
-declared_bytes test earlier (Constant defines ∷ decls) =
-    omega (
-      arith,
-      declared_bytes test (with_decl earlier (Constant defines)) decls,
-      bytes_both (decl_words (Constant defines)) (flat_map decl_words decls),
-    )
-declared_bytes test earlier (Regions regions ∷ decls) =
-    omega (
-      arith,
-      declared_bytes test (with_decl earlier (Regions regions)) decls,
-      region_bytes regions,
-      bytes_both (keyword key.Region) (flat_map region_words regions),
-      bytes_both (decl_words (Regions regions)) (flat_map decl_words decls),
-    )
-declared_bytes test earlier (Directions directions ∷ decls) =
-    omega (
-      arith,
-      declared_bytes test (with_decl earlier (Directions directions)) decls,
-      bytes_both (decl_words (Directions directions)) (flat_map decl_words decls),
-    )
-declared_bytes test earlier (Vars vars ∷ decls) =
-    omega (
-      arith,
-      declared_bytes test (with_decl earlier (Vars vars)) decls,
-      vars_bytes vars,
-      bytes_both (keyword key.Var) (flat_map var_words vars),
-      bytes_both (decl_words (Vars vars)) (flat_map decl_words decls),
-    )
-
 -- ---- and so many words
 
 after_words : (names : List Name) →
@@ -323,7 +227,7 @@ names_length : (names : List Name) → length names ≤ length (names_words name
 names_length [] = omega arith
 names_length (name ∷ names) = omega (arith, after_words names)
 
-var_length : (var : VarDef) → length var.names ≤ length (var_words var)
+pub var_length : (var : VarDef) → length var.names ≤ length (var_words var)
 var_length var =
     omega (
       arith,
@@ -336,7 +240,7 @@ var_length var =
       length-append (names_words var.names) (symbol sym.Colon),
     )
 
-vars_length : (vars : List VarDef) →
+pub vars_length : (vars : List VarDef) →
     length (local_names vars) ≤ length (flat_map var_words vars)
 vars_length [] = omega arith
 vars_length (var ∷ vars) =
@@ -346,129 +250,6 @@ vars_length (var ∷ vars) =
       vars_length vars,
       length-append var.names (local_names vars),
       length-append (var_words var) (flat_map var_words vars),
-    )
-
-regions_length : (regions : List RegionDef) →
-    length regions ≤ length (flat_map region_words regions)
-regions_length [] = omega arith
-regions_length (region ∷ regions) =
-    omega (
-      arith,
-      regions_length regions,
-      length-append (name_words region.name ++ symbol sym.Equal
-          ++ in_square (inner_words region.body) ++ posts_words region.posts) (symbol sym.Semicolon),
-      length-append (region_words region) (flat_map region_words regions),
-    )
-
-locals_length : (vars : List VarDef) → length (local_names vars) ≤ length (locals_words vars)
-locals_length [] = omega arith
-locals_length (var ∷ vars) = omega (arith, vars_length (var ∷ vars))
-
-procedure_length : (procedure : Procedure) →
-    length (local_names procedure.locals) + length (stmt_words procedure.body)
-    ≤ length (procedure_words procedure)
-procedure_length procedure =
-    omega (
-      arith,
-      locals_length procedure.locals,
-      length-append (heading_words procedure ++ locals_words procedure.locals)
-          (stmt_words procedure.body),
-      length-append (heading_words procedure) (locals_words procedure.locals),
-    )
-
-declared_length : (test : Routine → Bool) (earlier : List Entry) (decls : List Decl) →
-    of_found local_count (find test (routines_behind earlier decls))
-    + (region_counts decls + sum_by body_tokens (routines_behind earlier decls))
-    ≤ length (flat_map decl_words decls)
-declared_length test earlier [] = omega arith
-declared_length test earlier (Defined procedure ∷ decls) =
-    by (test (routine_of earlier procedure))
-    (declared_length test (with_procedure earlier procedure) decls)
-  where
-    by : (b : Bool) →
-        of_found local_count (find test (routines_behind (with_procedure earlier procedure) decls))
-        + (region_counts decls
-        + sum_by body_tokens (routines_behind (with_procedure earlier procedure) decls))
-        ≤ length (flat_map decl_words decls) →
-        of_found local_count (cond b (Some (routine_of earlier procedure))
-        (find test (routines_behind (with_procedure earlier procedure) decls)))
-        + (region_counts (Defined procedure ∷ decls)
-        + sum_by body_tokens (routines_behind earlier (Defined procedure ∷ decls)))
-        ≤ length (flat_map decl_words (Defined procedure ∷ decls))
-    by true few =
-        omega (
-          arith,
-          procedure_length procedure,
-          sum_by-cons body_tokens (routine_of earlier procedure)
-              (routines_behind (with_procedure earlier procedure) decls),
-          length-append (procedure_words procedure) (flat_map decl_words decls),
-        )
-    by false few =
-        omega (
-          arith,
-          procedure_length procedure,
-          sum_by-cons body_tokens (routine_of earlier procedure)
-              (routines_behind (with_procedure earlier procedure) decls),
-          length-append (procedure_words procedure) (flat_map decl_words decls),
-        )
-declared_length test earlier (Config defines ∷ decls) =
-    omega (
-      arith,
-      declared_length test (with_decl earlier (Config defines)) decls,
-      length-append (decl_words (Config defines)) (flat_map decl_words decls),
-    )
-declared_length test earlier (Constant defines ∷ decls) =
-    omega (
-      arith,
-      declared_length test (with_decl earlier (Constant defines)) decls,
-      length-append (decl_words (Constant defines)) (flat_map decl_words decls),
-    )
-declared_length test earlier (Regions regions ∷ decls) =
-    omega (
-      arith,
-      declared_length test (with_decl earlier (Regions regions)) decls,
-      regions_length regions,
-      length-append (decl_words (Regions regions)) (flat_map decl_words decls),
-    )
-declared_length test earlier (Directions directions ∷ decls) =
-    omega (
-      arith,
-      declared_length test (with_decl earlier (Directions directions)) decls,
-      length-append (decl_words (Directions directions)) (flat_map decl_words decls),
-    )
-declared_length test earlier (Vars vars ∷ decls) =
-    omega (
-      arith,
-      declared_length test (with_decl earlier (Vars vars)) decls,
-      length-append (decl_words (Vars vars)) (flat_map decl_words decls),
-    )
-
--- what stands in no statement has a word for each region and each local name of a procedure
-pub declared_words : (program : Program) (name : List ℕ) →
-    of_found local_count (routine_named program name)
-    + (region_counts program.decls + sum_by body_tokens (routines_of program))
-    ≤ length (program_words program)
-declared_words program name =
-    omega (
-      arith,
-      declared_length (λ routine. bytes_eq routine.procedure.name.text name) [] program.decls,
-      length-append (before_end program) (word.End ∷ []),
-      length-append (keyword key.Program ++ name_words program.name ++ symbol sym.Semicolon)
-          (flat_map decl_words program.decls),
-    )
-
-pub declared_fit : (program : Program) (name : List ℕ) → HoldsItsWords program →
-    of_found local_count (routine_named program name)
-    + (region_counts program.decls + var_counts program.decls) ≤ length program.source
-declared_fit program name holds =
-    omega (
-      arith,
-      holds,
-      bytes_sum (program_words program),
-      declared_bytes (λ routine. bytes_eq routine.procedure.name.text name) [] program.decls,
-      bytes_both (before_end program) (word.End ∷ []),
-      bytes_both (keyword key.Program ++ name_words program.name ++ symbol sym.Semicolon)
-          (flat_map decl_words program.decls),
     )
 
 -- ---- regions

@@ -11,6 +11,7 @@ pub mod Statements
 pub mod FormLemmas
 pub mod ProgramLemmas
 pub mod DeclaredLemmas
+pub mod SpelledLemmas
 pub mod SizeLemmas
 pub mod Counting
 pub mod QuietSites

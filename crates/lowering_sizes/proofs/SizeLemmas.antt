@@ -37,7 +37,8 @@ use Rattle.lowering_sizes.proofs.Slates.{AreNarrow}
 use Rattle.lowering_sizes.proofs.Known.{HasThree, known_three}
 use Rattle.lowering_sizes.proofs.Phases.{both_weight}
 use Rattle.lowering_sizes.proofs.ProgramLemmas.{weight_measures, of_found, AreProcedures, CallsAreThere, own_cost, lowered_body_cost, entered_most, out_weight, call_weight_most}
-use Rattle.lowering_sizes.proofs.DeclaredLemmas.{calls_there, local_count, var_counts, declared_fit, known_regions, Holds, frame_holds, numbers_narrow}
+use Rattle.lowering_sizes.proofs.DeclaredLemmas.{calls_there, local_count, var_counts, known_regions, Holds, frame_holds, numbers_narrow}
+use Rattle.lowering_sizes.proofs.SpelledLemmas.{declared_fit}
 
 -- ---- the entry procedure
 

@@ -31,6 +31,7 @@ use Rattle.lowering_sizes.proofs.Costs.{cost}
 use Rattle.lowering_sizes.proofs.LaidOut.{sized, tables_size}
 use Rattle.lowering_sizes.proofs.ProgramLemmas.{of_found, own_cost, found_all}
 use Rattle.lowering_sizes.proofs.DeclaredLemmas.{bytes, bytes_sum}
+use Rattle.lowering_sizes.proofs.SpelledLemmas.{same_strings}
 use Rattle.lowering_sizes.proofs.SizeLemmas.{bare_law, program_apart, program_weight}
 
 -- ---- a text among others
@@ -470,9 +471,10 @@ pub different_law : (program : Program) (texts : List (List ℕ)) → HoldsItsWo
 different_law program texts holds among distinct =
     omega (
       arith,
-      holds,
-      bytes_sum (program_words program),
-      string_total (program_words program),
+      holds.fit,
+      bytes_sum holds.words,
+      string_total holds.words,
+      ap total (same_strings program holds.words holds.spells),
       distinct_total texts (texts_of program) distinct (all_among texts (texts_of program) among),
     )
 

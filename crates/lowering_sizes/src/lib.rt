@@ -6,4 +6,4 @@
 
 mod laws;
 
-pub use laws::{counted, sizes, texts_are_strings};
+pub use laws::{counted, sizes, texts_are_strings, texts_hold_their_words};

@@ -59,7 +59,7 @@ use Rattle.message_runs.proofs.OwnerLemmas.{limited_bounds, ranges}
 use Rattle.message_runs.proofs.WorkLemmas.{others_among, others_below}
 
 -- ---- regions
-met_steps : (lows highs : List ℤ) (dims : List Dim) → All HasStep dims
+pub met_steps : (lows highs : List ℤ) (dims : List Dim) → All HasStep dims
     → All HasStep (each_met lows highs dims)
 met_steps [] highs dims steps = steps
 met_steps (l ∷ lows) [] dims steps = steps
@@ -77,7 +77,7 @@ met_steps (l ∷ lows) (h ∷ highs) (d ∷ dims) steps =
 not_zero : (n : ℕ) → (suc n == 0) ≡ false
 not_zero n = ne_eqb (suc n) 0 (λ same. cc)
 
-zero_below : (n : ℕ) → nat_lt 0 (suc n) ≡ true
+pub zero_below : (n : ℕ) → nat_lt 0 (suc n) ≡ true
 zero_below n = grind (arith, nat_tests)
 
 -- ---- texts of arrays that have the same values
@@ -105,15 +105,15 @@ same_text truth region e f steps same = by (members region) refl
 
 -- ---- words that are kept, with their senders
 module _ (words : ℕ → List ℤ) where
-  abbrev AreWords : List (ℕ × List ℤ) → Type 0
+  abbrev pub AreWords : List (ℕ × List ℤ) → Type 0
   AreWords [] = Unit {0}
   AreWords (entry ∷ kept) = (entry.1 ≡ words entry.0) × AreWords kept
 
-  abbrev Keeps : ℕ → List (ℕ × List ℤ) → Type 0
+  abbrev pub Keeps : ℕ → List (ℕ × List ℤ) → Type 0
   Keeps q [] = ⊥
   Keeps q (entry ∷ kept) = (entry.0 ≡ q) ⊎ Keeps q kept
 
-  words_kept : (q : ℕ) (kept : List (ℕ × List ℤ)) → AreWords kept
+  pub words_kept : (q : ℕ) (kept : List (ℕ × List ℤ)) → AreWords kept
       → AreWords (kept_with q (words q) kept)
   words_kept q [] are = (refl, tt)
   words_kept q (entry ∷ kept) are = by (nat_lt q entry.0) (words_kept q kept are.1)
@@ -124,7 +124,7 @@ module _ (words : ℕ → List ℤ) where
       by true rest = (refl, are)
       by false rest = (are.0, rest)
 
-  keeps_new : (q : ℕ) (kept : List (ℕ × List ℤ)) → Keeps q (kept_with q (words q) kept)
+  pub keeps_new : (q : ℕ) (kept : List (ℕ × List ℤ)) → Keeps q (kept_with q (words q) kept)
   keeps_new q [] = inl refl
   keeps_new q (entry ∷ kept) = by (nat_lt q entry.0) (keeps_new q kept)
     where
@@ -134,7 +134,7 @@ module _ (words : ℕ → List ℤ) where
       by true rest = inl refl
       by false rest = inr rest
 
-  keeps_old : (q r : ℕ) (kept : List (ℕ × List ℤ)) → Keeps r kept
+  pub keeps_old : (q r : ℕ) (kept : List (ℕ × List ℤ)) → Keeps r kept
       → Keeps r (kept_with q (words q) kept)
   keeps_old q r [] keeps = absurd keeps
   keeps_old q r (entry ∷ kept) keeps = by (nat_lt q entry.0) keeps (keeps_old q r kept)
@@ -147,7 +147,7 @@ module _ (words : ℕ → List ℤ) where
       by false (inl same) rest = inl same
       by false (inr later) rest = inr (rest later)
 
-  abbrev kept_of : List ℕ → List (ℕ × List ℤ) → List (ℕ × List ℤ)
+  abbrev pub kept_of : List ℕ → List (ℕ × List ℤ) → List (ℕ × List ℤ)
   kept_of [] kept = kept
   kept_of (q ∷ from) kept = kept_of from (kept_with q (words q) kept)
 
@@ -171,7 +171,7 @@ module _ (words : ℕ → List ℤ) where
       (all_stay from q (kept_with q (words q) kept) (keeps_new q kept))
   all_kept (q ∷ from) r kept (inr later) = all_kept from r (kept_with q (words q) kept) later
 
-  found_words : (r : ℕ) (kept : List (ℕ × List ℤ)) → AreWords kept → Keeps r kept
+  pub found_words : (r : ℕ) (kept : List (ℕ × List ℤ)) → AreWords kept → Keeps r kept
       → words_from kept r ≡ words r
   found_words r [] are keeps = absurd keeps
   found_words r (entry ∷ kept) are keeps =

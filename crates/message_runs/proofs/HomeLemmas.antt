@@ -36,7 +36,7 @@ use Rattle.needs_runs.proofs.HoldsLemmas.{some_processors}
 use Rattle.needs_runs.proofs.PlaceLemmas.{held_there}
 use Rattle.needs_runs.proofs.SlotLemmas.{zip_there}
 use Rattle.message_runs.proofs.FlatLemmas.{lies_there}
-use Rattle.message_runs.proofs.OwnerLemmas.{owner_has}
+use Rattle.message_runs.proofs.OwnerLemmas.{owner_below, owner_has}
 use Rattle.message_runs.proofs.WorkLemmas.{mine, mine_there}
 
 storage_steps : (rows : List ArrayDim) → All HasStep (map storage_dim rows)
@@ -111,6 +111,13 @@ module _ (code : Tables) (layout : HasLayout code) (whole : Whole) (all : Abreas
       limit = (fit code layout array row there).limit told;
     };
   }
+
+  pub home_below : (p : ℕ) (x : List ℤ) → is_number (home code storage x) p ≡ true
+      → p < processors code
+  home_below p x at_home =
+      subst (λ q. q < processors code) (home_is code row x p at_home).1
+      (owner_below code (are_blocks code layout array row there) row.rank storage its_slot 0
+      (some_processors code) x)
 
   -- outside the storage the value is 0
   pub outside_is : (x : List ℤ) → is_none (home code storage x) ≡ true → element store x ≡ pos 0

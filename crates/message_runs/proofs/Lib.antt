@@ -13,7 +13,13 @@ pub mod SourceLemmas
 pub mod RemapLemmas
 pub mod RequestLemmas
 pub mod HomeLemmas
+pub mod RemapKeptLemmas
+pub mod RemapWorkLemmas
+pub mod RemapRows
 pub mod GatherRows
 pub mod FloodRows
 pub mod EdgeRows
 pub mod PartRows
+pub mod ScanLines
+pub mod ScanBefore
+pub mod ScanRows

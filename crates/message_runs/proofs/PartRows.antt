@@ -136,7 +136,7 @@ some_there : (ts : List (List ℤ)) (u : List ℤ) → Among ts u → nat_lt 0 (
 some_there [] u among = absurd among
 some_there (t ∷ ts) u among = some_test (length ts)
 
-numbers_same : (k n : ℕ) → numbers_from k n ≡ range_with_len k n
+pub numbers_same : (k n : ℕ) → numbers_from k n ≡ range_with_len k n
 numbers_same k zero = refl
 numbers_same k (suc n) =
     let next : suc k ≡ k + 1 = omega arith in
@@ -147,7 +147,7 @@ flat_parts : {X Y : Type 0} (g : X → List Y) (xs : List X)
 flat_parts g [] = refl
 flat_parts g (x ∷ xs) = ap (λ rest. g x ++ rest) (flat_parts g xs)
 
-map_parts : {X Y Z : Type 0} (g : X → Y) (h : Y → Z) (xs : List X)
+pub map_parts : {X Y Z : Type 0} (g : X → Y) (h : Y → Z) (xs : List X)
     → map h (map g xs) ≡ map (λ x. h (g x)) xs
 map_parts g h [] = refl
 map_parts g h (x ∷ xs) = ap (λ rest. h (g x) ∷ rest) (map_parts g h xs)

@@ -67,7 +67,7 @@ drop_first (suc n) [] ys long = absurd (omega (arith, long))
 drop_first (suc n) (x ∷ xs) ys long = drop_first n xs ys (omega (arith, long))
 
 module _ (rank : ℕ) where
-  abbrev words_of : List (List ℤ) → List ℤ
+  abbrev pub words_of : List (List ℤ) → List ℤ
   words_of xs = flat_map (λ x. take rank x) xs
 
   pub words_many : (xs : List (List ℤ)) → ((x : List ℤ) → Among xs x → length (take rank x) ≡ rank)

@@ -84,7 +84,7 @@ all_others_below code p q below among =
           (ap not (same_turned q p) ∙ parts.1),
     )
 
-words_all : (word : List ℤ → Option ℤ) (value : List ℤ → ℤ) (ts : List (List ℤ))
+pub words_all : (word : List ℤ → Option ℤ) (value : List ℤ → ℤ) (ts : List (List ℤ))
     → ((t : List ℤ) → Among ts t → word t ≡ Some (value t)) → each_word word ts ≡ Some (map value ts)
 words_all word value [] each = refl
 words_all word value (t ∷ ts) each =

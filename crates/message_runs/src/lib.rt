@@ -54,3 +54,17 @@ pub fn parts_agree()
         (operator : Operator) (from source : ℕ) →
         FitRowAgrees code links n (instr.Part array target operator from source) }
 {}
+
+/// A scan agrees: each processor makes it on its part from its own values and all line totals.
+pub fn scans_agree()
+    ensures { (code : Code) → HasLayout code → (links : Option ℕ) (n : ℕ) (array slot : ℕ)
+        (operator : Operator) (along from : ℕ) (mask : Option ℕ) →
+        FitRowAgrees code links n (instr.Scan array slot operator along from mask) }
+{}
+
+/// A remap read agrees: each processor has a tuple's value itself, or its owner answers it.
+pub fn remaps_agree()
+    ensures { (code : Code) → HasLayout code → (links : Option ℕ) (n array slot from : ℕ)
+        (index : List (Option ℕ)) →
+        FitRowAgrees code links n (instr.Remap array slot from index) }
+{}

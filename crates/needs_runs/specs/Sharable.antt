@@ -1,11 +1,9 @@
 -- Flat programs whose plans show what they show.
 --
---   PutsNoneShifted, ShiftsStored   what a program owes beside what its flat run tests
---   IsSharable                      all that it owes
---   PlansKeepRuns                   then the plan for each grid shows what the flat program shows
-use Rattle.std.specs.Prelude.{◌≡◌, ℕ, Bool, true, false, ℤ, List, All, length, slice_get, Option}
-use Rattle.std.specs.Prelude.{Some, None}
-use Rattle.std.specs.List.{list_all}
+--   PutsNoneShifted, HasThreeIn   what a program owes beside what its flat run tests
+--   IsSharable                    all that it owes
+--   PlansKeepRuns                 then the plan for each grid shows what the flat program shows
+use Rattle.std.specs.Prelude.{◌≡◌, ℕ, true, false, List, All, length, Option}
 use Rattle.node_form.specs.declared.arrays.ArrayRow.{ArrayRow}
 use Rattle.node_form.specs.declared.words.ExprOp.{ExprOp}
 use Rattle.node_form.specs.declared.words.ExprOp.TheVariants as word
@@ -20,6 +18,7 @@ use Rattle.flat_form.specs.Flat.{IsFlatRow}
 use Rattle.flat_form.specs.Static.{HasFringes, HasOneUnitALoop, KeepsCells}
 use Rattle.plan_meaning.specs.Act.{plan_run}
 use Rattle.comm_needs.specs.Needs.{planned}
+use Rattle.stored_shifts.specs.Stored.{ShiftsAreStored}
 use Rattle.needs_runs.specs.Agree.{HasThreeOf}
 
 -- A group puts no array that it reads with a shift: a processor would read at a tuple what it has
@@ -27,18 +26,6 @@ use Rattle.needs_runs.specs.Agree.{HasThreeOf}
 abbrev pub PutsNoneShifted : Tables → Type 0
 PutsNoneShifted tables =
     (group : ℕ) → share (put_arrays tables group) (shifted_arrays tables group) ≡ false
-
--- Stored arrays alone are read with a shift: what is exchanged are places of these.
-abbrev pub is_stored : Option ArrayRow → Bool
-is_stored (Some row) = row.stored
-is_stored None = false
-
-abbrev pub reads_stored : Tables → ExprOp → Bool
-reads_stored tables (word.Shifted array shift) = is_stored (slice_get tables.arrays array)
-reads_stored tables other = true
-
-abbrev pub ShiftsStored : Tables → Type 0
-ShiftsStored tables = All (λ words. list_all (reads_stored tables) words ≡ true) tables.exprs
 
 -- a vector has three components, as a program's types give it
 abbrev pub HasThreeIn : ExprOp → Type 0
@@ -55,7 +42,7 @@ pub record IsSharable (tables : Tables) : Type 0 where
   pub units : HasOneUnitALoop tables
   pub cells : KeepsCells tables
   pub apart : PutsNoneShifted tables
-  pub stored : ShiftsStored tables
+  pub stored : ShiftsAreStored tables
 
 -- Over links that hold a message, and for every bound on jumps and on the turns of loops in groups.
 -- So the plan's run isn't wrong where the flat program's isn't.

@@ -198,7 +198,7 @@ module _ (R : List Member → Type 0) where
 abbrev one_if : Bool → ℕ
 one_if b = cond b 1 0
 
-not_true : (b : Bool) → not b ≡ true → b ≡ false
+pub not_true : (b : Bool) → not b ≡ true → b ≡ false
 not_true true e = absurd (true≢false (sym e))
 not_true false e = refl
 
@@ -214,7 +214,7 @@ or_second : (a b : Bool) → (a || b) ≡ false → b ≡ false
 or_second true b e = absurd (true≢false e)
 or_second false b e = e
 
-any_both : {X : Type 0} (test : X → Bool) (xs ys : List X) → list_any test xs ≡ false
+pub any_both : {X : Type 0} (test : X → Bool) (xs ys : List X) → list_any test xs ≡ false
     → list_any test ys ≡ false → list_any test (xs ++ ys) ≡ false
 any_both test [] ys e f = f
 any_both test (x ∷ xs) ys e f =
@@ -239,11 +239,11 @@ share_left one other numbers e f = any_both (λ number. list_any
     (λ k. number == k) numbers) one other e f
 
 -- the parts of a test of seven
-record Joinable (a b c d : Bool) : Type 0 where
-  first : a ≡ true
-  second : b ≡ true
-  third : c ≡ true
-  fourth : d ≡ true
+pub record Joinable (a b c d : Bool) : Type 0 where
+  pub first : a ≡ true
+  pub second : b ≡ true
+  pub third : c ≡ true
+  pub fourth : d ≡ true
 
 seven : (a b c d e f g : Bool) → (a && b && c && d && e && f && g) ≡ true → Joinable a b c d
 seven true true true true e f g is = record {
@@ -264,7 +264,7 @@ module _ (tables : Tables) where
   abbrev shifts_of : List Member → List ℕ
   shifts_of group = flat_map shifted_in (flat_map (member_words tables) group)
 
-  parts : (group other : List Member) → can_join tables group other ≡ true
+  pub parts : (group other : List Member) → can_join tables group other ≡ true
       → Joinable (not (list_any is_turning group)) (not (list_any is_turning other))
       (not (share (puts_of group) (shifts_of other)))
       (not (share (puts_of other) (shifts_of group)))
@@ -377,7 +377,7 @@ module _ (tables : Tables) where
       ∙ (ap (λ list. flat_map shifted_in (words_of tables expr) ++ list) (exprs_stay exprs)
       ∙ sym (flat_map-append shifted_in (words_of tables expr) (flat_map (words_of tables) exprs))))
 
-  same_exprs : (one : Member) → exprs_of (member_contracted cell_of one) ≡ exprs_of one
+  pub same_exprs : (one : Member) → exprs_of (member_contracted cell_of one) ≡ exprs_of one
   same_exprs (member.Put array expr mask line) = by (cell_of array)
     where
       by : (found : Option ℕ) → exprs_of (put_or_cell cell_of array expr mask line found)
@@ -428,7 +428,7 @@ module _ (tables : Tables) where
       ap (share (puts_of (map (member_contracted cell_of) group))) (group_stays group)
       ∙ fewer_puts (λ number. list_any (λ other. number == other) (shifts_of group)) group e
 
-  same_turning : (one : Member) → is_turning (member_contracted cell_of one) ≡ is_turning one
+  pub same_turning : (one : Member) → is_turning (member_contracted cell_of one) ≡ is_turning one
   same_turning (member.Put array expr mask line) = by (cell_of array)
     where
       by : (found : Option ℕ) → is_turning (put_or_cell cell_of array expr mask line found) ≡ false

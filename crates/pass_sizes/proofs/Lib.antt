@@ -6,3 +6,4 @@ pub mod FlatLemmas
 pub mod NormalLemmas
 pub mod SettledLemmas
 pub mod TestLemmas
+pub mod FactorLemmas

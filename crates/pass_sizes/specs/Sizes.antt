@@ -48,6 +48,14 @@ is_unflat (instr.TreeVote group) = true
 is_unflat (instr.TreeFold scalar fold) = true
 is_unflat row = false
 
+-- it prepares for a loop that puts an array: a check of places, a place that is made for a
+-- temporary, or a slot that is filled
+abbrev pub is_preparing : Instr → Bool
+is_preparing (instr.Need slot array shift line) = true
+is_preparing (instr.Room array slot) = true
+is_preparing (instr.Fix slot region) = true
+is_preparing row = false
+
 -- the test looks neither at where jumps lead, nor at which group a loop runs
 pub record IsBlind (test : Instr → Bool) : Type 0 where
   pub goals : (moved : ℕ → ℕ) (row : Instr) → test (with_moved_goal moved row) ≡ test row

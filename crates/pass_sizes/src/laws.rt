@@ -4,6 +4,7 @@ ghost use Rattle.node_form.specs.declared.instructions.Instr.{Instr};
 ghost use Rattle.node_form.specs.declared.instructions.Instr.TheVariants.{Loop, Vote};
 ghost use Rattle.node_form.specs.declared.tables.Tables.{Tables};
 ghost use Rattle.code_parts.specs.Counts.{code_size, count_of, is_counted, is_loop, is_vote};
+ghost use Rattle.flat_passes.specs.Grouped.{loop_members};
 ghost use Rattle.temp_norm.specs.Normalised.{loops_on_themselves, normalised, temporaries};
 ghost use Rattle.bound_check.specs.Checked.{checked};
 ghost use Rattle.fuse_contract.specs.Contracting.{contracted};
@@ -11,7 +12,8 @@ ghost use Rattle.fuse_contract.specs.Fusing.{fused};
 ghost use Rattle.comm_needs.specs.Needs.{planned};
 ghost use Rattle.comm_combine.specs.Merge.{neighbours_merged};
 ghost use Rattle.comm_combine.specs.Repeats.{repeats_dropped};
-ghost use Rattle.pass_sizes.specs.Sizes.{IsBlind, PassesNoExchange, RunsOnce, is_unflat};
+ghost use Rattle.pass_sizes.specs.Sizes.{IsBlind, PassesNoExchange, RunsOnce};
+ghost use Rattle.pass_sizes.specs.Sizes.{is_preparing, is_unflat};
 ghost use Rattle.pass_sizes.specs.Sizes.{loop_shifts, pair_size, plan_size};
 
 /// The plan of a flat program is larger by at most one for each loop, three for each word that a
@@ -59,12 +61,20 @@ pub fn exchanges_get_fewer()
 
 /// In a program whose loops go through temporaries no two loops run one group. Its loops read at
 /// most twice as many words with a shift as before. There are no more temporaries than loops that
-/// read what they put, and for each of these at most one `room` and one loop more.
+/// read what they put, nor than arrays, and for each of these loops at most one `room` and one loop
+/// more. So the code is at most twice as large, where no two loops run one group, where loops read
+/// with a shift no more words than the expressions have, and where at least as many rows prepare
+/// for loops as loops read what they put.
 pub fn temporaries_are_few()
     ensures once { (code : Tables) → RunsOnce (normalised code) }
     ensures shifts { (code : Tables) → loop_shifts (normalised code) ≤ 2 * loop_shifts code }
     ensures temporaries { (code : Tables) →
         length (temporaries code) ≤ loops_on_themselves code }
+    ensures arrays { (code : Tables) → length (temporaries code) ≤ length code.arrays }
+    ensures factor { (code : Tables) → loop_members code ≤ sum_by length code.groups →
+        loop_shifts code ≤ sum_by length code.exprs →
+        loops_on_themselves code ≤ count_of is_preparing code →
+        code_size (normalised code) ≤ 2 * code_size code }
     ensures loops { (code : Tables) → loops_on_themselves code ≤ count_of is_loop code }
     ensures counted { (code : Tables) → count_of is_counted (normalised code) ≤
         count_of is_counted code + 2 * loops_on_themselves code }

@@ -17,7 +17,7 @@ use Rattle.nest_meaning.specs.Nested.{Told, Fine, Zero, Wants, Lost, nested, way
 use Rattle.nest_meaning.specs.Tree.{nest_of}
 use Rattle.nest_meaning.specs.Units.{units_of}
 use Rattle.row_runs.specs.Run.{Step, Goes, Stops, Ends, Wrong}
-use Rattle.plan_meaning.specs.Abreast.{Abreast, Share, every, is_quiet}
+use Rattle.plan_meaning.specs.Abreast.{Abreast, Share, every, is_quiet, of_processors}
 
 -- what a processor comes to: a state, and the member that met a zero divisor, if one did; or it
 -- wants a further turn; or a place isn't held
@@ -96,7 +96,8 @@ module _ (code : Tables) (n : ℕ) where
       if every code (λ p. not (lacks (shares p))) then
       (if every code (λ p. not (wants (shares p)))
       then Goes []
-      (record all { shares = λ p. share_behind (all.shares p) (shares p) })
+      (of_processors code all
+      (record all { shares = λ p. share_behind (all.shares p) (shares p) }))
       else (if is_vote_next && is_quiet all then Stops (Ends More) else Stops Wrong))
       else Stops Wrong
 

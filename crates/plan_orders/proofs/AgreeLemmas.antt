@@ -128,7 +128,7 @@ module _ (code : Tables) (links : Option ℕ) (n at : ℕ) (kin : ℕ → Kin) (
         }) ends);
     enough = λ p below. stages_some (kin p);
     few = λ limited p below.
-        let some = most_some code (suc n) in
+        let some = most_some code n in
         let short = stages_few (kin p) (processors code + 2) (slim p) in
         omega (arith, some, short, limited.count);
     printed = refl;

@@ -27,7 +27,7 @@ use Rattle.grid_meaning.specs.Stored.{arrangement_of, no_places}
 use Rattle.nest_meaning.specs.Tree.{nest_of}
 use Rattle.nest_meaning.specs.Units.{units_of}
 use Rattle.row_runs.specs.Run.{Does, Effect, Ends, Goes, Leaps, Passes, Step, Stops, Wrong}
-use Rattle.plan_meaning.specs.Abreast.{Abreast, every, go_where, is_quiet, locals_of, start_abreast}
+use Rattle.plan_meaning.specs.Abreast.{Abreast, every, go_where, is_quiet, locals_of, of_processors, start_abreast}
 use Rattle.plan_meaning.specs.Act.{Followed, action_of, control_of, controlled, controlled_as, ended_by, ends_where, found, go_one_way, leaps_where, plan_act, print_ends, row_does, tested, voted_as}
 use Rattle.plan_meaning.specs.Loops.{Shared, all_shared, lacks, looped, part_shared, point_of, share_behind, shared, tree_looped, tuples_shared, wants}
 use Rattle.plan_orders.proofs.PrintLemmas.{never_more}
@@ -169,9 +169,9 @@ module _ (code : Tables) (links : Option ℕ) (n : ℕ) where
       (not_wanting (processor_numbers code) (λ p. wants code n (shares p)) none) e
     where
       by : (held done : Bool) → done ≡ true
-          → WantsMore (Does (if held then (if done then Goes [] (record all {
+          → WantsMore (Does (if held then (if done then Goes [] (of_processors code all (record all {
             shares = λ p. share_behind code n (all.shares p) (shares p);
-          })
+          }))
           else (if vote && is_quiet all then Stops (Ends More) else Stops Wrong)) else Stops Wrong))
           → ⊥
       by true true is e = cc

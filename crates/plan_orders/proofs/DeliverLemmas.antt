@@ -232,12 +232,12 @@ module _ (code : Tables) (links : Option ℕ) (at : ℕ) (instr : Instr)
             )
 
     turns_few : IsLimited code all → (n p : ℕ) → p < count
-        → length ((row p).stages (one p)) ≤ row_most code (suc n)
+        → length ((row p).stages (one p)) ≤ row_most code n
     turns_few limited n p below =
         let kind = kinds p (inside p below) in
         let shape_is = ap length (kind.placeless.stages (locals p) at ∙ kind.stages (locals p)) in
         let bound = long (kind.alone (locals p)) (kind.to (locals p)) (kind.from (locals p)) in
-        let some = most_some code (suc n) in
+        let some = most_some code n in
         let few = limited.count in
         let to_few = kind.few_to (locals p) in
         let from_few = kind.few_from (locals p) in

@@ -6,7 +6,7 @@ use Rattle.node_form.specs.declared.members.Member.TheVariants.{CloseIf, CloseWh
 use Rattle.node_form.specs.declared.tables.Tables.{Tables}
 use Rattle.plan_meaning.specs.Abreast.{Abreast, Share}
 use Rattle.plan_orders.specs.Brings.{in_front, loops_among, most_loops, row_most}
-use Rattle.plan_orders.specs.InStep.{least_moves, run_most, stops_within}
+use Rattle.plan_orders.specs.InStep.{least_moves, run_most, some_turns, stops_within}
 
 -- a group with a loop in a choice and one behind it, and one with a loop
 two_loops : List Member
@@ -43,6 +43,11 @@ in_a_row : row_most code 3 ≡ 134217728
 unfolding code two_loops one_loop
 in_a_row = refl
 
+-- without a turn of any loop
+in_a_row_alone : row_most code 0 ≡ 8388608
+unfolding code two_loops one_loop
+in_a_row_alone = refl
+
 in_a_run : run_most code 2 3 ≡ 805306368
 unfolding code two_loops one_loop
 in_a_run = refl
@@ -57,6 +62,12 @@ cut_off = refl
 
 turns : least_moves true 1 3 ≡ 3
 turns = refl
+
+at_least_one : some_turns 0 ≡ 1
+at_least_one = refl
+
+as_many : some_turns 3 ≡ 3
+as_many = refl
 
 -- ---- in front of a row, with the words of an open exchange on their way
 share : Share

@@ -11,6 +11,7 @@ pub mod LoopLemmas
 pub mod WaitLemmas
 pub mod LoopRowLemmas
 pub mod BeginLemmas
+pub mod MoreLemmas
 pub mod PlanLemmas
 pub mod StartLemmas
 pub mod ChainLemmas
@@ -18,3 +19,5 @@ pub mod RemapLemmas
 pub mod RemapRowLemmas
 pub mod RowLemmas
 pub mod ReachLemmas
+pub mod RoomLemmas
+pub mod LinkLemmas

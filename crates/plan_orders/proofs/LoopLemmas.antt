@@ -220,15 +220,18 @@ looping at share index member flag point = record {
   kept = [];
 }
 
--- how it comes on: it is behind the row; or it makes so many turns, and goes on
+-- how it comes on: it is behind the row; or it makes so many turns, and goes on; or nothing is said
+-- where a loop that is given no turn wants one, or a place isn't held
 pub data Comes (code : Tables) (p at n : ℕ) (share : Share) (most : ℕ) (one : Local)
     : Shared → Type 0 where
   ComesOut : {q : Point (List Array)} {flag : Option ℕ} (turns : ℕ) → 1 ≤ turns → turns ≤ most
       → Steps code p turns one
-      (standing_at (at + 1) (share_behind code (suc n) share (Through q flag)))
+      (standing_at (at + 1) (share_behind code n share (Through q flag)))
       → Comes code p at n share most one (Through q flag)
-  ComesToWant : (turns : ℕ) → n ≤ turns → (other next : Local) → Steps code p turns one other
-      → act code p other ≡ Moves next None [] → Comes code p at n share most one WantsTurn
+  ComesToWant : (turns : ℕ) → n ≤ suc turns → (other next : Local)
+      → Steps code p turns one other → act code p other ≡ Moves next None []
+      → Comes code p at n share most one WantsTurn
+  WantsFirst : n ≡ 0 → Comes code p at n share most one WantsTurn
   ComesToLack : Comes code p at n share most one LacksPlace
 
 comes_behind : (code : Tables) (p at n : ℕ) (share : Share) (most few : ℕ) (one two : Local)
@@ -242,6 +245,8 @@ comes_behind code p at n share most few one two k result fits first
     (ComesToWant turns enough other next rest goes) =
     ComesToWant (k + turns) (omega (arith, enough)) other next
     (steps_then code p k turns one two other first rest) goes
+comes_behind code p at n share most few one two k result fits first (WantsFirst none) =
+    WantsFirst none
 comes_behind code p at n share most few one two k result fits first ComesToLack = ComesToLack
 
 module _ (code : Tables) (p at slot number : ℕ) (all : List Member) (share : Share)
@@ -320,24 +325,24 @@ module _ (code : Tables) (p at slot number : ℕ) (all : List Member) (share : S
     units = units_of nest
 
     abbrev ResultOf : List (List ℤ) → Option ℕ → Point (List Array) → Shared
-    ResultOf tuples flag point = tuples_shared code (suc n) units tuples flag point
+    ResultOf tuples flag point = tuples_shared code n units tuples flag point
 
     comes_at : (t : List ℤ) (point : Point (List Array))
-        → Come code (access_at t) all (unit_names units 0) (suc n) (suc (suc n) ^ loops_in nest)
+        → Come code (access_at t) all (unit_names units 0) n (suc n ^ loops_in nest)
         (ran_from code (access_at t) all 0 point)
-        (units_told (ways_of code (access_at t)) (suc n) 0 units point)
+        (units_told (ways_of code (access_at t)) n 0 units point)
     comes_at t point =
-        subst (λ m. Come code (access_at t) m (unit_names units 0) (suc n)
-        (suc (suc n) ^ loops_in nest) (ran_from code (access_at t) m 0 point)
-        (units_told (ways_of code (access_at t)) (suc n) 0 units point)) spells
-        (subst (λ names. Come code (access_at t) (members_of nest) names (suc n)
-        (suc (suc n) ^ loops_in nest) (ran_from code (access_at t) (members_of nest) 0 point)
-        (units_told (ways_of code (access_at t)) (suc n) 0 units point)) (names_are nest 0)
-        (come_to_the_same (List Array) code (access_at t) nest (suc n) point))
+        subst (λ m. Come code (access_at t) m (unit_names units 0) n (suc n ^ loops_in nest)
+        (ran_from code (access_at t) m 0 point)
+        (units_told (ways_of code (access_at t)) n 0 units point)) spells
+        (subst (λ names. Come code (access_at t) (members_of nest) names n
+        (suc n ^ loops_in nest) (ran_from code (access_at t) (members_of nest) 0 point)
+        (units_told (ways_of code (access_at t)) n 0 units point)) (names_are nest 0)
+        (come_to_the_same (List Array) code (access_at t) nest n point))
 
     -- the most turns at one tuple, and at several
     abbrev wide : ℕ
-    wide = suc (suc n) ^ loops_in nest
+    wide = suc n ^ loops_in nest
 
     abbrev most_of : List (List ℤ) → ℕ
     most_of tuples = 1 + length tuples * wide
@@ -346,7 +351,7 @@ module _ (code : Tables) (p at slot number : ℕ) (all : List Member) (share : S
     tuple_comes : (index : ℕ) (flag : Option ℕ) (t : List ℤ) (tuples : List (List ℤ))
         (point : Point (List Array)) (told : UnitsTold (Point (List Array))) (result : Shared)
         → slice_get tuples_all index ≡ Some t
-        → Come code (access_at t) all (unit_names units 0) (suc n) (suc (suc n) ^ loops_in nest)
+        → Come code (access_at t) all (unit_names units 0) n (suc n ^ loops_in nest)
         (ran_from code (access_at t) all 0 point) told
         → AreSame (unit_names units 0) 0 told result
         → ((flag : Option ℕ) (point : Point (List Array))
@@ -379,8 +384,16 @@ module _ (code : Tables) (p at slot number : ℕ) (all : List Member) (share : S
         some_same : {a b : ℕ} → Some a ≡ Some b → a ≡ b
         some_same e = cc
     tuple_comes index flag t tuples point told result is (ComeBack stays) SameWants rest =
-        let (other, next, steps, goes) = stays_steps index flag t is n 0 point stays in
-        ComesToWant n (omega arith) other next steps goes
+        wanting n refl stays
+      where
+        wanting : (k : ℕ) → n ≡ k
+            → Stays code (access_at t) all k (ran_from code (access_at t) all 0 point)
+            → Comes code p at n share (most_of (t ∷ tuples)) (looping at share index 0 flag point)
+            WantsTurn
+        wanting zero none stays = WantsFirst none
+        wanting (suc k) some stays =
+            let (other, next, steps, goes) = stays_steps index flag t is k 0 point stays in
+            ComesToWant k (omega (arith, some)) other next steps goes
     tuple_comes index flag t tuples point told result is ComeLost SameLost rest = ComesToLack
 
     pub tuples_come : (tuples : List (List ℤ)) (index : ℕ) (flag : Option ℕ)
@@ -398,9 +411,9 @@ module _ (code : Tables) (p at slot number : ℕ) (all : List Member) (share : S
     tuples_come (t ∷ tuples) index flag point left =
         let (is, more) = next_of index tuples_all t tuples left in
         tuple_comes index flag t tuples point
-        (units_told (ways_of code (access_at t)) (suc n) 0 units point)
-        (units_shared code (suc n) 0 units t point) is (comes_at t point)
-        (same_units code (suc n) t units 0 0 point)
+        (units_told (ways_of code (access_at t)) n 0 units point)
+        (units_shared code n 0 units t point) is (comes_at t point)
+        (same_units code n t units 0 0 point)
         (λ flag point. tuples_come tuples (index + 1) flag point more)
 
 -- ---- how many loops are in a group

@@ -6,7 +6,7 @@ use Rattle.zpl_region.specs.declared.regions.Region.{Region}
 use Rattle.grid_links.specs.Machine.{Goes as Moves}
 use Rattle.grid_links.specs.Run.{count_of}
 use Rattle.grid_paths.specs.Path.{Quiet}
-use Rattle.grid_paths.specs.Scene.{AwaitsMessage, Leads, MovesIn, RestsIn}
+use Rattle.grid_paths.specs.Scene.{Leads, MovesIn, WaitsIn}
 use Rattle.grid_paths.specs.Tree.{Halted, IsTree}
 use Rattle.grid_paths.proofs.RoundLemmas.{leads_agreed, leads_through}
 use Rattle.node_form.specs.Nest.{Nest, members_of}
@@ -30,10 +30,11 @@ use Rattle.row_orders.proofs.StarLemmas.{processor_count}
 use Rattle.row_orders.proofs.TreeLemmas.{are_trees}
 use Rattle.row_runs.specs.Run.{Does, Ends, Goes, Stops, Wrong}
 use Rattle.zpl_nums.specs.declared.ends.End.TheVariants.{More}
-use Rattle.plan_meaning.specs.Abreast.{Abreast, Share, every, is_quiet}
+use Rattle.plan_meaning.proofs.ThereLemmas.{there_is}
+use Rattle.plan_meaning.specs.Abreast.{Abreast, Share, every, is_quiet, of_processors}
 use Rattle.plan_meaning.specs.Act.{found, is_vote_of}
 use Rattle.plan_meaning.specs.Loops.{Shared, lacks, looped, part_shared, point_of, share_behind, shared, tree_looped, wants}
-use Rattle.plan_orders.specs.Brings.{AllWait, AreOpen, ComesToWait, GoesWell, HasOrder, IsFollowed, IsLimited, LeadsTo, in_front, loops_among, most_loops, row_most, standing_at}
+use Rattle.plan_orders.specs.Brings.{AllWait, AreOpen, ComesToWait, GoesWell, HasOrder, IsFollowed, IsLimited, LeadsTo, StaysInFront, Stopped, in_front, loops_among, most_loops, row_most, standing_at}
 use Rattle.zpl_region.specs.Region.{members as members_of_region}
 use Rattle.zpl_region.proofs.LawLemmas.{length-met}
 use Rattle.grid_layout.specs.Layout.{laid_out, own_first, own_last}
@@ -43,7 +44,7 @@ use Rattle.nest_meaning.specs.Turns.{loops_in}
 use Rattle.std.proofs.Math.Nat.{one-le-pow, pow-le-pow_right}
 use Rattle.std.proofs.lemmas.Nat.{mul-le}
 use Rattle.plan_orders.proofs.AgreeLemmas.{decided_blind, flag_of, quiet_near, vote_last}
-use Rattle.plan_orders.proofs.LoopLemmas.{group_fits, loops_are, Comes, ComesOut, ComesToLack, ComesToWant, Steps, shows_none, steps_path, tuples_come}
+use Rattle.plan_orders.proofs.LoopLemmas.{group_fits, loops_are, Comes, ComesOut, ComesToLack, ComesToWant, Steps, WantsFirst, shows_none, steps_path, tuples_come}
 use Rattle.plan_orders.proofs.TestLemmas.{both, every_one, no_flights, on_way, ways_within}
 use Rattle.plan_orders.proofs.WaitLemmas.{sum_is, sum_of}
 
@@ -90,34 +91,38 @@ module _ (code : Tables) (p at n : ℕ) (share : Share) (most : ℕ) (one : Loca
   turns_of : (result : Shared) → Comes code p at n share most one result → ℕ
   turns_of result (ComesOut turns some less steps) = turns
   turns_of result (ComesToWant turns enough other next steps goes) = turns
+  turns_of result (WantsFirst none) = 0
   turns_of result ComesToLack = 0
 
   on_of : (result : Shared) → Comes code p at n share most one result → Local
   on_of result (ComesOut turns some less steps) = one
   on_of result (ComesToWant turns enough other next steps goes) = other
+  on_of result (WantsFirst none) = one
   on_of result ComesToLack = one
 
   out_facts : (result : Shared) (comes : Comes code p at n share most one result)
-      → lacks code (suc n) result ≡ false → wants code (suc n) result ≡ false
+      → lacks code n result ≡ false → wants code n result ≡ false
       → (1 ≤ turns_of result comes)
       × Steps code p (turns_of result comes) one
-      (standing_at (at + 1) (share_behind code (suc n) share result))
+      (standing_at (at + 1) (share_behind code n share result))
       × (turns_of result comes ≤ most)
   unfolding turns_of
   out_facts result (ComesOut turns some less steps) held done = (some, steps, less)
   out_facts result (ComesToWant turns enough other next steps goes) held done = cc
+  out_facts result (WantsFirst none) held done = cc
   out_facts result ComesToLack held done = cc
 
   want_facts : (result : Shared) (comes : Comes code p at n share most one result)
-      → wants code (suc n) result ≡ true
-      → (n ≤ turns_of result comes)
+      → wants code n result ≡ true → (m : ℕ) → n ≡ suc m
+      → (m ≤ turns_of result comes)
       × Steps code p (turns_of result comes) one (on_of result comes)
       × ((next : Local) × (act code p (on_of result comes) ≡ Moves next None []))
   unfolding turns_of on_of
-  want_facts result (ComesOut turns some less steps) want = cc
-  want_facts result (ComesToWant turns enough other next steps goes) want =
-      (enough, steps, (next, goes))
-  want_facts result ComesToLack want = cc
+  want_facts result (ComesOut turns some less steps) want m is = cc
+  want_facts result (ComesToWant turns enough other next steps goes) want m is =
+      (omega (arith, enough, is), steps, (next, goes))
+  want_facts result (WantsFirst none) want m is = absurd (omega (arith, none, is))
+  want_facts result ComesToLack want m is = cc
 
 abbrev mid_where : Bool → Local → Local → Local
 mid_where true stays leaves = stays
@@ -143,12 +148,12 @@ module _ (code : Tables) (links : Option ℕ) (n at slot number : ℕ) (members 
   one p = standing_at at (all.shares p)
 
   abbrev result : ℕ → Shared
-  result p = shared code (suc n) (units_of nest) slot all p
+  result p = shared code n (units_of nest) slot all p
 
   -- by the tuples of its part of the region
   abbrev loop_most : ℕ → Option Region → ℕ
   loop_most p (Some region) =
-      1 + length (members_of_region (own_part code p region)) * suc (suc n) ^ loops_in nest
+      1 + length (members_of_region (own_part code p region)) * suc n ^ loops_in nest
   loop_most p None = 0
 
   abbrev most : ℕ → ℕ
@@ -159,10 +164,10 @@ module _ (code : Tables) (links : Option ℕ) (n at slot number : ℕ) (members 
     where
       by : (region : Option Region) → slice_get (all.shares p).slots slot ≡ region
           → Comes code p at n (all.shares p) (loop_most p region) (one p)
-          (part_shared code (suc n) (units_of nest) (all.shares p) p region)
+          (part_shared code n (units_of nest) (all.shares p) p region)
       by (Some region) is =
           tuples_come code p at slot number members (all.shares p) region here group_here is nest
-          spells n _ 0 (all.shares p).flag (point_of code (suc n) (all.shares p)) refl
+          spells n _ 0 (all.shares p).flag (point_of code n (all.shares p)) refl
       by None is = ComesToLack
 
   abbrev turns : ℕ → ℕ
@@ -171,12 +176,27 @@ module _ (code : Tables) (links : Option ℕ) (n at slot number : ℕ) (members 
   abbrev on : ℕ → Local
   on p = on_of code p at n (all.shares p) (most p) (one p) (result p) (comes p)
 
+  -- what a processor comes to, and what all have behind the row
+  abbrev come : ℕ → Local
+  come p = standing_at (at + 1) (share_behind code n (all.shares p) (result p))
+
+  abbrev behind : Abreast
+  behind = of_processors code all (record all {
+    shares = λ p. share_behind code n (all.shares p) (result p);
+  })
+
   abbrev out : ℕ → Local
-  out p = standing_at (at + 1) (share_behind code (suc n) (all.shares p) (result p))
+  out p = standing_at (at + 1) (behind.shares p)
+
+  out_is : (p : ℕ) → p < count → come p ≡ out p
+  out_is p below =
+      ap (standing_at (at + 1)) (sym (there_is code all (record all {
+        shares = λ p. share_behind code n (all.shares p) (result p);
+      }) p (inside p below)))
 
   loop_few : IsLimited code all → (p : ℕ) → p < processors code → (region : Option Region)
       → slice_get (all.shares p).slots slot ≡ region
-      → loop_most p region ≤ row_most code (suc n)
+      → loop_most p region ≤ row_most code n
   loop_few limited p below None is = omega arith
   loop_few limited p below (Some region) is =
       let points = limited.regions p slot region below is in
@@ -186,27 +206,27 @@ module _ (code : Tables) (links : Option ℕ) (n at slot number : ℕ) (members 
       let deep : loops_in nest ≤ most_loops code =
       subst (λ k. k ≤ most_loops code) (ap loops_among (sym spells) ∙ loops_are nest)
       (group_fits code.groups 0 number members group_here) in
-      let wide : suc (suc n) ^ loops_in nest ≤ suc (suc n) ^ most_loops code =
-      pow-le-pow_right {n = suc (suc n)} (omega arith) deep in
-      let base : suc (suc n) ≡ suc n + 1 = omega arith in
-      let same : suc (suc n) ^ most_loops code ≡ (suc n + 1) ^ most_loops code =
+      let wide : suc n ^ loops_in nest ≤ suc n ^ most_loops code =
+      pow-le-pow_right {n = suc n} (omega arith) deep in
+      let base : suc n ≡ n + 1 = omega arith in
+      let same : suc n ^ most_loops code ≡ (n + 1) ^ most_loops code =
       ap (λ b. b ^ most_loops code) base in
-      let some : 1 ≤ suc (suc n) ^ most_loops code =
-      one-le-pow (most_loops code) (suc (suc n)) (omega arith) in
-      let times : length (members_of_region (own_part code p region)) * suc (suc n) ^ loops_in nest
-      ≤ 4194304 * suc (suc n) ^ most_loops code =
-      mul-le (length (members_of_region (own_part code p region))) (suc (suc n) ^ loops_in nest)
-      4194304 (suc (suc n) ^ most_loops code) (omega (arith, own, points)) wide in
+      let some : 1 ≤ suc n ^ most_loops code =
+      one-le-pow (most_loops code) (suc n) (omega arith) in
+      let times : length (members_of_region (own_part code p region)) * suc n ^ loops_in nest
+      ≤ 4194304 * suc n ^ most_loops code =
+      mul-le (length (members_of_region (own_part code p region))) (suc n ^ loops_in nest)
+      4194304 (suc n ^ most_loops code) (omega (arith, own, points)) wide in
       omega (arith, times, some, same)
 
-  module _ (held : every code (λ p. not (lacks code (suc n) (result p))) ≡ true) where
-    is_held : (p : ℕ) → p < count → lacks code (suc n) (result p) ≡ false
+  module _ (held : every code (λ p. not (lacks code n (result p))) ≡ true) where
+    is_held : (p : ℕ) → p < count → lacks code n (result p) ≡ false
     is_held p below =
-        not_false (lacks code (suc n) (result p))
-        (every_one code (λ q. not (lacks code (suc n) (result q))) held p (inside p below))
+        not_false (lacks code n (result p))
+        (every_one code (λ q. not (lacks code n (result q))) held p (inside p below))
 
     -- all go through
-    loop_goes : every code (λ p. not (wants code (suc n) (result p))) ≡ true
+    loop_goes : every code (λ p. not (wants code n (result p))) ≡ true
         → LeadsTo code links n all (in_front at all) (flying out all.flights) []
     loop_goes done = record {
       many = turns;
@@ -226,20 +246,22 @@ module _ (code : Tables) (links : Option ℕ) (n at slot number : ℕ) (members 
         facts : (p : ℕ) → p < count
             → (1 ≤ turns p) × Steps code p (turns p) (one p) (out p) × (turns p ≤ most p)
         facts p below =
-            out_facts code p at n (all.shares p) (most p) (one p) (result p) (comes p)
+            subst (λ other. (1 ≤ turns p) × Steps code p (turns p) (one p) other
+            × (turns p ≤ most p)) (out_is p below)
+            (out_facts code p at n (all.shares p) (most p) (one p) (result p) (comes p)
             (is_held p below)
-            (not_false (wants code (suc n) (result p))
-            (every_one code (λ q. not (wants code (suc n) (result q))) done p (inside p below)))
+            (not_false (wants code n (result p))
+            (every_one code (λ q. not (wants code n (result q))) done p (inside p below))))
 
     -- some want more
     module _ (capable : IsCapacity links) (vote : Instr) (kin : ℕ → Kin)
         (vote_here : slice_get code.code (at + 1) ≡ Some vote)
         (rows : (p : ℕ) → collective code p vote ≡ Some (voted code (kin p) number))
         (is_tree : IsTree count (tree_of kin))
-        (wanted : every code (λ p. not (wants code (suc n) (result p))) ≡ false)
-        (none : all.flights ≡ []) where
+        (wanted : every code (λ p. not (wants code n (result p))) ≡ false)
+        (none : all.flights ≡ []) (before : ℕ) (turns_are : n ≡ suc before) where
       abbrev away : ℕ → Bool
-      away p = wants code (suc n) (result p)
+      away p = wants code n (result p)
 
       abbrev mid : ℕ → Local
       mid p = mid_where (away p) (one p) (out p)
@@ -254,6 +276,7 @@ module _ (code : Tables) (links : Option ℕ) (n at slot number : ℕ) (members 
               → Steps code p (many_where b (turns p)) (one p) (mid_where b (one p) (out p))
           by true e = refl
           by false e =
+              subst (Steps code p (turns p) (one p)) (out_is p below)
               (out_facts code p at n (all.shares p) (most p) (one p) (result p) (comes p)
               (is_held p below)
               e).1
@@ -270,11 +293,11 @@ module _ (code : Tables) (links : Option ℕ) (n at slot number : ℕ) (members 
 
       longest : (p : ℕ) × (p < count) × (away p ≡ true)
       longest =
-          let (p, below, failed) = some_fails (λ q. not (wants code (suc n) (result q))) 0
+          let (p, below, failed) = some_fails (λ q. not (wants code n (result q))) 0
           (processors code) wanted in (
             p,
             subst (λ c. p < c) (sym (processor_count code links)) (omega (arith, below)),
-            not_true (wants code (suc n) (result p)) failed,
+            not_true (wants code n (result p)) failed,
           )
 
       partly : Partly code links kin least_flag flag_of (vote_last code number) away
@@ -288,7 +311,8 @@ module _ (code : Tables) (links : Option ℕ) (n at slot number : ℕ) (members 
             steps_path code p (turns p) (mid p) (on p)
             (subst (λ l. Steps code p (turns p) l (on p))
             (sym (ap (λ b. mid_where b (one p) (out p)) stays))
-            (want_facts code p at n (all.shares p) (most p) (one p) (result p) (comes p) stays).1);
+            (want_facts code p at n (all.shares p) (most p) (one p) (result p) (comes p) stays
+            before turns_are).1);
         at_row = λ p below leaves.
             subst (IsAtRow code p (voted code (kin p) number))
             (sym (ap (λ b. mid_where b (one p) (out p)) leaves))
@@ -303,7 +327,7 @@ module _ (code : Tables) (links : Option ℕ) (n at slot number : ℕ) (members 
         sums = λ p below leaves. sum_is count kin is_tree least_flag flag_of mid p below;
       }
 
-      loop_waits : AllWait code links (in_front at all) n []
+      loop_waits : AllWait code links (in_front at all) before []
       loop_waits =
           let halted : Halted (system_over code links) away (λ p. replicate (turns p) [])
           (quiet_scene mid) on =
@@ -316,7 +340,7 @@ module _ (code : Tables) (links : Option ℕ) (n at slot number : ℕ) (members 
           shows false k = refl
 
           waits : Halted (system_over code links) away (λ p. replicate (turns p) [])
-              (quiet_scene mid) on → AllWait code links (in_front at all) n []
+              (quiet_scene mid) on → AllWait code links (in_front at all) before []
           waits halted = record {
             other = halted.other;
             many = λ p. first p + halted.many p;
@@ -334,13 +358,13 @@ module _ (code : Tables) (links : Option ℕ) (n at slot number : ℕ) (members 
             longest_goes = goes longest.0 longest.1 longest.2;
           }
             where
-              enough : (p : ℕ) → p < count → away p ≡ true → n ≤ first p + halted.many p
+              enough : (p : ℕ) → p < count → away p ≡ true → before ≤ first p + halted.many p
               enough p below stays =
                   let made : halted.many p ≡ turns p =
                   (halted.alone p below stays).1 ∙ length-replicate (turns p) [] in
-                  let long : n ≤ turns p =
+                  let long : before ≤ turns p =
                   (want_facts code p at n (all.shares p) (most p) (one p) (result p) (comes p)
-                  stays).0 in
+                  stays before turns_are).0 in
                   omega (arith, made, long)
 
               goes : (p : ℕ) → p < count → away p ≡ true
@@ -348,7 +372,7 @@ module _ (code : Tables) (links : Option ℕ) (n at slot number : ℕ) (members 
               goes p below stays =
                   let (next, moves) =
                   (want_facts code p at n (all.shares p) (most p) (one p) (result p) (comes p)
-                  stays).2 in
+                  stays before turns_are).2 in
                   record {
                     event = Quiet [];
                     next = next;
@@ -357,11 +381,11 @@ module _ (code : Tables) (links : Option ℕ) (n at slot number : ℕ) (members 
                   }
 
               by : (p : ℕ) → p < count → (b : Bool) → away p ≡ b
-                  → RestsIn (system_over code links) halted.other p
-                  ⊎ ((n ≤ first p + halted.many p)
+                  → WaitsIn (system_over code links) halted.other p
+                  ⊎ ((before ≤ first p + halted.many p)
                   × MovesIn (system_over code links) halted.other p)
               by p below true stays = inr (enough p below stays, goes p below stays)
-              by p below false leaves = inl (AwaitsMessage (halted.waits p below leaves))
+              by p below false leaves = inl (halted.waits p below leaves)
 
 -- ---- the row
 module _ (code : Tables) (links : Option ℕ) (capable : IsCapacity links) (n at : ℕ)
@@ -373,65 +397,66 @@ module _ (code : Tables) (links : Option ℕ) (capable : IsCapacity links) (n at
       by_nest : (members : List Member) → slice_get code.groups number ≡ Some members
           → (nest : Option Nest) → nest_of members ≡ nest
           → GoesWell code links n at all
-          (Does (tree_looped code (suc n) (is_vote_of number next) slot nest all))
+          (Does (tree_looped code n (is_vote_of number next) slot nest all))
       by_nest members group_here None is = tt
       by_nest members group_here (Some nest) is =
-          by_held (every code (λ p. not (lacks code (suc n) (results p)))) refl
+          by_held (every code (λ p. not (lacks code n (results p)))) refl
         where
           spells : members_of nest ≡ members
           spells = reads_only members nest is
 
           results : ℕ → Shared
-          results = shared code (suc n) (units_of nest) slot all
-
-          behind : Abreast
-          behind = record all {
-            shares = λ p. share_behind code (suc n) (all.shares p)
-                (shared code (suc n) (units_of nest) slot all p);
-          }
+          results = shared code n (units_of nest) slot all
 
           vote_waits : (vote : Option Instr) → slice_get code.code (at + 1) ≡ vote
               → is_vote_of number vote ≡ true
-              → every code (λ p. not (lacks code (suc n)
-              (shared code (suc n) (units_of nest) slot all p))) ≡ true
-              → every code (λ p. not (wants code (suc n)
-              (shared code (suc n) (units_of nest) slot all p))) ≡ false
-              → all.flights ≡ [] → AllWait code links (in_front at all) n []
-          vote_waits (Some (instr.Vote other)) vote_here e held wanted none =
+              → every code (λ p. not (lacks code n
+              (shared code n (units_of nest) slot all p))) ≡ true
+              → every code (λ p. not (wants code n
+              (shared code n (units_of nest) slot all p))) ≡ false
+              → all.flights ≡ [] → (before : ℕ) → n ≡ suc before
+              → AllWait code links (in_front at all) before []
+          vote_waits (Some (instr.Vote other)) vote_here e held wanted none before are =
               loop_waits code links n at slot number members nest here group_here spells all
               open_now held capable (instr.Vote other) (star code) vote_here
               (λ p. ap (λ g. Some (voted code (star code p) g)) (sym (eqb-true number other e)))
-              (are_trees code links).stars wanted none
-          vote_waits (Some (instr.TreeVote other)) vote_here e held wanted none =
+              (are_trees code links).stars wanted none before are
+          vote_waits (Some (instr.TreeVote other)) vote_here e held wanted none before are =
               loop_waits code links n at slot number members nest here group_here spells all
               open_now held capable (instr.TreeVote other) (tree code) vote_here
               (λ p. ap (λ g. Some (voted code (tree code p) g)) (sym (eqb-true number other e)))
-              (are_trees code links).halves wanted none
-          vote_waits vote vote_here e held wanted none = cc
+              (are_trees code links).halves wanted none before are
+          vote_waits vote vote_here e held wanted none before are = cc
+
+          by_turns : (k : ℕ) → n ≡ k
+              → ((before : ℕ) → n ≡ suc before → AllWait code links (in_front at all) before [])
+              → Stopped code links n (in_front at all) (IsLimited code all) (row_most code n) More
+          by_turns zero none waits = StaysInFront none
+          by_turns (suc before) are waits = ComesToWait before are (waits before are)
 
           by_vote : (b : Bool) → (is_vote_of number next && is_quiet all) ≡ b
-              → every code (λ p. not (lacks code (suc n)
-              (shared code (suc n) (units_of nest) slot all p))) ≡ true
-              → every code (λ p. not (wants code (suc n)
-              (shared code (suc n) (units_of nest) slot all p))) ≡ false
+              → every code (λ p. not (lacks code n
+              (shared code n (units_of nest) slot all p))) ≡ true
+              → every code (λ p. not (wants code n
+              (shared code n (units_of nest) slot all p))) ≡ false
               → GoesWell code links n at all
               (Does (if b then Stops (Ends More) else Stops Wrong))
           by_vote false e held wanted = tt
           by_vote true e held wanted =
               let parts = both (is_vote_of number next) (is_quiet all) e in
-              ComesToWait (vote_waits next (followed number parts.0) parts.0 held wanted
+              by_turns n refl (vote_waits next (followed number parts.0) parts.0 held wanted
               (no_flights all.flights parts.1))
 
           by_wanted : (b : Bool)
-              → every code (λ p. not (wants code (suc n)
-              (shared code (suc n) (units_of nest) slot all p))) ≡ b
-              → every code (λ p. not (lacks code (suc n)
-              (shared code (suc n) (units_of nest) slot all p))) ≡ true
+              → every code (λ p. not (wants code n
+              (shared code n (units_of nest) slot all p))) ≡ b
+              → every code (λ p. not (lacks code n
+              (shared code n (units_of nest) slot all p))) ≡ true
               → GoesWell code links n at all
-              (Does (if b then Goes [] (record all {
-                shares = λ p. share_behind code (suc n) (all.shares p)
-                    (shared code (suc n) (units_of nest) slot all p);
-              }) else (if is_vote_of number next && is_quiet all then Stops (Ends More)
+              (Does (if b then Goes [] (of_processors code all (record all {
+                shares = λ p. share_behind code n (all.shares p)
+                    (shared code n (units_of nest) slot all p);
+              })) else (if is_vote_of number next && is_quiet all then Stops (Ends More)
               else Stops Wrong)))
           by_wanted true e held = (
             loop_goes code links n at slot number members nest here group_here spells all open_now
@@ -442,23 +467,23 @@ module _ (code : Tables) (links : Option ℕ) (capable : IsCapacity links) (n at
               by_vote (is_vote_of number next && is_quiet all) refl held e
 
           by_held : (b : Bool)
-              → every code (λ p. not (lacks code (suc n)
-              (shared code (suc n) (units_of nest) slot all p))) ≡ b
+              → every code (λ p. not (lacks code n
+              (shared code n (units_of nest) slot all p))) ≡ b
               → GoesWell code links n at all
-              (Does (if b then (if every code (λ p. not (wants code (suc n)
-              (shared code (suc n) (units_of nest) slot all p)))
-              then Goes [] (record all {
-                shares = λ p. share_behind code (suc n) (all.shares p)
-                    (shared code (suc n) (units_of nest) slot all p);
-              }) else (if is_vote_of number next && is_quiet all then Stops (Ends More)
+              (Does (if b then (if every code (λ p. not (wants code n
+              (shared code n (units_of nest) slot all p)))
+              then Goes [] (of_processors code all (record all {
+                shares = λ p. share_behind code n (all.shares p)
+                    (shared code n (units_of nest) slot all p);
+              })) else (if is_vote_of number next && is_quiet all then Stops (Ends More)
               else Stops Wrong)) else Stops Wrong))
           by_held false e = tt
           by_held true e =
-              by_wanted (every code (λ p. not (wants code (suc n)
-              (shared code (suc n) (units_of nest) slot all p)))) refl e
+              by_wanted (every code (λ p. not (wants code n
+              (shared code n (units_of nest) slot all p)))) refl e
 
       by_group : (members : Option (List Member)) → slice_get code.groups number ≡ members
           → GoesWell code links n at all (Does (found members (λ members.
-          looped code (suc n) (is_vote_of number next) slot members all)))
+          looped code n (is_vote_of number next) slot members all)))
       by_group None is = tt
       by_group (Some members) is = by_nest members is (nest_of members) refl

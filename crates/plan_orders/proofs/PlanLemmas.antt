@@ -11,27 +11,31 @@ use Rattle.node_form.specs.declared.tables.Tables.{Tables}
 use Rattle.grid_meaning.specs.Grid.{system_over}
 use Rattle.grid_meaning.specs.Local.{Local}
 use Rattle.grid_meaning.specs.Turn.{act_at}
-use Rattle.row_runs.specs.Run.{Does, Effect, Ends, Goes, Leaps, Passes, Result, Stops, Wrong, printed, runs, stopped, walked, went}
+use Rattle.row_runs.specs.Run.{Does, Effect, Ends, Goes, Leaps, Passes, Result, Stop, Stops, Wrong, printed, runs, stopped, walked, went}
 use Rattle.row_runs.specs.Growth.{effect_stops, rows_stop, stops_itself}
 use Rattle.plan_meaning.specs.Abreast.{Abreast, is_quiet}
 use Rattle.plan_meaning.specs.Act.{Followed, all_followed, controlled, ends_where, go_one_way, is_vote_of, plan_act, plan_rows}
-use Rattle.plan_orders.specs.Brings.{AllEnd, AllWait, AreOpen, Brings, ComesToEnd, ComesToWait, GoesWell, HasOrder, IsFollowed, IsLimited, LeadsTo, Stopped, in_front, row_most, standing_at}
+use Rattle.plan_orders.specs.Brings.{AllEnd, AllWait, AreOpen, Brings, ComesToEnd, ComesToWait, GoesWell, HaveOrders, IsLimited, LeadsTo, StaysInFront, Stopped, in_front, row_most, standing_at}
+use Rattle.std.specs.Prelude.{pred}
 use Rattle.std.proofs.lemmas.Nat.{mul-le}
 use Rattle.grid_links.specs.Run.{count_of}
+use Rattle.plan_orders.specs.InStep.{some_turns}
+use Rattle.plan_orders.proofs.MoreLemmas.{IsNear, IsTheSame, IsWanting, StopsBefore, row_near}
 use Rattle.plan_orders.proofs.QuietLemmas.{controlled_well, done_decided}
 
 -- ---- one order behind another
 module _ (code : Tables) (links : Option ℕ) where
-  -- without a bound on moves
-  pub brings_nowhere : (one : Scene Local Message) → Brings code links one one 0 ⊥ 0 []
-  brings_nowhere one = record {
+  -- by no move
+  brings_nowhere : (one : Scene Local Message) (least most : ℕ) (Premise : Type 0) → least ≡ 0
+      → Brings code links one one least Premise most []
+  brings_nowhere one least most Premise none = record {
     many = λ p. 0;
     shown = λ p. [];
     leads =
         leads_nowhere (system_over code links) one one
         (record { local = λ p below. refl; link = λ p q a b. refl });
-    enough = λ p below. omega arith;
-    few = λ never p below. omega arith;
+    enough = λ p below. omega (arith, none);
+    few = λ premise p below. omega arith;
     printed = refl;
   }
 
@@ -80,7 +84,8 @@ pub data Onward (code : Tables) (links : Option ℕ) (one : Scene Local Message)
       → Onward code links one
 
 -- What a run comes to, by whether it stops by itself: an end, under a premise with so many moves at
--- most; a loop that wants more; or a row, behind so many jumps and tests.
+-- most; a loop that wants more; a loop that wants a turn and is given none; or a row, behind so many
+-- jumps and tests.
 pub data Arrives (code : Tables) (links : Option ℕ) (n left : ℕ) (Premise : Type 0) (most : ℕ)
     (one : Scene Local Message) : Bool → Result → Type 0 where
   AtEnd : {bytes : List ℕ} {ending : End} → AllEnd code links one ending 1 Premise most bytes
@@ -89,6 +94,10 @@ pub data Arrives (code : Tables) (links : Option ℕ) (n left : ℕ) (Premise : 
   AtWait : {bytes : List ℕ} → AllWait code links one n bytes
       → Arrives code links n left Premise most one true
       (record { bytes = bytes; stop = Ends More })
+  AtLoop : {bytes : List ℕ} {stop : Stop} (there : ℕ) (after : Abreast) → IsWanting stop
+      → Brings code links one (in_front there after) n Premise most bytes
+      → Onward code links (in_front there after)
+      → Arrives code links n left Premise most one true (record { bytes = bytes; stop = stop })
   AtRow : {bytes : List ℕ} (there : ℕ) (after : Abreast)
       → Brings code links one (in_front there after) left ⊥ 0 bytes
       → Onward code links (in_front there after)
@@ -149,33 +158,48 @@ arrives_behind code links n turns k left more m few most Premise one two bytes s
     by p made (inl rests) = inl rests
     by p made (inr (enough, moves)) = inr (omega (arith, made, enough, longer), moves)
 arrives_behind code links n turns k left more m few most Premise one two bytes stops result longer
+    fits wide first (AtLoop {bytes = then} there after wanting brings onward) =
+    AtLoop there after wanting
+    (brings_through code links one two (in_front there after) k n turns m few most Premise bytes
+    then longer wide first brings) onward
+arrives_behind code links n turns k left more m few most Premise one two bytes stops result longer
     fits wide first (AtRow {bytes = then} there after brings onward) =
     AtRow there after
     (brings_through code links one two (in_front there after) k left more 0 0 0 ⊥ bytes then fits
     (omega arith) (unbounded code links one two k m Premise bytes first) brings) onward
 
 -- with more moves at most
+brings_wider : (code : Tables) (links : Option ℕ) (one two : Scene Local Message)
+    (least few most : ℕ) (Premise : Type 0) (bytes : List ℕ) → few ≤ most
+    → Brings code links one two least Premise few bytes
+    → Brings code links one two least Premise most bytes
+brings_wider code links one two least few most Premise bytes wide brings = record {
+  many = brings.many;
+  shown = brings.shown;
+  leads = brings.leads;
+  enough = brings.enough;
+  few = λ premise p below. let less = brings.few premise p below in omega (arith, less, wide);
+  printed = brings.printed;
+}
+
 arrives_wider : (code : Tables) (links : Option ℕ) (n left few most : ℕ) (Premise : Type 0)
     (one : Scene Local Message) (stops : Bool) (result : Result) → few ≤ most
     → Arrives code links n left Premise few one stops result
     → Arrives code links n left Premise most one stops result
-arrives_wider code links n left few most Premise one stops result wide (AtEnd end) =
+arrives_wider code links n left few most Premise one stops result wide (AtEnd {bytes = bytes} end) =
     AtEnd (record {
       over = end.over;
-      brings = record {
-        many = end.brings.many;
-        shown = end.brings.shown;
-        leads = end.brings.leads;
-        enough = end.brings.enough;
-        few = λ premise p below.
-            let less = end.brings.few premise p below in omega (arith, less, wide);
-        printed = end.brings.printed;
-      };
+      brings =
+          brings_wider code links one end.over 1 few most Premise bytes wide end.brings;
       ended = end.ended;
       quiet = end.quiet;
       last = end.last;
     })
 arrives_wider code links n left few most Premise one stops result wide (AtWait wait) = AtWait wait
+arrives_wider code links n left few most Premise one stops result wide
+    (AtLoop {bytes = bytes} there after wanting brings onward) =
+    AtLoop there after wanting
+    (brings_wider code links one (in_front there after) n few most Premise bytes wide brings) onward
 arrives_wider code links n left few most Premise one stops result wide
     (AtRow there after brings onward) = AtRow there after brings onward
 
@@ -266,17 +290,28 @@ vote_in_code code at group (Some row) is vote = by (in_code code.code at instr.E
     by (inr (end, last, none)) =
         absurd (not_vote group (subst (λ r. is_vote_of group (Some r) ≡ true) last vote))
 
+-- ---- numbers of turns
+some_are : (n : ℕ) → some_turns n ≡ 0 → ⊥
+some_are zero e = cc
+some_are (suc n) e = cc
+
+no_more_than : (n : ℕ) → n ≤ 1 + pred n
+no_more_than zero = omega arith
+no_more_than (suc n) = omega arith
+
 -- ---- a run, row by row
-module _ (code : Tables) (links : Option ℕ) (n : ℕ)
-    (ordered : (at : ℕ) (row : Instr) (next : Option Instr) → slice_get code.code at ≡ Some row
-    → IsFollowed code at next → HasOrder code links n at row next)
+module _ (code : Tables) (links : Option ℕ) (n : ℕ) (ordered : HaveOrders code links)
     (Premise : Type 0) (Reach : ℕ → Abreast → Type 0)
     (limits : Premise → (at : ℕ) (all : Abreast) → Reach at all → IsLimited code all)
     (reaches : (at there : ℕ) (all next : Abreast) (bytes : List ℕ) → Reach at all
     → LeadsTo code links n all (in_front at all) (in_front there next) bytes → Reach there next)
   where
     abbrev does : Followed → Abreast → Effect Abreast
-    does = plan_act code links (suc n)
+    does = plan_act code links n
+
+    -- with one turn at least
+    abbrev further : Followed → Abreast → Effect Abreast
+    further = plan_act code links (some_turns n)
 
     abbrev rows : List Followed
     rows = plan_rows code
@@ -286,22 +321,22 @@ module _ (code : Tables) (links : Option ℕ) (n : ℕ)
 
     -- the most moves in a row, and in all rows
     abbrev row_width : ℕ
-    row_width = row_most code (suc n)
+    row_width = row_most code n
 
     abbrev code_width : ℕ
     code_width = length rows * row_width
 
     abbrev Comes : ℕ → ℕ → ℕ → Abreast → Bool → Result → Type 0
     Comes left most at all stops result =
-        Arrives code links n left Premise most (in_front at all) stops result
+        Arrives code links (pred n) left Premise most (in_front at all) stops result
 
     -- behind a row of the code is one, or the end
     abbrev IsInside : ℕ → Effect Abreast → Type 0
     IsInside at (Does (Stops stop)) = Unit {0}
     IsInside at effect = at < length code.code
 
-    abbrev RowIs : ℕ → Abreast → Effect Abreast → Type 0
-    RowIs at all effect = GoesWell code links n at all effect × IsInside at effect
+    abbrev RowIs : ℕ → ℕ → Abreast → Effect Abreast → Type 0
+    RowIs turns at all effect = GoesWell code links turns at all effect × IsInside at effect
 
     is_inside : (at : ℕ) → at < length code.code → (effect : Effect Abreast) → IsInside at effect
     is_inside at less (Does (Goes bytes next)) = less
@@ -309,10 +344,10 @@ module _ (code : Tables) (links : Option ℕ) (n : ℕ)
     is_inside at less (Leaps goal) = less
     is_inside at less Passes = less
 
-    end_is : (at : ℕ) (all : Abreast) → slice_get code.code at ≡ None → AreOpen code links all
-        → RowIs at all (controlled code instr.End all)
-    end_is at all none open_now = (
-      controlled_well code links n at instr.End
+    end_is : (turns at : ℕ) (all : Abreast) → slice_get code.code at ≡ None
+        → AreOpen code links all → RowIs turns at all (controlled code instr.End all)
+    end_is turns at all none open_now = (
+      controlled_well code links turns at instr.End
           (λ p share. ap (act_at code p (standing_at at share)) none)
           (λ registers. done_decided code)
           all open_now,
@@ -323,53 +358,66 @@ module _ (code : Tables) (links : Option ℕ) (n : ℕ)
         stops true = tt
         stops false = tt
 
-    row_is : (at : ℕ) (all : Abreast) (one : Followed) (more : List Followed)
-        → drop at rows ≡ one ∷ more → AreOpen code links all → RowIs at all (does one all)
-    row_is at all one more left open_now =
+    row_is : (turns at : ℕ) (all : Abreast) (one : Followed) (more : List Followed)
+        → drop at rows ≡ one ∷ more → AreOpen code links all
+        → RowIs turns at all (plan_act code links turns one all)
+    row_is turns at all one more left open_now =
         let (here, behind, rest) = followed_here (code.code ++ instr.End ∷ []) at one more left in
         by behind (in_code code.code at instr.End one.row here)
       where
         by : slice_get (code.code ++ instr.End ∷ []) (at + 1) ≡ one.next
             → (slice_get code.code at ≡ Some one.row)
             ⊎ ((at ≡ length code.code) × (one.row ≡ instr.End) × (slice_get code.code at ≡ None))
-            → RowIs at all (does one all)
+            → RowIs turns at all (plan_act code links turns one all)
         by behind (inl here) = (
-          ordered at one.row one.next here
+          ordered turns at one.row one.next here
               (λ group vote. vote_in_code code (at + 1) group one.next behind vote) all open_now,
-          is_inside at (below_length code.code at one.row here) (does one all),
+          is_inside at (below_length code.code at one.row here) (plan_act code links turns one all),
         )
         by behind (inr (end, last, none)) =
-            subst (λ row. RowIs at all (plan_act code links (suc n)
-            (record { row = row; next = one.next }) all)) (sym last) (end_is at all none open_now)
+            subst (λ row. RowIs turns at all (plan_act code links turns
+            (record { row = row; next = one.next }) all)) (sym last)
+            (end_is turns at all none open_now)
 
     stopped_onward : (one : Scene Local Message) (Old : Type 0) (most : ℕ) (ending : End)
-        → Stopped code links n one Old most ending → Onward code links one
+        → Stopped code links (some_turns n) one Old most ending → Onward code links one
     stopped_onward one Old most ending (ComesToEnd end) =
         AllMove end.brings.many end.brings.shown end.brings.leads end.brings.enough
-    stopped_onward one Old most ending (ComesToWait wait) = AllRest wait
+    stopped_onward one Old most ending (ComesToWait turns are wait) = AllRest wait
+    stopped_onward one Old most ending (StaysInFront none) = absurd (some_are n none)
 
-    stopped_arrives : (left most wide : ℕ) (one : Scene Local Message) (Old : Type 0) (ending : End)
-        → (Premise → Old) → most ≤ wide → Stopped code links n one Old most ending
-        → Arrives code links n left Premise wide one true (stopped (Ends ending))
-    stopped_arrives left most wide one Old ending old fits (ComesToEnd end) =
-        arrives_wider code links n left most wide Premise one true (stopped (Ends ending)) fits
+    stopped_arrives : (left most wide at : ℕ) (all : Abreast) (Old : Type 0) (ending : End)
+        → (Premise → Old) → most ≤ wide → Onward code links (in_front at all)
+        → Stopped code links n (in_front at all) Old most ending
+        → Comes left wide at all true (stopped (Ends ending))
+    stopped_arrives left most wide at all Old ending old fits onward (ComesToEnd end) =
+        arrives_wider code links (pred n) left most wide Premise (in_front at all) true
+        (stopped (Ends ending)) fits
         (AtEnd (record {
           over = end.over;
           brings =
-              brings_under code links one end.over 1 most [] Old Premise old end.brings;
+              brings_under code links (in_front at all) end.over 1 most [] Old Premise old
+              end.brings;
           ended = end.ended;
           quiet = end.quiet;
           last = end.last;
         }))
-    stopped_arrives left most wide one Old ending old fits (ComesToWait wait) = AtWait wait
+    stopped_arrives left most wide at all Old ending old fits onward
+        (ComesToWait turns are wait) =
+        subst (λ k. Arrives code links k left Premise wide (in_front at all) true
+        (stopped (Ends More))) (sym (ap pred are)) (AtWait wait)
+    stopped_arrives left most wide at all Old ending old fits onward (StaysInFront none) =
+        AtLoop at all (λ other e. cc)
+        (brings_nowhere code links (in_front at all) (pred n) wide Premise (ap pred none)) onward
 
     onward_of : (at : ℕ) (all : Abreast) (leap : ℕ → Abreast → Result) (rest : Abreast → Result)
-        (effect : Effect Abreast) → GoesWell code links n at all effect
+        (effect : Effect Abreast) → GoesWell code links (some_turns n) at all effect
         → IsRight (went leap at all effect rest) → Onward code links (in_front at all)
     onward_of at all leap rest (Does (Goes bytes next)) well right =
         AllMove well.0.many well.0.shown well.0.leads well.0.enough
     onward_of at all leap rest (Does (Stops (Ends ending))) well right =
-        stopped_onward (in_front at all) (IsLimited code all) row_width ending well
+        stopped_onward (in_front at all) (IsLimited code all) (row_most code (some_turns n)) ending
+        well
     onward_of at all leap rest (Does (Stops Wrong)) well right = absurd (right refl)
     onward_of at all leap rest (Leaps goal) well right =
         AllMove well.0.many well.0.shown well.0.leads well.0.enough
@@ -377,7 +425,8 @@ module _ (code : Tables) (links : Option ℕ) (n : ℕ)
         AllMove well.many well.shown well.leads well.enough
 
     -- what a row comes to, with so many turns in a loop that wants more, by what the rest comes to
-    module _ (turns : ℕ) (longer : turns ≤ 1 + n) (left at ahead most : ℕ) (all : Abreast)
+    module _ (turns : ℕ) (longer : turns ≤ 1 + pred n) (none : n ≡ 0 → turns ≡ 0)
+        (left at ahead most : ℕ) (all : Abreast)
         (leap leap' : ℕ → Abreast → Result) (rest rest' : Abreast → Result)
         (stops_there : ℕ → Abreast → Bool) (stops_behind : Abreast → Bool)
         (reach : Reach at all) (wide : row_width + ahead ≤ most)
@@ -394,33 +443,46 @@ module _ (code : Tables) (links : Option ℕ) (n : ℕ)
           → Arrives code links turns (suc left) Premise most (in_front at all) true
           (stopped (Ends ending))
 
-      step : (effect : Effect Abreast) → HasEnd effect → RowIs at all effect
+      same_step : (effect : Effect Abreast) → HasEnd effect → RowIs n at all effect
           → IsRight (went leap' at all effect rest')
           → Arrives code links turns (suc left) Premise most (in_front at all)
           (effect_stops does stops_there at all effect stops_behind) (went leap at all effect rest)
-      step (Does (Goes bytes next)) ends (well, less) right =
-          arrives_behind code links n turns 1 (suc left) (suc left) row_width ahead most Premise
+      same_step (Does (Goes bytes next)) ends (well, less) right =
+          arrives_behind code links (pred n) turns 1 (suc left) (suc left) row_width ahead most
+          Premise
           (in_front at all) (in_front (at + 1) next) bytes (stops_behind next) (rest next) longer
           (omega arith) wide
           (brings_under code links (in_front at all) (in_front (at + 1) next) 1 row_width bytes
           (IsLimited code all) Premise (λ premise. limits premise at all reach) well.0)
           (on next (reaches at (at + 1) all next bytes reach well.0) well.1 less right)
-      step (Does (Stops (Ends ending))) ends (well, less) right = ends ending refl well
-      step (Does (Stops Wrong)) ends (well, less) right = absurd (right refl)
-      step (Leaps goal) ends (well, less) right =
-          arrives_behind code links n turns 1 left (suc left) row_width (left * code_width) most
+      same_step (Does (Stops (Ends ending))) ends (well, less) right = ends ending refl well
+      same_step (Does (Stops Wrong)) ends (well, less) right = absurd (right refl)
+      same_step (Leaps goal) ends (well, less) right =
+          arrives_behind code links (pred n) turns 1 left (suc left) row_width
+          (left * code_width) most
           Premise (in_front at all) (in_front goal all) [] (stops_there goal all) (leap goal all)
           longer (omega arith) far
           (brings_under code links (in_front at all) (in_front goal all) 1 row_width []
           (IsLimited code all) Premise (λ premise. limits premise at all reach) well.0)
           (jump goal (reaches at goal all all [] reach well.0) well.1 right)
-      step Passes ends (well, less) right =
-          arrives_behind code links n turns 1 left (suc left) row_width (left * code_width) most
+      same_step Passes ends (well, less) right =
+          arrives_behind code links (pred n) turns 1 left (suc left) row_width
+          (left * code_width) most
           Premise (in_front at all) (in_front (at + 1) all) [] (stops_there (at + 1) all)
           (leap (at + 1) all) longer (omega arith) far
           (brings_under code links (in_front at all) (in_front (at + 1) all) 1 row_width []
           (IsLimited code all) Premise (λ premise. limits premise at all reach) well)
           (jump (at + 1) (reaches at (at + 1) all all [] reach well) (omega (arith, less)) right)
+
+      step : (effect other : Effect Abreast) → IsNear n effect other → HasEnd effect
+          → RowIs n at all effect → Onward code links (in_front at all)
+          → IsRight (went leap' at all other rest')
+          → Arrives code links turns (suc left) Premise most (in_front at all)
+          (effect_stops does stops_there at all effect stops_behind) (went leap at all effect rest)
+      step effect other IsTheSame ends well onward right = same_step effect ends well right
+      step effect other (StopsBefore no_turns wanting) ends well onward right =
+          AtLoop at all wanting
+          (brings_nowhere code links (in_front at all) turns most Premise (none no_turns)) onward
 
     long : length rows ≡ length code.code + 1
     long = long_rows (code.code ++ instr.End ∷ []) ∙ length-append code.code (instr.End ∷ [])
@@ -438,7 +500,7 @@ module _ (code : Tables) (links : Option ℕ) (n : ℕ)
     abbrev ComesFrom : ℕ → Type 0
     ComesFrom left =
         (at : ℕ) (all : Abreast) → at ≤ length code.code → Reach at all → AreOpen code links all
-        → IsRight (runs does rows (suc left) at all)
+        → IsRight (runs further rows (suc left) at all)
         → Comes left (left * code_width) at all (stops_itself does rows left at all)
         (runs does rows left at all)
 
@@ -446,34 +508,49 @@ module _ (code : Tables) (links : Option ℕ) (n : ℕ)
     ComesAlong turns left rest =
         (at : ℕ) (all : Abreast) → drop at rows ≡ rest → at ≤ length code.code → Reach at all
         → AreOpen code links all
-        → IsRight (walked does (runs does rows (suc left)) (λ _. stopped (Ends Done)) at rest all)
+        → IsRight (walked further (runs further rows (suc left)) (λ _. stopped (Ends Done)) at
+        rest all)
         → Arrives code links turns (suc left) Premise
         (length rest * row_width + left * code_width) (in_front at all)
         (rows_stop does (stops_itself does rows left) at rest all)
         (walked does (runs does rows left) (λ _. stopped (Ends Done)) at rest all)
 
-    walk_on : (turns left : ℕ) → turns ≤ 1 + n → ComesFrom left → (one : Followed)
-        (more : List Followed) → ComesAlong n left more
+    -- some order leads on from in front of a row that isn't wrong
+    onward_at : (at : ℕ) (all : Abreast) (leap : ℕ → Abreast → Result) (rest : Abreast → Result)
+        (one : Followed) (more : List Followed) → drop at rows ≡ one ∷ more
+        → AreOpen code links all → IsRight (went leap at all (further one all) rest)
+        → Onward code links (in_front at all)
+    onward_at at all leap rest one more is open_now right =
+        onward_of at all leap rest (further one all)
+        (row_is (some_turns n) at all one more is open_now).0 right
+
+    walk_on : (turns left : ℕ) → turns ≤ 1 + pred n → (n ≡ 0 → turns ≡ 0) → ComesFrom left
+        → (one : Followed) (more : List Followed) → ComesAlong (pred n) left more
         → (at : ℕ) (all : Abreast) → drop at rows ≡ one ∷ more → at ≤ length code.code
         → Reach at all → AreOpen code links all
-        → ((ending : End) → does one all ≡ Does (Stops (Ends ending))
+        → (Onward code links (in_front at all) → (ending : End)
+        → does one all ≡ Does (Stops (Ends ending))
         → Stopped code links n (in_front at all) (IsLimited code all) row_width ending
         → Arrives code links turns (suc left) Premise
         (suc (length more) * row_width + left * code_width) (in_front at all) true
         (stopped (Ends ending)))
-        → IsRight (walked does (runs does rows (suc left)) (λ _. stopped (Ends Done)) at
+        → IsRight (walked further (runs further rows (suc left)) (λ _. stopped (Ends Done)) at
         (one ∷ more) all)
         → Arrives code links turns (suc left) Premise
         (suc (length more) * row_width + left * code_width) (in_front at all)
         (rows_stop does (stops_itself does rows left) at (one ∷ more) all)
         (walked does (runs does rows left) (λ _. stopped (Ends Done)) at (one ∷ more) all)
-    walk_on turns left longer again one more behind at all is fits reach open_now ends right =
-        step turns longer left at (length more * row_width + left * code_width)
+    walk_on turns left longer none again one more behind at all is fits reach open_now ends
+        right =
+        let onward = onward_at at all (runs further rows (suc left))
+        (λ next. walked further (runs further rows (suc left)) (λ _. stopped (Ends Done)) (at + 1)
+        more next) one more is open_now right in
+        step turns longer none left at (length more * row_width + left * code_width)
         (suc (length more) * row_width + left * code_width) all (runs does rows left)
-        (runs does rows (suc left))
+        (runs further rows (suc left))
         (λ next. walked does (runs does rows left) (λ _. stopped (Ends Done)) (at + 1) more next)
-        (λ next. walked does (runs does rows (suc left)) (λ _. stopped (Ends Done)) (at + 1) more
-        next)
+        (λ next. walked further (runs further rows (suc left)) (λ _. stopped (Ends Done)) (at + 1)
+        more next)
         (stops_itself does rows left)
         (λ next. rows_stop does (stops_itself does rows left) (at + 1) more next) reach
         (sum (length more) row_width (left * code_width))
@@ -482,18 +559,19 @@ module _ (code : Tables) (links : Option ℕ) (n : ℕ)
         (followed_here (code.code ++ instr.End ∷ []) at one more is).2 (omega (arith, less))
         reach_next open_next ok)
         (λ goal reach_goal below ok. again goal all below reach_goal open_now ok)
-        (does one all) ends (row_is at all one more is open_now) right
+        (does one all) (further one all) (row_near code links n one all) (ends onward)
+        (row_is n at all one more is open_now) onward right
 
-    walk : (left : ℕ) → ComesFrom left → (rest : List Followed) → ComesAlong n left rest
+    walk : (left : ℕ) → ComesFrom left → (rest : List Followed) → ComesAlong (pred n) left rest
     walk left again [] at all is fits reach open_now right =
         absurd (some_left at rows (omega (arith, fits, long)) is)
     walk left again (one ∷ more) at all is fits reach open_now right =
-        walk_on n left (omega arith) again one more (walk left again more) at all is fits reach
-        open_now
-        (λ ending e well.
+        walk_on (pred n) left (omega arith) (ap pred) again one more (walk left again more) at all
+        is fits reach open_now
+        (λ onward ending e well.
         stopped_arrives (suc left) row_width (suc (length more) * row_width + left * code_width)
-        (in_front at all) (IsLimited code all) ending (λ premise. limits premise at all reach)
-        (first (length more) row_width (left * code_width)) well)
+        at all (IsLimited code all) ending (λ premise. limits premise at all reach)
+        (first (length more) row_width (left * code_width)) onward well)
         right
 
     shorter : {X : Type 0} (k : ℕ) (xs : List X) → length (drop k xs) ≤ length xs
@@ -506,24 +584,26 @@ module _ (code : Tables) (links : Option ℕ) (n : ℕ)
 
     -- in front of a row that isn't wrong
     at_here : (turns most at : ℕ) (all : Abreast) → at ≤ length code.code → AreOpen code links all
-        → IsRight (runs does rows 1 at all)
+        → IsRight (runs further rows 1 at all)
         → Arrives code links turns 0 Premise most (in_front at all) false (stopped (Ends More))
     at_here turns most at all fits open_now right =
-        AtRow at all (brings_nowhere code links (in_front at all)) (by (drop at rows) refl right)
+        AtRow at all (brings_nowhere code links (in_front at all) 0 0 ⊥ refl)
+        (by (drop at rows) refl right)
       where
         by : (rest : List Followed) → drop at rows ≡ rest
-            → IsRight (walked does (runs does rows 0) (λ _. stopped (Ends Done)) at rest all)
+            → IsRight (walked further (runs further rows 0) (λ _. stopped (Ends Done)) at rest all)
             → Onward code links (in_front at all)
         by [] is right = absurd (some_left at rows (omega (arith, fits, long)) is)
         by (one ∷ more) is right =
-            onward_of at all (runs does rows 0)
-            (λ next. walked does (runs does rows 0) (λ _. stopped (Ends Done)) (at + 1) more next)
-            (does one all) (row_is at all one more is open_now).0 right
+            onward_at at all (runs further rows 0)
+            (λ next. walked further (runs further rows 0) (λ _. stopped (Ends Done)) (at + 1) more
+            next) one more is open_now right
 
     pub arrive : (left : ℕ) → ComesFrom left
-    arrive zero at all fits reach open_now right = at_here n (0 * code_width) at all fits open_now right
+    arrive zero at all fits reach open_now right =
+        at_here (pred n) (0 * code_width) at all fits open_now right
     arrive (suc left) at all fits reach open_now right =
-        arrives_wider code links n (suc left)
+        arrives_wider code links (pred n) (suc left)
         (length (drop at rows) * row_width + left * code_width) (suc left * code_width) Premise
         (in_front at all) (stops_itself does rows (suc left) at all)
         (runs does rows (suc left) at all)
@@ -536,13 +616,14 @@ module _ (code : Tables) (links : Option ℕ) (n : ℕ)
     -- does.
     module _ (all : Abreast) (reach : Reach 0 all) (open_now : AreOpen code links all)
         (never : (one : Followed) → does one all ≡ Does (Stops (Ends More)) → ⊥) where
-      first_end : (left most : ℕ) (one : Followed) → row_width ≤ most → (ending : End)
+      first_end : (left most : ℕ) (one : Followed) → row_width ≤ most
+          → Onward code links (in_front 0 all) → (ending : End)
           → does one all ≡ Does (Stops (Ends ending))
           → Stopped code links n (in_front 0 all) (IsLimited code all) row_width ending
-          → Arrives code links (suc n) left Premise most (in_front 0 all) true
+          → Arrives code links n left Premise most (in_front 0 all) true
           (stopped (Ends ending))
-      first_end left most one wide ending e (ComesToEnd end) =
-          arrives_wider code links (suc n) left row_width most Premise (in_front 0 all) true
+      first_end left most one wide onward ending e (ComesToEnd end) =
+          arrives_wider code links n left row_width most Premise (in_front 0 all) true
           (stopped (Ends ending)) wide
           (AtEnd (record {
             over = end.over;
@@ -553,28 +634,31 @@ module _ (code : Tables) (links : Option ℕ) (n : ℕ)
             quiet = end.quiet;
             last = end.last;
           }))
-      first_end left most one wide ending e (ComesToWait wait) = absurd (never one e)
+      first_end left most one wide onward ending e (ComesToWait turns are wait) =
+          absurd (never one e)
+      first_end left most one wide onward ending e (StaysInFront none) = absurd (never one e)
 
       first_row : (left : ℕ) (rest : List Followed) → rows ≡ rest
-          → IsRight (walked does (runs does rows (suc left)) (λ _. stopped (Ends Done)) 0 rest all)
-          → Arrives code links (suc n) (suc left) Premise
+          → IsRight (walked further (runs further rows (suc left)) (λ _. stopped (Ends Done)) 0
+          rest all)
+          → Arrives code links n (suc left) Premise
           (length rest * row_width + left * code_width) (in_front 0 all)
           (rows_stop does (stops_itself does rows left) 0 rest all)
           (walked does (runs does rows left) (λ _. stopped (Ends Done)) 0 rest all)
       first_row left [] is right = absurd (some_left 0 rows (omega (arith, long)) is)
       first_row left (one ∷ more) is right =
-          walk_on (suc n) left (omega arith) (arrive left) one more (walk left (arrive left) more) 0
-          all is (omega arith) reach open_now
+          walk_on n left (no_more_than n) (λ none. none) (arrive left) one more
+          (walk left (arrive left) more) 0 all is (omega arith) reach open_now
           (first_end (suc left) (suc (length more) * row_width + left * code_width) one
           (first (length more) row_width (left * code_width)))
           right
 
-      pub arrive_first : (left : ℕ) → IsRight (runs does rows (suc left) 0 all)
-          → Arrives code links (suc n) left Premise (left * code_width) (in_front 0 all)
+      pub arrive_first : (left : ℕ) → IsRight (runs further rows (suc left) 0 all)
+          → Arrives code links n left Premise (left * code_width) (in_front 0 all)
           (stops_itself does rows left 0 all) (runs does rows left 0 all)
-      arrive_first zero right = at_here (suc n) (0 * code_width) 0 all (omega arith) open_now right
+      arrive_first zero right = at_here n (0 * code_width) 0 all (omega arith) open_now right
       arrive_first (suc left) right =
-          arrives_wider code links (suc n) (suc left)
+          arrives_wider code links n (suc left)
           (length rows * row_width + left * code_width) (suc left * code_width) Premise
           (in_front 0 all) (stops_itself does rows (suc left) 0 all)
           (runs does rows (suc left) 0 all)

@@ -1,5 +1,5 @@
 -- Rows that need scalars and slots alone: all processors go the same way, each in one turn.
-use Rattle.std.proofs.Common.{suc, ◌^◌, ◌≡◌, ◌≢◌, ℕ, ◌+◌, ◌<◌, ◌≤◌, Bool, true, false, ◌&&◌, List, [], length, All, Option, Some, None, refl, sym, ◌∙◌, ap, subst, arith, eqb-true}
+use Rattle.std.proofs.Common.{◌^◌, ◌≡◌, ◌≢◌, ℕ, ◌+◌, ◌<◌, ◌≤◌, Bool, true, false, ◌&&◌, List, [], length, All, Option, Some, None, refl, sym, ◌∙◌, ap, subst, arith, eqb-true}
 use Rattle.std.specs.List.{flat_map}
 use Rattle.std.proofs.Math.Nat.{one-le-pow}
 use Rattle.zpl_nums.specs.declared.ends.End.{End}
@@ -49,7 +49,7 @@ brings_once code links n all one other shown flights are room acts = record {
       (λ p below. acts p (subst (λ c. p < c) (processor_count code links) below))
       (ways_within (count_of (system_over code links)) links flights are room);
   enough = λ p below. omega arith;
-  few = λ limited p below. let some = most_some code (suc n) in omega (arith, some);
+  few = λ limited p below. let some = most_some code n in omega (arith, some);
   printed = refl;
 }
 

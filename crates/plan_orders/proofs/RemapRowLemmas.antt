@@ -1,5 +1,5 @@
 -- A remap read on all processors.
-use Rattle.std.proofs.Common.{suc, ◌≡◌, ◌≢◌, ℕ, ◌+◌, ◌-◌, ◌*◌, ◌<◌, ◌≤◌, ◌==◌, nat_le, Bool, true, false, ◌&&◌, List, [], ◌∷◌, ◌++◌, drop, length, map, All, slice_get, Option, Some, None, option_map, is_some, refl, sym, ◌∙◌, ap, ap₂, subst, arith, length-append, append_assoc, eqb-true, leb-true, le-leb}
+use Rattle.std.proofs.Common.{◌≡◌, ◌≢◌, ℕ, ◌+◌, ◌-◌, ◌*◌, ◌<◌, ◌≤◌, ◌==◌, nat_le, Bool, true, false, ◌&&◌, List, [], ◌∷◌, ◌++◌, drop, length, map, All, slice_get, Option, Some, None, option_map, is_some, refl, sym, ◌∙◌, ap, ap₂, subst, arith, length-append, append_assoc, eqb-true, leb-true, le-leb}
 use Rattle.std.proofs.lemmas.Bool.{lt-leb}
 use Rattle.std.specs.Prelude.{unwrap_or}
 use Rattle.std.specs.List.{list_all}
@@ -401,9 +401,9 @@ module _ (code : Tables) (links : Option ℕ) (at array slot from : ℕ) (parts 
 
     row_few : (n : ℕ) → IsLimited code all
         → 1 + many p + many p + length (to_back p) + length (from_back p) + 1
-        ≤ row_most code (suc n)
+        ≤ row_most code n
     row_few n limited =
-        let some = most_some code (suc n) in
+        let some = most_some code n in
         let few = limited.count in
         let s = size in
         let b = back_few in

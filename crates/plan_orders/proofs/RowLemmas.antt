@@ -1,5 +1,5 @@
 -- Every row of code that fits has its order; and so has every run.
-use Rattle.std.proofs.Common.{◌+◌, ◌*◌, ◌<◌, ◌++◌, ◌∷◌, [], ◌∙◌, length, length-append, ◌≡◌, ◌≢◌, ℕ, suc, List, drop, filter_map, take, All, slice_get, Option, Some, None, option_map, refl, ap, subst, arith}
+use Rattle.std.proofs.Common.{◌+◌, ◌*◌, ◌<◌, ◌++◌, ◌∷◌, [], ◌∙◌, length, length-append, ◌≡◌, ◌≢◌, ℕ, List, drop, filter_map, take, All, slice_get, Option, Some, None, option_map, refl, ap, subst, arith}
 use Rattle.std.specs.Prelude.{IsNone}
 use Rattle.std.specs.Option.{IsSomeAnd}
 use Rattle.std.proofs.lemmas.List.{take-append-drop}
@@ -155,15 +155,14 @@ module _ (code : Tables) (links : Option ℕ) (capable : IsCapacity links) where
   come_in_step fits start_kept moves_keep messages_keep a n right =
       let long : length (plan_rows code) ≡ length code.code + 1 =
       long_rows (code.code ++ instr.End ∷ []) ∙ length-append code.code (instr.End ∷ []) in
-      in_step code links (suc n) a (least_moves (stops_within code links a (suc n)) a (suc n))
-      (run_most code a (suc n)) (stops_within code links a (suc n)) (omega arith)
-      (plan_run code links a (suc n))
-      (subst (λ k. Arrives code links (suc n) a (All (HasThree code) code.code)
-      (a * (k * row_most code (suc n))) (in_front 0 (start_abreast code))
-      (stops_within code links a (suc n)) (plan_run code links a (suc n))) long
-      (arrive_first code links n (have_orders fits n) (All (HasThree code) code.code)
+      in_step code links n a (least_moves (stops_within code links a n) a n) (run_most code a n)
+      (stops_within code links a n) (omega arith) (plan_run code links a n)
+      (subst (λ k. Arrives code links n a (All (HasThree code) code.code)
+      (a * (k * row_most code n)) (in_front 0 (start_abreast code))
+      (stops_within code links a n) (plan_run code links a n)) long
+      (arrive_first code links n (have_orders fits) (All (HasThree code) code.code)
       (Reach code links)
       (reach_limits code links fits start_kept moves_keep messages_keep) (reach_on code links n)
       (start_abreast code) (start_reach code links)
       (record { flights = All-nil _; room = no_room links })
-      (start_never code links (suc n) fits.slots) a right))
+      (start_never code links n fits.slots) a right))

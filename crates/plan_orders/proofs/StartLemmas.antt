@@ -17,8 +17,8 @@ use Rattle.grid_links.specs.Run as run
 use Rattle.grid_links.specs.Run.{World, after_turn, count_of, move_in, moves_from, moves_of, shown_by, start_world, turn_or_over}
 use Rattle.grid_links.proofs.LapLemmas.{after-append, moves_of-append}
 use Rattle.grid_paths.specs.Laws.{Reached}
-use Rattle.grid_paths.specs.Scene.{Leads, HasEnded, HasScene, OnlyMoves, Scene}
-use Rattle.grid_paths.proofs.ReachLemmas.{moving_turn, reaches_from, starts, unstuck}
+use Rattle.grid_paths.specs.Scene.{AwaitsMessage, HasEnded, HasScene, Leads, MovesIn, OnlyMoves, RestsIn, Scene, WaitsIn}
+use Rattle.grid_paths.proofs.ReachLemmas.{moving_turn, reaches_from, rests, starts, unstuck}
 use Rattle.grid_paths.proofs.StuckLemmas.{stays_stuck}
 use Rattle.node_form.specs.Grid.{factors_of}
 use Rattle.node_form.specs.declared.tables.Tables.{Tables}
@@ -39,7 +39,7 @@ use Rattle.node_form.specs.Fits.{Fits}
 use Rattle.grid_paths.proofs.RoundLemmas.{leads_nowhere, leads_through}
 use Rattle.plan_orders.proofs.TestLemmas.{all_at}
 use Rattle.plan_orders.specs.InStep.{IsInStep, least_moves}
-use Rattle.plan_orders.proofs.PlanLemmas.{AllMove, AllRest, Arrives, AtEnd, AtRow, AtWait, Onward}
+use Rattle.plan_orders.proofs.PlanLemmas.{AllMove, AllRest, Arrives, AtEnd, AtLoop, AtRow, AtWait, Onward}
 
 -- ---- what a grid has printed is what processor 0 has shown
 shown_first : (p : ℕ) (turn : Turn)
@@ -65,7 +65,7 @@ printed_from code links grid (p ∷ order) =
     ∙ sym (flat_map-append (λ m. m.shown) (move_in (p == 0) (next_turn code links grid p))
     (moves_from (system_over code links) (given_turn code links grid p).world order 0))))
 
-printed_is : (code : Tables) (links : Option ℕ) (order : List ℕ)
+pub printed_is : (code : Tables) (links : Option ℕ) (order : List ℕ)
     → (after code links order).printed ≡ shown_by (moves_of (system_over code links) order 0)
 printed_is code links order = printed_from code links (start_grid code) order
 
@@ -187,6 +187,24 @@ module _ (code : Tables) (links : Option ℕ) where
       from_zero : (p : ℕ) → 0 + p ≡ p
       from_zero p = omega arith
 
+  -- ---- who awaits a message rests, also over links of any number of messages
+  rests_or : {scene : Scene Local Message} {p : ℕ} {B : Type 0}
+      → WaitsIn system scene p ⊎ B → RestsIn system scene p ⊎ B
+  rests_or (inl waits) = inl (AwaitsMessage waits)
+  rests_or (inr other) = inr other
+
+  awaits_freely : (order : List ℕ) (scene : Scene Local Message)
+      → HasScene count (run.after system order) scene → (p : ℕ) → p < count
+      → WaitsIn system scene p → run.Rests (system_over code None) (run.after system order) p
+  awaits_freely order scene has p below waits =
+      rests (system_over code None) (run.after system order) scene has p below
+      (AwaitsMessage (record {
+        from = waits.from;
+        from_below = waits.from_below;
+        awaits = waits.awaits;
+        empty = waits.empty;
+      }))
+
   -- ---- nobody is stuck where some order leads on
   not_stuck : (order : List ℕ) (scene : Scene Local Message)
       → HasScene count (run.after system order) scene → Onward code links scene
@@ -208,7 +226,7 @@ module _ (code : Tables) (links : Option ℕ) where
       stuck.stuck in
       unstuck system (run.after_from system (run.after system order) comes.order) wait.other
       comes.arrives stuck.process stuck.there least (wait.many stuck.process) stuck.kind
-      (wait.each stuck.process stuck.there)
+      (rests_or (wait.each stuck.process stuck.there))
       (sym (ap (λ world. run.next_turn system world stuck.process)
       (after-append system order comes.order)) ∙ still)
 
@@ -292,6 +310,10 @@ module _ (code : Tables) (links : Option ℕ) where
               );
           goes_on = λ more. absurd (end.last (wanted ending more));
           reaches = reached.reaches;
+          freely = λ p below. inl
+              (rests (system_over code None) (run.after system reached.order) end.over
+              reached.arrives p below
+              (HasEnded (ended_act code p (end.over.locals p) ending (end.ended p below))));
           one_moved = λ more. absurd (end.last (wanted ending more));
           few = λ three last p below.
               let inside = subst (λ k. p < k) (sym (processor_count code links)) below in
@@ -307,7 +329,7 @@ module _ (code : Tables) (links : Option ℕ) where
       let reached : Reached system wait.other wait.many wait.shown bound =
       reaches_from system (in_front 0 (start_abreast code)) wait.other wait.many
       wait.shown bound start_is wait.leads
-      (λ p below. less (wait.many p) (wait.each p below)) in (
+      (λ p below. less (wait.many p) (rests_or (wait.each p below))) in (
         reached.order,
         record {
           turns = orders_below reached.order reached.only_moves;
@@ -323,6 +345,9 @@ module _ (code : Tables) (links : Option ℕ) where
               let clash = sym moves ∙ stays in
               cc;
           reaches = reached.reaches;
+          freely = λ p below.
+              freely reached.order reached.arrives p below (reached.moved p below)
+              (wait.each p below);
           one_moved = λ more. (
             wait.longest,
             subst (λ n. wait.longest < n) (processor_count code links) wait.longest_below,
@@ -337,6 +362,53 @@ module _ (code : Tables) (links : Option ℕ) where
       less : {A B : Type 0} (many : ℕ) → A ⊎ ((n ≤ many) × B) → A ⊎ ((bound ≤ many) × B)
       less many (inl rests) = inl rests
       less many (inr (enough, moves)) = inr (omega (arith, enough, few), moves)
+
+      freely : (order : List ℕ) → HasScene count (run.after system order) wait.other → (p : ℕ)
+          → p < count → length (moves_of system order p) ≡ wait.many p
+          → WaitsIn system wait.other p
+          ⊎ ((n ≤ wait.many p) × MovesIn system wait.other p)
+          → run.Rests (system_over code None) (run.after system order) p
+          ⊎ (bound ≤ length (moves_of system order p))
+      freely order has p below moved (inl waits) =
+          inl (awaits_freely order wait.other has p below waits)
+      freely order has p below moved (inr (enough, moves)) = inr (omega (arith, moved, enough, few))
+  in_step n left bound most stops low result
+      (AtLoop {bytes = bytes} {stop = stop} there after_it wanting brings onward) =
+      let comes = brings.leads (start_world system) start_is in (
+        comes.order,
+        record {
+          turns = orders_below comes.order comes.only_moves;
+          only_moves = comes.only_moves;
+          printed =
+              printed_is code links comes.order ∙ (comes.shows 0 first_below ∙ brings.printed);
+          ends = λ other same last. absurd (last (wanting other same));
+          goes_on = λ more over.
+              goes_not_over comes.order (in_front there after_it) comes.arrives refl over;
+          reaches = record {
+            moved = λ p below. inr
+                (let moved = comes.moved p below in
+                let enough = brings.enough p below in
+                omega (arith, moved, enough, low));
+            not_stuck = not_stuck comes.order (in_front there after_it) comes.arrives onward;
+          };
+          freely = λ p below. inr
+              (let moved = comes.moved p below in
+              let enough = brings.enough p below in
+              omega (arith, moved, enough, low));
+          one_moved = λ more. (
+            0,
+            subst (λ n. 0 < n) (processor_count code links) first_below,
+            (let moved = comes.moved 0 first_below in
+                let enough = brings.enough 0 first_below in
+                omega (arith, moved, enough, low)),
+          );
+          few = λ three last p below.
+              let inside = subst (λ k. p < k) (sym (processor_count code links)) below in
+              let moved = comes.moved p inside in
+              let less = brings.few three p inside in
+              omega (arith, moved, less);
+        },
+      )
   in_step n left bound most stops low result (AtRow {bytes = bytes} there after_it brings onward) =
       let comes = brings.leads (start_world system) start_is in (
         comes.order,
@@ -355,6 +427,10 @@ module _ (code : Tables) (links : Option ℕ) where
                 omega (arith, moved, enough, low));
             not_stuck = not_stuck comes.order (in_front there after_it) comes.arrives onward;
           };
+          freely = λ p below. inr
+              (let moved = comes.moved p below in
+              let enough = brings.enough p below in
+              omega (arith, moved, enough, low));
           one_moved = λ more. (
             0,
             subst (λ n. 0 < n) (processor_count code links) first_below,

@@ -11,7 +11,7 @@
 --   GoesWell            some order does what a row does in a plan
 --   HasOrder            so it does of each state of a plan in front of the row
 --   HaveOrders          so does one for each row of the code
-use Rattle.std.specs.Prelude.{◌≡◌, ◌≢◌, ℕ, suc, ◌+◌, ◌<◌, ◌≤◌, true, List, [], All, length}
+use Rattle.std.specs.Prelude.{◌≡◌, ◌≢◌, ◌⊎◌, ℕ, suc, ◌+◌, ◌<◌, ◌≤◌, true, List, [], All, length}
 use Rattle.std.specs.Prelude.{◌*◌, ◌^◌, ◌∷◌, fold, max, slice_get, Option, Some, ⊤}
 use Rattle.zpl_nums.specs.declared.ends.End.{End}
 use Rattle.zpl_nums.specs.declared.ends.End.TheVariants.{More}
@@ -19,8 +19,7 @@ use Rattle.zpl_region.specs.Region.{members}
 use Rattle.zpl_region.specs.declared.regions.Region.{Region}
 use Rattle.grid_links.specs.declared.messages.Message.{Message}
 use Rattle.grid_links.specs.Run.{count_of}
-use Rattle.grid_paths.specs.Laws.{HasCome}
-use Rattle.grid_paths.specs.Scene.{Scene, Leads, MovesIn}
+use Rattle.grid_paths.specs.Scene.{Scene, Leads, MovesIn, WaitsIn}
 use Rattle.node_form.specs.declared.instructions.Instr.{Instr}
 use Rattle.node_form.specs.declared.members.Member.{Member}
 use Rattle.node_form.specs.declared.members.Member.TheVariants as member
@@ -96,7 +95,8 @@ pub record AllEnd (code : Tables) (links : Option ℕ) (one : Scene Local Messag
       → q < count_of (system_over code links) → over.links p q ≡ []
   pub last : ending ≢ More
 
--- Each waits, or has made at least so many moves and makes one more; and so does one of them.
+-- Each awaits a message, or has made at least so many moves and makes one more; and so does one of
+-- them.
 pub record AllWait (code : Tables) (links : Option ℕ) (one : Scene Local Message) (least : ℕ)
     (bytes : List ℕ) : Type 0 where
   pub other : Scene Local Message
@@ -104,24 +104,30 @@ pub record AllWait (code : Tables) (links : Option ℕ) (one : Scene Local Messa
   pub shown : ℕ → List ℕ
   pub leads : Leads (system_over code links) one other many shown
   pub printed : shown 0 ≡ bytes
-  pub each : HasCome (system_over code links) other many least
+  pub each : (p : ℕ) → p < count_of (system_over code links)
+      → WaitsIn (system_over code links) other p
+      ⊎ ((least ≤ many p) × MovesIn (system_over code links) other p)
   pub longest : ℕ
   pub longest_below : longest < count_of (system_over code links)
   pub longest_moves : least ≤ many longest
   pub longest_goes : MovesIn (system_over code links) other longest
 
 -- ---- a row of a plan
+-- With so many turns of each loop. Where a loop that may make none wants one, all stay in front of
+-- it: what they do next is what they do with one turn.
 pub data Stopped (code : Tables) (links : Option ℕ) (n : ℕ) (one : Scene Local Message)
     (Premise : Type 0) (most : ℕ) : End → Type 0 where
   ComesToEnd : {ending : End} → AllEnd code links one ending 1 Premise most []
       → Stopped code links n one Premise most ending
-  ComesToWait : AllWait code links one n [] → Stopped code links n one Premise most More
+  ComesToWait : (turns : ℕ) → n ≡ suc turns → AllWait code links one turns []
+      → Stopped code links n one Premise most More
+  StaysInFront : n ≡ 0 → Stopped code links n one Premise most More
 
--- from one scene to another by a move of each at least, with n + 1 turns of each loop
+-- from one scene to another by a move of each at least, with n turns of each loop
 abbrev pub LeadsTo : Tables → Option ℕ → ℕ → Abreast → Scene Local Message → Scene Local Message
     → List ℕ → Type 0
 LeadsTo code links n all one other bytes =
-    Brings code links one other 1 (IsLimited code all) (row_most code (suc n)) bytes
+    Brings code links one other 1 (IsLimited code all) (row_most code n) bytes
 
 -- From in front of the row with a number; a goal is a row, or the end behind the last one.
 abbrev pub GoesWell : Tables → Option ℕ → ℕ → ℕ → Abreast → Effect Abreast → Type 0
@@ -129,19 +135,19 @@ GoesWell code links n at all (Does (Goes bytes next)) =
     LeadsTo code links n all (in_front at all) (in_front (at + 1) next) bytes
     × AreOpen code links next
 GoesWell code links n at all (Does (Stops (Ends ending))) =
-    Stopped code links n (in_front at all) (IsLimited code all) (row_most code (suc n)) ending
+    Stopped code links n (in_front at all) (IsLimited code all) (row_most code n) ending
 GoesWell code links n at all (Does (Stops Wrong)) = ⊤
 GoesWell code links n at all (Leaps goal) =
     LeadsTo code links n all (in_front at all) (in_front goal all) [] × (goal ≤ length code.code)
 GoesWell code links n at all Passes =
     LeadsTo code links n all (in_front at all) (in_front (at + 1) all) []
 
--- The row with this number, and the one behind it, of code whose loops may make n + 1 turns within
--- a group.
+-- The row with this number, and the one behind it, of code whose loops may make n turns within a
+-- group.
 abbrev pub HasOrder : Tables → Option ℕ → ℕ → ℕ → Instr → Option Instr → Type 0
 HasOrder code links n at row next =
     (all : Abreast) → AreOpen code links all
-    → GoesWell code links n at all (row_does code links (suc n) row next all)
+    → GoesWell code links n at all (row_does code links n row next all)
 
 -- the row behind it, where it is a vote, is the code's next one
 abbrev pub IsFollowed : Tables → ℕ → Option Instr → Type 0

@@ -11,8 +11,11 @@ use Rattle.node_form.specs.declared.arrays.Item.{Item}
 use Rattle.node_form.specs.declared.instructions.Instr.{Instr}
 use Rattle.node_form.specs.declared.instructions.Instr.TheVariants as instr
 use Rattle.node_form.specs.declared.tables.Tables.{Tables}
-use Rattle.code_parts.specs.Early.{may_cross, open_behind}
+use Rattle.code_parts.specs.Early.{is_roomy, may_cross, open_behind}
+use Rattle.code_parts.specs.Uses.{changes_any, items_of}
+use Rattle.code_parts.proofs.WalkLemmas.{both_left, both_right}
 use Rattle.comm_early.specs.Send.{open_behind_all, put_early}
+use Rattle.needs_runs.proofs.HoldsLemmas.{both_true}
 use Rattle.row_orders.specs.Rows.{Flight}
 use Rattle.row_runs.specs.Run.{Effect, Does}
 use Rattle.row_runs.specs.Straight.{Flow, OnTo, Halts, TiedHalt, TiedOn, TiedWrong}
@@ -275,28 +278,17 @@ module _ (code : Tables) (links : Option ℕ) (n : ℕ) where
       (through act (last ∷ [])) (rows_open before apart.1 s has)
       (λ s has. row_opens last (open_behind_all before) s apart.0 has))
 
-  -- ---- a start is put early
-  long_turned : {X : Type 0} (xs : List X) → length (turned_over xs) ≡ length xs
-  long_turned [] = refl
-  long_turned (x ∷ xs) =
-      length-append (turned_over xs) (x ∷ []) ∙ (let more = long_turned xs in omega (arith, more))
+-- ---- a start is put early
+long_turned : {X : Type 0} (xs : List X) → length (turned_over xs) ≡ length xs
+long_turned [] = refl
+long_turned (x ∷ xs) =
+    length-append (turned_over xs) (x ∷ []) ∙ (let more = long_turned xs in omega (arith, more))
 
-  long_numbers : (flights : List Flight) → length (numbers flights) ≡ length flights
-  long_numbers [] = refl
-  long_numbers (flight ∷ flights) = ap suc (long_numbers flights)
+long_numbers : (flights : List Flight) → length (numbers flights) ≡ length flights
+long_numbers [] = refl
+long_numbers (flight ∷ flights) = ap suc (long_numbers flights)
 
-  swapped : (exchange : ℕ) (row : Instr) (open_now : List ℕ)
-      → may_cross code links (length open_now) row exchange ≡ true → (s : Await)
-      → HasOpen open_now s
-      → AsBefore (through act (row ∷ instr.Start exchange ∷ []) s)
-      (through act (instr.Start exchange ∷ row ∷ []) s)
-  swapped exchange row open_now crosses (Ready all) has =
-      crossed_ready code links n exchange row all
-      (subst (λ k. may_cross code links k row exchange ≡ true)
-      (sym (sym (long_numbers all.flights) ∙ (ap length has.0 ∙ long_turned open_now))) crosses)
-  swapped exchange row open_now crosses (Wanted group) has =
-      crossed_wanted code links n exchange row (length open_now) group crosses
-
+module _ (code : Tables) (links : Option ℕ) where
   -- what isn't open behind such a row isn't open in front of it
   unfiltered : (exchange other : ℕ) (xs : List ℕ) → (other == exchange) ≡ false
       → Misses exchange (filter (λ x. not (x == other)) xs) → Misses exchange xs
@@ -359,54 +351,88 @@ module _ (code : Tables) (links : Option ℕ) (n : ℕ) where
       )
       by false e more = (new, apart)
 
-  pub put_before : (exchange : ℕ) (before : List Instr) → StartsApart before
-      → Misses exchange (open_behind_all before) → (s : Await) → HasOpen [] s
-      → AsBefore (through act (turned_over (instr.Start exchange ∷ before)) s)
-      (through act (turned_over (put_early code links exchange before)) s)
-  put_before exchange [] apart new s has = same_flow _
-  put_before exchange (last ∷ before) apart new s has =
-      by (may_cross code links (length (open_behind_all before)) last exchange) refl
-      (λ new. put_before exchange before apart.1 new s has)
-    where
-      start : Instr
-      start = instr.Start exchange
+  -- ---- over links that have room wherever those have for which it is put early
+  module _ (over : Option ℕ)
+      (roomy : (count : ℕ) → is_roomy links count ≡ true → is_roomy over count ≡ true) (n : ℕ) where
+    abbrev act_over : Instr → Await → Effect Await
+    act_over = await_act code over n
 
-      early : List Instr
-      early = put_early code links exchange before
+    -- what is crossed over the one links is crossed over the others
+    crosses_over : (row : Instr) (count exchange : ℕ)
+        → may_cross code links count row exchange ≡ true
+        → may_cross code over count row exchange ≡ true
+    crosses_over (instr.Finish other) count exchange e =
+        let differs = not (other == exchange) in
+        let keeps = not (changes_any code (instr.Finish other) (items_of code exchange)) in
+        let front = both_left (differs && is_roomy links count) keeps e in
+        both_true (differs && is_roomy over count) keeps
+        (both_true differs (is_roomy over count) (both_left differs (is_roomy links count) front)
+        (roomy count (both_right differs (is_roomy links count) front)))
+        (both_right (differs && is_roomy links count) keeps e)
+    crosses_over row count exchange e = e
 
-      by : (b : Bool) → may_cross code links (length (open_behind_all before)) last exchange ≡ b
-          → (Misses exchange (open_behind_all before)
-          → AsBefore (through act (turned_over (start ∷ before)) s) (through act (turned_over early) s))
-          → AsBefore (through act (turned_over (start ∷ last ∷ before)) s)
-          (through act (turned_over (if b then last ∷ early else start ∷ last ∷ before)) s)
-      by true e more =
-          let rows : List Instr = turned_over before in
-          let here : through act ((rows ++ last ∷ []) ++ start ∷ []) s
-          ≡ flow_then (through act rows s) (through act (last ∷ start ∷ [])) =
-          ap (λ r. through act r s) (append_assoc rows (last ∷ []) (start ∷ []))
-          ∙ through_append act rows (last ∷ start ∷ []) s in
-          let there : through act ((rows ++ start ∷ []) ++ last ∷ []) s
-          ≡ flow_then (through act rows s) (through act (start ∷ last ∷ [])) =
-          ap (λ r. through act r s) (append_assoc rows (start ∷ []) (last ∷ []))
-          ∙ through_append act rows (start ∷ last ∷ []) s in
-          let swap : AsBefore (through act ((rows ++ last ∷ []) ++ start ∷ []) s)
-          (through act ((rows ++ start ∷ []) ++ last ∷ []) s) =
-          subst (λ f. AsBefore f (through act ((rows ++ start ∷ []) ++ last ∷ []) s)) (sym here)
-          (subst (AsBefore (flow_then (through act rows s) (through act (last ∷ start ∷ []))))
-          (sym there)
-          (then_where (HasOpen (open_behind_all before)) (through act rows s)
-          (through act (last ∷ start ∷ [])) (through act (start ∷ last ∷ []))
-          (rows_open before apart.1 s has)
-          (λ s has. swapped exchange last (open_behind_all before) e s has))) in
-          let rest : AsBefore (through act ((rows ++ start ∷ []) ++ last ∷ []) s)
-          (through act (turned_over early ++ last ∷ []) s) =
-          subst (λ f. AsBefore f (through act (turned_over early ++ last ∷ []) s))
-          (sym (through_append act (rows ++ start ∷ []) (last ∷ []) s))
-          (subst (AsBefore (flow_then (through act (rows ++ start ∷ []) s) (through act (last ∷ []))))
-          (sym (through_append act (turned_over early) (last ∷ []) s))
-          (then_before (through act (rows ++ start ∷ []) s) (through act (turned_over early) s)
-          (through act (last ∷ []))
-          (more (new_before exchange (length (open_behind_all before)) (open_behind_all before) last
-          e new)))) in
-          before_trans _ _ _ swap rest
-      by false e more = same_flow _
+    swapped : (exchange : ℕ) (row : Instr) (open_now : List ℕ)
+        → may_cross code links (length open_now) row exchange ≡ true → (s : Await)
+        → HasOpen open_now s
+        → AsBefore (through act_over (row ∷ instr.Start exchange ∷ []) s)
+        (through act_over (instr.Start exchange ∷ row ∷ []) s)
+    swapped exchange row open_now crosses (Ready all) has =
+        crossed_ready code over n exchange row all
+        (subst (λ k. may_cross code over k row exchange ≡ true)
+        (sym (sym (long_numbers all.flights) ∙ (ap length has.0 ∙ long_turned open_now)))
+        (crosses_over row (length open_now) exchange crosses))
+    swapped exchange row open_now crosses (Wanted group) has =
+        crossed_wanted code over n exchange row (length open_now) group
+        (crosses_over row (length open_now) exchange crosses)
+
+    pub put_before : (exchange : ℕ) (before : List Instr) → StartsApart before
+        → Misses exchange (open_behind_all before) → (s : Await) → HasOpen [] s
+        → AsBefore (through act_over (turned_over (instr.Start exchange ∷ before)) s)
+        (through act_over (turned_over (put_early code links exchange before)) s)
+    put_before exchange [] apart new s has = same_flow _
+    put_before exchange (last ∷ before) apart new s has =
+        by (may_cross code links (length (open_behind_all before)) last exchange) refl
+        (λ new. put_before exchange before apart.1 new s has)
+      where
+        start : Instr
+        start = instr.Start exchange
+
+        early : List Instr
+        early = put_early code links exchange before
+
+        by : (b : Bool) → may_cross code links (length (open_behind_all before)) last exchange ≡ b
+            → (Misses exchange (open_behind_all before)
+            → AsBefore (through act_over (turned_over (start ∷ before)) s) (through act_over (turned_over early) s))
+            → AsBefore (through act_over (turned_over (start ∷ last ∷ before)) s)
+            (through act_over (turned_over (if b then last ∷ early else start ∷ last ∷ before)) s)
+        by true e more =
+            let rows : List Instr = turned_over before in
+            let here : through act_over ((rows ++ last ∷ []) ++ start ∷ []) s
+            ≡ flow_then (through act_over rows s) (through act_over (last ∷ start ∷ [])) =
+            ap (λ r. through act_over r s) (append_assoc rows (last ∷ []) (start ∷ []))
+            ∙ through_append act_over rows (last ∷ start ∷ []) s in
+            let there : through act_over ((rows ++ start ∷ []) ++ last ∷ []) s
+            ≡ flow_then (through act_over rows s) (through act_over (start ∷ last ∷ [])) =
+            ap (λ r. through act_over r s) (append_assoc rows (start ∷ []) (last ∷ []))
+            ∙ through_append act_over rows (start ∷ last ∷ []) s in
+            let swap : AsBefore (through act_over ((rows ++ last ∷ []) ++ start ∷ []) s)
+            (through act_over ((rows ++ start ∷ []) ++ last ∷ []) s) =
+            subst (λ f. AsBefore f (through act_over ((rows ++ start ∷ []) ++ last ∷ []) s)) (sym here)
+            (subst (AsBefore (flow_then (through act_over rows s) (through act_over (last ∷ start ∷ []))))
+            (sym there)
+            (then_where (HasOpen (open_behind_all before)) (through act_over rows s)
+            (through act_over (last ∷ start ∷ [])) (through act_over (start ∷ last ∷ []))
+            (rows_open code over n before apart.1 s has)
+            (λ s has. swapped exchange last (open_behind_all before) e s has))) in
+            let rest : AsBefore (through act_over ((rows ++ start ∷ []) ++ last ∷ []) s)
+            (through act_over (turned_over early ++ last ∷ []) s) =
+            subst (λ f. AsBefore f (through act_over (turned_over early ++ last ∷ []) s))
+            (sym (through_append act_over (rows ++ start ∷ []) (last ∷ []) s))
+            (subst (AsBefore (flow_then (through act_over (rows ++ start ∷ []) s) (through act_over (last ∷ []))))
+            (sym (through_append act_over (turned_over early) (last ∷ []) s))
+            (then_before (through act_over (rows ++ start ∷ []) s) (through act_over (turned_over early) s)
+            (through act_over (last ∷ []))
+            (more (new_before exchange (length (open_behind_all before)) (open_behind_all before) last
+            e new)))) in
+            before_trans _ _ _ swap rest
+        by false e more = same_flow _

@@ -12,7 +12,7 @@ use Rattle.node_form.specs.Fits.{Fits, FitsInstr}
 use Rattle.node_form.specs.declared.instructions.Instr.{Instr}
 use Rattle.node_form.specs.declared.instructions.Instr.TheVariants as instr
 use Rattle.node_form.specs.declared.tables.Tables.{Tables}
-use Rattle.code_parts.specs.Early.{may_cross, open_behind}
+use Rattle.code_parts.specs.Early.{is_roomy, may_cross, open_behind}
 use Rattle.code_parts.specs.Exchanged.{is_exchange_row}
 use Rattle.code_parts.specs.Stretch.{ends_stretch, is_goal}
 use Rattle.code_parts.proofs.WalkLemmas.{every_append}
@@ -187,9 +187,10 @@ module _ (code : Tables) (links : Option ℕ) where
       (turned_straight (fold (put_row code links) [] rows) (all_straight [] rows tt all))
 
   -- ---- the straight rows of a stretch
-  module _ (n : ℕ) where
+  module _ (over : Option ℕ)
+      (roomy : (count : ℕ) → is_roomy links count ≡ true → is_roomy over count ≡ true) (n : ℕ) where
     abbrev act : Instr → Await → Effect Await
-    act = await_act code links n
+    act = await_act code over n
 
     record IsSent (olds before : List Instr) (s : Await) : Type 0 where
       apart : StartsApart before
@@ -217,9 +218,9 @@ module _ (code : Tables) (links : Option ℕ) where
         (through act (turned_over (put_early code links exchange before)) s) =
         before_trans _ _ _
         (tie_more olds (turned_over before) s (instr.Start exchange) sent.ties)
-        (put_before code links n exchange before sent.apart new s has) in
+        (put_before code links over roomy n exchange before sent.apart new s has) in
         record {
-          apart = (tt, put_apart code links n exchange before sent.apart new);
+          apart = (tt, put_apart code links exchange before sent.apart new);
           closed =
               ap (filter (λ x. not (x == exchange)))
               (alone_more exchange (open_behind_all before) _ sent.closed (put_open exchange before))
@@ -289,7 +290,7 @@ module _ (code : Tables) (links : Option ℕ) where
         (subst (λ r. Tied IsLike (through act front t) (through act r t)) (sym (early_is front))
         (like_flows (through act front t) (through act (turned_over before) t) sent.ties
         (subst (λ o. IfOn (HasOpen o) (through act (turned_over before) t)) sent.closed
-        (rows_open code links n before sent.apart t like.1))))
+        (rows_open code over n before sent.apart t like.1))))
 
     -- ---- rows that end stretches lead where they led
     abbrev stays : (ℕ → ℕ) → Instr → Instr
@@ -304,17 +305,17 @@ module _ (code : Tables) (links : Option ℕ) where
 
     each_straight : (rows : List Instr) → AreStraight rows → Every (IsStraight act) rows
     each_straight [] all = tt
-    each_straight (row ∷ rows) all = (straight code links n row all.0, each_straight rows all.1)
+    each_straight (row ∷ rows) all = (straight code over n row all.0, each_straight rows all.1)
 
     keeps : KeepsStretches act act IsLike AreUnits (λ g h. g ≡ h) (rows_early code links) stays
     keeps = record {
-      old = straight code links n;
+      old = straight code over n;
       new = λ front all units. each_straight (rows_early code links front) (early_straight front all);
       ties = λ front all units s t like. front_ties front units s t like;
       ends = λ row e moved same s t like.
           subst (λ t. EndsAlike row moved (act row s) (act row t)) like.0
           (subst (λ r. EndsAlike row moved (act row s) (act r s)) (same_row row moved same)
-          (ends_alike code links n row e moved s));
+          (ends_alike code over n row e moved s));
     }
 
     -- ---- goals are where they were
@@ -377,20 +378,20 @@ module _ (code : Tables) (links : Option ℕ) where
         (same_segments moved other (stretches_of code.code))
 
     same_act : (row : Instr) (s : Await)
-        → act row s ≡ await_act (sent_early links code) links n row s
+        → act row s ≡ await_act (sent_early links code) over n row s
     same_act (instr.Loop slot group) (Ready all) = refl
     same_act row (Ready all) = refl
     same_act row (Wanted group) = refl
 
     pub early_keeps_runs : Fits code → IsInUnits code → (a : ℕ)
-        → Keeps (plan_run code links a n) (plan_run (sent_early links code) links a n)
+        → Keeps (plan_run code over a n) (plan_run (sent_early links code) over a n)
     early_keeps_runs fits units a =
         let new : Tables = sent_early links code in
         let begin : Await = Ready (start_abreast code) in
         let ended : List (Stretch Instr) =
         ended_stretches act act IsLike AreUnits (λ g h. g ≡ h) (rows_early code links) stays
         code.code keeps in
-        let acts : act ≡ await_act new links n =
+        let acts : act ≡ await_act new over n =
         fun_ext (λ row. fun_ext (λ s. same_act row s)) in
         let kept : Keeps (runs act (code.code ++ instr.End ∷ []) a 0 begin)
         (runs act (passed (rows_early code links) stays
@@ -405,8 +406,8 @@ module _ (code : Tables) (links : Option ℕ) where
         NoUnits units
         (goals_within code.code (recursion_from_All (FitsInstr code) code.code fits.code)) a begin
         begin (refl, (refl, tt)) in
-        subst (λ r. Keeps r (plan_run new links a n)) (sym (plan_awaits code links n a))
+        subst (λ r. Keeps r (plan_run new over a n)) (sym (plan_awaits code over n a))
         (subst (Keeps (runs act (code.code ++ instr.End ∷ []) a 0 begin))
         (ap (λ r. runs act r a 0 begin) new_rows
         ∙ (ap (λ f. runs f (new.code ++ instr.End ∷ []) a 0 begin) acts
-        ∙ sym (plan_awaits new links n a))) kept)
+        ∙ sym (plan_awaits new over n a))) kept)

@@ -36,7 +36,8 @@ use Rattle.nest_meaning.proofs.TreeLemmas.{reads_only}
 use Rattle.row_orders.specs.Rows.{Flight}
 use Rattle.row_runs.specs.Run.{Goes, Stops, Ends, Wrong, Effect, Does}
 use Rattle.plan_meaning.specs.Abreast.{Abreast, Share, every, go_where, is_quiet, locals_of, share_of}
-use Rattle.plan_meaning.specs.Abreast.{standing}
+use Rattle.plan_meaning.specs.Abreast.{of_processors, standing}
+use Rattle.plan_meaning.proofs.ThereLemmas.{either_share}
 use Rattle.plan_meaning.specs.Act.{action_of, alone, control_of, controlled_as, ended_by, found}
 use Rattle.plan_meaning.specs.Act.{go_one_way, print_ends, registers_of, registers_or, shares_on}
 use Rattle.plan_meaning.specs.Act.{value_printed}
@@ -349,8 +350,12 @@ module _ (code : Tables) (links : Option ℕ) (n slot group : ℕ) (all : Abreas
           (subst (λ o. Misses item.array (flat_map put_by (rows_or_none o))) here
           (misses_changes code looped_row item e).0)
 
-      leaves : LeavesItems code looped_row all (record all { shares = shares })
-      leaves item e p = (
+      abbrev behind : Abreast
+      behind = of_processors code all (record all { shares = shares })
+
+      left : (item : Item) → changes code looped_row item ≡ false → (p : ℕ)
+          → HaveItem item (all.shares p) (shares p)
+      left item e p = (
         slots_stay item (all.shares p) (come p),
         behind_stays item.array (slice_get (all.shares p).stores item.array) code n
             (all.shares p) (come p) refl
@@ -358,14 +363,19 @@ module _ (code : Tables) (links : Option ℕ) (n slot group : ℕ) (all : Abreas
             all p (none_put item e) refl),
       )
 
+      leaves : LeavesItems code looped_row all behind
+      leaves item e p =
+          either_share (HaveItem item (all.shares p)) code all (record all { shares = shares }) p
+          (refl, refl) (left item e p)
+
       pick : (a w v q : Bool) (q' : List Flight → Bool)
           → IsFree code looped_row all
           (Does (looping group (if a then
-          (if w then Goes [] (record all { shares = shares })
+          (if w then Goes [] behind
           else (if v && q then Stops (Ends More) else Stops Wrong))
           else Stops Wrong)))
           (λ flights. Does (looping group (if a then
-          (if w then Goes [] (record { shares = shares; flights = flights })
+          (if w then Goes [] (record { shares = behind.shares; flights = flights })
           else (if v && q' flights then Stops (Ends More) else Stops Wrong))
           else Stops Wrong)))
       pick true true v q q' = FreeOn refl leaves (λ flights. refl)

@@ -38,7 +38,8 @@ use Rattle.nest_meaning.proofs.TreeLemmas.{reads_only}
 use Rattle.row_orders.specs.Rows.{at_turn}
 use Rattle.row_runs.specs.Run.{Goes, Stop, Stops, Ends, Wrong, Effect, Does}
 use Rattle.plan_meaning.specs.Abreast.{Abreast, Share, every, go_where, is_quiet, locals_of, share_of}
-use Rattle.plan_meaning.specs.Abreast.{standing}
+use Rattle.plan_meaning.specs.Abreast.{of_processors, standing}
+use Rattle.plan_meaning.proofs.ThereLemmas.{either_share}
 use Rattle.plan_meaning.specs.Act.{action_of, alone, control_of, controlled, controlled_as}
 use Rattle.plan_meaning.specs.Act.{ends_where, folded, found, go_one_way, is_way, print_ends}
 use Rattle.plan_meaning.specs.Act.{registers_of, registers_or, shares_on, voted_as}
@@ -297,10 +298,15 @@ module _ (code : Tables) (links : Option ℕ) (n slot group : ℕ) (all : Abreas
           → ((p : ℕ) → ShareKept (written_arrays code (instr.Loop slot group)) [] (all.shares p) (shares p))
           → RowKeeps (AllKept (written_arrays code (instr.Loop slot group)) [] all)
           (Does (looping group (if a then
-          (if w then Goes [] (record all { shares = shares })
+          (if w then Goes [] (of_processors code all (record all { shares = shares }))
           else (if v && q then Stops (Ends More) else Stops Wrong))
           else Stops Wrong)))
-      pick true true v q shares kept = KeepsOn kept
+      pick true true v q shares kept =
+          KeepsOn (λ p.
+          either_share
+          (ShareKept (written_arrays code (instr.Loop slot group)) [] (all.shares p)) code all
+          (record all { shares = shares }) p
+          (same_share (written_arrays code (instr.Loop slot group)) [] (all.shares p)) (kept p))
       pick true false true true shares kept = KeepsWanted
       pick true false true false shares kept = KeepsStop
       pick true false false q shares kept = KeepsStop

@@ -33,6 +33,20 @@ use Rattle.plan_passes.proofs.UnitRunLemmas.{KeepsUnits}
 use Rattle.plan_passes.proofs.WithUnitsLemmas.{units_keep_runs}
 use Rattle.plan_passes.proofs.WriteLemmas.{Held, Write}
 
+-- ---- units of which neighbours are one are units still
+plain_joined : (items : List Item) (units : List PlanUnit) → AllByRecursion IsPlain units
+    → AllByRecursion IsPlain (joined_to items units)
+plain_joined items [] all = (tt, tt)
+plain_joined items (Exchange others ∷ units) all = (tt, all.1)
+plain_joined items (Single row ∷ units) all = (tt, all)
+
+pub merged_plain : (units : List PlanUnit) → AllByRecursion IsPlain units
+    → AllByRecursion IsPlain (units_merged units)
+merged_plain [] all = tt
+merged_plain (Exchange items ∷ units) all =
+    plain_joined (fold with_item [] items) (units_merged units) (merged_plain units all.1)
+merged_plain (Single row ∷ units) all = (all.0, merged_plain units all.1)
+
 module _ (code : Tables) (layout : HasLayout code) (links : Option ℕ) (n : ℕ) where
   abbrev good : Await → Type 0
   good = IsGood code layout
@@ -85,12 +99,6 @@ module _ (code : Tables) (layout : HasLayout code) (links : Option ℕ) (n : ℕ
       by item (inr k) = all.0 item k
   fit_joined items (Single row ∷ units) fit all = (fit, all)
 
-  plain_joined : (items : List Item) (units : List PlanUnit) → AllByRecursion IsPlain units
-      → AllByRecursion IsPlain (joined_to items units)
-  plain_joined items [] all = (tt, tt)
-  plain_joined items (Exchange others ∷ units) all = (tt, all.1)
-  plain_joined items (Single row ∷ units) all = (tt, all)
-
   fit_once : (items : List Item) → ((item : Item) → Among items item → FitsWell code layout item)
       → (item : Item) → Among (fold with_item [] items) item → FitsWell code layout item
   fit_once items fit item k = by (out_of_fold [] items item k)
@@ -106,13 +114,6 @@ module _ (code : Tables) (layout : HasLayout code) (links : Option ℕ) (n : ℕ
       fit_joined (fold with_item [] items) (units_merged units) (fit_once items all.0)
       (merged_fit units all.1)
   merged_fit (Single row ∷ units) all = (all.0, merged_fit units all.1)
-
-  merged_plain : (units : List PlanUnit) → AllByRecursion IsPlain units
-      → AllByRecursion IsPlain (units_merged units)
-  merged_plain [] all = tt
-  merged_plain (Exchange items ∷ units) all =
-      plain_joined (fold with_item [] items) (units_merged units) (merged_plain units all.1)
-  merged_plain (Single row ∷ units) all = (all.0, merged_plain units all.1)
 
   module _ (items : List Item) (fit : (item : Item) → Among items item → FitsWell code layout item)
       (all : Abreast) (is : Good code layout all) where

@@ -42,6 +42,23 @@ use Rattle.plan_passes.proofs.UnitRunLemmas.{KeepsUnits}
 use Rattle.plan_passes.proofs.WithUnitsLemmas.{units_keep_runs}
 use Rattle.plan_passes.proofs.WriteLemmas.{Held, Write}
 
+-- ---- units without repeats are units still
+module _ (code : Tables) where
+  pub dropped_plain : (fresh : List Item) (units : List PlanUnit) → AllByRecursion IsPlain units
+      → AllByRecursion IsPlain (rewritten without_fresh (fresh_after code) fresh units)
+  dropped_plain fresh [] all = tt
+  dropped_plain fresh (Exchange items ∷ units) all =
+      by (stale_items fresh items)
+      (rewritten without_fresh (fresh_after code) (stale_items fresh items ++ fresh) units)
+      (dropped_plain (stale_items fresh items ++ fresh) units all.1)
+    where
+      by : (js : List Item) (rest : List PlanUnit) → AllByRecursion IsPlain rest
+          → AllByRecursion IsPlain (exchange_if_any js ++ rest)
+      by [] rest more = more
+      by (item ∷ js) rest more = (tt, more)
+  dropped_plain fresh (Single row ∷ units) all =
+      (all.0, dropped_plain (filter (λ item. not (stales code item row)) fresh) units all.1)
+
 module _ (code : Tables) (layout : HasLayout code) (links : Option ℕ) (n : ℕ) where
   abbrev good : Await → Type 0
   good = IsGood code layout
@@ -206,20 +223,6 @@ module _ (code : Tables) (layout : HasLayout code) (links : Option ℕ) (n : ℕ
       all done (through (await_act code links n) (row ∷ []) (Ready all))
       (good_row code layout links n row fit.0 plain.0.0 plain.0.1 all is)
 
-  dropped_plain : (fresh : List Item) (units : List PlanUnit) → AllByRecursion IsPlain units
-      → AllByRecursion IsPlain (dropped fresh units)
-  dropped_plain fresh [] all = tt
-  dropped_plain fresh (Exchange items ∷ units) all =
-      by (stale_items fresh items) (dropped (stale_items fresh items ++ fresh) units)
-      (dropped_plain (stale_items fresh items ++ fresh) units all.1)
-    where
-      by : (js : List Item) (rest : List PlanUnit) → AllByRecursion IsPlain rest
-          → AllByRecursion IsPlain (exchange_if_any js ++ rest)
-      by [] rest more = more
-      by (item ∷ js) rest more = (tt, more)
-  dropped_plain fresh (Single row ∷ units) all =
-      (all.0, dropped_plain (filter (λ item. not (stales code item row)) fresh) units all.1)
-
   quiet_good : (s : Await) → good s → NoFlights s
   quiet_good (Ready all) is = is.quiet_now
   quiet_good (Wanted group) is = tt
@@ -232,7 +235,7 @@ module _ (code : Tables) (layout : HasLayout code) (links : Option ℕ) (n : ℕ
   dropping = record {
     none = refl;
     quiet = quiet_good;
-    plain = dropped_plain [];
+    plain = dropped_plain code [];
     ties = λ units plain fit s is. ties units plain fit [] s is (nothing_done s);
   }
 

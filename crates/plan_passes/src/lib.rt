@@ -4,9 +4,10 @@
 //! brings the law into a proof.
 #![tactic(auto)]
 
-ghost use Rattle.std.specs.Prelude.{Option, ℕ};
+ghost use Rattle.std.specs.Prelude.{◌≡◌, Option, true, ℕ};
 ghost use Rattle.node_form.specs.declared.tables.Tables.{Tables as Code};
 ghost use Rattle.node_form.specs.Fits.{Fits};
+ghost use Rattle.code_parts.specs.Early.{is_roomy};
 ghost use Rattle.row_runs.specs.Segments.{Keeps};
 ghost use Rattle.plan_meaning.specs.Act.{plan_run};
 ghost use Rattle.comm_combine.specs.Merge.{neighbours_merged};
@@ -15,13 +16,15 @@ ghost use Rattle.comm_early.specs.Send.{sent_early};
 ghost use Rattle.plan_passes.specs.Threes.{HasThrees};
 ghost use Rattle.plan_passes.specs.Units.{IsInUnits};
 
-/// A plan whose starts are moved up for links that hold so many messages shows what it showed
-/// before over such links, for every bound on its jumps and on the turns of loops in its groups,
-/// unless it comes to a row that may not stand there. Each start of the plan has its finish
+/// A plan whose starts are moved up for some links shows what it showed before over all links that
+/// have room wherever those have, for every bound on its jumps and on the turns of loops in its
+/// groups, unless it comes to a row that may not stand there. Each start of the plan has its finish
 /// directly behind it.
 pub fn starts_moved_up_keep_runs()
-    ensures { (code : Code) (links : Option ℕ) → Fits code → IsInUnits code → (a n : ℕ) →
-        Keeps (plan_run code links a n) (plan_run (sent_early links code) links a n) }
+    ensures { (code : Code) (links over : Option ℕ) →
+        ((count : ℕ) → is_roomy links count ≡ true → is_roomy over count ≡ true) →
+        Fits code → IsInUnits code → (a n : ℕ) →
+        Keeps (plan_run code over a n) (plan_run (sent_early links code) over a n) }
 {}
 
 /// A plan without repeated exchanges shows what it showed before, over links of any capacity, for

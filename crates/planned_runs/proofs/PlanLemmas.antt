@@ -1,4 +1,4 @@
--- The plan of a flat program shows what the flat program shows, where scans and remaps agree.
+-- The plan of a flat program shows what the flat program shows.
 --
 --   plans_keep
 use Rattle.std.proofs.Common.{◌≡◌, refl, sym, ◌∙◌, ap, subst, arith, ℕ, zero, suc, ◌+◌, true}
@@ -41,8 +41,9 @@ use Rattle.message_runs.proofs.FoldRows.{fold_agrees}
 use Rattle.message_runs.proofs.GatherRows.{gather_agrees}
 use Rattle.message_runs.proofs.PartRows.{part_agrees}
 use Rattle.message_runs.proofs.PrintRows.{number_agrees, text_agrees, truth_agrees}
+use Rattle.message_runs.proofs.RemapRows.{remap_agrees}
+use Rattle.message_runs.proofs.ScanRows.{scan_agrees}
 use Rattle.plan_passes.proofs.AwaitLemmas.{plan_awaits}
-use Rattle.planned_runs.specs.Left.{LeftRows, LeftRowsAgree}
 use Rattle.planned_runs.proofs.NumberLemmas.{runs_kept}
 use Rattle.planned_runs.proofs.RunnableLemmas.{planned_run}
 
@@ -82,7 +83,7 @@ module _ {S Row Read : Type 0} (act : Read → S → Effect S) (read : Row → R
       (λ _. stopped (Ends Done)) at (drop at rows) s
       (fun_ext (λ g. fun_ext (λ s. runs_read rows left g s)))
 
-module _ (left_agree : LeftRowsAgree) (tables : Tables) (grid : List ℕ) (links : Option ℕ)
+module _ (tables : Tables) (grid : List ℕ) (links : Option ℕ)
     (sharable : IsSharable tables) (is_grid : IsGrid grid) (roomy : is_roomy links 0 ≡ true) (n : ℕ)
   where
     abbrev code : Tables
@@ -141,13 +142,13 @@ module _ (left_agree : LeftRowsAgree) (tables : Tables) (grid : List ℕ) (links
 
     messages : MessageRows code links n
     messages =
-        let rest : LeftRows code links n = left_agree code layout links n in record {
+        record {
           edges = edge_agrees code layout links n;
           floods = flood_agrees code layout links n;
           parts = part_agrees code layout links n;
-          scans = rest.scans;
+          scans = scan_agrees code layout links n;
           gathers = gather_agrees code layout links n;
-          remaps = rest.remaps;
+          remaps = remap_agrees code layout links n;
           folds = fold_agrees code links n;
           texts = text_agrees code links n;
           numbers = number_agrees code links n;
@@ -201,6 +202,6 @@ module _ (left_agree : LeftRowsAgree) (tables : Tables) (grid : List ℕ) (links
         (planned_run code flat)
         refl a 0 (start_abreast code) refl))
 
-pub plans_keep : LeftRowsAgree → PlansKeepRuns
-plans_keep agree tables grid links sharable is_grid roomy a n =
-    plan_keeps agree tables grid links sharable is_grid roomy n a
+pub plans_keep : PlansKeepRuns
+plans_keep tables grid links sharable is_grid roomy a n =
+    plan_keeps tables grid links sharable is_grid roomy n a

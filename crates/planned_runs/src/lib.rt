@@ -5,11 +5,10 @@
 #![tactic(auto)]
 
 ghost use Rattle.needs_runs.specs.Sharable.{PlansKeepRuns};
-ghost use Rattle.planned_runs.specs.Left.{LeftRowsAgree};
 
-/// Where scans and remaps agree, the plan of a flat program shows what the flat program shows, on
-/// each grid, over links that hold a message, and for every bound on jumps and on the turns of
-/// loops in groups, unless the flat run comes to a row that may not stand there.
+/// The plan of a flat program shows what the flat program shows, on each grid, over links that hold
+/// a message, and for every bound on jumps and on the turns of loops in groups, unless the flat run
+/// comes to a row that may not stand there.
 pub fn plans_keep_runs()
-    ensures { LeftRowsAgree → PlansKeepRuns }
+    ensures { PlansKeepRuns }
 {}

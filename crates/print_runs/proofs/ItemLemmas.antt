@@ -1,7 +1,7 @@
 -- The expressions of a print: the rows of their phases are one condition on their references, and
 -- what is left of each has a field.
-use Rattle.std.proofs.Common.{◌≡◌, refl, sym, ◌∙◌, ap, subst, ℕ, zero, suc, ◌≤◌, Bool, true, false}
-use Rattle.std.proofs.Common.{◌&&◌, List, [], ◌∷◌, ◌++◌, Option, Some, None}
+use Rattle.std.proofs.Common.{◌≡◌, refl, sym, ◌∙◌, ap, subst, ℕ, zero, suc, ◌≤◌, true}
+use Rattle.std.proofs.Common.{◌&&◌, List, [], ◌∷◌, ◌++◌, Some, None}
 use Rattle.std.specs.List.{list_all}
 use Rattle.zpl_nums.specs.declared.operators.UnaryOp.TheVariants as unary
 use Rattle.zpl_tree.specs.Syntax.{Expr, Number, Truth, Coord, Named, Shifted, Around, Remap, Call, Paren, Neg, Not, Abs, Pair, Reduce, Scan, Flood, Item, Str, Value}
@@ -10,7 +10,7 @@ use Rattle.zpl_names.specs.Sites.{Printed}
 use Rattle.zpl_meaning.specs.Computed as mean
 use Rattle.zpl_meaning.specs.Computed.{both_then, computed_then}
 use Rattle.zpl_meaning.specs.Store.{Store}
-use Rattle.zpl_meaning.specs.Context.{Place, over_at, rank_in}
+use Rattle.zpl_meaning.specs.Context.{Place, rank_in}
 use Rattle.zpl_meaning.specs.Scalars.{IsScalar}
 use Rattle.zpl_meaning.specs.Settled as meant_settled
 use Rattle.zpl_meaning.specs.Term.{Term, Terms, NoTerm, ThenTerm}
@@ -29,13 +29,12 @@ use Rattle.zpl_lowering.specs.Reference.{all_conforming, all_referred, conformin
 use Rattle.zpl_lowering.specs.Hoist as hoist
 use Rattle.zpl_lowering.specs.Hoist.{Free, all_hoisted, hoisted}
 use Rattle.zpl_lowering.specs.Statement as low
-use Rattle.lowering_runs.specs.Seen.{Spot, Sight, seen_currents, seen_place, seen_store}
+use Rattle.lowering_runs.specs.Seen.{Sight, seen_place, seen_store}
 use Rattle.lowering_runs.specs.Scalars.{IsScalarAt}
 use Rattle.lowering_runs.specs.Stands.{IsHeld, IsSound, Stands}
 use Rattle.lowering_runs.proofs.BareLemmas.{settles}
 use Rattle.lowering_runs.proofs.ListLemmas.{meant}
 use Rattle.lowering_runs.proofs.ValueLemmas.{scalar_unseen}
-use Rattle.array_runs.specs.Floods.{IsElementwiseAs}
 use Rattle.array_runs.specs.Gates.{IsThere, holds}
 use Rattle.array_runs.proofs.CodedLemmas.{coded, current_of}
 use Rattle.array_runs.proofs.FloodLemmas.{elementwise}

@@ -1,5 +1,5 @@
 -- An expression of scalars has a field, which has its value.
-use Rattle.std.proofs.Common.{◌≡◌, refl, sym, subst, Bool, true, false, ◌&&◌, List, [], ◌∷◌}
+use Rattle.std.proofs.Common.{◌≡◌, refl, subst, Bool, true, false, ◌&&◌, List, [], ◌∷◌}
 use Rattle.zpl_nums.specs.declared.ends.TrapKind.TheVariants.{OutsideStorage, RegionMismatch}
 use Rattle.zpl_tree.specs.Syntax.{Expr}
 use Rattle.zpl_names.specs.Kinds.{Rank}
@@ -7,7 +7,7 @@ use Rattle.zpl_meaning.specs.Computed.{Computed, Gives, Traps, computed_then, bo
 use Rattle.zpl_meaning.specs.Store.{Store}
 use Rattle.zpl_meaning.specs.Context.{Place}
 use Rattle.zpl_meaning.specs.Value.{value_of}
-use Rattle.zpl_meaning.specs.Term.{Term, Terms, NoTerm, ThenTerm}
+use Rattle.zpl_meaning.specs.Term.{Term, NoTerm, ThenTerm}
 use Rattle.zpl_meaning.specs.Settled.{Placed, settled}
 use Rattle.zpl_meaning.specs.Checks.{conforms, refers, conform, refer}
 use Rattle.zpl_meaning.specs.Fields.{Field, field_of, fields_of}

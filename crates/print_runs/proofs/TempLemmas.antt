@@ -2,31 +2,27 @@
 use Rattle.std.proofs.Common.{◌≡◌, ◌≢◌, refl, sym, ◌∙◌, ap, subst, ℕ, zero, suc, Bool, true, false}
 use Rattle.std.proofs.Common.{◌&&◌, not, List, [], ◌∷◌, length, map, ℤ, pos, Option, Some, None}
 use Rattle.std.proofs.Common.{append-nil}
-use Rattle.std.specs.Prelude.{All, flat_map, slice_get, slice_set, slice_index_or, if◌then◌else◌}
-use Rattle.std.specs.List.{AllZip, list_all, list_any}
+use Rattle.std.specs.Prelude.{All, flat_map, slice_get, if◌then◌else◌}
+use Rattle.std.specs.List.{list_all, list_any}
 use Rattle.std.proofs.Math.Path.{fun_ext}
-use Rattle.std.specs.Fmt.{signed_decimal}
 use Rattle.zpl_tree.specs.Syntax.{Base, Boolean}
 use Rattle.zpl_region.specs.declared.dims.Dim.{Dim}
 use Rattle.zpl_region.specs.declared.dims.Dim.TheVariants as dim
 use Rattle.zpl_region.specs.declared.regions.Region.{Region}
 use Rattle.zpl_region.specs.Dim.{HasStep}
 use Rattle.zpl_region.specs.Region.{IsMember, IsRegion, members}
-use Rattle.zpl_region.specs.Tests.{is_member}
 use Rattle.zpl_region.proofs.HullLemmas.{has_steps}
 use Rattle.zpl_region.proofs.TestLemmas.{is_member_iff}
 use Rattle.zpl_arrays.specs.Array.{Array, IsArray, element, has_place}
-use Rattle.zpl_arrays.specs.ArrayText.{array_text, truth_text}
+use Rattle.zpl_arrays.specs.ArrayText.{array_text}
 use Rattle.zpl_arrays.proofs.ArrayLemmas.{array_of_is_array, element_of_member, flattened_is, place_of_member, same_elements}
 use Rattle.zpl_meaning.specs.Computed as mean
 use Rattle.zpl_meaning.specs.Computed.{both_then, computed_then}
 use Rattle.zpl_nums.specs.Integer.{IsInteger}
 use Rattle.zpl_meaning.specs.Store.{Store, no_array}
-use Rattle.zpl_meaning.specs.Fields.{Field, array_over, everywhere, value_if, values_at}
+use Rattle.zpl_meaning.specs.Fields.{Field, array_over, everywhere, values_at}
 use Rattle.zpl_meaning.specs.Statement.{written}
 use Rattle.zpl_meaning.specs.Text.{value_text}
-use Rattle.node_form.specs.declared.arrays.ArrayDim.{ArrayDim}
-use Rattle.node_form.specs.declared.arrays.ArrayDim.TheVariants as row_dim
 use Rattle.node_form.specs.declared.arrays.ArrayRow.{ArrayRow}
 use Rattle.node_form.specs.declared.instructions.Instr.TheVariants as instr
 use Rattle.node_form.specs.declared.tables.Tables.{Tables}
@@ -34,10 +30,8 @@ use Rattle.node_form.specs.Expression.{Expression, words_of}
 use Rattle.node_form.specs.Value as flat
 use Rattle.node_form.specs.Value.{tree_value, unmoved}
 use Rattle.node_form.proofs.ValueLemmas.{value_of-words_of}
-use Rattle.row_runs.specs.Run.{Step, Goes, Stops, Wrong}
+use Rattle.row_runs.specs.Run.{Goes}
 use Rattle.row_runs.specs.Straight.{Every}
-use Rattle.row_runs.specs.Structured as code
-use Rattle.row_runs.specs.Structured.{Course, by_step, rows_do}
 use Rattle.grid_meaning.specs.Gather.{element_text}
 use Rattle.grid_meaning.specs.Place.{moved_by}
 use Rattle.grid_meaning.specs.Room.{zeros_at}
@@ -50,15 +44,14 @@ use Rattle.flat_form.specs.Right as right
 use Rattle.flat_form.specs.Right.{can_read, can_write, each_matches, has_places, is_settled, matches, may_read, no_flood, reads_well, writes_well}
 use Rattle.flat_form.specs.States.{IsStoreOf}
 use Rattle.flat_form.specs.Whole.{Whole}
-use Rattle.normal_runs.proofs.PlaceLemmas.{moved_none, set_apart, set_there, set_twice}
-use Rattle.zpl_lowering.specs.Hoist.{kept_rows}
+use Rattle.normal_runs.proofs.PlaceLemmas.{moved_none, set_apart}
 use Rattle.zpl_lowering.specs.Statement.{is_truth}
 use Rattle.zpl_lowering.specs.Tables.{temp_dims, temp_row}
 use Rattle.zpl_lowering.specs.Where as low
 use Rattle.zpl_lowering.specs.Where.{Stored, Where, Next}
-use Rattle.lowering_runs.specs.Run.{decide, step, straight}
+use Rattle.lowering_runs.specs.Run.{step, straight}
 use Rattle.lowering_runs.specs.Seen.{Spot, array_in, seen_store}
-use Rattle.lowering_runs.specs.Stands.{AreStored, IsLike, IsSound}
+use Rattle.lowering_runs.specs.Stands.{AreStored, IsLike}
 use Rattle.lowering_runs.proofs.RowLemmas.{settled_act}
 use Rattle.array_puts.specs.Put.{IsPutting, IsSame, assigned, put_group, with_array_in}
 use Rattle.array_puts.proofs.PutLemmas.{put_assigns}

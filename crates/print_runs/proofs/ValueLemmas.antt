@@ -1,10 +1,10 @@
 -- Values of a print are computed one after another, each into a scalar or a temporary of its own;
 -- then all are printed.
 use Rattle.std.proofs.Common.{◌≡◌, refl, sym, ◌∙◌, ap, subst, arith, ℕ, zero, suc, ◌+◌, ◌≤◌, ◌<◌}
-use Rattle.std.proofs.Common.{Bool, true, false, ◌&&◌, List, [], ◌∷◌, ◌++◌, length, map, ℤ, pos}
+use Rattle.std.proofs.Common.{Bool, true, false, List, [], ◌∷◌, ◌++◌, length, map, ℤ, pos}
 use Rattle.std.proofs.Common.{Option, Some, None, append_assoc}
 use Rattle.std.specs.Prelude.{All, slice_get}
-use Rattle.std.specs.List.{AllZip, list_all, list_any}
+use Rattle.std.specs.List.{list_all}
 use Rattle.zpl_nums.specs.Integer.{IsInteger}
 use Rattle.zpl_nums.specs.declared.ends.End.TheVariants.{Trap}
 use Rattle.zpl_nums.specs.declared.ends.TrapKind.{TrapKind}
@@ -26,13 +26,11 @@ use Rattle.zpl_meaning.specs.Store.{Store}
 use Rattle.zpl_meaning.specs.Context.{Place, over_at, rank_in}
 use Rattle.zpl_meaning.specs.Proper.{HasCurrent}
 use Rattle.zpl_meaning.specs.Settled as meant_settled
-use Rattle.zpl_meaning.specs.Term.{Term, Terms}
+use Rattle.zpl_meaning.specs.Term.{Terms}
 use Rattle.zpl_meaning.specs.Checks.{refers, refer}
 use Rattle.zpl_meaning.specs.Fields.{Field, array_over, everywhere, field_of}
-use Rattle.zpl_meaning.specs.Statement.{written}
 use Rattle.zpl_meaning.specs.Text.{field_text, items_text, value_text}
 use Rattle.zpl_meaning.specs.Value as mean_value
-use Rattle.node_form.specs.declared.arrays.ArrayRow.{ArrayRow}
 use Rattle.node_form.specs.declared.instructions.Instr.TheVariants as instr
 use Rattle.node_form.specs.declared.tables.Tables.{Tables}
 use Rattle.node_form.specs.Expression.{Expression, Variable, words_of}
@@ -44,7 +42,6 @@ use Rattle.row_runs.specs.Run.{Ends, Step}
 use Rattle.row_runs.specs.Straight.{Every}
 use Rattle.row_runs.specs.Structured as code
 use Rattle.row_runs.specs.Structured.{Course, by_step, rows_do}
-use Rattle.grid_meaning.specs.Gather.{element_text}
 use Rattle.grid_meaning.specs.Room.{zeros_at}
 use Rattle.flat_form.specs.Row as row
 use Rattle.flat_form.specs.Row.{Row}
@@ -57,7 +54,7 @@ use Rattle.normal_runs.proofs.PlaceLemmas.{set_apart, set_there}
 use Rattle.zpl_lowering.specs.Where as low_where
 use Rattle.zpl_lowering.specs.Where.{Slotted, Where, Next, slotted_at}
 use Rattle.zpl_lowering.specs.Words.{scalar_code}
-use Rattle.zpl_lowering.specs.Slate.{Placed, settled}
+use Rattle.zpl_lowering.specs.Slate.{Placed}
 use Rattle.zpl_lowering.specs.Hoist.{hoisted, kept_rows}
 use Rattle.zpl_lowering.specs.Lowered.{free_at}
 use Rattle.zpl_lowering.specs.Statement as low
@@ -74,8 +71,7 @@ use Rattle.lowering_runs.proofs.PrintLemmas.{end_prints, line_end, printing, typ
 use Rattle.lowering_runs.proofs.RowLemmas.{like_hidden, print_step, set, set_step, set_to}
 use Rattle.lowering_runs.proofs.ValueLemmas.{scalar_unseen, value_same}
 use Rattle.array_puts.specs.Put.{IsSame, assigned, put_group, with_array_in}
-use Rattle.array_runs.specs.Floods.{IsElementwiseAs, slot_floods, three_floods}
-use Rattle.array_runs.specs.Gates.{holds}
+use Rattle.array_runs.specs.Floods.{IsElementwiseAs, three_floods}
 use Rattle.array_runs.proofs.CodedLemmas.{coded, current_of, region_of}
 use Rattle.array_runs.proofs.FloodLemmas.{current_floods, elementwise}
 use Rattle.array_runs.proofs.PartLemmas.{both_true}

@@ -1,14 +1,12 @@
 -- The code of a print goes as the print does.
 use Rattle.std.proofs.Common.{◌≡◌, refl, sym, ◌∙◌, ap, subst, arith, ℕ, ◌+◌, ◌≤◌, Bool, true, false}
-use Rattle.std.proofs.Common.{◌&&◌, List, [], ◌∷◌, ◌++◌, length, append-nil}
-use Rattle.std.specs.List.{list_all}
+use Rattle.std.proofs.Common.{◌&&◌, List, [], ◌++◌, length, append-nil}
 use Rattle.zpl_nums.specs.declared.ends.TrapKind.TheVariants.{OutsideStorage, RegionMismatch}
 use Rattle.zpl_tree.specs.Syntax.{Item, Form, Assign, Invoke, Block, If, While, Repeat, For, Border, Write, Return}
 use Rattle.zpl_meaning.specs.Computed as mean
 use Rattle.zpl_meaning.specs.Computed.{both_then, computed_then, provided}
 use Rattle.zpl_meaning.specs.Store.{Store}
 use Rattle.zpl_meaning.specs.Context.{Place}
-use Rattle.zpl_meaning.specs.Settled as meant_settled
 use Rattle.zpl_meaning.specs.Term.{Terms}
 use Rattle.zpl_meaning.specs.Checks.{conform, refer}
 use Rattle.zpl_meaning.specs.Fields.{Field, fields_of}
@@ -27,7 +25,7 @@ use Rattle.flat_form.specs.Whole.{Whole}
 use Rattle.zpl_lowering.specs.Where.{Where, Next, line_of}
 use Rattle.zpl_lowering.specs.Slate as slate
 use Rattle.zpl_lowering.specs.Slate.{Placed, Settled, Slates, settled_each}
-use Rattle.zpl_lowering.specs.Reference.{all_conforming, all_referred, needs}
+use Rattle.zpl_lowering.specs.Reference.{all_referred, needs}
 use Rattle.zpl_lowering.specs.Hoist.{Hoisted, all_hoisted}
 use Rattle.zpl_lowering.specs.Lowered.{Lowered, Phased, followed, free_at, phases_of}
 use Rattle.zpl_lowering.specs.Statement as low
@@ -38,15 +36,13 @@ use Rattle.lowering_runs.specs.Agrees.{Agrees, Going, Trapping}
 use Rattle.lowering_runs.specs.Stands.{HasRoom, IsLike, Stands, TempsAt}
 use Rattle.lowering_runs.specs.Goes.{World, Goes}
 use Rattle.lowering_runs.proofs.FitLemmas.{anew_goes}
-use Rattle.lowering_runs.proofs.ListLemmas.{meant}
 use Rattle.lowering_runs.proofs.PrintLemmas.{line_end, meant_items, rows_append}
 use Rattle.lowering_runs.proofs.SuitLemmas.{FormGoes, goes_more}
-use Rattle.array_runs.specs.Gates.{gate, holds}
+use Rattle.array_runs.specs.Gates.{gate}
 use Rattle.array_runs.proofs.GateLemmas.{needs_gate}
-use Rattle.array_runs.proofs.PartLemmas.{IsStill, all_append}
+use Rattle.array_runs.proofs.PartLemmas.{IsStill}
 use Rattle.print_runs.specs.Printed.{ArePrinted, PrintLeaf}
 use Rattle.print_runs.proofs.ItemLemmas as item
-use Rattle.print_runs.proofs.ValueLemmas as value
 use Rattle.print_runs.proofs.ValueLemmas.{Fills, Filled, Fails, items_fill}
 
 right_true : (b : Bool) → (b && true) ≡ b

@@ -159,7 +159,7 @@ module _ (spots : List Spot) (w : Where) (environment : Environment) (answer : �
     m,
   )
 
-  has_slot : (k : ℕ) → HasCurrent place.currents (Some k) → HasSlotOf k
+  pub has_slot : (k : ℕ) → HasCurrent place.currents (Some k) → HasSlotOf k
   has_slot zero h = absurd h
   has_slot (suc zero) h =
       let s = slot_of 1 shapes.one w.currents.one told.slots.one told.one (seen.one h) in
@@ -215,7 +215,7 @@ module _ (spots : List Spot) (w : Where) (environment : Environment) (answer : �
     within_three : (j : ℕ) → (1 ≤ j) × (j ≤ k) → j - 1 < 3
     within_three j h = omega (arith, h.0, h.1, slot.few)
 
-    elementwise : (rank : Rank) (expr : Expr) → IsPlainExpr expr → IsOfRank place (Some k) expr
+    pub elementwise : (rank : Rank) (expr : Expr) → IsPlainExpr expr → IsOfRank place (Some k) expr
         → AreFree (expr_sites reach rank expr) → IsElementwiseAs w slotted expr
     elementwise rank (Number at value) t r f = t
     elementwise rank (Truth at value) t r f = tt

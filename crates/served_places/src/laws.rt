@@ -27,7 +27,8 @@ ghost use Rattle.prefix_runs.specs.Plain.{PlainLeaf};
 ghost use Rattle.prefix_runs.specs.Under.{IsUnder, OpensPrefix, opened_at};
 ghost use Rattle.served_places.specs.Clean.{IsCleanStmt, StandsAsTold};
 ghost use Rattle.served_places.specs.Given.{IsSound, KnowsGiven};
-ghost use Rattle.served_places.specs.Told.{AreFree, IsPlainExpr, IsSeenFrom, IsTold, place_of, reach_told};
+ghost use Rattle.served_places.specs.Told.{AreFree, IsPlainExpr, IsSeenFrom, IsTold, place_of};
+ghost use Rattle.served_places.specs.Told.{reach_told};
 
 /// Names of procedures that may be called. No program calls this: laws are said of it.
 pub trait Callables {

@@ -1,32 +1,29 @@
 -- Parameters and local variables, arrays among them: the frame that a procedure has is what is seen
 -- of the state, and its arrays stand in the tables at numbers of their own.
-use Rattle.std.proofs.Common.{◌≡◌, ℕ, zero, suc, ◌+◌, ◌≤◌, ◌<◌, ℤ, List, []}
+use Rattle.std.proofs.Common.{◌≡◌, ℕ, zero, suc, ◌≤◌, ◌<◌, ℤ, List, []}
 use Rattle.std.proofs.Common.{◌∷◌, ◌++◌, map, length, take, Some, refl, sym, ap, ◌∙◌, subst}
-use Rattle.std.proofs.Common.{arith, append_assoc, append-nil, length-append}
+use Rattle.std.proofs.Common.{arith, append_assoc, length-append}
 use Rattle.std.proofs.lemmas.List.{length-map}
 use Rattle.std.specs.Prelude.{slice_get}
 use Rattle.zpl_region.specs.declared.regions.Region.{Region}
 use Rattle.zpl_arrays.specs.Array.{Array}
 use Rattle.zpl_tree.specs.Syntax.{Name}
-use Rattle.zpl_names.specs.Expansion.{FormalName}
-use Rattle.zpl_meaning.specs.Store.{Thing, Scalar, ArrayAt, Fixed, Names, Store, cut_back}
-use Rattle.zpl_meaning.specs.Variables.{Frame, with_array_named, with_new_array}
-use Rattle.zpl_meaning.specs.Calls.{with_handed, with_formals}
+use Rattle.zpl_meaning.specs.Store.{Thing, Scalar, ArrayAt, Fixed, Names, cut_back}
+use Rattle.zpl_meaning.specs.Variables.{with_array_named, with_new_array}
+use Rattle.zpl_meaning.specs.Calls.{with_handed}
 use Rattle.node_form.specs.declared.tables.Tables.{Tables}
 use Rattle.flat_form.specs.Whole.{Whole}
 use Rattle.zpl_lowering.specs.Where.{Stored, Next}
-use Rattle.zpl_lowering.specs.Lowered.{Lowered}
-use Rattle.zpl_lowering.specs.Statement.{Given, Valued, Copied, Referring}
+use Rattle.zpl_lowering.specs.Statement.{Referring}
 use Rattle.zpl_lowering.specs.Program as low
 use Rattle.zpl_lowering.specs.Program.{Framed}
-use Rattle.lowering_runs.specs.Seen.{scalar_in, array_in, Spot, At, Answer, seen_spot, seen_store, numbered, seen_thing, seen_names}
+use Rattle.lowering_runs.specs.Seen.{array_in, Spot, At, Answer, seen_spot, seen_store, numbered, seen_thing, seen_names}
 use Rattle.lowering_runs.specs.Stands.{Rises, IsKnown, AreKnown, array_numbers, IsStored, AreStored}
 use Rattle.lowering_runs.specs.Frames.{seen_frame, seen_given, AreGiven}
 use Rattle.lowering_runs.specs.Frames as low_frames
 use Rattle.lowering_runs.proofs.NumberLemmas.{rises_on, rises_with}
 use Rattle.lowering_runs.proofs.FrameLemmas.{map_append, thing_below, known_both, thing_more, scalar_frame}
 use Rattle.lowering_runs.proofs.FrameLemmas as lowers
-use Rattle.lowering_fits.specs.Whole.{given_frame, given_frames}
 
 -- ---- numbers of arrays
 
@@ -40,7 +37,7 @@ stored_append tables [] one h k = (k, tt)
 stored_append tables (x ∷ xs) one h k = (h.0, stored_append tables xs one h.1 k)
 
 -- what a name stands for is there among more arrays
-array_more : (scalars arrays more : ℕ) (thing : Thing) → arrays ≤ more
+pub array_more : (scalars arrays more : ℕ) (thing : Thing) → arrays ≤ more
     → IsKnown scalars arrays thing → IsKnown scalars more thing
 array_more scalars arrays more (Scalar p) le h = h
 array_more scalars arrays more (ArrayAt p home) le h = omega (arith, le, h)
@@ -52,7 +49,7 @@ arrays_more scalars arrays more [] le h = tt
 arrays_more scalars arrays more (entry ∷ names) le h =
     (array_more scalars arrays more entry.1 le h.0, arrays_more scalars arrays more names le h.1)
 
-inside : {X : Type 0} (xs : List X) (k : ℕ) (x : X) → slice_get xs k ≡ Some x → k < length xs
+pub inside : {X : Type 0} (xs : List X) (k : ℕ) (x : X) → slice_get xs k ≡ Some x → k < length xs
 inside [] k x e = cc
 inside (y ∷ xs) zero x e = omega arith
 inside (y ∷ xs) (suc k) x e = let l = inside xs k x e in omega (arith, l)
@@ -223,10 +220,10 @@ module _ (tables : Tables) (base : List Spot) (bottom : ℕ) (arrays : List Stor
     stored = h.stored;
   }
 
--- ---- parameters that take values, and references
+-- ---- parameters that take references
 
 -- a name of something that there is
-thing_frame : (base more : List Spot) (framed : Framed) (spots : List Spot) (arrays : ℕ)
+pub thing_frame : (base more : List Spot) (framed : Framed) (spots : List Spot) (arrays : ℕ)
     (name : Name) (thing : Thing) (now : Whole) → spots ≡ base ++ more
     → IsKnown (length (numbered base)) arrays thing
     → with_handed (seen_frame spots framed now) name (seen_given base now (Referring thing))
@@ -254,118 +251,3 @@ pub longer_spots : (base more spots : List Spot) → spots ≡ base ++ more
 longer_spots base more spots is =
     subst (λ (xs : List Spot). length (numbered base) ≤ length (numbered xs)) (sym is)
     (le_append base more)
-
--- a frame behind parameters: none of them has code
-pub record AreFramed (tables : Tables) (base : List Spot) (bottom : ℕ) (arrays : List Stored)
-    (formals : List FormalName) (givens : List Given) (framed : Framed) (spots : List Spot)
-    (line : ℕ) (next : Next) (now : Whole) (after : Next) : Type 0 where
-  pub sight : List Spot
-  pub code_is : (rest : Framed → Next → Lowered)
-      → low.givens_code line formals givens framed next rest
-      ≡ rest (given_frames line formals givens framed next).frame next
-  pub next_is : (given_frames line formals givens framed next).next ≡ next
-  pub frame_is : with_formals (seen_frame spots framed now) formals (map (seen_given base now) givens)
-      ≡ seen_frame sight (given_frames line formals givens framed next).frame now
-  pub framing : Framing tables base bottom arrays (given_frames line formals givens framed next).frame
-      sight after
-
-given_le : (scalars arrays from : ℕ) (givens : List Given) (to : ℕ)
-    → AreGiven scalars arrays from givens to → from ≤ to
-given_le scalars arrays from [] to h = h
-given_le scalars arrays from (Valued k ∷ givens) to h =
-    let l = given_le scalars arrays (suc k) givens to h.1 in omega (arith, l, h.0)
-given_le scalars arrays from (Referring thing ∷ givens) to h =
-    given_le scalars arrays from givens to h.1
-given_le scalars arrays from (Copied stored home ∷ givens) to h = absurd h
-
-abbrev with_bound : Next → ℕ → Next
-with_bound next k = record next { scalars = k }
-
-pub givens_framed : (tables : Tables) (base : List Spot) (bottom : ℕ) (arrays : List Stored)
-    (formals : List FormalName) (givens : List Given) (framed : Framed) (spots : List Spot)
-    (line : ℕ) (next : Next) (now : Whole) (from : ℕ) (after : Next) → bottom ≤ from
-    → AreGiven (length (numbered base)) (length arrays) from givens after.scalars
-    → Framing tables base bottom arrays framed spots (with_bound after from)
-    → AreFramed tables base bottom arrays formals givens framed spots line next now after
-givens_framed tables base bottom arrays [] givens framed spots line next now from after le g h =
-    record {
-      sight = spots;
-      code_is = λ rest. refl;
-      next_is = refl;
-      frame_is = refl;
-      framing = framing_on tables base bottom arrays framed spots (with_bound after from) after
-          (given_le (length (numbered base)) (length arrays) from givens after.scalars g) (omega arith)
-          h;
-    }
-givens_framed tables base bottom arrays (formal ∷ formals) [] framed spots line next now from after
-    le g h = record {
-      sight = spots;
-      code_is = λ rest. refl;
-      next_is = refl;
-      frame_is = refl;
-      framing = framing_on tables base bottom arrays framed spots (with_bound after from) after g
-          (omega arith) h;
-    }
-givens_framed tables base bottom arrays (formal ∷ formals) (Valued k ∷ givens) framed spots line next
-    now from after le g h =
-    let inner = low.with_scalar framed formal.name k in
-    let here = spots ++ At k ∷ [] in
-    let r = givens_framed tables base bottom arrays formals givens inner here line next now (suc k)
-    after (omega (arith, le, g.0)) g.1
-    (framing_scalar tables base bottom arrays framed spots (with_bound after from)
-    (with_bound after (suc k)) k formal.name g.0 (omega (arith, le, g.0)) (omega arith) (omega arith)
-    h) in
-    record {
-      sight = r.sight;
-      code_is = r.code_is;
-      next_is = r.next_is;
-      frame_is =
-          ap (λ (f : Frame). with_formals f formals (map (seen_given base now) givens))
-          (scalar_frame spots framed (length framed.numbers.arrays) k formal.name (scalar_in now k) now
-          now h.frame.known h.frame.numbers refl refl refl)
-          ∙ r.frame_is;
-      framing = r.framing;
-    }
-givens_framed tables base bottom arrays (formal ∷ formals) (Referring thing ∷ givens) framed spots
-    line next now from after le g h =
-    let inner : Framed =
-    record framed { names = framed.names ++ (formal.name.text, thing) ∷ [] } in
-    let count : length framed.numbers.arrays ≡ length arrays + length h.own =
-    ap length h.arrays_are ∙ length-append arrays h.own in
-    let longer = longer_spots base h.frame.more spots h.frame.is in
-    let known : IsKnown (length (numbered spots)) (length framed.numbers.arrays) thing =
-    thing_more (length (numbered base)) (length (numbered spots)) (length framed.numbers.arrays) thing
-    longer
-    (array_more (length (numbered base)) (length arrays) (length framed.numbers.arrays) thing
-    (omega (arith, count)) g.0) in
-    let r = givens_framed tables base bottom arrays formals givens inner spots line next now from after
-    le g.1
-    (record {
-      frame = record {
-        more = h.frame.more;
-        is = h.frame.is;
-        above = h.frame.above;
-        numbers = h.frame.numbers;
-        arrays_are = refl;
-        rises = h.frame.rises;
-        known = known_both (length (numbered spots)) (length framed.numbers.arrays) framed.names _
-            h.frame.known (known, tt);
-      };
-      own = h.own;
-      arrays_are = h.arrays_are;
-      apart = h.apart;
-      stored = h.stored;
-    }) in
-    record {
-      sight = r.sight;
-      code_is = r.code_is;
-      next_is = r.next_is;
-      frame_is =
-          ap (λ (f : Frame). with_formals f formals (map (seen_given base now) givens))
-          (thing_frame base h.frame.more framed spots (length arrays) formal.name thing now h.frame.is
-          g.0)
-          ∙ r.frame_is;
-      framing = r.framing;
-    }
-givens_framed tables base bottom arrays (formal ∷ formals) (Copied stored home ∷ givens) framed spots
-    line next now from after le g h = absurd g

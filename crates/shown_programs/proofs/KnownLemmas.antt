@@ -1,11 +1,10 @@
 -- What is known, in programs without faults and with accepted settings, of a place where code stands:
 -- names stand for what is of their kinds, and slots, masks and arrays are as the text says.
-use Rattle.std.proofs.Common.{◌≡◌, ℕ, zero, suc, ◌+◌, ◌-◌, ◌<◌, Bool, true, false, ℤ, pos, List, []}
-use Rattle.std.proofs.Common.{◌∷◌, ◌++◌, map, take, drop, length, Option, Some, None, refl, sym, ap}
+use Rattle.std.proofs.Common.{◌≡◌, ℕ, zero, suc, ◌-◌, false, ℤ, List, []}
+use Rattle.std.proofs.Common.{◌∷◌, map, take, drop, length, Option, Some, None, refl, sym, ap}
 use Rattle.std.proofs.Common.{◌∙◌, subst, arith, inl, inr}
-use Rattle.std.specs.Prelude.{slice_get, option_map, find, replicate, Contains}
+use Rattle.std.specs.Prelude.{slice_get, option_map, replicate}
 use Rattle.std.specs.Option.{IsSomeAnd}
-use Rattle.std.specs.List.{AllByRecursion}
 use Rattle.std.specs.Str.{bytes_eq}
 use Rattle.zpl_region.specs.declared.dims.Dim.{Dim}
 use Rattle.zpl_region.specs.declared.dims.Dim.TheVariants as dim
@@ -15,21 +14,19 @@ use Rattle.zpl_tree.specs.Syntax.{Name, Dir, Program}
 use Rattle.zpl_tree.specs.Grammar.{IsProgram}
 use Rattle.zpl_names.specs.Kinds.{Shape}
 use Rattle.zpl_names.specs.Scope.{kind_of}
-use Rattle.zpl_names.specs.Ranks.{array_shape, dir_rank, direction_rank, region_shape}
-use Rattle.zpl_names.specs.Shapes.{Shapes}
+use Rattle.zpl_names.specs.Ranks.{array_shape, dir_rank, region_shape}
 use Rattle.zpl_names.specs.Declared.{Routine, routines_of, scope_of}
 use Rattle.zpl_names.specs.Accepted.{IsFaultless}
 use Rattle.zpl_names.proofs.ListLemmas.{Among}
 use Rattle.zpl_binding.specs.Outcome.{Outcome, Gives, Computed, value_or, outcome_or, outcome_of}
 use Rattle.zpl_binding.specs.Vectors.{three_components}
-use Rattle.zpl_binding.specs.Regions.{Known, no_region, region_named}
+use Rattle.zpl_binding.specs.Regions.{Known, no_region}
 use Rattle.zpl_binding.specs.Settings.{Setting}
 use Rattle.zpl_binding.specs.Declarations.{known_of}
 use Rattle.zpl_meaning.specs.Given as mean
-use Rattle.zpl_meaning.specs.Context.{Mask, Setup}
+use Rattle.zpl_meaning.specs.Context.{Mask}
 use Rattle.zpl_meaning.specs.Regions.{vector_in}
-use Rattle.zpl_meaning.specs.Store.{Thing, ArrayAt, Environment, thing_of}
-use Rattle.zpl_meaning.specs.Visited.{first_setup}
+use Rattle.zpl_meaning.specs.Store.{ArrayAt, thing_of}
 use Rattle.zpl_meaning.proofs.NamesLemmas.{routine_sound}
 use Rattle.zpl_meaning.proofs.VisitLemmas.{Laws, find_among}
 use Rattle.meaning_ranks.specs.Shaped.{AreFloods}
@@ -38,22 +35,20 @@ use Rattle.meaning_ranks.proofs.ShapeLemmas.{Fits}
 use Rattle.meaning_ranks.proofs.RegionLemmas.{reach_fits}
 use Rattle.node_form.specs.declared.tables.Tables.{Tables}
 use Rattle.node_form.specs.Fits.{IsRank}
-use Rattle.zpl_lowering.specs.Where.{Stored, Numbers, Slotted, SlotCurrents, Where, is_flood, flood_of}
+use Rattle.zpl_lowering.specs.Where.{Stored, Slotted, Where, is_flood, flood_of}
 use Rattle.array_runs.specs.Reads.{IsShift}
 use Rattle.array_runs.specs.Floods.{three_floods, IsReadableAs, IsReadableMaskAs}
 use Rattle.prefix_runs.specs.Opens.{IsGiven, IsGivenRegion}
 use Rattle.prefix_runs.proofs.ShapeLemmas.{is_region}
-use Rattle.served_places.specs.Told.{IsMaskTold, IsStoredOf, IsTold}
+use Rattle.served_places.specs.Told.{IsMaskTold, IsStoredOf}
 use Rattle.served_places.specs.Given.{KnowsGiven}
 use Rattle.served_places.proofs.SlotLemmas.{declared_given}
-use Rattle.lowering_fits.specs.Reach.{IsBox, IsGivenBox, IsStoredAs, FitsName, FitNames, AreGlobals}
+use Rattle.lowering_fits.specs.Reach.{IsGivenBox, IsStoredAs, FitNames}
 use Rattle.lowering_fits.specs.Lowerings.{AllRanks, region_rank}
 use Rattle.lowering_fits.specs.Storages.{IsStorage, AllKept}
-use Rattle.lowering_fits.proofs.BracketLemmas.{LimitsAreTold}
 use Rattle.lowering_fits.proofs.VectorLemmas.{VectorBy}
 use Rattle.lowering_fits.proofs.KnownLemmas.{IsThreeBy}
 use Rattle.lowering_fits.proofs.KeptLemmas.{Grows}
-use Rattle.lowering_fits.proofs.ReachLemmas.{FewScalars}
 use Rattle.lowering_fits.proofs.ScopeLemmas.{dirs_by, box_of, found_of}
 use Rattle.lowering_fits.proofs.RegionRankLemmas.{regions_ranked}
 use Rattle.lowering_fits.proofs.DeclaredLemmas.{own_kinds, ranks_of}
@@ -100,7 +95,7 @@ flood_told shape region rank floods =
 
 -- ---- arrays
 
-kept_at : (arrays : List Stored) (place : ℕ) (stored : Stored) → AllKept arrays
+pub kept_at : (arrays : List Stored) (place : ℕ) (stored : Stored) → AllKept arrays
     → slice_get arrays place ≡ Some stored → IsStorage stored.storage
 kept_at [] place stored are e = cc
 kept_at (one ∷ arrays) zero stored are e =

@@ -1,31 +1,31 @@
 -- The forms that are proved suit their places, and go as their code does.
-use Rattle.std.proofs.Common.{◌≡◌, ◌⊎◌, inl, inr, ℕ, true, ℤ, List, [], ◌∷◌, ◌++◌, length, Option, Some, None}
+use Rattle.std.proofs.Common.{◌≡◌, ◌⊎◌, inl, inr, ℕ, Bool, true, false, ℤ, List, [], ◌∷◌, length, Option, Some, None}
 use Rattle.std.proofs.Common.{refl, sym, ap, ◌∙◌, subst}
 use Rattle.std.specs.Option.{option_map}
+use Rattle.std.specs.Prelude.{IsSome}
 use Rattle.zpl_nums.specs.declared.operators.Op.{Op}
 use Rattle.zpl_region.specs.declared.regions.Region.{Region}
-use Rattle.zpl_tree.specs.Syntax.{Name, Base, Expr, Number, Truth, Coord, Named, Shifted, Around, Remap, Call, Paren, Neg, Not, Abs, Pair, Reduce, Scan, Flood, Exprs, Prefix, Stmt, Form, Assign, Invoke, Block, If, While, Repeat, For, Border, Write, Return, Program}
+use Rattle.zpl_tree.specs.Syntax.{Name, Expr, Number, Truth, Coord, Named, Shifted, Around, Remap, Call, Paren, Neg, Not, Abs, Pair, Reduce, Scan, Flood, Exprs, NoExpr, ThenExpr, Prefix, Stmt, Form, Assign, Invoke, Block, If, While, Repeat, For, Border, Write, Return, Program}
 use Rattle.zpl_tree.specs.Grammar.{IsProgram}
 use Rattle.zpl_names.specs.Kinds as kind
-use Rattle.zpl_names.specs.Kinds.{Kind, Rank, Formal, Signature}
+use Rattle.zpl_names.specs.Kinds.{Kind, Rank, Formal, ScalarFormal, ArrayFormal, Signature}
 use Rattle.zpl_names.specs.Scope.{kind_of, is_array}
 use Rattle.zpl_names.specs.Shapes.{Shapes}
 use Rattle.zpl_names.specs.Declared.{Routine, IsProcedureOf, routine_named}
-use Rattle.zpl_names.specs.Sites.{Reach, Site, Assigned, AtStmt, expr_sites, form_sites, value_sites, whole_rank, whole_sites}
+use Rattle.zpl_names.specs.Sites.{Reach, Site, Actual, Assigned, AtStmt, expr_sites, form_sites, value_sites, whole_rank, whole_sites}
 use Rattle.zpl_names.specs.Accepted.{IsFaultless}
-use Rattle.zpl_names.specs.Faults.{flood_clashes}
 use Rattle.zpl_binding.specs.Settings.{Setting}
 use Rattle.zpl_meaning.specs.Store.{Thing, Scalar, ArrayAt, Fixed, Environment, Store, thing_of}
 use Rattle.zpl_meaning.specs.Context.{Currents, Edge, Setup, Place, reach_of}
 use Rattle.zpl_meaning.specs.Points.{assigned_expr}
-use Rattle.zpl_meaning.specs.Calls.{formals_in, actual_thing, value_exprs}
-use Rattle.zpl_meaning.specs.Proper.{IsArray, IsVariable, IsPlainAssign, IsProperAssign, IsProperStmt, AreProperActuals}
+use Rattle.zpl_meaning.specs.Calls.{formals_in, actual_thing, handed_on, value_exprs}
+use Rattle.zpl_meaning.specs.Proper.{IsArray, IsVariable, IsPlainAssign, IsProperAssign, IsProperCall, IsProperStmt, AreProperActuals}
 use Rattle.zpl_meaning.specs.Statement as mean
-use Rattle.zpl_meaning.specs.Visited.{IsVisited, AsStatement, Calls, body_place, handed_at}
+use Rattle.zpl_meaning.specs.Visited.{IsVisited, IsCall, AsStatement, AsAnswer, Calls, body_place, handed_at}
 use Rattle.zpl_meaning.proofs.DepthLemmas.{Each}
 use Rattle.zpl_meaning.proofs.ProperLemmas.{IsNamed, reach_at}
 use Rattle.zpl_meaning.proofs.VisitLemmas.{Laws, IsHere, Inside, InStmt}
-use Rattle.meaning_ranks.specs.Ranked.{IsRankedValue, IsRankedAssign, IsRankedStmt}
+use Rattle.meaning_ranks.specs.Ranked.{IsRankedValue, IsRankedAssign, IsRankedCall, IsRankedStmt}
 use Rattle.meaning_ranks.proofs.PlaceLemmas.{behind, call_at_body}
 use Rattle.meaning_ranks.proofs.PlaceLemmas as places
 use Rattle.node_form.specs.declared.tables.Tables.{Tables}
@@ -35,43 +35,35 @@ use Rattle.zpl_lowering.specs.Statement.{given_to}
 use Rattle.lowering_runs.specs.Seen.{Spot, seen_thing}
 use Rattle.lowering_runs.specs.Goes.{World, Goes}
 use Rattle.lowering_runs.specs.Called.{CallsAgree, world_at}
-use Rattle.lowering_runs.specs.Leaves.{IsScalarAssigned, AreScalarItems, ScalarLeaf}
+use Rattle.lowering_runs.specs.Leaves.{ScalarLeaf}
 use Rattle.lowering_runs.proofs.SuitLemmas.{either_goes, FormGoes}
-use Rattle.lowering_runs.proofs.StatementLemmas.{scalar_at, items_scalar, proper_plain, actuals_served, scalar_leaves}
+use Rattle.lowering_runs.proofs.StatementLemmas.{scalar_at, items_scalar, proper_plain, role_scalar, scalar_leaves}
 use Rattle.array_runs.specs.Floods.{IsArrayServed}
 use Rattle.prefix_runs.specs.Plain.{PlainLeaf, ArrayLeaf}
 use Rattle.prefix_runs.proofs.PlainLemmas.{array_leaves}
+use Rattle.call_runs.specs.Leaf.{IsAnsweredBy}
+use Rattle.call_runs.specs.Taken.{AreCallActuals, IsInvoked}
+use Rattle.call_runs.specs.Taken as taken
+use Rattle.print_runs.specs.Printed.{PrintLeaf}
+use Rattle.print_runs.proofs.WriteLemmas.{print_leaves}
+use Rattle.border_runs.specs.Bordered.{BorderLeaf}
+use Rattle.border_runs.proofs.BorderLemmas.{border_leaves}
+use Rattle.point_runs.specs.Shattered.{SplitLeaf}
+use Rattle.point_runs.proofs.SplitLemmas.{split_leaves}
 use Rattle.served_places.specs.Told.{IsSeenFrom, AreFree, IsPlainExpr, place_of}
 use Rattle.served_places.proofs.ToldLemmas.{array_served}
 use Rattle.served_places.proofs.CleanLemmas.{array_there}
 use Rattle.lowering_fits.proofs.KeptLemmas.{AreGivenOf}
 use Rattle.lowering_fits.proofs.ReachLemmas.{givens_of}
-use Rattle.shown_programs.specs.Text.{IsPlainForm, IsCallForm, IsLeafForm}
-use Rattle.shown_programs.proofs.CallLemmas.{setup, IsKnownAt, IsEntered, IsCalledFrom, CallsGo, IsToldInvoke, CallLeaf, call_leaves}
-use Rattle.shown_programs.proofs.PlaceLemmas.{IsPlaced, placed_proper, placed_ranked, placed_inside}
+use Rattle.shown_programs.specs.Text.{AreCallTexts, IsAskedText, IsPlainForm, IsCallForm, IsLeafForm}
+use Rattle.shown_programs.proofs.CallLemmas.{setup, IsCalledFrom, IsCalledBy, CallLeaf, call_leaves}
+use Rattle.shown_programs.proofs.PlaceLemmas.{IsPlaced, placed_proper, placed_ranked, placed_inside, each_free}
+use Rattle.shown_programs.proofs.PrintedLemmas.{print_suits}
+use Rattle.shown_programs.proofs.BorderLemmas.{border_suits}
+use Rattle.shown_programs.proofs.ShatteredLemmas.{plain_sites, shattered_suits}
 use Rattle.shown_programs.proofs.RoutineLemmas.{AreLeaves}
 
 -- ---- values without operators over regions are no calls
-
-plain_sites : (reach : Reach) (name : Name) (op : Option Op) (value : Expr) → IsPlainExpr value
-    → value_sites reach name op value ≡ whole_sites reach (Assigned name op) value
-plain_sites reach name (Some op) value h = refl
-plain_sites reach name None (Number at number) h = refl
-plain_sites reach name None (Truth at truth) h = refl
-plain_sites reach name None (Coord at k) h = refl
-plain_sites reach name None (Named at it) h = refl
-plain_sites reach name None (Shifted at it shift) h = refl
-plain_sites reach name None (Around at it shift) h = refl
-plain_sites reach name None (Remap at it indices) h = refl
-plain_sites reach name None (Paren at inside) h = refl
-plain_sites reach name None (Neg at operand) h = refl
-plain_sites reach name None (Not at operand) h = refl
-plain_sites reach name None (Abs at operand) h = refl
-plain_sites reach name None (Pair at o left right) h = refl
-plain_sites reach name None (Reduce at operator over operand) h = refl
-plain_sites reach name None (Scan at operator along operand) h = refl
-plain_sites reach name None (Flood at source operand) h = refl
-plain_sites reach name None (Call at it actuals) h = absurd h
 
 plain_assign : (place : Place) (name : Name) (op : Option Op) (value : Expr) → IsPlainExpr value
     → IsProperAssign place name op value → IsPlainAssign place name op value
@@ -137,14 +129,6 @@ array_thing (Some (Scalar place)) h = absurd h
 array_thing (Some (Fixed value)) h = absurd h
 array_thing None h = absurd h
 
--- ---- sites without a clash
-
-each_free : (program : Program) (text : List ℕ) (around : Shapes) (sites : List Site)
-    → Each (IsHere program text around) sites → AreFree sites
-each_free program text around [] h = tt
-each_free program text around (site ∷ sites) h =
-    (h.0.clean.under.floods, each_free program text around sites h.1)
-
 -- ---- actuals that are names
 
 module _ (spots : List Spot) (w : Where) (environment : Environment) (currents : Currents)
@@ -190,6 +174,42 @@ module _ (spots : List Spot) (w : Where) (environment : Environment) (currents :
       → IsArray (actual_thing w.environment actual)
   array_from actual h =
       array_of (actual_thing w.environment actual) (subst IsArray (actual_from actual) h)
+
+-- ---- what parameters take
+
+variable_some : (thing : Option Thing) → IsVariable thing → IsSome thing
+variable_some (Some thing) h = refl
+variable_some None h = absurd h
+
+array_some : (thing : Option Thing) → IsArray thing → IsSome thing
+array_some (Some thing) h = refl
+array_some None h = absurd h
+
+array_is : (thing : Option Thing) → IsArray thing → taken.IsArrayThing thing
+array_is (Some (ArrayAt place home)) h = tt
+array_is (Some (Scalar place)) h = h
+array_is (Some (Fixed value)) h = h
+array_is None h = h
+
+call_actuals : (place : Place) (formals : List Formal) (actuals : Exprs)
+    → AreCallTexts formals actuals → AreProperActuals place formals actuals
+    → AreCallActuals place formals actuals
+call_actuals place [] actuals t h = tt
+call_actuals place (formal ∷ formals) NoExpr t h = tt
+call_actuals place (ScalarFormal false base ∷ formals) (ThenExpr actual rest) t h =
+    (role_scalar place Actual actual t.0 h.0, call_actuals place formals rest t.1 h.1)
+call_actuals place (ScalarFormal true base ∷ formals) (ThenExpr actual rest) t h = (
+  variable_some (actual_thing place.environment actual) h.0,
+  call_actuals place formals rest t h.1,
+)
+call_actuals place (ArrayFormal true base shape ∷ formals) (ThenExpr actual rest) t h = (
+  array_some (actual_thing place.environment actual) h.0,
+  call_actuals place formals rest t h.1,
+)
+call_actuals place (ArrayFormal false base shape ∷ formals) (ThenExpr actual rest) t h = (
+  array_is (actual_thing place.environment actual) h.0,
+  call_actuals place formals rest t h.1,
+)
 
 same_routine : {a b : Routine} → Some a ≡ Some b → a ≡ b
 same_routine e = cc
@@ -286,63 +306,127 @@ module _ (program : Program) (settings : List Setting) (laws : Laws program)
 
     -- ---- calls
 
-    invoke_suits : (IsCallable : List ℕ → Type 0) (name : Name) (actuals : Exprs)
-        → Placed at prefixes (Invoke name actuals) spots w environment answer currents edge shapes
-        → IsCallForm IsCallable (reach_of place) (Invoke name actuals)
-        → IsToldInvoke program settings laws grammar clean IsCallable name actuals w place
-    invoke_suits IsCallable name actuals h t =
-        let form = Invoke name actuals in
-        let c = placed_proper program settings laws grammar clean proper ranked at prefixes form spots w
-        environment answer currents edge shapes h in
-        let r = placed_ranked program settings laws grammar clean proper ranked at prefixes form spots w
-        environment answer currents edge shapes h in
+    -- what is known at a call is handed on to what is called
+    called_from : (MayCall : List ℕ → Type 0) (form : Form) (name : Name) (actuals : Exprs)
+        → Placed at prefixes form spots w environment answer currents edge shapes
+        → IsCall form name actuals → (c : IsProperCall place name actuals)
+        → AreProperActuals place (formals_in (kind_of w.scope name)) actuals
+        → IsRankedCall place name actuals → MayCall name.text
+        → (scalar result : ℕ) (values : List ℤ) (before : Store)
+        → length values ≡ length (value_exprs place (formals_in (kind_of w.scope name)) actuals)
+        → IsCalledFrom program settings laws grammar clean MayCall w
+        (given_to w scalar (formals_in (kind_of w.scope name)) actuals) (record {
+          name = name.text;
+          actuals = handed_on environment before (formals_in (kind_of w.scope name)) actuals values;
+          currents = currents;
+          result = result;
+        })
+    called_from MayCall form name actuals h is c taken r callable scalar result values before many =
         let formals = formals_in (kind_of w.scope name) in
         let same : formals ≡ c.signature.formals = ap formals_in c.called in
-        let taken : AreProperActuals place formals actuals =
-        subst (λ (fs : List Formal). AreProperActuals place fs actuals) (sym same) c.taken in
         let deeper = behind program settings laws grammar clean h.start place h.outer at prefixes form
         h.here h.under in
         let callee = deeper.fits.callees name c.signature c.called in
         let named : routine_named program name.text ≡ Some callee.0 =
         subst (λ (s : Setup). routine_named s.program name.text ≡ Some callee.0) h.known.owned callee.1 in
         record {
-          actuals_are = actuals_served place formals actuals t.0 taken;
-          from = λ scalar values before many. record {
-            shapes = shapes;
-            known = h.known;
-            callable = t.1;
-            signature = c.signature;
-            of = λ routine is.
-                subst (IsProcedureOf c.signature) (same_routine (sym named ∙ is)) callee.2;
-            givens_are =
-                subst (λ (fs : List Formal). AreGivenOf w.numbers fs
-                (given_to w scalar formals actuals)) same
-                (givens_of w place refl (variable_from spots w environment currents h.seen)
-                (array_from spots w environment currents h.seen) h.known.names h.known.scalars scalar
-                formals actuals taken r);
-            entered = λ routine store is. record {
-              here =
-                  subst (λ (s : Shapes). places.IsAt program settings laws grammar clean
-                  (body_place own routine (record {
-                    name = name.text;
-                    actuals = handed_at place before name actuals values;
-                    currents = currents;
-                    result = 0;
-                  }) store) s routine.procedure.body) h.shapes_are
-                  (call_at_body program settings laws grammar clean h.start place h.outer at prefixes
-                  form name actuals values before store 0 routine h.here h.under AsStatement c many is);
-              visited = Calls h.start place at prefixes form name actuals values before store 0 routine
-                  h.visited h.under AsStatement many is;
-            };
+          shapes = shapes;
+          known = h.known;
+          callable = callable;
+          signature = c.signature;
+          of = λ routine is.
+              subst (IsProcedureOf c.signature) (same_routine (sym named ∙ is)) callee.2;
+          givens_are =
+              subst (λ (fs : List Formal). AreGivenOf w.numbers fs
+              (given_to w scalar formals actuals)) same
+              (givens_of w place refl (variable_from spots w environment currents h.seen)
+              (array_from spots w environment currents h.seen) h.known.names h.known.scalars scalar
+              formals actuals taken r);
+          entered = λ routine store found. record {
+            here =
+                subst (λ (s : Shapes). places.IsAt program settings laws grammar clean
+                (body_place own routine (record {
+                  name = name.text;
+                  actuals = handed_at place before name actuals values;
+                  currents = currents;
+                  result = result;
+                }) store) s routine.procedure.body) h.shapes_are
+                (call_at_body program settings laws grammar clean h.start place h.outer at prefixes
+                form name actuals values before store result routine h.here h.under is c many found);
+            visited = Calls h.start place at prefixes form name actuals values before store result
+                routine h.visited h.under is many found;
+            bounded = record { currents = h.bounded.currents; edge = tt };
           };
         }
 
-    call_suits : (IsCallable : List ℕ → Type 0) (form : Form)
+    -- what its parameters take
+    taken_at : (name : Name) (actuals : Exprs) → (c : IsProperCall place name actuals)
+        → AreProperActuals place (formals_in (kind_of w.scope name)) actuals
+    taken_at name actuals c =
+        subst (λ (fs : List Formal). AreProperActuals place fs actuals)
+        (sym (ap formals_in c.called)) c.taken
+
+    invoke_suits : (IsCallable : Bool → List ℕ → Type 0) (name : Name) (actuals : Exprs)
+        → Placed at prefixes (Invoke name actuals) spots w environment answer currents edge shapes
+        → IsCallForm IsCallable (reach_of place) (Invoke name actuals)
+        → IsInvoked (IsCalledBy program settings laws grammar clean IsCallable false) name actuals w
+        place
+    invoke_suits IsCallable name actuals h t =
+        let form = Invoke name actuals in
+        let c = placed_proper program settings laws grammar clean proper ranked at prefixes form spots w
+        environment answer currents edge shapes h in
+        let r = placed_ranked program settings laws grammar clean proper ranked at prefixes form spots w
+        environment answer currents edge shapes h in
+        let taken = taken_at name actuals c in
+        record {
+          actuals_are = call_actuals place (formals_in (kind_of w.scope name)) actuals t.0 taken;
+          from = λ scalar values before many.
+              called_from (IsCallable false) form name actuals h AsStatement c taken r t.1 scalar 0
+              values before many;
+        }
+
+    asked_suits : (IsCallable : Bool → List ℕ → Type 0) (name : Name) (op : Option Op) (value : Expr)
+        → Placed at prefixes (Assign name op value) spots w environment answer currents edge shapes
+        → IsAskedText IsCallable (reach_of place) op value
+        → IsAnsweredBy (IsCalledBy program settings laws grammar clean IsCallable false)
+        (IsCalledBy program settings laws grammar clean IsCallable true) name op value w place
+    asked_suits IsCallable name None (Call offset callee actuals) h t =
+        let form = Assign name None (Call offset callee actuals) in
+        let p = placed_proper program settings laws grammar clean proper ranked at prefixes form spots w
+        environment answer currents edge shapes h in
+        let r = placed_ranked program settings laws grammar clean proper ranked at prefixes form spots w
+        environment answer currents edge shapes h in
+        let taken = taken_at callee actuals p.1 in
+        record {
+          variable = p.0;
+          actuals_are = call_actuals place (formals_in (kind_of w.scope callee)) actuals t.0 taken;
+          from = λ scalar result values before many.
+              called_from (IsCallable true) form callee actuals h AsAnswer p.1 taken r t.1 scalar
+              result values before many;
+        }
+    asked_suits IsCallable name (Some op) value h t = absurd t
+    asked_suits IsCallable name None (Number o number) h t = absurd t
+    asked_suits IsCallable name None (Truth o truth) h t = absurd t
+    asked_suits IsCallable name None (Coord o k) h t = absurd t
+    asked_suits IsCallable name None (Named o it) h t = absurd t
+    asked_suits IsCallable name None (Shifted o it shift) h t = absurd t
+    asked_suits IsCallable name None (Around o it shift) h t = absurd t
+    asked_suits IsCallable name None (Remap o it indices) h t = absurd t
+    asked_suits IsCallable name None (Paren o inside) h t = absurd t
+    asked_suits IsCallable name None (Neg o operand) h t = absurd t
+    asked_suits IsCallable name None (Not o operand) h t = absurd t
+    asked_suits IsCallable name None (Abs o operand) h t = absurd t
+    asked_suits IsCallable name None (Pair o op left right) h t = absurd t
+    asked_suits IsCallable name None (Reduce o operator over operand) h t = absurd t
+    asked_suits IsCallable name None (Scan o operator along operand) h t = absurd t
+    asked_suits IsCallable name None (Flood o source operand) h t = absurd t
+
+    call_suits : (IsCallable : Bool → List ℕ → Type 0) (form : Form)
         → Placed at prefixes form spots w environment answer currents edge shapes
         → IsCallForm IsCallable (reach_of place) form
         → CallLeaf program settings laws grammar clean IsCallable at form w place
     call_suits IsCallable (Invoke name actuals) h t = invoke_suits IsCallable name actuals h t
-    call_suits IsCallable (Assign name op value) h t = absurd t
+    call_suits IsCallable (Assign name op value) h t = asked_suits IsCallable name op value h t
     call_suits IsCallable (Write ends items) h t = absurd t
     call_suits IsCallable (Block body) h t = absurd t
     call_suits IsCallable (If arms otherwise) h t = absurd t
@@ -355,22 +439,36 @@ module _ (program : Program) (settings : List Setting) (laws : Laws program)
   -- ---- all of them
 
   -- what is asked of a form that is proved: further ones are further lines
-  abbrev pub Leaf : (List ℕ → Type 0) → ℕ → Form → Where → Place → Type 0
+  abbrev pub Leaf : (Bool → List ℕ → Type 0) → ℕ → Form → Where → Place → Type 0
   Leaf IsCallable at form w place =
       PlainLeaf own Never at form w place
-      ⊎ CallLeaf program settings laws grammar clean IsCallable at form w place
+      ⊎ (PrintLeaf at form w place
+      ⊎ (BorderLeaf at form w place
+      ⊎ (SplitLeaf at form w place
+      ⊎ CallLeaf program settings laws grammar clean IsCallable at form w place)))
 
   no_calls : (world : World) → CallsAgree world own Never
   no_calls world = record {
     by = λ spots w low next start name givens line setup_is stands before served. absurd served;
   }
 
+  -- one form more
+  or_goes : (world : World) (at : ℕ) (form : Form) (One Other : Where → Place → Type 0)
+      → Goes world One (λ c store. mean.exec_form c world.turns at form store)
+      (λ l next. low.lowered_form l next at form) 1
+      → Goes world Other (λ c store. mean.exec_form c world.turns at form store)
+      (λ l next. low.lowered_form l next at form) 1
+      → Goes world (λ w p. One w p ⊎ Other w p)
+      (λ c store. mean.exec_form c world.turns at form store)
+      (λ l next. low.lowered_form l next at form) 1
+  or_goes world at form One Other one other =
+      either_goes world One Other (λ c store. mean.exec_form c world.turns at form store)
+      (λ l next. low.lowered_form l next at form) 1 one other
+
   plain_leaves : (world : World) (at : ℕ) (form : Form) → FormGoes world (PlainLeaf own Never) at form
   plain_leaves world at form =
-      either_goes world (ScalarLeaf own Never at form) (ArrayLeaf at form)
-      (λ c store. mean.exec_form c world.turns at form store)
-      (λ l next. low.lowered_form l next at form) 1 (scalar_leaves world own Never (no_calls world) at form)
-      (array_leaves world at form)
+      or_goes world at form (ScalarLeaf own Never at form) (ArrayLeaf at form)
+      (scalar_leaves world own Never (no_calls world) at form) (array_leaves world at form)
 
   pub leaves_go : (tables : Tables) (n : ℕ)
       → ((place : Place) (stmt : Stmt) → IsVisited own place stmt → IsProperStmt place stmt)
@@ -381,14 +479,35 @@ module _ (program : Program) (settings : List Setting) (laws : Laws program)
         elim t [
           | inl plain ↦ inl (plain_suits proper ranked at prefixes spots w environment answer currents
               edge shapes form h plain)
-          | inr call ↦ inr (call_suits proper ranked at prefixes spots w environment answer currents
-              edge shapes IsCallable form h call)
+          | inr (inl print) ↦ inr (inl (print_suits program settings laws grammar clean proper ranked
+              at prefixes spots w environment answer currents edge shapes form h print))
+          | inr (inr (inl border)) ↦ inr (inr (inl (border_suits program settings laws grammar clean
+              proper ranked at prefixes spots w environment answer currents edge shapes form h border)))
+          | inr (inr (inr (inl split))) ↦ inr (inr (inr (inl (shattered_suits program settings laws
+              grammar clean proper ranked at prefixes spots w environment answer currents edge shapes
+              form h split))))
+          | inr (inr (inr (inr call))) ↦ inr (inr (inr (inr (call_suits proper ranked at prefixes spots
+              w environment answer currents edge shapes IsCallable form h call))))
         ];
     go = λ depth IsCallable calls at form.
         let world = world_at tables n own depth in
-        either_goes world (PlainLeaf own Never at form)
+        or_goes world at form (PlainLeaf own Never at form)
+        (λ w place. PrintLeaf at form w place
+        ⊎ (BorderLeaf at form w place
+        ⊎ (SplitLeaf at form w place
+        ⊎ CallLeaf program settings laws grammar clean IsCallable at form w place)))
+        (plain_leaves world at form)
+        (or_goes world at form (PrintLeaf at form)
+        (λ w place. BorderLeaf at form w place
+        ⊎ (SplitLeaf at form w place
+        ⊎ CallLeaf program settings laws grammar clean IsCallable at form w place))
+        (print_leaves world at form)
+        (or_goes world at form (BorderLeaf at form)
+        (λ w place. SplitLeaf at form w place
+        ⊎ CallLeaf program settings laws grammar clean IsCallable at form w place)
+        (border_leaves world at form)
+        (or_goes world at form (SplitLeaf at form)
         (CallLeaf program settings laws grammar clean IsCallable at form)
-        (λ c store. mean.exec_form c world.turns at form store)
-        (λ l next. low.lowered_form l next at form) 1 (plain_leaves world at form)
-        (call_leaves program settings laws grammar clean world IsCallable calls at form);
+        (split_leaves world at form)
+        (call_leaves program settings laws grammar clean IsCallable world calls at form))));
   }

@@ -1,5 +1,5 @@
 -- Local variables of a procedure that is entered, arrays among them: they are cleared.
-use Rattle.std.proofs.Common.{◌≡◌, ◌≢◌, ℕ, suc, ◌+◌, ◌≤◌, ◌<◌, Bool, true, false, pos, List, []}
+use Rattle.std.proofs.Common.{◌≡◌, ◌≢◌, ℕ, suc, ◌≤◌, ◌<◌, Bool, true, false, pos, List, []}
 use Rattle.std.proofs.Common.{◌∷◌, ◌++◌, map, length, Option, Some, refl, sym, ap, ◌∙◌, subst}
 use Rattle.std.proofs.Common.{arith}
 use Rattle.std.proofs.lemmas.List.{length-map}
@@ -34,7 +34,7 @@ use Rattle.zpl_lowering.specs.Lowered.{Lowered, behind, rows_alone}
 use Rattle.zpl_lowering.specs.Program as low
 use Rattle.zpl_lowering.specs.Program.{Framed, Entry}
 use Rattle.zpl_lowering.specs.Tables.{stored_row}
-use Rattle.lowering_runs.specs.Seen.{scalar_in, slot_in, array_in, Spot, At, seen_spot, numbered}
+use Rattle.lowering_runs.specs.Seen.{scalar_in, array_in, Spot, At, seen_spot, numbered}
 use Rattle.lowering_runs.specs.Run.{straight, step, does}
 use Rattle.lowering_runs.specs.Agrees.{Agrees}
 use Rattle.lowering_runs.specs.Stands.{Rises, array_numbers, IsBefore, HasRoom, IsStored, IsSound, Keeps}
@@ -46,7 +46,6 @@ use Rattle.lowering_runs.proofs.FrameLemmas.{scalar_frame}
 use Rattle.array_puts.specs.Put.{with_array_in}
 use Rattle.array_runs.proofs.StoredLemmas.{index_of_found, zip_at}
 use Rattle.array_runs.proofs.LikeLemmas.{zip_new, index_is, index_if}
-use Rattle.lowering_fits.specs.Storages.{IsStorage}
 use Rattle.lowering_fits.specs.Whole.{FitsVars, AllVars, local_frame, name_frames, local_frames}
 use Rattle.lowering_fits.proofs.ArrayLemmas.{row_storage, row_three}
 use Rattle.shown_programs.proofs.FrameLemmas.{Framing, framing_scalar, framing_array, array_frame}
@@ -197,7 +196,7 @@ module _ (tables : Tables) (n : ℕ) where
       }
 
 -- arrays below a number are as they were
-below_same : (now after : Whole) (k : ℕ) (arrays : List Stored) (from : ℕ)
+pub below_same : (now after : Whole) (k : ℕ) (arrays : List Stored) (from : ℕ)
     → Rises from (array_numbers arrays) k
     → ((j : ℕ) → j < k → array_in after j ≡ array_in now j)
     → map (λ (x : Stored). array_in after x.array) arrays
@@ -283,7 +282,7 @@ module _ (tables : Tables) (n : ℕ) (setup : Setup) (entry : Entry) (base : Lis
       (subst (λ (m : ℕ). AreFreshArrays tables entry.clears m after) (omega arith)
       (c.arrays next.arrays clear))
       (room_rest tables next (code.Rows []) first (rest inner more)
-      (record { scalars = room.scalars; slots = room.slots; arrays = room.arrays }))
+      (record { scalars = room.scalars; slots = room.slots; arrays = room.arrays; temps = room.temps }))
       (subst (λ (x : Frame). IsReached x) frame reached)))
   local_goes (Bracketed bracket) name IsFramed IsReached run rest s each framed spots next now f own
       before sound kept fresh clear room reached =
@@ -338,7 +337,7 @@ module _ (tables : Tables) (n : ℕ) (setup : Setup) (entry : Entry) (base : Lis
       (subst (λ (m : ℕ). AreFresh entry.clears m after) (omega arith) (c.fresh next.scalars fresh))
       (c.arrays more.arrays (omega arith))
       (room_rest tables next (code.Rows []) first (rest inner more)
-      (record { scalars = room.scalars; slots = room.slots; arrays = room.arrays }))
+      (record { scalars = room.scalars; slots = room.slots; arrays = room.arrays; temps = room.temps }))
       (subst (λ (x : Frame). IsReached x) frame reached)))
 
   names_go : (shape : Bracket) (names : List Name) (IsFramed : Framed → Next → Type 0)

@@ -1,56 +1,56 @@
 -- Statements of whole programs suit the places where they are run: by what the text says of prefixes,
 -- and by what is known of forms that have no statements in them.
-use Rattle.std.proofs.Common.{◌≡◌, ◌⊎◌, inl, inr, ℕ, zero, suc, Bool, true, false, List, [], ◌∷◌, ◌++◌}
+use Rattle.std.proofs.Common.{◌≡◌, inl, inr, ℕ, Bool, true, false, List, [], ◌∷◌}
 use Rattle.std.proofs.Common.{map, length, Option, Some, None, option_to_list, refl, sym, ap, ◌∙◌, subst}
 use Rattle.std.proofs.Common.{pos}
-use Rattle.std.specs.Prelude.{Contains, IsSome}
+use Rattle.std.specs.Prelude.{Contains}
 use Rattle.std.specs.List.{AllByRecursion}
 use Rattle.std.proofs.lemmas.List.Elements.{Contains-append_left, Contains-append_right}
 use Rattle.zpl_region.specs.declared.dims.Dim.{Dim}
 use Rattle.zpl_region.specs.declared.dims.Dim.TheVariants as dim
-use Rattle.zpl_region.specs.declared.regions.Region.{Region}
-use Rattle.zpl_tree.specs.Syntax.{Base, Inner, Rexpr, Dims, Posts, NoPost, ThenPost, Mask as MaskText, Prefix, Stmt, Prefixed, Stmts, NoStmt, ThenStmt, Form, Assign, Invoke, Block, If, While, Repeat, For, Border, Write, Return, Tested, Arms, NoArm, ThenArm, Otherwise, NoElse, Else, Program}
+use Rattle.zpl_tree.specs.Syntax.{Base, Inner, Rexpr, Dims, Mask as MaskText, Prefix, Stmt, Prefixed, Stmts, NoStmt, ThenStmt, Form, Assign, Invoke, Block, If, While, Repeat, For, Border, Write, Return, Tested, Arms, NoArm, ThenArm, Otherwise, NoElse, Else, Program}
 use Rattle.zpl_tree.specs.Grammar.{IsPrefix, IsProgram}
 use Rattle.zpl_names.specs.Kinds.{Rank, Shape}
 use Rattle.zpl_names.specs.Scope.{Scope}
-use Rattle.zpl_names.specs.Ranks.{inner_rank, mask_rank}
+use Rattle.zpl_names.specs.Ranks.{mask_rank}
 use Rattle.zpl_names.specs.Shapes.{Current, Absent, Unknown, Over as Shaped, Shapes, current_at, inner_shape, shape_within, prefix_rank, shapes_under}
-use Rattle.zpl_names.specs.Sites.{Reach, AtMask, AtRegion, Limit, Test as TestRole, region_sites, prefix_sites, prefixes_sites, under_prefixes, is_shattered}
+use Rattle.zpl_names.specs.Sites.{Reach, Site, AtMask, Limit, Test as TestRole, region_sites, prefix_sites, prefixes_sites, under_prefixes, is_shattered}
 use Rattle.zpl_names.specs.Sites.{under_prefix as reach_under}
 use Rattle.zpl_names.specs.Faults.{flood_clashes}
 use Rattle.zpl_names.specs.Accepted.{IsFaultless}
 use Rattle.zpl_binding.specs.Regions.{Known}
+use Rattle.zpl_binding.proofs.LimitLemmas.{HasLimited}
 use Rattle.zpl_binding.specs.Settings.{Setting}
-use Rattle.zpl_meaning.specs.Store.{Environment, Store}
+use Rattle.zpl_meaning.specs.Store.{Environment}
 use Rattle.zpl_meaning.specs.Context.{Over, Currents, Edge, Setup, Place, reach_of}
-use Rattle.zpl_meaning.specs.Proper.{IsArrayRank, IsProperPrefix, IsProperForm, IsProperUnder, IsProperStmt, IsProperTested, AreProperTests}
+use Rattle.zpl_meaning.specs.Proper.{IsProperForm, IsProperUnder, IsProperStmt, AreProperTests}
 use Rattle.zpl_meaning.specs.Regions as mean
 use Rattle.zpl_meaning.specs.Visited as visits
 use Rattle.zpl_meaning.specs.Visited.{IsVisited, Holds, list_of, arms_parts, else_parts, parts_of}
 use Rattle.zpl_meaning.specs.Statement.{step_expr}
-use Rattle.zpl_meaning.proofs.DepthLemmas.{each_left, each_right}
+use Rattle.zpl_meaning.proofs.DepthLemmas.{Each, each_left, each_right}
 use Rattle.zpl_meaning.proofs.ProperLemmas.{IsClean, Clean, Fits as FitsPlace, reach_at}
 use Rattle.zpl_meaning.proofs.StatementLemmas.{fits_under}
-use Rattle.zpl_meaning.proofs.VisitLemmas.{Laws, clean_of, Inside}
+use Rattle.zpl_meaning.proofs.VisitLemmas.{Laws, IsHere, clean_of, Inside}
 use Rattle.meaning_ranks.specs.Ranked.{IsRankedForm, IsRankedUnder, IsRankedStmt}
-use Rattle.meaning_ranks.specs.Shaped.{IsShaped, AreFloods}
+use Rattle.meaning_ranks.specs.Shaped.{AreFloods}
 use Rattle.meaning_ranks.proofs.CurrentLemmas.{AreTold, region_told, region_first}
 use Rattle.meaning_ranks.proofs.CurrentLemmas as currents
 use Rattle.meaning_ranks.proofs.PlaceLemmas.{IsAt, behind, inside_at, part_at}
 use Rattle.zpl_lowering.specs.Where.{Slotted, SlotCurrents, Where}
 use Rattle.zpl_lowering.specs.Statement as low
 use Rattle.lowering_runs.specs.Seen.{Spot}
-use Rattle.lowering_runs.specs.Scalars.{IsScalarAt}
 use Rattle.lowering_runs.specs.Suits.{SuitsStmt, SuitAll, SuitsForm, SuitArms, SuitsElse}
 use Rattle.lowering_runs.proofs.StatementLemmas.{role_scalar, false_choice, contains_first, contains_later}
 use Rattle.prefix_runs.specs.Opens.{AreGivenPosts}
 use Rattle.prefix_runs.specs.Under.{opened_at, over_of, mean_under, IsUnder}
-use Rattle.served_places.specs.Told.{IsSlotTold, AreSlotsTold, IsSeenFrom, IsTold, place_of}
+use Rattle.served_places.specs.Told.{IsSlotTold, AreSlotsTold, IsSeenFrom, AreFree, place_of}
 use Rattle.served_places.specs.Given.{IsSound}
 use Rattle.served_places.proofs.GivenLemmas.{prefix_opens}
 use Rattle.served_places.proofs.PrefixLemmas.{under_told}
 use Rattle.served_places.proofs.CleanLemmas.{one_with, two_with, three_with}
 use Rattle.shown_programs.specs.Text.{HasSmallInner, HaveSmallPrefixes, behind_prefixes, IsShownStmt, AreShown, IsShownForm, AreShownArms, IsShownElse}
+use Rattle.shown_programs.proofs.BoundedLemmas.{IsBoundedAt, bounded_under, known_limited}
 use Rattle.shown_programs.proofs.CallLemmas.{setup, IsKnownAt}
 
 -- ---- regions of the shapes that slots have
@@ -112,6 +112,14 @@ shape_of scope current n region = by (shape_within scope current region) refl
         → IsShapeOf scope current n region
     by None e h = absurd h
     by (Some shape) e h = record { shape = shape; is = e; many = h }
+
+-- ---- sites without a clash
+
+pub each_free : (program : Program) (text : List ℕ) (around : Shapes) (sites : List Site)
+    → Each (IsHere program text around) sites → AreFree sites
+each_free program text around [] h = tt
+each_free program text around (site ∷ sites) h =
+    (h.0.clean.under.floods, each_free program text around sites h.1)
 
 -- ---- what is told of a form behind its prefixes
 
@@ -205,6 +213,7 @@ module _ (program : Program) (settings : List Setting) (laws : Laws program)
         ≡ shapes
     pub known : Here w shapes
     pub seen : IsSeenFrom spots w environment currents
+    pub bounded : IsBoundedAt (place_of w environment answer currents edge)
 
   module _ (proper : (place : Place) (stmt : Stmt) → IsVisited own_setup place stmt
       → IsProperStmt place stmt)
@@ -255,6 +264,7 @@ module _ (program : Program) (settings : List Setting) (laws : Laws program)
           → visits.IsUnder prefixes place (place_of w environment answer currents edge)
           → (under_prefixes (reach_at place shapes shattered result) prefixes).shapes ≡ deeper
           → Here w deeper → IsSeenFrom spots w environment currents
+          → IsBoundedAt (place_of w environment answer currents edge)
           → IsServed w (place_of w environment answer currents edge)
 
       under_suits : (borders : Bool) (prefixes : List Prefix) (w : Where) (currents : Currents)
@@ -267,12 +277,14 @@ module _ (program : Program) (settings : List Setting) (laws : Laws program)
           → IsRankedUnder (place_of w environment answer currents edge) prefixes form
           → HaveSmallPrefixes prefixes → AreGivenPrefixes w.setup.known prefixes → Here w shapes
           → IsSeenFrom spots w environment currents
+          → IsBoundedAt (place_of w environment answer currents edge)
           → Reached prefixes (place_of w environment answer currents edge) shapes
           → IsUnder borders prefixes IsServed w (place_of w environment answer currents edge)
-      under_suits borders [] w currents edge shapes sites tree fits p r small given known seen f =
-          f w currents edge shapes visits.Itself refl known seen
+      under_suits borders [] w currents edge shapes sites tree fits p r small given known seen bounded
+          f =
+          f w currents edge shapes visits.Itself refl known seen bounded
       under_suits borders (prefix ∷ rest) w currents edge shapes sites tree fits p r small given known
-          seen f =
+          seen bounded f =
           let place = place_of w environment answer currents edge in
           let reach = reach_at place shapes shattered result in
           let hint = mask_rank place.scope prefix.mask in
@@ -321,8 +333,11 @@ module _ (program : Program) (settings : List Setting) (laws : Laws program)
                   two = two_with currents w.currents rank over _ seen.two;
                   three = three_with currents w.currents rank over _ seen.three;
                 })
-                (λ w' currents' edge' deeper' under is known' seen'.
-                f w' currents' edge' deeper' (visits.Behind over under) is known' seen'),
+                (bounded_under place prefix found store opened.flood
+                (subst (λ (s : Setup). HasLimited s.known) (sym known.owned)
+                (known_limited program settings)) bounded opens meant told)
+                (λ w' currents' edge' deeper' under is known' seen' bounded'.
+                f w' currents' edge' deeper' (visits.Behind over under) is known' seen' bounded'),
           )
         where
           mask_free : (mask : Option MaskText)
@@ -357,11 +372,12 @@ module _ (program : Program) (settings : List Setting) (laws : Laws program)
             → At (place_of w environment answer currents edge) shapes stmt
             → IsVisited own_setup (place_of w environment answer currents edge) stmt
             → Here w shapes → IsSeenFrom spots w environment currents
+            → IsBoundedAt (place_of w environment answer currents edge)
             → IsShownStmt Text (reach_of (place_of w environment answer currents edge)) stmt
             → IsGivenStmt own_setup.known stmt
             → SuitsStmt IsUnder Leaf stmt w (place_of w environment answer currents edge)
         stmt_suits (Prefixed at prefixes form) spots w environment answer currents edge shapes here
-            visited known seen text given =
+            visited known seen bounded text given =
             let place = place_of w environment answer currents edge in
             let stmt = Prefixed at prefixes form in
             under_suits environment answer spots here.shattered here.result form
@@ -369,8 +385,8 @@ module _ (program : Program) (settings : List Setting) (laws : Laws program)
             currents edge shapes (clean_of program here.text here.around _ here.sites.0) here.tree.0
             here.fits (proper place stmt visited) (ranked place stmt visited) text.0
             (subst (λ (s : Setup). AreGivenPrefixes s.known prefixes) (sym known.owned) given.0) known
-            seen
-            (λ w' currents' edge' deeper under is known' seen'.
+            seen bounded
+            (λ w' currents' edge' deeper under is known' seen' bounded'.
             let inner = place_of w' environment answer currents' edge' in
             form_suits form at prefixes spots w' environment answer currents' edge' deeper
             (record {
@@ -386,6 +402,7 @@ module _ (program : Program) (settings : List Setting) (laws : Laws program)
                   ∙ is;
               known = known';
               seen = seen';
+              bounded = bounded';
             })
             (subst (λ (r : Reach). IsShownForm Text r form) (reach_behind prefixes place inner under)
             text.1) given.1)
@@ -409,7 +426,7 @@ module _ (program : Program) (settings : List Setting) (laws : Laws program)
             given =
             all_suit body spots w environment answer currents edge shapes
             (placed_part at prefixes (Block body) spots w environment answer currents edge shapes h)
-            h.known h.seen text given
+            h.known h.seen h.bounded text given
         form_suits (If arms otherwise) at prefixes spots w environment answer currents edge shapes h
             (inl text) given =
             inl (leaf_suits at prefixes (If arms otherwise) spots w environment answer currents edge
@@ -427,11 +444,11 @@ module _ (program : Program) (settings : List Setting) (laws : Laws program)
                 arms_suit arms spots w environment answer currents edge shapes
                     (λ part c. parts part
                     (Contains-append_left (arms_parts arms) (else_parts otherwise) part c))
-                    tests h.known h.seen text.1.0 given.0,
+                    tests h.known h.seen h.bounded text.1.0 given.0,
                 else_suits otherwise spots w environment answer currents edge shapes
                     (λ part c. parts part
                     (Contains-append_right (arms_parts arms) (else_parts otherwise) part c))
-                    h.known h.seen text.1.1 given.1,
+                    h.known h.seen h.bounded text.1.1 given.1,
               ),
             )
         form_suits (While test body) at prefixes spots w environment answer currents edge shapes h
@@ -450,7 +467,7 @@ module _ (program : Program) (settings : List Setting) (laws : Laws program)
                 role_scalar place TestRole test text.1.0 p,
                 all_suit body spots w environment answer currents edge shapes
                     (placed_part at prefixes form spots w environment answer currents edge shapes h)
-                    h.known h.seen text.1.1 given,
+                    h.known h.seen h.bounded text.1.1 given,
               ),
             )
         form_suits (Repeat body until test) at prefixes spots w environment answer currents edge shapes
@@ -469,7 +486,7 @@ module _ (program : Program) (settings : List Setting) (laws : Laws program)
                 role_scalar place TestRole test text.1.0 p,
                 all_suit body spots w environment answer currents edge shapes
                     (placed_part at prefixes form spots w environment answer currents edge shapes h)
-                    h.known h.seen text.1.1 given,
+                    h.known h.seen h.bounded text.1.1 given,
               ),
             )
         form_suits (For head body) at prefixes spots w environment answer currents edge shapes h text
@@ -485,7 +502,7 @@ module _ (program : Program) (settings : List Setting) (laws : Laws program)
               ),
               all_suit body spots w environment answer currents edge shapes
                   (placed_part at prefixes form spots w environment answer currents edge shapes h)
-                  h.known h.seen text.1 given,
+                  h.known h.seen h.bounded text.1 given,
             )
         form_suits (Border kind names) at prefixes spots w environment answer currents edge shapes h text
             given =
@@ -503,18 +520,20 @@ module _ (program : Program) (settings : List Setting) (laws : Laws program)
             (answer : ℕ) (currents : Currents) (edge : Option Edge) (shapes : Shapes)
             → Parts (list_of stmts) (place_of w environment answer currents edge) shapes
             → Here w shapes → IsSeenFrom spots w environment currents
+            → IsBoundedAt (place_of w environment answer currents edge)
             → AreShown Text (reach_of (place_of w environment answer currents edge)) stmts
             → AreGivenStmts own_setup.known stmts
             → SuitAll IsUnder Leaf stmts w (place_of w environment answer currents edge)
-        all_suit NoStmt spots w environment answer currents edge shapes parts known seen text given = tt
+        all_suit NoStmt spots w environment answer currents edge shapes parts known seen bounded text given =
+            tt
         all_suit (ThenStmt first rest) spots w environment answer currents edge shapes parts known seen
-            text given =
+            bounded text given =
             let one = parts first (contains_first first (list_of rest)) in (
               stmt_suits first spots w environment answer currents edge shapes one.0 one.1 known seen
-                  text.0 given.0,
+                  bounded text.0 given.0,
               all_suit rest spots w environment answer currents edge shapes
-                  (λ part c. parts part (contains_later first (list_of rest) part c)) known seen text.1
-                  given.1,
+                  (λ part c. parts part (contains_later first (list_of rest) part c)) known seen bounded
+                  text.1 given.1,
             )
 
         arms_suit : (arms : Arms) (spots : List Spot) (w : Where) (environment : Environment)
@@ -522,25 +541,26 @@ module _ (program : Program) (settings : List Setting) (laws : Laws program)
             → Parts (arms_parts arms) (place_of w environment answer currents edge) shapes
             → AreProperTests (place_of w environment answer currents edge) arms
             → Here w shapes → IsSeenFrom spots w environment currents
+            → IsBoundedAt (place_of w environment answer currents edge)
             → AreShownArms Text (reach_of (place_of w environment answer currents edge)) arms
             → AreGivenArms own_setup.known arms
             → SuitArms IsUnder Leaf arms w (place_of w environment answer currents edge)
-        arms_suit NoArm spots w environment answer currents edge shapes parts tests known seen text
-            given = tt
+        arms_suit NoArm spots w environment answer currents edge shapes parts tests known seen bounded
+            text given = tt
         arms_suit (ThenArm (Tested own test body) rest) spots w environment answer currents edge shapes
-            parts tests known seen text given =
+            parts tests known seen bounded text given =
             let place = place_of w environment answer currents edge in (
               (
                 role_scalar place TestRole test text.0.0 tests.0,
                 all_suit body spots w environment answer currents edge shapes
                     (λ part c. parts part
                     (Contains-append_left (list_of body) (arms_parts rest) part c)) known seen
-                    text.0.1 given.0,
+                    bounded text.0.1 given.0,
               ),
               arms_suit rest spots w environment answer currents edge shapes
                   (λ part c. parts part
                   (Contains-append_right (list_of body) (arms_parts rest) part c)) tests.1 known seen
-                  text.1 given.1,
+                  bounded text.1 given.1,
             )
 
         else_suits : (otherwise : Otherwise) (spots : List Spot) (w : Where)
@@ -548,11 +568,13 @@ module _ (program : Program) (settings : List Setting) (laws : Laws program)
             (shapes : Shapes)
             → Parts (else_parts otherwise) (place_of w environment answer currents edge) shapes
             → Here w shapes → IsSeenFrom spots w environment currents
+            → IsBoundedAt (place_of w environment answer currents edge)
             → IsShownElse Text (reach_of (place_of w environment answer currents edge)) otherwise
             → IsGivenElse own_setup.known otherwise
             → SuitsElse IsUnder Leaf otherwise w (place_of w environment answer currents edge)
-        else_suits NoElse spots w environment answer currents edge shapes parts known seen text given =
-            tt
-        else_suits (Else body) spots w environment answer currents edge shapes parts known seen text
-            given =
-            all_suit body spots w environment answer currents edge shapes parts known seen text given
+        else_suits NoElse spots w environment answer currents edge shapes parts known seen bounded text
+            given = tt
+        else_suits (Else body) spots w environment answer currents edge shapes parts known seen bounded
+            text given =
+            all_suit body spots w environment answer currents edge shapes parts known seen bounded text
+            given

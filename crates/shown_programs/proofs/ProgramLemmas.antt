@@ -1,25 +1,22 @@
 -- The flat program of a program shows what the program means.
-use Rattle.std.proofs.Common.{◌≡◌, ℕ, zero, suc, ◌+◌, false, ℤ, pos, List, [], ◌∷◌, ◌++◌}
-use Rattle.std.proofs.Common.{map, length, Option, Some, None, refl, sym, ap, ◌∙◌, subst, arith}
+use Rattle.std.proofs.Common.{ℕ, zero, suc, false, ℤ, List, []}
+use Rattle.std.proofs.Common.{length, Option, Some, None, refl, sym, ap, ◌∙◌, subst, arith}
 use Rattle.std.proofs.lemmas.List.{length-map}
 use Rattle.std.specs.Prelude.{slice_get}
-use Rattle.zpl_nums.specs.Integer.{IsInteger}
 use Rattle.zpl_arrays.specs.Array.{Array}
-use Rattle.zpl_tree.specs.Syntax.{Stmt, Param, Program}
+use Rattle.zpl_tree.specs.Syntax.{Param, Program}
 use Rattle.zpl_tree.specs.Grammar.{IsProgram}
 use Rattle.zpl_names.specs.Declared.{Routine, IsProcedureOf, head_scope, signature_of, formals_of, scope_of, routines_of}
 use Rattle.zpl_names.specs.Reached.{longest_chain}
 use Rattle.zpl_names.specs.Accepted.{IsFaultless}
 use Rattle.zpl_names.specs.Shapes.{no_shapes}
 use Rattle.zpl_names.proofs.ListLemmas.{Among}
-use Rattle.zpl_binding.specs.Outcome.{value_or}
-use Rattle.zpl_binding.specs.Outcome as bound
 use Rattle.zpl_binding.specs.Settings.{Setting}
 use Rattle.zpl_binding.specs.Declarations.{known_of}
 use Rattle.zpl_binding.specs.Regions.{Known}
 use Rattle.zpl_binding.specs.Storages.{borders_of}
 use Rattle.zpl_meaning.specs.Store.{Store}
-use Rattle.zpl_meaning.specs.Context.{Setup, Place}
+use Rattle.zpl_meaning.specs.Context.{Setup}
 use Rattle.zpl_meaning.specs.Variables.{Frame, empty_frame}
 use Rattle.zpl_meaning.specs.Program.{run_routine, call_at, entry_call, first_frame, outcome_of}
 use Rattle.zpl_meaning.specs.Visited.{Begins}
@@ -33,7 +30,7 @@ use Rattle.flat_form.specs.Act.{flat_run}
 use Rattle.flat_form.specs.Laws.{IsInline}
 use Rattle.flat_form.specs.Whole.{Whole}
 use Rattle.zpl_lowering.specs.Where.{Where, Next, Stored, no_slots}
-use Rattle.zpl_lowering.specs.Lowered.{Lowered, behind}
+use Rattle.zpl_lowering.specs.Lowered.{behind}
 use Rattle.zpl_lowering.specs.Statement.{Calling}
 use Rattle.zpl_lowering.specs.Program as low
 use Rattle.zpl_lowering.specs.Tables.{rows_of, flat_tables}
@@ -41,20 +38,21 @@ use Rattle.lowering_runs.specs.Seen.{Spot, seen_store, numbered}
 use Rattle.lowering_runs.specs.Run.{does}
 use Rattle.lowering_runs.specs.Agrees.{Agrees}
 use Rattle.lowering_runs.specs.Shown.{Shows}
-use Rattle.lowering_runs.specs.Stands.{Rises, array_numbers, AreKnown, Stands, HasRoom, IsLike, IsHeld}
+use Rattle.lowering_runs.specs.Stands.{AreKnown, Stands, HasRoom, IsLike, IsHeld}
 use Rattle.lowering_runs.proofs.AgreeLemmas.{alike_agrees}
 use Rattle.lowering_runs.proofs.FitLemmas.{itself, keeps_all}
 use Rattle.lowering_runs.proofs.EntryLemmas.{spots_from, spots_numbered, spots_rise, spots_length, spots_names, spots_zero}
 use Rattle.lowering_runs.proofs.StartLemmas.{many_declared, globals_stored, IsBegun, shown_by}
 use Rattle.lowering_fits.specs.Declarations.{FitsProgram}
+use Rattle.lowering_fits.specs.Whole.{IsNumbered}
 use Rattle.lowering_fits.proofs.KeptLemmas.{AreGivenOf}
 use Rattle.lowering_fits.proofs.GlobalsLemmas.{globals_fit}
 use Rattle.lowering_fits.proofs.ProgramFitLemmas.{AllBoxes, decls_boxed, boxes_kept}
 use Rattle.lowering_fits.proofs.MadeWholeLemmas.{entry_is_bare}
 use Rattle.shown_programs.specs.Text.{IsRoutine, IsShownCall, IsShownProgram, IsLeafForm}
 use Rattle.shown_programs.proofs.FrameLemmas.{apart_in}
-use Rattle.shown_programs.proofs.CallLemmas.{IsKnownAt, IsEntered}
-use Rattle.shown_programs.proofs.RoutineLemmas.{AreAccepted, AreLeaves, routine_agrees, calls_go}
+use Rattle.shown_programs.proofs.CallLemmas.{IsKnownAt}
+use Rattle.shown_programs.proofs.RoutineLemmas.{AreAccepted, body_goes, routine_agrees, calls_go}
 use Rattle.shown_programs.proofs.LeafLemmas.{Leaf, leaves_go}
 use Rattle.shown_programs.proofs.StartLemmas.{IsGlobal, first_global, arrays_length, arrays_rise, arrays_stored, arrays_seen, start_array}
 
@@ -62,7 +60,8 @@ module _ (program : Program) (settings : List Setting) (laws : Laws program)
     (grammar : IsProgram program) (clean : IsFaultless program)
     (accepted : AreAccepted program settings laws grammar clean)
     (declared : FitsProgram program settings) (shown : IsShownProgram program settings)
-    (inline : Every IsInline (rows_of (low.lowered_program program settings))) where
+    (inline : Every IsInline (rows_of (low.lowered_program program settings)))
+    (laid : IsNumbered (low.first_next program) (low.lowered_program program settings)) where
   abbrev known : Known
   known = known_of program settings
 
@@ -126,11 +125,11 @@ module _ (program : Program) (settings : List Setting) (laws : Laws program)
         stored = arrays_rise 0 frame.store.arrays next.arrays (omega (arith, count));
       }
 
-  held : (now : Whole) → IsBegun program settings inline now
+  held : (now : Whole) → IsBegun program settings inline laid now
       → IsHeld tables known arrays no_slots now.slots
   held now begun =
       let stored = arrays_stored tables 0 frame.store.arrays boxes
-      (globals_stored program settings inline) in
+      (globals_stored program settings inline laid) in
       record {
         stored = stored;
         apart = apart_in tables 0 arrays (length frame.store.arrays) (omega arith)
@@ -141,7 +140,7 @@ module _ (program : Program) (settings : List Setting) (laws : Laws program)
         declared = begun.declared;
       }
 
-  like : (routine : Routine) (now : Whole) → IsBegun program settings inline now
+  like : (routine : Routine) (now : Whole) → IsBegun program settings inline laid now
       → IsLike tables spots (outside routine) next now frame.store now
   like routine now begun = record {
     seen =
@@ -149,7 +148,7 @@ module _ (program : Program) (settings : List Setting) (laws : Laws program)
         (spots_zero 0 frame.store.scalars now begun.zeros global.zeros)
         ∙ ap (λ (xs : List Array). record (seen_store spots arrays now) { arrays = xs })
         (arrays_seen tables now begun.stores 0 frame.store.arrays boxes global.blank
-        (globals_stored program settings inline));
+        (globals_stored program settings inline laid));
     sound = begun.sound;
     kept = keeps_all (numbered spots) next now;
     held = held now begun;
@@ -179,15 +178,15 @@ module _ (program : Program) (settings : List Setting) (laws : Laws program)
   Ended now store whole =
       (routine : Routine) × IsLike tables spots (outside routine) next now store whole
 
-  entry_agrees : (n depth : ℕ) → IsShownCall IsLeafForm program depth program.name.text
-      → (now : Whole) → IsBegun program settings inline now
+  entry_agrees : (n depth : ℕ) → IsShownCall IsLeafForm program depth false program.name.text
+      → (now : Whole) → IsBegun program settings inline laid now
       → HasRoom tables next (low.entry_code setup depth calling next)
       → Agrees (Ended now) n 0 (call_at setup n depth (entry_call program) frame.store)
       (does tables n (low.entry_code setup depth calling next).code now)
   entry_agrees n zero h now begun room = absurd h
   entry_agrees n (suc depth) h now begun room =
-      let it : IsRoutine IsLeafForm program (IsShownCall IsLeafForm program depth) program.name.text =
-      h in
+      let it : IsRoutine IsLeafForm program (IsShownCall IsLeafForm program depth) false
+      program.name.text = h in
       let routine = it.routine in
       let w = outside routine in
       let among = found_routine program settings laws grammar clean program.name.text routine it.named
@@ -219,15 +218,26 @@ module _ (program : Program) (settings : List Setting) (laws : Laws program)
       (IsShownCall IsLeafForm program depth)
       (calls_go program settings laws grammar clean tables n accepted
       (Leaf program settings laws grammar clean) IsLeafForm leaves depth)
-      routine among it.shown false spots w next now program.name.text [] 0 no_shapes
+      routine among false spots w next now program.name.text [] 0 0 0 no_shapes
       (known_there routine among) (signature_of sound.earlier routine.procedure) of givens
-      (stands routine) now begun.sound.filled.slots (λ k lt. refl) begins.held next (itself next)
-      (omega arith) (λ k le. begun.zeros k)
+      (stands routine) now begun.sound.filled.slots (λ k lt. refl) begins.held
+      (IsLike tables spots w next now)
+      (body_goes program settings laws grammar clean tables n accepted
+      (Leaf program settings laws grammar clean) IsLeafForm leaves depth
+      (IsShownCall IsLeafForm program depth)
+      (calls_go program settings laws grammar clean tables n accepted
+      (Leaf program settings laws grammar clean) IsLeafForm leaves depth)
+      routine among false spots w next now program.name.text [] 0 0 0 no_shapes
+      (known_there routine among) (signature_of sound.earlier routine.procedure) of givens
+      (stands routine) now begun.sound.filled.slots (λ k lt. refl) begins.held it.shown)
+      next (itself next)
+      (omega arith) tt (λ k le. begun.zeros k)
       (λ k row le e kept. ap (λ (xs : List Array). slice_get xs k) begun.stores
       ∙ start_array tables k row e kept) room frame.store begins
       (record {
         here = entry_at program settings laws grammar clean routine frame.store it.named;
         visited = Begins routine frame.store it.named;
+        bounded = record { currents = record { one = tt; two = tt; three = tt }; edge = tt };
       }))) room
 
   -- ---- the whole run
@@ -235,5 +245,5 @@ module _ (program : Program) (settings : List Setting) (laws : Laws program)
   pub program_shows : (n : ℕ)
       → Shows (λ a. flat_run tables a n) n (outcome_of program settings n)
   program_shows n =
-      shown_by program settings inline n Ended (λ now begun room.
+      shown_by program settings inline laid n Ended (λ now begun room.
       entry_agrees n longest_chain shown.entry now begun room)

@@ -1,47 +1,51 @@
 -- The code of a procedure goes as a call of it does, down any chain of calls, where forms that have no
 -- statements in them do.
-use Rattle.std.proofs.Common.{◌≡◌, ℕ, zero, suc, ◌+◌, ◌≤◌, ◌<◌, Bool, true, pos, List, [], ◌∷◌, ◌++◌}
+use Rattle.std.proofs.Common.{◌≡◌, ℕ, zero, suc, ◌+◌, ◌≤◌, ◌<◌, Bool, true, false, pos, List, [], ◌∷◌, ◌++◌}
 use Rattle.std.proofs.Common.{length, map, Option, Some, None, refl, sym, ap, ◌∙◌, subst, arith}
-use Rattle.std.proofs.Common.{append-nil, length-append}
-use Rattle.std.specs.Prelude.{slice_get, IsSome, flat_map, Contains}
+use Rattle.std.proofs.Common.{append-nil, append_assoc, length-append}
+use Rattle.std.specs.Prelude.{IsSome, flat_map}
 use Rattle.std.specs.Option.{option_map}
-use Rattle.zpl_region.specs.declared.regions.Region.{Region}
 use Rattle.zpl_tree.specs.Syntax.{Name, Prefix, Bracket, NoBracket, Bracketed, Stmt, Form, Param, VarDef, Program}
 use Rattle.zpl_tree.specs.Grammar.{IsProgram}
-use Rattle.zpl_names.specs.Kinds.{Signature, Formal}
+use Rattle.zpl_names.specs.Kinds.{Signature}
 use Rattle.zpl_names.specs.Scope.{Entry}
-use Rattle.zpl_names.specs.Shapes.{Shapes, unknown_shapes, variable_kind}
-use Rattle.zpl_names.specs.Sites.{Reach, in_body}
-use Rattle.zpl_names.specs.Declared.{Routine, IsProcedureOf, head_scope, entry_for, own_entries, routine_named, routines_of, scope_of}
+use Rattle.zpl_names.specs.Shapes.{Shapes, variable_kind}
+use Rattle.zpl_names.specs.Sites.{Reach}
+use Rattle.zpl_names.specs.Declared.{Routine, IsProcedureOf, head_scope, entry_for, own_entries, routines_of, scope_of}
 use Rattle.zpl_names.specs.Expansion.{FormalName, formal_names}
 use Rattle.zpl_names.specs.Accepted.{IsFaultless}
 use Rattle.zpl_names.proofs.ListLemmas.{Among}
 use Rattle.zpl_binding.specs.Settings.{Setting}
-use Rattle.zpl_meaning.specs.Store.{Thing, Names, Environment, Store, thing_of, cut_back}
-use Rattle.zpl_meaning.specs.Context.{Over, Currents, Edge, Setup, Place, reach_of}
+use Rattle.zpl_meaning.specs.Store.{Thing, Names, Environment, Store, cut_back, with_scalar}
+use Rattle.zpl_meaning.specs.Context.{Currents, Edge, Setup, Place, reach_of}
 use Rattle.zpl_meaning.specs.Outcome.{Outcome}
-use Rattle.zpl_meaning.specs.Variables.{Frame, with_variables}
-use Rattle.zpl_meaning.specs.Calls.{Called, Handed, entered, place_in, with_formals}
+use Rattle.zpl_meaning.specs.Variables.{Frame, with_new_scalar, with_variables}
+use Rattle.zpl_meaning.specs.Calls.{Called, Handed, entered, place_in}
 use Rattle.zpl_meaning.specs.Program.{returned, run_routine, call_at}
 use Rattle.zpl_meaning.specs.Proper.{IsProperStmt}
 use Rattle.zpl_meaning.specs.Statement as mean
 use Rattle.zpl_meaning.specs.Visited.{IsVisited}
 use Rattle.zpl_meaning.proofs.VisitLemmas.{Laws}
 use Rattle.meaning_ranks.specs.Ranked.{IsRankedStmt}
-use Rattle.meaning_ranks.proofs.PlaceLemmas.{IsAt, found_routine}
+use Rattle.meaning_ranks.proofs.PlaceLemmas.{found_routine}
 use Rattle.node_form.specs.declared.tables.Tables.{Tables}
 use Rattle.flat_form.specs.Whole.{Whole}
-use Rattle.zpl_lowering.specs.Where.{Where, Next, Stored, Numbers, SlotCurrents, Slotted}
-use Rattle.zpl_lowering.specs.Lowered.{Lowered}
+use Rattle.zpl_lowering.specs.Where.{Where, Next, Stored, Slotted}
+use Rattle.zpl_lowering.specs.Lowered.{Lowered, behind}
 use Rattle.zpl_lowering.specs.Statement.{Given, Valued, Copied, Referring, Calling, lowered}
 use Rattle.zpl_lowering.specs.Program as low
 use Rattle.zpl_lowering.specs.Program.{Framed, Entry as CallEntry}
-use Rattle.lowering_runs.specs.Seen.{Spot, Sight, seen_place, seen_store, seen_names, seen_thing, seen_over, seen_currents, numbered, slot_in}
+use Rattle.lowering_runs.specs.Seen.{Spot, Answer, Sight, seen_place, seen_store, seen_names, seen_thing, seen_over, seen_currents, numbered, slot_in}
 use Rattle.lowering_runs.specs.Run.{does}
 use Rattle.lowering_runs.specs.Agrees.{Agrees}
 use Rattle.lowering_runs.specs.Stands.{Misses, IsBefore, array_numbers, AreKnown, AreDeclared, Stands, HasRoom, IsSound, Keeps, IsLike, IsHeld}
-use Rattle.lowering_runs.specs.Frames.{seen_frame, seen_given, AreGiven}
-use Rattle.lowering_runs.specs.Goes.{World, Goes}
+use Rattle.lowering_runs.specs.Frames.{seen_frame}
+use Rattle.call_runs.specs.Copied.{copy_at}
+use Rattle.call_runs.specs.Answered.{CallsAnswer, HasAnswered, HasReturned}
+use Rattle.call_runs.specs.Taken.{AllGiven, CallsGo}
+use Rattle.call_runs.proofs.AnswerLemmas.{returned_store}
+use Rattle.call_runs.proofs.EndLemmas.{body_returns}
+use Rattle.lowering_runs.specs.Goes.{World}
 use Rattle.lowering_runs.specs.Called.{calling_at, called_at, world_at}
 use Rattle.lowering_runs.proofs.AgreeLemmas.{stored_agrees}
 use Rattle.lowering_runs.proofs.FitLemmas.{all_taken_on, currents_kept, keeps_all, held_on}
@@ -52,7 +56,7 @@ use Rattle.lowering_runs.proofs.ValueLemmas.{thing_seen}
 use Rattle.prefix_runs.specs.Under.{IsUnder}
 use Rattle.prefix_runs.proofs.PlainLemmas.{suited_agrees}
 use Rattle.lowering_runs.specs.Suits.{SuitsStmt}
-use Rattle.served_places.specs.Told.{IsSeenFrom, IsTold, place_of}
+use Rattle.served_places.specs.Told.{IsSeenFrom, place_of}
 use Rattle.served_places.specs.Given.{KnowsGiven}
 use Rattle.array_runs.specs.Reads.{IsShift}
 use Rattle.zpl_names.specs.Ranks.{dir_rank}
@@ -61,15 +65,17 @@ use Rattle.zpl_meaning.specs.Regions.{vector_in}
 use Rattle.lowering_fits.specs.Storages.{IsStorage, AllKept}
 use Rattle.lowering_fits.specs.Declarations.{FitAllDeclared}
 use Rattle.lowering_fits.specs.Whole.{FitsVars, AllVars, given_frames, local_frame, name_frames, local_frames}
-use Rattle.lowering_fits.proofs.KeptLemmas.{Grows, grows_none, HasKept, AreKept, AreGivenOf, Nothing, formals_kept, locals_kept}
+use Rattle.lowering_fits.proofs.KeptLemmas.{grows_none, HasKept, AreGivenOf, Nothing, formals_kept, locals_kept}
 use Rattle.lowering_fits.proofs.ReachLemmas.{names_fit, scalars_few}
 use Rattle.lowering_fits.proofs.CallsFitLemmas.{globals_grow}
 use Rattle.lowering_fits.proofs.ProgramFitLemmas.{vars_fit}
-use Rattle.shown_programs.specs.Text.{IsShownStmt, IsRoutine, IsShownCall}
-use Rattle.shown_programs.proofs.FrameLemmas.{Framing, apart_in, arrays_more, cut_seen, longer_spots, givens_framed}
+use Rattle.shown_programs.specs.Text.{IsShownRoutine, IsRoutine, IsShownCall}
+use Rattle.shown_programs.proofs.AnswerLemmas.{with_answer, answer_given, answer_like, answer_numbered, answer_stands, answer_store, answering_suits, plain_like}
+use Rattle.shown_programs.proofs.FrameLemmas.{Framing, apart_in, arrays_more, cut_seen, longer_spots}
+use Rattle.shown_programs.proofs.GivenLemmas.{MayTake, givens_go}
 use Rattle.shown_programs.proofs.LocalLemmas.{AreFresh, AreFreshArrays, GoesOn, locals_go}
-use Rattle.shown_programs.proofs.KnownLemmas.{arrays_told, mask_grown}
-use Rattle.shown_programs.proofs.CallLemmas.{setup, IsKnownAt, IsEntered, IsCalledFrom, CallsGo}
+use Rattle.shown_programs.proofs.KnownLemmas.{arrays_told, kept_at, mask_grown}
+use Rattle.shown_programs.proofs.CallLemmas.{setup, AreCalls, IsCalledBy, IsEntered, IsKnownAt}
 use Rattle.shown_programs.proofs.PlaceLemmas.{IsPlaced, IsGivenStmt, stmt_suits}
 
 -- ---- storages that are kept
@@ -101,22 +107,26 @@ module _ (own : Setup) (entry : CallEntry) where
       vars_kept vars one.frame one.next fits.1
       (names_kept var.shape var.names frame next fits.0 are)
 
--- what parameters take, where no array is copied, adds no array
+-- what parameters take: copies have the storages of what they are made of
 given_kept : (line : ℕ) (formals : List FormalName) (givens : List Given) (frame : Framed)
-    (next : Next) (scalars arrays from to : ℕ) → AreGiven scalars arrays from givens to
-    → AllKept frame.numbers.arrays
+    (next : Next) (scalars : ℕ) (arrays : List Stored) (from to : ℕ)
+    → AllGiven scalars arrays from givens to → AllKept arrays → AllKept frame.numbers.arrays
     → AllKept (given_frames line formals givens frame next).frame.numbers.arrays
-given_kept line [] givens frame next scalars arrays from to g are = are
-given_kept line (formal ∷ formals) [] frame next scalars arrays from to g are = are
-given_kept line (formal ∷ formals) (Valued k ∷ givens) frame next scalars arrays from to g are =
+given_kept line [] givens frame next scalars arrays from to g all are = are
+given_kept line (formal ∷ formals) [] frame next scalars arrays from to g all are = are
+given_kept line (formal ∷ formals) (Valued k ∷ givens) frame next scalars arrays from to g all are =
     given_kept line formals givens (low.with_scalar frame formal.name k) next scalars arrays (suc k) to
-    g.1 are
-given_kept line (formal ∷ formals) (Referring thing ∷ givens) frame next scalars arrays from to g are =
+    g.1 all are
+given_kept line (formal ∷ formals) (Referring thing ∷ givens) frame next scalars arrays from to g all
+    are =
     given_kept line formals givens
     (record frame { names = frame.names ++ (formal.name.text, thing) ∷ [] }) next scalars arrays from to
-    g.1 are
+    g.1 all are
 given_kept line (formal ∷ formals) (Copied stored home ∷ givens) frame next scalars arrays from to g
-    are = absurd g
+    all are =
+    given_kept line formals givens (low.with_array frame formal.name home (copy_at next stored))
+    (behind next (low.made_copy line next stored)) scalars arrays from to g.1 all
+    (kept_append frame.numbers.arrays _ are (kept_at arrays g.0.0 stored all g.0.1))
 
 -- ---- what is seen where a body begins
 
@@ -156,33 +166,31 @@ module _ (program : Program) (settings : List Setting) (laws : Laws program)
   -- Forms that have no statements in them: what is asked of them by the text, what is asked of them
   -- where they are run, and that their code goes as they do, where what is called does.
   pub record AreLeaves (tables : Tables) (n : ℕ)
-      (Leaf : (List ℕ → Type 0) → ℕ → Form → Where → Place → Type 0)
-      (Text : (List ℕ → Type 0) → Reach → Form → Type 0) : Type 1 where
-    pub suits : (IsCallable : List ℕ → Type 0) (at : ℕ) (prefixes : List Prefix) (form : Form)
+      (Leaf : (Bool → List ℕ → Type 0) → ℕ → Form → Where → Place → Type 0)
+      (Text : (Bool → List ℕ → Type 0) → Reach → Form → Type 0) : Type 1 where
+    pub suits : (IsCallable : Bool → List ℕ → Type 0) (at : ℕ) (prefixes : List Prefix) (form : Form)
         (spots : List Spot) (w : Where) (environment : Environment) (answer : ℕ)
         (currents : Currents) (edge : Option Edge) (shapes : Shapes)
         → IsPlaced program settings laws grammar clean at prefixes form spots w environment answer
         currents edge shapes
         → Text IsCallable (reach_of (place_of w environment answer currents edge)) form
         → Leaf IsCallable at form w (place_of w environment answer currents edge)
-    pub go : (depth : ℕ) (IsCallable : List ℕ → Type 0)
-        → CallsGo program settings laws grammar clean (world_at tables n own depth) IsCallable
+    pub go : (depth : ℕ) (IsCallable : Bool → List ℕ → Type 0)
+        → AreCalls program settings laws grammar clean IsCallable (world_at tables n own depth)
         → (at : ℕ) (form : Form) → FormGoes (world_at tables n own depth) (Leaf IsCallable) at form
 
   module _ (tables : Tables) (n : ℕ) (accepted : AreAccepted)
-      (Leaf : (List ℕ → Type 0) → ℕ → Form → Where → Place → Type 0)
-      (Text : (List ℕ → Type 0) → Reach → Form → Type 0) (leaves : AreLeaves tables n Leaf Text)
+      (Leaf : (Bool → List ℕ → Type 0) → ℕ → Form → Where → Place → Type 0)
+      (Text : (Bool → List ℕ → Type 0) → Reach → Form → Type 0) (leaves : AreLeaves tables n Leaf Text)
     where
       abbrev world : ℕ → World
       world depth = world_at tables n own depth
 
-      module _ (depth : ℕ) (IsCallable : List ℕ → Type 0)
-          (calls : CallsGo program settings laws grammar clean (world depth) IsCallable)
+      module _ (depth : ℕ) (IsCallable : Bool → List ℕ → Type 0)
+          (calls : AreCalls program settings laws grammar clean IsCallable (world depth))
           (routine : Routine) (among : Among (routines_of program) routine)
-          (shown : IsShownStmt (Text IsCallable) (in_body (scope_of program routine) unknown_shapes)
-          routine.procedure.body)
           (clears : Bool) (spots : List Spot) (w : Where) (low_next : Next) (start : Whole)
-          (name : List ℕ) (givens : List Given) (line : ℕ) (shapes : Shapes)
+          (name : List ℕ) (givens : List Given) (answer target line : ℕ) (shapes : Shapes)
           (inside : IsKnownAt program settings laws grammar clean w shapes)
           (signature : Signature) (of : IsProcedureOf signature routine)
           (givens_are : AreGivenOf w.numbers signature.formals givens)
@@ -197,10 +205,10 @@ module _ (program : Program) (settings : List Setting) (laws : Laws program)
         arrays = w.numbers.arrays
 
         abbrev calling : Calling
-        calling = calling_at w name givens 0 line
+        calling = calling_at w name givens target line
 
         abbrev called : Called
-        called = called_at spots w start now name givens 0
+        called = called_at spots w start now name givens answer
 
         abbrev entry : CallEntry
         entry = record { clears = clears; line = line }
@@ -258,11 +266,47 @@ module _ (program : Program) (settings : List Setting) (laws : Laws program)
               given = accepted.given routine among;
             }
 
-        body_goes : GoesOn tables n own entry spots low_next arrays start Like 0 IsFramed IsReached run
-            rest
-        body_goes framed here next mid f framed_is before sound kept fresh clear room reached =
-            let inner = low.where_in own routine calling framed in
-            let sight : Sight = record { spots = here; answer = 0 } in
+        abbrev Entered : (Store → Whole → Type 0) → Type 0
+        Entered IsAlike =
+            GoesOn tables n own entry spots low_next arrays start IsAlike 0 IsFramed IsReached run rest
+
+        abbrev sight : List Spot → Sight
+        sight here = record { spots = here; answer = answer }
+
+        abbrev inner : Framed → Where
+        inner framed = low.where_in own routine calling framed
+
+        abbrev body_place : Framed → List Spot → Whole → Place
+        body_place framed here mid = seen_place (sight here) (inner framed) mid
+
+        abbrev body_run : Framed → List Spot → Whole → Outcome
+        body_run framed here mid =
+            mean.exec (record { place = body_place framed here mid; call = call_at own n depth }) n
+            routine.procedure.body (seen_store here framed.numbers.arrays mid)
+
+        -- where a body begins
+        record IsBegun (framed : Framed) (here : List Spot) (next : Next) (mid : Whole) : Type 0 where
+          there : Stands here (inner framed) next
+          entered_is : IsEntered program settings laws grammar clean shapes
+              (body_place framed here mid) routine.procedure.body
+          known : IsKnownAt program settings laws grammar clean (inner framed) shapes
+          like : IsLike tables here (inner framed) next mid
+              (seen_store here framed.numbers.arrays mid) mid
+
+        -- it goes to where something holds, and that is what the call asks for
+        body_ends : (IsAlike : Store → Whole → Type 0)
+            (IsEnd : List Spot → Framed → Next → Whole → Store → Whole → Type 0)
+            → ((framed : Framed) (here : List Spot) (next : Next) (mid : Whole)
+            → IsBegun framed here next mid → HasRoom tables next (rest framed next)
+            → Agrees (IsEnd here framed next mid) n 0 (body_run framed here mid)
+            (does tables n (rest framed next).code mid))
+            → ((framed : Framed) (here : List Spot) (next : Next) (mid : Whole)
+            → Framing tables spots low_next.scalars arrays framed here next → IsBefore low_next next
+            → Keeps (numbered spots) low_next start mid → (s : Store) (v : Whole)
+            → IsEnd here framed next mid s v → IsAlike (cut_back begun s) v)
+            → Entered IsAlike
+        body_ends IsAlike IsEnd goes ends framed here next mid f framed_is before sound kept fresh clear
+            room reached =
             let globals = own.globals in
             let xs = framed.numbers.arrays in
             let count : length xs ≡ length arrays + length f.own =
@@ -280,85 +324,51 @@ module _ (program : Program) (settings : List Setting) (laws : Laws program)
             known_more (length (numbered spots)) (length (numbered here)) (length xs) globals longer
             (arrays_more (length (numbered spots)) (length arrays) (length xs) globals
             (omega (arith, count)) known) in
-            let place_is : seen_place sight inner mid
+            let place_is : body_place framed here mid
             ≡ place_in own routine called (seen_frame here framed mid) =
-            ap (λ (ns : Names). record (seen_place sight inner mid) { environment = record { names = ns } })
+            ap (λ (ns : Names). record (body_place framed here mid) {
+              environment = record { names = ns };
+            })
             (map_append (λ (e : List ℕ × Thing). (e.0, seen_thing here e.1)) framed.names globals
             ∙ ap (λ (gs : Names). seen_names here framed.names ++ gs) still)
             ∙ ap (λ (c : Currents). record (place_in own routine called (seen_frame here framed mid)) {
               currents = c;
             })
             (currents_kept start mid low_next.slots kept.slots w.currents stands.taken) in
-            let entered_is : IsEntered program settings laws grammar clean shapes
-            (seen_place sight inner mid) routine.procedure.body =
-            subst (λ (p : Place). IsEntered program settings laws grammar clean shapes p
-            routine.procedure.body) (sym place_is) reached in
-            let agrees : Agrees (IsLike tables here inner next mid) n 0
-            (mean.exec (record { place = seen_place sight inner mid; call = call_at own n depth }) n
-            routine.procedure.body (seen_store here xs mid))
-            (does tables n (rest framed next).code mid) =
-            suited_agrees (world depth) (Leaf IsCallable) (leaves.go depth IsCallable calls)
-            routine.procedure.body sight inner next mid
-            (record {
-              numbers = f.frame.numbers;
-              rises = f.frame.rises;
-              known = known_both (length (numbered here)) (length xs) framed.names globals f.frame.known
-                  more_known;
-              globals = more_known;
-              unmoved = still;
-              taken = all_taken_on w.currents low_next.slots next.slots before.slots stands.taken;
-              edge = tt;
-              declared = omega (
-                arith,
-                before.slots,
-                subst (λ (s : Setup). length s.known.regions ≤ low_next.slots) inside.owned
-                    stands.declared,
-              );
-              stored = f.apart;
-            })
-            (stmt_suits program settings laws grammar clean accepted.proper accepted.ranked
-            (Leaf IsCallable) (Text IsCallable) (leaves.suits IsCallable) routine.procedure.body here
-            inner (seen_place sight inner mid).environment 0 (seen_currents mid inner.currents) None
-            shapes entered_is.here entered_is.visited (known_inside framed next framed_is)
-            (begins_seen here inner mid 0) shown (accepted.posts routine among))
-            room (seen_store here xs mid) mid
-            (record {
-              seen = refl;
-              sound = sound;
-              kept = keeps_all (numbered here) next mid;
-              held = held_inside framed here next mid f sound kept;
-            }) in
-            subst (λ (p : Place). Agrees Like n 0
+            let at : IsBegun framed here next mid = record {
+              there = record {
+                numbers = f.frame.numbers;
+                rises = f.frame.rises;
+                known = known_both (length (numbered here)) (length xs) framed.names globals
+                    f.frame.known more_known;
+                globals = more_known;
+                unmoved = still;
+                taken = all_taken_on w.currents low_next.slots next.slots before.slots stands.taken;
+                edge = tt;
+                declared = omega (
+                  arith,
+                  before.slots,
+                  subst (λ (s : Setup). length s.known.regions ≤ low_next.slots) inside.owned
+                      stands.declared,
+                );
+                stored = f.apart;
+              };
+              entered_is = subst (λ (p : Place). IsEntered program settings laws grammar clean shapes p
+                  routine.procedure.body) (sym place_is) reached;
+              known = known_inside framed next framed_is;
+              like = record {
+                seen = refl;
+                sound = sound;
+                kept = keeps_all (numbered here) next mid;
+                held = held_inside framed here next mid f sound kept;
+              };
+            } in
+            subst (λ (p : Place). Agrees IsAlike n 0
             (returned begun (mean.exec (record { place = p; call = call_at own n depth }) n
             routine.procedure.body (seen_store here xs mid)))
             (does tables n (rest framed next).code mid)) place_is
-            (stored_agrees (IsLike tables here inner next mid) Like n 0 _ _ (cut_back begun)
-            (λ s v l. record {
-              seen = ap (cut_back begun) l.seen
-                  ∙ ap (λ (ys : List Stored). cut_back begun (seen_store here ys v)) f.arrays_are
-                  ∙ ap (λ (ys : List Spot). cut_back begun (seen_store ys (arrays ++ f.own) v)) f.frame.is
-                  ∙ cut_seen spots f.frame.more arrays f.own now v;
-              sound = l.sound;
-              kept = record {
-                hidden = λ k lt m.
-                    l.kept.hidden k (omega (arith, lt, before.scalars))
-                    (subst (λ (ys : List Spot). Misses (numbered ys) k) (sym f.frame.is)
-                    (subst (λ (ks : List ℕ). Misses ks k) (sym (numbered_append spots f.frame.more))
-                    (misses_more (numbered spots) (numbered f.frame.more) low_next.scalars k lt
-                    f.frame.above m)))
-                    ∙ kept.hidden k lt m;
-                slots = λ k lt. l.kept.slots k (omega (arith, lt, before.slots)) ∙ kept.slots k lt;
-              };
-              held = record {
-                stored = held.stored;
-                apart = held.apart;
-                one = l.held.one;
-                two = l.held.two;
-                three = l.held.three;
-                declared = subst (λ (s : Setup). AreDeclared 0 s.known.regions v.slots)
-                    (sym inside.owned) l.held.declared;
-              };
-            }) agrees)
+            (stored_agrees (IsEnd here framed next mid) IsAlike n 0 _ _ (cut_back begun)
+            (ends framed here next mid f before kept) (goes framed here next mid at room))
           where
             held_inside : (framed : Framed) (here : List Spot) (next : Next) (mid : Whole)
                 → Framing tables spots low_next.scalars arrays framed here next → IsSound tables mid
@@ -379,18 +389,115 @@ module _ (program : Program) (settings : List Setting) (laws : Laws program)
                       h.declared;
                 }
 
-        pub routine_agrees : (next : Next) → IsBefore low_next next
-            → AreGiven (length (numbered spots)) (length arrays) low_next.scalars givens next.scalars
-            → AreFresh clears next.scalars now → AreFreshArrays tables clears next.arrays now
+        -- what is alike in the body is alike at the call, without the body's own variables
+        like_outside : (framed : Framed) (here : List Spot) (next : Next) (mid : Whole)
+            → Framing tables spots low_next.scalars arrays framed here next → IsBefore low_next next
+            → Keeps (numbered spots) low_next start mid → (s : Store) (v : Whole)
+            → IsLike tables here (inner framed) next mid s v → Like (cut_back begun s) v
+        like_outside framed here next mid f before kept s v l = record {
+          seen = ap (cut_back begun) l.seen
+              ∙ ap (λ (ys : List Stored). cut_back begun (seen_store here ys v)) f.arrays_are
+              ∙ ap (λ (ys : List Spot). cut_back begun (seen_store ys (arrays ++ f.own) v)) f.frame.is
+              ∙ cut_seen spots f.frame.more arrays f.own now v;
+          sound = l.sound;
+          kept = record {
+            hidden = λ k lt m.
+                l.kept.hidden k (omega (arith, lt, before.scalars))
+                (subst (λ (ys : List Spot). Misses (numbered ys) k) (sym f.frame.is)
+                (subst (λ (ks : List ℕ). Misses ks k) (sym (numbered_append spots f.frame.more))
+                (misses_more (numbered spots) (numbered f.frame.more) low_next.scalars k lt
+                f.frame.above m)))
+                ∙ kept.hidden k lt m;
+            slots = λ k lt. l.kept.slots k (omega (arith, lt, before.slots)) ∙ kept.slots k lt;
+          };
+          held = record {
+            stored = held.stored;
+            apart = held.apart;
+            one = l.held.one;
+            two = l.held.two;
+            three = l.held.three;
+            declared = subst (λ (s : Setup). AreDeclared 0 s.known.regions v.slots)
+                (sym inside.owned) l.held.declared;
+          };
+        }
+
+        -- a body of statements
+        pub body_goes : IsShownRoutine Text program IsCallable false routine → Entered Like
+        body_goes shown =
+            body_ends Like (λ here framed next mid. IsLike tables here (inner framed) next mid)
+            (λ framed here next mid at room.
+            suited_agrees (world depth) (Leaf IsCallable) (leaves.go depth IsCallable calls)
+            routine.procedure.body (sight here) (inner framed) next mid at.there
+            (stmt_suits program settings laws grammar clean accepted.proper accepted.ranked
+            (Leaf IsCallable) (Text IsCallable) (leaves.suits IsCallable) routine.procedure.body here
+            (inner framed) (body_place framed here mid).environment answer
+            (seen_currents mid w.currents) None shapes at.entered_is.here at.entered_is.visited at.known
+            (begins_seen here (inner framed) mid answer) at.entered_is.bounded shown
+            (accepted.posts routine among))
+            room (seen_store here framed.numbers.arrays mid) mid at.like) like_outside
+
+        -- a body that ends in a `return`, where a new scalar takes the answer
+        pub body_answers : IsShownRoutine Text program IsCallable true routine → (base : List Spot)
+            → spots ≡ with_answer base (pos 0) → answer ≡ length base
+            → Entered (HasAnswered tables base w low_next start target)
+        body_answers shown base spots_are place_is =
+            body_ends (HasAnswered tables base w low_next start target)
+            (λ here framed next mid. HasReturned tables (sight here) (inner framed) next mid)
+            (λ framed here next mid at room.
+            body_returns (world depth)
+            (λ stmt w place. SuitsStmt IsUnder (Leaf IsCallable) stmt w place)
+            (suited_agrees (world depth) (Leaf IsCallable) (leaves.go depth IsCallable calls))
+            routine.procedure.body (sight here) (inner framed) next mid at.there
+            (answering_suits program settings laws grammar clean accepted.proper accepted.ranked
+            (Leaf IsCallable) (Text IsCallable) (leaves.suits IsCallable) routine.procedure.body here
+            (inner framed) (body_place framed here mid).environment answer
+            (seen_currents mid w.currents) None shapes at.entered_is.here at.entered_is.visited at.known
+            (begins_seen here (inner framed) mid answer) at.entered_is.bounded shown
+            (accepted.posts routine among))
+            room (seen_store here framed.numbers.arrays mid) mid at.like)
+            (λ framed here next mid f before kept s v h. record {
+              before = seen_store base arrays h.mid;
+              mid = h.mid;
+              value = h.value;
+              integer = h.integer;
+              like = plain_like base (pos 0) tables w low_next start (cut_back begun h.before) h.mid
+                  (subst (λ (ys : List Spot). IsLike tables ys w low_next start (cut_back begun h.before)
+                  h.mid) spots_are
+                  (like_outside framed here next mid f before kept h.before h.mid h.like));
+              store_is = ap (cut_back begun) h.store_is
+                  ∙ ap (λ (x : Store). cut_back begun (with_scalar x answer h.value)) h.like.seen
+                  ∙ ap (λ (ys : List Stored). cut_back begun
+                  (with_scalar (seen_store here ys h.mid) answer h.value)) f.arrays_are
+                  ∙ ap (λ (ys : List Spot). cut_back begun
+                  (with_scalar (seen_store ys (arrays ++ f.own) h.mid) answer h.value))
+                  (f.frame.is ∙ ap (λ (ys : List Spot). ys ++ f.frame.more) spots_are
+                  ∙ append_assoc base (Answer (pos 0) ∷ []) f.frame.more)
+                  ∙ ap (λ (k : ℕ). cut_back begun (with_scalar
+                  (seen_store (base ++ Answer (pos 0) ∷ f.frame.more) (arrays ++ f.own) h.mid) k
+                  h.value)) place_is
+                  ∙ ap (λ (x : Store). cut_back x (with_scalar
+                  (seen_store (base ++ Answer (pos 0) ∷ f.frame.more) (arrays ++ f.own) h.mid)
+                  (length base) h.value))
+                  (ap (λ (ys : List Spot). seen_store ys arrays now) spots_are
+                  ∙ sym (answer_store base (pos 0) arrays now))
+                  ∙ returned_store now h.mid base f.frame.more arrays f.own h.value;
+              whole_is = h.whole_is;
+            })
+
+        pub routine_agrees : (IsAlike : Store → Whole → Type 0) → Entered IsAlike → (next : Next)
+            → IsBefore low_next next
+            → AllGiven (length (numbered spots)) arrays low_next.scalars givens next.scalars
+            → MayTake clears givens → AreFresh clears next.scalars now
+            → AreFreshArrays tables clears next.arrays now
             → HasRoom tables next
             (low.routine_code own clears (low.call_code own depth) (Some routine) calling next)
             → (store : Store) → Like store now
             → IsReached (entered own routine called.actuals store)
-            → Agrees Like n 0
+            → Agrees IsAlike n 0
             (run_routine own n (call_at own n depth) (Some routine) called store)
             (does tables n
             (low.routine_code own clears (low.call_code own depth) (Some routine) calling next).code now)
-        routine_agrees next before given fresh clear room store like reached =
+        routine_agrees IsAlike body next before given may fresh clear room store like reached =
             let params = routine.procedure.params in
             let formals = formal_names params in
             let locals = routine.procedure.locals in
@@ -401,8 +508,38 @@ module _ (program : Program) (settings : List Setting) (laws : Laws program)
             let scope = head_scope of.earlier routine.procedure in
             let first = given_frames line formals givens empty inner in
             let fits = vars_fit own scope locals (accepted.declared routine among of.earlier of.own) in
-            let g = givens_framed tables spots low_next.scalars arrays formals givens empty spots line
-            inner now low_next.scalars inner (omega arith) given
+            let has : HasKept w.numbers routine.own
+            (local_frames own entry locals first.frame first.next).frame =
+            subst (λ (xs : List Entry). HasKept w.numbers xs
+            (local_frames own entry locals first.frame first.next).frame) (sym of.own)
+            (locals_kept w.numbers own entry scope locals
+            (accepted.declared routine among of.earlier of.own) first.frame first.next
+            (flat_map (λ (param : Param). map
+            (entry_for (variable_kind scope param.shape param.base)) param.names) params)
+            (formals_kept w.numbers line params scope empty inner [] givens
+            (subst (λ (s : Signature). AreGivenOf w.numbers s.formals givens) of.signed givens_are)
+            (record { grows = grows_none w.numbers; kept = Nothing }))) in
+            let framed_is : IsFramed (local_frames own entry locals first.frame first.next).frame
+            (local_frames own entry locals first.frame first.next).next =
+            record {
+              has = has;
+              kept = vars_kept own entry locals first.frame first.next fits
+                  (given_kept line formals givens empty inner (length (numbered spots)) arrays
+                  low_next.scalars next.scalars given inside.kept inside.kept);
+            } in
+            let all = locals_go tables n own entry spots low_next arrays start IsAlike 0 locals IsFramed
+            IsReached run rest fits body in
+            subst (λ (s : Store). IsReached (entered own routine called.actuals s)
+            → Agrees IsAlike n 0 (run_routine own n (call_at own n depth) (Some routine) called s)
+            (does tables n code.code now)) (sym like.seen)
+            (givens_go tables n own entry spots low_next arrays start IsAlike 0
+            stands.stored inside.kept held.stored
+            (λ framed next. IsFramed (local_frames own entry locals framed next).frame
+            (local_frames own entry locals framed next).next)
+            (λ frame. IsReached (with_variables own.known own.borders frame locals))
+            (λ frame. run (with_variables own.known own.borders frame locals))
+            (λ framed next. low.locals_code own entry locals framed next rest) all formals givens empty
+            spots inner now low_next.scalars (omega arith) given
             (record {
               frame = record {
                 more = [];
@@ -418,73 +555,109 @@ module _ (program : Program) (settings : List Setting) (laws : Laws program)
               apart = rises_on 0 (array_numbers arrays) low_next.arrays inner.arrays before.arrays
                   stands.stored;
               stored = held.stored;
-            }) in
-            let framed_code : Next → Lowered =
-            λ next. low.locals_code own entry locals first.frame next rest in
-            let code_is : low.body_code own entry (low.call_code own depth) routine calling inner
-            ≡ framed_code inner =
-            g.code_is (λ frame after. low.locals_code own entry locals frame after rest) in
-            let has : HasKept w.numbers routine.own
-            (local_frames own entry locals first.frame inner).frame =
-            subst (λ (xs : List Entry). HasKept w.numbers xs
-            (local_frames own entry locals first.frame inner).frame) (sym of.own)
-            (locals_kept w.numbers own entry scope locals
-            (accepted.declared routine among of.earlier of.own) first.frame inner
-            (flat_map (λ (param : Param). map
-            (entry_for (variable_kind scope param.shape param.base)) param.names) params)
-            (formals_kept w.numbers line params scope empty inner [] givens
-            (subst (λ (s : Signature). AreGivenOf w.numbers s.formals givens) of.signed givens_are)
-            (record { grows = grows_none w.numbers; kept = Nothing }))) in
-            let framed_is : IsFramed (local_frames own entry locals first.frame inner).frame
-            (local_frames own entry locals first.frame inner).next =
-            record {
-              has = has;
-              kept = vars_kept own entry locals first.frame inner fits
-                  (given_kept line formals givens empty inner (length (numbered spots)) (length arrays)
-                  low_next.scalars next.scalars given inside.kept);
-            } in
-            let all = locals_go tables n own entry spots low_next arrays start Like 0 locals IsFramed
-            IsReached run rest fits body_goes in
-            subst (λ (s : Store). IsReached (entered own routine called.actuals s)
-            → Agrees Like n 0 (run_routine own n (call_at own n depth) (Some routine) called s)
-            (does tables n code.code now)) (sym like.seen)
-            (λ reached.
-            subst (λ (x : Lowered). Agrees Like n 0 (run (entered own routine called.actuals begun))
-            (does tables n x.code now)) (sym code_is)
-            (subst (λ (x : Frame). IsReached (with_variables own.known own.borders x locals)
-            → Agrees Like n 0 (run (with_variables own.known own.borders x locals))
-            (does tables n (framed_code inner).code now)) (sym g.frame_is)
-            (all first.frame g.sight inner now g.framing framed_is
+            })
+            framed_is
             (record { scalars = before.scalars; slots = before.slots; arrays = before.arrays })
-            like.sound like.kept fresh clear
-            (subst (λ (x : Lowered). HasRoom tables inner x) code_is
-            (record { scalars = room.scalars; slots = room.slots; arrays = room.arrays })))
-            reached))
+            like.sound like.kept may fresh clear
+            (record { scalars = room.scalars; slots = room.slots; arrays = room.arrays; temps = room.temps }))
             reached
 
       -- ---- down the chain of calls
 
+      abbrev MayCall : ℕ → Bool → List ℕ → Type 0
+      MayCall depth = IsShownCall Text program depth
+
+      abbrev IsCalled : ℕ → Bool → Where → List Given → Called → Type 0
+      IsCalled depth = IsCalledBy program settings laws grammar clean (MayCall depth)
+
+      -- a call goes on in its procedure
+      module _ (depth : ℕ)
+          (calls : AreCalls program settings laws grammar clean (MayCall depth) (world depth)) where
+        calls_deeper : CallsGo (IsCalled (suc depth) false) (world (suc depth))
+        calls_deeper = record {
+          by = λ spots w bottom next start name givens line stands before given room store now like
+              from.
+              let calling = calling_at w name givens 0 line in
+              let called = called_at spots w start now name givens 0 in
+              let it : IsRoutine Text program (MayCall depth) false name = from.callable in
+              let among = found_routine program settings laws grammar clean name it.routine it.named in
+              let of = from.of it.routine it.named in
+              subst (λ (r : Option Routine).
+              HasRoom tables next (low.routine_code own true (low.call_code own depth) r calling next)
+              → Agrees (IsLike tables spots w bottom start) n 0
+              (run_routine own n (call_at own n depth) r called store)
+              (does tables n (low.routine_code own true (low.call_code own depth) r calling next).code
+              now))
+              (sym it.named)
+              (λ room. routine_agrees depth (MayCall depth) calls it.routine among true spots w bottom
+              start name givens 0 0 line from.shapes from.known from.signature of from.givens_are stands
+              now like.sound.filled.slots like.kept.slots like.held
+              (IsLike tables spots w bottom start)
+              (body_goes depth (MayCall depth) calls it.routine among true spots w bottom start name
+              givens 0 0 line from.shapes from.known from.signature of from.givens_are stands now
+              like.sound.filled.slots like.kept.slots like.held it.shown)
+              next before given tt tt tt room store like
+              (from.entered it.routine store it.named)) room;
+        }
+
+        answers_deeper : CallsAnswer (IsCalled (suc depth) true) (world (suc depth))
+        answers_deeper = record {
+          by = λ base w bottom next start name givens target line stands before given room store now like
+              from.
+              let spots = with_answer base (pos 0) in
+              let answer = length base in
+              let calling = calling_at w name givens target line in
+              let called = called_at base w start now name givens answer in
+              let inside = called_at spots w start now name givens answer in
+              let it : IsRoutine Text program (MayCall depth) true name = from.callable in
+              let among = found_routine program settings laws grammar clean name it.routine it.named in
+              let of = from.of it.routine it.named in
+              let numbers = answer_numbered base (pos 0) in
+              let longer : Stands spots w bottom = answer_stands base (pos 0) w bottom stands in
+              let alike = answer_like base (pos 0) tables w bottom start store now like in
+              let begun = with_new_scalar store (pos 0) in
+              let same : inside ≡ called =
+              ap (λ (hs : List Handed). record called { actuals = hs })
+              (answer_given base (pos 0) (length (numbered base)) w.numbers.arrays bottom.scalars givens
+              next.scalars now refl given) in
+              let Ended = HasAnswered tables base w bottom start target in
+              subst (λ (c : Called). Agrees Ended n 0
+              (call_at own n (suc depth) c begun)
+              (does tables n (low.call_code own (suc depth) calling next).code now)) same
+              (subst (λ (r : Option Routine).
+              HasRoom tables next (low.routine_code own true (low.call_code own depth) r calling next)
+              → Agrees Ended n 0 (run_routine own n (call_at own n depth) r inside begun)
+              (does tables n (low.routine_code own true (low.call_code own depth) r calling next).code
+              now))
+              (sym it.named)
+              (λ room. routine_agrees depth (MayCall depth) calls it.routine among true spots w bottom
+              start name givens answer target line from.shapes from.known from.signature of
+              from.givens_are longer now like.sound.filled.slots like.kept.slots like.held Ended
+              (body_answers depth (MayCall depth) calls it.routine among true spots w bottom start name
+              givens answer target line from.shapes from.known from.signature of from.givens_are longer
+              now like.sound.filled.slots like.kept.slots like.held it.shown base refl refl)
+              next before
+              (subst (λ (ks : List ℕ). AllGiven (length ks) w.numbers.arrays bottom.scalars givens
+              next.scalars) (sym numbers) given)
+              tt tt tt room begun alike
+              (subst (λ (c : Called). IsEntered program settings laws grammar clean from.shapes
+              (place_in own it.routine c (entered own it.routine c.actuals begun))
+              it.routine.procedure.body) (sym same) (from.entered it.routine begun it.named))) room);
+        }
+
       pub calls_go : (depth : ℕ)
-          → CallsGo program settings laws grammar clean (world depth) (IsShownCall Text program depth)
+          → AreCalls program settings laws grammar clean (MayCall depth) (world depth)
       calls_go zero = record {
-        by = λ spots w bottom next start name givens line stands before given room store now like from.
-            absurd from.callable;
+        go = record {
+          by = λ spots w bottom next start name givens line stands before given room store now like
+              from.
+              absurd from.callable;
+        };
+        answer = record {
+          by = λ base w bottom next start name givens target line stands before given room store now
+              like from.
+              absurd from.callable;
+        };
       }
-      calls_go (suc depth) = record {
-        by = λ spots w bottom next start name givens line stands before given room store now like from.
-            let calling = calling_at w name givens 0 line in
-            let called = called_at spots w start now name givens 0 in
-            let it : IsRoutine Text program (IsShownCall Text program depth) name = from.callable in
-            subst (λ (r : Option Routine).
-            HasRoom tables next (low.routine_code own true (low.call_code own depth) r calling next)
-            → Agrees (IsLike tables spots w bottom start) n 0
-            (run_routine own n (call_at own n depth) r called store)
-            (does tables n (low.routine_code own true (low.call_code own depth) r calling next).code now))
-            (sym it.named)
-            (λ room. routine_agrees depth (IsShownCall Text program depth) (calls_go depth) it.routine
-            (found_routine program settings laws grammar clean name it.routine it.named) it.shown true
-            spots w bottom start name givens line from.shapes from.known from.signature
-            (from.of it.routine it.named) from.givens_are stands now like.sound.filled.slots
-            like.kept.slots like.held next before given tt tt room store like
-            (from.entered it.routine store it.named)) room;
-      }
+      calls_go (suc depth) =
+          record { go = calls_deeper depth (calls_go depth); answer = answers_deeper depth (calls_go depth) }

@@ -1,11 +1,9 @@
 -- The start of a run: global variables, arrays among them, and what is known where the entry procedure
 -- begins.
-use Rattle.std.proofs.Common.{◌≡◌, ℕ, zero, suc, ◌+◌, ◌≤◌, ◌<◌, Bool, true, false, ℤ, pos, List, [], ◌∷◌}
-use Rattle.std.proofs.Common.{◌++◌, map, length, Option, Some, None, refl, sym, ap, ◌∙◌, subst, arith}
+use Rattle.std.proofs.Common.{◌≡◌, ℕ, zero, suc, ◌+◌, ◌≤◌, Bool, true, false, ℤ, pos, List, [], ◌∷◌}
+use Rattle.std.proofs.Common.{◌++◌, map, length, Some, refl, sym, ap, ◌∙◌, arith}
 use Rattle.std.proofs.Common.{length-append}
-use Rattle.std.proofs.lemmas.List.{length-map}
 use Rattle.std.specs.Prelude.{slice_get}
-use Rattle.std.specs.Option.{option_map}
 use Rattle.zpl_nums.specs.Integer.{IsInteger}
 use Rattle.zpl_region.specs.declared.regions.Region.{Region}
 use Rattle.zpl_arrays.specs.Array.{Array}
@@ -13,7 +11,7 @@ use Rattle.zpl_binding.specs.Outcome.{value_or, outcome_of}
 use Rattle.zpl_binding.specs.Regions.{Known}
 use Rattle.zpl_binding.specs.Storages.{Border}
 use Rattle.zpl_tree.specs.Syntax.{Name, Bracket, NoBracket, Bracketed, Define, VarDef, Decl, Vars, Config, Constant, Regions, Directions, Defined}
-use Rattle.zpl_meaning.specs.Store.{Store, no_array}
+use Rattle.zpl_meaning.specs.Store.{no_array}
 use Rattle.zpl_meaning.specs.Variables.{Frame, empty_frame, zero_array, storage_box, with_name, with_names, with_variables, with_values, with_declarations}
 use Rattle.node_form.specs.declared.arrays.ArrayRow.{ArrayRow}
 use Rattle.node_form.specs.declared.tables.Tables.{Tables}

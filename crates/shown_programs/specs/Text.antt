@@ -1,11 +1,14 @@
 -- Programs all of whose statements are of forms for which it is proved that code goes as they do. Of
 -- text alone.
-use Rattle.std.specs.Prelude.{◌≡◌, ◌⊎◌, ℕ, zero, suc, true, false, pos, List, [], ◌∷◌, Some}
+use Rattle.std.specs.Prelude.{◌≡◌, ◌⊎◌, ℕ, zero, suc, Bool, true, false, pos, List, [], ◌∷◌, Option, Some, None}
+use Rattle.zpl_nums.specs.declared.operators.Op.{Op}
 use Rattle.zpl_nums.specs.Integer.{IsInteger}
-use Rattle.zpl_tree.specs.Syntax.{Inner, Rexpr, Dims, Prefix, Stmt, Prefixed, Stmts, NoStmt, ThenStmt, Form, Assign, Invoke, Block, If, While, Repeat, For, Border, Write, Return, Arm, Tested, Arms, NoArm, ThenArm, Otherwise, NoElse, Else, Program}
+use Rattle.zpl_tree.specs.Syntax.{Inner, Rexpr, Dims, Expr, Number, Truth, Coord, Named, Shifted, Around, Remap, Call, Paren, Neg, Not, Abs, Pair, Reduce, Scan, Flood, Exprs, NoExpr, ThenExpr, Item, Str, Value, Prefix, Stmt, Prefixed, Stmts, NoStmt, ThenStmt, Form, Assign, Invoke, Block, If, While, Repeat, For, Border, Write, Return, Arm, Tested, Arms, NoArm, ThenArm, Otherwise, NoElse, Else, Program}
+use Rattle.zpl_names.specs.Kinds.{Formal, ScalarFormal, ArrayFormal}
+use Rattle.zpl_names.specs.Ranks.{is_above_zero}
 use Rattle.zpl_names.specs.Scope.{kind_of, is_array}
 use Rattle.zpl_names.specs.Shapes.{prefix_rank, unknown_shapes}
-use Rattle.zpl_names.specs.Sites.{Reach, in_body, Assigned, whole_rank, handed, is_shattered}
+use Rattle.zpl_names.specs.Sites.{Reach, in_body, Assigned, Printed, whole_rank, handed, is_shattered}
 use Rattle.zpl_names.specs.Declared.{Routine, routine_named, scope_of}
 use Rattle.zpl_names.specs.Reached.{longest_chain}
 use Rattle.zpl_binding.specs.Outcome.{value_or, outcome_of}
@@ -15,7 +18,7 @@ use Rattle.zpl_meaning.specs.Points.{assigned_expr}
 use Rattle.zpl_meaning.specs.Calls.{formals_in}
 use Rattle.zpl_meaning.specs.Statement.{step_expr}
 use Rattle.lowering_runs.specs.Scalars.{IsScalarExpr}
-use Rattle.lowering_runs.specs.ScalarText.{AreScalarActuals, AreScalarTexts}
+use Rattle.lowering_runs.specs.ScalarText.{AreScalarTexts}
 use Rattle.served_places.specs.Told.{IsPlainExpr}
 use Rattle.served_places.specs.Given.{HaveSmallDims}
 
@@ -37,6 +40,23 @@ behind_prefix reach prefix =
 abbrev pub behind_prefixes : Reach → List Prefix → Reach
 behind_prefixes reach [] = reach
 behind_prefixes reach (prefix ∷ rest) = behind_prefixes (behind_prefix reach prefix) rest
+
+-- the value of a scalar is returned
+abbrev pub IsReturnForm : Form → Type 0
+IsReturnForm (Return value) = IsScalarExpr value
+IsReturnForm (Assign name op value) = ⊥
+IsReturnForm (Invoke name actuals) = ⊥
+IsReturnForm (Block body) = ⊥
+IsReturnForm (If arms otherwise) = ⊥
+IsReturnForm (While test body) = ⊥
+IsReturnForm (Repeat body until test) = ⊥
+IsReturnForm (For head body) = ⊥
+IsReturnForm (Border kind names) = ⊥
+IsReturnForm (Write line items) = ⊥
+
+abbrev pub IsReturnText : Stmt → Type 0
+IsReturnText (Prefixed at [] form) = IsReturnForm form
+IsReturnText (Prefixed at (prefix ∷ prefixes) form) = ⊥
 
 -- ---- statements, for any forms that have no statements in them, or are shattered
 
@@ -84,6 +104,29 @@ module _ (IsLeaf : Reach → Form → Type 0) where
     IsShownElse reach NoElse = Unit {0}
     IsShownElse reach (Else body) = AreShown reach body
 
+  -- bodies of procedures that answer: statements of these forms, and then a `return` of a scalar
+  abbrev pub AreAnsweringTexts : Reach → Stmts → Type 0
+  AreAnsweringTexts reach NoStmt = ⊥
+  AreAnsweringTexts reach (ThenStmt first NoStmt) = IsReturnText first
+  AreAnsweringTexts reach (ThenStmt first (ThenStmt second rest)) =
+      IsShownStmt reach first × AreAnsweringTexts reach (ThenStmt second rest)
+
+  abbrev pub IsAnsweringForm : Reach → Form → Type 0
+  IsAnsweringForm reach (Block body) = AreAnsweringTexts reach body
+  IsAnsweringForm reach (Assign name op value) = ⊥
+  IsAnsweringForm reach (Invoke name actuals) = ⊥
+  IsAnsweringForm reach (If arms otherwise) = ⊥
+  IsAnsweringForm reach (While test body) = ⊥
+  IsAnsweringForm reach (Repeat body until test) = ⊥
+  IsAnsweringForm reach (For head body) = ⊥
+  IsAnsweringForm reach (Border kind names) = ⊥
+  IsAnsweringForm reach (Write line items) = ⊥
+  IsAnsweringForm reach (Return value) = ⊥
+
+  abbrev pub IsAnsweringText : Reach → Stmt → Type 0
+  IsAnsweringText reach (Prefixed at [] form) = IsAnsweringForm reach form
+  IsAnsweringText reach (Prefixed at (prefix ∷ prefixes) form) = ⊥
+
 -- ---- the forms that are proved
 
 -- a scalar is assigned, or an array without operators over regions; texts and scalars are printed
@@ -103,11 +146,44 @@ IsPlainForm reach (For head body) = ⊥
 IsPlainForm reach (Border kind names) = ⊥
 IsPlainForm reach (Return value) = ⊥
 
--- a procedure is called that may be, with values of scalars and with references
-abbrev pub IsCallForm : (List ℕ → Type 0) → Reach → Form → Type 0
+-- what parameters take: a value of a scalar has no operators over regions
+abbrev pub AreCallTexts : List Formal → Exprs → Type 0
+AreCallTexts [] actuals = Unit {0}
+AreCallTexts (formal ∷ formals) NoExpr = Unit {0}
+AreCallTexts (ScalarFormal false base ∷ formals) (ThenExpr actual rest) =
+    IsScalarExpr actual × AreCallTexts formals rest
+AreCallTexts (ScalarFormal true base ∷ formals) (ThenExpr actual rest) =
+    AreCallTexts formals rest
+AreCallTexts (ArrayFormal by_ref base shape ∷ formals) (ThenExpr actual rest) =
+    AreCallTexts formals rest
+
+-- a procedure that answers is called, and the answer assigned
+abbrev pub IsAskedText : (Bool → List ℕ → Type 0) → Reach → Option Op → Expr → Type 0
+IsAskedText IsCallable reach None (Call at name actuals) =
+    AreCallTexts (formals_in (kind_of reach.scope name)) actuals × IsCallable true name.text
+IsAskedText IsCallable reach None (Number at number) = ⊥
+IsAskedText IsCallable reach None (Truth at truth) = ⊥
+IsAskedText IsCallable reach None (Coord at k) = ⊥
+IsAskedText IsCallable reach None (Named at it) = ⊥
+IsAskedText IsCallable reach None (Shifted at it shift) = ⊥
+IsAskedText IsCallable reach None (Around at it shift) = ⊥
+IsAskedText IsCallable reach None (Remap at it indices) = ⊥
+IsAskedText IsCallable reach None (Paren at inside) = ⊥
+IsAskedText IsCallable reach None (Neg at operand) = ⊥
+IsAskedText IsCallable reach None (Not at operand) = ⊥
+IsAskedText IsCallable reach None (Abs at operand) = ⊥
+IsAskedText IsCallable reach None (Pair at op left right) = ⊥
+IsAskedText IsCallable reach None (Reduce at operator over operand) = ⊥
+IsAskedText IsCallable reach None (Scan at operator along operand) = ⊥
+IsAskedText IsCallable reach None (Flood at source operand) = ⊥
+IsAskedText IsCallable reach (Some op) value = ⊥
+
+-- A procedure is called that may be, with values of scalars, references, and copies of arrays: as a
+-- statement, or for its answer.
+abbrev pub IsCallForm : (Bool → List ℕ → Type 0) → Reach → Form → Type 0
 IsCallForm IsCallable reach (Invoke name actuals) =
-    AreScalarActuals (formals_in (kind_of reach.scope name)) actuals × IsCallable name.text
-IsCallForm IsCallable reach (Assign name op value) = ⊥
+    AreCallTexts (formals_in (kind_of reach.scope name)) actuals × IsCallable false name.text
+IsCallForm IsCallable reach (Assign name op value) = IsAskedText IsCallable reach op value
 IsCallForm IsCallable reach (Write line items) = ⊥
 IsCallForm IsCallable reach (Block body) = ⊥
 IsCallForm IsCallable reach (If arms otherwise) = ⊥
@@ -117,34 +193,81 @@ IsCallForm IsCallable reach (For head body) = ⊥
 IsCallForm IsCallable reach (Border kind names) = ⊥
 IsCallForm IsCallable reach (Return value) = ⊥
 
+-- a scalar is printed, or an array without operators over regions
+abbrev pub IsPrintedText : Reach → Expr → Type 0
+IsPrintedText reach expr =
+    ((whole_rank reach Printed expr ≡ Some 0) × IsScalarExpr expr)
+    ⊎ ((is_above_zero (whole_rank reach Printed expr) ≡ true) × IsPlainExpr expr)
+
+abbrev pub ArePrintedTexts : Reach → List Item → Type 0
+ArePrintedTexts reach [] = Unit {0}
+ArePrintedTexts reach (Str bytes ∷ items) = ArePrintedTexts reach items
+ArePrintedTexts reach (Value expr ∷ items) =
+    IsPrintedText reach expr × ArePrintedTexts reach items
+
+abbrev pub IsPrintForm : Reach → Form → Type 0
+IsPrintForm reach (Write line items) = ArePrintedTexts reach items
+IsPrintForm reach (Assign name op value) = ⊥
+IsPrintForm reach (Invoke name actuals) = ⊥
+IsPrintForm reach (Block body) = ⊥
+IsPrintForm reach (If arms otherwise) = ⊥
+IsPrintForm reach (While test body) = ⊥
+IsPrintForm reach (Repeat body until test) = ⊥
+IsPrintForm reach (For head body) = ⊥
+IsPrintForm reach (Border kind names) = ⊥
+IsPrintForm reach (Return value) = ⊥
+
+abbrev pub IsBorderForm : Reach → Form → Type 0
+IsBorderForm reach (Border kind names) = Unit {0}
+IsBorderForm reach (Assign name op value) = ⊥
+IsBorderForm reach (Invoke name actuals) = ⊥
+IsBorderForm reach (Block body) = ⊥
+IsBorderForm reach (If arms otherwise) = ⊥
+IsBorderForm reach (While test body) = ⊥
+IsBorderForm reach (Repeat body until test) = ⊥
+IsBorderForm reach (For head body) = ⊥
+IsBorderForm reach (Write line items) = ⊥
+IsBorderForm reach (Return value) = ⊥
+
+-- an `if`, a `while` or a `repeat` whose tests are arrays
+abbrev pub IsShatteredForm : Reach → Form → Type 0
+IsShatteredForm reach form = is_shattered reach form ≡ true
+
 -- A form that is proved: further ones are further lines.
-abbrev pub IsLeafForm : (List ℕ → Type 0) → Reach → Form → Type 0
+abbrev pub IsLeafForm : (Bool → List ℕ → Type 0) → Reach → Form → Type 0
 IsLeafForm IsCallable reach form =
     IsPlainForm reach form
-    ⊎ IsCallForm IsCallable reach form
+    ⊎ (IsPrintForm reach form
+    ⊎ (IsBorderForm reach form
+    ⊎ (IsShatteredForm reach form
+    ⊎ IsCallForm IsCallable reach form)))
 
 -- ---- procedures and programs
 
-module _ (IsLeaf : (List ℕ → Type 0) → Reach → Form → Type 0) (program : Program) where
-  -- the body of a procedure, where these may be called
-  abbrev pub IsShownRoutine : (List ℕ → Type 0) → Routine → Type 0
-  IsShownRoutine IsCallable routine =
+module _ (IsLeaf : (Bool → List ℕ → Type 0) → Reach → Form → Type 0) (program : Program) where
+  -- the body of a procedure that answers or doesn't, where these may be called
+  abbrev pub IsShownRoutine : (Bool → List ℕ → Type 0) → Bool → Routine → Type 0
+  IsShownRoutine IsCallable false routine =
       IsShownStmt (IsLeaf IsCallable) (in_body (scope_of program routine) unknown_shapes)
+      routine.procedure.body
+  IsShownRoutine IsCallable true routine =
+      IsAnsweringText (IsLeaf IsCallable) (in_body (scope_of program routine) unknown_shapes)
       routine.procedure.body
 
   -- the name stands for such a procedure, down a chain of so many calls
-  pub record IsRoutine (IsCallable : List ℕ → Type 0) (name : List ℕ) : Type 0 where
+  pub record IsRoutine (IsCallable : Bool → List ℕ → Type 0) (answers : Bool) (name : List ℕ)
+      : Type 0 where
     pub routine : Routine
     pub named : routine_named program name ≡ Some routine
-    pub shown : IsShownRoutine IsCallable routine
+    pub shown : IsShownRoutine IsCallable answers routine
 
-  abbrev pub IsShownCall : ℕ → List ℕ → Type 0
-  IsShownCall zero name = ⊥
-  IsShownCall (suc depth) name = IsRoutine (IsShownCall depth) name
+  abbrev pub IsShownCall : ℕ → Bool → List ℕ → Type 0
+  IsShownCall zero answers name = ⊥
+  IsShownCall (suc depth) answers name = IsRoutine (IsShownCall depth) answers name
 
 -- A program of these forms, under settings: all that its procedures do, from the entry procedure on,
 -- is of them. Configs and constants have values of 64 bits.
 pub record IsShownProgram (program : Program) (settings : List Setting) : Type 0 where
   pub values : (text : List ℕ)
       → IsInteger (value_or (pos 0) (outcome_of (pos 0) (known_of program settings).values text))
-  pub entry : IsShownCall IsLeafForm program longest_chain program.name.text
+  pub entry : IsShownCall IsLeafForm program longest_chain false program.name.text

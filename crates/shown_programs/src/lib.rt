@@ -6,4 +6,4 @@
 
 mod laws;
 
-pub use laws::array_programs_are_shown;
+pub use laws::{array_programs_are_shown, what_is_named_is_given};

@@ -3,8 +3,8 @@ use Rattle.lowering_fits.proofs.laws.operators_fit.Goals as goal
 
 pub returns : goal.returns
 returns c = record {
-  rows = λ tables numbers line free rank one fits is placed.
-      (hoisted_fits tables numbers line free rank one fits is placed).rows;
-  left = λ tables numbers line free rank one fits is placed.
-      (hoisted_fits tables numbers line free rank one fits is placed).left;
+  rows = λ tables numbers line free rank one fits is placed covered.
+      (hoisted_fits tables numbers line free rank one fits is placed covered).rows;
+  left = λ tables numbers line free rank one fits is placed covered.
+      (hoisted_fits tables numbers line free rank one fits is placed covered).left;
 }

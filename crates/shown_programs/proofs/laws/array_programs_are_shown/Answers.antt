@@ -65,4 +65,5 @@ returns c = record {
               (Contains-from_among (routines_of program) routine among));
         } in
         program_shows program settings laws grammar clean facts declared shown
-        (c.lowered_rows_are_inline.ensures program settings grammar clean accepted) n
+        (c.lowered_rows_are_inline.ensures program settings grammar clean accepted)
+        (c.all_code_is_numbered.ensures program settings grammar clean) n

@@ -1,0 +1,3 @@
+pub mod LimitLemmas
+pub mod EdgeLemmas
+pub mod BorderLemmas

@@ -1,0 +1,85 @@
+-- A call as a statement goes as its code does, where what is called does.
+use Rattle.std.proofs.Common.{◌≡◌, ℕ, ◌+◌, ℤ, List, [], map, length, sym, ap, ◌∙◌, subst, arith}
+use Rattle.zpl_tree.specs.Syntax.{Name, Exprs, Invoke}
+use Rattle.zpl_names.specs.Scope.{kind_of}
+use Rattle.zpl_meaning.specs.Outcome as out
+use Rattle.zpl_meaning.specs.Outcome.{Outcome}
+use Rattle.zpl_meaning.specs.Phases.{scalars_in}
+use Rattle.zpl_meaning.specs.Settled.{Placed}
+use Rattle.zpl_meaning.specs.Calls as mean_calls
+use Rattle.zpl_meaning.specs.Calls.{Called, Handed, formals_in, handed_on}
+use Rattle.zpl_meaning.specs.Statement as mean
+use Rattle.row_runs.specs.Structured as code
+use Rattle.zpl_lowering.specs.Where.{Where, line_of}
+use Rattle.zpl_lowering.specs.Lowered.{behind, joined, phased}
+use Rattle.zpl_lowering.specs.Statement as low
+use Rattle.zpl_lowering.specs.Statement.{Given}
+use Rattle.lowering_runs.specs.Seen.{numbered, seen_place}
+use Rattle.lowering_runs.specs.Run.{does}
+use Rattle.lowering_runs.specs.Agrees.{Agrees}
+use Rattle.lowering_runs.specs.Stands.{HasRoom, IsLike}
+use Rattle.lowering_runs.specs.Goes.{World, Goes}
+use Rattle.lowering_runs.specs.Frames.{seen_given}
+use Rattle.lowering_runs.specs.Called.{calling_at}
+use Rattle.lowering_runs.proofs.CallLemmas.{value_meant}
+use Rattle.lowering_runs.proofs.FitLemmas.{room_first, room_rest}
+use Rattle.lowering_runs.proofs.HeadLemmas.{left_length, valued_agrees, with_computed_value}
+use Rattle.lowering_runs.proofs.ListLemmas.{meant_length}
+use Rattle.call_runs.specs.Taken.{CallsGo, IsInvoked}
+use Rattle.call_runs.proofs.ActualLemmas.{given_earlier, given_is, handed_is, value_scalars}
+
+module _ (IsCalled : Where → List Given → Called → Type 0) (world : World)
+    (calls : CallsGo IsCalled world) (at : ℕ) (name : Name) (actuals : Exprs) where
+  pub invoke_goes : Goes world (IsInvoked IsCalled name actuals)
+      (λ c store. mean.exec_form c world.turns at (Invoke name actuals) store)
+      (λ l next. low.lowered_form l next at (Invoke name actuals)) 0
+  invoke_goes sight w next start stands served room store now like =
+      let tables = world.tables in
+      let n = world.turns in
+      let Like = IsLike tables sight.spots w next start in
+      let p = seen_place sight w start in
+      let line = line_of w at in
+      let formals = formals_in (kind_of w.scope name) in
+      let exprs = low.value_exprs w formals actuals in
+      let phases = phased w line next exprs in
+      let first = next.scalars + phases.lowered.scalars in
+      let own = low.with_values line first phases in
+      let more = behind next own in
+      let givens = low.given_to w first formals actuals in
+      let calling = calling_at w name.text givens 0 line in
+      let scalars = value_scalars sight w start formals actuals served.actuals_are in
+      let rooms : HasRoom tables next (joined (code.Rows []) own (world.code calling more)) =
+      record { scalars = room.scalars; slots = room.slots; arrays = room.arrays; temps = room.temps } in
+      let many = left_length sight w line next start exprs scalars in
+      let handed : List ℤ → List Handed =
+      λ values. handed_on p.environment store formals actuals values in
+      let called : List Handed → Called = λ hs.
+      record { name = name.text; actuals = hs; currents = p.currents; result = 0 } in
+      subst (λ (o : Outcome). Agrees Like n 0 o
+      (code.then_do (does tables n own.code now) (does tables n (world.code calling more).code)))
+      (sym (with_computed_value (scalars_in p store (mean_calls.value_exprs p formals actuals)) handed
+      store line (λ hs. world.call (called hs) store)))
+      (subst (λ (es : List Placed). Agrees Like n 0
+      (out.with_value (scalars_in p store es) store line (λ vs. world.call (called (handed vs)) store))
+      (code.then_do (does tables n own.code now) (does tables n (world.code calling more).code)))
+      (value_meant sight w start formals actuals)
+      (valued_agrees tables n sight w next start stands line exprs scalars Like n 0
+      (room_first tables next (code.Rows []) own (world.code calling more) rooms) store now like
+      (λ vs. world.call (called (handed vs)) store) (does tables n (world.code calling more).code)
+      (λ vs after l are.
+      let same : handed vs ≡ map (seen_given sight.spots after) givens =
+      handed_is sight w start next stands formals actuals first vs store after served.actuals_are
+      are.as_many are.held l.seen in
+      subst (λ (hs : List Handed). Agrees Like n 0 (world.call (called hs) store)
+      (does tables n (world.code calling more).code after)) (sym same)
+      (calls.by sight.spots w next more start name.text givens line stands
+      (record { scalars = omega arith; slots = omega arith; arrays = omega arith })
+      (given_earlier (length (numbered sight.spots)) w.numbers.arrays next.scalars first givens
+      more.scalars (omega arith)
+      (given_is sight w start next stands formals actuals first more.scalars served.actuals_are
+      (omega (arith, many))))
+      (room_rest tables next (code.Rows []) own (world.code calling more) rooms) store after l
+      (subst (λ (hs : List Handed). IsCalled w givens (called hs)) same
+      (served.from first vs store (are.as_many
+      ∙ sym (meant_length exprs)
+      ∙ ap (λ es. length es) (value_meant sight w start formals actuals))))))))

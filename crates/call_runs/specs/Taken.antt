@@ -1,0 +1,82 @@
+-- Calls whose parameters take values, references, and copies of arrays.
+use Rattle.std.specs.Prelude.{◌≡◌, ℕ, suc, ◌≤◌, true, false, ℤ, List, [], ◌∷◌, length, Option, Some, None, IsSome, slice_get}
+use Rattle.zpl_tree.specs.Syntax.{Name, Exprs, NoExpr, ThenExpr}
+use Rattle.zpl_names.specs.Kinds.{Formal, ScalarFormal, ArrayFormal}
+use Rattle.zpl_names.specs.Scope.{kind_of}
+use Rattle.zpl_meaning.specs.Store.{Thing, Scalar, ArrayAt, Fixed, Store}
+use Rattle.zpl_meaning.specs.Context.{Place}
+use Rattle.zpl_meaning.specs.Calls.{Called, formals_in, actual_thing, handed_on, value_exprs}
+use Rattle.flat_form.specs.Whole.{Whole}
+use Rattle.zpl_lowering.specs.Where.{Stored, Where, Next}
+use Rattle.zpl_lowering.specs.Statement.{Given, Valued, Copied, Referring, given_to}
+use Rattle.lowering_runs.specs.Seen.{Spot, numbered}
+use Rattle.lowering_runs.specs.Run.{does}
+use Rattle.lowering_runs.specs.Scalars.{IsScalarAt}
+use Rattle.lowering_runs.specs.Agrees.{Agrees}
+use Rattle.lowering_runs.specs.Stands.{IsBefore, IsKnown, Stands, HasRoom, IsLike}
+use Rattle.lowering_runs.specs.Called.{calling_at, called_at}
+use Rattle.lowering_runs.specs.Goes.{World}
+
+-- an array of the store
+abbrev pub IsAmong : List Stored → Stored → Type 0
+IsAmong arrays stored = (place : ℕ) × (slice_get arrays place ≡ Some stored)
+
+-- values for parameters stand in scalars that rise, what is referred to is there, and so is what is
+-- copied
+abbrev pub AllGiven : ℕ → List Stored → ℕ → List Given → ℕ → Type 0
+AllGiven scalars arrays from [] to = from ≤ to
+AllGiven scalars arrays from (Valued k ∷ givens) to =
+    (from ≤ k) × AllGiven scalars arrays (suc k) givens to
+AllGiven scalars arrays from (Referring thing ∷ givens) to =
+    IsKnown scalars (length arrays) thing × AllGiven scalars arrays from givens to
+AllGiven scalars arrays from (Copied stored home ∷ givens) to =
+    IsAmong arrays stored × AllGiven scalars arrays from givens to
+
+-- ---- at the call
+
+abbrev pub IsArrayThing : Option Thing → Type 0
+IsArrayThing (Some (ArrayAt place home)) = Unit {0}
+IsArrayThing (Some (Scalar place)) = ⊥
+IsArrayThing (Some (Fixed value)) = ⊥
+IsArrayThing None = ⊥
+
+-- expressions of scalars, for parameters that take a value of one; and names
+abbrev pub AreCallActuals : Place → List Formal → Exprs → Type 0
+AreCallActuals place [] actuals = Unit {0}
+AreCallActuals place (formal ∷ formals) NoExpr = Unit {0}
+AreCallActuals place (ScalarFormal false base ∷ formals) (ThenExpr actual rest) =
+    IsScalarAt place actual × AreCallActuals place formals rest
+AreCallActuals place (ScalarFormal true base ∷ formals) (ThenExpr actual rest) =
+    IsSome (actual_thing place.environment actual) × AreCallActuals place formals rest
+AreCallActuals place (ArrayFormal true base shape ∷ formals) (ThenExpr actual rest) =
+    IsSome (actual_thing place.environment actual) × AreCallActuals place formals rest
+AreCallActuals place (ArrayFormal false base shape ∷ formals) (ThenExpr actual rest) =
+    IsArrayThing (actual_thing place.environment actual) × AreCallActuals place formals rest
+
+-- What is said of a call, beside what its parameters take: by where it stands, what it is given in
+-- code, and what it is in the meaning.
+module _ (IsCalled : Where → List Given → Called → Type 0) where
+  -- what is called so, without a result, goes as its code does
+  pub record CallsGo (world : World) : Type 0 where
+    pub by : (spots : List Spot) (w : Where) (low next : Next) (start : Whole) (name : List ℕ)
+        (givens : List Given) (line : ℕ) → Stands spots w low → IsBefore low next
+        → AllGiven (length (numbered spots)) w.numbers.arrays low.scalars givens next.scalars
+        → HasRoom world.tables next (world.code (calling_at w name givens 0 line) next)
+        → (store : Store) (now : Whole) → IsLike world.tables spots w low start store now
+        → IsCalled w givens (called_at spots w start now name givens 0)
+        → Agrees (IsLike world.tables spots w low start) world.turns 0
+        (world.call (called_at spots w start now name givens 0) store)
+        (does world.tables world.turns
+        (world.code (calling_at w name givens 0 line) next).code now)
+
+  -- a call as a statement
+  pub record IsInvoked (name : Name) (actuals : Exprs) (w : Where) (p : Place) : Type 0 where
+    pub actuals_are : AreCallActuals p (formals_in (kind_of p.scope name)) actuals
+    pub from : (scalar : ℕ) (values : List ℤ) (before : Store)
+        → length values ≡ length (value_exprs p (formals_in (kind_of p.scope name)) actuals)
+        → IsCalled w (given_to w scalar (formals_in (kind_of w.scope name)) actuals) (record {
+          name = name.text;
+          actuals = handed_on p.environment before (formals_in (kind_of p.scope name)) actuals values;
+          currents = p.currents;
+          result = 0;
+        })

@@ -1,0 +1,2 @@
+pub mod SharableLemmas
+pub mod ShownLemmas

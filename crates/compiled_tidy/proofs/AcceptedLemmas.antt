@@ -1,0 +1,75 @@
+-- The code of an accepted text is tidy as far as its lowered tables are laid out tidily. What is said
+-- of its tables elsewhere is handed in: names of arrays that stand apart, tables that are a flat
+-- program's, words that its text holds, and checks in front of its loops.
+use Rattle.std.proofs.Common.{◌≡◌, ℕ, ◌+◌, ◌*◌, ◌≤◌, true, List, length, arith}
+use Rattle.std.specs.Prelude.{None}
+use Rattle.zpl_text.specs.declared.tokens.Token.{Token}
+use Rattle.zpl_text.specs.Tokens.{IsTokens}
+use Rattle.zpl_tree.specs.Grammar.{IsProgram, Spells}
+use Rattle.zpl_tree.specs.Syntax.{Program}
+use Rattle.zpl_grammar.specs.Texts.{IsTreeOf}
+use Rattle.zpl_names.specs.Accepted.{IsFaultless}
+use Rattle.zpl_binding.specs.Bound.{IsAcceptedWith}
+use Rattle.zpl_binding.specs.Settings.{Setting}
+use Rattle.node_form.specs.declared.tables.Tables.{Tables}
+use Rattle.flat_form.specs.Flat.{IsFlat}
+use Rattle.flat_form.specs.Row.{Row, all_inlined}
+use Rattle.pass_parts.specs.Checks.{ChecksWhatFollows}
+use Rattle.zpl_lowering.specs.Program.{lowered_program}
+use Rattle.zpl_lowering.specs.Tables.{flat_tables, rows_of}
+use Rattle.lowered_flat.specs.Apart.{NamesStandApart}
+use Rattle.lowering_checks.specs.Walked.{AreChecked}
+use Rattle.lowering_sizes.specs.Sizes.{HasTokens, HoldsItsWords}
+use Rattle.zpl_claims.specs.Build.{Build}
+use Rattle.zpl_claims.specs.Origin.{origin_of}
+use Rattle.compiled_sizes.specs.Lowered.{IsLowered}
+use Rattle.compiled_sizes.proofs.BaseLemmas.{read}
+use Rattle.compiled_tidy.specs.Accepted.{IsAcceptedText}
+use Rattle.compiled_tidy.specs.Lowered.{IsLaidTidily, IsLoweredTidily}
+
+pub grammar_of : (text : List ℕ) (tokens : List Token) (program : Program) →
+    IsTreeOf text tokens program → IsProgram program
+grammar_of text tokens program tree = by tree.spelled.spells
+  where
+    by : Spells program tree.spelled.words → IsProgram program
+    by (decls, grammar, each, same) = grammar
+
+module _
+    (apart : (text : List ℕ) (tokens : List Token) (program : Program) → IsTokens text tokens →
+    IsTreeOf text tokens program → NamesStandApart program)
+    (flat : (program : Program) (settings : List Setting) → IsProgram program →
+    IsFaultless program → NamesStandApart program → IsAcceptedWith program settings →
+    IsFlat (flat_tables program settings))
+    (holds : (text : List ℕ) (tokens : List Token) (program : Program) → IsTokens text tokens →
+    IsTreeOf text tokens program → HoldsItsWords program)
+    (has : (text : List ℕ) (tokens : List Token) (program : Program) →
+    IsTreeOf text tokens program → HasTokens program (length tokens))
+    (checked : (program : Program) (settings : List Setting) → IsProgram program →
+    IsFaultless program → IsAcceptedWith program settings →
+    AreChecked None (rows_of (lowered_program program settings)))
+    (follows : (tables : Tables) (rows : List Row) → all_inlined tables ≡ rows →
+    AreChecked None rows → ChecksWhatFollows tables)
+    (text : List ℕ) (tokens : List Token) (program : Program) (build : Build)
+    (accepted : IsAcceptedText text tokens program build) where
+  grammar : IsProgram program
+  grammar = grammar_of text tokens program accepted.tree
+
+  pub accepted_lowered : IsLowered build program
+  accepted_lowered = record {
+    faultless = accepted.faultless;
+    holds = holds text tokens program accepted.are_tokens accepted.tree;
+    flat = flat program build.settings grammar accepted.faultless
+        (apart text tokens program accepted.are_tokens accepted.tree) accepted.accepts;
+  }
+
+  pub accepted_tidily : (let origin = origin_of build program (length tokens) in
+      IsLaidTidily origin → IsLoweredTidily origin)
+  accepted_tidily laid = record {
+    lowered = accepted_lowered;
+    tokens = has text tokens program accepted.tree;
+    checks = follows (flat_tables program build.settings)
+        (rows_of (lowered_program program build.settings))
+        (read program build.settings accepted_lowered.flat)
+        (checked program build.settings grammar accepted.faultless accepted.accepts);
+    laid = laid;
+  }

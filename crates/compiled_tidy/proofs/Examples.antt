@@ -1,0 +1,25 @@
+-- Of a small text, computed: with `fuse` its code has two loops that could be one, since the first
+-- one, a shattered statement that assigns nothing, puts nothing.
+--
+--   program p; region R = [1..9]; var A, B : [R] integer;
+--   procedure p(); [R] begin if A > 0 then end; B := 1; end;
+use Rattle.std.proofs.Common.{◌≡◌, ℕ, Bool, true, false, List, [], ◌∷◌, Some, None, refl}
+use Rattle.std.specs.Fmt.{digits}
+use Rattle.std.specs.Int.{int_wrap}
+use Rattle.zpl_names.specs.Reached.{longest_chain}
+use Rattle.code_parts.specs.Fused.{is_fused}
+use Rattle.zpl_claims.specs.Build.{Build, no_options, one_processor}
+use Rattle.zpl_compile.specs.Compile.{compiled}
+use Rattle.lowering_checks.proofs.Examples.{example}
+
+abbrev build : Build
+build = record {
+  grid = one_processor;
+  options = record no_options { fuse = true };
+  links = None;
+  settings = [];
+}
+
+two_loops : is_fused (compiled build example) ≡ false
+unfolding longest_chain int_wrap digits
+two_loops = refl

@@ -1,0 +1,4 @@
+pub mod HaveLemmas
+pub mod TurnLemmas
+pub mod UnitLemmas
+pub mod GroupLemmas

@@ -1,0 +1,4 @@
+pub mod ShareLemmas
+pub mod AloneLemmas
+pub mod ThreeLemmas
+pub mod OwedLemmas

@@ -1,0 +1,4 @@
+pub mod TypedLemmas
+pub mod SettledLemmas
+pub mod LoopLemmas
+pub mod PlanLemmas

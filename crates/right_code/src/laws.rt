@@ -1,0 +1,93 @@
+//! The laws.
+ghost use Rattle.std.specs.Prelude.{ℕ, List, length};
+ghost use Rattle.zpl_text.specs.declared.tokens.Token.{Token};
+ghost use Rattle.zpl_tree.specs.Syntax.{Program};
+ghost use Rattle.zpl_names.specs.Expansion.{shattered_loops};
+ghost use Rattle.zpl_meaning.specs.Program.{mean_of, outcome_of, steps_of};
+ghost use Rattle.node_form.specs.Grid.{IsGrid};
+ghost use Rattle.zpl_lowering.specs.Tables.{flat_tables};
+ghost use Rattle.lock_steps.specs.Meant.{IsMeant};
+ghost use Rattle.shown_programs.specs.Text.{IsShownProgram};
+ghost use Rattle.zpl_claims.specs.Bound.{EndsInBound};
+ghost use Rattle.zpl_claims.specs.Build.{Build, OverAllLinks};
+ghost use Rattle.zpl_claims.specs.Good.{IsGood};
+ghost use Rattle.zpl_claims.specs.LockStep.{HasLockSteps};
+ghost use Rattle.zpl_claims.specs.Compiled.{IsCompiled};
+ghost use Rattle.zpl_claims.specs.Origin.{origin_of};
+ghost use Rattle.zpl_compile.specs.Compile.{compiled};
+ghost use Rattle.compiled_tidy.specs.Accepted.{IsAcceptedText};
+ghost use Rattle.compiled_tidy.specs.Lowered.{IsLaidTidily};
+ghost use Rattle.right_code.specs.Accepted.{IsAccepted};
+
+use arranged_runs::plan_passes_keep_runs;
+use compiled_runs::compiled_plans_keep_runs;
+use compiled_tidy::accepted_code_is_tidy;
+use lock_steps::emitted_code_comes_in_step;
+use lowered_flat::{lowered_programs_are_flat, lowered_tables_are_typed, parsed_names_stand_apart};
+use lowering_loops::groups_turn_as_statements_do;
+use owed_tables::lowered_tables_owe_nothing_more;
+use pass_promises::groups_gain_no_loops;
+use sharable_tables::settled_tables_are_sharable;
+use shown_programs::array_programs_are_shown;
+
+/// Of an accepted program whose lowered program shows what it means, for each bound on the turns of
+/// loops, the code for a build is right over all links that it is for: some order of turns brings
+/// it in step to what is meant, for every bound; after every order it has printed a front of that,
+/// and no run is stuck; and it comes to its end in time where the meaning ends.
+pub fn code_of_meant_programs_is_right()
+    ensures in_step { (program : Program) (build : Build) → IsAccepted program build →
+        IsMeant (flat_tables program build.settings) (outcome_of program build.settings) →
+        OverAllLinks build (λ links.
+        HasLockSteps (compiled build program) links (mean_of program build.settings)) }
+    ensures good { (program : Program) (build : Build) → IsAccepted program build →
+        IsMeant (flat_tables program build.settings) (outcome_of program build.settings) →
+        OverAllLinks build (λ links.
+        IsGood (compiled build program) links (mean_of program build.settings)) }
+    ensures in_time { (program : Program) (build : Build) → IsAccepted program build →
+        IsMeant (flat_tables program build.settings) (outcome_of program build.settings) →
+        OverAllLinks build (λ links.
+        EndsInBound (compiled build program) links (mean_of program build.settings)
+        (steps_of program build.settings) (shattered_loops program)) }
+{
+    plan_passes_keep_runs();
+    compiled_plans_keep_runs();
+    emitted_code_comes_in_step();
+    groups_gain_no_loops();
+    groups_turn_as_statements_do();
+    lowered_programs_are_flat();
+    lowered_tables_are_typed();
+    lowered_tables_owe_nothing_more();
+    settled_tables_are_sharable();
+}
+
+/// So is that of a program whose statements are of the forms of which it is proved that their code
+/// goes as they do: of scalars and arrays, without operators over regions, under prefixes, and with
+/// calls.
+pub fn code_of_shown_programs_is_right()
+    ensures in_step { (program : Program) (build : Build) → IsAccepted program build →
+        IsShownProgram program build.settings → OverAllLinks build (λ links.
+        HasLockSteps (compiled build program) links (mean_of program build.settings)) }
+    ensures good { (program : Program) (build : Build) → IsAccepted program build →
+        IsShownProgram program build.settings → OverAllLinks build (λ links.
+        IsGood (compiled build program) links (mean_of program build.settings)) }
+    ensures in_time { (program : Program) (build : Build) → IsAccepted program build →
+        IsShownProgram program build.settings → OverAllLinks build (λ links.
+        EndsInBound (compiled build program) links (mean_of program build.settings)
+        (steps_of program build.settings) (shattered_loops program)) }
+{
+    code_of_meant_programs_is_right();
+    array_programs_are_shown();
+}
+
+/// So all that is claimed of code (`IsCompiled`) holds of the code of a text whose program is such a
+/// one, where it is tidy as `IsLaidTidily` asks for.
+pub fn code_of_shown_texts_is_compiled()
+    ensures { (text : List ℕ) (tokens : List Token) (program : Program) (build : Build) →
+        IsAcceptedText text tokens program build → IsGrid build.grid → IsShownProgram program build.settings →
+        IsLaidTidily (origin_of build program (length tokens)) →
+        IsCompiled (origin_of build program (length tokens)) (compiled build program) }
+{
+    accepted_code_is_tidy();
+    code_of_shown_programs_is_right();
+    parsed_names_stand_apart();
+}

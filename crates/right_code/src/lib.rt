@@ -1,0 +1,13 @@
+//! The code that a program is compiled to is right after every order of turns, where its lowered
+//! program shows what it means.
+//!
+//! The functions here do nothing: each has a law as its contract, and a call brings the law into a
+//! proof.
+#![tactic(auto)]
+
+mod laws;
+
+pub use laws::{
+    code_of_meant_programs_is_right, code_of_shown_programs_is_right,
+    code_of_shown_texts_is_compiled,
+};

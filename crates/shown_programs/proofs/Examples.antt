@@ -1,0 +1,211 @@
+-- A program with arrays, prefixes, a border statement, and a call that hands an array on; and one with
+-- a call that copies an array and answers.
+use Rattle.std.proofs.Common.{inl, inr, ℕ, true, false, List, [], ◌∷◌, Some, None, pos, codes, refl}
+use Rattle.zpl_nums.specs.declared.ends.Border.TheVariants.{Wrap}
+use Rattle.zpl_nums.specs.declared.operators.Op.TheVariants as op
+use Rattle.zpl_nums.proofs.IntegerLemmas.{IsInteger-truth}
+use Rattle.zpl_tree.specs.Syntax.{Name, Number, Named, Pair, Value, Prefixed, NoStmt, ThenStmt, Assign, Block, Invoke, Write, Return, Call, NoExpr, ThenExpr, NoBracket, Bracketed, Rexpr, Dims, NamedRegion, NoPost, Span, NoDim, ThenDim, Integer, Vars, Regions, Directions, Defined, Border, Program}
+use Rattle.zpl_names.specs.Reached.{longest_chain}
+use Rattle.shown_programs.specs.Text.{IsShownProgram}
+
+abbrev name : List ℕ → ℕ → Name
+name text at = record { text = text; at = at }
+
+-- region R = [1..2]; direction d = [1]; var A : [R] integer;
+-- procedure p(var X : [R] integer); var B : [R] integer; [R] begin B := 1; X := X + B; end;
+-- procedure t(); [R] begin p(A); [d of R] wrap A; writeln(A); end;
+abbrev example : Program
+example = record {
+  name = name (codes "t") 8;
+  decls = Regions (record {
+    name = name (codes "R") 20;
+    body = Dims (ThenDim (Span (Number 25 (pos 1)) (Number 28 (pos 2))) NoDim);
+    posts = NoPost;
+  } ∷ [])
+      ∷ Directions (record {
+        name = name (codes "d") 40;
+        parts = ThenExpr (Number 45 (pos 1)) NoExpr;
+      } ∷ [])
+      ∷ Vars (record {
+        names = name (codes "A") 37 ∷ [];
+        shape = Bracketed (Rexpr [] (NamedRegion (name (codes "R") 42)) NoPost);
+        base = Integer;
+      } ∷ [])
+      ∷ Defined (record {
+        name = name (codes "p") 60;
+        params = record {
+          by_ref = true;
+          names = name (codes "X") 66 ∷ [];
+          shape = Bracketed (Rexpr [] (NamedRegion (name (codes "R") 71)) NoPost);
+          base = Integer;
+        } ∷ [];
+        result = None;
+        locals = record {
+          names = name (codes "B") 90 ∷ [];
+          shape = Bracketed (Rexpr [] (NamedRegion (name (codes "R") 95)) NoPost);
+          base = Integer;
+        } ∷ [];
+        body = Prefixed 107
+            (record {
+              at = 107;
+              region = Rexpr [] (NamedRegion (name (codes "R") 108)) NoPost;
+              mask = None;
+            } ∷ [])
+            (Block
+            (ThenStmt (Prefixed 117 [] (Assign (name (codes "B") 117) None (Number 122 (pos 1))))
+            (ThenStmt (Prefixed 125 [] (Assign (name (codes "X") 125) None
+            (Pair 132 op.Add (Named 130 (name (codes "X") 130)) (Named 134 (name (codes "B") 134)))))
+            NoStmt)));
+      })
+      ∷ Defined (record {
+        name = name (codes "t") 155;
+        params = [];
+        result = None;
+        locals = [];
+        body = Prefixed 160
+            (record {
+              at = 160;
+              region = Rexpr [] (NamedRegion (name (codes "R") 161)) NoPost;
+              mask = None;
+            } ∷ [])
+            (Block
+            (ThenStmt (Prefixed 170 [] (Invoke (name (codes "p") 170)
+            (ThenExpr (Named 172 (name (codes "A") 172)) NoExpr)))
+            (ThenStmt (Prefixed 185
+            (record {
+              at = 176;
+              region = Rexpr (record { dir = name (codes "d") 177; outside = true } ∷ [])
+                  (NamedRegion (name (codes "R") 182)) NoPost;
+              mask = None;
+            } ∷ []) (Border Wrap (name (codes "A") 190 ∷ [])))
+            (ThenStmt (Prefixed 176 [] (Write true (Value (Named 184 (name (codes "A") 184)) ∷ [])))
+            NoStmt))));
+      })
+      ∷ [];
+  source = [];
+}
+
+is_shown : IsShownProgram example []
+unfolding longest_chain
+is_shown = record {
+  values = λ text. IsInteger-truth false;
+  entry = record {
+    routine = _;
+    named = refl;
+    shown = (
+      (tt, tt),
+      (
+        (
+          tt,
+          inr (inr (inr (inr (
+            tt,
+            record {
+              routine = _;
+              named = refl;
+              shown = (
+                (tt, tt),
+                (
+                  (tt, inl (inr (refl, tt))),
+                  ((tt, inl (inr (refl, (tt, tt)))), tt),
+                ),
+              );
+            },
+          )))),
+        ),
+        (((tt, tt), inr (inr (inl tt))), ((tt, inr (inl (inr (refl, tt), tt))), tt)),
+      ),
+    );
+  };
+}
+
+-- region R = [1..2]; var A : [R] integer; n : integer;
+-- procedure q(X : [R] integer; k : integer) : integer;
+-- begin [R] X := X + k; return k + 1; end;
+-- procedure t(); begin n := q(A, n); writeln(n); end;
+abbrev asks : Program
+asks = record {
+  name = name (codes "t") 8;
+  decls = Regions (record {
+    name = name (codes "R") 20;
+    body = Dims (ThenDim (Span (Number 25 (pos 1)) (Number 28 (pos 2))) NoDim);
+    posts = NoPost;
+  } ∷ [])
+      ∷ Vars (record {
+        names = name (codes "A") 37 ∷ [];
+        shape = Bracketed (Rexpr [] (NamedRegion (name (codes "R") 42)) NoPost);
+        base = Integer;
+      }
+      ∷ record { names = name (codes "n") 54 ∷ []; shape = NoBracket; base = Integer }
+      ∷ [])
+      ∷ Defined (record {
+        name = name (codes "q") 80;
+        params = record {
+          by_ref = false;
+          names = name (codes "X") 82 ∷ [];
+          shape = Bracketed (Rexpr [] (NamedRegion (name (codes "R") 87)) NoPost);
+          base = Integer;
+        }
+            ∷ record {
+              by_ref = false;
+              names = name (codes "k") 99 ∷ [];
+              shape = NoBracket;
+              base = Integer;
+            }
+            ∷ [];
+        result = Some Integer;
+        locals = [];
+        body = Prefixed 120 [] (Block
+            (ThenStmt (Prefixed 130
+            (record {
+              at = 126;
+              region = Rexpr [] (NamedRegion (name (codes "R") 127)) NoPost;
+              mask = None;
+            } ∷ [])
+            (Assign (name (codes "X") 130) None
+            (Pair 137 op.Add (Named 135 (name (codes "X") 135)) (Named 139 (name (codes "k") 139)))))
+            (ThenStmt (Prefixed 142 [] (Return
+            (Pair 151 op.Add (Named 149 (name (codes "k") 149)) (Number 153 (pos 1))))) NoStmt)));
+      })
+      ∷ Defined (record {
+        name = name (codes "t") 175;
+        params = [];
+        result = None;
+        locals = [];
+        body = Prefixed 180 [] (Block
+            (ThenStmt (Prefixed 186 [] (Assign (name (codes "n") 186) None (Call 191
+            (name (codes "q") 191)
+            (ThenExpr (Named 193 (name (codes "A") 193))
+            (ThenExpr (Named 196 (name (codes "n") 196)) NoExpr)))))
+            (ThenStmt (Prefixed 200 [] (Write true (Value (Named 208 (name (codes "n") 208)) ∷ [])))
+            NoStmt)));
+      })
+      ∷ [];
+  source = [];
+}
+
+asks_is_shown : IsShownProgram asks []
+unfolding longest_chain
+asks_is_shown = record {
+  values = λ text. IsInteger-truth false;
+  entry = record {
+    routine = _;
+    named = refl;
+    shown = (
+      tt,
+      (
+        (
+          tt,
+          inr (inr (inr (inr (
+            (tt, tt),
+            record {
+              routine = _;
+              named = refl;
+              shown = (((tt, tt), inl (inr (refl, (tt, tt)))), (tt, IsInteger-truth true));
+            },
+          )))),
+        ),
+        ((tt, inl (refl, tt, tt)), tt),
+      ),
+    );
+  };
+}

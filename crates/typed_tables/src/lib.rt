@@ -1,0 +1,2 @@
+//! What the types of a program give its tables.
+#![tactic(auto)]
