@@ -2,7 +2,7 @@
 use Rattle.std.proofs.Common.{◌≡◌, refl, sym, subst, arith, ℕ, zero, suc, Bool, true, false, inl, inr}
 use Rattle.std.proofs.Common.{List, [], ◌∷◌, ◌++◌, map, filter, ℤ, pos, negsuc, ◌≤ℤ◌, Option, Some, None, All, ◌&&◌}
 use Rattle.std.specs.Prelude.{cond, flat_map, fold, if◌then◌else◌, slice_index_or, IfSome, unsigned_abs, ◌-◌, slice_set}
-use Rattle.std.specs.List.{list_all}
+use Rattle.std.specs.List.{AllZip, list_all}
 use Rattle.std.proofs.lemmas.Int.{ints}
 use Rattle.std.proofs.lemmas.List.Elements.{All-head, All-tail}
 use Rattle.zpl_nums.specs.declared.ends.TrapKind.{TrapKind}
@@ -23,10 +23,10 @@ use Rattle.zpl_region.specs.declared.dims.Dim.TheVariants.{Range, Flood}
 use Rattle.zpl_region.specs.declared.regions.Region.{Region}
 use Rattle.zpl_region.specs.Dim.{IsCoordinate, IsDim, IsUpTo, coordinates}
 use Rattle.zpl_region.specs.Tests.{is_member}
-use Rattle.zpl_region.specs.Region.{members, tuple_moved, tuples}
+use Rattle.zpl_region.specs.Region.{IsMember, members, tuple_moved, tuples}
 use Rattle.zpl_region.proofs.DimLemmas.{among_coordinates}
 use Rattle.zpl_region.proofs.ListLemmas.{Among}
-use Rattle.zpl_arrays.specs.Array.{Array, element, has_place, place_among}
+use Rattle.zpl_arrays.specs.Array.{Array, element, has_place, place_among, updated}
 use Rattle.zpl_arrays.specs.Around.{around_source}
 use Rattle.zpl_arrays.specs.Flood.{flood_source}
 use Rattle.zpl_arrays.specs.Fold.{agrees, kept_fold}
@@ -109,15 +109,35 @@ every_map f h [] = tt
 every_map f h (t ∷ ts) = (h t, every_map f h ts)
 
 -- with new values at the tuples of a region
+pub made_integers : (array : Array) (region : Region) (is_in : List ℤ → Bool) (value : List ℤ → ℤ)
+    → Every IsInteger array.values → ((t : List ℤ) → IsInteger (value t))
+    → Every IsInteger (written array region is_in value).values
+made_integers array region is_in value h k =
+    every_map _ (λ t. by t (is_member region t && is_in t)) (members array.storage)
+  where
+    by : (t : List ℤ) (b : Bool) → IsInteger (if b then value t else element array t)
+    by t true = k t
+    by t false = element_integer array h t
+
+-- those of another array
 pub written_integers : (array values : Array) (region : Region) (is_in : List ℤ → Bool)
     → Every IsInteger array.values → Every IsInteger values.values
     → Every IsInteger (written array region is_in (element values)).values
 written_integers array values region is_in h k =
-    every_map _ (λ t. by t (is_member region t && is_in t)) (members array.storage)
-  where
-    by : (t : List ℤ) (b : Bool) → IsInteger (if b then element values t else element array t)
-    by t true = element_integer values k t
-    by t false = element_integer array h t
+    made_integers array region is_in (element values) h (element_integer values k)
+
+-- with another value at one tuple
+every_set : (xs : List ℤ) (k : ℕ) (x : ℤ) → Every IsInteger xs → IsInteger x
+    → Every IsInteger (slice_set xs k x)
+every_set [] zero x h i = tt
+every_set [] (suc k) x h i = tt
+every_set (y ∷ xs) zero x h i = (i, h.1)
+every_set (y ∷ xs) (suc k) x h i = (h.0, every_set xs k x h.1 i)
+
+pub updated_integers : (array : Array) (t : List ℤ) (value : ℤ) → Every IsInteger array.values
+    → IsInteger value → Every IsInteger (updated array t value).values
+updated_integers array t value h i =
+    every_set array.values (place_among array.storage.dims t) value h i
 
 -- ---- tuples of a region
 
@@ -170,6 +190,20 @@ tuples_integers (dim ∷ dims) h =
 pub members_integers : (region : Region) → All IsDim region.dims
     → Every (Every IsInteger) (members region)
 members_integers region h = tuples_integers region.dims h
+
+each_integer : (dims : List Dim) (t : List ℤ) → All IsDim dims → AllZip IsCoordinate dims t
+    → Every IsInteger t
+each_integer [] [] h z = tt
+each_integer [] (x ∷ t) h z = absurd z
+each_integer (dim ∷ dims) [] h z = tt
+each_integer (dim ∷ dims) (x ∷ t) h z = (
+  coordinate_integer dim (All-head IsDim dim dims h) x z.0,
+  each_integer dims t (All-tail IsDim dim dims h) z.1,
+)
+
+pub member_integers : (region : Region) (t : List ℤ) → All IsDim region.dims → IsMember region t
+    → Every IsInteger t
+member_integers region t h m = each_integer region.dims t h m
 
 -- ---- the array of a field
 

@@ -1,5 +1,5 @@
 -- The row of an assignment of an array, behind the rows of its operators.
-use Rattle.std.proofs.Common.{◌≡◌, sym, ◌∙◌, ap, subst, arith, ℕ, Bool, true}
+use Rattle.std.proofs.Common.{◌≡◌, refl, sym, ◌∙◌, ap, subst, arith, ℕ, Bool, true}
 use Rattle.std.proofs.Common.{◌&&◌, List, [], ◌∷◌, ℤ, pos, Option, Some, append-nil}
 use Rattle.std.specs.Prelude.{flat_map, replicate, slice_get}
 use Rattle.std.specs.List.{list_all}
