@@ -34,11 +34,12 @@ use Rattle.lowering_runs.specs.Called.{CallsAgree}
 use Rattle.lowering_runs.specs.ScalarText.{AreScalarActuals, AreScalarTexts, AreScalarStmts, AreScalarArms, IsScalarElse}
 use Rattle.lowering_runs.specs.Served.{IsServed, AreServed, IsServedForm}
 use Rattle.lowering_runs.specs.Leaves.{IsScalarAssigned, AreScalarItems, AreServedActuals, IsServedInvoke, ScalarLeaf}
-use Rattle.lowering_runs.specs.Suits.{SuitsStmt, SuitAll, SuitsForm, SuitArms, SuitsElse}
+use Rattle.lowering_runs.specs.Suits.{ScalarTest, SuitsStmt, SuitAll, SuitsForm, SuitArms, SuitsElse}
 use Rattle.lowering_runs.proofs.NumberLemmas.{get_some, number_below}
 use Rattle.lowering_runs.proofs.ValueLemmas.{thing_seen, known_thing}
 use Rattle.lowering_runs.proofs.ScalarLemmas.{assigned_agrees}
 use Rattle.lowering_runs.proofs.FitLemmas.{room_here}
+use Rattle.lowering_runs.proofs.ControlLemmas.{scalar_tests}
 use Rattle.lowering_runs.proofs.SuitLemmas.{goes_by, goes_more, FormGoes, suited_goes}
 use Rattle.lowering_runs.proofs.PrintLemmas.{write_goes}
 use Rattle.lowering_runs.proofs.CallLemmas.{invoke_goes}
@@ -550,5 +551,5 @@ module _ (world : World) (setup : Setup) (IsCallable : List ℕ → Type 0)
         (SuitsStmt Bare (ScalarLeaf setup IsCallable) stmt)
         (λ c store. mean.exec c world.turns stmt store) (λ l next. low.lowered l next stmt) 0
         (λ w p h. stmt_suits stmt w p h)
-        (suited_goes world Bare (ScalarLeaf setup IsCallable) bare_goes
+        (suited_goes world Bare ScalarTest (ScalarLeaf setup IsCallable) bare_goes (scalar_tests world)
         (scalar_leaves world setup IsCallable calls) stmt)
