@@ -48,8 +48,8 @@ pub fn node_code_comes_as_planned()
     ensures holds { (tree : Bool) (grid : List ℕ) (plan : Code) (most : ℕ) →
         plan.grid ≡ grid → 1 ≤ most → Fits plan →
         HoldsAsPlanned (emitted tree grid plan) plan most }
-    ensures holds_open { (tree : Bool) (grid : List ℕ) (plan : Code) → plan.grid ≡ grid → Fits plan →
-        HoldsOpen (emitted tree grid plan) plan }
+    ensures holds_open { (tree : Bool) (grid : List ℕ) (plan : Code) →
+        plan.grid ≡ grid → Fits plan → HoldsOpen (emitted tree grid plan) plan }
 {
     plans_come_in_step();
     rows_have_orders();
