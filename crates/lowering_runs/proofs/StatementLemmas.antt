@@ -210,9 +210,7 @@ module _ (world : World) where
       (sym (thing_seen sight.spots w.environment.names name.text))
       (by (thing_of w.environment name.text) refl
       (subst (λ (t : Option Thing). IsTarget p.currents (Some 0) t)
-      (thing_seen sight.spots w.environment.names name.text)
-      (subst (λ (r : Rank). IsTarget p.currents r (thing_of p.environment name.text))
-      served.handed_is served.target)))))
+      (thing_seen sight.spots w.environment.names name.text) served.target))))
     where
       by : (thing : Option Thing) → thing_of w.environment name.text ≡ thing
           → IsTarget (seen_place sight w start).currents (Some 0)
@@ -333,8 +331,8 @@ module _ (world : World) (setup : Setup) (IsCallable : List ℕ → Type 0)
         let p = proper_plain place name op value s (proper_form at (Assign name op value) place h) in
         record {
           scalar = s;
-          handed_is = h.scalar.0;
-          target = p.0;
+          target = subst (λ (r : Rank). IsTarget place.currents r
+              (thing_of place.environment name.text)) h.scalar.0 p.0;
           value_is = scalar_at place (Assigned name op) (assigned_expr name op value) s h.scalar.1 p.1;
         }
 

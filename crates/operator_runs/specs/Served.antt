@@ -17,7 +17,6 @@ use Rattle.operator_runs.specs.Operated.{IsOperated}
 -- a scalar is assigned
 pub record IsScalarOperated (name : Name) (op : Option Op) (value : Expr) (w : Where) (place : Place)
     : Type 0 where
-  pub handed_is : handed (reach_of place) (Assigned name op) ≡ Some 0
   pub target : IsTarget place.currents (Some 0) (thing_of place.environment name.text)
   pub operated : IsOperated w place None (assigned_expr name op value)
 
