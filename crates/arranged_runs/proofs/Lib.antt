@@ -1,3 +1,4 @@
 pub mod UnitLemmas
 pub mod ThreeLemmas
 pub mod ArrangedLemmas
+pub mod PlanLemmas

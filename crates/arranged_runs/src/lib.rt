@@ -4,7 +4,7 @@
 //! call brings the laws into a proof.
 #![tactic(auto)]
 
-ghost use Rattle.std.specs.Prelude.{◌≡◌, ℕ, List, Option, All};
+ghost use Rattle.std.specs.Prelude.{◌≡◌, ℕ, false, List, Option, All};
 ghost use Rattle.node_form.specs.declared.tables.Tables.{Tables as Code};
 ghost use Rattle.node_form.specs.Fits.{Fits};
 ghost use Rattle.node_form.specs.Grid.{IsGrid};
@@ -12,6 +12,8 @@ ghost use Rattle.row_runs.specs.Segments.{Keeps};
 ghost use Rattle.flat_form.specs.Flat.{IsFlat};
 ghost use Rattle.grid_meaning.specs.State.{HasThree};
 ghost use Rattle.plan_meaning.specs.Act.{plan_run};
+ghost use Rattle.stored_shifts.specs.Stored.{ShiftsAreStored};
+ghost use Rattle.plan_form.specs.Plan.{IsPlan, IsPlanRow};
 ghost use Rattle.comm_needs.specs.Needs.{planned};
 ghost use Rattle.comm_combine.specs.Merge.{neighbours_merged};
 ghost use Rattle.comm_combine.specs.Repeats.{repeats_dropped};
@@ -19,7 +21,7 @@ ghost use Rattle.comm_early.specs.Send.{sent_early};
 ghost use Rattle.plan_passes.specs.Threes.{HasThrees};
 ghost use Rattle.plan_passes.specs.Units.{IsInUnits};
 ghost use Rattle.zpl_claims.specs.Build.{Build, OverAllLinks};
-ghost use Rattle.zpl_compile.specs.Compile.{plan_of};
+ghost use Rattle.zpl_compile.specs.Compile.{emitted_for, plan_of};
 ghost use Rattle.arranged_runs.specs.Plannable.{HasFlatThrees, IsPlannable};
 
 /// In the plan of a flat program each start has its finish directly behind it; and so it is without
@@ -42,6 +44,23 @@ pub fn plans_keep_threes()
     ensures merged { (code : Code) → HasThrees code → HasThrees (neighbours_merged code) }
     ensures early { (links : Option ℕ) (code : Code) →
         HasThrees code → HasThrees (sent_early links code) }
+{}
+
+/// The plan of a flat program is a plan: it fits, and has no agreement along the tree of
+/// processors. It is one still without repeats, with neighbours merged, and with starts moved up,
+/// and so behind all passes that a build asks for. Code of a plan has no agreement along the tree
+/// where that isn't asked for.
+pub fn plans_are_plans()
+    ensures planned { (grid : List ℕ) (code : Code) → IsGrid grid → IsFlat code →
+        ShiftsAreStored code → IsPlan (planned grid code) }
+    ensures dropped { (code : Code) → IsPlan code → IsPlan (repeats_dropped code) }
+    ensures merged { (code : Code) → IsPlan code → IsPlan (neighbours_merged code) }
+    ensures early { (links : Option ℕ) (code : Code) → IsPlan code →
+        IsPlan (sent_early links code) }
+    ensures arranged { (build : Build) (flat : Code) → IsGrid build.grid → IsPlannable flat →
+        IsPlan (plan_of build flat) }
+    ensures emitted { (build : Build) (plan : Code) → IsPlan plan → build.options.tree ≡ false →
+        All IsPlanRow (emitted_for build plan).code }
 {}
 
 /// For every build the plan of flat tables shows what it showed in front of the passes that are

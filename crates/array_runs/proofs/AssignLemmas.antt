@@ -4,6 +4,7 @@ use Rattle.std.proofs.Common.{◌&&◌, List, [], ◌∷◌, ◌++◌, ℤ, pos,
 use Rattle.std.specs.Prelude.{flat_map, replicate, slice_get}
 use Rattle.std.specs.List.{list_all}
 use Rattle.zpl_nums.specs.declared.ends.TrapKind.TheVariants.{OutsideStorage}
+use Rattle.zpl_nums.specs.Integer.{IsInteger}
 use Rattle.zpl_region.specs.declared.regions.Region.{Region}
 use Rattle.zpl_region.specs.Region.{IsMember}
 use Rattle.zpl_region.proofs.HullLemmas.{has_steps}
@@ -12,7 +13,7 @@ use Rattle.zpl_arrays.proofs.ArrayLemmas.{array_of_is_array}
 use Rattle.zpl_arrays.proofs.ReferenceLemmas.{lies_in_places}
 use Rattle.zpl_meaning.specs.Computed as mean
 use Rattle.zpl_meaning.specs.Computed.{both_then, computed_then, provided}
-use Rattle.zpl_meaning.specs.Store.{Store, array_at, with_array}
+use Rattle.zpl_meaning.specs.Store.{Store, array_at, no_array, with_array}
 use Rattle.zpl_meaning.specs.Context.{Mask}
 use Rattle.zpl_meaning.specs.Term.{Term}
 use Rattle.zpl_meaning.specs.Term as element_term
@@ -53,7 +54,9 @@ use Rattle.array_puts.specs.Put.{IsPutting, IsSame, assigned, put_group, with_ar
 use Rattle.array_puts.proofs.PutLemmas.{put_assigns}
 use Rattle.array_runs.specs.Reads.{EachCovers, EachMatches}
 use Rattle.array_runs.specs.Gates.{IsThere, holds, gate}
-use Rattle.array_runs.proofs.StoredLemmas.{IsFound}
+use Rattle.array_runs.specs.Integers.{GivesIntegers}
+use Rattle.array_runs.proofs.IntegerLemmas.{array_integers, written_integers}
+use Rattle.array_runs.proofs.StoredLemmas.{IsFound, index_of_found}
 use Rattle.array_runs.proofs.PartLemmas.{IsPart, operands, store, all_append, both_true}
 use Rattle.array_runs.proofs.ElementLemmas.{all_members, element_part, holding_is}
 use Rattle.array_runs.proofs.MaskLemmas.{IsMasking}
@@ -88,7 +91,7 @@ module _ (tables : Tables) (n : ℕ) (spots : List Spot) (w : Where) (line : ℕ
     (f : IsFound tables spots w.numbers.arrays now target stored)
     (matches : EachMatches stored.storage.dims current.region.dims) (one : Slate) (term : Term)
     (left : Expression) (part : IsPart tables spots w line now rank over current one term left)
-    (mask : Option Mask) (masking : IsMasking tables spots w line now rank over current mask) where
+    (narrow : GivesIntegers part.field) (mask : Option Mask) (masking : IsMasking tables spots w line now rank over current mask) where
   abbrev region : Region
   region = current.region
 
@@ -251,10 +254,17 @@ module _ (tables : Tables) (n : ℕ) (spots : List Spot) (w : Where) (line : ℕ
         out.goes_on (with_array before target
         (written (array_at before target) region kept (element values))))
 
-    by_values : (computed : mean.Computed Array) → array_at before target ≡ f.array
-        → Agrees Like n 0 (assigns computed)
+    old_integers : Every IsInteger f.array.values
+    old_integers =
+        subst (λ (a : Array). Every IsInteger a.values)
+        (index_of_found now.stores k f.array no_array f.in_stores)
+        (like.sound.elements k f.row f.in_tables f.kept)
+
+    by_values : (computed : mean.Computed Array)
+        → ((values : Array) → computed ≡ mean.Gives values → Every IsInteger values.values)
+        → array_at before target ≡ f.array → Agrees Like n 0 (assigns computed)
         (by_step now (assigned now k f.array region kept line computed) (λ after. code.goes_on after))
-    by_values (mean.Gives values) e =
+    by_values (mean.Gives values) integers e =
         subst (λ (a : Array). Agrees Like n 0 (out.goes_on (with_array before target
         (written a region kept (element values))))
         (code.goes_on (with_array_in now k (written f.array region kept (element values))))) (sym e)
@@ -263,8 +273,9 @@ module _ (tables : Tables) (n : ℕ) (spots : List Spot) (w : Where) (line : ℕ
         (record {
           filled = (array_of_is_array f.array.storage _ f.is.steps).filled;
           placed = λ h. f.storage ∙ sym f.storage_row;
-        })) (omega arith))
-    by_values (mean.Traps kind) e = Trapping (omega arith)
+        }) (written_integers f.array values region kept old_integers (integers values refl)))
+        (omega arith))
+    by_values (mean.Traps kind) integers e = Trapping (omega arith)
 
     loop_step : step tables n (row.Loop over.slot (put_group k (words_of left) code_mask line)) now
         ≡ looped tables n (put_group k (words_of left) code_mask line) now (Some region)
@@ -284,5 +295,6 @@ module _ (tables : Tables) (n : ℕ) (spots : List Spot) (w : Where) (line : ℕ
         (by_step now s (λ after. code.goes_on after)))
         (sym (loop_step ∙ put_assigns tables n now k f.array region kept part.field (words_of left)
         code_mask line (putting p.0 p.1 p.2)))
-        (by_values (array_over region kept part.field) e)
+        (by_values (array_over region kept part.field)
+        (array_integers region kept part.field current.is.dims narrow) e)
     put_agrees e false h = Trapping (omega arith)

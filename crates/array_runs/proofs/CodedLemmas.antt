@@ -1,18 +1,19 @@
 -- Expressions without operators over regions: the meaning's terms and the lowering's slates.
 use Rattle.std.proofs.Common.{◌≡◌, refl, sym, ◌∙◌, ap, subst, ℕ, zero, suc, ◌≤◌, true, false}
-use Rattle.std.proofs.Common.{List, [], ℤ, pos, Option, Some, None}
+use Rattle.std.proofs.Common.{List, [], length, ℤ, pos, Option, Some, None}
 use Rattle.std.specs.Prelude.{slice_get, IsSome}
 use Rattle.std.specs.Option.{option_map}
 use Rattle.zpl_nums.specs.declared.operators.UnaryOp.{UnaryOp}
 use Rattle.zpl_nums.specs.declared.operators.UnaryOp.TheVariants as unary
-use Rattle.zpl_nums.specs.Integer.{truth}
+use Rattle.zpl_nums.specs.Integer.{IsInteger, truth}
+use Rattle.zpl_nums.proofs.IntegerLemmas.{IsInteger-truth}
 use Rattle.zpl_region.specs.declared.regions.Region.{Region}
 use Rattle.zpl_binding.specs.Regions.{no_region}
 use Rattle.zpl_tree.specs.Syntax.{Expr, Number, Truth, Coord, Named, Shifted, Around, Remap, Call, Paren, Neg, Not, Abs, Pair, Reduce, Scan, Flood}
 use Rattle.zpl_names.specs.Kinds.{Rank}
 use Rattle.zpl_meaning.specs.Computed as mean
 use Rattle.zpl_meaning.specs.Computed.{both_then, computed_then}
-use Rattle.zpl_meaning.specs.Store.{Thing, Scalar, ArrayAt, Fixed, thing_of}
+use Rattle.zpl_meaning.specs.Store.{Store, Thing, Scalar, ArrayAt, Fixed, thing_of}
 use Rattle.zpl_meaning.specs.Context.{Over, over_at, over_or}
 use Rattle.zpl_meaning.specs.Proper.{HasCurrent}
 use Rattle.zpl_meaning.specs.Regions.{vector_in}
@@ -22,16 +23,19 @@ use Rattle.zpl_meaning.specs.Term as term
 use Rattle.zpl_meaning.specs.Term.{Term}
 use Rattle.node_form.specs.declared.tables.Tables.{Tables}
 use Rattle.node_form.specs.Expression.{Expression}
+use Rattle.node_form.specs.Value as flat
 use Rattle.flat_form.specs.Whole.{Whole}
 use Rattle.zpl_lowering.specs.Where.{Stored, Slotted, Where, Next, slotted_or, slotted_at}
 use Rattle.zpl_lowering.specs.Hoist.{element_code}
 use Rattle.zpl_lowering.specs.Reference.{vector_over}
 use Rattle.zpl_lowering.specs.Slate as slate
 use Rattle.zpl_lowering.specs.Slate.{Slate, named_slate, shifted_slate, settled}
-use Rattle.lowering_runs.specs.Seen.{Spot, Sight, seen_over, seen_currents, seen_place, seen_store, seen_thing}
-use Rattle.lowering_runs.specs.Stands.{IsCurrent, IsCurrentIf, IsHeld, IsSound, Stands}
-use Rattle.lowering_runs.proofs.ValueLemmas.{place_same, thing_seen}
+use Rattle.lowering_runs.specs.Seen.{Spot, Sight, numbered, seen_over, seen_currents, seen_place, seen_store, seen_thing}
+use Rattle.lowering_runs.specs.Stands.{IsCurrent, IsCurrentIf, IsHeld, IsKnown, IsSound, Stands}
+use Rattle.lowering_runs.specs.Scalars.{IsSameValue, BothGive}
+use Rattle.lowering_runs.proofs.ValueLemmas.{known_thing, place_same, thing_seen}
 use Rattle.array_runs.specs.Elementwise.{IsReadable, IsElement, IsElementwise}
+use Rattle.array_runs.specs.Integers.{AreIntegers}
 use Rattle.array_runs.proofs.StoredLemmas.{found_array, index_of_found}
 use Rattle.array_runs.proofs.PartLemmas.{IsPart, constant_part, coordinate_part, unary_part, binary_part, variable_part}
 use Rattle.array_runs.proofs.ElementLemmas.{element_part}
@@ -134,6 +138,31 @@ module _ (tables : Tables) (sight : Sight) (w : Where) (line : ℕ) (next : Next
       readable d place (slice_get w.numbers.arrays place) refl h
   shifted_part d None h = (_, constant_part tables spots w line now c.of over c.current (pos 0))
 
+  -- ---- values of 64 bits
+
+  abbrev here : Store
+  here = seen_store spots w.numbers.arrays now
+
+  gives_integer : (value : ℤ) (one : flat.Computed ℤ) → IsSameValue (mean.Gives value) one
+      → IsInteger value
+  gives_integer value _ (BothGive f) = f
+
+  named_integers : (thing : Option Thing) → ((found : Thing) → thing ≡ Some found
+      → IsKnown (length (numbered spots)) (length w.numbers.arrays) found)
+      → AreIntegers here (named_term meant_over (option_map (seen_thing spots) thing))
+  named_integers (Some (Scalar place)) known =
+      gives_integer _ _ (place_same tables spots w next now stands room sound place)
+  named_integers (Some (Fixed value)) known = known (Fixed value) refl
+  named_integers (Some (ArrayAt place home)) known = tt
+  named_integers None known = IsInteger-truth false
+
+  shifted_integers : (d : List ℤ) (thing : Option Thing)
+      → AreIntegers here (shifted_term meant_over d (option_map (seen_thing spots) thing))
+  shifted_integers d (Some (Scalar place)) = IsInteger-truth false
+  shifted_integers d (Some (Fixed value)) = IsInteger-truth false
+  shifted_integers d (Some (ArrayAt place home)) = tt
+  shifted_integers d None = IsInteger-truth false
+
   -- an expression of the rank, as the meaning and the lowering settle it
   pub record IsCoded (expr : Expr) : Type 0 where
     pub one : Slate
@@ -143,6 +172,7 @@ module _ (tables : Tables) (sight : Sight) (w : Where) (line : ℕ) (next : Next
     pub termed : meant.settled (seen_place sight w now) (seen_store spots w.numbers.arrays now) rank
         expr ≡ mean.Gives term
     pub part : Part one term left
+    pub integers : AreIntegers (seen_store spots w.numbers.arrays now) term
 
   unary_coded : (op : UnaryOp) (expr made : Expr)
       → ((free : Next) → settled w line free rank made
@@ -158,6 +188,7 @@ module _ (tables : Tables) (sight : Sight) (w : Where) (line : ℕ) (next : Next
     slated = λ free. e free ∙ ap (slate.mapped (slate.Unary op)) (h.slated free);
     termed = f ∙ ap (λ x. computed_then x (λ one. mean.Gives (term.Unary op one))) h.termed;
     part = unary_part tables spots w line now c.of over c.current op h.one h.term h.left h.part;
+    integers = h.integers;
   }
 
   pub coded : (expr : Expr) → IsElementwise w region expr → IsCoded expr
@@ -168,6 +199,7 @@ module _ (tables : Tables) (sight : Sight) (w : Where) (line : ℕ) (next : Next
     slated = λ free. refl;
     termed = refl;
     part = constant_part tables spots w line now c.of over c.current value;
+    integers = h;
   }
   coded (Truth at value) h = record {
     one = slate.Constant (truth value);
@@ -176,6 +208,7 @@ module _ (tables : Tables) (sight : Sight) (w : Where) (line : ℕ) (next : Next
     slated = λ free. refl;
     termed = refl;
     part = constant_part tables spots w line now c.of over c.current (truth value);
+    integers = IsInteger-truth value;
   }
   coded (Coord at k) h = record {
     one = slate.Coordinate k;
@@ -184,6 +217,7 @@ module _ (tables : Tables) (sight : Sight) (w : Where) (line : ℕ) (next : Next
     slated = λ free. refl;
     termed = refl;
     part = coordinate_part tables spots w line now c.of over c.current k h;
+    integers = tt;
   }
   coded (Named at name) h =
       let p = named_part (thing_of w.environment name.text) h in
@@ -196,6 +230,9 @@ module _ (tables : Tables) (sight : Sight) (w : Where) (line : ℕ) (next : Next
         termed = ap (λ o. mean.Gives (named_term meant_over o))
             (thing_seen spots w.environment.names name.text);
         part = p.1;
+        integers = named_integers (thing_of w.environment name.text) (λ found e. known_thing
+            (length (numbered spots)) (length w.numbers.arrays) w.environment.names name.text found
+            stands.known e);
       }
   coded (Shifted at name shift) h =
       let d = vector_in w.setup.known shift in
@@ -209,6 +246,7 @@ module _ (tables : Tables) (sight : Sight) (w : Where) (line : ℕ) (next : Next
         termed = ap (λ o. mean.Gives (shifted_term meant_over d o))
             (thing_seen spots w.environment.names name.text);
         part = p.1;
+        integers = shifted_integers d (thing_of w.environment name.text);
       }
   coded (Paren at inside) h =
       let r = coded inside h in
@@ -219,6 +257,7 @@ module _ (tables : Tables) (sight : Sight) (w : Where) (line : ℕ) (next : Next
         slated = r.slated;
         termed = r.termed;
         part = r.part;
+        integers = r.integers;
       }
   coded (Neg at operand) h =
       unary_coded unary.Neg operand (Neg at operand) (λ free. refl) refl (coded operand h)
@@ -248,6 +287,7 @@ module _ (tables : Tables) (sight : Sight) (w : Where) (line : ℕ) (next : Next
             (λ one other. mean.Gives (term.Binary op one other))) b.termed;
         part = binary_part tables spots w line now c.of over c.current op a.one b.one a.term b.term
             a.left b.left a.part b.part;
+        integers = (a.integers, b.integers);
       }
   coded (Around at name shift) h = absurd h
   coded (Remap at name indices) h = absurd h

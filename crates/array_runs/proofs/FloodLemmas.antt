@@ -137,7 +137,7 @@ module _ (w : Where) (slots : List Region) (rank : ℕ) (slotted : Slotted)
   element shift None h = tt
 
   pub elementwise : (expr : Expr) → IsElementwiseAs w slotted expr → IsElementwise w c.region expr
-  elementwise (Number at value) h = tt
+  elementwise (Number at value) h = h
   elementwise (Truth at value) h = tt
   elementwise (Coord at k) h = h
   elementwise (Named at name) h = element [] (thing_of w.environment name.text) h

@@ -1,4 +1,5 @@
 pub mod PlaceLemmas
+pub mod IntegerLemmas
 pub mod GateLemmas
 pub mod StoredLemmas
 pub mod PartLemmas

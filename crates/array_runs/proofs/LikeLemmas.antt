@@ -1,12 +1,15 @@
 -- A state in which an array of the store has other values.
-use Rattle.std.proofs.Common.{◌≡◌, ◌≢◌, refl, sym, ◌∙◌, ap, subst, arith, ℕ, zero, suc, ◌≤◌}
+use Rattle.std.proofs.Common.{◌≡◌, ◌≢◌, ◌⊎◌, inl, inr, refl, sym, ◌∙◌, ap, subst, arith, ℕ, zero, suc, ◌≤◌, true}
 use Rattle.std.proofs.Common.{List, [], ◌∷◌, length, map, Option, Some, None}
 use Rattle.std.specs.Prelude.{slice_get, slice_index_or, slice_set}
 use Rattle.std.specs.List.{AllZip}
+use Rattle.std.proofs.lemmas.Bool.{cases_eq}
+use Rattle.zpl_nums.specs.Integer.{IsInteger}
 use Rattle.zpl_arrays.specs.Array.{Array}
 use Rattle.zpl_meaning.specs.Store.{Store, no_array, with_array}
 use Rattle.node_form.specs.declared.arrays.ArrayRow.{ArrayRow}
 use Rattle.node_form.specs.declared.tables.Tables.{Tables}
+use Rattle.row_runs.specs.Straight.{Every}
 use Rattle.flat_form.specs.States.{IsStoreOf}
 use Rattle.flat_form.specs.Whole.{Whole}
 use Rattle.normal_runs.proofs.PlaceLemmas.{set_apart, set_there}
@@ -96,10 +99,10 @@ pub like_array : (tables : Tables) (spots : List Spot) (w : Where) (next : Next)
     → slice_get w.numbers.arrays target ≡ Some stored
     → slice_get tables.arrays stored.array ≡ Some row
     → slice_get now.stores stored.array ≡ Some old → IsStoreOf row new
-    → IsLike tables spots w next start (with_array store target new)
+    → Every IsInteger new.values → IsLike tables spots w next start (with_array store target new)
     (with_array_in now stored.array new)
 like_array tables spots w next start store now target stored row old new like found in_tables there
-    of =
+    of integers =
     let after = with_array_in now stored.array new in
     let k = stored.array in
     let here : array_in after k ≡ new =
@@ -122,7 +125,22 @@ like_array tables spots w next start store now target stored row old new like fo
         };
         settled = like.sound.settled;
         integers = like.sound.integers;
+        elements = λ j row e kept. by j row e kept (cases_eq j k);
       };
       kept = record { hidden = like.kept.hidden; slots = like.kept.slots };
       held = like.held;
     }
+  where
+    by : (j : ℕ) (row : ArrayRow) → slice_get tables.arrays j ≡ Some row → row.stored ≡ true
+        → (j ≡ stored.array) ⊎ (j ≡ stored.array → ⊥)
+        → Every IsInteger (array_in (with_array_in now stored.array new) j).values
+    by j row e kept (inl same) =
+        subst (λ (a : Array). Every IsInteger a.values)
+        (sym (ap (array_in (with_array_in now stored.array new)) same
+        ∙ index_of_found (with_array_in now stored.array new).stores stored.array new no_array
+        (set_there now.stores stored.array new old there))) integers
+    by j row e kept (inr ne) =
+        subst (λ (a : Array). Every IsInteger a.values)
+        (sym (index_is (with_array_in now stored.array new).stores j no_array
+        ∙ ap (index_if no_array) (set_apart now.stores stored.array j new (λ q. ne (sym q)))
+        ∙ sym (index_is now.stores j no_array))) (like.sound.elements j row e kept)

@@ -54,6 +54,8 @@ use Rattle.array_runs.proofs.StoredLemmas.{IsFound, found_array, index_of_found}
 use Rattle.array_runs.proofs.PartLemmas.{IsStill, alone_still, both_still}
 use Rattle.array_runs.proofs.CodedLemmas.{CurrentOf, current_of, IsCoded, coded}
 use Rattle.array_runs.proofs.MaskLemmas.{IsMasking, masking}
+use Rattle.array_runs.specs.Integers.{GivesIntegers}
+use Rattle.array_runs.proofs.IntegerLemmas.{term_integers, store_integers}
 use Rattle.array_runs.proofs.AssignLemmas.{all_is, all_there, put_agrees}
 
 right_true : (b : Bool) → (b && true) ≡ b
@@ -97,6 +99,11 @@ module _ (tables : Tables) (n : ℕ) (sight : Sight) (w : Where) (next : Next) (
 
   m : IsMasking tables spots w line now c.of over c.current over.mask
   m = masking tables spots w line now c.of over c.current like.sound like.held.stored over.mask masked
+
+  narrow : GivesIntegers it.part.field
+  narrow =
+      term_integers store (store_integers tables spots w.numbers.arrays now like.sound like.held.stored)
+      it.term it.integers it.part.field it.part.fielded
 
   abbrev refs : List Reference
   refs =
@@ -180,7 +187,7 @@ module _ (tables : Tables) (n : ℕ) (sight : Sight) (w : Where) (next : Next) (
       ap (λ rs. rows rs now) (sym (append-nil (needs line refs)))
       ∙ needs_gate tables n now like.sound.settled line refs []
       (all_there tables n spots w line now c.of over c.current target stored found f writable it.one
-      it.term it.left it.part over.mask m)
+      it.term it.left it.part narrow over.mask m)
 
   abbrev puts : List Row
   puts = put_row w line over it.left (Some stored)
@@ -224,7 +231,7 @@ module _ (tables : Tables) (n : ℕ) (sight : Sight) (w : Where) (next : Next) (
   both_agree =
       let gates : list_all (holds tables now) refs ≡ goes =
       all_is tables n spots w line now c.of over c.current target stored found f writable it.one it.term
-      it.left it.part over.mask m in
+      it.left it.part narrow over.mask m in
       subst (λ (x : Course Whole). Agrees Like n 0 (run meant_over) x)
       (sym (ap course settled_is ∙ course_is ∙ ap (λ b. gate b line now (rows puts now)) gates))
       (subst (λ (x : mean.Computed (List Field)). Agrees Like n 0
@@ -234,7 +241,7 @@ module _ (tables : Tables) (n : ℕ) (sight : Sight) (w : Where) (next : Next) (
       (written (array_at store target) region (is_kept_in store meant_over) (element values)))))
       (gate goes line now (rows puts now))) (sym fields_are)
       (put_agrees tables n spots w line now c.of over c.current target stored found f writable it.one
-      it.term it.left it.part over.mask m next start store like f.seen goes gates))
+      it.term it.left it.part narrow over.mask m next start store like f.seen goes gates))
 
   pub agrees_at : (o : Over) → o ≡ meant_over → Agrees Like n 0 (run o)
       (course (settled_each w line next (record { rank = own_rank; expr = value } ∷ [])))

@@ -1,5 +1,6 @@
 -- Expressions without operators over regions, which have a value at each tuple of a region.
 use Rattle.std.specs.Prelude.{◌-◌, ◌<◌, ℤ, List, [], Option, Some, None, slice_get}
+use Rattle.zpl_nums.specs.Integer.{IsInteger}
 use Rattle.zpl_region.specs.declared.regions.Region.{Region}
 use Rattle.zpl_tree.specs.Syntax.{Expr, Number, Truth, Coord, Named, Shifted, Around, Remap, Call, Paren, Neg, Not, Abs, Pair, Reduce, Scan, Flood}
 use Rattle.zpl_meaning.specs.Store.{Thing, Scalar, ArrayAt, Fixed, thing_of}
@@ -23,9 +24,9 @@ IsElement w region shift (Some (ArrayAt place home)) =
     IsReadable region shift (slice_get w.numbers.arrays place)
 IsElement w region shift None = Unit {0}
 
--- numbers, truth values, coordinates, names, reads with a shift, and operators on them
+-- numbers of 64 bits, truth values, coordinates, names, reads with a shift, and operators on them
 abbrev pub IsElementwise : Where → Region → Expr → Type 0
-IsElementwise w region (Number at value) = Unit {0}
+IsElementwise w region (Number at value) = IsInteger value
 IsElementwise w region (Truth at value) = Unit {0}
 IsElementwise w region (Coord at k) = k - 1 < 3
 IsElementwise w region (Named at name) =

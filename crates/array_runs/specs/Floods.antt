@@ -2,6 +2,7 @@
 -- the current regions are.
 use Rattle.std.specs.Prelude.{◌≡◌, ◌⊎◌, ◌-◌, ◌<◌, ℕ, zero, suc, Bool, true, false, ℤ, List, [], ◌∷◌, length, map, Option, Some, None, slice_get}
 use Rattle.zpl_nums.specs.declared.operators.Op.{Op}
+use Rattle.zpl_nums.specs.Integer.{IsInteger}
 use Rattle.zpl_region.specs.declared.regions.Region.{Region}
 use Rattle.zpl_tree.specs.Syntax.{Name, Expr, Number, Truth, Coord, Named, Shifted, Around, Remap, Call, Paren, Neg, Not, Abs, Pair, Reduce, Scan, Flood}
 use Rattle.zpl_names.specs.Sites.{Assigned, handed}
@@ -52,7 +53,7 @@ IsElementAs w slotted shift None = Unit {0}
 
 -- an expression without operators over regions, where the current region is in this slot
 abbrev pub IsElementwiseAs : Where → Slotted → Expr → Type 0
-IsElementwiseAs w slotted (Number at value) = Unit {0}
+IsElementwiseAs w slotted (Number at value) = IsInteger value
 IsElementwiseAs w slotted (Truth at value) = Unit {0}
 IsElementwiseAs w slotted (Coord at k) = k - 1 < 3
 IsElementwiseAs w slotted (Named at name) =

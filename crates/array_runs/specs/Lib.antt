@@ -3,3 +3,4 @@ pub mod Gates
 pub mod Elementwise
 pub mod Assigned
 pub mod Floods
+pub mod Integers

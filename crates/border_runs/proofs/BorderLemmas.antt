@@ -15,7 +15,10 @@ use Rattle.zpl_region.specs.Dim.{dim_inside_of, dim_outside_of}
 use Rattle.zpl_region.specs.Region.{IsRegion, IsWithinLimit, components, each, inside_of, outside_of}
 use Rattle.zpl_region.specs.Tests.{is_within_limit}
 use Rattle.zpl_region.proofs.HullLemmas.{has_steps}
+use Rattle.zpl_nums.specs.Integer.{IsInteger}
 use Rattle.zpl_arrays.specs.Array.{Array, element}
+use Rattle.zpl_meaning.specs.Store.{no_array}
+use Rattle.row_runs.specs.Straight.{Every}
 use Rattle.zpl_arrays.proofs.ArrayLemmas.{array_of_is_array}
 use Rattle.zpl_arrays.specs.Border.{border_conforms, border_source, border_sources}
 use Rattle.zpl_arrays.specs.Reference.{is_reference, lies_in}
@@ -70,7 +73,8 @@ use Rattle.array_runs.proofs.FloodLemmas.{current_floods, each_matches}
 use Rattle.array_runs.proofs.GateLemmas.{each_gate}
 use Rattle.array_runs.proofs.LikeLemmas.{index_if, index_is, like_array}
 use Rattle.array_runs.proofs.PlaceLemmas.{reference_same}
-use Rattle.array_runs.proofs.StoredLemmas.{IsFound, found_array}
+use Rattle.array_runs.proofs.IntegerLemmas.{element_integer, made_integers}
+use Rattle.array_runs.proofs.StoredLemmas.{IsFound, found_array, index_of_found}
 use Rattle.array_runs.proofs.TargetLemmas.{covers_matching}
 use Rattle.prefix_runs.proofs.FillLemmas.{slots_below}
 use Rattle.prefix_runs.proofs.ShapeLemmas.{Keeps, each_length, inside_keeps, outside_keeps}
@@ -118,6 +122,7 @@ module _ (tables : Tables) (spots : List Spot) (w : Where) (next : Next)
           };
           settled = like.sound.settled;
           integers = like.sound.integers;
+          elements = like.sound.elements;
         };
         kept = record {
           hidden = like.kept.hidden;
@@ -253,6 +258,12 @@ module _ (tables : Tables) (n : ℕ) (sight : Sight) (w : Where) (line : ℕ) (n
         abbrev after : Whole
         after = with_array_in now stored.array new
 
+        old_integers : Every IsInteger f.array.values
+        old_integers =
+            subst (λ (a : Array). Every IsInteger a.values)
+            (index_of_found now.stores stored.array f.array no_array f.in_stores)
+            (like.sound.elements stored.array f.row f.in_tables f.kept)
+
         like_after : Like (with_array store target new) after
         like_after =
             like_array tables sight.spots w next begun store now target stored f.row f.array new like found
@@ -261,6 +272,9 @@ module _ (tables : Tables) (n : ℕ) (sight : Sight) (w : Where) (line : ℕ) (n
               filled = (array_of_is_array f.array.storage _ f.is.steps).filled;
               placed = λ h. f.storage ∙ sym f.storage_row;
             })
+            (made_integers f.array border everywhere
+            (λ t. element f.array (border_source kind base edge.shift t)) old_integers
+            (λ t. element_integer f.array old_integers (border_source kind base edge.shift t)))
 
         has_after : HasSlots after
         has_after = record {

@@ -1,5 +1,5 @@
 -- The code of a copy fills an array that was free with what another one holds.
-use Rattle.std.proofs.Common.{◌≡◌, refl, sym, ◌∙◌, ap, subst, arith, ℕ, ◌<◌, Bool, true, false, ◌&&◌, All}
+use Rattle.std.proofs.Common.{◌≡◌, ◌⊎◌, inl, inr, refl, sym, ◌∙◌, ap, subst, arith, ℕ, ◌<◌, Bool, true, false, ◌&&◌, All}
 use Rattle.std.proofs.Common.{List, [], ◌∷◌, length, map, ℤ, pos, Option, Some, None, append-nil}
 use Rattle.std.specs.Prelude.{flat_map, if◌then◌else◌, option_and_then, replicate, slice_get}
 use Rattle.std.specs.List.{list_all}
@@ -7,7 +7,12 @@ use Rattle.zpl_region.specs.declared.regions.Region.{Region}
 use Rattle.zpl_region.specs.Dim.{HasStep}
 use Rattle.zpl_region.specs.Region.{IsMember, members}
 use Rattle.zpl_region.proofs.TestLemmas.{is_member_iff}
+use Rattle.zpl_nums.specs.Integer.{IsInteger}
 use Rattle.zpl_arrays.specs.Array.{Array, array_of, element, has_place}
+use Rattle.node_form.specs.declared.arrays.ArrayRow.{ArrayRow}
+use Rattle.row_runs.specs.Straight.{Every}
+use Rattle.lowering_runs.specs.Seen.{array_in}
+use Rattle.std.proofs.lemmas.Bool.{cases_eq}
 use Rattle.zpl_arrays.proofs.ArrayLemmas.{array_of_is_array, element_of_member, flattened_is, place_of_member, same_elements}
 use Rattle.zpl_binding.specs.Regions.{no_region}
 use Rattle.zpl_meaning.specs.Computed as mean
@@ -218,6 +223,22 @@ module _ (tables : Tables) (n line : ℕ) (next : Next) (from : Stored) (now : W
       (row.Loop next.slots (put_group next.arrays expr None line) ∷ []))) fix_step
       ∙ ap (λ (s : Step Whole). by_step mid s (λ whole. code.goes_on whole)) loop_step
 
+  copied_integers : (j : ℕ) (row : ArrayRow) → slice_get tables.arrays j ≡ Some row
+      → row.stored ≡ true → (j ≡ next.arrays) ⊎ (j ≡ next.arrays → ⊥)
+      → Every IsInteger (array_in after j).values
+  copied_integers j row e kept (inl same) =
+      subst (λ (a : Array). Every IsInteger a.values)
+      (sym (ap (array_in after) same ∙ index_of_found after.stores next.arrays f.array no_array
+      (set_there now.stores next.arrays f.array g.array g.in_stores)))
+      (subst (λ (a : Array). Every IsInteger a.values)
+      (index_of_found now.stores from.array f.array no_array f.in_stores)
+      (sound.elements from.array f.row f.in_tables f.kept))
+  copied_integers j row e kept (inr ne) =
+      subst (λ (a : Array). Every IsInteger a.values)
+      (sym (index_is after.stores j no_array
+      ∙ ap (index_if no_array) (set_apart now.stores next.arrays j f.array (λ q. ne (sym q)))
+      ∙ sym (index_is now.stores j no_array))) (sound.elements j row e kept)
+
   pub copied : IsCopied tables n line next from now
   copied =
       let many = length_set now.slots next.slots region in
@@ -235,6 +256,7 @@ module _ (tables : Tables) (n line : ℕ) (next : Next) (from : Stored) (now : W
           };
           settled = sound.settled;
           integers = sound.integers;
+          elements = λ j row e kept. copied_integers j row e kept (cases_eq j next.arrays);
         };
         here = index_of_found after.stores next.arrays f.array no_array
             (set_there now.stores next.arrays f.array g.array g.in_stores)

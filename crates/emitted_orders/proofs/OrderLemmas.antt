@@ -1,6 +1,8 @@
 -- What node code comes to in step is what its plan shows.
-use Rattle.std.proofs.Common.{◌≡◌, refl, sym, ap, ◌∙◌, subst, ℕ, suc, ◌+◌, ◌*◌, Bool}
-use Rattle.std.proofs.Common.{true, false, List, Option, Some}
+use Rattle.std.proofs.Common.{◌≡◌, refl, sym, ap, ◌∙◌, subst, ℕ, suc, ◌+◌, ◌*◌, ◌≤◌, Bool}
+use Rattle.std.proofs.Common.{true, false, List, Option, Some, None}
+use Rattle.std.specs.Prelude.{max}
+use Rattle.std.proofs.Math.Nat.{le-max_left}
 use Rattle.std.proofs.lemmas.List.{length-map}
 use Rattle.node_form.specs.declared.tables.Tables.{Tables}
 use Rattle.row_runs.specs.Run.{Result}
@@ -8,6 +10,8 @@ use Rattle.plan_meaning.specs.Act.{plan_run}
 use Rattle.node_emit.specs.Emit.{along_tree, emitted}
 use Rattle.plan_orders.specs.Brings.{row_most}
 use Rattle.plan_orders.specs.InStep.{ComesInStep, IsInStep, least_moves, run_most, some_turns, stops_within}
+use Rattle.plan_orders.specs.Open.{HoldsOpen, most_open}
+use Rattle.plan_orders.proofs.OpenLemmas.{open_enough, open_step}
 use Rattle.plan_orders.proofs.RoomLemmas.{free_step}
 use Rattle.emitted_orders.specs.AsPlanned.{ComesAsPlanned, HoldsAsPlanned}
 use Rattle.emitted_orders.proofs.AlikeLemmas.{emitted_runs, emitted_stops}
@@ -45,3 +49,12 @@ holds_as_planned code plan most comes a n right =
     let (order, step) = comes a n right in
     let (stepped, holds) = free_step code most _ _ _ order step in
     (order, stepped, holds)
+
+-- and none ever holds more than exchanges are open at once in the plan's run, or than one
+pub open_as_planned : (code plan : Tables)
+    → ((most : ℕ) → 1 ≤ most → HoldsAsPlanned code plan most) → HoldsOpen code plan
+open_as_planned code plan few a n right =
+    let most = max 1 (most_open plan None (suc a) (some_turns n)) in
+    let enough = open_enough plan a n right in
+    open_step code plan a n most enough
+    (few most (le-max_left 1 (most_open plan None (suc a) (some_turns n))) a n enough.right)

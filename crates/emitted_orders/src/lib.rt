@@ -12,6 +12,7 @@ ghost use Rattle.grid_meaning.specs.State.{HasThree};
 ghost use Rattle.plan_meaning.specs.Act.{plan_run};
 ghost use Rattle.node_emit.specs.Emit.{emitted};
 ghost use Rattle.plan_orders.specs.Brings.{HaveOrders};
+ghost use Rattle.plan_orders.specs.Open.{HoldsOpen};
 ghost use Rattle.emitted_orders.specs.AsPlanned.{ComesAsPlanned, HoldsAsPlanned};
 
 use plan_orders::laws::{plans_come_in_step, rows_have_orders};
@@ -35,7 +36,8 @@ pub fn node_code_runs_as_its_plan()
 /// where the run stops, over links of every capacity, unless the run with one jump more, and one
 /// turn at least, is wrong. So does one for each row of the code. Where the plan isn't wrong over
 /// links of so many messages, the order does the same over links of any number, and no link ever
-/// holds more.
+/// holds more; and for each run over links of any number, none holds more messages than exchanges
+/// are open in it at once, or than one.
 pub fn node_code_comes_as_planned()
     ensures orders { (tree : Bool) (grid : List ℕ) (plan : Code) (links : Option ℕ) →
         plan.grid ≡ grid → IsCapacity links → Fits plan →
@@ -46,6 +48,8 @@ pub fn node_code_comes_as_planned()
     ensures holds { (tree : Bool) (grid : List ℕ) (plan : Code) (most : ℕ) →
         plan.grid ≡ grid → 1 ≤ most → Fits plan →
         HoldsAsPlanned (emitted tree grid plan) plan most }
+    ensures holds_open { (tree : Bool) (grid : List ℕ) (plan : Code) →
+        plan.grid ≡ grid → Fits plan → HoldsOpen (emitted tree grid plan) plan }
 {
     plans_come_in_step();
     rows_have_orders();

@@ -1,6 +1,7 @@
 mod Examples
 pub mod AwaitLemmas
 pub mod BehindLemmas
+pub mod BroughtLemmas
 pub mod ColumnLemmas
 pub mod FlatLemmas
 pub mod GroupLemmas

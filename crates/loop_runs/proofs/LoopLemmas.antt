@@ -169,7 +169,7 @@ module _ (code : Tables) (layout : HasLayout code) (sharable : IsSharable code) 
   wrong e = subst (λ effect. Tied (Holds code) (flow_step effect (λ next. OnTo [] next)) Plan) (sym e)
       TiedWrong
 
-  inlined_is : inlined code (instr.Loop slot group) ≡ Loop slot G
+  pub inlined_is : inlined code (instr.Loop slot group) ≡ Loop slot G
   inlined_is = ap (λ l. Loop slot (map (member_inlined code) l)) (index_there code.groups group members there)
 
   among_groups : Among code.groups members
@@ -265,7 +265,7 @@ module _ (code : Tables) (layout : HasLayout code) (sharable : IsSharable code) 
             every_of (λ w. Every Needed (needed_by slot w)) words
             (λ w inside. needed_word m among e expr words is fits w inside)
 
-    needed_all : Every Needed (needs_of code slot group)
+    pub needed_all : Every Needed (needs_of code slot group)
     needed_all =
         items_hold Needed [] (flat_map (needed_by slot) (uses.group_words code group)) tt
         (every_flat Needed (needed_by slot) (uses.group_words code group)
@@ -278,7 +278,7 @@ module _ (code : Tables) (layout : HasLayout code) (sharable : IsSharable code) 
         (every_of (λ e. Every (λ w. Every Needed (needed_by slot w)) (uses.words_of code e))
         (uses.exprs_of m) (λ e expr. needed_expr m among e expr)))))))
 
-    brought : AreBrought code layout links roomy n whole region all (needs_of code slot group)
+    pub brought : AreBrought code layout links roomy n whole region all (needs_of code slot group)
     brought = needs_brought code layout links roomy n whole region (needs_of code slot group) needed_all
         all holds
 

@@ -18,6 +18,7 @@ ghost use Rattle.zpl_binding.specs.Storages.{borders_of, storage_of};
 ghost use Rattle.zpl_region.specs.Tests.{is_within_limit};
 ghost use Rattle.zpl_region.specs.declared.regions.Region.{Region};
 ghost use Rattle.zpl_arrays.specs.Around.{copy_storage};
+ghost use Rattle.meaning_ranks.specs.Shaped.{AreFloods};
 ghost use Rattle.zpl_meaning.specs.Context.{Currents, Edge};
 ghost use Rattle.zpl_meaning.specs.Visited.{first_setup, IsVisited};
 ghost use Rattle.node_form.specs.Fits.{FitsArray, IsRank};

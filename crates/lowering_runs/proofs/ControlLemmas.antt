@@ -20,13 +20,13 @@ use Rattle.zpl_lowering.specs.Statement.{Lowering}
 use Rattle.lowering_runs.specs.Seen.{Sight, seen_place}
 use Rattle.lowering_runs.specs.Run.{step, decide, does}
 use Rattle.lowering_runs.specs.Agrees.{Agrees}
-use Rattle.lowering_runs.specs.Scalars.{IsScalarAt}
 use Rattle.lowering_runs.specs.Stands.{HasRoom, IsLike}
-use Rattle.lowering_runs.specs.Goes.{World, context, lowering, Goes}
+use Rattle.lowering_runs.specs.Goes.{World, context, lowering, Goes, TestsGo}
+use Rattle.lowering_runs.specs.Suits.{ScalarTest}
 use Rattle.lowering_runs.proofs.AgreeLemmas.{goes_agrees, weaker_agrees, jumping_agrees}
 use Rattle.lowering_runs.proofs.AgreeLemmas.{leaving_agrees, then_agrees}
 use Rattle.lowering_runs.proofs.LoopLemmas.{tested_agrees, while_agrees, repeat_agrees}
-use Rattle.lowering_runs.proofs.FitLemmas.{itself, before_behind, room_first, room_rest, room_here}
+use Rattle.lowering_runs.proofs.FitLemmas.{itself, before_behind, room_first, room_rest}
 use Rattle.lowering_runs.proofs.FitLemmas.{later_goes}
 use Rattle.lowering_runs.proofs.ScalarLemmas.{heads}
 
@@ -58,6 +58,13 @@ module _ (world : World) where
       (before_behind next one) stands served.1
       (room_rest world.tables next (code.Then one.code other.code) one other room) s v k)
 
+  -- ---- tests of scalars
+
+  pub scalar_tests : TestsGo world ScalarTest
+  scalar_tests sight w next from start at test stands before scalar room store now like =
+      heads world.tables world.turns sight w next start stands
+      (omega (arith, room.scalars, before.scalars)) from at test scalar store now like
+
   -- ---- statements that are not shattered
 
   pub unsplit_goes : (IsServed : Where → Place → Type 0) (form : Form)
@@ -81,11 +88,12 @@ module _ (world : World) where
 
   -- ---- choices
 
-  module _ (at offset : ℕ) (test : Expr) (body : Stmts) (IsServed : Where → Place → Type 0)
+  module _ (IsTest : Expr → Where → Place → Type 0) (tests : TestsGo world IsTest) (at offset : ℕ)
+      (test : Expr) (body : Stmts) (IsServed : Where → Place → Type 0)
       (goes : Goes world IsServed (λ c. mean.exec_all c world.turns body)
       (λ l next. low.lowered_all l next body) 0) where
     pub when_goes : (last : Lowering → Next → Lowered)
-        → Goes world (λ w p. IsScalarAt p test × IsServed w p)
+        → Goes world (λ w p. IsTest test w p × IsServed w p)
         (λ c store. mean.exec_arm c world.turns at (Tested offset test body) out.goes_on store)
         (λ l next. low.lowered_arm l next at (Tested offset test body) true (last l)) 0
     when_goes last sight w next start stands served room store now like =
@@ -93,8 +101,9 @@ module _ (world : World) where
         let t = low.test_of w next test at in
         let more = behind next t.before in
         let inside = low.lowered_all l more body in
-        let here = room_here world.tables next
-        (low.lowered_arm l next at (Tested offset test body) true (last l)) room in
+        let rooms : HasRoom world.tables next
+        (joined (code.Then t.before.code inside.code) t.before inside) =
+        record { scalars = room.scalars; slots = room.slots; arrays = room.arrays; temps = room.temps } in
         tested_agrees (Like sight w next start) (Like sight w next start) world.turns
         (mean.test_of (seen_place sight w start) test at)
         (decide world.tables world.turns t.check) 0 2 0 store
@@ -102,22 +111,23 @@ module _ (world : World) where
         (mean.exec_all (context world sight w start) world.turns body) out.goes_on
         (λ state. code.jumping (does world.tables world.turns inside.code state))
         (λ state. code.jumping (code.goes_on state)) (omega arith)
-        (heads world.tables world.turns sight w next start stands here next at test served.0 store
-        now like)
+        (tests sight w next next start at test stands (itself next) served.0
+        (room_first world.tables next (code.Then t.before.code inside.code) t.before inside rooms)
+        store now like)
         (λ v k. weaker_agrees (Like sight w next start) world.turns world.turns 1 2 _ _ (omega arith)
         (omega arith) (jumping_agrees (Like sight w next start) world.turns 0 _ _
         (later_goes world IsServed (λ c. mean.exec_all c world.turns body)
         (λ l next. low.lowered_all l next body) 0 goes sight w next more start
         (before_behind next t.before) stands served.1
-        (room_rest world.tables next (code.Then t.before.code inside.code) t.before inside
-        (record { scalars = room.scalars; slots = room.slots; arrays = room.arrays; temps = room.temps })) store v k)))
+        (room_rest world.tables next (code.Then t.before.code inside.code) t.before inside rooms)
+        store v k)))
         (λ v k. weaker_agrees (Like sight w next start) world.turns world.turns 1 2 _ _ (omega arith)
         (omega arith) (jumping_agrees (Like sight w next start) world.turns 0 _ _
         (goes_agrees (Like sight w next start) world.turns store v k)))
 
     pub chosen_goes : (Other : Where → Place → Type 0) (rest : Context → Store → Outcome)
         (last : Lowering → Next → Lowered) → Goes world Other rest last 0
-        → Goes world (λ w p. IsScalarAt p test × IsServed w p × Other w p)
+        → Goes world (λ w p. IsTest test w p × IsServed w p × Other w p)
         (λ c store. mean.exec_arm c world.turns at (Tested offset test body) (rest c) store)
         (λ l next. low.lowered_arm l next at (Tested offset test body) false (last l)) 0
     chosen_goes Other rest last others sight w next start stands served room store now like =
@@ -127,13 +137,12 @@ module _ (world : World) where
         let inside = low.lowered_all l more body in
         let far = behind more inside in
         let other = last l far in
-        let here = room_here world.tables next
-        (low.lowered_arm l next at (Tested offset test body) false (last l)) room in
-        let rooms : HasRoom world.tables more
-        (joined (code.Then inside.code other.code) inside other) =
-        room_rest world.tables next (code.Then t.before.code inside.code) t.before
-        (joined (code.Then inside.code other.code) inside other)
-        (record { scalars = room.scalars; slots = room.slots; arrays = room.arrays; temps = room.temps }) in
+        let both : Lowered = joined (code.Then inside.code other.code) inside other in
+        let all : HasRoom world.tables next
+        (joined (code.Then t.before.code inside.code) t.before both) =
+        record { scalars = room.scalars; slots = room.slots; arrays = room.arrays; temps = room.temps } in
+        let rooms : HasRoom world.tables more both =
+        room_rest world.tables next (code.Then t.before.code inside.code) t.before both all in
         let leave : Whole → Course Whole = λ state. code.jumping (code.goes_on state) in
         tested_agrees (Like sight w next start) (Like sight w next start) world.turns
         (mean.test_of (seen_place sight w start) test at)
@@ -144,7 +153,8 @@ module _ (world : World) where
         (λ state. code.jumping
         (code.then_do (does world.tables world.turns inside.code state) leave))
         (λ state. code.jumping (does world.tables world.turns other.code state)) (omega arith)
-        (heads world.tables world.turns sight w next start stands here next at test served.0 store
+        (tests sight w next next start at test stands (itself next) served.0
+        (room_first world.tables next (code.Then t.before.code inside.code) t.before both all) store
         now like)
         (λ v k. jumping_agrees (Like sight w next start) world.turns 1 _ _
         (leaving_agrees (Like sight w next start) world.turns 0 _ _
@@ -166,10 +176,11 @@ module _ (world : World) where
 
   -- ---- loops
 
-  module _ (at : ℕ) (test : Expr) (body : Stmts) (IsServed : Where → Place → Type 0)
+  module _ (IsTest : Expr → Where → Place → Type 0) (tests : TestsGo world IsTest) (at : ℕ)
+      (test : Expr) (body : Stmts) (IsServed : Where → Place → Type 0)
       (goes : Goes world IsServed (λ c. mean.exec_all c world.turns body)
       (λ l next. low.lowered_all l next body) 0) where
-    pub while_goes : Goes world (λ w p. IsScalarAt p test × IsServed w p)
+    pub while_goes : Goes world (λ w p. IsTest test w p × IsServed w p)
         (λ c store. out.while_turns world.turns (mean.test_of c.place test at)
         (mean.exec_all c world.turns body) store)
         (λ l next. low.while_code next (low.test_of l.place next test at)
@@ -179,13 +190,12 @@ module _ (world : World) where
         let t = low.test_of w next test at in
         let more = behind next t.before in
         let inside = low.lowered_all l more body in
-        let here = room_here world.tables next
-        (joined (code.While t.before.code t.check inside.code) t.before inside) room in
+        let here = room_first world.tables next (code.While t.before.code t.check inside.code)
+        t.before inside room in
         while_agrees (step world.tables world.turns) (decide world.tables world.turns)
         (Like sight w next start) (mean.test_of (seen_place sight w start) test at) t.check 0
         (omega arith) (does world.tables world.turns t.before.code)
-        (λ s v k. heads world.tables world.turns sight w next start stands here next at test
-        served.0 s v k)
+        (λ s v k. tests sight w next next start at test stands (itself next) served.0 here s v k)
         world.turns (mean.exec_all (context world sight w start) world.turns body)
         (does world.tables world.turns inside.code)
         (λ s v k. later_goes world IsServed (λ c. mean.exec_all c world.turns body)
@@ -195,7 +205,7 @@ module _ (world : World) where
         room) s v k)
         world.turns (omega arith) store now like
 
-    pub repeat_goes : Goes world (λ w p. IsScalarAt p test × IsServed w p)
+    pub repeat_goes : Goes world (λ w p. IsTest test w p × IsServed w p)
         (λ c store. out.repeat_turns world.turns (mean.test_of c.place test at)
         (mean.exec_all c world.turns body) store)
         (λ l next. low.repeat_code next (low.lowered_all l next body)
@@ -204,13 +214,13 @@ module _ (world : World) where
         let l = lowering world w in
         let inside = low.lowered_all l next body in
         let t = low.test_of w (behind next inside) test at in
-        let here = room_here world.tables next
-        (joined (code.Repeat inside.code t.before.code t.check) inside t.before) room in
+        let here = room_rest world.tables next (code.Repeat inside.code t.before.code t.check) inside
+        t.before room in
         repeat_agrees (step world.tables world.turns) (decide world.tables world.turns)
         (Like sight w next start) (mean.test_of (seen_place sight w start) test at) t.check 0
         (omega arith) (does world.tables world.turns t.before.code)
-        (λ s v k. heads world.tables world.turns sight w next start stands here
-        (behind next inside) at test served.0 s v k)
+        (λ s v k. tests sight w next (behind next inside) start at test stands
+        (before_behind next inside) served.0 here s v k)
         world.turns (mean.exec_all (context world sight w start) world.turns body)
         (does world.tables world.turns inside.code)
         (λ s v k. later_goes world IsServed (λ c. mean.exec_all c world.turns body)

@@ -7,19 +7,23 @@ use Rattle.zpl_nums.specs.Integer.{IsInteger}
 use Rattle.zpl_nums.proofs.IntegerLemmas.{IsInteger-truth}
 use Rattle.zpl_nums.specs.declared.folds.Fold.{Fold}
 use Rattle.zpl_region.specs.declared.regions.Region.{Region}
+use Rattle.zpl_region.specs.Region.{members}
+use Rattle.zpl_arrays.specs.Array.{array_of}
 use Rattle.zpl_tree.specs.Syntax.{Name, Bracket, NoBracket, Bracketed, Define, VarDef, Decl, Vars, Config, Constant, Regions, Directions, Defined}
 use Rattle.zpl_binding.specs.Outcome.{Computed, value_or, outcome_of}
 use Rattle.zpl_binding.specs.Regions.{Known, no_region}
 use Rattle.zpl_binding.specs.Storages.{Border}
-use Rattle.zpl_meaning.specs.Store.{Thing, Scalar, ArrayAt, Fixed, Names}
+use Rattle.zpl_meaning.specs.Store.{Thing, Scalar, ArrayAt, Fixed, Names, no_array}
 use Rattle.zpl_meaning.specs.Variables.{Frame, empty_frame, with_name, with_names, with_variables, with_values, with_declarations}
+use Rattle.node_form.specs.declared.arrays.ArrayRow.{ArrayRow}
 use Rattle.node_form.specs.declared.tables.Tables.{Tables}
 use Rattle.node_form.specs.declared.instructions.Instr.TheVariants as instr
 use Rattle.row_runs.specs.Run.{Step, Goes}
+use Rattle.row_runs.specs.Straight.{Every}
 use Rattle.row_runs.specs.Structured as code
 use Rattle.row_runs.specs.Structured.{Course, rows_do, by_step}
 use Rattle.flat_form.specs.Row as row
-use Rattle.flat_form.specs.Whole.{Whole, start_whole}
+use Rattle.flat_form.specs.Whole.{Whole, start_places, start_whole}
 use Rattle.flat_form.proofs.WholeLemmas.{begin_whole}
 use Rattle.zpl_lowering.specs.Program as low
 use Rattle.lowering_runs.specs.Seen.{scalar_in, Spot, At, seen_spot, seen_names, seen_thing, numbered, place_of}
@@ -177,11 +181,27 @@ none_at (suc m) (suc k) = none_at m k
 pub start_zero : (tables : Tables) (k : ℕ) → scalar_in (start_whole tables) k ≡ pos 0
 start_zero tables k = zero_at tables.scalars k
 
+zeros_of : (ts : List (List ℤ)) → Every IsInteger (map (λ t. pos 0) ts)
+zeros_of [] = tt
+zeros_of (t ∷ ts) = (IsInteger-truth false, zeros_of ts)
+
+-- an array of zeros has integers of 64 bits
+pub zeros_integers : (region : Region) → Every IsInteger (array_of region (λ t. pos 0)).values
+zeros_integers region = zeros_of (members region)
+
+zeros_in : (rows : List ArrayRow) (k : ℕ) → Every IsInteger (slice_index_or (map (λ row.
+    array_of (start_places row row.stored) (λ t. pos 0)) rows) k no_array).values
+zeros_in [] zero = tt
+zeros_in [] (suc k) = tt
+zeros_in (row ∷ rows) zero = zeros_integers (start_places row row.stored)
+zeros_in (row ∷ rows) (suc k) = zeros_in rows k
+
 pub start_sound : (tables : Tables) → IsSound tables (start_whole tables)
 start_sound tables = record {
   filled = begin_whole tables;
   settled = λ k. none_at tables.scalars k;
   integers = λ k. subst (λ (v : ℤ). IsInteger v) (sym (start_zero tables k)) (IsInteger-truth false);
+  elements = λ k row e stored. zeros_in tables.arrays k;
 }
 
 -- ---- declared regions
@@ -206,6 +226,7 @@ module _ (tables : Tables) (n : ℕ) where
     };
     settled = h.settled;
     integers = h.integers;
+    elements = h.elements;
   }
 
   -- behind the rows of declared regions, which change slots alone

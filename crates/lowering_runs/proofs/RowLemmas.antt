@@ -129,6 +129,7 @@ module _ (tables : Tables) where
     };
     settled = h.settled;
     integers = λ j. by j (cases_eq j k);
+    elements = h.elements;
   }
     where
       inside : k < length whole.scalars

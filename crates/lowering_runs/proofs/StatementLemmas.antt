@@ -34,11 +34,12 @@ use Rattle.lowering_runs.specs.Called.{CallsAgree}
 use Rattle.lowering_runs.specs.ScalarText.{AreScalarActuals, AreScalarTexts, AreScalarStmts, AreScalarArms, IsScalarElse}
 use Rattle.lowering_runs.specs.Served.{IsServed, AreServed, IsServedForm}
 use Rattle.lowering_runs.specs.Leaves.{IsScalarAssigned, AreScalarItems, AreServedActuals, IsServedInvoke, ScalarLeaf}
-use Rattle.lowering_runs.specs.Suits.{SuitsStmt, SuitAll, SuitsForm, SuitArms, SuitsElse}
+use Rattle.lowering_runs.specs.Suits.{ScalarTest, SuitsStmt, SuitAll, SuitsForm, SuitArms, SuitsElse}
 use Rattle.lowering_runs.proofs.NumberLemmas.{get_some, number_below}
 use Rattle.lowering_runs.proofs.ValueLemmas.{thing_seen, known_thing}
 use Rattle.lowering_runs.proofs.ScalarLemmas.{assigned_agrees}
 use Rattle.lowering_runs.proofs.FitLemmas.{room_here}
+use Rattle.lowering_runs.proofs.ControlLemmas.{scalar_tests}
 use Rattle.lowering_runs.proofs.SuitLemmas.{goes_by, goes_more, FormGoes, suited_goes}
 use Rattle.lowering_runs.proofs.PrintLemmas.{write_goes}
 use Rattle.lowering_runs.proofs.CallLemmas.{invoke_goes}
@@ -209,9 +210,7 @@ module _ (world : World) where
       (sym (thing_seen sight.spots w.environment.names name.text))
       (by (thing_of w.environment name.text) refl
       (subst (λ (t : Option Thing). IsTarget p.currents (Some 0) t)
-      (thing_seen sight.spots w.environment.names name.text)
-      (subst (λ (r : Rank). IsTarget p.currents r (thing_of p.environment name.text))
-      served.handed_is served.target)))))
+      (thing_seen sight.spots w.environment.names name.text) served.target))))
     where
       by : (thing : Option Thing) → thing_of w.environment name.text ≡ thing
           → IsTarget (seen_place sight w start).currents (Some 0)
@@ -332,8 +331,8 @@ module _ (world : World) (setup : Setup) (IsCallable : List ℕ → Type 0)
         let p = proper_plain place name op value s (proper_form at (Assign name op value) place h) in
         record {
           scalar = s;
-          handed_is = h.scalar.0;
-          target = p.0;
+          target = subst (λ (r : Rank). IsTarget place.currents r
+              (thing_of place.environment name.text)) h.scalar.0 p.0;
           value_is = scalar_at place (Assigned name op) (assigned_expr name op value) s h.scalar.1 p.1;
         }
 
@@ -550,5 +549,5 @@ module _ (world : World) (setup : Setup) (IsCallable : List ℕ → Type 0)
         (SuitsStmt Bare (ScalarLeaf setup IsCallable) stmt)
         (λ c store. mean.exec c world.turns stmt store) (λ l next. low.lowered l next stmt) 0
         (λ w p h. stmt_suits stmt w p h)
-        (suited_goes world Bare (ScalarLeaf setup IsCallable) bare_goes
+        (suited_goes world Bare ScalarTest (ScalarLeaf setup IsCallable) bare_goes (scalar_tests world)
         (scalar_leaves world setup IsCallable calls) stmt)

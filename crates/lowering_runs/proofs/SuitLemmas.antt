@@ -1,7 +1,7 @@
 -- The code of a statement goes as the statement does, where all forms in it suit their places: by
--- what is known of prefixes, and of forms that have no statements in them.
+-- what is known of prefixes, of tests, and of forms that have no statements in them.
 use Rattle.std.proofs.Common.{◌≡◌, ◌⊎◌, inl, inr, ℕ, ◌+◌, Bool, false, List, arith}
-use Rattle.zpl_tree.specs.Syntax.{Prefix, Stmt, Prefixed, Stmts, NoStmt, ThenStmt, Form, Assign, Invoke, Block, If, While, Repeat, For, Border, Write, Return, Tested, Arms, NoArm, ThenArm, Otherwise, NoElse, Else}
+use Rattle.zpl_tree.specs.Syntax.{Expr, Prefix, Stmt, Prefixed, Stmts, NoStmt, ThenStmt, Form, Assign, Invoke, Block, If, While, Repeat, For, Border, Write, Return, Tested, Arms, NoArm, ThenArm, Otherwise, NoElse, Else}
 use Rattle.zpl_names.specs.Sites.{is_shattered}
 use Rattle.zpl_meaning.specs.Store.{Store}
 use Rattle.zpl_meaning.specs.Context.{Place, reach_of}
@@ -15,10 +15,9 @@ use Rattle.zpl_lowering.specs.Lowered.{Lowered}
 use Rattle.zpl_lowering.specs.Statement as low
 use Rattle.zpl_lowering.specs.Statement.{Lowering}
 use Rattle.lowering_runs.specs.Seen.{seen_place}
-use Rattle.lowering_runs.specs.Scalars.{IsScalarAt}
 use Rattle.lowering_runs.specs.Stands.{IsLike}
-use Rattle.lowering_runs.specs.Goes.{World, Goes}
-use Rattle.lowering_runs.specs.Suits.{IsServedHead, SuitsStmt, SuitAll, SuitsForm, SuitArms, SuitsElse}
+use Rattle.lowering_runs.specs.Goes.{World, Goes, TestsGo}
+use Rattle.lowering_runs.specs.Suits.{IsServedHead, SuitsStmtBy, SuitAllBy, SuitsFormBy, SuitArmsBy, SuitsElseBy}
 use Rattle.lowering_runs.proofs.AgreeLemmas.{weaker_agrees, counting_agrees}
 use Rattle.lowering_runs.proofs.ControlLemmas.{nothing_goes, two_go, unsplit_goes, when_goes, chosen_goes, while_goes, repeat_goes}
 use Rattle.lowering_runs.proofs.HeadLemmas.{for_goes}
@@ -58,27 +57,27 @@ module _ (world : World) where
       (λ l next. low.lowered_form l next at form) 1
 
   module _ (IsUnder : Bool → List Prefix → (Where → Place → Type 0) → Where → Place → Type 0)
-      (IsLeaf : ℕ → Form → Where → Place → Type 0)
+      (IsTest : Expr → Where → Place → Type 0) (IsLeaf : ℕ → Form → Where → Place → Type 0)
       (under : (borders : Bool) (prefixes : List Prefix) (IsServed : Where → Place → Type 0)
       (run : Context → Store → Outcome) (made : Lowering → Next → Lowered)
       → Goes world IsServed run made 1 → Goes world (IsUnder borders prefixes IsServed)
       (λ c store. mean.under c prefixes store (λ inner. run inner store))
       (λ l next. low.lowered_under borders l next prefixes made) 1)
-      (leaves : (at : ℕ) (form : Form) → FormGoes IsLeaf at form) where
+      (tests : TestsGo world IsTest) (leaves : (at : ℕ) (form : Form) → FormGoes IsLeaf at form) where
     abbrev Stmt_ : Stmt → Where → Place → Type 0
-    Stmt_ stmt = SuitsStmt IsUnder IsLeaf stmt
+    Stmt_ stmt = SuitsStmtBy IsUnder IsTest IsLeaf stmt
 
     abbrev All_ : Stmts → Where → Place → Type 0
-    All_ stmts = SuitAll IsUnder IsLeaf stmts
+    All_ stmts = SuitAllBy IsUnder IsTest IsLeaf stmts
 
     abbrev Form_ : ℕ → Form → Where → Place → Type 0
-    Form_ at form = SuitsForm IsUnder IsLeaf at form
+    Form_ at form = SuitsFormBy IsUnder IsTest IsLeaf at form
 
     abbrev Else_ : Otherwise → Where → Place → Type 0
-    Else_ otherwise = SuitsElse IsUnder IsLeaf otherwise
+    Else_ otherwise = SuitsElseBy IsUnder IsTest IsLeaf otherwise
 
     abbrev Arms_ : Arms → Otherwise → Where → Place → Type 0
-    Arms_ arms otherwise w p = SuitArms IsUnder IsLeaf arms w p × Else_ otherwise w p
+    Arms_ arms otherwise w p = SuitArmsBy IsUnder IsTest IsLeaf arms w p × Else_ otherwise w p
 
     abbrev StmtGoes : Stmt → Type 0
     StmtGoes stmt =
@@ -162,28 +161,28 @@ module _ (world : World) where
           (λ l next. low.shattered l.place (line_of l.place at) next (If arms otherwise))
           (made_arms arms at otherwise) 0 (arms_go arms at otherwise (else_goes otherwise))))
       form_goes (While test body) at =
-          tested_goes at (While test body) (λ w p. IsScalarAt p test × All_ body w p)
+          tested_goes at (While test body) (λ w p. IsTest test w p × All_ body w p)
           (goes_more (λ w p. (is_shattered (reach_of p) (While test body) ≡ false)
-          × (IsScalarAt p test × All_ body w p)) (run_form at (While test body))
+          × (IsTest test w p × All_ body w p)) (run_form at (While test body))
           (made_form at (While test body))
-          (unsplit_goes world (λ w p. IsScalarAt p test × All_ body w p) (While test body)
+          (unsplit_goes world (λ w p. IsTest test w p × All_ body w p) (While test body)
           (λ c. shattered c.place (mean.line_of c.place at) world.turns (While test body))
           (λ c store. out.while_turns world.turns (mean.test_of c.place test at)
           (mean.exec_all c world.turns body) store)
           (λ l next. low.shattered l.place (line_of l.place at) next (While test body))
           (λ l next. low.while_code next (low.test_of l.place next test at)
           (λ after. low.lowered_all l after body)) 0
-          (while_goes world at test body (All_ body) (all_go body))))
+          (while_goes world IsTest tests at test body (All_ body) (all_go body))))
       form_goes (Repeat body until test) at =
-          tested_goes at (Repeat body until test) (λ w p. IsScalarAt p test × All_ body w p)
-          (unsplit_goes world (λ w p. IsScalarAt p test × All_ body w p) (Repeat body until test)
+          tested_goes at (Repeat body until test) (λ w p. IsTest test w p × All_ body w p)
+          (unsplit_goes world (λ w p. IsTest test w p × All_ body w p) (Repeat body until test)
           (λ c. shattered c.place (mean.line_of c.place at) world.turns (Repeat body until test))
           (λ c store. out.repeat_turns world.turns (mean.test_of c.place test until)
           (mean.exec_all c world.turns body) store)
           (λ l next. low.shattered l.place (line_of l.place at) next (Repeat body until test))
           (λ l next. low.repeat_code next (low.lowered_all l next body)
           (λ after. low.test_of l.place after test until)) 1
-          (repeat_goes world until test body (All_ body) (all_go body)))
+          (repeat_goes world IsTest tests until test body (All_ body) (all_go body)))
       form_goes (For head body) at =
           goes_by (λ w p. IsServedHead head p × All_ body w p)
           (λ w p. IsServedHead head p × All_ body w p) (run_form at (For head body))
@@ -200,17 +199,17 @@ module _ (world : World) where
           (made_arms NoArm at otherwise) 0 (λ w p k. k.1) h
       arms_go (ThenArm (Tested own test body) NoArm) at NoElse h =
           let arms = ThenArm (Tested own test body) NoArm in
-          goes_by (Arms_ arms NoElse) (λ w p. IsScalarAt p test × All_ body w p)
+          goes_by (Arms_ arms NoElse) (λ w p. IsTest test w p × All_ body w p)
           (run_arms arms at NoElse) (made_arms arms at NoElse) 0 (λ w p k. k.0.0)
-          (when_goes world at own test body (All_ body) (all_go body)
+          (when_goes world IsTest tests at own test body (All_ body) (all_go body)
           (λ l after. made_arms NoArm (mean.arms_at NoArm) NoElse l after))
       arms_go (ThenArm (Tested own test body) NoArm) at (Else other) h =
           let arms = ThenArm (Tested own test body) NoArm in
           goes_by (Arms_ arms (Else other))
-          (λ w p. IsScalarAt p test × All_ body w p × Arms_ NoArm (Else other) w p)
+          (λ w p. IsTest test w p × All_ body w p × Arms_ NoArm (Else other) w p)
           (run_arms arms at (Else other)) (made_arms arms at (Else other)) 0
           (λ w p k. (k.0.0.0, k.0.0.1, (k.0.1, k.1)))
-          (chosen_goes world at own test body (All_ body) (all_go body) (Arms_ NoArm (Else other))
+          (chosen_goes world IsTest tests at own test body (All_ body) (all_go body) (Arms_ NoArm (Else other))
           (run_arms NoArm (mean.arms_at NoArm) (Else other))
           (λ l after. made_arms NoArm (mean.arms_at NoArm) (Else other) l after)
           (goes_by (Arms_ NoArm (Else other)) (Else_ (Else other))
@@ -220,10 +219,10 @@ module _ (world : World) where
           let arms = ThenArm (Tested own test body) (ThenArm second rest) in
           let more = ThenArm second rest in
           goes_by (Arms_ arms otherwise)
-          (λ w p. IsScalarAt p test × All_ body w p × Arms_ more otherwise w p)
+          (λ w p. IsTest test w p × All_ body w p × Arms_ more otherwise w p)
           (run_arms arms at otherwise) (made_arms arms at otherwise) 0
           (λ w p k. (k.0.0.0, k.0.0.1, (k.0.1, k.1)))
-          (chosen_goes world at own test body (All_ body) (all_go body) (Arms_ more otherwise)
+          (chosen_goes world IsTest tests at own test body (All_ body) (all_go body) (Arms_ more otherwise)
           (run_arms more (mean.arms_at more) otherwise)
           (λ l after. made_arms more (mean.arms_at more) otherwise l after)
           (arms_go (ThenArm second rest) (mean.arms_at (ThenArm second rest)) otherwise h))

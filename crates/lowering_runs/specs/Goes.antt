@@ -1,18 +1,22 @@
 -- Code goes as what it was lowered from, wherever that stands.
 use Rattle.std.specs.Prelude.{ℕ}
+use Rattle.zpl_tree.specs.Syntax.{Expr}
 use Rattle.zpl_meaning.specs.Store.{Store}
 use Rattle.zpl_meaning.specs.Context.{Place}
 use Rattle.zpl_meaning.specs.Outcome.{Outcome}
 use Rattle.zpl_meaning.specs.Calls.{Called}
+use Rattle.zpl_meaning.specs.Statement as mean
 use Rattle.zpl_meaning.specs.Statement.{Context}
 use Rattle.node_form.specs.declared.tables.Tables.{Tables}
 use Rattle.flat_form.specs.Whole.{Whole}
-use Rattle.zpl_lowering.specs.Where.{Where, Next}
+use Rattle.zpl_lowering.specs.Where.{Where, Next, line_of}
 use Rattle.zpl_lowering.specs.Lowered.{Lowered}
+use Rattle.zpl_lowering.specs.Statement as low
 use Rattle.zpl_lowering.specs.Statement.{Calling, Lowering}
 use Rattle.lowering_runs.specs.Seen.{Sight, seen_place}
-use Rattle.lowering_runs.specs.Run.{does}
-use Rattle.lowering_runs.specs.Stands.{Stands, HasRoom, IsLike}
+use Rattle.lowering_runs.specs.Run.{decide, does}
+use Rattle.lowering_runs.specs.Heads.{Heads}
+use Rattle.lowering_runs.specs.Stands.{Stands, HasRoom, IsBefore, IsLike}
 use Rattle.lowering_runs.specs.Agrees.{Agrees}
 
 -- what calls do and become, with tables, and the turns that each loop may make
@@ -40,3 +44,15 @@ module _ (world : World) where
       → Agrees (IsLike world.tables sight.spots w next start) world.turns spare
       (run (context sight w start) store)
       (does world.tables world.turns (made (lowering w) next).code now)
+
+  -- So do the rows before a test, and the test, behind others of the statement that it is in.
+  abbrev pub TestsGo : (Expr → Where → Place → Type 0) → Type 0
+  TestsGo IsTest =
+      (sight : Sight) (w : Where) (next from : Next) (start : Whole) (at : ℕ) (test : Expr)
+      → Stands sight.spots w next → IsBefore next from → IsTest test w (seen_place sight w start)
+      → HasRoom world.tables from (low.test_of w from test at).before → (store : Store)
+      (now : Whole) → IsLike world.tables sight.spots w next start store now
+      → Heads (IsLike world.tables sight.spots w next start store)
+      ((mean.test_of (seen_place sight w start) test at).value store) (line_of w at) 0
+      (decide world.tables world.turns (low.test_of w from test at).check)
+      (does world.tables world.turns (low.test_of w from test at).before.code now)

@@ -4,7 +4,7 @@ use Rattle.zpl_nums.specs.declared.operators.Op.{Op}
 use Rattle.zpl_tree.specs.Syntax.{Name, Expr, Exprs, NoExpr, ThenExpr, Item, Str, Value, Form, Assign, Invoke, Block, If, While, Repeat, For, Border, Write, Return}
 use Rattle.zpl_names.specs.Kinds.{Formal, ScalarFormal, ArrayFormal}
 use Rattle.zpl_names.specs.Scope.{kind_of}
-use Rattle.zpl_names.specs.Sites.{Assigned, Printed, handed}
+use Rattle.zpl_names.specs.Sites.{Printed}
 use Rattle.zpl_meaning.specs.Store.{Store, thing_of}
 use Rattle.zpl_meaning.specs.Context.{Setup, Place, reach_of, rank_in}
 use Rattle.zpl_meaning.specs.Points.{assigned_expr}
@@ -18,9 +18,7 @@ use Rattle.lowering_runs.specs.Scalars.{IsScalarExpr, IsScalarAt}
 pub record IsScalarAssigned (name : Name) (op : Option Op) (value : Expr) (w : Where) (p : Place)
     : Type 0 where
   pub scalar : IsScalarExpr (assigned_expr name op value)
-  pub handed_is : handed (reach_of p) (Assigned name op) ≡ Some 0
-  pub target : IsTarget p.currents (handed (reach_of p) (Assigned name op))
-      (thing_of p.environment name.text)
+  pub target : IsTarget p.currents (Some 0) (thing_of p.environment name.text)
   pub value_is : IsScalarAt p (assigned_expr name op value)
 
 -- texts and scalars are printed

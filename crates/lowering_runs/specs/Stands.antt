@@ -10,6 +10,7 @@ use Rattle.zpl_meaning.specs.Store.{Thing, Scalar, ArrayAt, Fixed, Names, Store}
 use Rattle.node_form.specs.declared.arrays.ArrayRow.{ArrayRow}
 use Rattle.node_form.specs.declared.tables.Tables.{Tables}
 use Rattle.node_form.specs.Fits.{storage_of}
+use Rattle.row_runs.specs.Straight.{Every}
 use Rattle.flat_form.specs.Whole.{Whole}
 use Rattle.flat_form.specs.States.{IsWhole}
 use Rattle.flat_form.specs.Right.{is_settled}
@@ -17,7 +18,7 @@ use Rattle.zpl_lowering.specs.Where.{Stored, Slotted, SlotCurrents, SlotEdge, Wh
 use Rattle.zpl_lowering.specs.Hoist.{Shifted}
 use Rattle.zpl_lowering.specs.Lowered.{Lowered}
 use Rattle.zpl_lowering.specs.Tables.{stored_row, temp_row}
-use Rattle.lowering_runs.specs.Seen.{scalar_in, slot_in, Spot, seen_store, seen_names, numbered}
+use Rattle.lowering_runs.specs.Seen.{array_in, scalar_in, slot_in, Spot, seen_store, seen_names, numbered}
 
 -- ---- numbers
 
@@ -161,6 +162,9 @@ pub record IsSound (tables : Tables) (whole : Whole) : Type 0 where
   pub filled : IsWhole tables whole
   pub settled : (k : ℕ) → is_settled whole k ≡ true
   pub integers : (k : ℕ) → IsInteger (scalar_in whole k)
+  -- also those of stored arrays
+  pub elements : (k : ℕ) (row : ArrayRow) → slice_get tables.arrays k ≡ Some row
+      → row.stored ≡ true → Every IsInteger (array_in whole k).values
 
 -- what was taken before and is no variable's stays as it was
 pub record Keeps (numbers : List ℕ) (next : Next) (before after : Whole) : Type 0 where

@@ -21,6 +21,7 @@ use Rattle.zpl_meaning.specs.Proper.{HasCurrent}
 use Rattle.zpl_meaning.specs.Statement.{assign_array, written}
 use Rattle.node_form.specs.declared.tables.Tables.{Tables}
 use Rattle.node_form.specs.Expression.{Expression, words_of}
+use Rattle.row_runs.specs.Straight.{Every}
 use Rattle.row_runs.specs.Structured as code
 use Rattle.row_runs.specs.Structured.{Course, rows_do}
 use Rattle.flat_form.specs.Names.{word_reads}
@@ -48,9 +49,10 @@ use Rattle.operator_runs.specs.Meant.{Under, InSlot}
 use Rattle.operator_runs.specs.Hoists.{IsReadWell, HoistAll, AllReach, OneStumbles}
 use Rattle.operator_runs.specs.Operated.{IsOperated}
 use Rattle.operator_runs.proofs.HoistLemmas.{every_map}
+use Rattle.array_runs.specs.Integers.{GivesIntegers}
 use Rattle.operator_runs.proofs.LikeLemmas.{like_spared}
 use Rattle.operator_runs.proofs.MeantLemmas.{AreReferred, element_at, mask_at}
-use Rattle.operator_runs.proofs.PhaseLemmas.{phases_few, own_held}
+use Rattle.operator_runs.proofs.PhaseLemmas.{phases_few, integer_fields, own_held}
 use Rattle.operator_runs.proofs.PutLemmas.{put_agrees}
 use Rattle.operator_runs.proofs.SettleLemmas.{AreOperated, Fits, Reads, ReadsNone, ReadsUnder, fits_current}
 use Rattle.operator_runs.proofs.SpareLemmas.{spares_all, holds_on}
@@ -166,15 +168,16 @@ module _ (tables : Tables) (n : ℕ) (sight : Sight) (w : Where) (next : Next) (
     came : (c : mean.Computed (List Field)) (course : Course Whole)
         → ((fields : List Field) → c ≡ mean.Gives fields
         → (is_within store region target ≡ true) × (has_mask_within store meant_over ≡ true))
+        → ((fields : List Field) → c ≡ mean.Gives fields → Every GivesIntegers fields)
         → HoistAll tables spots w.numbers.arrays (Under over region) (free_at next 0) behind line 0 now
         (left ∷ []) c course
         → Agrees Like n 0 (outcome meant_over c)
         (code.then_do course (rows_do (step tables n) (decide tables n)
         (put_row w line over left (Some stored))))
-    came c course holding (OneStumbles less) = Trapping (omega (arith, less))
-    came c course holding (AllReach {fields = []} s h less) = absurd h
-    came c course holding (AllReach {fields = field ∷ other ∷ rest} s h less) = absurd h.1
-    came c course holding (AllReach {after = after} {jumps = jumps} {fields = field ∷ []} s h less) =
+    came c course holding integers (OneStumbles less) = Trapping (omega (arith, less))
+    came c course holding integers (AllReach {fields = []} s h less) = absurd h
+    came c course holding integers (AllReach {fields = field ∷ other ∷ rest} s h less) = absurd h.1
+    came c course holding integers (AllReach {after = after} {jumps = jumps} {fields = field ∷ []} s h less) =
         let own_holds = holding (field ∷ []) refl in
         let all = spares_all tables spots w.numbers.arrays behind after s.sound in
         let i : InSlot after.slots over region = record {
@@ -189,7 +192,7 @@ module _ (tables : Tables) (n : ℕ) (sight : Sight) (w : Where) (next : Next) (
         (let zero_is : 0 ≡ jumps = omega (arith, less) in zero_is)
         (put_agrees tables n spots w line next now store after
         (like_spared tables spots w next now store now after (free_at next 0) (omega arith) like s) over
-        region i target stored found matches readable_mask field left
+        region i target stored found matches readable_mask field (integers (field ∷ []) refl).0 left
         (holds_on tables spots w.numbers.arrays now after s.slots (refer_to over.slot [] (Some stored))
         ∙ ap (λ (o : Option Stored). list_all (holds tables now) (refer_to over.slot [] o)) (sym found)
         ∙ (owned stored found matches).gate ∙ own_holds.0)
@@ -218,6 +221,10 @@ module _ (tables : Tables) (n : ℕ) (sight : Sight) (w : Where) (next : Next) (
         came stored found matches _ _ _ _
         (own_held tables n sight w line next now stands room like.sound like.held (Under over region)
         either.0 fits.in_slot exprs either.1 own (is_within store region target)
+        (owned stored found matches) (over_reference w.numbers over) (has_mask_within store meant_over)
+        lasting)
+        (integer_fields tables n sight w line next now stands room like.sound like.held
+        (Under over region) either.0 fits.in_slot exprs either.1 own (is_within store region target)
         (owned stored found matches) (over_reference w.numbers over) (has_mask_within store meant_over)
         lasting)
         (phases_few tables n sight w line next now stands room like.sound like.held (Under over region)

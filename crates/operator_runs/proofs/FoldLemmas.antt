@@ -91,6 +91,7 @@ fold_sound tables whole k operator value lt f h = record {
   };
   settled = fold_settled whole k operator value (omega (arith, lt, h.filled.awaited)) h.settled;
   integers = λ j. by j (cases_eq j k);
+  elements = h.elements;
 }
   where
     inside : k < length whole.scalars

@@ -48,7 +48,7 @@ use Rattle.operator_runs.proofs.MeantLemmas.{mask_in}
 use Rattle.operator_runs.proofs.SpareLemmas.{spares_temp}
 use Rattle.operator_runs.proofs.TempLemmas.{array_is, can_put, can_take, kept_written, loop_step, moved_is, temp_value}
 use Rattle.std.proofs.Common.{◌≡◌, refl, sym, ◌∙◌, ap, subst, arith, ℕ, ◌+◌, ◌<◌, ◌≤◌, Bool, true, false}
-use Rattle.std.proofs.Common.{List, [], ◌∷◌, ◌++◌, length, ℤ, pos, Option, Some, None, ◌⊎◌, inl, inr}
+use Rattle.std.proofs.Common.{List, [], ◌∷◌, ◌++◌, length, ℤ, pos, Option, Some, None}
 use Rattle.std.specs.Prelude.{replicate, slice_get}
 use Rattle.std.specs.List.{list_all}
 use Rattle.std.proofs.lemmas.List.{length-append}
@@ -61,6 +61,7 @@ use Rattle.zpl_nums.specs.Integer.{IsInteger}
 use Rattle.zpl_nums.specs.Op.{applied}
 use Rattle.zpl_nums.specs.UnaryOp.{applied_unary}
 use Rattle.zpl_region.specs.declared.regions.Region.{Region}
+use Rattle.zpl_region.specs.Region.{members}
 use Rattle.zpl_region.proofs.HullLemmas.{has_steps}
 use Rattle.zpl_arrays.specs.Array.{Array, element}
 use Rattle.zpl_arrays.specs.Fold.{reduced}
@@ -102,9 +103,11 @@ use Rattle.lowering_runs.proofs.ValueLemmas.{place_same}
 use Rattle.array_puts.specs.Put.{IsSame, BothGive, BothDivide, IsMask}
 use Rattle.array_runs.specs.Gates.{holds}
 use Rattle.array_runs.specs.Elementwise.{IsReadableMask}
+use Rattle.array_runs.specs.Integers.{GivesIntegers, HasIntegers}
+use Rattle.array_runs.proofs.IntegerLemmas.{IfGives, array_integers, element_integer, kept_integer, store_integers, unit_integer}
 use Rattle.array_runs.proofs.PartLemmas.{IsPart, all_append, both_true, coordinate_part}
 use Rattle.array_runs.proofs.MaskLemmas.{IsMasking}
-use Rattle.operator_runs.specs.Meant.{Site, Alone, Under, InSlot, IsSite, IsMeant, IsNarrow, Wraps}
+use Rattle.operator_runs.specs.Meant.{Site, Alone, Under, InSlot, IsSite, IsMeant}
 use Rattle.operator_runs.specs.Meant.{ConstantMeant, VariableMeant, CoordinateMeant, ElementMeant}
 use Rattle.operator_runs.specs.Meant.{UnaryMeant, BinaryMeant, FoldedMeant, AreMeant, NoneMeant, MoreMeant}
 use Rattle.operator_runs.specs.Hoists.{operands_of, IsReadWell, Spares, HasValues, Hoists, Reaches, Stumbles, HoistAll, AllReach, OneStumbles, tests_of, tests_of_all}
@@ -113,7 +116,7 @@ use Rattle.operator_runs.proofs.FoldLemmas.{with_fold, fold_course, fold_does}
 use Rattle.operator_runs.proofs.SpareLemmas.{IsFreer, spares_all, spares_then, holds_on, spares_total, spares_fold}
 use Rattle.operator_runs.proofs.StandLemmas.{NamesBelow, acc_stands, mask_names}
 use Rattle.operator_runs.proofs.MeantLemmas.{current_in, element_at, mask_at}
-use Rattle.operator_runs.proofs.NarrowLemmas.{IsNarrowField, narrow, reduced_integer, array_integer, unit_integer}
+use Rattle.operator_runs.proofs.IntegerLemmas.{field_integers}
 
 -- ---- lists
 
@@ -245,6 +248,11 @@ module _ (tables : Tables) (n : ℕ) (spots : List Spot) (w : Where) (line : ℕ
   scalars_here now h place =
       subst (λ (s : Store). IsInteger (scalar_at s (place_of spots place))) h.seen_is
       (number_given _ _ (place_same tables spots w next now stands room h.sound place))
+
+  pub arrays_here : (now : Whole) → IsState now → HasIntegers store
+  arrays_here now h =
+      subst (λ (s : Store). HasIntegers s) h.seen_is
+      (store_integers tables spots w.numbers.arrays now h.sound all)
 
   -- ---- what has no rows
 
@@ -471,7 +479,7 @@ module _ (tables : Tables) (n : ℕ) (spots : List Spot) (w : Where) (line : ℕ
 
     module _ (after : Whole) (s : Spared free now after) (field : Field)
         (h : Values (Under over region) mid after field left)
-        (narrow_if : Wraps operator ⊎ IsNarrowField field) where
+        (integers : GivesIntegers field) where
       abbrev begun : Whole
       begun = with_total after k (unit_of operator)
 
@@ -543,12 +551,9 @@ module _ (tables : Tables) (n : ℕ) (spots : List Spot) (w : Where) (line : ℕ
       total_integer : (array : Array) → array_over region is_in field ≡ mean.Gives array
           → IsInteger (total array)
       total_integer array e =
-          reduced_integer operator region is_in array (by narrow_if)
-        where
-          by : Wraps operator ⊎ IsNarrowField field
-              → Wraps operator ⊎ ((t : List ℤ) → IsInteger (element array t))
-          by (inl x) = inl x
-          by (inr x) = inr (array_integer region is_in field x array e)
+          kept_integer operator is_in (element array)
+          (element_integer array (array_integers region is_in field i.is.dims integers array e))
+          (members region)
 
       total_values : (v : ℤ)
           → Values site last (with_fold after k operator v) (constant_field v) (word.Variable k)
@@ -591,20 +596,15 @@ module _ (tables : Tables) (n : ℕ) (spots : List Spot) (w : Where) (line : ℕ
           (by_array most jumps few (array_over region is_in field) refl)
 
     fold_hoists : (most : ℕ) (c : mean.Computed Field) (course : Course Whole)
-        → Wraps operator ⊎ ((field : Field) → c ≡ mean.Gives field → IsNarrowField field)
+        → IfGives c
         → Hoist (Under over region) free mid most now left c course
         → Hoist site free last most now (word.Variable k)
         (computed_then c (λ field. computed_then (array_over region is_in field) (λ array.
         mean.Gives (fold_field operator region is_in array))))
         (code.then_do course (rows (fold_rows w.numbers line k operator over left)))
-    fold_hoists most c course narrow_if (Stumbles few) = Stumbles few
-    fold_hoists most c course narrow_if (Reaches {after = after} {jumps = jumps} {field = field} s h few) =
-        folded_hoists after s field h (by narrow_if) most jumps few
-      where
-        by : Wraps operator ⊎ ((other : Field) → mean.Gives field ≡ mean.Gives other
-            → IsNarrowField other) → Wraps operator ⊎ IsNarrowField field
-        by (inl x) = inl x
-        by (inr f) = inr (f field refl)
+    fold_hoists most c course integers (Stumbles few) = Stumbles few
+    fold_hoists most c course integers (Reaches {after = after} {jumps = jumps} {field = field} s h few) =
+        folded_hoists after s field h (integers field refl) most jumps few
 
   -- ---- operators that leave their values in a temporary
 
@@ -1197,7 +1197,7 @@ module _ (tables : Tables) (n : ℕ) (spots : List Spot) (w : Where) (line : ℕ
       confs.1 mid (omega (arith, le)) (omega (arith, space))
       (temps_rest tables.arrays free.temps first.temps second.temps temps)))
   hoists site _ _ (FoldedMeant {operator = operator} {over = over} {region = region} {one = one}
-      {operand = operand} j readable no_floods wraps h) i now here held conf free le space temps =
+      {operand = operand} j readable no_floods h) i now here held conf free le space temps =
       let inner = hoisted w.numbers line free one in
       let mid = behind free inner in
       let parts = held_both now (referred w.numbers one) (over_reference w.numbers over) held in
@@ -1206,15 +1206,10 @@ module _ (tables : Tables) (n : ℕ) (spots : List Spot) (w : Where) (line : ℕ
       (omega (arith, length-append inner.temps [])) (omega (arith, le)) (omega (arith, space)) operator
       over region j readable no_floods parts.1 inner.left (tests_of one) (field_of store operand)
       (does tables n inner.code now)
-      (narrow_if (narrow w spots slots store (scalars_here now here) (Under over region) one operand h)
-      wraps)
+      (field_integers w spots slots store (scalars_here now here) (arrays_here now here)
+      (Under over region) one operand h j)
       (hoists (Under over region) one operand h j now here parts.0 conf free le (omega (arith, space))
       (temps_front tables.arrays free.temps inner.temps [] temps))
-    where
-      narrow_if : {X : Type 0} → (IsNarrow one → X) → Wraps operator ⊎ IsNarrow one
-          → Wraps operator ⊎ X
-      narrow_if f (inl x) = inl x
-      narrow_if f (inr x) = inr (f x)
   hoists _ _ _ (PartFoldedMeant {operator = operator} {over = over} {source = source}
       {region = region} {tuples = tuples} {one = one} {operand = operand} j readable no_floods h) i now
       here held conf free le space temps =

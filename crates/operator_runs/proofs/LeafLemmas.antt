@@ -1,19 +1,21 @@
 -- Statements of scalars and arrays, whose values may have operators over regions.
-use Rattle.std.proofs.Common.{ℕ, List}
+use Rattle.std.proofs.Common.{inl, inr, ℕ, List}
 use Rattle.zpl_tree.specs.Syntax.{Stmt, Form, Assign, Invoke, Block, If, While, Repeat, For, Border, Write, Return}
 use Rattle.zpl_meaning.specs.Context.{Setup, Place}
 use Rattle.zpl_meaning.specs.Statement as mean
 use Rattle.zpl_lowering.specs.Where.{Where}
 use Rattle.zpl_lowering.specs.Statement as low
 use Rattle.lowering_runs.specs.Seen.{seen_place}
-use Rattle.lowering_runs.specs.Goes.{World, Goes}
+use Rattle.lowering_runs.specs.Goes.{World, Goes, TestsGo}
 use Rattle.lowering_runs.specs.Called.{CallsAgree}
-use Rattle.lowering_runs.specs.Suits.{SuitsStmt}
+use Rattle.lowering_runs.specs.Suits.{SuitsStmtBy}
+use Rattle.lowering_runs.proofs.ControlLemmas.{scalar_tests}
 use Rattle.lowering_runs.proofs.SuitLemmas.{goes_more, either_goes, FormGoes}
 use Rattle.prefix_runs.specs.Plain.{PlainLeaf}
 use Rattle.prefix_runs.specs.Under.{IsUnder}
-use Rattle.prefix_runs.proofs.PlainLemmas.{plain_leaves, suited_agrees}
-use Rattle.operator_runs.specs.Served.{IsScalarOperated, IsArrayOperated, OperatedLeaf, AnyLeaf}
+use Rattle.prefix_runs.proofs.PlainLemmas.{plain_leaves, suited_agrees_by}
+use Rattle.operator_runs.specs.Served.{IsScalarOperated, IsArrayOperated, OperatedLeaf, AnyLeaf, AnyTest}
+use Rattle.operator_runs.proofs.TestLemmas.{tests_go}
 use Rattle.operator_runs.proofs.FormLemmas.{scalar_goes, array_goes}
 use Rattle.operator_runs.proofs.PrintLemmas.{prints_go}
 
@@ -45,12 +47,19 @@ module _ (world : World) where
       (λ l next. low.lowered_form l next at (Write ends items)) (prints_go world at ends items)
   operated_leaves at (Return value) = no_leaf at (Return value) (λ w p h. h)
 
+  any_tests : TestsGo world AnyTest
+  any_tests sight w next from start at test stands before (inl scalar) room store now like =
+      scalar_tests world sight w next from start at test stands before scalar room store now like
+  any_tests sight w next from start at test stands before (inr operated) room store now like =
+      tests_go world.tables world.turns sight w next from start at test stands before operated room
+      store now like
+
   pub statements_agree : (setup : Setup) (IsCallable : List ℕ → Type 0)
       → CallsAgree world setup IsCallable → (stmt : Stmt)
-      → Goes world (SuitsStmt IsUnder (AnyLeaf setup IsCallable) stmt)
+      → Goes world (SuitsStmtBy IsUnder AnyTest (AnyLeaf setup IsCallable) stmt)
       (λ c store. mean.exec c world.turns stmt store) (λ l next. low.lowered l next stmt) 0
   statements_agree setup IsCallable calls stmt =
-      suited_agrees world (AnyLeaf setup IsCallable)
+      suited_agrees_by world AnyTest (AnyLeaf setup IsCallable) any_tests
       (λ at form. either_goes world (PlainLeaf setup IsCallable at form) (OperatedLeaf at form)
       (λ c store. mean.exec_form c world.turns at form store)
       (λ l next. low.lowered_form l next at form) 1

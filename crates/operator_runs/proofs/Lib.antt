@@ -3,7 +3,7 @@ pub mod FoldLemmas
 pub mod SpareLemmas
 pub mod StandLemmas
 pub mod MeantLemmas
-pub mod NarrowLemmas
+pub mod IntegerLemmas
 pub mod HoistLemmas
 pub mod SettleLemmas
 pub mod PhaseLemmas

@@ -144,7 +144,7 @@ module _ (tables : Tables) (spots : List Spot) (w : Where) (line : ℕ)
       both_referred (referred w.numbers one) (referred w.numbers other) (refers seen left)
       (refers seen right) (is_referred site one left h s) (is_referred site other right k s)
   is_referred site _ _ (FoldedMeant {over = over} {region = region} {one = one} {operand = operand}
-      i readable flat wraps h) s =
+      i readable flat h) s =
       let r = is_referred (Under over region) one operand h i in
       let m = mask_at over region i readable in
       let b = both_referred (referred w.numbers one) (over_reference w.numbers over)
@@ -255,7 +255,7 @@ module _ (tables : Tables) (spots : List Spot) (w : Where) (line : ℕ)
         both_conform (conforming line one) (conforming line other) (conforms left) (conforms right)
         (conformed site one left h there) (conformed site other right k there) rest
     conformed site _ _ (FoldedMeant {over = over} {region = region} {one = one} {operand = operand}
-        i readable flat wraps h) there rest =
+        i readable flat h) there rest =
         conformed (Under over region) one operand h i rest
     conformed _ _ _ (ScannedMeant {over = over} {region = region} {one = one} {operand = operand}
         readable plain_mask is_along no_floods h) there rest =
@@ -303,7 +303,7 @@ no_tests w spots slots site _ _ (BinaryMeant {one = one} {other = other} {left =
     no_more (tests_of one) (tests_of other) (no_tests w spots slots site one left h)
     (no_tests w spots slots site other right k)
 no_tests w spots slots site _ _ (FoldedMeant {over = over} {region = region} {one = one}
-    {operand = operand} i readable flat wraps h) =
+    {operand = operand} i readable flat h) =
     no_tests w spots slots (Under over region) one operand h
 no_tests w spots slots _ _ _ (PartFoldedMeant {source = source} {tuples = tuples} {one = one}
     {operand = operand} i readable flat h) =

@@ -37,8 +37,9 @@ use Rattle.operator_runs.specs.Meant.{Site, Alone, IsSite, AreMeant}
 use Rattle.operator_runs.specs.Hoists.{HoistAll, OneStumbles, tests_of_all}
 use Rattle.operator_runs.specs.Guards.{guard}
 use Rattle.operator_runs.proofs.MeantLemmas.{AreReferred, all_conformed, are_referred, both_referred, none_test}
-use Rattle.operator_runs.proofs.HoistLemmas.{all_hoist, scalars_here}
-use Rattle.operator_runs.proofs.NarrowLemmas.{IsNarrowField, all_narrow}
+use Rattle.operator_runs.proofs.HoistLemmas.{all_hoist, arrays_here, scalars_here}
+use Rattle.array_runs.specs.Integers.{GivesIntegers}
+use Rattle.operator_runs.proofs.IntegerLemmas.{fields_integers}
 use Rattle.operator_runs.proofs.SettleLemmas.{AreOperated, AreSettled, are_settled, placed_of}
 
 -- room for a statement is room for its phases
@@ -213,15 +214,16 @@ module _ (tables : Tables) (n : ℕ) (sight : Sight) (w : Where) (line : ℕ) (n
       two true false e = absurd (let no : ⊥ = cc in no)
       two false b e = absurd (let no : ⊥ = cc in no)
 
-  -- by themselves they have integers of 64 bits
-  pub alone_fields : site ≡ Alone → (fields : List Field) → Fields ≡ mean.Gives fields
-      → Every IsNarrowField fields
-  alone_fields e fields given =
-      all_narrow w spots now.slots store
+  -- they have integers of 64 bits
+  pub integer_fields : (fields : List Field) → Fields ≡ mean.Gives fields
+      → Every GivesIntegers fields
+  integer_fields fields given =
+      fields_integers w spots now.slots store
       (scalars_here tables n spots w line next stands room held.stored now.slots store now
-      (record { sound = sound; slots_are = refl; seen_is = refl })) settled.slates settled.terms
-      (subst (λ (s : Site). AreMeant w spots now.slots s settled.slates settled.terms) e settled.are)
-      fields (fields_given fields given)
+      (record { sound = sound; slots_are = refl; seen_is = refl }))
+      (arrays_here tables n spots w line next stands room held.stored now.slots store now
+      (record { sound = sound; slots_are = refl; seen_is = refl })) site settled.slates settled.terms
+      settled.are there fields (fields_given fields given)
 
   -- and the statement's own references hold
   pub own_held : (fields : List Field) → Fields ≡ mean.Gives fields

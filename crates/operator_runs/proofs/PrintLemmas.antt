@@ -56,8 +56,8 @@ use Rattle.operator_runs.specs.Served.{ArePrintedScalars}
 use Rattle.operator_runs.proofs.JoinLemmas.{with_total}
 use Rattle.operator_runs.proofs.LikeLemmas.{like_spared}
 use Rattle.operator_runs.proofs.MeantLemmas.{none_referred}
-use Rattle.operator_runs.proofs.NarrowLemmas.{IsNarrowField}
-use Rattle.operator_runs.proofs.PhaseLemmas.{phases_few, alone_fields}
+use Rattle.array_runs.specs.Integers.{GivesIntegers}
+use Rattle.operator_runs.proofs.PhaseLemmas.{phases_few, integer_fields}
 use Rattle.operator_runs.proofs.ScalarLemmas.{same_value}
 use Rattle.operator_runs.proofs.SettleLemmas.{AreOperated, ReadsNone, placed_of}
 use Rattle.operator_runs.proofs.SpareLemmas.{spares_all, spares_then, spares_total}
@@ -149,41 +149,41 @@ module _ (tables : Tables) (n : ℕ) (sight : Sight) (w : Where) (line : ℕ) (n
 
     scalar_fills : (field : Field) (left : Expression)
         → HasValues tables sight.spots w.numbers.arrays Alone free after field left
-        → IsNarrowField field
+        → GivesIntegers field
         → Fills k now prints (both_then (field_text place type (Some 0) field) c cat)
         (rows (row.Set k (words_of left) line ∷ rest.values) now)
-    scalar_fills field left h narrow =
+    scalar_fills field left h integers =
         subst (λ (x : Step Whole). Fills k now prints
         (both_then (field_text place type (Some 0) field) c cat) (by_step now x (rows rest.values)))
         (sym (set_step tables n now s.sound.settled k line (words_of left)))
         (by_value (field []) (value_of (scalar_operands now.scalars) (words_of left))
         (subst (λ (v : flat.Computed ℤ). IsSameValue (field []) v)
         (sym (value_of-words_of (scalar_operands now.scalars) left))
-        (same_value (field []) (tree_value (scalar_operands now.scalars) left) (narrow [])
+        (same_value (field []) (tree_value (scalar_operands now.scalars) left) (integers [] tt)
         (h.values now s [] [] refl))))
 
   -- ---- all items
 
   items_fill : (items : List Item) → ArePrintedScalars items w place → (fields : List Field)
       (lefts : List Expression) → HaveValues tables sight.spots w.numbers.arrays Alone free after fields lefts
-      → Every IsNarrowField fields → length lefts ≡ length (low.printed_exprs w items)
+      → Every GivesIntegers fields → length lefts ≡ length (low.printed_exprs w items)
       → (k temp : ℕ) → free.scalars ≤ k
       → (let all = low.items_of w line k temp ends items lefts in
       k + all.scalars ≤ tables.scalars → (now : Whole) → Spared after now
       → Fills k now all.prints (ended ends (items_text place items fields)) (rows all.values now))
-  items_fill [] h fields lefts v narrow many k temp from fits now s =
+  items_fill [] h fields lefts v integers many k temp from fits now s =
       Filled s (λ j l. refl) (end_prints tables n now s.sound ends)
-  items_fill (Str bytes ∷ items) h fields lefts v narrow many k temp from fits now s =
+  items_fill (Str bytes ∷ items) h fields lefts v integers many k temp from fits now s =
       let all = low.items_of w line k temp ends items lefts in
       subst (λ (c : mean.Computed (List ℕ)). Fills k now (row.Print (unescaped bytes) ∷ all.prints) c
       (rows all.values now))
       (ended_both ends (mean.Gives (unescaped bytes)) (items_text place items fields))
       (led_by k now (unescaped bytes) all.prints (ended ends (items_text place items fields))
-      (rows all.values now) (items_fill items h fields lefts v narrow many k temp from fits now s))
-  items_fill (Value expr ∷ items) h fields [] v narrow many k temp from fits now s =
+      (rows all.values now) (items_fill items h fields lefts v integers many k temp from fits now s))
+  items_fill (Value expr ∷ items) h fields [] v integers many k temp from fits now s =
       absurd (omega (arith, many))
-  items_fill (Value expr ∷ items) h [] (left ∷ lefts) v narrow many k temp from fits now s = absurd v
-  items_fill (Value expr ∷ items) h (field ∷ fields) (left ∷ lefts) v narrow many k temp from fits now
+  items_fill (Value expr ∷ items) h [] (left ∷ lefts) v integers many k temp from fits now s = absurd v
+  items_fill (Value expr ∷ items) h (field ∷ fields) (left ∷ lefts) v integers many k temp from fits now
       s =
       let type = type_of w.scope expr in
       let over = slotted_at w.currents (Some 0) in
@@ -207,9 +207,9 @@ module _ (tables : Tables) (n : ℕ) (sight : Sight) (w : Where) (line : ℕ) (n
       (λ mid l.
       subst (λ (j : ℕ). Fills j mid rest.prints (ended ends (items_text place items fields))
       (rows rest.values mid)) (one_more k)
-      (items_fill items h.2 fields lefts v.1 narrow.1 (omega (arith, many)) (k + 1) (temp + 0)
+      (items_fill items h.2 fields lefts v.1 integers.1 (omega (arith, many)) (k + 1) (temp + 0)
       (omega (arith, from)) (omega (arith, fits)) mid l))
-      field left v.0 narrow.0))
+      field left v.0 integers.0))
       fits
     where
       one_more : (k : ℕ) → k + 1 ≡ suc k
@@ -281,13 +281,13 @@ module _ (tables : Tables) (n : ℕ) (sight : Sight) (w : Where) (line : ℕ) (n
       → free.scalars ≤ k → length lefts ≡ length exprs
       → (let all = low.items_of w line k temp ends items lefts in
       k + all.scalars ≤ tables.scalars → (c : mean.Computed (List Field)) (course : Course Whole)
-      → ((fields : List Field) → c ≡ mean.Gives fields → Every IsNarrowField fields)
+      → ((fields : List Field) → c ≡ mean.Gives fields → Every GivesIntegers fields)
       → HoistAll tables sight.spots w.numbers.arrays Alone (free_at next 0) free line 0 now lefts c course
       → Agrees Like n 0 (outcome (text c))
       (code.then_do course (rows_do (step tables n) (decide tables n) (all.values ++ all.prints))))
-  came free le lefts k temp from many fits c course narrow (OneStumbles less) =
+  came free le lefts k temp from many fits c course integers (OneStumbles less) =
       Trapping (omega (arith, less))
-  came free le lefts k temp from many fits c course narrow
+  came free le lefts k temp from many fits c course integers
       (AllReach {after = after} {jumps = jumps} {fields = fields} s h less) =
       let all = low.items_of w line k temp ends items lefts in
       subst (λ (j : ℕ). Agrees Like n 0 (outcome (text (mean.Gives fields)))
@@ -298,7 +298,7 @@ module _ (tables : Tables) (n : ℕ) (sight : Sight) (w : Where) (line : ℕ) (n
       (finish free le k after s all.prints (text (mean.Gives fields))
       (rows_do (step tables n) (decide tables n) all.values after)
       (items_fill tables n sight w line next now stands now ends free le after items served fields
-      lefts h (narrow fields refl) many k temp from fits after
+      lefts h (integers fields refl) many k temp from fits after
       (spares_all tables sight.spots w.numbers.arrays free after s.sound))))
 
   pub write_agrees : (let own = low.lowered_write w line next ends items in
@@ -314,8 +314,8 @@ module _ (tables : Tables) (n : ℕ) (sight : Sight) (w : Where) (line : ℕ) (n
       (settled_each w line next exprs).slate)) (omega arith) phases.left
       (next.scalars + phases.lowered.scalars) (next.temps + length phases.lowered.temps)
       (omega arith) (left_length w line exprs next (free_at next 0)) (omega (arith, space.scalars)) _ _
-      (alone_fields tables n sight w line next now stands room like.sound like.held Alone None tt exprs
-      operated [] true none [] true none refl)
+      (integer_fields tables n sight w line next now stands room like.sound like.held Alone None tt exprs
+      operated [] true none [] true none)
       (phases_few tables n sight w line next now stands room like.sound like.held Alone None tt exprs
       operated [] true none [] true none
       (room_phases tables next phases.lowered _ space)))

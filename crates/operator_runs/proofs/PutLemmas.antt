@@ -1,5 +1,5 @@
 -- The row of an assignment of an array, behind the rows of its operators.
-use Rattle.std.proofs.Common.{◌≡◌, sym, ◌∙◌, ap, subst, arith, ℕ, Bool, true}
+use Rattle.std.proofs.Common.{◌≡◌, refl, sym, ◌∙◌, ap, subst, arith, ℕ, Bool, true}
 use Rattle.std.proofs.Common.{◌&&◌, List, [], ◌∷◌, ℤ, pos, Option, Some, append-nil}
 use Rattle.std.specs.Prelude.{flat_map, replicate, slice_get}
 use Rattle.std.specs.List.{list_all}
@@ -10,7 +10,8 @@ use Rattle.zpl_arrays.specs.Array.{Array, element, has_place}
 use Rattle.zpl_arrays.proofs.ArrayLemmas.{array_of_is_array}
 use Rattle.zpl_arrays.proofs.ReferenceLemmas.{lies_in_places}
 use Rattle.zpl_meaning.specs.Computed as mean
-use Rattle.zpl_meaning.specs.Store.{Store, array_at, with_array}
+use Rattle.zpl_nums.specs.Integer.{IsInteger}
+use Rattle.zpl_meaning.specs.Store.{Store, array_at, no_array, with_array}
 use Rattle.zpl_meaning.specs.Context.{is_kept}
 use Rattle.zpl_meaning.specs.Fields.{Field, array_over, is_kept_in}
 use Rattle.zpl_meaning.specs.Outcome as out
@@ -46,7 +47,9 @@ use Rattle.array_puts.proofs.PutLemmas.{put_assigns}
 use Rattle.array_runs.specs.Reads.{EachCovers, EachMatches}
 use Rattle.array_runs.specs.Gates.{holds}
 use Rattle.array_runs.specs.Elementwise.{IsReadableMask}
-use Rattle.array_runs.proofs.StoredLemmas.{IsFound, found_array}
+use Rattle.array_runs.specs.Integers.{GivesIntegers}
+use Rattle.array_runs.proofs.IntegerLemmas.{array_integers, written_integers}
+use Rattle.array_runs.proofs.StoredLemmas.{IsFound, found_array, index_of_found}
 use Rattle.array_runs.proofs.ElementLemmas.{all_members, holding_is}
 use Rattle.array_runs.proofs.MaskLemmas.{IsMasking}
 use Rattle.array_runs.proofs.AssignLemmas.{all_read}
@@ -61,7 +64,8 @@ module _ (tables : Tables) (n : ℕ) (spots : List Spot) (w : Where) (line : ℕ
     (i : InSlot after.slots over region) (target : ℕ) (stored : Stored)
     (found : slice_get w.numbers.arrays target ≡ Some stored)
     (matches : EachMatches stored.storage.dims region.dims)
-    (readable : IsReadableMask w region over.mask) (field : Field) (left : Expression)
+    (readable : IsReadableMask w region over.mask) (field : Field) (integers : GivesIntegers field)
+    (left : Expression)
     (own : list_all (holds tables after) (refer_to over.slot [] (Some stored)) ≡ true)
     (masked : list_all (holds tables after) (mask_reference w.numbers over.slot over.mask) ≡ true)
     (values : (cells t : List ℤ) → IsMember region t
@@ -151,10 +155,17 @@ module _ (tables : Tables) (n : ℕ) (spots : List Spot) (w : Where) (line : ℕ
       out.goes_on (with_array store target
       (written (array_at store target) region kept (element values))))
 
-  by_values : (computed : mean.Computed Array) → array_at store target ≡ f.array
-      → Agrees Like n 0 (assigns computed)
+  old_integers : Every IsInteger f.array.values
+  old_integers =
+      subst (λ (a : Array). Every IsInteger a.values)
+      (index_of_found after.stores k f.array no_array f.in_stores)
+      (like.sound.elements k f.row f.in_tables f.kept)
+
+  by_values : (computed : mean.Computed Array)
+      → ((values : Array) → computed ≡ mean.Gives values → Every IsInteger values.values)
+      → array_at store target ≡ f.array → Agrees Like n 0 (assigns computed)
       (by_step after (assigned after k f.array region kept line computed) (λ end. code.goes_on end))
-  by_values (mean.Gives values) e =
+  by_values (mean.Gives values) new e =
       subst (λ (a : Array). Agrees Like n 0 (out.goes_on (with_array store target
       (written a region kept (element values))))
       (code.goes_on (with_array_in after k (written f.array region kept (element values))))) (sym e)
@@ -163,8 +174,9 @@ module _ (tables : Tables) (n : ℕ) (spots : List Spot) (w : Where) (line : ℕ
       (record {
         filled = (array_of_is_array f.array.storage _ f.is.steps).filled;
         placed = λ h. f.storage ∙ sym f.storage_row;
-      })) (omega arith))
-  by_values (mean.Traps kind) e = Trapping (omega arith)
+      }) (written_integers f.array values region kept old_integers (new values refl)))
+      (omega arith))
+  by_values (mean.Traps kind) new e = Trapping (omega arith)
 
   loop_step : step tables n (row.Loop over.slot (put_group k (words_of left) code_mask line)) after
       ≡ looped tables n (put_group k (words_of left) code_mask line) after (Some region)
@@ -182,4 +194,5 @@ module _ (tables : Tables) (n : ℕ) (spots : List Spot) (w : Where) (line : ℕ
       (sym (loop_step ∙ put_assigns tables n after k f.array region kept field (words_of left) code_mask
       line putting))
       (by_values (array_over region kept field)
+      (array_integers region kept field i.is.dims integers)
       (ap (λ (s : Store). array_at s target) like.seen ∙ f.seen))

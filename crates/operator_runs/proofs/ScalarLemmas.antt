@@ -47,8 +47,8 @@ use Rattle.operator_runs.specs.Hoists.{HoistAll, AllReach, OneStumbles}
 use Rattle.operator_runs.specs.Operated.{IsOperated}
 use Rattle.operator_runs.proofs.LikeLemmas.{like_spared}
 use Rattle.operator_runs.proofs.MeantLemmas.{none_referred}
-use Rattle.operator_runs.proofs.NarrowLemmas.{IsNarrowField}
-use Rattle.operator_runs.proofs.PhaseLemmas.{phases_few, alone_fields}
+use Rattle.array_runs.specs.Integers.{GivesIntegers}
+use Rattle.operator_runs.proofs.PhaseLemmas.{phases_few, integer_fields}
 use Rattle.operator_runs.proofs.SettleLemmas.{ReadsNone}
 use Rattle.operator_runs.proofs.SpareLemmas.{spares_all}
 
@@ -102,14 +102,14 @@ module _ (tables : Tables) (n : ℕ) (sight : Sight) (w : Where) (next : Next) (
 
   came : (free behind : Free) (line most : ℕ) (left : Expression) → next.scalars ≤ free.scalars
       → Like store now → (c : mean.Computed (List Field)) (course : Course Whole)
-      → ((fields : List Field) → c ≡ mean.Gives fields → Every IsNarrowField fields)
+      → ((fields : List Field) → c ≡ mean.Gives fields → Every GivesIntegers fields)
       → HoistAll tables spots w.numbers.arrays Alone free behind line most now (left ∷ []) c course
       → Came line most left (only_value c) course
-  came free behind line most left le like c course narrow (OneStumbles less) = Fell less
-  came free behind line most left le like c course narrow (AllReach {fields = []} s h less) = absurd h
-  came free behind line most left le like c course narrow
+  came free behind line most left le like c course integers (OneStumbles less) = Fell less
+  came free behind line most left le like c course integers (AllReach {fields = []} s h less) = absurd h
+  came free behind line most left le like c course integers
       (AllReach {fields = field ∷ other ∷ rest} s h less) = absurd h.1
-  came free behind line most left le like c course narrow
+  came free behind line most left le like c course integers
       (AllReach {after = after} {fields = field ∷ []} s h less) =
       let all = spares_all tables spots w.numbers.arrays behind after s.sound in
       CameTo (like_spared tables spots w next now store now after free le like s)
@@ -118,7 +118,7 @@ module _ (tables : Tables) (n : ℕ) (sight : Sight) (w : Where) (next : Next) (
       (subst (λ (v : flat.Computed ℤ). IsSameValue (field []) v)
       (sym (value_of-words_of (scalar_operands after.scalars) left))
       (same_value (field []) (tree_value (scalar_operands after.scalars) left)
-      ((narrow (field ∷ []) refl).0 []) (h.0.values after all [] [] refl))))
+      ((integers (field ∷ []) refl).0 [] tt) (h.0.values after all [] [] refl))))
       less
 
   pub comes : (role : Role) (line : ℕ) (expr : Expr) → IsOperated w place None expr → Like store now
@@ -130,8 +130,8 @@ module _ (tables : Tables) (n : ℕ) (sight : Sight) (w : Where) (next : Next) (
       let exprs = low.placed_in w role expr ∷ [] in
       let none = none_referred tables spots w line like.held.stored now like.sound in
       came (free_at next 0) _ line 0 _ (omega arith) like _ _
-      (alone_fields tables n sight w line next now stands room like.sound like.held Alone None tt exprs
-      (ReadsNone, operated, tt) [] true none [] true none refl)
+      (integer_fields tables n sight w line next now stands room like.sound like.held Alone None tt exprs
+      (ReadsNone, operated, tt) [] true none [] true none)
       (phases_few tables n sight w line next now stands room like.sound like.held Alone None tt exprs
       (ReadsNone, operated, tt) [] true none [] true none space)
 

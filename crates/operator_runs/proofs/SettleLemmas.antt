@@ -1,7 +1,7 @@
 -- Expressions without brackets: what the meaning and the lowering settle them to stands for the
 -- same.
 use Rattle.std.proofs.Common.{◌≡◌, refl, sym, ◌∙◌, ap, subst, ℕ, zero, suc, Bool, true, false, not, List, [], ◌∷◌, map, ℤ, pos}
-use Rattle.std.proofs.Common.{Option, Some, None, ◌⊎◌, inl, inr, length}
+use Rattle.std.proofs.Common.{Option, Some, None, length}
 use Rattle.std.specs.Prelude.{slice_get}
 use Rattle.std.specs.List.{list_all}
 use Rattle.std.specs.Option.{option_map}
@@ -21,7 +21,6 @@ use Rattle.zpl_meaning.specs.Computed.{both_then, computed_then}
 use Rattle.zpl_meaning.specs.Store.{Thing, Scalar, ArrayAt, Fixed, Store, thing_of}
 use Rattle.zpl_meaning.specs.Context.{Over, Place, over_at}
 use Rattle.zpl_meaning.specs.Regions.{vector_in}
-use Rattle.zpl_meaning.specs.Scalars.{IsScalarName}
 use Rattle.zpl_meaning.specs.Settled as phase
 use Rattle.zpl_meaning.specs.Settled.{named_term, shifted_term}
 use Rattle.zpl_meaning.specs.Term as term
@@ -42,10 +41,10 @@ use Rattle.array_runs.proofs.CodedLemmas.{CurrentOf, current_of}
 use Rattle.array_runs.proofs.FloodLemmas.{current_floods, readable, mask_readable}
 use Rattle.zpl_nums.specs.declared.folds.Fold.{Fold}
 use Rattle.operator_runs.proofs.MeantLemmas.{current_in}
-use Rattle.operator_runs.specs.Meant.{Site, Under, InSlot, IsMeant, IsNarrow, Wraps}
+use Rattle.operator_runs.specs.Meant.{Site, Under, InSlot, IsMeant}
 use Rattle.operator_runs.specs.Meant.{ConstantMeant, VariableMeant, CoordinateMeant, ElementMeant}
 use Rattle.operator_runs.specs.Meant.{UnaryMeant, BinaryMeant, FoldedMeant, ScannedMeant, AreMeant, NoneMeant, MoreMeant}
-use Rattle.operator_runs.specs.Operated.{HaveNoFlood, IsCoordinateIn, IsNameIn, IsNarrowExpr, IsOperated, IsScannedIn}
+use Rattle.operator_runs.specs.Operated.{HaveNoFlood, IsCoordinateIn, IsNameIn, IsOperated, IsScannedIn}
 
 -- ---- flood dimensions
 
@@ -121,7 +120,6 @@ module _ (tables : Tables) (sight : Sight) (w : Where) (line : ℕ) (next : Next
     pub slated : (free : Next) → settled w line free rank expr ≡ slate.alone one
     pub termed : phase.settled place store rank expr ≡ mean.Gives meant
     pub is : Meant site one meant
-    pub narrow : IsNarrowExpr w expr → IsNarrow one
 
   -- ---- names
 
@@ -130,10 +128,6 @@ module _ (tables : Tables) (sight : Sight) (w : Where) (line : ℕ) (next : Next
   known text thing e =
       known_thing (length (numbered spots)) (length w.numbers.arrays) w.environment.names text thing
       stands.known e
-
-  pub record IsNameMeant (site : Site) (one : Slate) (meant : Term) (narrow : Type 0) : Type 0 where
-    pub is : Meant site one meant
-    pub narrow_is : narrow → IsNarrow one
 
   zero_meant : (site : Site) → Meant site (slate.Constant (pos 0)) (term.Constant (pos 0))
   zero_meant site = ConstantMeant (IsInteger-truth false)
@@ -163,17 +157,16 @@ module _ (tables : Tables) (sight : Sight) (w : Where) (line : ℕ) (next : Next
       → (thing : Option Thing) → ((found : Thing) → thing ≡ Some found
       → IsKnown (length (numbered spots)) (length w.numbers.arrays) found)
       → IsNameIn w under [] thing
-      → IsNameMeant site (named_slate (slotted_at w.currents rank) thing)
+      → Meant site (named_slate (slotted_at w.currents rank) thing)
       (named_term (over_at (seen_currents now w.currents) rank) (option_map (seen_thing spots) thing))
-      (IsScalarName thing)
   named rank site under r (Some (Scalar target)) k h =
-      record { is = VariableMeant; narrow_is = λ n. tt }
+      VariableMeant
   named rank site under r (Some (Fixed value)) k h =
-      record { is = ConstantMeant (k (Fixed value) refl); narrow_is = λ n. tt }
-  named rank site under r None k h = record { is = zero_meant site; narrow_is = λ n. tt }
+      ConstantMeant (k (Fixed value) refl)
+  named rank site under r None k h = zero_meant site
   named rank _ _ ReadsNone (Some (ArrayAt target home)) k h = absurd h
   named rank _ _ (ReadsUnder {over = over} {region = region} f) (Some (ArrayAt target home)) k h =
-      record { is = element_meant rank over region f target home [] h; narrow_is = λ n. absurd n }
+      element_meant rank over region f target home [] h
 
   shifted : (rank : Rank) (site : Site) (under : Option Slotted) → Reads w now rank site under
       → (shift : List ℤ) (thing : Option Thing) → IsNameIn w under shift thing
@@ -199,15 +192,13 @@ module _ (tables : Tables) (sight : Sight) (w : Where) (line : ℕ) (next : Next
       ≡ slate.mapped (slate.Unary op) (settled w line free rank expr))
       → phase.settled place store rank made
       ≡ computed_then (phase.settled place store rank expr) (λ one. mean.Gives (term.Unary op one))
-      → (IsNarrowExpr w made → IsNarrowExpr w expr) → IsSettled rank site expr
-      → IsSettled rank site made
-  unary_settled rank site op expr made e f g h = record {
+      → IsSettled rank site expr → IsSettled rank site made
+  unary_settled rank site op expr made e f h = record {
     one = slate.Unary op h.one;
     meant = term.Unary op h.meant;
     slated = λ free. e free ∙ ap (slate.mapped (slate.Unary op)) (h.slated free);
     termed = f ∙ ap (λ x. computed_then x (λ one. mean.Gives (term.Unary op one))) h.termed;
     is = UnaryMeant h.is;
-    narrow = λ n. h.narrow (g n);
   }
 
   scan_settled : (at : ℕ) (operator : Fold) (along : Option ℤ) (operand : Expr) (rank : Rank)
@@ -231,7 +222,6 @@ module _ (tables : Tables) (sight : Sight) (w : Where) (line : ℕ) (next : Next
         is = ScannedMeant (mask_readable w now.slots region.rank over c over.mask h.0) h.1 h.2
             (none_flood region.dims (slot_floods over)
             (current_floods now.slots region.rank over c) (three_none 3 over.flood h.3)) s.is;
-        narrow = λ n. absurd n;
       }
 
   pub is_settled : (expr : Expr) (rank : Rank) (site : Site) (under : Option Slotted)
@@ -242,7 +232,6 @@ module _ (tables : Tables) (sight : Sight) (w : Where) (line : ℕ) (next : Next
     slated = λ free. refl;
     termed = refl;
     is = ConstantMeant h;
-    narrow = λ n. tt;
   }
   is_settled (Truth at value) rank site under r h = record {
     one = slate.Constant (truth value);
@@ -250,7 +239,6 @@ module _ (tables : Tables) (sight : Sight) (w : Where) (line : ℕ) (next : Next
     slated = λ free. refl;
     termed = refl;
     is = ConstantMeant (IsInteger-truth value);
-    narrow = λ n. tt;
   }
   is_settled (Coord at k) rank site under r h = record {
     one = slate.Coordinate k;
@@ -258,7 +246,6 @@ module _ (tables : Tables) (sight : Sight) (w : Where) (line : ℕ) (next : Next
     slated = λ free. refl;
     termed = refl;
     is = coordinate rank site under r k h;
-    narrow = λ n. absurd n;
   }
   is_settled (Named at name) rank site under r h =
       let p = named rank site under r (thing_of w.environment name.text) (known name.text) h in
@@ -269,8 +256,7 @@ module _ (tables : Tables) (sight : Sight) (w : Where) (line : ℕ) (next : Next
         slated = λ free. refl;
         termed = ap (λ o. mean.Gives (named_term (over_at (seen_currents now w.currents) rank) o))
             (thing_seen spots w.environment.names name.text);
-        is = p.is;
-        narrow = p.narrow_is;
+        is = p;
       }
   is_settled (Shifted at name shift) rank site under r h =
       let d = vector_in w.setup.known shift in
@@ -282,7 +268,6 @@ module _ (tables : Tables) (sight : Sight) (w : Where) (line : ℕ) (next : Next
         termed = ap (λ o. mean.Gives (shifted_term (over_at (seen_currents now w.currents) rank) d o))
             (thing_seen spots w.environment.names name.text);
         is = shifted rank site under r d (thing_of w.environment name.text) h;
-        narrow = λ n. absurd n;
       }
   is_settled (Paren at inside) rank site under r h =
       let s = is_settled inside rank site under r h in
@@ -292,16 +277,15 @@ module _ (tables : Tables) (sight : Sight) (w : Where) (line : ℕ) (next : Next
         slated = s.slated;
         termed = s.termed;
         is = s.is;
-        narrow = s.narrow;
       }
   is_settled (Neg at operand) rank site under r h =
-      unary_settled rank site unary.Neg operand (Neg at operand) (λ free. refl) refl (λ n. n)
+      unary_settled rank site unary.Neg operand (Neg at operand) (λ free. refl) refl
       (is_settled operand rank site under r h)
   is_settled (Not at operand) rank site under r h =
-      unary_settled rank site unary.Not operand (Not at operand) (λ free. refl) refl (λ n. n)
+      unary_settled rank site unary.Not operand (Not at operand) (λ free. refl) refl
       (is_settled operand rank site under r h)
   is_settled (Abs at operand) rank site under r h =
-      unary_settled rank site unary.Abs operand (Abs at operand) (λ free. refl) refl (λ n. n)
+      unary_settled rank site unary.Abs operand (Abs at operand) (λ free. refl) refl
       (is_settled operand rank site under r h)
   is_settled (Pair at op left right) rank site under r h =
       let a = is_settled left rank site under r h.0 in
@@ -321,7 +305,6 @@ module _ (tables : Tables) (sight : Sight) (w : Where) (line : ℕ) (next : Next
             ∙ ap (λ x. both_then (mean.Gives a.meant) x
             (λ one other. mean.Gives (term.Binary op one other))) b.termed;
         is = BinaryMeant a.is b.is;
-        narrow = λ n. (a.narrow n.0, b.narrow n.1);
       }
   is_settled (Reduce at operator NoBracket operand) rank site under r h =
       let inner = operand_rank w.scope w.prefix operand in
@@ -329,7 +312,7 @@ module _ (tables : Tables) (sight : Sight) (w : Where) (line : ℕ) (next : Next
       let c = current_of tables w now inner held h.0.current in
       let region = c.current.region in
       let f = fits_current w now inner c in
-      let s = is_settled operand inner (Under over region) (Some over) (ReadsUnder f) h.2 in
+      let s = is_settled operand inner (Under over region) (Some over) (ReadsUnder f) h.1 in
       record {
         one = slate.Folded operator over s.one;
         meant = term.Folded operator (record { region = region; mask = over.mask }) s.meant;
@@ -342,13 +325,8 @@ module _ (tables : Tables) (sight : Sight) (w : Where) (line : ℕ) (next : Next
             (mask_readable w now.slots c.of over c.current over.mask h.0.masked)
             (none_flood region.dims (slot_floods over)
             (current_floods now.slots c.of over c.current) (three_none 3 over.flood h.0.plain))
-            (by s.narrow h.1) s.is;
-        narrow = λ n. tt;
+            s.is;
       }
-    where
-      by : {X Y : Type 0} → (X → Y) → Wraps operator ⊎ X → Wraps operator ⊎ Y
-      by f (inl x) = inl x
-      by f (inr x) = inr (f x)
   is_settled (Reduce at operator (Bracketed source) operand) rank site under r h = absurd h
   is_settled (Around at name shift) rank site under r h = absurd h
   is_settled (Remap at name indices) rank site under r h = absurd h

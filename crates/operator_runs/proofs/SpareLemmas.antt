@@ -24,7 +24,7 @@ use Rattle.normal_runs.proofs.PlaceLemmas.{set_apart}
 use Rattle.lowering_runs.specs.Stands.{AreStored}
 use Rattle.array_puts.specs.Put.{with_array_in}
 use Rattle.array_runs.proofs.LikeLemmas.{zip_new}
-use Rattle.print_runs.proofs.TempLemmas.{arrays_same}
+use Rattle.print_runs.proofs.TempLemmas.{arrays_same, elements_kept}
 use Rattle.operator_runs.specs.Hoists.{Spares}
 use Rattle.operator_runs.proofs.JoinLemmas.{with_total}
 use Rattle.operator_runs.proofs.FoldLemmas.{with_fold, fold_sound}
@@ -113,6 +113,7 @@ module _ (tables : Tables) (spots : List Spot) (arrays : List Stored) where
       };
       settled = sound.settled;
       integers = sound.integers;
+      elements = elements_kept tables whole k row new in_tables kept sound;
     };
     seen = ap (λ (xs : List Array). record (seen_store spots arrays whole) { arrays = xs })
         (arrays_same tables whole k row new in_tables kept arrays all);

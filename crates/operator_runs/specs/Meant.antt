@@ -1,9 +1,8 @@
 -- A slate and the term that it stands for, where the regions of its operators are in slots.
-use Rattle.std.specs.Prelude.{◌≡◌, ◌⊎◌, ℕ, ◌-◌, ◌<◌, true, ℤ, List, length, Some, slice_get, ◌≤◌, false, unsigned_abs, Option, None}
+use Rattle.std.specs.Prelude.{◌≡◌, ℕ, ◌-◌, ◌<◌, true, ℤ, List, length, Some, slice_get, ◌≤◌, false, unsigned_abs, Option, None}
 use Rattle.zpl_nums.specs.declared.operators.Op.{Op}
 use Rattle.zpl_nums.specs.declared.operators.UnaryOp.{UnaryOp}
 use Rattle.zpl_nums.specs.declared.folds.Fold.{Fold}
-use Rattle.zpl_nums.specs.declared.folds.Fold.TheVariants.{Sum, Prod, Max, Min, All, Any}
 use Rattle.zpl_nums.specs.Integer.{IsInteger}
 use Rattle.zpl_region.specs.declared.regions.Region.{Region}
 use Rattle.zpl_region.specs.Region.{IsRegion}
@@ -29,30 +28,6 @@ pub record InSlot (slots : List Region) (over : Slotted) (region : Region) : Typ
   pub is : IsRegion region
   pub three : length region.dims ≡ 3
   pub flood : flood_of region ≡ over.flood
-
--- the fold's value is an integer of 64 bits, whatever integers it joins
-abbrev pub Wraps : Fold → Type 0
-Wraps Sum = Unit {0}
-Wraps Prod = Unit {0}
-Wraps Max = ⊥
-Wraps Min = ⊥
-Wraps All = Unit {0}
-Wraps Any = Unit {0}
-
--- Its values are integers of 64 bits, since it reads neither arrays nor coordinates.
-abbrev pub IsNarrow : Slate → Type 0
-IsNarrow (slate.Constant value) = Unit {0}
-IsNarrow (slate.Variable place) = Unit {0}
-IsNarrow (slate.Coordinate k) = ⊥
-IsNarrow (slate.Element slot place shift) = ⊥
-IsNarrow (slate.Wrapped slot place home shift copy first) = ⊥
-IsNarrow (slate.Unary operator operand) = IsNarrow operand
-IsNarrow (slate.Binary operator left right) = IsNarrow left × IsNarrow right
-IsNarrow (slate.Folded operator over operand) = Unit {0}
-IsNarrow (slate.PartFolded operator over source operand) = ⊥
-IsNarrow (slate.Scanned operator along over operand) = ⊥
-IsNarrow (slate.Flooded over source operand) = ⊥
-IsNarrow (slate.Remapped over place indices) = ⊥
 
 -- code has the mask of a scan as it stands
 abbrev pub IsPlainMask : Option Mask → Type 0
@@ -85,8 +60,7 @@ pub data IsMeant (w : Where) (spots : List Spot) (slots : List Region) : Site �
       (term.Binary operator left right)
   FoldedMeant : {site : Site} {operator : Fold} {over : Slotted} {region : Region} {one : Slate}
       {operand : Term} → InSlot slots over region → IsReadableMask w region over.mask
-      → no_flood region ≡ true → Wraps operator ⊎ IsNarrow one
-      → IsMeant w spots slots (Under over region) one operand
+      → no_flood region ≡ true → IsMeant w spots slots (Under over region) one operand
       → IsMeant w spots slots site (slate.Folded operator over one)
       (term.Folded operator (record { region = region; mask = over.mask }) operand)
   PartFoldedMeant : {operator : Fold} {over source : Slotted} {region tuples : Region} {one : Slate}

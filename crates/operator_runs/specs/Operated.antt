@@ -1,6 +1,6 @@
 -- What is asked of an expression with operators over regions before the run: of names, ranks and
 -- flood dimensions alone, whatever the current regions are.
-use Rattle.std.specs.Prelude.{◌⊎◌, ◌-◌, ◌<◌, ℕ, Bool, true, false, ℤ, List, [], ◌∷◌, Option, Some, None}
+use Rattle.std.specs.Prelude.{◌-◌, ◌<◌, ℕ, Bool, true, false, ℤ, List, [], ◌∷◌, Option, Some, None}
 use Rattle.zpl_nums.specs.Integer.{IsInteger}
 use Rattle.zpl_tree.specs.Syntax.{Expr, Number, Truth, Coord, Named, Shifted, Around, Remap, Call, Paren, Neg, Not, Abs, Pair, Reduce, Scan, Flood, NoBracket, Bracketed}
 use Rattle.zpl_names.specs.Kinds.{Rank}
@@ -12,7 +12,7 @@ use Rattle.zpl_meaning.specs.Regions.{vector_in}
 use Rattle.zpl_meaning.specs.Scalars.{IsScalarName}
 use Rattle.zpl_lowering.specs.Where.{Slotted, Where, slotted_at}
 use Rattle.array_runs.specs.Floods.{IsElementAs, IsReadableMaskAs}
-use Rattle.operator_runs.specs.Meant.{IsAlong, IsPlainMask, Wraps}
+use Rattle.operator_runs.specs.Meant.{IsAlong, IsPlainMask}
 
 -- no dimension is a flood dimension
 abbrev pub HaveNoFlood : List Bool → Type 0
@@ -28,26 +28,6 @@ IsNameIn w (Some over) shift thing = IsElementAs w over shift thing
 abbrev pub IsCoordinateIn : Option Slotted → ℕ → Type 0
 IsCoordinateIn None k = ⊥
 IsCoordinateIn (Some over) k = k - 1 < 3
-
--- Its values are integers of 64 bits, since it reads neither arrays nor coordinates, but in folds.
-abbrev pub IsNarrowExpr : Where → Expr → Type 0
-IsNarrowExpr w (Number at value) = Unit {0}
-IsNarrowExpr w (Truth at value) = Unit {0}
-IsNarrowExpr w (Named at name) = IsScalarName (thing_of w.environment name.text)
-IsNarrowExpr w (Paren at inside) = IsNarrowExpr w inside
-IsNarrowExpr w (Neg at operand) = IsNarrowExpr w operand
-IsNarrowExpr w (Not at operand) = IsNarrowExpr w operand
-IsNarrowExpr w (Abs at operand) = IsNarrowExpr w operand
-IsNarrowExpr w (Pair at op left right) = IsNarrowExpr w left × IsNarrowExpr w right
-IsNarrowExpr w (Reduce at operator NoBracket operand) = Unit {0}
-IsNarrowExpr w (Reduce at operator (Bracketed source) operand) = ⊥
-IsNarrowExpr w (Coord at k) = ⊥
-IsNarrowExpr w (Shifted at name shift) = ⊥
-IsNarrowExpr w (Around at name shift) = ⊥
-IsNarrowExpr w (Remap at name indices) = ⊥
-IsNarrowExpr w (Call at name actuals) = ⊥
-IsNarrowExpr w (Scan at operator along operand) = ⊥
-IsNarrowExpr w (Flood at source operand) = ⊥
 
 -- The operand of a full fold stands under the current region of its own rank, which there is, and
 -- which has no flood dimension; its mask may be read there.
@@ -80,7 +60,6 @@ IsOperated w place under (Pair at op left right) =
     IsOperated w place under left × IsOperated w place under right
 IsOperated w place under (Reduce at operator NoBracket operand) =
     IsFoldedUnder w place (operand_rank place.scope place.prefix operand)
-    × (Wraps operator ⊎ IsNarrowExpr w operand)
     × IsOperated w place
     (Some (slotted_at w.currents (operand_rank place.scope place.prefix operand))) operand
 IsOperated w place under (Reduce at operator (Bracketed source) operand) = ⊥

@@ -9,6 +9,7 @@ use Rattle.zpl_meaning.specs.Context.{Place, Setup, reach_of, rank_in}
 use Rattle.zpl_meaning.specs.Points.{assigned_expr}
 use Rattle.zpl_meaning.specs.Proper.{HasCurrent, IsTarget}
 use Rattle.zpl_lowering.specs.Where.{Where, slotted_at}
+use Rattle.lowering_runs.specs.Suits.{ScalarTest}
 use Rattle.array_runs.specs.Floods.{IsReadableMaskAs, IsWritableAs}
 use Rattle.prefix_runs.specs.Plain.{PlainLeaf}
 use Rattle.operator_runs.specs.Operated.{IsOperated}
@@ -65,3 +66,11 @@ OperatedLeaf at (Return value) w place = ⊥
 abbrev pub AnyLeaf : Setup → (List ℕ → Type 0) → ℕ → Form → Where → Place → Type 0
 AnyLeaf setup IsCallable at form w place =
     PlainLeaf setup IsCallable at form w place ⊎ OperatedLeaf at form w place
+
+-- a test whose value has operators over regions
+abbrev pub OperatedTest : Expr → Where → Place → Type 0
+OperatedTest test w place = IsOperated w place None test
+
+-- such a test, or one of scalars
+abbrev pub AnyTest : Expr → Where → Place → Type 0
+AnyTest test w place = ScalarTest test w place ⊎ OperatedTest test w place

@@ -18,11 +18,11 @@ ghost use Rattle.lowering_runs.specs.Heads.{Heads};
 ghost use Rattle.lowering_runs.specs.Run.{decide, does};
 ghost use Rattle.lowering_runs.specs.Seen.{Sight, seen_place};
 ghost use Rattle.lowering_runs.specs.Stands.{HasRoom, IsBefore, IsLike, Stands};
-ghost use Rattle.lowering_runs.specs.Suits.{SuitsStmt};
+ghost use Rattle.lowering_runs.specs.Suits.{SuitsStmtBy};
 ghost use Rattle.prefix_runs.specs.Under.{IsUnder};
 ghost use Rattle.operator_runs.specs.Operated.{IsOperated};
 ghost use Rattle.operator_runs.specs.Served.{ArePrintedScalars, IsArrayOperated, IsScalarOperated};
-ghost use Rattle.operator_runs.specs.Served.{AnyLeaf};
+ghost use Rattle.operator_runs.specs.Served.{AnyLeaf, AnyTest};
 
 /// Names of procedures that may be called.
 pub trait Callables {
@@ -72,11 +72,11 @@ pub fn tests_by_operators_go_alike()
         (does tables n (low.test_of w from expr at).before.code now) }
 {}
 
-/// Statements of scalars and arrays go alike, under prefixes, whose assignments and prints of
-/// scalars may have operators over regions.
+/// Statements of scalars and arrays go alike, under prefixes, whose assignments, prints of scalars,
+/// and tests of `if`, `while` and `repeat` may have operators over regions.
 pub fn statements_by_operators_go_alike<C: Callables>()
     ensures { (world : World) (setup : Setup) → CallsAgree world setup C.IsCallable →
         (stmt : Stmt) →
-        Goes world (SuitsStmt IsUnder (AnyLeaf setup C.IsCallable) stmt)
+        Goes world (SuitsStmtBy IsUnder AnyTest (AnyLeaf setup C.IsCallable) stmt)
         (λ c store. exec c world.turns stmt store) (λ l next. lowered l next stmt) 0 }
 {}

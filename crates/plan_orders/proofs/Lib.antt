@@ -21,3 +21,4 @@ pub mod RowLemmas
 pub mod ReachLemmas
 pub mod RoomLemmas
 pub mod LinkLemmas
+pub mod OpenLemmas

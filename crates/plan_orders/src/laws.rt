@@ -1,12 +1,14 @@
 //! The laws of orders for plans: where nothing goes wrong, some order of turns leads all processors
 //! as the plan goes, over links of every capacity (`None`: of any number of messages). Each is the
 //! contract of a function that does nothing. The statements stand in `specs/`.
-ghost use Rattle.std.specs.Prelude.{◌≤◌, Option, Some, ℕ};
+ghost use Rattle.std.specs.Prelude.{◌≡◌, ◌≤◌, Option, Some, None, ℕ};
 ghost use Rattle.grid_meaning.specs.Grid.{IsCapacity};
 ghost use Rattle.node_form.specs.Fits.{Fits};
 ghost use Rattle.node_form.specs.declared.tables.Tables.{Tables as Code};
 ghost use Rattle.plan_orders.specs.Brings.{HaveOrders};
-ghost use Rattle.plan_orders.specs.InStep.{ComesInStep, HoldsFew, ShowsFreely};
+ghost use Rattle.plan_meaning.specs.Act.{plan_run};
+ghost use Rattle.plan_orders.specs.InStep.{ComesInStep, HoldsFew, ShowsFreely, stops_within};
+ghost use Rattle.plan_orders.specs.Open.{HoldsOpen, most_open};
 
 use grid_meaning::states_are_kept;
 
@@ -41,4 +43,16 @@ pub fn links_hold_few()
     ensures same { (code : Code) (most : ℕ) → ShowsFreely code most }
 {
     plans_come_in_step();
+}
+
+/// Over links that hold as many messages as a run over links of any number has exchanges open at
+/// once, the plan shows the same, and so isn't wrong where it wasn't. In the order of each run that
+/// isn't wrong with one jump more no link ever holds more messages than that many, or than one.
+pub fn links_hold_what_is_open()
+    ensures same { (code : Code) (most a n : ℕ) → most_open code None a n ≤ most →
+        (plan_run code (Some most) a n ≡ plan_run code None a n)
+        × (stops_within code (Some most) a n ≡ stops_within code None a n) }
+    ensures holds { (code : Code) → Fits code → HoldsOpen code code }
+{
+    links_hold_few();
 }

@@ -7,6 +7,7 @@ use Rattle.zpl_nums.specs.Integer.{is_true}
 use Rattle.zpl_meaning.specs.Computed as mean
 use Rattle.zpl_meaning.specs.Store.{Store}
 use Rattle.zpl_meaning.specs.Outcome as out
+use Rattle.zpl_nums.specs.Integer.{IsInteger}
 use Rattle.zpl_meaning.specs.Outcome.{Outcome, Test}
 use Rattle.node_form.specs.Value as flat
 use Rattle.nest_meaning.specs.Nested as nest
@@ -14,10 +15,11 @@ use Rattle.nest_meaning.specs.Nested.{Told, Fine, Zero, Wants, Ways}
 use Rattle.flat_form.specs.Loop.{Log, Puts, Joins, Point}
 use Rattle.array_puts.specs.Put.{IsSame, BothGive, BothDivide}
 
--- a log of puts alone, into arrays of which something holds
+-- a log of puts of integers alone, into arrays of which something holds
 abbrev pub PutsAlone : (ℕ → Type 0) → Log → Type 0
 PutsAlone IsTarget [] = Unit {0}
-PutsAlone IsTarget (Puts array value ∷ log) = IsTarget array × PutsAlone IsTarget log
+PutsAlone IsTarget (Puts array value ∷ log) =
+    (IsTarget array × IsInteger value) × PutsAlone IsTarget log
 PutsAlone IsTarget (Joins scalar operator value ∷ log) = ⊥
 
 abbrev pub point : List ℤ → Log → Point

@@ -7,6 +7,7 @@ use Rattle.std.specs.Option.{option_map}
 use Rattle.zpl_nums.specs.declared.operators.Op.{Op}
 use Rattle.zpl_region.specs.declared.regions.Region.{Region}
 use Rattle.zpl_region.specs.Dim.{HasStep}
+use Rattle.zpl_nums.specs.Integer.{IsInteger}
 use Rattle.zpl_region.specs.Region.{IsMember}
 use Rattle.zpl_region.proofs.HullLemmas.{has_steps}
 use Rattle.zpl_arrays.specs.Array.{Array, has_place, updated}
@@ -56,6 +57,7 @@ use Rattle.array_runs.specs.Reads.{EachCovers, EachMatches}
 use Rattle.array_runs.specs.Gates.{IsThere, holds}
 use Rattle.array_runs.specs.Elementwise.{IsElement, IsElementwise, IsReadable}
 use Rattle.array_runs.specs.Assigned.{IsWritable}
+use Rattle.array_runs.proofs.IntegerLemmas.{IfGives, member_integers, term_integers}
 use Rattle.array_runs.proofs.StoredLemmas.{IsFound, found_array}
 use Rattle.array_runs.proofs.PartLemmas.{all_append, both_true, CanRead}
 use Rattle.array_runs.proofs.ElementLemmas.{all_members, holds_is, ref_there}
@@ -64,7 +66,8 @@ use Rattle.array_runs.proofs.CodedLemmas.{CurrentOf}
 use Rattle.point_runs.specs.Own.{own_store}
 use Rattle.point_runs.proofs.CutLemmas.{own_put}
 use Rattle.point_runs.proofs.ValueLemmas as own_value
-use Rattle.point_runs.proofs.ValueLemmas.{IsPointed, pointed}
+use Rattle.point_runs.proofs.ValueLemmas.{own_integers, IsPointed, pointed}
+use Rattle.point_runs.proofs.AlikeLemmas.{PutsAlone}
 use Rattle.point_runs.proofs.MemberLemmas.{AreWords, Does, DoesOne, none_does, both_do, put_does, while_does, repeat_does, choice_does}
 use Rattle.point_runs.proofs.MergeLemmas.{IsTarget}
 
@@ -195,6 +198,24 @@ module _ (tables : Tables) (n : ℕ) (sight : Sight) (w : Where) (line : ℕ) (n
             ap (λ words. list_all (can_read tables now region) (flat_map word_reads words))
             (words_are expr h) ∙ each_read (words_of h.left) (h.own.part.reads holds_);
       }
+
+  -- its values are integers of 64 bits
+  value_integer : (expr : Expr) → Coded expr → (t : List ℤ) → IsMember region t → (log : Log)
+      → PutsAlone (IsTarget tables region) log → (v : ℤ)
+      → point_value (at_point t) (own t log) expr ≡ mean.Gives v → IsInteger v
+  value_integer expr h t m log puts v e =
+      by (field_of (own t log) h.term)
+      (term_integers (own t log)
+      (own_integers tables sight w line next now stands room sound held rank c
+      (IsTarget tables region) t log puts) h.term (h.integers t log))
+      (sym (ap (λ x. computed_then x (λ term. computed_then (field_of (own t log) term)
+      (λ field. field t))) (h.termed (own t log))) ∙ e)
+    where
+      by : (computed : mean.Computed Field) → IfGives computed
+          → computed_then computed (λ field. field t) ≡ mean.Gives v → IsInteger v
+      by (mean.Gives field) f e =
+          f field refl t (member_integers region t c.current.is.dims m) v e
+      by (mean.Traps kind) f e = absurd (let no : ⊥ = cc in no)
 
   -- ---- what phases say of parts, and rows of references
 
@@ -518,6 +539,8 @@ module _ (tables : Tables) (n : ℕ) (sight : Sight) (w : Where) (line : ℕ) (n
           (is_target at stored found here split.0) (can_put at stored found here split.0)
           (test_words (assigned_expr name op value) (assigned_here name op value h k) split.1)
           (puts_there at stored found here)
+          (value_integer (assigned_expr name op value)
+          (coded (assigned_expr name op value) (assigned_here name op value h k)))
 
   -- an array that is written is looked at once more, where it is read too
   twice_gate : (parts : List Part) (one : Reference) (refs : List Reference)

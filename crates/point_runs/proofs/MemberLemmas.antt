@@ -1,6 +1,7 @@
 -- Members of a loop, part by part: the tree that they are spelled from, what it does at a tuple, and
 -- what they read and write.
 use Rattle.std.proofs.Common.{◌≡◌, refl, sym, ◌∙◌, ap, subst, arith, ℕ, zero, suc, ◌+◌, Bool, true, false, ◌&&◌}
+use Rattle.zpl_nums.specs.Integer.{IsInteger}
 use Rattle.std.proofs.Common.{List, [], ◌∷◌, ◌++◌, length, drop, ℤ, Option, Some, None, append-nil, append_assoc}
 use Rattle.std.specs.Prelude.{flat_map, slice_get}
 use Rattle.std.specs.List.{list_all}
@@ -226,15 +227,15 @@ module _ (tables : Tables) (now : Whole) (region : Region) (IsTarget : ℕ → T
   put_alike : (array : ℕ) (value : mean.Computed ℤ) (code : flat.Computed ℤ) (t : List ℤ)
       (after : ℤ → Store) (log : Log) (cells : List ℤ) → IsTarget array
       → ((v : ℤ) → after v ≡ own t (Puts array v ∷ log)) → PutsAlone IsTarget log
-      → IsSame value code
+      → ((v : ℤ) → value ≡ mean.Gives v → IsInteger v) → IsSame value code
       → GoAlike IsTarget (own t) line
       (out.with_value value (own t log) line (λ v. out.goes_on (after v)))
       (nest.then_do (λ p. Fine p) (nest.with_value (point cells log) code
       (λ v. nest.with_state (Some (point cells (Puts array v ∷ log))))))
-  put_alike array value code t after log cells is e puts (BothGive {value = v}) =
+  put_alike array value code t after log cells is e puts integers (BothGive {value = v}) =
       subst (λ (s : Store). GoAlike IsTarget (own t) line (out.goes_on s)
-      (Fine (point cells (Puts array v ∷ log)))) (sym (e v)) (BothGo (is, puts))
-  put_alike array value code t after log cells is e puts BothDivide = BothTrap
+      (Fine (point cells (Puts array v ∷ log)))) (sym (e v)) (BothGo ((is, integers v refl), puts))
+  put_alike array value code t after log cells is e puts integers BothDivide = BothTrap
 
   right_true : (b : Bool) → (b && true) ≡ b
   right_true true = refl
@@ -253,14 +254,16 @@ module _ (tables : Tables) (now : Whole) (region : Region) (IsTarget : ℕ → T
       (after : List ℤ → ℤ → Store → Store) → IsTarget array
       → can_write tables now region array ≡ true → AreWords value words
       → ((t : List ℤ) (v : ℤ) (log : Log) → after t v (own t log) ≡ own t (Puts array v ∷ log))
+      → ((t : List ℤ) → IsMember region t → (log : Log) → PutsAlone IsTarget log → (v : ℤ)
+      → value t (own t log) ≡ mean.Gives v → IsInteger v)
       → Does (λ t store. out.with_value (value t store) store line (λ v. out.goes_on (after t v store)))
       (row.Put array words None line ∷ [])
-  put_does array value words after is may h e = record {
+  put_does array value words after is may h e integers = record {
     tree = λ k. Putting array k None line Nothing;
     spelled = λ k. refl;
     alike = λ k exprs there t m log cells puts.
         put_alike array (value t (own t log)) ((ways exprs t).value (point cells log) k) t
-        (λ v. after t v (own t log)) log cells is (λ v. e t v log) puts
+        (λ v. after t v (own t log)) log cells is (λ v. e t v log) puts (integers t m log puts)
         (word_alike value words h exprs k there.rest there.is t m log cells puts);
     reads = words_reads words [] h.reads refl;
     writes = ap (λ b. b && true) may;

@@ -1,7 +1,10 @@
 -- What all tuples have put: in a loop all logs are written, one after another; in the meaning each
 -- array takes what each tuple has left.
 use Rattle.std.proofs.Common.{◌≡◌, ◌≢◌, refl, sym, ◌∙◌, ap, subst, ℕ, Bool, true, false}
-use Rattle.std.proofs.Common.{List, [], ◌∷◌, map, ℤ, pos, All, Some, inl, inr}
+use Rattle.std.proofs.Common.{List, [], ◌∷◌, map, ℤ, pos, All, Some, ◌⊎◌, inl, inr}
+use Rattle.std.proofs.lemmas.Bool.{cases_eq}
+use Rattle.zpl_nums.specs.Integer.{IsInteger}
+use Rattle.array_runs.proofs.IntegerLemmas.{updated_integers}
 use Rattle.std.specs.Prelude.{◌==◌, if◌then◌else◌, option_and_then, slice_get, slice_set, slice_index_or}
 use Rattle.std.specs.List.{AllZip}
 use Rattle.std.specs.Option.{option_map}
@@ -97,7 +100,7 @@ module _ (t : List ℤ) where
           (if b then value else value_behind log k (element array t))
           ≡ (if b then updated (array_behind log k array) t value else array_behind log k array)
       by true e same =
-          ap (λ b. left_at b array t value) (h.0 ((Decides-eqb other k).0 e))
+          ap (λ b. left_at b array t value) (h.0.0 ((Decides-eqb other k).0 e))
           ∙ sym (put_last log k array value)
       by false e same = same
 
@@ -145,7 +148,7 @@ module _ (t : List ℤ) where
           → element (if b then updated (array_behind log k array) t value
           else array_behind log k array) u ≡ element (array_behind log k array) u
       by true e =
-          let a = h.0 ((Decides-eqb other k).0 e) in
+          let a = h.0.0 ((Decides-eqb other k).0 e) in
           let s = behind_storage log k array in
           updated_elsewhere (array_behind log k array) t u value (behind_is_array log k array a.is)
           (ap (λ (r : Region). has_place r t) s ∙ a.here)
@@ -156,7 +159,7 @@ module _ (t : List ℤ) where
 puts_more : (P Q : ℕ → Type 0) → ((k : ℕ) → P k → Q k) → (log : Log) → PutsAlone P log
     → PutsAlone Q log
 puts_more P Q f [] h = tt
-puts_more P Q f (Puts array value ∷ log) h = (f array h.0, puts_more P Q f log h.1)
+puts_more P Q f (Puts array value ∷ log) h = ((f array h.0.0, h.0.1), puts_more P Q f log h.1)
 puts_more P Q f (Joins scalar operator value ∷ log) h = absurd h
 
 -- ---- all arrays
@@ -211,14 +214,44 @@ module _ (tables : Tables) (region : Region) where
     stay_filled (Joins scalar operator value ∷ log) stores h filled = absurd h
     stay_filled (Puts k value ∷ log) stores h filled =
         let before = stay_filled log stores h.1 filled in
-        let there = target_in k h.0 (stores_behind log stores) before in
+        let there = target_in k h.0.0 (stores_behind log stores) before in
         let old = at_number (stores_behind log stores) k in
         let is : IsArray old = subst IsArray (sym there.at) there.is in
-        zip_new tables.arrays (stores_behind log stores) k h.0.row (updated old t value) h.0.found
+        zip_new tables.arrays (stores_behind log stores) k h.0.0.row (updated old t value) h.0.0.found
         (record {
           filled = (updated_is_array old t value is).filled;
           placed = λ e. ap (λ (a : Array). a.storage) there.at ∙ there.storage;
         }) before
+
+    -- arrays that have integers have them still
+    stay_integers : (log : Log) (stores : List Array) → PutsAlone IsTarget log → Filled stores
+        → (j : ℕ) → Every IsInteger (at_number stores j).values
+        → Every IsInteger (at_number (stores_behind log stores) j).values
+    stay_integers [] stores h filled j is = is
+    stay_integers (Joins scalar operator value ∷ log) stores h filled j is = absurd h
+    stay_integers (Puts k value ∷ log) stores h filled j is =
+        by (cases_eq j k) (stay_integers log stores h.1 filled j is)
+      where
+        by : (j ≡ k) ⊎ (j ≡ k → ⊥) → Every IsInteger (at_number (stores_behind log stores) j).values
+            → Every IsInteger (at_number (slice_set (stores_behind log stores) k
+            (updated (at_number (stores_behind log stores) k) t value)) j).values
+        by (inl same) more =
+            let there = target_in k h.0.0 (stores_behind log stores)
+            (stay_filled log stores h.1 filled) in
+            let new = updated (at_number (stores_behind log stores) k) t value in
+            subst (λ (a : Array). Every IsInteger a.values)
+            (sym (ap (at_number (slice_set (stores_behind log stores) k new)) same
+            ∙ index_of_found (slice_set (stores_behind log stores) k new) k new no_array
+            (set_there (stores_behind log stores) k new there.array there.found)))
+            (updated_integers (at_number (stores_behind log stores) k) t value
+            (subst (λ (i : ℕ). Every IsInteger (at_number (stores_behind log stores) i).values) same
+            more) h.0.1)
+        by (inr ne) more =
+            let new = updated (at_number (stores_behind log stores) k) t value in
+            subst (λ (a : Array). Every IsInteger a.values)
+            (sym (index_is (slice_set (stores_behind log stores) k new) j no_array
+            ∙ ap (index_if no_array) (set_apart (stores_behind log stores) k j new (λ q. ne (sym q)))
+            ∙ sym (index_is (stores_behind log stores) j no_array))) more
 
     -- the stores of a state
     abbrev with_stores : Whole → List Array → Whole
@@ -241,10 +274,10 @@ module _ (tables : Tables) (region : Region) where
     writes whole (Joins scalar operator value ∷ log) stores h filled = absurd h
     writes whole (Puts k value ∷ log) stores h filled =
         let now = stores_behind log stores in
-        let there = target_in k h.0 now (stay_filled log stores h.1 filled) in
+        let there = target_in k h.0.0 now (stay_filled log stores h.1 filled) in
         ap (option_and_then (loop.written t (Puts k value))) (writes whole log stores h.1 filled)
         ∙ written_once (with_stores whole now) k there.array value there.found
-        (ap (λ (r : Region). has_place r t) there.storage ∙ h.0.places t m)
+        (ap (λ (r : Region). has_place r t) there.storage ∙ h.0.0.places t m)
         ∙ ap (λ (a : Array). Some (with_stores whole (slice_set now k (updated a t value))))
         (sym there.at)
 
@@ -270,7 +303,7 @@ module _ (tables : Tables) (region : Region) where
             ≡ (if b then updated (array_behind t log j (at_number stores j)) t value
             else array_behind t log j (at_number stores j))
         by true e same =
-            let there = target_in k h.0 (stores_behind log stores)
+            let there = target_in k h.0.0 (stores_behind log stores)
             (stay_filled log stores h.1 filled) in
             let is : k ≡ j = (Decides-eqb k j).0 e in
             let new = updated (at_number (stores_behind log stores) k) t value in
@@ -380,17 +413,31 @@ module _ (tables : Tables) (region : Region) where
       pub written : all_written (columns ts) points (record now { stores = before })
           ≡ Some (record now { stores = stores })
       pub is : merged (seen before) runs ≡ seen stores
+      pub integers : (j : ℕ) → Every IsInteger (at_number before j).values
+          → Every IsInteger (at_number stores j).values
 
     pub merges : (ts : List (List ℤ)) (runs : List Run) (points : List Point)
         → Left ts runs points → AreMembers ts → Apart ts → (stores : List Array) → Filled stores
         → Fresh ts stores → Merged ts runs points stores
     merges ts runs points NoneLeft members apart stores filled fresh =
-        record { stores = stores; filled = filled; written = refl; is = refl }
+        record {
+          stores = stores;
+          filled = filled;
+          written = refl;
+          is = refl;
+          integers = λ j is. is;
+        }
     merges ts runs points (OneOut {ts = rest} {runs = same} {points = others} t left) members apart
         stores filled fresh =
         let more = merges rest same others left (λ u k. members u (inr k)) apart.1 stores filled
         (λ u k. fresh u (inr k)) in
-        record { stores = more.stores; filled = more.filled; written = more.written; is = more.is }
+        record {
+          stores = more.stores;
+          filled = more.filled;
+          written = more.written;
+          is = more.is;
+          integers = more.integers;
+        }
     merges ts runs points (OneLeft {ts = rest} {runs = others} {points = more_points} t {log = log} puts left)
         members apart stores filled fresh =
         let m = members t (inl refl) in
@@ -407,4 +454,5 @@ module _ (tables : Tables) (region : Region) where
               (writes t m now log stores puts filled) ∙ more.written;
           is = ap (λ (xs : List Array). merged (record (seen stores) { arrays = xs }) others)
               (left_seen t m log stores puts filled (fresh t (inl refl)) arrays) ∙ more.is;
+          integers = λ j is. more.integers j (stay_integers t m log stores puts filled j is);
         }

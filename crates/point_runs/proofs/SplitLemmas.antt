@@ -339,6 +339,7 @@ module _ (tables : Tables) (n : ℕ) (sight : Sight) (w : Where) (line : ℕ) (n
               };
               settled = like.sound.settled;
               integers = like.sound.integers;
+              elements = λ j row e is. m.integers j (like.sound.elements j row e is);
             };
             kept = record { hidden = like.kept.hidden; slots = like.kept.slots };
             held = like.held;

@@ -1,7 +1,7 @@
 -- Elementwise expressions at a tuple: the meaning's value in the store of the tuple, and what words
 -- give there behind a log.
 use Rattle.std.proofs.Common.{◌≡◌, refl, sym, ◌∙◌, ap, subst, arith, ℕ, zero, suc, ◌≤◌, Bool, true, false}
-use Rattle.std.proofs.Common.{List, [], ◌∷◌, length, ℤ, pos, Option, Some, None}
+use Rattle.std.proofs.Common.{List, [], ◌∷◌, length, map, ℤ, pos, Option, Some, None}
 use Rattle.std.specs.Prelude.{option_and_then, slice_get, slice_index_or, ◌-◌, ◌<◌, ◌==◌, if◌then◌else◌}
 use Rattle.std.specs.List.{AllZip, list_all}
 use Rattle.std.specs.Option.{option_map}
@@ -9,7 +9,8 @@ use Rattle.zpl_nums.specs.declared.operators.Op.{Op}
 use Rattle.zpl_nums.specs.declared.operators.UnaryOp.{UnaryOp}
 use Rattle.zpl_nums.specs.declared.operators.UnaryOp.TheVariants as unary
 use Rattle.zpl_nums.specs.Op.{applied}
-use Rattle.zpl_nums.specs.Integer.{truth}
+use Rattle.zpl_nums.specs.Integer.{IsInteger, truth}
+use Rattle.zpl_nums.proofs.IntegerLemmas.{IsInteger-truth}
 use Rattle.zpl_nums.specs.UnaryOp.{applied_unary}
 use Rattle.zpl_region.specs.declared.regions.Region.{Region}
 use Rattle.zpl_region.specs.Dim.{IsCoordinate}
@@ -20,7 +21,7 @@ use Rattle.zpl_names.specs.Kinds.{Rank}
 use Rattle.zpl_names.specs.Types.{is_elementwise}
 use Rattle.zpl_meaning.specs.Computed as mean
 use Rattle.zpl_meaning.specs.Computed.{both_then, computed_then}
-use Rattle.zpl_meaning.specs.Store.{Thing, Scalar, ArrayAt, Fixed, Store, array_at, scalar_at, thing_of}
+use Rattle.zpl_meaning.specs.Store.{Thing, Scalar, ArrayAt, Fixed, Store, array_at, no_array, scalar_at, thing_of}
 use Rattle.zpl_meaning.specs.Context.{Over, over_at}
 use Rattle.zpl_meaning.specs.Settled as meant
 use Rattle.zpl_meaning.specs.Settled.{named_term}
@@ -32,6 +33,7 @@ use Rattle.node_form.specs.Expression.{Expression, words_of}
 use Rattle.node_form.specs.Expression as word
 use Rattle.node_form.specs.Value as flat
 use Rattle.node_form.specs.Value.{Operands, scalar_operands, tree_value, unmoved}
+use Rattle.row_runs.specs.Straight.{Every}
 use Rattle.grid_meaning.specs.Place.{held_value, moved_by, value_at, where_held}
 use Rattle.flat_form.specs.Loop.{Log, Puts, Joins, logged, operands_at}
 use Rattle.flat_form.specs.Whole.{Whole}
@@ -42,18 +44,21 @@ use Rattle.zpl_lowering.specs.Words.{variable_code}
 use Rattle.zpl_lowering.specs.Reference.{referred}
 use Rattle.zpl_lowering.specs.Slate as slate
 use Rattle.zpl_lowering.specs.Slate.{Slate, named_slate, settled}
-use Rattle.lowering_runs.specs.Seen.{Spot, Sight, array_in, seen_currents, seen_place, seen_store, seen_thing, place_of}
+use Rattle.lowering_runs.specs.Seen.{Spot, Sight, array_in, numbered, seen_currents, seen_place, seen_store, seen_thing, place_of}
 use Rattle.lowering_runs.specs.Scalars.{IsSameValue, BothGive as BothGive_, BothDivide as BothDivide_}
-use Rattle.lowering_runs.specs.Stands.{IsHeld, IsSound, Stands}
-use Rattle.lowering_runs.proofs.ValueLemmas.{place_same, thing_seen}
+use Rattle.lowering_runs.specs.Stands.{AreStored, IsHeld, IsKnown, IsSound, Stands}
+use Rattle.lowering_runs.proofs.ValueLemmas.{known_thing, place_same, thing_seen}
 use Rattle.array_puts.specs.Put.{IsSame, BothGive, BothDivide}
 use Rattle.array_runs.specs.Gates.{holds}
 use Rattle.array_runs.specs.Elementwise.{IsReadable, IsElement, IsElementwise}
+use Rattle.array_runs.specs.Integers.{AreIntegers, HasIntegers}
+use Rattle.array_runs.proofs.IntegerLemmas.{element_integer}
 use Rattle.array_runs.proofs.StoredLemmas.{found_array, index_of_found, read_same}
 use Rattle.array_runs.proofs.PartLemmas.{IsPart, all_append, both_true, constant_part, coordinate_part, unary_part, binary_part, variable_part}
 use Rattle.array_runs.proofs.ElementLemmas.{element_part, holding_is, own_covers}
 use Rattle.array_runs.proofs.CodedLemmas.{CurrentOf, region_of}
-use Rattle.point_runs.specs.Own.{value_behind, own_store}
+use Rattle.point_runs.specs.Own.{own_array, own_store, value_behind}
+use Rattle.point_runs.proofs.AlikeLemmas.{PutsAlone}
 use Rattle.point_runs.proofs.CutLemmas.{own_element}
 
 -- what is read behind a log, where there was a value before
@@ -311,6 +316,50 @@ module _ (tables : Tables) (sight : Sight) (w : Where) (line : ℕ) (next : Next
       readable place (slice_get w.numbers.arrays place) refl h
   named_own None h = (_, constant_own (pos 0))
 
+  -- ---- values of 64 bits
+
+  gives_integer : (value : ℤ) (one : flat.Computed ℤ) → IsSameValue (mean.Gives value) one
+      → IsInteger value
+  gives_integer value _ (BothGive_ f) = f
+
+  named_integers : (t : List ℤ) (log : Log) (thing : Option Thing) → ((found : Thing)
+      → thing ≡ Some found → IsKnown (length (numbered spots)) (length w.numbers.arrays) found)
+      → AreIntegers (own t log) (named_term meant_over (option_map (seen_thing spots) thing))
+  named_integers t log (Some (Scalar place)) known =
+      gives_integer _ _ (place_same tables spots w next now stands room sound place)
+  named_integers t log (Some (Fixed value)) known = known (Fixed value) refl
+  named_integers t log (Some (ArrayAt place home)) known = tt
+  named_integers t log None known = IsInteger-truth false
+
+  behind_integer : (P : ℕ → Type 0) (log : Log) → PutsAlone P log → (k : ℕ) (v : ℤ) → IsInteger v
+      → IsInteger (value_behind log k v)
+  behind_integer P [] h k v is = is
+  behind_integer P (Joins scalar operator value ∷ log) h k v is = absurd h
+  behind_integer P (Puts other value ∷ log) h k v is =
+      by (other == k) (behind_integer P log h.1 k v is)
+    where
+      by : (b : Bool) → IsInteger (value_behind log k v)
+          → IsInteger (if b then value else value_behind log k v)
+      by true more = h.0.1
+      by false more = more
+
+  own_each : (P : ℕ → Type 0) (t : List ℤ) (log : Log) → PutsAlone P log → (some : List Stored)
+      → AreStored tables some → (place : ℕ)
+      → Every IsInteger (slice_index_or (map (own_array spots w.numbers.arrays now t log) some) place no_array).values
+  own_each P t log h [] all zero = tt
+  own_each P t log h [] all (suc place) = tt
+  own_each P t log h (stored ∷ some) all zero = (
+    behind_integer P log h stored.array (element (array_in now stored.array) t)
+        (element_integer (array_in now stored.array)
+        (sound.elements stored.array all.0.row all.0.found all.0.kept) t),
+    tt,
+  )
+  own_each P t log h (stored ∷ some) all (suc place) = own_each P t log h some all.1 place
+
+  pub own_integers : (P : ℕ → Type 0) (t : List ℤ) (log : Log) → PutsAlone P log
+      → HasIntegers (own t log)
+  own_integers P t log h place = own_each P t log h w.numbers.arrays held.stored place
+
   -- ---- expressions of the rank
 
   pub record IsPointed (expr : Expr) : Type 0 where
@@ -321,6 +370,7 @@ module _ (tables : Tables) (sight : Sight) (w : Where) (line : ℕ) (next : Next
     pub termed : (store : Store)
         → meant.settled (seen_place sight w now) store rank expr ≡ mean.Gives term
     pub own : IsOwn one term left
+    pub integers : (t : List ℤ) (log : Log) → AreIntegers (own_store spots w.numbers.arrays now t log) term
 
   unary_pointed : (op : UnaryOp) (expr made : Expr)
       → ((free : Next) → settled w line free rank made
@@ -337,26 +387,30 @@ module _ (tables : Tables) (sight : Sight) (w : Where) (line : ℕ) (next : Next
     termed = λ store.
         f store ∙ ap (λ x. computed_then x (λ one. mean.Gives (term.Unary op one))) (h.termed store);
     own = unary_own op h.one h.term h.left h.own;
+    integers = h.integers;
   }
 
   constant_pointed : (value : ℤ) (made : Expr)
       → ((free : Next) → settled w line free rank made ≡ slate.alone (slate.Constant value))
       → ((store : Store) → meant.settled (seen_place sight w now) store rank made
-      ≡ mean.Gives (term.Constant value)) → IsPointed made
-  constant_pointed value made e f = record {
+      ≡ mean.Gives (term.Constant value)) → IsInteger value → IsPointed made
+  constant_pointed value made e f is = record {
     one = slate.Constant value;
     term = term.Constant value;
     left = _;
     slated = e;
     termed = f;
     own = constant_own value;
+    integers = λ t log. is;
   }
 
   pub pointed : (expr : Expr) → is_elementwise expr ≡ true → IsElementwise w region expr
       → IsPointed expr
-  pointed (Number at value) e h = constant_pointed value (Number at value) (λ free. refl) (λ store. refl)
+  pointed (Number at value) e h = 
+      constant_pointed value (Number at value) (λ free. refl) (λ store. refl) h
   pointed (Truth at value) e h =
       constant_pointed (truth value) (Truth at value) (λ free. refl) (λ store. refl)
+      (IsInteger-truth value)
   pointed (Coord at k) e h = record {
     one = slate.Coordinate k;
     term = term.Coordinate k;
@@ -364,6 +418,7 @@ module _ (tables : Tables) (sight : Sight) (w : Where) (line : ℕ) (next : Next
     slated = λ free. refl;
     termed = λ store. refl;
     own = coordinate_own k h;
+    integers = λ t log. tt;
   }
   pointed (Named at name) e h =
       let p = named_own (thing_of w.environment name.text) h in
@@ -376,6 +431,9 @@ module _ (tables : Tables) (sight : Sight) (w : Where) (line : ℕ) (next : Next
         termed = λ store. ap (λ o. mean.Gives (named_term meant_over o))
             (thing_seen spots w.environment.names name.text);
         own = p.1;
+        integers = λ t log. named_integers t log (thing_of w.environment name.text) (λ found e.
+            known_thing (length (numbered spots)) (length w.numbers.arrays) w.environment.names
+            name.text found stands.known e);
       }
   pointed (Paren at inside) e h =
       let r = pointed inside e h in
@@ -386,6 +444,7 @@ module _ (tables : Tables) (sight : Sight) (w : Where) (line : ℕ) (next : Next
         slated = r.slated;
         termed = r.termed;
         own = r.own;
+        integers = r.integers;
       }
   pointed (Neg at operand) e h =
       unary_pointed unary.Neg operand (Neg at operand) (λ free. refl) (λ store. refl)
@@ -416,6 +475,7 @@ module _ (tables : Tables) (sight : Sight) (w : Where) (line : ℕ) (next : Next
             ∙ ap (λ x. both_then (mean.Gives a.term) x
             (λ one other. mean.Gives (term.Binary op one other))) (b.termed store);
         own = binary_own op a.one b.one a.term b.term a.left b.left a.own b.own;
+        integers = λ t log. (a.integers t log, b.integers t log);
       }
   pointed (Shifted at name shift) e h = absurd (let no : false ≡ true = e in cc)
   pointed (Around at name shift) e h = absurd h

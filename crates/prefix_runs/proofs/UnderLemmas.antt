@@ -16,7 +16,8 @@ use Rattle.zpl_binding.specs.Outcome.{Outcome as BoundOutcome, value_or}
 use Rattle.zpl_binding.specs.Regions.{Known, no_region}
 use Rattle.zpl_meaning.specs.Computed as mean_computed
 use Rattle.zpl_meaning.specs.Computed.{computed_then}
-use Rattle.zpl_meaning.specs.Store.{Thing, Scalar, ArrayAt, Fixed, Store, thing_of}
+use Rattle.row_runs.specs.Straight.{Every}
+use Rattle.zpl_meaning.specs.Store.{Thing, Scalar, ArrayAt, Fixed, Store, no_array, thing_of}
 use Rattle.zpl_meaning.specs.Context.{Mask, Currents, over_at, with_over, Edge, Place}
 use Rattle.zpl_meaning.specs.Proper.{HasCurrent, IsArrayRank}
 use Rattle.zpl_meaning.specs.Regions.{vector_in, inner_over, mask_thing, mask_in, base_in, edge_in}
@@ -246,6 +247,8 @@ module _ (tables : Tables) (bottom : ℕ) (now after : Whole) (filled : IsFilled
         (slice_get xs k))) filled.awaited ∙ h.settled k;
     integers = λ k. subst (λ (xs : List ℤ). IsInteger (slice_index_or xs k (pos 0)))
         (sym filled.scalars) (h.integers k);
+    elements = λ k row e kept. subst (λ (xs : List Array). Every IsInteger (slice_index_or xs k no_array).values)
+        (sym filled.stores) (h.elements k row e kept);
   }
 
   store_kept : (spots : List Spot) (arrays : List Stored)

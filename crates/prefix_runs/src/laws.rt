@@ -2,7 +2,7 @@
 //!
 //! Each law is the contract of a function that does nothing: a call brings the law into a proof.
 ghost use Rattle.std.specs.Prelude.{ℕ, Bool, List};
-ghost use Rattle.zpl_tree.specs.Syntax.{Form, Prefix, Stmt};
+ghost use Rattle.zpl_tree.specs.Syntax.{Expr, Form, Prefix, Stmt};
 ghost use Rattle.zpl_meaning.specs.Context.{Place, Setup};
 ghost use Rattle.zpl_meaning.specs.Outcome.{Outcome};
 ghost use Rattle.zpl_meaning.specs.Statement.{Context, exec, exec_form, under};
@@ -11,14 +11,19 @@ ghost use Rattle.zpl_lowering.specs.Lowered.{Lowered};
 ghost use Rattle.zpl_lowering.specs.Statement.{Lowering, lowered, lowered_form, lowered_under};
 ghost use Rattle.zpl_lowering.specs.Where.{Next, Where};
 ghost use Rattle.lowering_runs.specs.Called.{CallsAgree};
-ghost use Rattle.lowering_runs.specs.Goes.{Goes, World};
-ghost use Rattle.lowering_runs.specs.Suits.{SuitsStmt};
+ghost use Rattle.lowering_runs.specs.Goes.{Goes, TestsGo, World};
+ghost use Rattle.lowering_runs.specs.Suits.{SuitsStmt, SuitsStmtBy};
 ghost use Rattle.prefix_runs.specs.Plain.{PlainLeaf};
 ghost use Rattle.prefix_runs.specs.Under.{IsUnder};
 
 /// What is asked where a statement stands. No program calls this: laws are said of it.
 pub trait Standing {
     ghost IsServed: { Where → Place → Type 0 };
+}
+
+/// What is asked of a test of `if`, `while` or `repeat`, where it stands.
+pub trait Tests {
+    ghost IsTest: { Expr → Where → Place → Type 0 };
 }
 
 /// What is asked of a form that has no statements in it, or is shattered, where it stands.
@@ -45,14 +50,15 @@ pub fn prefixes_go_alike<S: Standing>()
 {}
 
 /// The code of a statement goes as the statement does, with all prefixes, branches, loops and
-/// blocks in it, if that of the forms in it does that have no statements in them.
-pub fn statements_go_alike<L: Leaves>()
-    ensures { (world : World) →
+/// blocks in it, if tests go alike, and so does that of the forms in it that have no statements in
+/// them.
+pub fn statements_go_alike<T: Tests, L: Leaves>()
+    ensures { (world : World) → TestsGo world T.IsTest →
         ((at : ℕ) (form : Form) →
         Goes world (L.IsLeaf at form) (λ c store. exec_form c world.turns at form store)
         (λ l next. lowered_form l next at form) 1) →
         (stmt : Stmt) →
-        Goes world (SuitsStmt IsUnder L.IsLeaf stmt)
+        Goes world (SuitsStmtBy IsUnder T.IsTest L.IsLeaf stmt)
         (λ c store. exec c world.turns stmt store) (λ l next. lowered l next stmt) 0 }
 {}
 

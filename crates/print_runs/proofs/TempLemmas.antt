@@ -18,6 +18,7 @@ use Rattle.zpl_arrays.specs.ArrayText.{array_text}
 use Rattle.zpl_arrays.proofs.ArrayLemmas.{array_of_is_array, element_of_member, flattened_is, place_of_member, same_elements}
 use Rattle.zpl_meaning.specs.Computed as mean
 use Rattle.zpl_meaning.specs.Computed.{both_then, computed_then}
+use Rattle.zpl_nums.specs.Integer.{IsInteger}
 use Rattle.zpl_meaning.specs.Store.{Store, no_array}
 use Rattle.zpl_meaning.specs.Fields.{Field, array_over, everywhere, values_at}
 use Rattle.zpl_meaning.specs.Statement.{written}
@@ -50,7 +51,7 @@ use Rattle.zpl_lowering.specs.Where as low
 use Rattle.zpl_lowering.specs.Where.{Stored, Where, Next}
 use Rattle.lowering_runs.specs.Run.{step, straight}
 use Rattle.lowering_runs.specs.Seen.{Spot, array_in, seen_store}
-use Rattle.lowering_runs.specs.Stands.{AreStored, IsLike}
+use Rattle.lowering_runs.specs.Stands.{AreStored, IsLike, IsSound}
 use Rattle.lowering_runs.proofs.RowLemmas.{settled_act}
 use Rattle.array_puts.specs.Put.{IsPutting, IsSame, assigned, put_group, with_array_in}
 use Rattle.array_puts.proofs.PutLemmas.{put_assigns}
@@ -122,6 +123,13 @@ module _ (tables : Tables) (now : Whole) (k : ℕ) (row : ArrayRow) (new : Array
       false_true : false ≡ true → ⊥
       false_true e = cc
 
+  pub elements_kept : IsSound tables now → (j : ℕ) (one : ArrayRow)
+      → slice_get tables.arrays j ≡ Some one → one.stored ≡ true
+      → Every IsInteger (array_in after j).values
+  elements_kept sound j one e s =
+      subst (λ (a : Array). Every IsInteger a.values) (sym (other j (no_temp j one e s)))
+      (sound.elements j one e s)
+
   pub arrays_same : (arrays : List Stored) → AreStored tables arrays
       → map (λ (one : Stored). array_in after one.array) arrays
       ≡ map (λ (one : Stored). array_in now one.array) arrays
@@ -147,6 +155,7 @@ module _ (tables : Tables) (now : Whole) (k : ℕ) (row : ArrayRow) (new : Array
       };
       settled = like.sound.settled;
       integers = like.sound.integers;
+      elements = elements_kept like.sound;
     };
     kept = record { hidden = like.kept.hidden; slots = like.kept.slots };
     held = like.held;

@@ -61,8 +61,7 @@ pub fn code_of_meant_programs_is_right()
 }
 
 /// So is that of a program whose statements are of the forms of which it is proved that their code
-/// goes as they do: of scalars and arrays, without operators over regions, under prefixes, and with
-/// calls.
+/// goes as they do, under prefixes and with calls.
 pub fn code_of_shown_programs_is_right()
     ensures in_step { (program : Program) (build : Build) → IsAccepted program build →
         IsShownProgram program build.settings → OverAllLinks build (λ links.

@@ -217,7 +217,7 @@ module _ (spots : List Spot) (w : Where) (environment : Environment) (answer : �
 
     pub elementwise : (rank : Rank) (expr : Expr) → IsPlainExpr expr → IsOfRank place (Some k) expr
         → AreFree (expr_sites reach rank expr) → IsElementwiseAs w slotted expr
-    elementwise rank (Number at value) t r f = tt
+    elementwise rank (Number at value) t r f = t
     elementwise rank (Truth at value) t r f = tt
     elementwise rank (Coord at j) t r f = within_three j r
     elementwise rank (Named at name) t r f =
@@ -311,26 +311,26 @@ module _ (spots : List Spot) (w : Where) (environment : Environment) (answer : �
   scalar_there (Scan at operator along operand) h = absurd h
   scalar_there (Flood at source operand) h = absurd h
 
-  scalar_elementwise : (over : Slotted) (expr : Expr) → IsScalar w.environment expr
-      → IsElementwiseAs w over expr
-  scalar_elementwise over (Number at value) h = tt
-  scalar_elementwise over (Truth at value) h = tt
-  scalar_elementwise over (Named at name) h =
+  scalar_elementwise : (over : Slotted) (expr : Expr) → IsPlainExpr expr
+      → IsScalar w.environment expr → IsElementwiseAs w over expr
+  scalar_elementwise over (Number at value) t h = t
+  scalar_elementwise over (Truth at value) t h = tt
+  scalar_elementwise over (Named at name) t h =
       scalar_elements over [] (thing_of w.environment name.text) h
-  scalar_elementwise over (Paren at inside) h = scalar_elementwise over inside h
-  scalar_elementwise over (Neg at operand) h = scalar_elementwise over operand h
-  scalar_elementwise over (Not at operand) h = scalar_elementwise over operand h
-  scalar_elementwise over (Abs at operand) h = scalar_elementwise over operand h
-  scalar_elementwise over (Pair at op left right) h =
-      (scalar_elementwise over left h.0, scalar_elementwise over right h.1)
-  scalar_elementwise over (Coord at k) h = absurd h
-  scalar_elementwise over (Shifted at name shift) h = absurd h
-  scalar_elementwise over (Around at name shift) h = absurd h
-  scalar_elementwise over (Remap at name indices) h = absurd h
-  scalar_elementwise over (Call at name actuals) h = absurd h
-  scalar_elementwise over (Reduce at operator over_ operand) h = absurd h
-  scalar_elementwise over (Scan at operator along operand) h = absurd h
-  scalar_elementwise over (Flood at source operand) h = absurd h
+  scalar_elementwise over (Paren at inside) t h = scalar_elementwise over inside t h
+  scalar_elementwise over (Neg at operand) t h = scalar_elementwise over operand t h
+  scalar_elementwise over (Not at operand) t h = scalar_elementwise over operand t h
+  scalar_elementwise over (Abs at operand) t h = scalar_elementwise over operand t h
+  scalar_elementwise over (Pair at op left right) t h =
+      (scalar_elementwise over left t.0 h.0, scalar_elementwise over right t.1 h.1)
+  scalar_elementwise over (Coord at k) t h = absurd h
+  scalar_elementwise over (Shifted at name shift) t h = absurd h
+  scalar_elementwise over (Around at name shift) t h = absurd h
+  scalar_elementwise over (Remap at name indices) t h = absurd h
+  scalar_elementwise over (Call at name actuals) t h = absurd h
+  scalar_elementwise over (Reduce at operator over_ operand) t h = absurd h
+  scalar_elementwise over (Scan at operator along operand) t h = absurd h
+  scalar_elementwise over (Flood at source operand) t h = absurd h
 
   read_scalar : (thing : Option Thing) → IsRead place.currents (Some 0) thing → IsScalarName thing
   read_scalar (Some (Scalar p)) h = tt
@@ -457,7 +457,7 @@ module _ (spots : List Spot) (w : Where) (environment : Environment) (answer : �
         (subst (λ (r : Rank). IsOfRank place r whole_expr) e ranked.1)
         (subst (λ (r : Rank). IsProper place r whole_expr) e proper.1) in (
           inr scalar,
-          scalar_elementwise (slotted_at w.currents (Some k)) whole_expr
+          scalar_elementwise (slotted_at w.currents (Some k)) whole_expr whole_plain
               (scalar_there whole_expr scalar),
         )
     served_by (inr e) = (

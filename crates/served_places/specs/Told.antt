@@ -2,6 +2,7 @@
 use Rattle.std.specs.Prelude.{◌≡◌, ℕ, false, List, [], length, map, Option, Some, None, IsSome, slice_get}
 use Rattle.std.specs.Option.{option_map}
 use Rattle.std.specs.List.{AllByRecursion}
+use Rattle.zpl_nums.specs.Integer.{IsInteger}
 use Rattle.zpl_region.specs.declared.regions.Region.{Region}
 use Rattle.zpl_tree.specs.Syntax.{Name, Base, Dir, Expr, Number, Truth, Coord, Named, Shifted, Around, Remap, Call, Paren, Neg, Not, Abs, Pair, Reduce, Scan, Flood}
 use Rattle.zpl_names.specs.Kinds.{Rank, Shape}
@@ -93,10 +94,10 @@ reach_told w shapes shattered result = record {
 abbrev pub AreFree : List Site → Type 0
 AreFree sites = AllByRecursion (λ site. flood_clashes site ≡ []) sites
 
--- ---- expressions without operators over regions, by their text
+-- ---- expressions without operators over regions, by their text; numbers are of 64 bits
 
 abbrev pub IsPlainExpr : Expr → Type 0
-IsPlainExpr (Number at value) = Unit {0}
+IsPlainExpr (Number at value) = IsInteger value
 IsPlainExpr (Truth at value) = Unit {0}
 IsPlainExpr (Coord at k) = Unit {0}
 IsPlainExpr (Named at name) = Unit {0}

@@ -213,7 +213,7 @@ asks_is_shown = record {
 
 -- region R = [1..2]; var A : [R] integer; n : integer;
 -- procedure t(); [R] begin
---   while A < 3 do A += 1; end; n := +<< A; A := A * (+<< (A * n)); writeln(n, +<< A);
+--   while A < 3 do A += 1; end; n := +<< A; A := A * (+<< (A * n)); writeln(n, max<< A);
 -- end;
 abbrev folds : Program
 folds = record {
@@ -255,7 +255,7 @@ folds = record {
             (Named 156 (name (codes "n") 156)))))))))
             (ThenStmt (Prefixed 161 [] (Write true
             (Value (Named 169 (name (codes "n") 169))
-            ∷ Value (Reduce 172 fold.Sum NoBracket (Named 176 (name (codes "A") 176)))
+            ∷ Value (Reduce 172 fold.Max NoBracket (Named 178 (name (codes "A") 178)))
             ∷ []))) NoStmt)))));
       })
       ∷ [];
@@ -274,10 +274,10 @@ folds_is_shown = record {
       (
         (tt, inl (inr (inr (inr (inl refl))))),
         (
-          (tt, inr (inr (inr (inr (inl (tt, tt)))))),
+          (tt, inr (inr (inr (inr (inl tt))))),
           (
-            (tt, inr (inr (inr (inr (inl (tt, (tt, (tt, tt)))))))),
-            ((tt, inr (inr (inr (inr (inl (refl, tt, (refl, (tt, tt), tt))))))), tt),
+            (tt, inr (inr (inr (inr (inl (tt, (tt, tt))))))),
+            ((tt, inr (inr (inr (inr (inl (refl, tt, (refl, tt, tt))))))), tt),
           ),
         ),
       ),

@@ -94,7 +94,8 @@ module _ (spots : List Spot) (w : Where) (environment : Environment) (answer : �
   IsOf rank expr = IsOfRank inner rank expr × IsProper inner rank expr
 
   slot_at : (k : ℕ) → HasCurrent currents (Some k) → Slot k
-  slot_at k has = has_slot spots w environment answer currents edge seen shapes told shattered result k has
+  slot_at k has =
+      has_slot spots w environment answer currents edge seen shapes told shattered result k has
 
   -- the operand of a fold has a current region of its rank, without flood dimensions
   folded_under : (rank : Rank) → HasCurrent currents rank → has_flood (shape_at reach rank) ≡ false
@@ -143,9 +144,8 @@ module _ (spots : List Spot) (w : Where) (environment : Environment) (answer : �
   operated_under (Reduce at operator NoBracket operand) rank k slot t h f =
       let over = operand_rank w.scope w.prefix operand in (
         folded_under over h.1.0 (no_place (has_flood (shape_at reach over)) at f.0),
-        inl t.0,
         at_current over operand h.1.0
-            (λ j there own. operated_under operand over j there t.1 own f.1.1) (h.0, h.1.1),
+            (λ j there own. operated_under operand over j there t own f.1.1) (h.0, h.1.1),
       )
   operated_under (Reduce at operator (Bracketed source) operand) rank k slot t h f = absurd t
   operated_under (Around at name shift) rank k slot t h f = absurd t
@@ -183,9 +183,8 @@ module _ (spots : List Spot) (w : Where) (environment : Environment) (answer : �
   operated_alone (Reduce at operator NoBracket operand) rank t h f =
       let over = operand_rank w.scope w.prefix operand in (
         folded_under over h.1.0 (no_place (has_flood (shape_at reach over)) at f.0),
-        inl t.0,
         at_current over operand h.1.0
-            (λ j there own. operated_under operand over j there t.1 own f.1.1) (h.0, h.1.1),
+            (λ j there own. operated_under operand over j there t own f.1.1) (h.0, h.1.1),
       )
   operated_alone (Reduce at operator (Bracketed source) operand) rank t h f = absurd t
   operated_alone (Around at name shift) rank t h f = absurd t

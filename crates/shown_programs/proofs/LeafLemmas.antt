@@ -9,17 +9,17 @@ use Rattle.zpl_tree.specs.Syntax.{Name, Expr, Number, Truth, Coord, Named, Shift
 use Rattle.zpl_tree.specs.Grammar.{IsProgram}
 use Rattle.zpl_names.specs.Kinds as kind
 use Rattle.zpl_names.specs.Kinds.{Kind, Rank, Formal, ScalarFormal, ArrayFormal, Signature}
-use Rattle.zpl_names.specs.Scope.{kind_of, is_array}
+use Rattle.zpl_names.specs.Scope.{kind_of, is_array, is_scalar}
 use Rattle.zpl_names.specs.Shapes.{Shapes}
 use Rattle.zpl_names.specs.Declared.{Routine, IsProcedureOf, routine_named}
-use Rattle.zpl_names.specs.Sites.{Site, Actual, Assigned, expr_sites, whole_rank}
+use Rattle.zpl_names.specs.Sites.{Reach, Site, Actual, Assigned, AtStmt, expr_sites, form_sites, handed, value_sites, whole_rank, whole_sites}
 use Rattle.zpl_names.specs.Accepted.{IsFaultless}
 use Rattle.zpl_binding.specs.Settings.{Setting}
 use Rattle.zpl_meaning.specs.Store.{Thing, Scalar, ArrayAt, Fixed, Environment, Store, thing_of}
 use Rattle.zpl_meaning.specs.Context.{Currents, Edge, Setup, Place, reach_of}
 use Rattle.zpl_meaning.specs.Points.{assigned_expr}
 use Rattle.zpl_meaning.specs.Calls.{formals_in, actual_thing, handed_on, value_exprs}
-use Rattle.zpl_meaning.specs.Proper.{IsArray, IsVariable, IsPlainAssign, IsProperAssign, IsProperCall, IsProperStmt, AreProperActuals}
+use Rattle.zpl_meaning.specs.Proper.{IsArray, IsFixed, IsTarget, IsVariable, IsPlainAssign, IsProperAssign, IsProperCall, IsProperStmt, AreProperActuals}
 use Rattle.zpl_meaning.specs.Statement as mean
 use Rattle.zpl_meaning.specs.Visited.{IsVisited, IsCall, AsStatement, AsAnswer, Calls, body_place, handed_at}
 use Rattle.zpl_meaning.proofs.DepthLemmas.{Each}
@@ -120,6 +120,37 @@ array_named (Some (kind.Region shape)) thing e h = cc
 array_named (Some (kind.Direction rank)) thing e h = cc
 array_named (Some (kind.Procedure signature)) thing e h = cc
 array_named None thing e h = cc
+
+-- ---- names of scalars
+
+variable_target : (currents : Currents) (thing : Option Thing) → IsVariable thing
+    → IsTarget currents (Some 0) thing
+variable_target currents (Some (Scalar place)) h = tt
+variable_target currents (Some (ArrayAt target home)) h = absurd h
+variable_target currents (Some (Fixed value)) h = absurd h
+variable_target currents None h = absurd h
+
+fixed_target : (currents : Currents) (rank : Rank) (thing : Option Thing) → IsFixed thing
+    → IsTarget currents rank thing → IsTarget currents (Some 0) thing
+fixed_target currents rank (Some (Scalar place)) h t = absurd h
+fixed_target currents rank (Some (ArrayAt target home)) h t = absurd h
+fixed_target currents rank (Some (Fixed value)) h t = absurd t
+fixed_target currents rank None h t = absurd t
+
+-- what a name of a scalar stands for is assigned without a current region
+scalar_target : (currents : Currents) (rank : Rank) (one : Option Kind) (thing : Option Thing)
+    → is_scalar one ≡ true → IsNamed one thing → IsTarget currents rank thing
+    → IsTarget currents (Some 0) thing
+scalar_target currents rank (Some (kind.Scalar base)) thing e h t = variable_target currents thing h
+scalar_target currents rank (Some (kind.Config base)) thing e h t =
+    fixed_target currents rank thing h t
+scalar_target currents rank (Some (kind.Constant base)) thing e h t =
+    fixed_target currents rank thing h t
+scalar_target currents rank (Some (kind.Array base shape)) thing e h t = cc
+scalar_target currents rank (Some (kind.Region shape)) thing e h t = cc
+scalar_target currents rank (Some (kind.Direction dims)) thing e h t = cc
+scalar_target currents rank (Some (kind.Procedure signature)) thing e h t = cc
+scalar_target currents rank None thing e h t = cc
 
 record IsArrayThing (thing : Option Thing) : Type 0 where
   target : ℕ
@@ -289,8 +320,10 @@ module _ (program : Program) (settings : List Setting) (laws : Laws program)
         (Assign name op value) spots w environment answer currents edge shapes h) in
         inl (record {
           scalar = t.2;
-          handed_is = t.0;
-          target = p.0;
+          target = scalar_target currents (handed (reach_of place) (Assigned name op))
+              (kind_of w.scope name) (thing_of environment name.text) t.0
+              ((behind program settings laws grammar clean h.start place h.outer at prefixes
+              (Assign name op value) h.here h.under).fits.names name) p.0;
           value_is = scalar_at place (Assigned name op) (assigned_expr name op value) t.2 t.1 p.1;
         })
     plain_suits (Assign name op value) h (inr t) = inr (array_suits name op value h t.0 t.1)

@@ -1,9 +1,13 @@
 -- Local variables of a procedure that is entered, arrays among them: they are cleared.
-use Rattle.std.proofs.Common.{◌≡◌, ◌≢◌, ℕ, suc, ◌≤◌, ◌<◌, Bool, true, false, pos, List, []}
+use Rattle.std.proofs.Common.{◌≡◌, ◌≢◌, ◌⊎◌, inl, inr, ℕ, suc, ◌≤◌, ◌<◌, Bool, true, false, pos, List, []}
 use Rattle.std.proofs.Common.{◌∷◌, ◌++◌, map, length, Option, Some, refl, sym, ap, ◌∙◌, subst}
 use Rattle.std.proofs.Common.{arith}
 use Rattle.std.proofs.lemmas.List.{length-map}
 use Rattle.std.specs.Prelude.{slice_get, slice_index_or}
+use Rattle.zpl_nums.specs.Integer.{IsInteger}
+use Rattle.row_runs.specs.Straight.{Every}
+use Rattle.lowering_runs.proofs.EntryLemmas.{zeros_integers}
+use Rattle.std.proofs.lemmas.Bool.{cases_eq}
 use Rattle.zpl_nums.proofs.IntegerLemmas.{IsInteger-truth}
 use Rattle.zpl_region.specs.declared.regions.Region.{Region}
 use Rattle.zpl_region.specs.Region.{members}
@@ -174,12 +178,32 @@ module _ (tables : Tables) (n : ℕ) where
           };
           settled = sound.settled;
           integers = sound.integers;
+          elements = λ j row e kept. by j row e kept (cases_eq j k);
         };
         scalars = refl;
         slots = refl;
         fresh = λ to h. tt;
         arrays = λ to le. tt;
       }
+    where
+      by : (j : ℕ) (row : ArrayRow) → slice_get tables.arrays j ≡ Some row → row.stored ≡ true
+          → (j ≡ stored.array) ⊎ (j ≡ stored.array → ⊥)
+          → Every IsInteger (array_in (with_array_in now stored.array (zero_array stored.storage)) j).values
+      by j row e kept (inl same) =
+          let k = stored.array in
+          let new = zero_array stored.storage in
+          let z = zip_at tables.arrays now.stores k is.row sound.filled.stores is.found in
+          subst (λ (a : Array). Every IsInteger a.values)
+          (sym (ap (array_in (with_array_in now k new)) same
+          ∙ index_of_found (with_array_in now k new).stores k new no_array
+          (set_there now.stores k new z.0 z.1))) (zeros_integers stored.storage)
+      by j row e kept (inr ne) =
+          let k = stored.array in
+          let new = zero_array stored.storage in
+          subst (λ (a : Array). Every IsInteger a.values)
+          (sym (index_is (with_array_in now k new).stores j no_array
+          ∙ ap (index_if no_array) (set_apart now.stores k j new (λ q. ne (sym q)))
+          ∙ sym (index_is now.stores j no_array))) (sound.elements j row e kept)
   clears_array false line stored now f is sound fresh =
       let k = stored.array in
       record {

@@ -6,9 +6,9 @@ use Rattle.zpl_nums.specs.Integer.{IsInteger}
 use Rattle.zpl_tree.specs.Syntax.{NoBracket, Bracketed, Inner, Rexpr, Dims, Expr, Number, Truth, Coord, Named, Shifted, Around, Remap, Call, Paren, Neg, Not, Abs, Pair, Reduce, Scan, Flood, Exprs, NoExpr, ThenExpr, Item, Str, Value, Prefix, Stmt, Prefixed, Stmts, NoStmt, ThenStmt, Form, Assign, Invoke, Block, If, While, Repeat, For, Border, Write, Return, Arm, Tested, Arms, NoArm, ThenArm, Otherwise, NoElse, Else, Program}
 use Rattle.zpl_names.specs.Kinds.{Formal, ScalarFormal, ArrayFormal}
 use Rattle.zpl_names.specs.Ranks.{is_above_zero}
-use Rattle.zpl_names.specs.Scope.{kind_of, is_array}
+use Rattle.zpl_names.specs.Scope.{kind_of, is_array, is_scalar}
 use Rattle.zpl_names.specs.Shapes.{prefix_rank, unknown_shapes}
-use Rattle.zpl_names.specs.Sites.{Reach, in_body, Assigned, Printed, whole_rank, handed, is_shattered}
+use Rattle.zpl_names.specs.Sites.{Reach, in_body, Assigned, Printed, whole_rank, is_shattered}
 use Rattle.zpl_names.specs.Declared.{Routine, routine_named, scope_of}
 use Rattle.zpl_names.specs.Reached.{longest_chain}
 use Rattle.zpl_binding.specs.Outcome.{value_or, outcome_of}
@@ -19,7 +19,6 @@ use Rattle.zpl_meaning.specs.Calls.{formals_in}
 use Rattle.zpl_meaning.specs.Statement.{step_expr}
 use Rattle.lowering_runs.specs.Scalars.{IsScalarExpr}
 use Rattle.lowering_runs.specs.ScalarText.{AreScalarTexts}
-use Rattle.operator_runs.specs.Meant.{Wraps}
 use Rattle.served_places.specs.Told.{IsPlainExpr}
 use Rattle.served_places.specs.Given.{HaveSmallDims}
 
@@ -133,7 +132,7 @@ module _ (IsLeaf : Reach → Form → Type 0) where
 -- a scalar is assigned, or an array without operators over regions; texts and scalars are printed
 abbrev pub IsPlainForm : Reach → Form → Type 0
 IsPlainForm reach (Assign name op value) =
-    ((handed reach (Assigned name op) ≡ Some 0)
+    ((is_scalar (kind_of reach.scope name) ≡ true)
     × (whole_rank reach (Assigned name op) (assigned_expr name op value) ≡ Some 0)
     × IsScalarExpr (assigned_expr name op value))
     ⊎ ((is_array (kind_of reach.scope name) ≡ true) × IsPlainExpr value)
@@ -234,8 +233,8 @@ IsBorderForm reach (Return value) = ⊥
 abbrev pub IsShatteredForm : Reach → Form → Type 0
 IsShatteredForm reach form = is_shattered reach form ≡ true
 
--- A value with full folds by `+`, `*`, `&` and `|`, also in one another's operands, and with no other
--- operators over regions. Numbers are of 64 bits.
+-- A value with full folds, also in one another's operands, and with no other operators over regions.
+-- Numbers are of 64 bits.
 abbrev pub IsFoldedExpr : Expr → Type 0
 IsFoldedExpr (Number at value) = IsInteger value
 IsFoldedExpr (Truth at value) = Unit {0}
@@ -247,7 +246,7 @@ IsFoldedExpr (Neg at operand) = IsFoldedExpr operand
 IsFoldedExpr (Not at operand) = IsFoldedExpr operand
 IsFoldedExpr (Abs at operand) = IsFoldedExpr operand
 IsFoldedExpr (Pair at op left right) = IsFoldedExpr left × IsFoldedExpr right
-IsFoldedExpr (Reduce at operator NoBracket operand) = Wraps operator × IsFoldedExpr operand
+IsFoldedExpr (Reduce at operator NoBracket operand) = IsFoldedExpr operand
 IsFoldedExpr (Reduce at operator (Bracketed source) operand) = ⊥
 IsFoldedExpr (Around at name shift) = ⊥
 IsFoldedExpr (Remap at name indices) = ⊥

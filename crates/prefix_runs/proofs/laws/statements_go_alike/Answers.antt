@@ -1,5 +1,6 @@
-use Rattle.prefix_runs.proofs.PlainLemmas.{suited_agrees}
+use Rattle.prefix_runs.proofs.PlainLemmas.{suited_agrees_by}
 use Rattle.prefix_runs.proofs.laws.statements_go_alike.Goals as goal
 
 pub returns : goal.returns
-returns g c = λ world leaves stmt. suited_agrees world g.L.Leaves.IsLeaf leaves stmt
+returns g c = λ world tests leaves stmt.
+    suited_agrees_by world g.T.Tests.IsTest g.L.Leaves.IsLeaf tests leaves stmt

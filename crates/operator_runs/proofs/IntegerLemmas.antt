@@ -1,0 +1,71 @@
+-- Values of what has operators over regions are integers of 64 bits.
+use Rattle.std.proofs.Common.{◌≡◌, refl, subst, ℕ, List, [], ◌∷◌}
+use Rattle.zpl_nums.specs.Integer.{IsInteger}
+use Rattle.zpl_region.specs.declared.regions.Region.{Region}
+use Rattle.zpl_meaning.specs.Computed as mean
+use Rattle.zpl_meaning.specs.Computed.{both_then}
+use Rattle.zpl_meaning.specs.Store.{Store, scalar_at}
+use Rattle.zpl_meaning.specs.Term.{Term, Terms}
+use Rattle.zpl_meaning.specs.Fields.{Field, field_of, fields_of}
+use Rattle.zpl_lowering.specs.Where.{Where}
+use Rattle.zpl_lowering.specs.Slate.{Slate, Slates}
+use Rattle.row_runs.specs.Straight.{Every}
+use Rattle.lowering_runs.specs.Seen.{Spot, place_of}
+use Rattle.array_runs.specs.Integers.{AreIntegers, GivesIntegers, HasIntegers}
+use Rattle.array_runs.proofs.IntegerLemmas.{IfGives, term_integers}
+use Rattle.operator_runs.specs.Meant.{Site, Alone, Under, IsMeant, IsSite, AreMeant, NoneMeant, MoreMeant}
+use Rattle.operator_runs.specs.Meant.{ConstantMeant, VariableMeant, CoordinateMeant, ElementMeant}
+use Rattle.operator_runs.specs.Meant.{UnaryMeant, BinaryMeant, FoldedMeant, PartFoldedMeant, ScannedMeant, FloodedMeant}
+
+module _ (w : Where) (spots : List Spot) (slots : List Region) (store : Store)
+    (scalars : (place : ℕ) → IsInteger (scalar_at store (place_of spots place)))
+    (arrays : HasIntegers store) where
+  pub meant_integers : (site : Site) (one : Slate) (meant : Term)
+      → IsMeant w spots slots site one meant → IsSite slots site → AreIntegers store meant
+  meant_integers site _ _ (ConstantMeant is) i = is
+  meant_integers site _ _ (VariableMeant {place = place}) i = scalars place
+  meant_integers _ _ _ (CoordinateMeant lt) i = tt
+  meant_integers _ _ _ (ElementMeant r) i = tt
+  meant_integers site _ _ (UnaryMeant {one = one} {operand = operand} m) i =
+      meant_integers site one operand m i
+  meant_integers site _ _ (BinaryMeant {one = one} {other = other} {left = left} {right = right} m k) i =
+      (meant_integers site one left m i, meant_integers site other right k i)
+  meant_integers site _ _ (FoldedMeant {over = over} {region = region} {one = one}
+      {operand = operand} j readable flat m) i =
+      (j.is, meant_integers (Under over region) one operand m j)
+  meant_integers _ _ _ (PartFoldedMeant {source = source} {tuples = tuples} {one = one}
+      {operand = operand} j readable flat m) i =
+      (j.is, meant_integers (Under source tuples) one operand m j)
+  meant_integers _ _ _ (ScannedMeant {over = over} {region = region} {one = one} {operand = operand}
+      readable plain_mask is_along flat m) i =
+      (i.is, meant_integers (Under over region) one operand m i)
+  meant_integers _ _ _ (FloodedMeant {source = source} {tuples = tuples} {one = one}
+      {operand = operand} j readable m) i =
+      (j.is, meant_integers (Under source tuples) one operand m j)
+
+  pub field_integers : (site : Site) (one : Slate) (meant : Term)
+      → IsMeant w spots slots site one meant → IsSite slots site → IfGives (field_of store meant)
+  field_integers site one meant m i =
+      term_integers store arrays meant (meant_integers site one meant m i)
+
+  -- of several
+  pub fields_integers : (site : Site) (slates : Slates) (terms : Terms)
+      → AreMeant w spots slots site slates terms → IsSite slots site
+      → (fields : List Field) → fields_of store terms ≡ mean.Gives fields
+      → Every GivesIntegers fields
+  fields_integers site _ _ NoneMeant i fields e =
+      let same : [] ≡ fields = cc in subst (λ (fs : List Field). Every GivesIntegers fs) same tt
+  fields_integers site _ _ (MoreMeant {one = one} {rest = rest} {first = first} {terms = terms} h k) i
+      fields e =
+      by (field_of store first) (fields_of store terms) (field_integers site one first h i)
+      (fields_integers site rest terms k i) e
+    where
+      by : (c : mean.Computed Field) (d : mean.Computed (List Field)) → IfGives c
+          → ((others : List Field) → d ≡ mean.Gives others → Every GivesIntegers others)
+          → both_then c d (λ field fields. mean.Gives (field ∷ fields)) ≡ mean.Gives fields
+          → Every GivesIntegers fields
+      by (mean.Gives f) (mean.Gives fs) a b e =
+          let same : f ∷ fs ≡ fields = cc in
+          subst (λ (all : List Field). Every GivesIntegers all) same (a f refl, b fs refl)
+      by (mean.Gives f) (mean.Traps kind) a b e = absurd (let no : ⊥ = cc in no)
+      by (mean.Traps kind) d a b e = absurd (let no : ⊥ = cc in no)
