@@ -51,7 +51,7 @@ use Rattle.zpl_lowering.specs.Where as low
 use Rattle.zpl_lowering.specs.Where.{Stored, Where, Next}
 use Rattle.lowering_runs.specs.Run.{step, straight}
 use Rattle.lowering_runs.specs.Seen.{Spot, array_in, seen_store}
-use Rattle.lowering_runs.specs.Stands.{AreStored, IsLike}
+use Rattle.lowering_runs.specs.Stands.{AreStored, IsLike, IsSound}
 use Rattle.lowering_runs.proofs.RowLemmas.{settled_act}
 use Rattle.array_puts.specs.Put.{IsPutting, IsSame, assigned, put_group, with_array_in}
 use Rattle.array_puts.proofs.PutLemmas.{put_assigns}
