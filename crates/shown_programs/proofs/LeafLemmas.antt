@@ -518,7 +518,7 @@ module _ (program : Program) (settings : List Setting) (laws : Laws program)
               proper ranked at prefixes spots w environment answer currents edge shapes form h border)))
           | inr (inr (inr (inl split))) ↦ inr (inr (inr (inl (shattered_suits program settings laws
               grammar clean proper ranked at prefixes spots w environment answer currents edge shapes
-              form h split))))
+              form h split.0 split.1))))
           | inr (inr (inr (inr call))) ↦ inr (inr (inr (inr (call_suits proper ranked at prefixes spots
               w environment answer currents edge shapes IsCallable form h call))))
         ];
