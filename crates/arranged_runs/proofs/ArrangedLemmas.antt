@@ -26,6 +26,8 @@ use Rattle.plan_passes.proofs.RepeatLemmas.{dropped_keep_runs}
 use Rattle.zpl_claims.specs.Build.{Build, HoldAsMany, IsBuiltFor}
 use Rattle.zpl_compile.specs.Compile.{if_asked, plan_of}
 use Rattle.arranged_runs.specs.Plannable.{IsPlannable}
+use Rattle.arranged_runs.specs.Sent.{IsSentInOrder}
+use Rattle.arranged_runs.proofs.SentLemmas.{sent_in_order, units_in_order}
 use Rattle.arranged_runs.proofs.ThreeLemmas.{dropped_three, early_three, merged_three}
 use Rattle.arranged_runs.proofs.ThreeLemmas.{planned_three, rows_have_three}
 use Rattle.arranged_runs.proofs.UnitLemmas.{dropped_in_units, merged_in_units, planned_in_units}
@@ -134,6 +136,15 @@ module _ (build : Build) (flat : Tables) (is : IsGrid build.grid) (can : IsPlann
       by : (asked : Bool) → HasThrees (if_asked asked (sent_early build.links) three)
       by false = three_fine.threes
       by true = early_three build.links three three_fine.threes
+
+  pub arranged_in_order : is_roomy build.links 0 ≡ true
+      → IsSentInOrder build.links (plan_of build flat)
+  arranged_in_order some = by build.options.early
+    where
+      by : (asked : Bool)
+          → IsSentInOrder build.links (if_asked asked (sent_early build.links) three)
+      by false = units_in_order build.links three some three_fine.units
+      by true = sent_in_order build.links three some three_fine.units
 
 -- ---- the grid of a plan is that which it is made for
 same_grid : (asked : Bool) (pass : Tables → Tables) → ((tables : Tables) → (pass tables).grid ≡ tables.grid)

@@ -4,7 +4,7 @@
 //! call brings the laws into a proof.
 #![tactic(auto)]
 
-ghost use Rattle.std.specs.Prelude.{◌≡◌, ℕ, false, List, Option, All};
+ghost use Rattle.std.specs.Prelude.{◌≡◌, ℕ, true, false, List, Option, All};
 ghost use Rattle.node_form.specs.declared.tables.Tables.{Tables as Code};
 ghost use Rattle.node_form.specs.Fits.{Fits};
 ghost use Rattle.node_form.specs.Grid.{IsGrid};
@@ -22,7 +22,9 @@ ghost use Rattle.plan_passes.specs.Threes.{HasThrees};
 ghost use Rattle.plan_passes.specs.Units.{IsInUnits};
 ghost use Rattle.zpl_claims.specs.Build.{Build, OverAllLinks};
 ghost use Rattle.zpl_compile.specs.Compile.{emitted_for, plan_of};
+ghost use Rattle.code_parts.specs.Early.{is_roomy};
 ghost use Rattle.arranged_runs.specs.Plannable.{HasFlatThrees, IsPlannable};
+ghost use Rattle.arranged_runs.specs.Sent.{IsSentInOrder};
 
 /// In the plan of a flat program each start has its finish directly behind it; and so it is without
 /// repeats, and with neighbours merged, where it was before in a plan that fits.
@@ -44,6 +46,18 @@ pub fn plans_keep_threes()
     ensures merged { (code : Code) → HasThrees code → HasThrees (neighbours_merged code) }
     ensures early { (links : Option ℕ) (code : Code) →
         HasThrees code → HasThrees (sent_early links code) }
+{}
+
+/// Where starts are moved up in a plan in units, for links that hold a message, each finish has its
+/// start before it in its stretch, the finishes stand in the order of their starts, and no row that
+/// may trap and no other collective stands between; no exchange is open behind the stretch. And
+/// never are more exchanges open than links hold messages. So it is behind all passes that a build
+/// asks for.
+pub fn exchanges_stay_in_order()
+    ensures early { (links : Option ℕ) (code : Code) → is_roomy links 0 ≡ true → IsInUnits code →
+        IsSentInOrder links (sent_early links code) }
+    ensures arranged { (build : Build) (flat : Code) → IsGrid build.grid → IsPlannable flat →
+        is_roomy build.links 0 ≡ true → IsSentInOrder build.links (plan_of build flat) }
 {}
 
 /// The plan of a flat program is a plan: it fits, and has no agreement along the tree of

@@ -18,6 +18,7 @@ use Rattle.node_form.specs.declared.arrays.ArrayRow.{ArrayRow}
 use Rattle.node_form.specs.declared.arrays.Item.{Item}
 use Rattle.node_form.specs.declared.instructions.Instr.TheVariants as instr
 use Rattle.node_form.specs.declared.instructions.RegionForm.TheVariants as form
+use Rattle.node_form.specs.declared.instructions.SameKind.TheVariants as same_kind
 use Rattle.node_form.specs.declared.members.Member.TheVariants as member
 use Rattle.node_form.specs.declared.tables.Tables.{Tables}
 use Rattle.node_form.specs.declared.words.ExprOp.TheVariants as word
@@ -721,3 +722,83 @@ moving_plan_runs :
     plan_run moving_plan (Some 1) 2 0 ≡ record { bytes = codes "0 30 27 15 6 0"; stop = Ends Done }
 unfolding int_wrap digits
 moving_plan_runs = refl
+
+-- ---- partial folds of rows, which are flooded, and a truth value
+abbrev over_plane : ArrayDim → ArrayDim → ArrayRow
+over_plane one two = record { rank = 2; stored = true; dims = one ∷ two ∷ no_range ∷ [] }
+
+abbrev plane : Dim → Dim → Region
+plane one two = record { rank = 2; dims = one ∷ two ∷ padding ∷ [] }
+
+abbrev from_one : ℤ → Dim
+from_one last = dim.Range (pos 1) last (pos 1) (pos 1)
+
+-- the sums of the rows of a region, where it has as many rows as the target
+abbrev spreading : ℤ → Tables
+spreading rows = record {
+  grid = 1 ∷ 0 ∷ 0 ∷ [];
+  scalars = 1;
+  cells = 0;
+  slots = 2 ∷ 2 ∷ 2 ∷ [];
+  arrays =
+      over_plane (axis.Range (pos 1) (pos 2) (pos 0) (pos 0)) (axis.Range (pos 1) (pos 3) (pos 0) (pos 0))
+      ∷ over_plane (axis.Range (pos 1) (pos 3) (pos 0) (pos 0)) (axis.Range (pos 1) (pos 3) (pos 0) (pos 0))
+      ∷ over_plane (axis.Range (pos 1) (pos 2) (pos 0) (pos 0)) axis.Star
+      ∷ [];
+  texts = (codes "\n") ∷ [];
+  exprs =
+      (word.Const (pos 10) ∷ word.Coord 1 ∷ word.Pair op.Mul ∷ word.Coord 2 ∷ word.Pair op.Add ∷ [])
+      ∷ (word.Here 2 ∷ word.Here 0 ∷ word.Pair op.Sub ∷ [])
+      ∷ (word.Const (pos 4) ∷ [])
+      ∷ (word.Scalar 0 ∷ word.Const (pos 3) ∷ word.Pair op.Gt ∷ [])
+      ∷ [];
+  groups =
+      (member.Put 0 0 None 7 ∷ [])
+      ∷ (member.Put 0 1 None 10 ∷ [])
+      ∷ [];
+  exchanges = [];
+  code =
+      instr.Fix 0 (plane (from_one (pos 2)) (from_one (pos 3)))
+      ∷ instr.Loop 0 0
+      ∷ instr.Fix 1 (plane (from_one rows) (from_one (pos 1)))
+      ∷ instr.Same 1 0 same_kind.Part 8
+      ∷ instr.Part 1 1 fold.Sum 0 0
+      ∷ instr.Fix 2 (plane (from_one (pos 2)) dim.Flood)
+      ∷ instr.Same 2 1 same_kind.Flood 9
+      ∷ instr.Flood 2 2 1 1
+      ∷ instr.Loop 0 1
+      ∷ instr.Set 0 2 11
+      ∷ instr.Truth 3
+      ∷ instr.Print 0
+      ∷ instr.Gather false 0 0
+      ∷ instr.End
+      ∷ [];
+}
+
+spreading_shows :
+    flat_run (spreading (pos 2)) 1 0
+    ≡ record { bytes = codes "true\n25 24 23\n45 44 43\n"; stop = Ends Done }
+unfolding int_wrap digits
+spreading_shows = refl
+
+spreading_traps :
+    flat_run (spreading (pos 3)) 1 0
+    ≡ record { bytes = []; stop = Ends (Trap trap.RegionMismatch 8) }
+unfolding int_wrap digits
+spreading_traps = refl
+
+-- its plan, in which the columns lie on two processors
+abbrev spreading_plan : ℤ → Tables
+spreading_plan rows = record (spreading rows) { grid = 1 ∷ 2 ∷ 0 ∷ [] }
+
+spreading_plan_runs :
+    plan_run (spreading_plan (pos 2)) None 1 0
+    ≡ record { bytes = codes "true\n25 24 23\n45 44 43\n"; stop = Ends Done }
+unfolding int_wrap digits
+spreading_plan_runs = refl
+
+spreading_plan_traps :
+    plan_run (spreading_plan (pos 3)) None 1 0
+    ≡ record { bytes = []; stop = Ends (Trap trap.RegionMismatch 8) }
+unfolding int_wrap digits
+spreading_plan_traps = refl

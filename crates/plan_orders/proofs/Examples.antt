@@ -1,12 +1,17 @@
 -- Rows.
-use Rattle.std.proofs.Common.{◌≡◌, ℕ, zero, suc, true, false, List, [], ◌∷◌, pos, None, refl}
+use Rattle.std.proofs.Common.{◌≡◌, ℕ, zero, suc, true, false, List, [], ◌∷◌, pos, None, Some, refl}
+use Rattle.zpl_nums.specs.declared.ends.End.TheVariants.{Done}
+use Rattle.node_form.specs.declared.instructions.Instr.{Instr}
 use Rattle.node_form.specs.declared.instructions.Instr.TheVariants as instr
 use Rattle.node_form.specs.declared.members.Member.{Member}
 use Rattle.node_form.specs.declared.members.Member.TheVariants.{CloseIf, CloseWhile, OpenIf, OpenRepeat, OpenWhile, Until}
 use Rattle.node_form.specs.declared.tables.Tables.{Tables}
+use Rattle.row_runs.specs.Run.{Ends, Wrong}
 use Rattle.plan_meaning.specs.Abreast.{Abreast, Share}
+use Rattle.plan_meaning.specs.Act.{plan_run}
 use Rattle.plan_orders.specs.Brings.{in_front, loops_among, most_loops, row_most}
 use Rattle.plan_orders.specs.InStep.{least_moves, run_most, some_turns, stops_within}
+use Rattle.plan_orders.specs.Open.{most_open}
 
 -- a group with a loop in a choice and one behind it, and one with a loop
 two_loops : List Member
@@ -68,6 +73,44 @@ at_least_one = refl
 
 as_many : some_turns 3 ≡ 3
 as_many = refl
+
+-- ---- exchanges that are open at once
+abbrev exchanging : List Instr → Tables
+exchanging rows = record {
+  grid = 2 ∷ [];
+  scalars = 0;
+  cells = 0;
+  slots = [];
+  arrays = [];
+  texts = [];
+  exprs = [];
+  groups = [];
+  exchanges = [] ∷ [] ∷ [];
+  code = rows;
+}
+
+abbrev both : Tables
+both = exchanging
+    (instr.Start 0 ∷ instr.Start 1 ∷ instr.Finish 0 ∷ instr.Finish 1 ∷ instr.End ∷ [])
+
+two_open : most_open both None 1 0 ≡ 2
+two_open = refl
+
+-- over links that hold as many the plan does the same, and over others it is wrong
+in_room : plan_run both (Some 2) 1 0 ≡ record { bytes = []; stop = Ends Done }
+in_room = refl
+
+without_room : plan_run both (Some 1) 1 0 ≡ record { bytes = []; stop = Wrong }
+without_room = refl
+
+one_open : most_open (exchanging
+    (instr.Start 0 ∷ instr.Finish 0 ∷ instr.Start 1 ∷ instr.Finish 1 ∷ instr.End ∷ [])) None 1 0
+    ≡ 1
+one_open = refl
+
+none_open : most_open code None 1 3 ≡ 0
+unfolding code two_loops one_loop
+none_open = refl
 
 -- ---- in front of a row, with the words of an open exchange on their way
 share : Share

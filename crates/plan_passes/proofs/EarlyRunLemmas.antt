@@ -136,18 +136,18 @@ module _ (code : Tables) (links : Option ℕ) where
       let e : length (x ∷ xs) ≡ suc (length xs) = refl in
       let one : length (x ∷ []) ≡ 1 = refl in omega (arith, long, more, e, one)
 
-  early_is : (rows : List Instr)
+  pub early_is : (rows : List Instr)
       → rows_early code links rows ≡ turned_over (fold (put_row code links) [] rows)
   early_is rows = sym (turned_is (fold (put_row code links) [] rows))
 
-  early_long : (rows : List Instr) → length (rows_early code links rows) ≡ length rows
+  pub early_long : (rows : List Instr) → length (rows_early code links rows) ≡ length rows
   early_long rows =
       ap length (early_is rows)
       ∙ (turned_long (fold (put_row code links) [] rows)
       ∙ (let all = all_long [] rows in
       let none : length {A = Instr} [] ≡ 0 = refl in omega (arith, all, none)))
 
-  abbrev AreStraight : List Instr → Type 0
+  abbrev pub AreStraight : List Instr → Type 0
   AreStraight rows = AllByRecursion (λ row. ends_stretch row ≡ false) rows
 
   put_straight : (exchange : ℕ) (before : List Instr) → AreStraight before
@@ -180,7 +180,7 @@ module _ (code : Tables) (links : Option ℕ) where
       every_append (λ row. ends_stretch row ≡ false) (turned_over rows) (row ∷ [])
       (turned_straight rows all.1) (all.0, tt)
 
-  early_straight : (rows : List Instr) → AreStraight rows
+  pub early_straight : (rows : List Instr) → AreStraight rows
       → AreStraight (rows_early code links rows)
   early_straight rows all =
       subst AreStraight (sym (early_is rows))

@@ -406,7 +406,7 @@ module _ (tables : Tables) (sight : Sight) (w : Where) (line : ℕ) (next : Next
 
   pub pointed : (expr : Expr) → is_elementwise expr ≡ true → IsElementwise w region expr
       → IsPointed expr
-  pointed (Number at value) e h = 
+  pointed (Number at value) e h =
       constant_pointed value (Number at value) (λ free. refl) (λ store. refl) h
   pointed (Truth at value) e h =
       constant_pointed (truth value) (Truth at value) (λ free. refl) (λ store. refl)

@@ -106,7 +106,7 @@ is_shown = record {
               shown = (
                 (tt, tt),
                 (
-                  (tt, inl (inr (refl, tt))),
+                  (tt, inl (inr (refl, IsInteger-truth true))),
                   ((tt, inl (inr (refl, (tt, tt)))), tt),
                 ),
               );
@@ -213,7 +213,7 @@ asks_is_shown = record {
 
 -- region R = [1..2]; var A : [R] integer; n : integer;
 -- procedure t(); [R] begin
---   while A < 3 do A += 1; end; n := +<< A; A := A * (+<< (A * n)); writeln(n, max<< A);
+--   while A < 1 do A += 1; end; n := +<< A; A := A * (+<< (A * n)); writeln(n, max<< A);
 -- end;
 abbrev folds : Program
 folds = record {
@@ -243,7 +243,7 @@ folds = record {
             } ∷ [])
             (Block
             (ThenStmt (Prefixed 97 []
-            (While (Pair 105 op.Lt (Named 103 (name (codes "A") 103)) (Number 107 (pos 3)))
+            (While (Pair 105 op.Lt (Named 103 (name (codes "A") 103)) (Number 107 (pos 1)))
             (ThenStmt (Prefixed 112 []
             (Assign (name (codes "A") 112) (Some op.Add) (Number 117 (pos 1)))) NoStmt)))
             (ThenStmt (Prefixed 125 [] (Assign (name (codes "n") 125) None
@@ -272,7 +272,13 @@ folds_is_shown = record {
     shown = (
       (tt, tt),
       (
-        (tt, inl (inr (inr (inr (inl refl))))),
+        (
+          tt,
+          inl (inr (inr (inr (inl (
+            refl,
+            ((tt, IsInteger-truth true), (tt, (IsInteger-truth true, tt))),
+          ))))),
+        ),
         (
           (tt, inr (inr (inr (inr (inl tt))))),
           (

@@ -1,6 +1,6 @@
 -- Assignments and prints of accepted programs whose values have full folds go as their code does.
 use Rattle.std.proofs.Common.{◌≡◌, ◌⊎◌, inl, inr, refl, sym, ◌∙◌, ap, subst, arith, ℕ, Bool, true, false}
-use Rattle.std.proofs.Common.{List, [], ◌∷◌, Option, Some, None, pos}
+use Rattle.std.proofs.Common.{List, [], ◌∷◌, Option, Some, None}
 use Rattle.std.specs.Prelude.{slice_get}
 use Rattle.std.specs.Option.{option_map}
 use Rattle.std.specs.List.{flat_map, list_any}
@@ -267,10 +267,10 @@ module _ (spots : List Spot) (w : Where) (environment : Environment) (answer : �
         there = seen.names name.text ∙ ap (option_map (seen_thing spots)) is
 
         -- what is asked of the array is asked where it takes any value
-        itself : IsArrayServed name None (Number 0 (pos 0)) w inner
+        itself : IsArrayServed name None (Truth 0 false) w inner
         itself =
             array_served spots w environment answer currents edge seen shapes told shattered result at
-            prefixes name None (Number 0 (pos 0)) target home is tt (proper.0, tt)
+            prefixes name None (Truth 0 false) target home is tt (proper.0, tt)
             (subst (λ (o : Option Thing). TakesRank inner name o (Some 0)) (sym there) (inl refl), tt)
             free (refl, tt)
 

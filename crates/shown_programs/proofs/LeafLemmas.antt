@@ -12,18 +12,18 @@ use Rattle.zpl_names.specs.Kinds.{Kind, Rank, Formal, ScalarFormal, ArrayFormal,
 use Rattle.zpl_names.specs.Scope.{kind_of, is_array, is_scalar}
 use Rattle.zpl_names.specs.Shapes.{Shapes}
 use Rattle.zpl_names.specs.Declared.{Routine, IsProcedureOf, routine_named}
-use Rattle.zpl_names.specs.Sites.{Reach, Site, Actual, Assigned, AtStmt, expr_sites, form_sites, handed, value_sites, whole_rank, whole_sites}
+use Rattle.zpl_names.specs.Sites.{Site, Actual, Assigned, expr_sites, handed, whole_rank}
 use Rattle.zpl_names.specs.Accepted.{IsFaultless}
 use Rattle.zpl_binding.specs.Settings.{Setting}
 use Rattle.zpl_meaning.specs.Store.{Thing, Scalar, ArrayAt, Fixed, Environment, Store, thing_of}
 use Rattle.zpl_meaning.specs.Context.{Currents, Edge, Setup, Place, reach_of}
 use Rattle.zpl_meaning.specs.Points.{assigned_expr}
 use Rattle.zpl_meaning.specs.Calls.{formals_in, actual_thing, handed_on, value_exprs}
-use Rattle.zpl_meaning.specs.Proper.{IsArray, IsFixed, IsTarget, IsVariable, IsPlainAssign, IsProperAssign, IsProperCall, IsProperStmt, AreProperActuals}
+use Rattle.zpl_meaning.specs.Proper.{IsArray, IsTarget, IsVariable, IsPlainAssign, IsProperAssign, IsProperCall, IsProperStmt, AreProperActuals}
 use Rattle.zpl_meaning.specs.Statement as mean
 use Rattle.zpl_meaning.specs.Visited.{IsVisited, IsCall, AsStatement, AsAnswer, Calls, body_place, handed_at}
 use Rattle.zpl_meaning.proofs.DepthLemmas.{Each}
-use Rattle.zpl_meaning.proofs.ProperLemmas.{IsNamed, reach_at}
+use Rattle.zpl_meaning.proofs.ProperLemmas.{IsFixed, IsNamed, reach_at}
 use Rattle.zpl_meaning.proofs.VisitLemmas.{Laws, IsHere, Inside, InStmt}
 use Rattle.meaning_ranks.specs.Ranked.{IsRankedValue, IsRankedAssign, IsRankedCall, IsRankedStmt}
 use Rattle.meaning_ranks.proofs.PlaceLemmas.{behind, call_at_body}
@@ -522,7 +522,7 @@ module _ (program : Program) (settings : List Setting) (laws : Laws program)
               proper ranked at prefixes spots w environment answer currents edge shapes form h border)))
           | inr (inr (inr (inl split))) ↦ inr (inr (inr (inl (shattered_suits program settings laws
               grammar clean proper ranked at prefixes spots w environment answer currents edge shapes
-              form h split))))
+              form h split.0 split.1))))
           | inr (inr (inr (inr (inl folded)))) ↦ inr (inr (inr (inr (inl (folded_suits program settings
               laws grammar clean proper ranked at prefixes spots w environment answer currents edge
               shapes form h folded)))))

@@ -14,9 +14,10 @@ use Rattle.zpl_names.specs.Reached.{longest_chain}
 use Rattle.zpl_binding.specs.Outcome.{value_or, outcome_of}
 use Rattle.zpl_binding.specs.Settings.{Setting}
 use Rattle.zpl_binding.specs.Declarations.{known_of}
-use Rattle.zpl_meaning.specs.Points.{assigned_expr}
+use Rattle.zpl_meaning.specs.Points.{Part, Reads, Writes, assigned_expr, form_parts}
 use Rattle.zpl_meaning.specs.Calls.{formals_in}
 use Rattle.zpl_meaning.specs.Statement.{step_expr}
+use Rattle.row_runs.specs.Straight.{Every}
 use Rattle.lowering_runs.specs.Scalars.{IsScalarExpr}
 use Rattle.lowering_runs.specs.ScalarText.{AreScalarTexts}
 use Rattle.served_places.specs.Told.{IsPlainExpr}
@@ -229,9 +230,15 @@ IsBorderForm reach (For head body) = ⊥
 IsBorderForm reach (Write line items) = ⊥
 IsBorderForm reach (Return value) = ⊥
 
+-- what is read has no operators over regions, and numbers of 64 bits
+abbrev pub IsPlainPart : Part → Type 0
+IsPlainPart (Reads expr) = IsPlainExpr expr
+IsPlainPart (Writes name) = Unit {0}
+
 -- an `if`, a `while` or a `repeat` whose tests are arrays
 abbrev pub IsShatteredForm : Reach → Form → Type 0
-IsShatteredForm reach form = is_shattered reach form ≡ true
+IsShatteredForm reach form =
+    (is_shattered reach form ≡ true) × Every IsPlainPart (form_parts form)
 
 -- A value with full folds, also in one another's operands, and with no other operators over regions.
 -- Numbers are of 64 bits.
