@@ -71,7 +71,7 @@ cover_same [] = tt
 cover_same (true ∷ floods) = (tt, cover_same floods)
 cover_same (false ∷ floods) = (tt, cover_same floods)
 
-both_free : (xs ys : List Site) → AreFree (xs ++ ys) → AreFree xs × AreFree ys
+pub both_free : (xs ys : List Site) → AreFree (xs ++ ys) → AreFree xs × AreFree ys
 both_free [] ys h = (tt, h)
 both_free (x ∷ xs) ys h = let r = both_free xs ys h.1 in ((h.0, r.0), r.1)
 
@@ -88,7 +88,7 @@ no_stored : (o : Option Stored) → IsStoredOf None o → ⊥
 no_stored None h = h
 no_stored (Some stored) h = h
 
-has_shape : (found : Option Kind) (o : Option Stored) → IsStoredOf (array_shape found) o
+pub has_shape : (found : Option Kind) (o : Option Stored) → IsStoredOf (array_shape found) o
     → HasShape found
 has_shape None o h = absurd (no_stored o h)
 has_shape (Some (kind.Config base)) o h = absurd (no_stored o h)

@@ -1,10 +1,11 @@
--- A program with arrays, prefixes, a border statement, and a call that hands an array on; and one with
--- a call that copies an array and answers.
+-- A program with arrays, prefixes, a border statement, and a call that hands an array on; one with a
+-- call that copies an array and answers; and one with a shattered loop, and full folds.
 use Rattle.std.proofs.Common.{inl, inr, ℕ, true, false, List, [], ◌∷◌, Some, None, pos, codes, refl}
 use Rattle.zpl_nums.specs.declared.ends.Border.TheVariants.{Wrap}
+use Rattle.zpl_nums.specs.declared.folds.Fold.TheVariants as fold
 use Rattle.zpl_nums.specs.declared.operators.Op.TheVariants as op
 use Rattle.zpl_nums.proofs.IntegerLemmas.{IsInteger-truth}
-use Rattle.zpl_tree.specs.Syntax.{Name, Number, Named, Pair, Value, Prefixed, NoStmt, ThenStmt, Assign, Block, Invoke, Write, Return, Call, NoExpr, ThenExpr, NoBracket, Bracketed, Rexpr, Dims, NamedRegion, NoPost, Span, NoDim, ThenDim, Integer, Vars, Regions, Directions, Defined, Border, Program}
+use Rattle.zpl_tree.specs.Syntax.{Name, Number, Named, Paren, Pair, Reduce, Value, Prefixed, NoStmt, ThenStmt, Assign, Block, Invoke, While, Write, Return, Call, NoExpr, ThenExpr, NoBracket, Bracketed, Rexpr, Dims, NamedRegion, NoPost, Span, NoDim, ThenDim, Integer, Vars, Regions, Directions, Defined, Border, Program}
 use Rattle.zpl_names.specs.Reached.{longest_chain}
 use Rattle.shown_programs.specs.Text.{IsShownProgram}
 
@@ -97,7 +98,7 @@ is_shown = record {
       (
         (
           tt,
-          inr (inr (inr (inr (
+          inr (inr (inr (inr (inr (
             tt,
             record {
               routine = _;
@@ -110,7 +111,7 @@ is_shown = record {
                 ),
               );
             },
-          )))),
+          ))))),
         ),
         (((tt, tt), inr (inr (inl tt))), ((tt, inr (inl (inr (refl, tt), tt))), tt)),
       ),
@@ -195,16 +196,90 @@ asks_is_shown = record {
       (
         (
           tt,
-          inr (inr (inr (inr (
+          inr (inr (inr (inr (inr (
             (tt, tt),
             record {
               routine = _;
               named = refl;
               shown = (((tt, tt), inl (inr (refl, (tt, tt)))), (tt, IsInteger-truth true));
             },
-          )))),
+          ))))),
         ),
         ((tt, inl (refl, tt, tt)), tt),
+      ),
+    );
+  };
+}
+
+-- region R = [1..2]; var A : [R] integer; n : integer;
+-- procedure t(); [R] begin
+--   while A < 3 do A += 1; end; n := +<< A; A := A * (+<< (A * n)); writeln(n, max<< A);
+-- end;
+abbrev folds : Program
+folds = record {
+  name = name (codes "t") 8;
+  decls = Regions (record {
+    name = name (codes "R") 20;
+    body = Dims (ThenDim (Span (Number 25 (pos 1)) (Number 28 (pos 2))) NoDim);
+    posts = NoPost;
+  } ∷ [])
+      ∷ Vars (record {
+        names = name (codes "A") 37 ∷ [];
+        shape = Bracketed (Rexpr [] (NamedRegion (name (codes "R") 42)) NoPost);
+        base = Integer;
+      }
+      ∷ record { names = name (codes "n") 54 ∷ []; shape = NoBracket; base = Integer }
+      ∷ [])
+      ∷ Defined (record {
+        name = name (codes "t") 80;
+        params = [];
+        result = None;
+        locals = [];
+        body = Prefixed 85
+            (record {
+              at = 85;
+              region = Rexpr [] (NamedRegion (name (codes "R") 86)) NoPost;
+              mask = None;
+            } ∷ [])
+            (Block
+            (ThenStmt (Prefixed 97 []
+            (While (Pair 105 op.Lt (Named 103 (name (codes "A") 103)) (Number 107 (pos 3)))
+            (ThenStmt (Prefixed 112 []
+            (Assign (name (codes "A") 112) (Some op.Add) (Number 117 (pos 1)))) NoStmt)))
+            (ThenStmt (Prefixed 125 [] (Assign (name (codes "n") 125) None
+            (Reduce 130 fold.Sum NoBracket (Named 134 (name (codes "A") 134)))))
+            (ThenStmt (Prefixed 137 [] (Assign (name (codes "A") 137) None
+            (Pair 144 op.Mul (Named 142 (name (codes "A") 142))
+            (Paren 146 (Reduce 147 fold.Sum NoBracket (Paren 151
+            (Pair 154 op.Mul (Named 152 (name (codes "A") 152))
+            (Named 156 (name (codes "n") 156)))))))))
+            (ThenStmt (Prefixed 161 [] (Write true
+            (Value (Named 169 (name (codes "n") 169))
+            ∷ Value (Reduce 172 fold.Max NoBracket (Named 178 (name (codes "A") 178)))
+            ∷ []))) NoStmt)))));
+      })
+      ∷ [];
+  source = [];
+}
+
+folds_is_shown : IsShownProgram folds []
+unfolding longest_chain
+folds_is_shown = record {
+  values = λ text. IsInteger-truth false;
+  entry = record {
+    routine = _;
+    named = refl;
+    shown = (
+      (tt, tt),
+      (
+        (tt, inl (inr (inr (inr (inl refl))))),
+        (
+          (tt, inr (inr (inr (inr (inl tt))))),
+          (
+            (tt, inr (inr (inr (inr (inl (tt, (tt, tt))))))),
+            ((tt, inr (inr (inr (inr (inl (refl, tt, (refl, tt, tt))))))), tt),
+          ),
+        ),
       ),
     );
   };

@@ -19,11 +19,11 @@ use Rattle.zpl_meaning.specs.Store.{Thing, Scalar, ArrayAt, Fixed, Environment, 
 use Rattle.zpl_meaning.specs.Context.{Currents, Edge, Setup, Place, reach_of}
 use Rattle.zpl_meaning.specs.Points.{assigned_expr}
 use Rattle.zpl_meaning.specs.Calls.{formals_in, actual_thing, handed_on, value_exprs}
-use Rattle.zpl_meaning.specs.Proper.{IsArray, IsFixed, IsTarget, IsVariable, IsPlainAssign, IsProperAssign, IsProperCall, IsProperStmt, AreProperActuals}
+use Rattle.zpl_meaning.specs.Proper.{IsArray, IsTarget, IsVariable, IsPlainAssign, IsProperAssign, IsProperCall, IsProperStmt, AreProperActuals}
 use Rattle.zpl_meaning.specs.Statement as mean
 use Rattle.zpl_meaning.specs.Visited.{IsVisited, IsCall, AsStatement, AsAnswer, Calls, body_place, handed_at}
 use Rattle.zpl_meaning.proofs.DepthLemmas.{Each}
-use Rattle.zpl_meaning.proofs.ProperLemmas.{IsNamed, reach_at}
+use Rattle.zpl_meaning.proofs.ProperLemmas.{IsFixed, IsNamed, reach_at}
 use Rattle.zpl_meaning.proofs.VisitLemmas.{Laws, IsHere, Inside, InStmt}
 use Rattle.meaning_ranks.specs.Ranked.{IsRankedValue, IsRankedAssign, IsRankedCall, IsRankedStmt}
 use Rattle.meaning_ranks.proofs.PlaceLemmas.{behind, call_at_body}
@@ -46,11 +46,13 @@ use Rattle.call_runs.specs.Taken.{AreCallActuals, IsInvoked}
 use Rattle.call_runs.specs.Taken as taken
 use Rattle.print_runs.specs.Printed.{PrintLeaf}
 use Rattle.print_runs.proofs.WriteLemmas.{print_leaves}
+use Rattle.operator_runs.specs.Served.{OperatedLeaf}
+use Rattle.operator_runs.proofs.LeafLemmas.{operated_leaves}
 use Rattle.border_runs.specs.Bordered.{BorderLeaf}
 use Rattle.border_runs.proofs.BorderLemmas.{border_leaves}
 use Rattle.point_runs.specs.Shattered.{SplitLeaf}
 use Rattle.point_runs.proofs.SplitLemmas.{split_leaves}
-use Rattle.served_places.specs.Told.{IsSeenFrom, AreFree, IsPlainExpr, place_of}
+use Rattle.served_places.specs.Told.{IsSeenFrom, IsPlainExpr, place_of}
 use Rattle.served_places.proofs.ToldLemmas.{array_served}
 use Rattle.served_places.proofs.CleanLemmas.{array_there}
 use Rattle.lowering_fits.proofs.KeptLemmas.{AreGivenOf}
@@ -61,6 +63,7 @@ use Rattle.shown_programs.proofs.PlaceLemmas.{IsPlaced, placed_proper, placed_ra
 use Rattle.shown_programs.proofs.PrintedLemmas.{print_suits}
 use Rattle.shown_programs.proofs.BorderLemmas.{border_suits}
 use Rattle.shown_programs.proofs.ShatteredLemmas.{plain_sites, shattered_suits}
+use Rattle.shown_programs.proofs.FoldLemmas.{folded_suits}
 use Rattle.shown_programs.proofs.RoutineLemmas.{AreLeaves}
 
 -- ---- values without operators over regions are no calls
@@ -478,7 +481,8 @@ module _ (program : Program) (settings : List Setting) (laws : Laws program)
       ⊎ (PrintLeaf at form w place
       ⊎ (BorderLeaf at form w place
       ⊎ (SplitLeaf at form w place
-      ⊎ CallLeaf program settings laws grammar clean IsCallable at form w place)))
+      ⊎ (OperatedLeaf at form w place
+      ⊎ CallLeaf program settings laws grammar clean IsCallable at form w place))))
 
   no_calls : (world : World) → CallsAgree world own Never
   no_calls world = record {
@@ -519,28 +523,24 @@ module _ (program : Program) (settings : List Setting) (laws : Laws program)
           | inr (inr (inr (inl split))) ↦ inr (inr (inr (inl (shattered_suits program settings laws
               grammar clean proper ranked at prefixes spots w environment answer currents edge shapes
               form h split.0 split.1))))
-          | inr (inr (inr (inr call))) ↦ inr (inr (inr (inr (call_suits proper ranked at prefixes spots
-              w environment answer currents edge shapes IsCallable form h call))))
+          | inr (inr (inr (inr (inl folded)))) ↦ inr (inr (inr (inr (inl (folded_suits program settings
+              laws grammar clean proper ranked at prefixes spots w environment answer currents edge
+              shapes form h folded)))))
+          | inr (inr (inr (inr (inr call)))) ↦ inr (inr (inr (inr (inr (call_suits proper ranked at
+              prefixes spots w environment answer currents edge shapes IsCallable form h call)))))
         ];
     go = λ depth IsCallable calls at form.
         let world = world_at tables n own depth in
-        or_goes world at form (PlainLeaf own Never at form)
-        (λ w place. PrintLeaf at form w place
-        ⊎ (BorderLeaf at form w place
-        ⊎ (SplitLeaf at form w place
-        ⊎ CallLeaf program settings laws grammar clean IsCallable at form w place)))
-        (plain_leaves world at form)
-        (or_goes world at form (PrintLeaf at form)
-        (λ w place. BorderLeaf at form w place
-        ⊎ (SplitLeaf at form w place
-        ⊎ CallLeaf program settings laws grammar clean IsCallable at form w place))
-        (print_leaves world at form)
-        (or_goes world at form (BorderLeaf at form)
-        (λ w place. SplitLeaf at form w place
-        ⊎ CallLeaf program settings laws grammar clean IsCallable at form w place)
-        (border_leaves world at form)
-        (or_goes world at form (SplitLeaf at form)
-        (CallLeaf program settings laws grammar clean IsCallable at form)
-        (split_leaves world at form)
-        (call_leaves program settings laws grammar clean IsCallable world calls at form))));
+        let Call = λ (w : Where) (place : Place).
+        CallLeaf program settings laws grammar clean IsCallable at form w place in
+        let Operated = λ (w : Where) (place : Place). OperatedLeaf at form w place ⊎ Call w place in
+        let Split = λ (w : Where) (place : Place). SplitLeaf at form w place ⊎ Operated w place in
+        let Bordered = λ (w : Where) (place : Place). BorderLeaf at form w place ⊎ Split w place in
+        let Print = λ (w : Where) (place : Place). PrintLeaf at form w place ⊎ Bordered w place in
+        or_goes world at form (PlainLeaf own Never at form) Print (plain_leaves world at form)
+        (or_goes world at form (PrintLeaf at form) Bordered (print_leaves world at form)
+        (or_goes world at form (BorderLeaf at form) Split (border_leaves world at form)
+        (or_goes world at form (SplitLeaf at form) Operated (split_leaves world at form)
+        (or_goes world at form (OperatedLeaf at form) Call (operated_leaves world at form)
+        (call_leaves program settings laws grammar clean IsCallable world calls at form)))));
   }

@@ -11,6 +11,7 @@ pub mod RoutineLemmas
 pub mod PrintedLemmas
 pub mod BorderLemmas
 pub mod ShatteredLemmas
+pub mod FoldLemmas
 pub mod LeafLemmas
 pub mod StartLemmas
 pub mod ProgramLemmas

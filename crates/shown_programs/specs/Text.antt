@@ -3,7 +3,7 @@
 use Rattle.std.specs.Prelude.{◌≡◌, ◌⊎◌, ℕ, zero, suc, Bool, true, false, pos, List, [], ◌∷◌, Option, Some, None}
 use Rattle.zpl_nums.specs.declared.operators.Op.{Op}
 use Rattle.zpl_nums.specs.Integer.{IsInteger}
-use Rattle.zpl_tree.specs.Syntax.{Inner, Rexpr, Dims, Expr, Number, Truth, Coord, Named, Shifted, Around, Remap, Call, Paren, Neg, Not, Abs, Pair, Reduce, Scan, Flood, Exprs, NoExpr, ThenExpr, Item, Str, Value, Prefix, Stmt, Prefixed, Stmts, NoStmt, ThenStmt, Form, Assign, Invoke, Block, If, While, Repeat, For, Border, Write, Return, Arm, Tested, Arms, NoArm, ThenArm, Otherwise, NoElse, Else, Program}
+use Rattle.zpl_tree.specs.Syntax.{NoBracket, Bracketed, Inner, Rexpr, Dims, Expr, Number, Truth, Coord, Named, Shifted, Around, Remap, Call, Paren, Neg, Not, Abs, Pair, Reduce, Scan, Flood, Exprs, NoExpr, ThenExpr, Item, Str, Value, Prefix, Stmt, Prefixed, Stmts, NoStmt, ThenStmt, Form, Assign, Invoke, Block, If, While, Repeat, For, Border, Write, Return, Arm, Tested, Arms, NoArm, ThenArm, Otherwise, NoElse, Else, Program}
 use Rattle.zpl_names.specs.Kinds.{Formal, ScalarFormal, ArrayFormal}
 use Rattle.zpl_names.specs.Ranks.{is_above_zero}
 use Rattle.zpl_names.specs.Scope.{kind_of, is_array, is_scalar}
@@ -240,6 +240,47 @@ abbrev pub IsShatteredForm : Reach → Form → Type 0
 IsShatteredForm reach form =
     (is_shattered reach form ≡ true) × Every IsPlainPart (form_parts form)
 
+-- A value with full folds, also in one another's operands, and with no other operators over regions.
+-- Numbers are of 64 bits.
+abbrev pub IsFoldedExpr : Expr → Type 0
+IsFoldedExpr (Number at value) = IsInteger value
+IsFoldedExpr (Truth at value) = Unit {0}
+IsFoldedExpr (Coord at k) = Unit {0}
+IsFoldedExpr (Named at name) = Unit {0}
+IsFoldedExpr (Shifted at name shift) = Unit {0}
+IsFoldedExpr (Paren at inside) = IsFoldedExpr inside
+IsFoldedExpr (Neg at operand) = IsFoldedExpr operand
+IsFoldedExpr (Not at operand) = IsFoldedExpr operand
+IsFoldedExpr (Abs at operand) = IsFoldedExpr operand
+IsFoldedExpr (Pair at op left right) = IsFoldedExpr left × IsFoldedExpr right
+IsFoldedExpr (Reduce at operator NoBracket operand) = IsFoldedExpr operand
+IsFoldedExpr (Reduce at operator (Bracketed source) operand) = ⊥
+IsFoldedExpr (Around at name shift) = ⊥
+IsFoldedExpr (Remap at name indices) = ⊥
+IsFoldedExpr (Call at name actuals) = ⊥
+IsFoldedExpr (Scan at operator along operand) = ⊥
+IsFoldedExpr (Flood at source operand) = ⊥
+
+-- texts and scalars are printed, with such values
+abbrev pub AreFoldedTexts : Reach → List Item → Type 0
+AreFoldedTexts reach [] = Unit {0}
+AreFoldedTexts reach (Str bytes ∷ items) = AreFoldedTexts reach items
+AreFoldedTexts reach (Value expr ∷ items) =
+    (whole_rank reach Printed expr ≡ Some 0) × IsFoldedExpr expr × AreFoldedTexts reach items
+
+-- a scalar or an array is assigned such a value, or scalars are printed
+abbrev pub IsFoldedForm : Reach → Form → Type 0
+IsFoldedForm reach (Assign name op value) = IsFoldedExpr value
+IsFoldedForm reach (Write line items) = AreFoldedTexts reach items
+IsFoldedForm reach (Invoke name actuals) = ⊥
+IsFoldedForm reach (Block body) = ⊥
+IsFoldedForm reach (If arms otherwise) = ⊥
+IsFoldedForm reach (While test body) = ⊥
+IsFoldedForm reach (Repeat body until test) = ⊥
+IsFoldedForm reach (For head body) = ⊥
+IsFoldedForm reach (Border kind names) = ⊥
+IsFoldedForm reach (Return value) = ⊥
+
 -- A form that is proved: further ones are further lines.
 abbrev pub IsLeafForm : (Bool → List ℕ → Type 0) → Reach → Form → Type 0
 IsLeafForm IsCallable reach form =
@@ -247,7 +288,8 @@ IsLeafForm IsCallable reach form =
     ⊎ (IsPrintForm reach form
     ⊎ (IsBorderForm reach form
     ⊎ (IsShatteredForm reach form
-    ⊎ IsCallForm IsCallable reach form)))
+    ⊎ (IsFoldedForm reach form
+    ⊎ IsCallForm IsCallable reach form))))
 
 -- ---- procedures and programs
 
