@@ -19,11 +19,11 @@ use Rattle.zpl_meaning.specs.Store.{Thing, Scalar, ArrayAt, Fixed, Environment, 
 use Rattle.zpl_meaning.specs.Context.{Currents, Edge, Setup, Place, reach_of}
 use Rattle.zpl_meaning.specs.Points.{assigned_expr}
 use Rattle.zpl_meaning.specs.Calls.{formals_in, actual_thing, handed_on, value_exprs}
-use Rattle.zpl_meaning.specs.Proper.{IsArray, IsFixed, IsTarget, IsVariable, IsPlainAssign, IsProperAssign, IsProperCall, IsProperStmt, AreProperActuals}
+use Rattle.zpl_meaning.specs.Proper.{IsArray, IsTarget, IsVariable, IsPlainAssign, IsProperAssign, IsProperCall, IsProperStmt, AreProperActuals}
 use Rattle.zpl_meaning.specs.Statement as mean
 use Rattle.zpl_meaning.specs.Visited.{IsVisited, IsCall, AsStatement, AsAnswer, Calls, body_place, handed_at}
 use Rattle.zpl_meaning.proofs.DepthLemmas.{Each}
-use Rattle.zpl_meaning.proofs.ProperLemmas.{IsNamed, reach_at}
+use Rattle.zpl_meaning.proofs.ProperLemmas.{IsFixed, IsNamed, reach_at}
 use Rattle.zpl_meaning.proofs.VisitLemmas.{Laws, IsHere, Inside, InStmt}
 use Rattle.meaning_ranks.specs.Ranked.{IsRankedValue, IsRankedAssign, IsRankedCall, IsRankedStmt}
 use Rattle.meaning_ranks.proofs.PlaceLemmas.{behind, call_at_body}
