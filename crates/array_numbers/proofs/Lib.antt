@@ -1,0 +1,6 @@
+pub mod FoundLemmas
+pub mod WalkLemmas
+pub mod CallLemmas
+pub mod TextLemmas
+pub mod GlobalLemmas
+pub mod NumberLemmas
