@@ -4,3 +4,5 @@ pub mod CallLemmas
 pub mod TextLemmas
 pub mod GlobalLemmas
 pub mod NumberLemmas
+pub mod PlainLemmas
+mod Examples

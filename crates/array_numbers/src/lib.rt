@@ -6,4 +6,4 @@
 
 mod laws;
 
-pub use laws::numbers_stand_for_arrays;
+pub use laws::{numbers_stand_for_arrays, plain_assignments_stand_apart};
