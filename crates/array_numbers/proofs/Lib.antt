@@ -1,0 +1,8 @@
+pub mod FoundLemmas
+pub mod WalkLemmas
+pub mod CallLemmas
+pub mod TextLemmas
+pub mod GlobalLemmas
+pub mod NumberLemmas
+pub mod PlainLemmas
+mod Examples
