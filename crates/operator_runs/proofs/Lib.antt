@@ -1,6 +1,7 @@
 pub mod JoinLemmas
 pub mod FoldLemmas
 pub mod SpareLemmas
+pub mod StateLemmas
 pub mod StandLemmas
 pub mod MeantLemmas
 pub mod NarrowLemmas
@@ -15,5 +16,8 @@ pub mod FormLemmas
 pub mod LeafLemmas
 pub mod PrintLemmas
 pub mod TempLemmas
+pub mod PutsLemmas
+pub mod OutsideLemmas
+pub mod RemapHoistLemmas
 pub mod TestLemmas
 mod Examples
