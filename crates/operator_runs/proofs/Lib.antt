@@ -7,6 +7,7 @@ pub mod MeantLemmas
 pub mod NarrowLemmas
 pub mod HoistLemmas
 pub mod SettleLemmas
+pub mod StillLemmas
 pub mod PhaseLemmas
 pub mod LikeLemmas
 pub mod ScalarLemmas

@@ -30,7 +30,7 @@ use Rattle.row_runs.specs.Straight.{Every}
 use Rattle.lowering_runs.specs.Seen.{Spot, place_of}
 use Rattle.operator_runs.specs.Meant.{Site, Alone, Under, IsMeant, IsNarrow, Wraps}
 use Rattle.operator_runs.specs.Meant.{ConstantMeant, VariableMeant, CoordinateMeant, ElementMeant}
-use Rattle.operator_runs.specs.Meant.{UnaryMeant, BinaryMeant, FoldedMeant, PartFoldedMeant, ScannedMeant, FloodedMeant, AreMeant, NoneMeant, MoreMeant}
+use Rattle.operator_runs.specs.Meant.{UnaryMeant, BinaryMeant, FoldedMeant, PartFoldedMeant, ScannedMeant, FloodedMeant, RemappedMeant, AreMeant, NoneMeant, MoreMeant}
 
 -- ---- folds
 
@@ -264,6 +264,7 @@ module _ (w : Where) (spots : List Spot) (slots : List Region) (store : Store)
   narrow _ _ _ (PartFoldedMeant i readable flat m) h = absurd h
   narrow _ _ _ (ScannedMeant readable plain_mask is_along flat m) h = absurd h
   narrow _ _ _ (FloodedMeant i readable m) h = absurd h
+  narrow _ _ _ (RemappedMeant in_numbers is count readable flat m) h = absurd h
 
   -- by itself an expression reads neither arrays nor coordinates
   pub alone_narrow : (one : Slate) (meant : Term) → IsMeant w spots slots Alone one meant → IsNarrow one
