@@ -1233,8 +1233,11 @@ module _ (tables : Tables) (n : ℕ) (spots : List Spot) (w : Where) (line : ℕ
       (rises_on 0 (numbered spots) next.scalars mid.scalars (omega (arith, le)) stands.rises)
       (omega (arith, space)) inner.left
       (subst (λ (x : Stored). count ≡ x.storage.rank) (sym same) ranked)
-      (omega (arith, length-append inner.temps (replicate (count + 1) over.flood),
-      length-replicate (count + 1) over.flood))
+      (omega (
+        arith,
+        length-append inner.temps (replicate (count + 1) over.flood),
+        length-replicate (count + 1) over.flood,
+      ))
       (temps_rest tables.arrays free.temps inner.temps (replicate (count + 1) over.flood) temps) held
       most c (does tables n inner.code now)
       (h (omega (arith, space))

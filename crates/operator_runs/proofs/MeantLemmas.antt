@@ -1,7 +1,7 @@
 -- What a slate asks before its operators are computed is what its term asks: whether regions
 -- conform, and whether references lie in storages.
 use Rattle.zpl_meaning.specs.Context.{Mask}
-use Rattle.std.proofs.Common.{◌≡◌, refl, ◌∙◌, ap, arith, ℕ, ◌+◌, Bool, true, false, ◌&&◌}
+use Rattle.std.proofs.Common.{◌≡◌, refl, ◌∙◌, ap, ℕ, Bool, true, false, ◌&&◌}
 use Rattle.std.proofs.Common.{List, [], ◌++◌, ℤ, Option, Some, None, append_assoc}
 use Rattle.std.specs.Prelude.{slice_get}
 use Rattle.std.specs.List.{list_all}

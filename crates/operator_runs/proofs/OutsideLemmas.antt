@@ -2,13 +2,12 @@
 -- of the indices has no place there.
 use Rattle.std.proofs.Common.{◌≡◌, refl, sym, ◌∙◌, ap, subst, arith, ℕ, zero, suc, Bool, true, false}
 use Rattle.std.proofs.Common.{◌&&◌, not, List, [], ◌∷◌, ◌++◌, length, ℤ, pos, ◌-ℤ◌, All}
-use Rattle.std.specs.Prelude.{◌||◌, ◌-◌, drop, take, replicate, int_le, int_lt, cond}
+use Rattle.std.specs.Prelude.{◌||◌, ◌-◌, drop, take, replicate, int_le, int_lt}
 use Rattle.std.proofs.lemmas.Bool.{and_parts}
 use Rattle.std.proofs.lemmas.Int.{ints}
 use Rattle.std.proofs.lemmas.List.Elements.{All-head, All-tail}
 use Rattle.zpl_nums.specs.declared.operators.Op.{Op}
 use Rattle.zpl_nums.specs.declared.operators.Op.TheVariants as op
-use Rattle.zpl_nums.specs.declared.folds.Fold.TheVariants as fold
 use Rattle.zpl_nums.specs.Integer.{is_true, truth}
 use Rattle.zpl_nums.proofs.IntegerLemmas.{is_true-truth}
 use Rattle.zpl_region.specs.declared.dims.Dim.{Dim}
@@ -26,9 +25,9 @@ use Rattle.node_form.specs.declared.words.ExprOp.{ExprOp}
 use Rattle.node_form.specs.declared.words.ExprOp.TheVariants as word
 use Rattle.row_runs.specs.Straight.{Every}
 use Rattle.flat_form.proofs.WordLemmas.{every_append}
-use Rattle.node_form.specs.Expression.{Constant, Element, Expression, Operation, words_of}
-use Rattle.node_form.specs.Value.{Computed, Gives, Operands, and_then, divided, tree_value}
-use Rattle.zpl_lowering.specs.Hoist.{any_of, outside_code, past_dim, past_dims}
+use Rattle.node_form.specs.Expression.{Element, Expression, Operation, words_of}
+use Rattle.node_form.specs.Value.{Gives, Operands, and_then, tree_value}
+use Rattle.zpl_lowering.specs.Hoist.{any_of, outside_code, past_dims}
 use Rattle.lowering_runs.proofs.StepLemmas.{le_not}
 
 -- ---- tests that are joined

@@ -12,7 +12,7 @@ use Rattle.zpl_region.specs.Region.{IsMember, members}
 use Rattle.zpl_region.proofs.LawLemmas.{members_iff}
 use Rattle.zpl_region.proofs.ListLemmas.{Among, Contains-from_among}
 use Rattle.zpl_region.proofs.TestLemmas.{is_member_iff}
-use Rattle.zpl_arrays.specs.Array.{Array, array_of, element, has_place}
+use Rattle.zpl_arrays.specs.Array.{Array, array_of, element}
 use Rattle.zpl_arrays.proofs.ArrayLemmas.{array_of_is_array, element_of_member, flattened_is, place_of_member, same_elements}
 use Rattle.zpl_meaning.specs.Computed as mean
 use Rattle.zpl_meaning.specs.Computed.{both_then, computed_then}
@@ -38,7 +38,7 @@ use Rattle.flat_form.specs.Right.{all_begin, can_read, can_write}
 use Rattle.flat_form.specs.Row.{Member, Words, group_coded, mask_words, numbered}
 use Rattle.flat_form.specs.Whole.{Whole}
 use Rattle.flat_form.proofs.WordLemmas.{every_append}
-use Rattle.normal_runs.proofs.PutLemmas.{wanted, value_in, put_if, start_point, point_put, puts, one_written}
+use Rattle.normal_runs.proofs.PutLemmas.{wanted, value_in, put_if, start_point, point_put, puts}
 use Rattle.normal_runs.proofs.PutLemmas.{Sum, AllGive, SomeDivides, SomeLacks, summed, with_one}
 use Rattle.normal_runs.proofs.PlaceLemmas.{set_apart}
 use Rattle.zpl_lowering.specs.Hoist.{index_puts}

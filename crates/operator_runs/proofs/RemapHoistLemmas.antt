@@ -1,8 +1,8 @@
 -- The rows of a remap read, told alone: temporaries get the values of its indices, a fold says whether
 -- one of their tuples is outside the storage, and the read's values come into a temporary.
-use Rattle.std.proofs.Common.{◌≡◌, refl, sym, ◌∙◌, ap, subst, arith, ℕ, zero, suc, ◌+◌, ◌<◌, ◌≤◌, Bool, true, false}
-use Rattle.std.proofs.Common.{◌&&◌, not, List, [], ◌∷◌, ◌++◌, length, map, filter, ℤ, pos, Option, Some, None, inl}
-use Rattle.std.specs.Prelude.{◌||◌, All, cond, fold, option_and_then, replicate, slice_get}
+use Rattle.std.proofs.Common.{◌≡◌, refl, sym, ◌∙◌, ap, subst, arith, ℕ, suc, ◌+◌, ◌<◌, ◌≤◌, Bool, true, false}
+use Rattle.std.proofs.Common.{◌&&◌, not, List, [], ◌∷◌, ◌++◌, length, map, filter, ℤ, pos, Option, Some, inl}
+use Rattle.std.specs.Prelude.{◌||◌, All, cond, fold, replicate, slice_get}
 use Rattle.std.proofs.Math.Path.{fun_ext}
 use Rattle.std.specs.List.{cons_option, filter_map, list_all}
 use Rattle.zpl_nums.specs.declared.ends.End.TheVariants.{Trap}
@@ -36,7 +36,7 @@ use Rattle.node_form.specs.Value as flat
 use Rattle.node_form.specs.Value.{scalar_operands, tree_value, unmoved, value_of}
 use Rattle.node_form.proofs.ValueLemmas.{value_of-words_of}
 use Rattle.row_runs.specs.Code.{Says}
-use Rattle.row_runs.specs.Run.{Ends, Goes, Step, Stops}
+use Rattle.row_runs.specs.Run.{Ends, Goes, Step}
 use Rattle.row_runs.specs.Straight.{Every}
 use Rattle.row_runs.specs.Structured as code
 use Rattle.row_runs.specs.Structured.{Course, Over, by_step, closes, rows_do}
@@ -46,7 +46,7 @@ use Rattle.flat_form.specs.Loop.{looped, operands_at}
 use Rattle.flat_form.specs.Moves as move
 use Rattle.flat_form.specs.Moves.{found, moved_in, reads_in, remapped, wanted_at}
 use Rattle.flat_form.specs.Names.{group_cells, group_words, word_reads}
-use Rattle.flat_form.specs.Right.{can_read, can_write, no_flood}
+use Rattle.flat_form.specs.Right.{can_read, no_flood}
 use Rattle.flat_form.specs.Row as row
 use Rattle.flat_form.specs.Row.{Member, Row, Words, mask_words}
 use Rattle.flat_form.specs.States.{IsStoreOf}
@@ -56,10 +56,10 @@ use Rattle.normal_runs.proofs.PutLemmas.{start_point}
 use Rattle.zpl_lowering.specs.Where.{Stored, Slotted, Where}
 use Rattle.zpl_lowering.specs.Tables.{temp_row}
 use Rattle.zpl_lowering.specs.Reference.{over_reference}
-use Rattle.zpl_lowering.specs.Hoist.{Free, index_puts, mask_code, outside_code, remap_code, rooms, some_of, temps_from, three_of, trap_if}
+use Rattle.zpl_lowering.specs.Hoist.{Free, index_puts, mask_code, outside_code, remap_code, rooms, temps_from, three_of, trap_if}
 use Rattle.lowering_runs.specs.Run.{decide, does, step, straight}
 use Rattle.lowering_runs.specs.Scalars.{IsSameValue, BothGive as BothGive_}
-use Rattle.lowering_runs.specs.Seen.{Spot, numbered, seen_store}
+use Rattle.lowering_runs.specs.Seen.{Spot, numbered}
 use Rattle.lowering_runs.specs.Stands.{AreStored, IsSound, Rises, TempsAt}
 use Rattle.lowering_runs.proofs.AgreeLemmas.{sum_of}
 use Rattle.lowering_runs.proofs.NumberLemmas.{get_same}
@@ -73,7 +73,7 @@ use Rattle.array_runs.proofs.FloodLemmas.{current_floods}
 use Rattle.array_runs.proofs.MaskLemmas.{IsMasking}
 use Rattle.array_runs.proofs.StoredLemmas.{IsFound, found_array, zip_at}
 use Rattle.print_runs.proofs.TempLemmas.{room_step}
-use Rattle.operator_runs.specs.Meant.{InSlot, Site, Under}
+use Rattle.operator_runs.specs.Meant.{InSlot, Under}
 use Rattle.operator_runs.specs.Hoists.{operands_of, IsReadWell, Spares, HasValues, HaveValues, Hoists, Reaches, Stumbles, HoistAll, AllReach, OneStumbles}
 use Rattle.operator_runs.proofs.StateLemmas.{HasState, slot_in_state, spared_state}
 use Rattle.operator_runs.proofs.JoinLemmas.{acc_group, with_total, IsJoining}
@@ -83,7 +83,7 @@ use Rattle.operator_runs.proofs.StandLemmas.{NamesBelow, acc_stands, mask_names}
 use Rattle.operator_runs.proofs.MeantLemmas.{current_in, mask_at}
 use Rattle.operator_runs.proofs.NarrowLemmas.{reduced_integer, unit_integer}
 use Rattle.operator_runs.proofs.TempLemmas.{array_is, can_put, can_take, moved_is, temp_value}
-use Rattle.operator_runs.proofs.PutsLemmas.{AllFill, AreRoomed, AreWritable, Fills, all_filled, loop_cells, puts_fill, puts_stand, with_arrays}
+use Rattle.operator_runs.proofs.PutsLemmas.{AllFill, AreRoomed, AreWritable, all_filled, puts_fill, puts_stand, with_arrays}
 use Rattle.operator_runs.proofs.OutsideLemmas.{AllHere, AreRead, outside_value, outside_words}
 
 -- ---- lists
@@ -718,254 +718,254 @@ module _ (tables : Tables) (n : ℕ) (spots : List Spot) (w : Where) (line : ℕ
       -- ---- the fold, the trap and the read
 
       module _ (arrays : List Array) (given : arrays_over region is_in fields ≡ mean.Gives arrays)
-          where
-        are : AreOver region arrays
-        are = (over_arrays region is_in fields arrays given).0
+        where
+          are : AreOver region arrays
+          are = (over_arrays region is_in fields arrays given).0
 
-        count : length arrays ≡ length left
-        count = (over_arrays region is_in fields arrays given).1 ∙ fields_count left fields h
+          count : length arrays ≡ length left
+          count = (over_arrays region is_in fields arrays given).1 ∙ fields_count left fields h
 
-        at : RowsFor tables over.flood temp arrays
-        at = rows_as tables over.flood temp left arrays (sym count) rows_are.0
+          at : RowsFor tables over.flood temp arrays
+          at = rows_as tables over.flood temp left arrays (sym count) rows_are.0
 
-        abbrev filled : Whole
-        filled = with_arrays roomed temp arrays
+          abbrev filled : Whole
+          filled = with_arrays roomed temp arrays
 
-        sp_filled : Spared mid after filled
-        sp_filled =
-            spares_then tables spots w.numbers.arrays mid mid after roomed filled
-            (same_free over region j mid) sp_roomed
-            (arrays_spares over region j mid temp arrays roomed at_roomed (omega arith) at are)
+          sp_filled : Spared mid after filled
+          sp_filled =
+              spares_then tables spots w.numbers.arrays mid mid after roomed filled
+              (same_free over region j mid) sp_roomed
+              (arrays_spares over region j mid temp arrays roomed at_roomed (omega arith) at are)
 
-        at_filled : State filled
-        at_filled = good_state filled sp_filled
+          at_filled : State filled
+          at_filled = good_state filled sp_filled
 
-        held_filled : AreHeld filled temp arrays
-        held_filled = arrays_held over region j mid temp arrays roomed at_roomed (omega arith) at are
+          held_filled : AreHeld filled temp arrays
+          held_filled = arrays_held over region j mid temp arrays roomed at_roomed (omega arith) at are
 
-        abbrev begun : Whole
-        begun = with_total filled k (unit_of Any)
+          abbrev begun : Whole
+          begun = with_total filled k (unit_of Any)
 
-        sp_begun : Spared mid after begun
-        sp_begun =
-            spares_then tables spots w.numbers.arrays mid mid after filled begun
-            (same_free over region j mid) sp_filled
-            (spares_total tables spots w.numbers.arrays mid filled at_filled.sound rises k (omega arith)
-            lt (unit_of Any) (unit_integer Any))
+          sp_begun : Spared mid after begun
+          sp_begun =
+              spares_then tables spots w.numbers.arrays mid mid after filled begun
+              (same_free over region j mid) sp_filled
+              (spares_total tables spots w.numbers.arrays mid filled at_filled.sound rises k (omega arith)
+              lt (unit_of Any) (unit_integer Any))
 
-        held_begun : AreHeld begun temp arrays
-        held_begun =
-            held_as filled begun (temp + length arrays) temp arrays (omega arith)
-            (λ i from below. refl) held_filled
+          held_begun : AreHeld begun temp arrays
+          held_begun =
+              held_as filled begun (temp + length arrays) temp arrays (omega arith)
+              (λ i from below. refl) held_filled
 
-        found_filled : IsFound tables spots w.numbers.arrays filled place stored
-        found_filled =
-            found_array tables spots w.numbers.arrays filled place stored at_filled.sound.filled all
-            in_numbers
+          found_filled : IsFound tables spots w.numbers.arrays filled place stored
+          found_filled =
+              found_array tables spots w.numbers.arrays filled place stored at_filled.sound.filled all
+              in_numbers
 
-        same_storage : source.storage ≡ stored.storage
-        same_storage =
-            ap (λ (a : Array). a.storage)
-            (ap (λ (x : Store). array_at x place) (sym at_filled.seen_is) ∙ found_filled.seen)
-            ∙ found_filled.storage
+          same_storage : source.storage ≡ stored.storage
+          same_storage =
+              ap (λ (a : Array). a.storage)
+              (ap (λ (x : Store). array_at x place) (sym at_filled.seen_is) ∙ found_filled.seen)
+              ∙ found_filled.storage
 
-        abbrev outside : List ℤ → ℤ
-        outside t = truth (not (has_place stored.storage (target_of arrays t)))
+          abbrev outside : List ℤ → ℤ
+          outside t = truth (not (has_place stored.storage (target_of arrays t)))
 
-        abbrev outside_words_in : Words
-        outside_words_in = words_of (outside_code temp stored.storage)
+          abbrev outside_words_in : Words
+          outside_words_in = words_of (outside_code temp stored.storage)
 
-        reads : Every (λ (words : Words). Every (Reads over region j mid begun) words)
-            (outside_words_in ∷ mask_words mask)
-        reads = (
-          outside_words (Reads over region j mid begun) (λ v. refl) (λ o. refl) temp stored.storage
-              arrays (count ∙ ranked) (held_here over region j mid temp arrays begun at are held_begun),
-          mask_reads begun sp_begun,
-        )
+          reads : Every (λ (words : Words). Every (Reads over region j mid begun) words)
+              (outside_words_in ∷ mask_words mask)
+          reads = (
+            outside_words (Reads over region j mid begun) (λ v. refl) (λ o. refl) temp stored.storage
+                arrays (count ∙ ranked) (held_here over region j mid temp arrays begun at are held_begun),
+            mask_reads begun sp_begun,
+          )
 
-        names : Every (λ (words : Words). Every (NamesBelow k) words)
-            (outside_words_in ∷ mask_words mask)
-        names = (
-          outside_words (NamesBelow k) (λ v. tt) (λ o. tt) temp stored.storage arrays (count ∙ ranked)
-              (no_names over region j mid k temp arrays),
-          mask_names w.numbers k over.mask,
-        )
+          names : Every (λ (words : Words). Every (NamesBelow k) words)
+              (outside_words_in ∷ mask_words mask)
+          names = (
+            outside_words (NamesBelow k) (λ v. tt) (λ o. tt) temp stored.storage arrays (count ∙ ranked)
+                (no_names over region j mid k temp arrays),
+            mask_names w.numbers k over.mask,
+          )
 
-        is_outside : (own t : List ℤ) → IsMember region t
-            → tree_value (operands_at begun t (record { cells = own; log = [] }))
-            (outside_code temp stored.storage)
-            ≡ flat.Gives (outside t)
-        is_outside own t m =
-            outside_value (operands_at begun t (record { cells = own; log = [] })) temp stored.storage
-            (map (λ array. element array t) arrays)
-            (length_map (λ array. element array t) arrays ∙ count ∙ ranked)
-            (subst (λ (r : Region). All IsBoxed r.dims) found_filled.storage found_filled.boxed)
-            (ap (λ (r : Region). length r.dims) (sym found_filled.storage) ∙ found_filled.three)
-            is.padded (held_read over region j mid temp arrays begun at are held_begun own t m)
+          is_outside : (own t : List ℤ) → IsMember region t
+              → tree_value (operands_at begun t (record { cells = own; log = [] }))
+              (outside_code temp stored.storage)
+              ≡ flat.Gives (outside t)
+          is_outside own t m =
+              outside_value (operands_at begun t (record { cells = own; log = [] })) temp stored.storage
+              (map (λ array. element array t) arrays)
+              (length_map (λ array. element array t) arrays ∙ count ∙ ranked)
+              (subst (λ (r : Region). All IsBoxed r.dims) found_filled.storage found_filled.boxed)
+              (ap (λ (r : Region). length r.dims) (sym found_filled.storage) ∙ found_filled.three)
+              is.padded (held_read over region j mid temp arrays begun at are held_begun own t m)
 
-        unit_there : slice_get begun.scalars k ≡ Some (unit_of Any)
-        unit_there =
-            get_same filled.scalars k (unit_of Any)
-            (omega (arith, lt, at_filled.sound.filled.scalars))
+          unit_there : slice_get begun.scalars k ≡ Some (unit_of Any)
+          unit_there =
+              get_same filled.scalars k (unit_of Any)
+              (omega (arith, lt, at_filled.sound.filled.scalars))
 
-        joining : IsJoining tables begun k Any region is_in (λ t. mean.Gives (outside t))
-            outside_words_in mask line
-        joining = record {
-          steps = steps over region j mid;
-          stands = acc_stands tables begun region k Any outside_words_in mask line no_floods unit_there
-              reads names;
-          masked = λ t m. masked _ begun sp_begun t m;
-          values = λ t m e.
-              subst (λ (c : flat.Computed ℤ). IsSame (mean.Gives (outside t)) c)
-              (sym (value_of-words_of (operands_at begun t (record { cells = _; log = [] }))
-              (outside_code temp stored.storage) ∙ is_outside _ t m)) BothGive;
-        }
+          joining : IsJoining tables begun k Any region is_in (λ t. mean.Gives (outside t))
+              outside_words_in mask line
+          joining = record {
+            steps = steps over region j mid;
+            stands = acc_stands tables begun region k Any outside_words_in mask line no_floods unit_there
+                reads names;
+            masked = λ t m. masked _ begun sp_begun t m;
+            values = λ t m e.
+                subst (λ (c : flat.Computed ℤ). IsSame (mean.Gives (outside t)) c)
+                (sym (value_of-words_of (operands_at begun t (record { cells = _; log = [] }))
+                (outside_code temp stored.storage) ∙ is_outside _ t m)) BothGive;
+          }
 
-        abbrev outsides : Array
-        outsides =
-            array_of region (λ t. number_in (choice (is_in t) (mean.Gives (outside t))))
+          abbrev outsides : Array
+          outsides =
+              array_of region (λ t. number_in (choice (is_in t) (mean.Gives (outside t))))
 
-        abbrev total : ℤ
-        total = reduced Any region is_in (element outsides)
+          abbrev total : ℤ
+          total = reduced Any region is_in (element outsides)
 
-        total_integer : IsInteger total
-        total_integer = reduced_integer Any region is_in outsides (inl tt)
+          total_integer : IsInteger total
+          total_integer = reduced_integer Any region is_in outsides (inl tt)
 
-        abbrev told : Whole
-        told = with_fold filled k Any total
+          abbrev told : Whole
+          told = with_fold filled k Any total
 
-        fold_is : rows fold_rows filled ≡ code.goes_on told
-        fold_is =
-            fold_does tables n filled at_filled.sound k lt Any over.slot region
-            (there over region j mid filled at_filled).found is_in (λ t. mean.Gives (outside t))
-            outside_words_in mask line joining
-            ∙ ap (fold_course filled k Any region is_in line) (total_array region is_in outside)
+          fold_is : rows fold_rows filled ≡ code.goes_on told
+          fold_is =
+              fold_does tables n filled at_filled.sound k lt Any over.slot region
+              (there over region j mid filled at_filled).found is_in (λ t. mean.Gives (outside t))
+              outside_words_in mask line joining
+              ∙ ap (fold_course filled k Any region is_in line) (total_array region is_in outside)
 
-        abbrev targets : Bool
-        targets = list_all (λ t. has_target (is_in t) source arrays t) (members region)
+          abbrev targets : Bool
+          targets = list_all (λ t. has_target (is_in t) source arrays t) (members region)
 
-        total_is : is_true total ≡ not targets
-        total_is =
-            any_outside is_in source arrays (element outsides) (members region) (pos 0)
-            (every_among (λ t. is_in t ≡ true
-            → is_true (element outsides t) ≡ not (has_place source.storage (target_of arrays t)))
-            (members region) (λ t a e.
-            ap is_true (element_of_member region
-            (λ t. number_in (choice (is_in t) (mean.Gives (outside t)))) t (steps over region j mid)
-            ((members_iff region t (steps over region j mid)).0
-            (Contains-from_among (members region) t a))
-            ∙ ap (λ b. number_in (choice b (mean.Gives (outside t)))) e)
-            ∙ is_true-truth (not (has_place stored.storage (target_of arrays t)))
-            ∙ ap (λ (r : Region). not (has_place r (target_of arrays t))) (sym same_storage)))
+          total_is : is_true total ≡ not targets
+          total_is =
+              any_outside is_in source arrays (element outsides) (members region) (pos 0)
+              (every_among (λ t. is_in t ≡ true
+              → is_true (element outsides t) ≡ not (has_place source.storage (target_of arrays t)))
+              (members region) (λ t a e.
+              ap is_true (element_of_member region
+              (λ t. number_in (choice (is_in t) (mean.Gives (outside t)))) t (steps over region j mid)
+              ((members_iff region t (steps over region j mid)).0
+              (Contains-from_among (members region) t a))
+              ∙ ap (λ b. number_in (choice b (mean.Gives (outside t)))) e)
+              ∙ is_true-truth (not (has_place stored.storage (target_of arrays t)))
+              ∙ ap (λ (r : Region). not (has_place r (target_of arrays t))) (sym same_storage)))
 
-        sp_told : Spared mid after told
-        sp_told =
-            spares_then tables spots w.numbers.arrays mid mid after filled told
-            (same_free over region j mid) sp_filled
-            (spares_fold tables spots w.numbers.arrays mid filled at_filled.sound rises k (omega arith)
-            lt total total_integer Any)
+          sp_told : Spared mid after told
+          sp_told =
+              spares_then tables spots w.numbers.arrays mid mid after filled told
+              (same_free over region j mid) sp_filled
+              (spares_fold tables spots w.numbers.arrays mid filled at_filled.sound rises k (omega arith)
+              lt total total_integer Any)
 
-        at_told : State told
-        at_told = good_state told sp_told
+          at_told : State told
+          at_told = good_state told sp_told
 
-        abbrev empty : Whole
-        empty = with_array_in told target (zeros_at region)
+          abbrev empty : Whole
+          empty = with_array_in told target (zeros_at region)
 
-        sp_empty : Spared mid told empty
-        sp_empty =
-            spared_array over region j mid told at_told.sound target (omega arith) rows_are.1
-            (λ t. pos 0)
+          sp_empty : Spared mid told empty
+          sp_empty =
+              spared_array over region j mid told at_told.sound target (omega arith) rows_are.1
+              (λ t. pos 0)
 
-        at_empty : State empty
-        at_empty = next_state over region j mid told empty at_told sp_empty
+          at_empty : State empty
+          at_empty = next_state over region j mid told empty at_told sp_empty
 
-        abbrev read : List ℤ → ℤ
-        read t = element source (target_of arrays t)
+          abbrev read : List ℤ → ℤ
+          read t = element source (target_of arrays t)
 
-        abbrev end : Whole
-        end = with_array_in empty target (array_of region read)
+          abbrev end : Whole
+          end = with_array_in empty target (array_of region read)
 
-        sp_end : Spared mid empty end
-        sp_end =
-            spared_array over region j mid empty at_empty.sound target (omega arith) rows_are.1 read
+          sp_end : Spared mid empty end
+          sp_end =
+              spared_array over region j mid empty at_empty.sound target (omega arith) rows_are.1 read
 
-        held_empty : AreHeld empty temp arrays
-        held_empty =
-            held_as filled empty target temp arrays (omega (arith, count))
-            (λ i from below.
-            set_apart told.stores target i (zeros_at region) (λ q. absurd (omega (arith, q, below))))
-            held_filled
+          held_empty : AreHeld empty temp arrays
+          held_empty =
+              held_as filled empty target temp arrays (omega (arith, count))
+              (λ i from below.
+              set_apart told.stores target i (zeros_at region) (λ q. absurd (omega (arith, q, below))))
+              held_filled
 
-        last_does : rows last_rows told ≡ code.goes_on end
-        last_does =
-            ap (λ x. by_step told x (rows (row.Plain (instr.Remap target over.slot stored.array
-            (three_of (temps_from temp left))) ∷ [])))
-            (one_room over region j mid told at_told target rows_are.1)
-            ∙ ap (λ x. by_step empty x code.goes_on)
-            (remap_does over region j mid place stored in_numbers left few temp target rows_are.1 arrays
-            count at are empty at_empty held_empty
-            (array_there over region j mid told at_told.sound target rows_are.1 (zeros_at region)))
+          last_does : rows last_rows told ≡ code.goes_on end
+          last_does =
+              ap (λ x. by_step told x (rows (row.Plain (instr.Remap target over.slot stored.array
+              (three_of (temps_from temp left))) ∷ [])))
+              (one_room over region j mid told at_told target rows_are.1)
+              ∙ ap (λ x. by_step empty x code.goes_on)
+              (remap_does over region j mid place stored in_numbers left few temp target rows_are.1 arrays
+              count at are empty at_empty held_empty
+              (array_there over region j mid told at_told.sound target rows_are.1 (zeros_at region)))
 
-        end_there : (later : Whole) → Spared last end later
-            → slice_get later.stores target ≡ Some (array_of region read)
-        end_there later l =
-            l.stores target (omega (arith, more))
-            ∙ array_there over region j mid empty at_empty.sound target rows_are.1 (array_of region read)
+          end_there : (later : Whole) → Spared last end later
+              → slice_get later.stores target ≡ Some (array_of region read)
+          end_there later l =
+              l.stores target (omega (arith, more))
+              ∙ array_there over region j mid empty at_empty.sound target rows_are.1 (array_of region read)
 
-        end_values : HasValues tables spots w.numbers.arrays (Under over region) last end
-            (remap_field source arrays) (word.Element target)
-        end_values = record {
-          values = λ later l cells t m.
-              subst (λ (c : flat.Computed ℤ). IsSame (mean.Gives (read t)) c)
-              (sym (temp_value tables n over region target rows_are.1 slots j later read
-              (end_there later l) cells t m)) BothGive;
-          reads = λ later l. (
-            record {
-              reads = ap (λ b. b && true) (can_take tables n over region target rows_are.1 slots j later
-                  (array_of region read) (end_there later l) refl);
-              names = tt;
-            },
-            tt,
-          );
-        }
+          end_values : HasValues tables spots w.numbers.arrays (Under over region) last end
+              (remap_field source arrays) (word.Element target)
+          end_values = record {
+            values = λ later l cells t m.
+                subst (λ (c : flat.Computed ℤ). IsSame (mean.Gives (read t)) c)
+                (sym (temp_value tables n over region target rows_are.1 slots j later read
+                (end_there later l) cells t m)) BothGive;
+            reads = λ later l. (
+              record {
+                reads = ap (λ b. b && true) (can_take tables n over region target rows_are.1 slots j later
+                    (array_of region read) (end_there later l) refl);
+                names = tt;
+              },
+              tt,
+            );
+          }
 
-        all_spared : Spared free now end
-        all_spared =
-            spares_then tables spots w.numbers.arrays free mid now after end le s
-            (spares_then tables spots w.numbers.arrays mid mid after empty end
-            (same_free over region j mid)
-            (spares_then tables spots w.numbers.arrays mid mid after told empty
-            (same_free over region j mid) sp_told sp_empty) sp_end)
+          all_spared : Spared free now end
+          all_spared =
+              spares_then tables spots w.numbers.arrays free mid now after end le s
+              (spares_then tables spots w.numbers.arrays mid mid after empty end
+              (same_free over region j mid)
+              (spares_then tables spots w.numbers.arrays mid mid after told empty
+              (same_free over region j mid) sp_told sp_empty) sp_end)
 
-        by_total : (most jumps : ℕ) → jumps ≤ most → (b : Bool) → targets ≡ b
-            → Hoist (most + 1)
-            (provided b OutsideStorage (λ _. mean.Gives (remap_field source arrays)))
-            (code.behind [] jumps (code.then_do (trapped over region j mid (not b) told)
-            (rows last_rows)))
-        by_total most jumps less false e = Stumbles (omega (arith, less, sum_of jumps 1))
-        by_total most jumps less true e =
-            subst (λ (c : Course Whole). Hoist (most + 1)
-            (mean.Gives (remap_field source arrays))
-            (code.behind [] jumps (code.behind [] 1 c))) (sym last_does)
-            (Reaches all_spared end_values (omega (arith, less, sum_of jumps 1)))
+          by_total : (most jumps : ℕ) → jumps ≤ most → (b : Bool) → targets ≡ b
+              → Hoist (most + 1)
+              (provided b OutsideStorage (λ _. mean.Gives (remap_field source arrays)))
+              (code.behind [] jumps (code.then_do (trapped over region j mid (not b) told)
+              (rows last_rows)))
+          by_total most jumps less false e = Stumbles (omega (arith, less, sum_of jumps 1))
+          by_total most jumps less true e =
+              subst (λ (c : Course Whole). Hoist (most + 1)
+              (mean.Gives (remap_field source arrays))
+              (code.behind [] jumps (code.behind [] 1 c))) (sym last_does)
+              (Reaches all_spared end_values (omega (arith, less, sum_of jumps 1)))
 
-        pub told_hoists : (most jumps : ℕ) → jumps ≤ most
-            → Hoist (most + 1)
-            (provided targets OutsideStorage (λ _. mean.Gives (remap_field source arrays)))
-            (code.behind [] jumps (code.then_do (rows fold_rows filled) (λ whole.
-            code.then_do (does tables n (trap_if k line) whole) (rows last_rows))))
-        told_hoists most jumps less =
-            subst (λ (c : Course Whole). Hoist (most + 1)
-            (provided targets OutsideStorage (λ _. mean.Gives (remap_field source arrays)))
-            (code.behind [] jumps (code.then_do c (λ whole.
-            code.then_do (does tables n (trap_if k line) whole) (rows last_rows))))) (sym fold_is)
-            (subst (λ (c : Course Whole). Hoist (most + 1)
-            (provided targets OutsideStorage (λ _. mean.Gives (remap_field source arrays)))
-            (code.behind [] jumps (code.then_do c (rows last_rows))))
-            (sym (trap_does over region j mid k total told at_told
-            (get_same filled.scalars k total (omega (arith, lt, at_filled.sound.filled.scalars)))
-            total_integer ∙ ap (λ b. trapped over region j mid b told) total_is))
-            (by_total most jumps less targets refl))
+          pub told_hoists : (most jumps : ℕ) → jumps ≤ most
+              → Hoist (most + 1)
+              (provided targets OutsideStorage (λ _. mean.Gives (remap_field source arrays)))
+              (code.behind [] jumps (code.then_do (rows fold_rows filled) (λ whole.
+              code.then_do (does tables n (trap_if k line) whole) (rows last_rows))))
+          told_hoists most jumps less =
+              subst (λ (c : Course Whole). Hoist (most + 1)
+              (provided targets OutsideStorage (λ _. mean.Gives (remap_field source arrays)))
+              (code.behind [] jumps (code.then_do c (λ whole.
+              code.then_do (does tables n (trap_if k line) whole) (rows last_rows))))) (sym fold_is)
+              (subst (λ (c : Course Whole). Hoist (most + 1)
+              (provided targets OutsideStorage (λ _. mean.Gives (remap_field source arrays)))
+              (code.behind [] jumps (code.then_do c (rows last_rows))))
+              (sym (trap_does over region j mid k total told at_told
+              (get_same filled.scalars k total (omega (arith, lt, at_filled.sound.filled.scalars)))
+              total_integer ∙ ap (λ b. trapped over region j mid b told) total_is))
+              (by_total most jumps less targets refl))
 
       by_arrays : (most jumps : ℕ) → jumps ≤ most → (c : mean.Computed (List Array))
           → arrays_over region is_in fields ≡ c

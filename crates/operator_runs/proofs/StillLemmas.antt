@@ -1,5 +1,5 @@
 -- What statements have so far makes no tests: no remap read is among it.
-use Rattle.std.proofs.Common.{◌≡◌, refl, ◌∙◌, ap, arith, ℕ, ◌+◌, List, [], ◌∷◌, ℤ, Option, Some, None}
+use Rattle.std.proofs.Common.{◌≡◌, refl, arith, ℕ, ◌+◌, List, [], ◌∷◌, ℤ, Option, Some, None}
 use Rattle.zpl_tree.specs.Syntax.{Expr, Number, Truth, Coord, Named, Shifted, Around, Remap, Call, Paren, Neg, Not, Abs, Pair, Reduce, Scan, Flood, NoBracket, Bracketed}
 use Rattle.zpl_names.specs.Kinds.{Rank}
 use Rattle.zpl_names.specs.Ranks.{operand_rank}
