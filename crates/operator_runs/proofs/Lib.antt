@@ -20,5 +20,6 @@ pub mod TempLemmas
 pub mod PutsLemmas
 pub mod OutsideLemmas
 pub mod RemapHoistLemmas
+pub mod WrapLemmas
 pub mod TestLemmas
 mod Examples
