@@ -21,5 +21,6 @@ pub mod PutsLemmas
 pub mod OutsideLemmas
 pub mod RemapHoistLemmas
 pub mod WrapLemmas
+pub mod WrapCopyLemmas
 pub mod TestLemmas
 mod Examples
