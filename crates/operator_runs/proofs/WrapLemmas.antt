@@ -201,7 +201,7 @@ head_kept d rest more = by (is_true d) refl
     by true e = rw e refl
     by false e = rw e (ap (λ x. (x ∷ rest) ∷ more) (zero_is e))
 
-zeros_first : (shift : List ℤ) → choices shift ≡ zeros shift ∷ border_vectors shift
+pub zeros_first : (shift : List ℤ) → choices shift ≡ zeros shift ∷ border_vectors shift
 zeros_first [] = refl
 zeros_first (d ∷ shift) =
     let more = flat_map (kept_or_not d) (border_vectors shift) in
@@ -211,7 +211,7 @@ zeros_first (d ∷ shift) =
     ∙ ap (λ xs. (pos 0 ∷ zeros shift) ∷ drop 1 xs) (sym e)
 
 -- no border is the box itself
-no_border : (rank : ℕ) (shift : List ℤ) (dims : List Dim) → length shift ≡ length dims
+pub no_border : (rank : ℕ) (shift : List ℤ) (dims : List Dim) → length shift ≡ length dims
     → each dim_outside_of (components rank (zeros shift)) dims ≡ dims
 no_border rank [] dims l = refl
 no_border rank (d ∷ shift) [] l = absurd (omega (arith, l))
